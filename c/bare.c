@@ -71,11 +71,10 @@ static int run_ring(void) {
 static int run_assembler(void) {
     static struct net_run runs[4];
     struct net_assembler assembler = {0, 0};
-    size_t front = 0;
     if (net_assembler_add(&assembler, runs, 4, 3, 2) != NET_DONE) return 1;
-    if (net_assembler_add_then_remove_front(&assembler, runs, 4, 0, 3, &front) != NET_DONE)
-        return 2;
-    if (front != 5 || assembler.used != 0) return 3;
+    struct net_front_length front = net_assembler_add_then_remove_front(&assembler, runs, 4, 0, 3);
+    if (front.status != NET_DONE) return 2;
+    if (front.length != 5 || assembler.used != 0) return 3;
     for (size_t i = 1; i <= 4; i++) {
         if (net_assembler_add(&assembler, runs, 4, 10 * i, 3) != NET_DONE) return 4;
     }

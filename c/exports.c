@@ -27,6 +27,10 @@ static bool span_is(struct net_span span, size_t from, size_t count, size_t cont
     return span.from == from && span.count == count && span.contiguous == contiguous;
 }
 
+static bool part_is(struct net_part part, size_t from, size_t count) {
+    return part.from == from && part.count == count;
+}
+
 static bool place_is(struct net_place place, size_t read_at, size_t length) {
     return place.read_at == read_at && place.length == length;
 }
@@ -49,6 +53,10 @@ static void ring_counts(void) {
     struct net_place place = {2, 3};
     CHECK(net_ring_enqueue(&place, 8, 4) && place_is(place, 2, 7));
     CHECK(!net_ring_enqueue(&place, 8, 2) && place_is(place, 2, 7));
+    /* All that is free is enqueued, and all that is queued dequeued. */
+    struct net_place all = place;
+    CHECK(net_ring_enqueue(&all, 8, 1) && place_is(all, 2, 8));
+    CHECK(net_ring_dequeue(&all, 8, 8) && place_is(all, 2, 0));
     CHECK(net_ring_dequeue(&place, 8, 6) && place_is(place, 0, 1));
     CHECK(!net_ring_dequeue(&place, 8, 2) && place_is(place, 0, 1));
     struct net_place past = {8, 3}, last = {6, 7};
@@ -69,15 +77,15 @@ static void ring_spans(void) {
     CHECK(span_is(net_ring_put(&place, 8, 3), 6, 3, 2) && place_is(place, 4, 5));
     CHECK(span_is(net_ring_take(&place, 8, 4), 4, 4, 4) && place_is(place, 0, 1));
     struct net_place other = {5, 2};
-    CHECK(span_is(net_ring_put_contiguous(&other, 8, 4), 7, 1, 1) && place_is(other, 5, 3));
-    CHECK(span_is(net_ring_put_contiguous(&other, 8, 4), 0, 4, 4) && place_is(other, 5, 7));
-    CHECK(span_is(net_ring_take_contiguous(&other, 8, 6), 5, 3, 3) && place_is(other, 0, 4));
+    CHECK(part_is(net_ring_put_contiguous(&other, 8, 4), 7, 1) && place_is(other, 5, 3));
+    CHECK(part_is(net_ring_put_contiguous(&other, 8, 4), 0, 4) && place_is(other, 5, 7));
+    CHECK(part_is(net_ring_take_contiguous(&other, 8, 6), 5, 3) && place_is(other, 0, 4));
     struct net_place empty = {5, 0}, past = {8, 0};
     CHECK(span_is(net_ring_put(&empty, 8, 9), 0, 8, 8) && place_is(empty, 0, 8));
     CHECK(span_is(net_ring_put(&past, 8, 1), SIZE_MAX, 0, 0) && place_is(past, 8, 0));
-    CHECK(span_is(net_ring_put_contiguous(&past, 8, 1), SIZE_MAX, 0, 0) && place_is(past, 8, 0));
+    CHECK(part_is(net_ring_put_contiguous(&past, 8, 1), SIZE_MAX, 0) && place_is(past, 8, 0));
     CHECK(span_is(net_ring_take(&past, 8, 1), SIZE_MAX, 0, 0) && place_is(past, 8, 0));
-    CHECK(span_is(net_ring_take_contiguous(&past, 8, 1), SIZE_MAX, 0, 0) && place_is(past, 8, 0));
+    CHECK(part_is(net_ring_take_contiguous(&past, 8, 1), SIZE_MAX, 0) && place_is(past, 8, 0));
 }
 
 static void ring_slices(void) {
@@ -98,6 +106,7 @@ static void ring_bytes(void) {
     /* Free are indices 1 to 5, queued are 6, 7 and 0. */
     CHECK(net_ring_contiguous_window(&place, 8) == 5);
     CHECK(net_ring_contiguous_window(&past, 8) == SIZE_MAX);
+    CHECK(net_ring_contiguous_window(&place, SIZE_MAX) == SIZE_MAX);
     CHECK(net_ring_write_unallocated(&place, storage, 8, 2, text("XYZW"), 4) == 3);
     CHECK(memcmp(storage, "abcXYZgh", 8) == 0);
     CHECK(net_ring_read_allocated(&place, storage, 8, 1, into, 6) == 2);
@@ -150,6 +159,10 @@ static bool run_is(struct net_run run, size_t start, size_t end) {
     return run.start == start && run.end == end;
 }
 
+static bool front_is(struct net_front_length front, uint32_t status, size_t length) {
+    return front.status == status && front.length == length;
+}
+
 static void assembler_adds(void) {
     struct net_run runs[4] = {{0, 0}};
     struct net_assembler assembler = {0, 0};
@@ -162,15 +175,14 @@ static void assembler_adds(void) {
     CHECK(net_assembler_add(&assembler, runs, 4, 50, 1) == NET_TOO_MANY_RUNS);
     CHECK(net_assembler_add(&assembler, runs, 4, SIZE_MAX, 1) == NET_REFUSED);
     CHECK(assembler_is(assembler, 4, 10));
-    size_t front = 77;
-    CHECK(net_assembler_add_then_remove_front(&assembler, runs, 4, 5, 2, &front)
-          == NET_TOO_MANY_RUNS);
-    CHECK(front == 77 && assembler_is(assembler, 4, 10));
-    CHECK(net_assembler_add_then_remove_front(&assembler, runs, 4, 0, 10, &front) == NET_DONE);
-    CHECK(front == 13 && assembler_is(assembler, 3, 7) && run_is(runs[2], 20, 27));
-    CHECK(net_assembler_remove_front(&assembler, runs, 4, &front) && front == 0);
+    struct net_front_length front = net_assembler_add_then_remove_front(&assembler, runs, 4, 5, 2);
+    CHECK(front_is(front, NET_TOO_MANY_RUNS, 0) && assembler_is(assembler, 4, 10));
+    front = net_assembler_add_then_remove_front(&assembler, runs, 4, 0, 10);
+    CHECK(front_is(front, NET_DONE, 13) && assembler_is(assembler, 3, 7));
+    CHECK(run_is(runs[2], 20, 27));
+    CHECK(front_is(net_assembler_remove_front(&assembler, runs, 4), NET_DONE, 0));
     CHECK(net_assembler_add(&assembler, runs, 4, 0, 2) == NET_DONE);
-    CHECK(net_assembler_remove_front(&assembler, runs, 4, &front) && front == 2);
+    CHECK(front_is(net_assembler_remove_front(&assembler, runs, 4), NET_DONE, 2));
     CHECK(assembler_is(assembler, 3, 5));
     net_assembler_clear(&assembler);
     CHECK(assembler.used == 0);
@@ -179,11 +191,10 @@ static void assembler_adds(void) {
 static void assembler_views(void) {
     struct net_run runs[4] = {{0, 3}, {10, 15}};
     struct net_assembler assembler = {2, 0}, later = {2, 10}, many = {5, 0};
-    size_t front = 77;
     CHECK(net_assembler_is_sound(&later, runs, 4) && !net_assembler_is_sound(&many, runs, 4));
-    CHECK(net_assembler_peek_front(&assembler, runs, 4, &front) && front == 3);
-    CHECK(net_assembler_peek_front(&later, runs, 4, &front) && front == 0);
-    CHECK(!net_assembler_peek_front(&many, runs, 4, &front) && front == 0);
+    CHECK(front_is(net_assembler_peek_front(&assembler, runs, 4), NET_DONE, 3));
+    CHECK(front_is(net_assembler_peek_front(&later, runs, 4), NET_DONE, 0));
+    CHECK(front_is(net_assembler_peek_front(&many, runs, 4), NET_REFUSED, 0));
     CHECK(net_assembler_contains(&later, runs, 4, 12) == NET_PRESENT);
     CHECK(net_assembler_contains(&later, runs, 4, 13) == NET_MISSING);
     CHECK(net_assembler_contains(&many, runs, 4, 12) == NET_REFUSED);
@@ -191,8 +202,9 @@ static void assembler_views(void) {
     CHECK(run_is(net_assembler_run_at(&later, runs, 4, 2), 0, 0));
     CHECK(run_is(net_assembler_run_at(&many, runs, 4, 1), SIZE_MAX, SIZE_MAX));
     CHECK(net_assembler_add(&many, runs, 4, 1, 1) == NET_REFUSED);
-    CHECK(net_assembler_add_then_remove_front(&many, runs, 4, 1, 1, &front) == NET_REFUSED);
-    CHECK(!net_assembler_remove_front(&many, runs, 4, &front) && front == 0);
+    struct net_front_length front = net_assembler_add_then_remove_front(&many, runs, 4, 1, 1);
+    CHECK(front_is(front, NET_REFUSED, 0));
+    CHECK(front_is(net_assembler_remove_front(&many, runs, 4), NET_REFUSED, 0));
 }
 
 /* ---- Receivers */
@@ -222,7 +234,8 @@ static void receiver_joins(void) {
           == NET_DONE);
     CHECK(counts_are(counts, 3, 5) && place_is(receiver.place, 0, 5));
     CHECK(net_receiver_next(&receiver, &next) && next == 1005);
-    CHECK(net_receiver_window(&receiver, 16) == 11);
+    CHECK(net_receiver_window(&receiver, 16) == 11 && net_receiver_window(&receiver, 5) == 0);
+    CHECK(net_receiver_window(&receiver, SIZE_MAX) == SIZE_MAX);
     CHECK(net_receiver_peek_slice(&receiver, storage, 16, into, 3) == 3);
     CHECK(memcmp(into, "abc...", 6) == 0 && receiver.count_read == 0);
     CHECK(net_receiver_read(&receiver, storage, 16, into, 4) == 4);
@@ -278,6 +291,7 @@ static void sender_sends(void) {
     CHECK(net_sender_write(&sender, storage, 8, text("abcdef"), 6) == 6);
     CHECK(memcmp(storage, "abcdef--", 8) == 0 && sender_is(sender, 1000, 0, 6));
     CHECK(net_sender_end(&sender, &end) && end == 1006);
+    CHECK(net_sender_room(&sender, SIZE_MAX) == SIZE_MAX);
     CHECK(!net_sender_acknowledge(&sender, 8, 999) && !net_sender_acknowledge(&sender, 8, 1007));
     CHECK(sender_is(sender, 1000, 0, 6));
     CHECK(net_sender_acknowledge(&sender, 8, 1004) && sender_is(sender, 1004, 4, 2));

@@ -41,6 +41,14 @@ struct net_run {
     size_t end;
 };
 
+/* The length of the run at position 0, and whether the call was done. */
+struct net_front_length {
+    /* `NET_DONE`, `NET_TOO_MANY_RUNS` or `NET_REFUSED`. */
+    uint32_t status;
+    /* How many positions the run has; 0 if position 0 is missing, or the call wasn't done. */
+    size_t length;
+};
+
 /* The call was done. */
 #define NET_DONE ((uint32_t)(0))
 
@@ -80,38 +88,39 @@ uint32_t net_assembler_add(
     size_t size);
 
 /* Adds the positions from `offset` to `offset + size - 1`, then removes the run at position 0,
- * writes its length to `front`, and counts all later positions from its end. If position 0 is
- * missing, nothing is removed, and `front` is 0.
+ * returns its length, and counts all later positions from its end. If position 0 is missing,
+ * nothing is removed, and the length is 0.
  *
- * Returns `NET_DONE`, or `NET_TOO_MANY_RUNS` if `offset` isn't 0 and there would be more runs than
- * the slice has elements, or `NET_REFUSED` if `offset + size` doesn't fit 64 bits or `used` is
- * above `runs_length`. If it isn't `NET_DONE`, nothing changes.
+ * The status is `NET_DONE`, or `NET_TOO_MANY_RUNS` if `offset` isn't 0 and there would be more runs
+ * than the slice has elements, or `NET_REFUSED` if `offset + size` doesn't fit 64 bits or `used` is
+ * above `runs_length`. If it isn't `NET_DONE`, the length is 0, and nothing changes.
  *
  * Requires: head and runs are sound, as `net_assembler_is_sound` tests.
  */
-uint32_t net_assembler_add_then_remove_front(
+struct net_front_length net_assembler_add_then_remove_front(
     struct net_assembler *assembler, struct net_run *runs, size_t runs_length, size_t offset,
-    size_t size, size_t *front);
+    size_t size);
 
-/* Removes the run at position 0, writes its length to `front`, and counts all later positions from
- * its end. If position 0 is missing, nothing is removed, and `front` is 0.
+/* Removes the run at position 0, returns its length, and counts all later positions from its end.
+ * If position 0 is missing, nothing is removed, and the length is 0.
  *
- * If `used` is above `runs_length`, it is refused: false, and nothing changes.
+ * The status is `NET_DONE`, or `NET_REFUSED` if `used` is above `runs_length`: then the length is
+ * 0, and nothing changes.
  *
  * Requires: head and runs are sound, as `net_assembler_is_sound` tests.
  */
-bool net_assembler_remove_front(
-    struct net_assembler *assembler, struct net_run *runs, size_t runs_length, size_t *front);
+struct net_front_length net_assembler_remove_front(
+    struct net_assembler *assembler, struct net_run *runs, size_t runs_length);
 
-/* Writes the length of the run at position 0 to `front`; 0 if position 0 is missing.
+/* Returns the length of the run at position 0, which is 0 if position 0 is missing.
  *
- * If `used` is above `runs_length`, it is refused: false, and nothing changes.
+ * The status is `NET_DONE`, or `NET_REFUSED` if `used` is above `runs_length`: then the length is
+ * 0.
  *
  * Requires: head and runs are sound, as `net_assembler_is_sound` tests.
  */
-bool net_assembler_peek_front(
-    const struct net_assembler *assembler, const struct net_run *runs, size_t runs_length,
-    size_t *front);
+struct net_front_length net_assembler_peek_front(
+    const struct net_assembler *assembler, const struct net_run *runs, size_t runs_length);
 
 /* Returns `NET_PRESENT` if `position` is present, and `NET_MISSING` if it isn't; `NET_REFUSED` if
  * `used` is above `runs_length`.
@@ -267,7 +276,7 @@ bool net_receiver_is_sound(
  *
  * Returns `NET_DONE`, or `NET_TOO_MANY_RUNS` if the segment has bytes in the free window, the first
  * missing position is not one of theirs, and with them there would be more runs than the slice has
- * elements: then the receiver, its storage and `counts` are as they were.
+ * elements: then nothing changes.
  *
  * Returns `NET_REFUSED`, and nothing changes, if the segment doesn't end within 64 bits, if `place`
  * isn't that of a ring of `storage_length` bytes, if `next` doesn't fit 64 bits, or if `held.used`
@@ -352,6 +361,12 @@ struct net_span {
     size_t contiguous;
 };
 
+/* Contiguous elements: `count` of them, from the index `from` on. */
+struct net_part {
+    size_t from;
+    size_t count;
+};
+
 /* Returns whether `place` is that of a ring of `capacity` elements: its read index is an index of
  * the storage, or 0, and it has no more elements than the storage.
  */
@@ -428,7 +443,7 @@ struct net_span net_ring_put(struct net_place *place, size_t capacity, size_t si
  * A place that isn't sound is refused: then `from` is `SIZE_MAX`, `count` is 0, and nothing
  * changes.
  */
-struct net_span net_ring_put_contiguous(struct net_place *place, size_t capacity, size_t size);
+struct net_part net_ring_put_contiguous(struct net_place *place, size_t capacity, size_t size);
 
 /* Dequeues as many elements as are queued, at most `size`, and returns where they are.
  *
@@ -442,7 +457,7 @@ struct net_span net_ring_take(struct net_place *place, size_t capacity, size_t s
  * A place that isn't sound is refused: then `from` is `SIZE_MAX`, `count` is 0, and nothing
  * changes.
  */
-struct net_span net_ring_take_contiguous(struct net_place *place, size_t capacity, size_t size);
+struct net_part net_ring_take_contiguous(struct net_place *place, size_t capacity, size_t size);
 
 /* Writes as many bytes of `data` as there is room for to the free bytes from the one at `offset`
  * on, and returns how many; 0 if `offset` is past the free bytes. Nothing is enqueued.

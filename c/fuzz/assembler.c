@@ -2,7 +2,7 @@
 #include "sets.h"
 #include <string.h>
 
-static struct room head_room, runs_room, front_room;
+static struct room head_room, runs_room;
 static struct net_assembler *head;
 static struct net_run *runs;
 static size_t most, base;
@@ -34,11 +34,11 @@ static bool is_unchanged(void) {
 }
 
 static bool rooms_are_whole(void) {
-    return room_is_whole(&head_room) && room_is_whole(&runs_room) && room_is_whole(&front_room);
+    return room_is_whole(&head_room) && room_is_whole(&runs_room);
 }
 
-static size_t *take_front(void) {
-    return (size_t *)(void *)take_room(&front_room, sizeof(size_t));
+static bool front_is(struct net_front_length front, uint32_t status, size_t length) {
+    return front.status == status && front.length == length;
 }
 
 /* A range, by its offset; `start` is counted from `base`. */
@@ -77,28 +77,27 @@ static size_t front_from_zero(set of) {
 static void fuzz_add_then_remove_front(void) {
     struct range range = draw_range();
     set with_range = positions | range_set(range.start, range.size);
-    size_t *front = take_front(), before = *front;
-    uint32_t status =
-        net_assembler_add_then_remove_front(head, runs, most, range.offset, range.size, front);
+    struct net_front_length front =
+        net_assembler_add_then_remove_front(head, runs, most, range.offset, range.size);
     if (range.offset != 0 && is_refused(with_range, range)) {
-        EXPECT(status == NET_TOO_MANY_RUNS && is_unchanged() && *front == before);
+        EXPECT(front_is(front, NET_TOO_MANY_RUNS, 0) && is_unchanged());
         return;
     }
     size_t wanted = front_from_zero(with_range);
-    EXPECT(status == NET_DONE && *front == wanted);
+    EXPECT(front_is(front, NET_DONE, wanted));
     EXPECT(stores(head, runs, shifted_down(with_range, wanted), base));
 }
 
 static void fuzz_remove_front(void) {
-    size_t wanted = front_from_zero(positions), *front = take_front();
-    EXPECT(net_assembler_remove_front(head, runs, most, front) && *front == wanted);
+    size_t wanted = front_from_zero(positions);
+    EXPECT(front_is(net_assembler_remove_front(head, runs, most), NET_DONE, wanted));
     EXPECT(stores(head, runs, shifted_down(positions, wanted), base));
 }
 
 static void fuzz_peek_front(void) {
-    size_t *front = take_front();
-    EXPECT(net_assembler_peek_front(head, runs, most, front));
-    EXPECT(*front == front_from_zero(positions) && is_unchanged());
+    size_t wanted = front_from_zero(positions);
+    EXPECT(front_is(net_assembler_peek_front(head, runs, most), NET_DONE, wanted));
+    EXPECT(is_unchanged());
 }
 
 static void fuzz_contains(void) {
@@ -110,11 +109,14 @@ static void fuzz_contains(void) {
 /* A range whose end is not below 2^64 is refused. */
 static void fuzz_long_range(void) {
     size_t offset = SIZE_MAX - below(POSITIONS), size = SIZE_MAX - offset + 1 + below(POSITIONS);
-    size_t *front = take_front(), before = *front;
-    uint32_t status =
-        once_in(2) ? net_assembler_add(head, runs, most, offset, size)
-                   : net_assembler_add_then_remove_front(head, runs, most, offset, size, front);
-    EXPECT(status == NET_REFUSED && is_unchanged() && *front == before);
+    if (once_in(2)) {
+        EXPECT(net_assembler_add(head, runs, most, offset, size) == NET_REFUSED);
+    } else {
+        struct net_front_length front =
+            net_assembler_add_then_remove_front(head, runs, most, offset, size);
+        EXPECT(front_is(front, NET_REFUSED, 0));
+    }
+    EXPECT(is_unchanged());
 }
 
 static bool run_is(struct net_run run, size_t start, size_t end) {
@@ -167,15 +169,16 @@ static bool is_sound(void) {
 }
 
 /* Calls an export with any numbers, and returns whether it refused. */
-static bool call_any(size_t *front) {
+static bool call_any(void) {
+    struct net_front_length front;
     size_t offset = any_number(), size = any_number();
     switch (below(6)) {
     case 0: return net_assembler_add(head, runs, most, offset, size) == NET_REFUSED;
     case 1:
-        return net_assembler_add_then_remove_front(head, runs, most, offset, size, front)
-               == NET_REFUSED;
-    case 2: return !net_assembler_remove_front(head, runs, most, front);
-    case 3: return !net_assembler_peek_front(head, runs, most, front);
+        front = net_assembler_add_then_remove_front(head, runs, most, offset, size);
+        return front_is(front, NET_REFUSED, 0);
+    case 2: return front_is(net_assembler_remove_front(head, runs, most), NET_REFUSED, 0);
+    case 3: return front_is(net_assembler_peek_front(head, runs, most), NET_REFUSED, 0);
     case 4: return net_assembler_contains(head, runs, most, offset) == NET_REFUSED;
     default: return run_is(net_assembler_run_at(head, runs, most, size), SIZE_MAX, SIZE_MAX);
     }
@@ -185,8 +188,7 @@ static bool call_any(size_t *front) {
 static void fuzz_nonsense(void) {
     spoil_used();
     remember();
-    size_t *front = take_front(), before = *front;
-    EXPECT(call_any(front) && is_unchanged() && *front == before);
+    EXPECT(call_any() && is_unchanged());
 }
 
 static void fuzz_is_sound(void) {
@@ -199,7 +201,7 @@ static void fuzz_is_sound(void) {
 static void fuzz_any_sound_runs(void) {
     spoil();
     if (!net_assembler_is_sound(head, runs, most)) return;
-    call_any(take_front());
+    call_any();
     EXPECT(net_assembler_is_sound(head, runs, most));
 }
 
@@ -218,7 +220,6 @@ void fuzz_assembler(void) {
         fuzz_any_sound_runs,
     };
     draw_assembler();
-    take_front();
     remember();
     calls[below(sizeof calls / sizeof calls[0])]();
     EXPECT(rooms_are_whole());

@@ -2,7 +2,7 @@
 //! dependencies.
 //!
 //! Names, signatures and behaviour are those of [smoltcp](https://github.com/smoltcp-rs/smoltcp)
-//! 0.14.0, except where a page of this repository, `docs/DIFFERENCES.md`, or an item here says
+//! 0.14.0, except where a page of this repository, `docs/FFI.md`, or an item here says
 //! otherwise. Beyond smoltcp there are [`receiver::Receiver`], which joins segments that come in any
 //! order to a stream, [`sender::Sender`], which stores bytes until they are acknowledged, and
 //! [`storage::Assembler`]s of any number of runs.

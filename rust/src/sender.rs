@@ -140,7 +140,7 @@ impl<'a> Sender<'a> {
     /// assert_eq!((sender.peek_at(101, 9), sender.peek_at(103, 9)), (&b"bc"[..], &b""[..]));
     /// ```
     ///
-    /// Proved: `net_sender_peek_at`, clauses `from`, `contiguous` and `before`.
+    /// Proved: `net_sender_peek_at`, clauses `bytes`, `end` and `before`.
     pub fn peek_at(&self, pos: u64, max: usize) -> &[u8] {
         part(self.sent.storage(), self.sent.peek_at(pos, max))
     }
@@ -157,7 +157,7 @@ impl<'a> Sender<'a> {
     /// assert_eq!(sender.peek_at(102, 9), b"c");
     /// ```
     ///
-    /// Proved: `net_sender_acknowledge`, clauses `accepted`, `first` and `place`.
+    /// Proved: `net_sender_acknowledge`, clauses `accepted`, `state` and `refused`.
     pub fn acknowledge(&mut self, next: u64) -> bool {
         self.sent.acknowledge(next)
     }

@@ -13,7 +13,7 @@ use declarations::*;
 
 use crate::managed::ManagedSlice;
 
-pub(crate) use declarations::{PacketPlace, PacketsHead, Place, Span};
+pub(crate) use declarations::{PacketPlace, PacketsHead, Part, Place, Span};
 
 /// Why an export refused what it was given.
 #[derive(Debug, Clone, Copy, PartialEq, Eq)]
@@ -81,7 +81,7 @@ impl Place {
     }
 
     #[inline]
-    pub(crate) fn put_contiguous(&mut self, capacity: usize, size: usize) -> Span {
+    pub(crate) fn put_contiguous(&mut self, capacity: usize, size: usize) -> Part {
         // SAFETY: the export writes a place that is lent for writing.
         unsafe { net_ring_put_contiguous(self, capacity, size) }
     }
@@ -93,7 +93,7 @@ impl Place {
     }
 
     #[inline]
-    pub(crate) fn take_contiguous(&mut self, capacity: usize, size: usize) -> Span {
+    pub(crate) fn take_contiguous(&mut self, capacity: usize, size: usize) -> Part {
         // SAFETY: the export writes a place that is lent for writing.
         unsafe { net_ring_take_contiguous(self, capacity, size) }
     }
@@ -182,10 +182,9 @@ impl<const N: usize> Runs<N> {
 
     #[inline]
     pub(crate) fn remove_front(&mut self) -> usize {
-        let (at, length, mut front) = (self.runs.as_mut_ptr(), self.runs.len(), 0);
+        let (at, length) = (self.runs.as_mut_ptr(), self.runs.len());
         // SAFETY: the runs are a slice that is lent for writing, sound with the head.
-        unsafe { net_assembler_remove_front(&mut self.head, at, length, &mut front) };
-        front
+        unsafe { net_assembler_remove_front(&mut self.head, at, length) }.length
     }
 
     #[inline]
@@ -194,23 +193,18 @@ impl<const N: usize> Runs<N> {
         offset: usize,
         size: usize,
     ) -> Result<usize, Refusal> {
-        let (at, length, mut front) = (self.runs.as_mut_ptr(), self.runs.len(), 0);
+        let (at, length) = (self.runs.as_mut_ptr(), self.runs.len());
         let head = &mut self.head;
         // SAFETY: the runs are a slice that is lent for writing, sound with the head.
-        let status = unsafe {
-            net_assembler_add_then_remove_front(head, at, length, offset, size, &mut front)
-        };
-        done(status, front)
+        let front = unsafe { net_assembler_add_then_remove_front(head, at, length, offset, size) };
+        done(front.status, front.length)
     }
 
     #[inline]
     pub(crate) fn peek_front(&self) -> usize {
-        let mut front = 0;
+        let (at, length) = (self.runs.as_ptr(), self.runs.len());
         // SAFETY: the runs are a slice that is lent, sound with the head.
-        unsafe {
-            net_assembler_peek_front(&self.head, self.runs.as_ptr(), self.runs.len(), &mut front)
-        };
-        front
+        unsafe { net_assembler_peek_front(&self.head, at, length) }.length
     }
 
     #[inline]

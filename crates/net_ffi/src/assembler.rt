@@ -3,12 +3,14 @@
 //! At most as many runs are stored as the slice has elements.
 ghost use Rattle.std.specs.Prelude.{◌≡◌, ◌↔◌, ◌+◌, ◌-◌, ◌<◌, ◌≤◌, ◌^◌, ℕ, List, length};
 ghost use Rattle.std.specs.Prelude.{IsTrue, IsFalse, if◌then◌else◌, slice_get, unwrap_or};
+ghost use Rattle.std.specs.Prelude.{IfOk, OnErr};
 ghost use Rattle.net_assembler.specs.Assembler.{MakesTooManyRuns};
+ghost use Rattle.net_assembler.specs.AssemblerLaws.{Adds, AddsThenRemovesFront};
 ghost use Rattle.net_assembler.specs.Positions.{RangeFits, contains, nothing, front as front_of};
 ghost use Rattle.net_assembler.specs.Positions.{with_range, shift_down, maximal_runs};
 ghost use Rattle.net_assembler.specs.RunLists.{set_of, HasSoundRuns};
 
-use net_assembler::{Assembler, AssemblerHead, Run, Turns};
+use net_assembler::{Assembler, AssemblerHead, Run, TooManyHolesError, Turns};
 
 /// The call was done.
 pub const NET_DONE: u32 = 0;
@@ -24,6 +26,22 @@ pub const NET_MISSING: u32 = 0;
 
 /// The position is present.
 pub const NET_PRESENT: u32 = 1;
+
+/// The length of the run at position 0, and whether the call was done.
+#[repr(C)]
+#[derive(Debug, Clone, Copy)]
+pub struct FrontLength {
+    /// `NET_DONE`, `NET_TOO_MANY_RUNS` or `NET_REFUSED`.
+    pub status: u32,
+    /// How many positions the run has; 0 if position 0 is missing, or the call wasn't done.
+    pub length: usize,
+}
+
+/// What is returned in place of a front that is refused.
+const NO_FRONT: FrontLength = FrontLength {
+    status: NET_REFUSED,
+    length: 0,
+};
 
 /// Returns whether `assembler` and `runs` are those of an assembler: there are `used` runs, which
 /// rise, with a hole between neighbours; the first starts at 0; and each end fits 64 bits also with
@@ -77,19 +95,19 @@ pub extern "C" fn net_assembler_add(
     if assembler.used > runs.len() || !Assembler::<1>::fits(offset, size) {
         return NET_REFUSED;
     }
-    match assembler.add(runs, offset, size, &mut Turns::new()) {
+    match add_range(assembler, runs, offset, size) {
         Ok(()) => NET_DONE,
         Err(_) => NET_TOO_MANY_RUNS,
     }
 }
 
 /// Adds the positions from `offset` to `offset + size - 1`, then removes the run at position 0,
-/// writes its length to `front`, and counts all later positions from its end. If position 0 is
-/// missing, nothing is removed, and `front` is 0.
+/// returns its length, and counts all later positions from its end. If position 0 is missing,
+/// nothing is removed, and the length is 0.
 ///
-/// Returns `NET_DONE`, or `NET_TOO_MANY_RUNS` if `offset` isn't 0 and there would be more runs than
-/// the slice has elements, or `NET_REFUSED` if `offset + size` doesn't fit 64 bits or `used` is
-/// above `runs.len()`. If it isn't `NET_DONE`, nothing changes.
+/// The status is `NET_DONE`, or `NET_TOO_MANY_RUNS` if `offset` isn't 0 and there would be more runs
+/// than the slice has elements, or `NET_REFUSED` if `offset + size` doesn't fit 64 bits or `used` is
+/// above `runs.len()`. If it isn't `NET_DONE`, the length is 0, and nothing changes.
 ///
 /// # Requires
 ///
@@ -100,40 +118,55 @@ pub extern "C" fn net_assembler_add_then_remove_front(
     runs: &mut [Run],
     offset: usize,
     size: usize,
-    front: &mut usize,
-) -> u32
+) -> FrontLength
     requires sound { assembler.old.used ≤ length runs.old → HasSoundRuns assembler.old runs.old }
     ensures done { let s = set_of assembler.old runs.old in
         assembler.old.used ≤ length runs.old → RangeFits offset size →
         ((0 < offset) × MakesTooManyRuns (length runs.old) s offset size → ⊥) →
-        (result ≡ NET_DONE) × (front.new ≡ front_of (with_range s offset size))
-        × (set_of assembler.new runs.new ≡ shift_down (with_range s offset size) front.new) }
+        (result.status ≡ NET_DONE) × (result.length ≡ front_of (with_range s offset size))
+        × (set_of assembler.new runs.new ≡ shift_down (with_range s offset size) result.length) }
     ensures too_many { let s = set_of assembler.old runs.old in
         assembler.old.used ≤ length runs.old → RangeFits offset size → 0 < offset →
         MakesTooManyRuns (length runs.old) s offset size →
-        (result ≡ NET_TOO_MANY_RUNS) × (front.new ≡ front.old)
+        (result.status ≡ NET_TOO_MANY_RUNS) × (result.length ≡ 0)
         × (assembler.new ≡ assembler.old) × (runs.new ≡ runs.old) }
     ensures refused { ((assembler.old.used ≤ length runs.old) × RangeFits offset size → ⊥) →
-        (result ≡ NET_REFUSED) × (front.new ≡ front.old)
+        (result.status ≡ NET_REFUSED) × (result.length ≡ 0)
         × (assembler.new ≡ assembler.old) × (runs.new ≡ runs.old) }
     ensures sound { assembler.old.used ≤ length runs.old → HasSoundRuns assembler.new runs.new }
 {
     if assembler.used > runs.len() || !Assembler::<1>::fits(offset, size) {
-        return NET_REFUSED;
+        return NO_FRONT;
     }
-    match assembler.add_then_remove_front(runs, offset, size, &mut Turns::new()) {
-        Ok(removed) => {
-            *front = removed;
-            NET_DONE
+    // Each case that moves no run has code of its own, as in `add_range`.
+    let turns = &mut Turns::new();
+    if offset == 0 {
+        if size < assembler.first_start {
+            return front_length(assembler.add_then_remove_front(runs, offset, size, turns));
         }
-        Err(_) => NET_TOO_MANY_RUNS,
+        if assembler.used == 0 {
+            return front_length(assembler.add_then_remove_front(runs, offset, size, turns));
+        }
+        if assembler.used == 1 {
+            return front_length(assembler.add_then_remove_front(runs, offset, size, turns));
+        }
+    } else if assembler.used == 0 {
+        return front_length(assembler.add_then_remove_front(runs, offset, size, turns));
+    } else if offset < assembler.first_start {
+        if assembler.used == 1 {
+            return front_length(assembler.add_then_remove_front(runs, offset, size, turns));
+        }
+    } else if assembler.first_start > 0 {
+        return front_length(assembler.add_then_remove_front(runs, offset, size, turns));
     }
+    front_length(add_any_then_remove_front(assembler, runs, offset, size))
 }
 
-/// Removes the run at position 0, writes its length to `front`, and counts all later positions from
-/// its end. If position 0 is missing, nothing is removed, and `front` is 0.
+/// Removes the run at position 0, returns its length, and counts all later positions from its end.
+/// If position 0 is missing, nothing is removed, and the length is 0.
 ///
-/// If `used` is above `runs.len()`, it is refused: false, and nothing changes.
+/// The status is `NET_DONE`, or `NET_REFUSED` if `used` is above `runs.len()`: then the length is 0,
+/// and nothing changes.
 ///
 /// # Requires
 ///
@@ -142,46 +175,48 @@ pub extern "C" fn net_assembler_add_then_remove_front(
 pub extern "C" fn net_assembler_remove_front(
     assembler: &mut AssemblerHead,
     runs: &mut [Run],
-    front: &mut usize,
-) -> bool
+) -> FrontLength
     requires sound { assembler.old.used ≤ length runs.old → HasSoundRuns assembler.old runs.old }
-    ensures done { IsTrue result ↔ (assembler.old.used ≤ length runs.old) }
-    ensures removed { let s = set_of assembler.old runs.old in IsTrue result →
-        (front.new ≡ front_of s) × (set_of assembler.new runs.new ≡ shift_down s (front_of s)) }
-    ensures refused { IsFalse result → (front.new ≡ front.old)
+    ensures removed { let s = set_of assembler.old runs.old in
+        assembler.old.used ≤ length runs.old →
+        (result.status ≡ NET_DONE) × (result.length ≡ front_of s)
+        × (set_of assembler.new runs.new ≡ shift_down s result.length) }
+    ensures refused { length runs.old < assembler.old.used →
+        (result.status ≡ NET_REFUSED) × (result.length ≡ 0)
         × (assembler.new ≡ assembler.old) × (runs.new ≡ runs.old) }
-    ensures sound { IsTrue result → HasSoundRuns assembler.new runs.new }
+    ensures sound { assembler.old.used ≤ length runs.old → HasSoundRuns assembler.new runs.new }
 {
     if assembler.used > runs.len() {
-        return false;
+        return NO_FRONT;
     }
-    *front = assembler.remove_front(runs, &mut Turns::new());
-    true
+    FrontLength {
+        status: NET_DONE,
+        length: assembler.remove_front(runs, &mut Turns::new()),
+    }
 }
 
-/// Writes the length of the run at position 0 to `front`; 0 if position 0 is missing.
+/// Returns the length of the run at position 0, which is 0 if position 0 is missing.
 ///
-/// If `used` is above `runs.len()`, it is refused: false, and nothing changes.
+/// The status is `NET_DONE`, or `NET_REFUSED` if `used` is above `runs.len()`: then the length is 0.
 ///
 /// # Requires
 ///
 /// Head and runs are sound, as `net_assembler_is_sound` tests.
 #[unsafe(no_mangle)]
-pub extern "C" fn net_assembler_peek_front(
-    assembler: &AssemblerHead,
-    runs: &[Run],
-    front: &mut usize,
-) -> bool
+pub extern "C" fn net_assembler_peek_front(assembler: &AssemblerHead, runs: &[Run]) -> FrontLength
     requires sound { assembler.now.used ≤ length runs.now → HasSoundRuns assembler.now runs.now }
-    ensures done { IsTrue result ↔ (assembler.now.used ≤ length runs.now) }
-    ensures front { IsTrue result → front.new ≡ front_of (set_of assembler.now runs.now) }
-    ensures refused { IsFalse result → front.new ≡ front.old }
+    ensures front { assembler.now.used ≤ length runs.now → (result.status ≡ NET_DONE)
+        × (result.length ≡ front_of (set_of assembler.now runs.now)) }
+    ensures refused { length runs.now < assembler.now.used →
+        (result.status ≡ NET_REFUSED) × (result.length ≡ 0) }
 {
     if assembler.used > runs.len() {
-        return false;
+        return NO_FRONT;
     }
-    *front = assembler.peek_front(runs);
-    true
+    FrontLength {
+        status: NET_DONE,
+        length: assembler.peek_front(runs),
+    }
 }
 
 /// Returns `NET_PRESENT` if `position` is present, and `NET_MISSING` if it isn't; `NET_REFUSED` if
@@ -237,4 +272,89 @@ pub extern "C" fn net_assembler_run_at(assembler: &AssemblerHead, runs: &[Run], 
         Some((start, end)) => Run { start, end },
         None => Run { start: 0, end: 0 },
     }
+}
+
+/// Returns what a call that removes the front returns, of its result.
+#[inline(always)]
+fn front_length(front: Result<usize, TooManyHolesError>) -> FrontLength
+    ensures done { IfOk front (λ n. (result.status ≡ NET_DONE) × (result.length ≡ n)) }
+    ensures too_many { OnErr front ((result.status ≡ NET_TOO_MANY_RUNS) × (result.length ≡ 0)) }
+{
+    match front {
+        Ok(length) => FrontLength {
+            status: NET_DONE,
+            length,
+        },
+        Err(_) => FrontLength {
+            status: NET_TOO_MANY_RUNS,
+            length: 0,
+        },
+    }
+}
+
+/// Adds a range as `AssemblerHead::add` does.
+///
+/// Each case has code of its own, from which the compiler leaves out what the case excludes: so a
+/// call that moves no run has no loop, and saves few registers.
+#[inline(always)]
+fn add_range(
+    assembler: &mut AssemblerHead,
+    runs: &mut [Run],
+    offset: usize,
+    size: usize,
+) -> Result<(), TooManyHolesError>
+    requires sound { HasSoundRuns assembler.old runs.old }
+    requires range { RangeFits offset size }
+    ensures sound { HasSoundRuns assembler.new runs.new }
+    ensures added { Adds (length runs.old) (set_of assembler.old runs.old) offset size
+        result (set_of assembler.new runs.new) }
+    ensures unchanged { OnErr result ((assembler.new ≡ assembler.old) × (runs.new ≡ runs.old)) }
+{
+    if assembler.used == 0 {
+        return assembler.add(runs, offset, size, &mut Turns::new());
+    }
+    if offset < assembler.first_start {
+        if assembler.used == 1 {
+            return assembler.add(runs, offset, size, &mut Turns::new());
+        }
+    } else {
+        return assembler.add(runs, offset, size, &mut Turns::new());
+    }
+    add_any(assembler, runs, offset, size)
+}
+
+/// Adds a range as `AssemblerHead::add` does, in any case.
+#[inline(never)]
+fn add_any(
+    assembler: &mut AssemblerHead,
+    runs: &mut [Run],
+    offset: usize,
+    size: usize,
+) -> Result<(), TooManyHolesError>
+    requires sound { HasSoundRuns assembler.old runs.old }
+    requires range { RangeFits offset size }
+    ensures sound { HasSoundRuns assembler.new runs.new }
+    ensures added { Adds (length runs.old) (set_of assembler.old runs.old) offset size
+        result (set_of assembler.new runs.new) }
+    ensures unchanged { OnErr result ((assembler.new ≡ assembler.old) × (runs.new ≡ runs.old)) }
+{
+    assembler.add(runs, offset, size, &mut Turns::new())
+}
+
+/// Adds a range and removes the front, as `AssemblerHead::add_then_remove_front` does, in any case.
+#[inline(never)]
+fn add_any_then_remove_front(
+    assembler: &mut AssemblerHead,
+    runs: &mut [Run],
+    offset: usize,
+    size: usize,
+) -> Result<usize, TooManyHolesError>
+    requires sound { HasSoundRuns assembler.old runs.old }
+    requires range { RangeFits offset size }
+    ensures sound { HasSoundRuns assembler.new runs.new }
+    ensures both { AddsThenRemovesFront (length runs.old) (set_of assembler.old runs.old)
+        offset size result (set_of assembler.new runs.new) }
+    ensures unchanged { OnErr result ((assembler.new ≡ assembler.old) × (runs.new ≡ runs.old)) }
+{
+    assembler.add_then_remove_front(runs, offset, size, &mut Turns::new())
 }

@@ -85,7 +85,7 @@ pub extern "C" fn net_receiver_is_sound(
 ///
 /// Returns `NET_DONE`, or `NET_TOO_MANY_RUNS` if the segment has bytes in the free window, the
 /// first missing position is not one of theirs, and with them there would be more runs than the
-/// slice has elements: then the receiver, its storage and `counts` are as they were.
+/// slice has elements: then nothing changes.
 ///
 /// Returns `NET_REFUSED`, and nothing changes, if the segment doesn't end within 64 bits, if
 /// `place` isn't that of a ring of `storage.len()` bytes, if `next` doesn't fit 64 bits, or if
@@ -129,6 +129,8 @@ pub extern "C" fn net_receiver_segment(
         × (position + length bytes.now < 2 ^ 64) → ⊥) → (result ≡ NET_REFUSED)
         × (receiver.new ≡ receiver.old) × (storage.new ≡ storage.old) × (runs.new ≡ runs.old)
         × (counts.new ≡ counts.old) }
+    ensures too_many { result ≡ NET_TOO_MANY_RUNS → (receiver.new ≡ receiver.old)
+        × (storage.new ≡ storage.old) × (runs.new ≡ runs.old) × (counts.new ≡ counts.old) }
 {
     if !is_plausible(receiver, storage.len(), runs.len()) {
         return NET_REFUSED;

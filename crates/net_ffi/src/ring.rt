@@ -24,6 +24,20 @@ pub(crate) const NOWHERE: Span = Span {
     contiguous: 0,
 };
 
+/// Contiguous elements: `count` of them, from the index `from` on.
+#[repr(C)]
+#[derive(Debug, Clone, Copy)]
+pub struct Part {
+    pub from: usize,
+    pub count: usize,
+}
+
+/// What is returned in place of a part that is refused.
+const NO_PART: Part = Part {
+    from: usize::MAX,
+    count: 0,
+};
+
 /// Returns whether `place` is that of a ring of `capacity` elements: its read index is an index of
 /// the storage, or 0, and it has no more elements than the storage.
 #[unsafe(no_mangle)]
@@ -214,21 +228,24 @@ pub extern "C" fn net_ring_put(place: &mut Place, capacity: usize, size: usize) 
 /// A place that isn't sound is refused: then `from` is `usize::MAX`, `count` is 0, and nothing
 /// changes.
 #[unsafe(no_mangle)]
-pub extern "C" fn net_ring_put_contiguous(place: &mut Place, capacity: usize, size: usize) -> Span
+pub extern "C" fn net_ring_put_contiguous(place: &mut Place, capacity: usize, size: usize) -> Part
     ensures from { IsSound capacity place.old →
         result.from ≡ free_index capacity (rewound place.old) 0 }
     ensures count { IsSound capacity place.old → result.count
         ≡ min size (min (capacity - place.old.length) (capacity - result.from)) }
-    ensures contiguous { IsSound capacity place.old → result.contiguous ≡ result.count }
     ensures place { IsSound capacity place.old →
         place.new ≡ enqueued_place result.count (rewound place.old) }
     ensures refused { (IsSound capacity place.old → ⊥) →
-        (result ≡ nowhere) × (place.new ≡ place.old) }
+        (result.from ≡ 2 ^ 64 - 1) × (result.count ≡ 0) × (place.new ≡ place.old) }
 {
     if !place.is_sound(capacity) {
-        return NOWHERE;
+        return NO_PART;
     }
-    place.put_contiguous(capacity, size)
+    let span = place.put_contiguous(capacity, size);
+    Part {
+        from: span.from,
+        count: span.count,
+    }
 }
 
 /// Dequeues as many elements as are queued, at most `size`, and returns where they are.
@@ -258,20 +275,23 @@ pub extern "C" fn net_ring_take(place: &mut Place, capacity: usize, size: usize)
 /// A place that isn't sound is refused: then `from` is `usize::MAX`, `count` is 0, and nothing
 /// changes.
 #[unsafe(no_mangle)]
-pub extern "C" fn net_ring_take_contiguous(place: &mut Place, capacity: usize, size: usize) -> Span
+pub extern "C" fn net_ring_take_contiguous(place: &mut Place, capacity: usize, size: usize) -> Part
     ensures from { IsSound capacity place.old → result.from ≡ place.old.read_at }
     ensures count { IsSound capacity place.old → result.count
         ≡ min size (min place.old.length (capacity - place.old.read_at)) }
-    ensures contiguous { IsSound capacity place.old → result.contiguous ≡ result.count }
     ensures place { IsSound capacity place.old →
         place.new ≡ dequeued_place capacity result.count place.old }
     ensures refused { (IsSound capacity place.old → ⊥) →
-        (result ≡ nowhere) × (place.new ≡ place.old) }
+        (result.from ≡ 2 ^ 64 - 1) × (result.count ≡ 0) × (place.new ≡ place.old) }
 {
     if !place.is_sound(capacity) {
-        return NOWHERE;
+        return NO_PART;
     }
-    place.take_contiguous(capacity, size)
+    let span = place.take_contiguous(capacity, size);
+    Part {
+        from: span.from,
+        count: span.count,
+    }
 }
 
 /// Writes as many bytes of `data` as there is room for to the free bytes from the one at `offset`

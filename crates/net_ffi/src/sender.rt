@@ -3,12 +3,13 @@
 //! A head of zeros, but for `first_unacknowledged`, is that of a sender of a stream that begins
 //! there, to which nothing was written. The queue, of bytes that are not acknowledged, is the ring
 //! of `place`.
-ghost use Rattle.std.specs.Prelude.{◌≡◌, ◌↔◌, ◌+◌, ◌-◌, ◌<◌, ◌≤◌, ◌^◌, ℕ, List, min, length, take};
+ghost use Rattle.std.specs.Prelude.{◌≡◌, ◌↔◌, ◌+◌, ◌-◌, ◌<◌, ◌≤◌, ◌^◌, ℕ, List, min, length, take, drop};
 ghost use Rattle.std.specs.Prelude.{IsTrue, IsFalse};
-ghost use Rattle.net_ring.specs.Ring.{from_start_if_empty, with_enqueued, write_at};
+ghost use Rattle.net_ring.specs.Ring.{queue, from_start_if_empty, with_enqueued, write_at};
 ghost use Rattle.net_ring.specs.Ring.{with_elements_wrapping};
 ghost use Rattle.net_ring.specs.Place.{ring_at, queued_index, dequeued_place};
-ghost use Rattle.net_stream_model.specs.SenderState.{room_of, with_written};
+ghost use Rattle.net_stream_model.specs.SenderState.{room_of, with_written, contiguous_end};
+ghost use Rattle.net_stream_model.specs.SenderState.{sender_from};
 ghost use Rattle.net_stream.specs.SenderHeads.{sender_of, IsSoundHead};
 ghost use Rattle.net_ffi.specs.Refusals.{nowhere};
 
@@ -112,6 +113,13 @@ pub extern "C" fn net_sender_peek_at(
         result.contiguous ≡ min result.count (capacity - result.from) }
     ensures before { IsSoundHead capacity sender.now → position < sender.now.first_unacknowledged →
         (result.from ≡ 0) × (result.count ≡ 0) × (result.contiguous ≡ 0) }
+    ensures end { IsSoundHead capacity sender.now → (storage : List ℕ) (blocks : List (ℕ × ℕ)) →
+        length storage ≡ capacity → sender.now.first_unacknowledged ≤ position → result.contiguous
+        ≡ min max (contiguous_end (sender_of sender.now storage blocks) position - position) }
+    ensures bytes { IsSoundHead capacity sender.now → (storage : List ℕ) →
+        length storage ≡ capacity → take result.contiguous (drop result.from storage)
+        ≡ take result.contiguous (drop (position - sender.now.first_unacknowledged)
+        (queue (ring_at storage sender.now.place))) }
     ensures refused { (IsSoundHead capacity sender.now → ⊥) → result ≡ nowhere }
 {
     if !sender.is_sound(capacity) {
@@ -135,6 +143,9 @@ pub extern "C" fn net_sender_acknowledge(
     ensures first { IsTrue result → sender.new.first_unacknowledged ≡ next }
     ensures place { IsTrue result → sender.new.place ≡ dequeued_place capacity
         (next - sender.old.first_unacknowledged) sender.old.place }
+    ensures state { IsTrue result → (storage : List ℕ) (old new : List (ℕ × ℕ)) →
+        length storage ≡ capacity → sender_of sender.new storage new
+        ≡ sender_from (sender_of sender.old storage old) next new }
     ensures sound { IsSoundHead capacity sender.old → IsSoundHead capacity sender.new }
     ensures unsound { (IsSoundHead capacity sender.old → ⊥) → IsFalse result }
     ensures refused { IsFalse result → sender.new ≡ sender.old }

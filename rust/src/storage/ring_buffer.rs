@@ -342,8 +342,8 @@ impl<'a, T: 'a> RingBuffer<'a, T> {
     #[inline]
     pub fn enqueue_many(&mut self, size: usize) -> &mut [T] {
         let storage: &mut [T] = &mut self.storage;
-        let span = self.place.put_contiguous(storage.len(), size);
-        part_mut(storage, span)
+        let part = self.place.put_contiguous(storage.len(), size);
+        &mut storage[part.from..][..part.count]
     }
 
     /// Enqueues as many elements of `data` as there is room for, from the first on, and returns how
@@ -415,8 +415,8 @@ impl<'a, T: 'a> RingBuffer<'a, T> {
     #[inline]
     pub fn dequeue_many(&mut self, size: usize) -> &mut [T] {
         let storage: &mut [T] = &mut self.storage;
-        let span = self.place.take_contiguous(storage.len(), size);
-        part_mut(storage, span)
+        let part = self.place.take_contiguous(storage.len(), size);
+        &mut storage[part.from..][..part.count]
     }
 
     /// Dequeues as many elements as are queued and as `data` has room for, copies them to its

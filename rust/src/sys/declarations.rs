@@ -19,6 +19,16 @@ pub struct Run {
     pub end: usize,
 }
 
+/// The length of the run at position 0, and whether the call was done.
+#[repr(C)]
+#[derive(Debug, Clone, Copy, PartialEq, Eq)]
+pub struct FrontLength {
+    /// `NET_DONE`, `NET_TOO_MANY_RUNS` or `NET_REFUSED`.
+    pub status: u32,
+    /// How many positions the run has; 0 if position 0 is missing, or the call wasn't done.
+    pub length: usize,
+}
+
 /// The call was done.
 pub const NET_DONE: u32 = 0;
 
@@ -114,6 +124,14 @@ pub struct Span {
     pub contiguous: usize,
 }
 
+/// Contiguous elements: `count` of them, from the index `from` on.
+#[repr(C)]
+#[derive(Debug, Clone, Copy, PartialEq, Eq)]
+pub struct Part {
+    pub from: usize,
+    pub count: usize,
+}
+
 /// What a sender has besides its storage and its SACK blocks: numbers.
 #[repr(C)]
 #[derive(Debug, Clone, Copy, PartialEq, Eq)]
@@ -156,12 +174,12 @@ extern "C" {
     ) -> u32;
 
     /// Adds the positions from `offset` to `offset + size - 1`, then removes the run at position 0,
-    /// writes its length to `front`, and counts all later positions from its end. If position 0 is
-    /// missing, nothing is removed, and `front` is 0.
+    /// returns its length, and counts all later positions from its end. If position 0 is missing,
+    /// nothing is removed, and the length is 0.
     ///
-    /// Returns `NET_DONE`, or `NET_TOO_MANY_RUNS` if `offset` isn't 0 and there would be more runs
-    /// than the slice has elements, or `NET_REFUSED` if `offset + size` doesn't fit 64 bits or
-    /// `used` is above `runs.len()`. If it isn't `NET_DONE`, nothing changes.
+    /// The status is `NET_DONE`, or `NET_TOO_MANY_RUNS` if `offset` isn't 0 and there would be more
+    /// runs than the slice has elements, or `NET_REFUSED` if `offset + size` doesn't fit 64 bits or
+    /// `used` is above `runs.len()`. If it isn't `NET_DONE`, the length is 0, and nothing changes.
     ///
     /// # Requires
     ///
@@ -172,13 +190,13 @@ extern "C" {
         runs_length: usize,
         offset: usize,
         size: usize,
-        front: &mut usize,
-    ) -> u32;
+    ) -> FrontLength;
 
-    /// Removes the run at position 0, writes its length to `front`, and counts all later positions
-    /// from its end. If position 0 is missing, nothing is removed, and `front` is 0.
+    /// Removes the run at position 0, returns its length, and counts all later positions from its
+    /// end. If position 0 is missing, nothing is removed, and the length is 0.
     ///
-    /// If `used` is above `runs.len()`, it is refused: false, and nothing changes.
+    /// The status is `NET_DONE`, or `NET_REFUSED` if `used` is above `runs.len()`: then the length
+    /// is 0, and nothing changes.
     ///
     /// # Requires
     ///
@@ -187,12 +205,12 @@ extern "C" {
         assembler: &mut AssemblerHead,
         runs: *mut Run,
         runs_length: usize,
-        front: &mut usize,
-    ) -> bool;
+    ) -> FrontLength;
 
-    /// Writes the length of the run at position 0 to `front`; 0 if position 0 is missing.
+    /// Returns the length of the run at position 0, which is 0 if position 0 is missing.
     ///
-    /// If `used` is above `runs.len()`, it is refused: false, and nothing changes.
+    /// The status is `NET_DONE`, or `NET_REFUSED` if `used` is above `runs.len()`: then the length
+    /// is 0.
     ///
     /// # Requires
     ///
@@ -201,8 +219,7 @@ extern "C" {
         assembler: &AssemblerHead,
         runs: *const Run,
         runs_length: usize,
-        front: &mut usize,
-    ) -> bool;
+    ) -> FrontLength;
 
     /// Returns `NET_PRESENT` if `position` is present, and `NET_MISSING` if it isn't; `NET_REFUSED`
     /// if `used` is above `runs.len()`.
@@ -302,7 +319,7 @@ extern "C" {
     ///
     /// Returns `NET_DONE`, or `NET_TOO_MANY_RUNS` if the segment has bytes in the free window, the
     /// first missing position is not one of theirs, and with them there would be more runs than the
-    /// slice has elements: then the receiver, its storage and `counts` are as they were.
+    /// slice has elements: then nothing changes.
     ///
     /// Returns `NET_REFUSED`, and nothing changes, if the segment doesn't end within 64 bits, if
     /// `place` isn't that of a ring of `storage.len()` bytes, if `next` doesn't fit 64 bits, or if
@@ -449,7 +466,7 @@ extern "C" {
     ///
     /// A place that isn't sound is refused: then `from` is `usize::MAX`, `count` is 0, and nothing
     /// changes.
-    pub fn net_ring_put_contiguous(place: &mut Place, capacity: usize, size: usize) -> Span;
+    pub fn net_ring_put_contiguous(place: &mut Place, capacity: usize, size: usize) -> Part;
 
     /// Dequeues as many elements as are queued, at most `size`, and returns where they are.
     ///
@@ -461,7 +478,7 @@ extern "C" {
     ///
     /// A place that isn't sound is refused: then `from` is `usize::MAX`, `count` is 0, and nothing
     /// changes.
-    pub fn net_ring_take_contiguous(place: &mut Place, capacity: usize, size: usize) -> Span;
+    pub fn net_ring_take_contiguous(place: &mut Place, capacity: usize, size: usize) -> Part;
 
     /// Writes as many bytes of `data` as there is room for to the free bytes from the one at
     /// `offset` on, and returns how many; 0 if `offset` is past the free bytes. Nothing is

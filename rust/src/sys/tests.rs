@@ -16,6 +16,10 @@ fn span(from: usize, count: usize, contiguous: usize) -> Span {
     Span { from, count, contiguous }
 }
 
+fn part(from: usize, count: usize) -> Part {
+    Part { from, count }
+}
+
 /// Changes a copy of a place, and returns it with the result.
 fn changed<R>(mut place: Place, f: impl FnOnce(&mut Place) -> R) -> (R, Place) {
     (f(&mut place), place)
@@ -111,8 +115,8 @@ fn net_ring_put() {
 
 #[test]
 fn net_ring_put_contiguous() {
-    assert_eq!(changed(SHORT, |it| it.put_contiguous(8, 4)), (span(5, 3, 3), place(2, 6)));
-    assert_eq!(changed(place(2, 1), |it| it.put_contiguous(4, 8)), (span(3, 1, 1), place(2, 2)));
+    assert_eq!(changed(SHORT, |it| it.put_contiguous(8, 4)), (part(5, 3), place(2, 6)));
+    assert_eq!(changed(place(2, 1), |it| it.put_contiguous(4, 8)), (part(3, 1), place(2, 2)));
 }
 
 #[test]
@@ -123,8 +127,8 @@ fn net_ring_take() {
 
 #[test]
 fn net_ring_take_contiguous() {
-    assert_eq!(changed(LONG, |it| it.take_contiguous(8, 5)), (span(5, 3, 3), place(0, 3)));
-    assert_eq!(changed(place(3, 4), |it| it.take_contiguous(5, 8)), (span(3, 2, 2), place(0, 2)));
+    assert_eq!(changed(LONG, |it| it.take_contiguous(8, 5)), (part(5, 3), place(0, 3)));
+    assert_eq!(changed(place(3, 4), |it| it.take_contiguous(5, 8)), (part(3, 2), place(0, 2)));
 }
 
 #[test]
