@@ -35,7 +35,7 @@ import sys
 
 ROOT = pathlib.Path(__file__).resolve().parent.parent
 # The crates whose lines doc comments quote as examples.
-EXAMPLES = ["net_examples", "net_base_tests", "net_sockets"]
+EXAMPLES = ["net_examples", "net_base_tests", "net_examples_tests", "net_sockets"]
 # Where names are looked for.
 SOURCES = ["crates/**/*", "models/*", "compare/**/*", "rust/**/*", "c/**/*", "tools/*", "crates.txt", "HANDLES", ".ci/run", "*", "docs/*"]
 ELSEWHERE = set("""

@@ -1,5 +1,4 @@
-//! The tests of `net_base`, `net_sockets` and `net_examples`, each through its public calls, and a device
-//! that is no loopback.
+//! The tests of `net_base` and `net_sockets`, each through its public calls, and a device that is no loopback.
 //!
 //! They are in a crate of their own, so that crates that use these libraries don't wait for them, and
 //! link nothing that only tests need.
@@ -7,8 +6,6 @@
 
 #[cfg(test)]
 mod assertions;
-#[cfg(test)]
-mod examples;
 #[cfg(test)]
 mod least;
 #[cfg(test)]

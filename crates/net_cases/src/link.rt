@@ -3,7 +3,7 @@ use crate::bytes::pattern;
 use crate::call::{first_word, words_of};
 use crate::reply::{Part, Reply, many};
 use net_io::{Ended, Status, number};
-use net_link_lib::{Messages, Remembering, serve};
+use net_link_lib::{ProgressWriter, Recording, serve};
 use std::alloc::{AllocError, Global};
 
 /// Answers a number of bytes and the words of a command line: appends the exit status, the digests of what
@@ -35,9 +35,9 @@ fn serve_words(
     input: &[u8],
     reply: &mut String,
 ) -> Result<(), AllocError> {
-    let mut reader = Remembering::new(input);
-    let mut writer: Remembering<Vec<u8>> = Remembering::new(Vec::new(alloc));
-    let mut errors: Messages<Vec<u8>> = Messages::new(Vec::new(alloc));
+    let mut reader = Recording::new(input);
+    let mut writer: Recording<Vec<u8>> = Recording::new(Vec::new(alloc));
+    let mut errors: ProgressWriter<Vec<u8>> = ProgressWriter::new(Vec::new(alloc));
     let ended = serve(alloc, words, &mut reader, &mut writer, &mut errors);
     Reply::new()
         .and(Part::Word(name_of(&ended)))

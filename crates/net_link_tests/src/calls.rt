@@ -2,7 +2,7 @@
 //! program, written from docs/LINK.md.
 use crate::causes::{assert_holds, has_text, words_of};
 use net_io::Status;
-use net_link_lib::{Messages, Remembering, serve};
+use net_link_lib::{ProgressWriter, Recording, serve};
 use net_testing::{NEVER, Refusing, Sink, Source};
 use std::alloc::{AllocError, Global};
 use std::io::ErrorKind;
@@ -169,9 +169,9 @@ fn goes_so(alloc: Global, row: &Row) -> Result<bool, AllocError> {
     let words = words_of(alloc, row.words)?;
     let (len, per_call) = row.input;
     let (input, _) = INPUT.split_at(len.min(INPUT.len()));
-    let mut reader = Remembering::new(Source::failing(input, per_call, NEVER, ErrorKind::Other));
-    let mut writer = Remembering::new(Sink::new(alloc)?);
-    let mut errors = Messages::new(Sink::failing(
+    let mut reader = Recording::new(Source::failing(input, per_call, NEVER, ErrorKind::Other));
+    let mut writer = Recording::new(Sink::new(alloc)?);
+    let mut errors = ProgressWriter::new(Sink::failing(
         alloc,
         usize::MAX,
         row.told_calls,
@@ -190,9 +190,9 @@ fn goes_so(alloc: Global, row: &Row) -> Result<bool, AllocError> {
 /// Returns how much memory a copy of nine bytes asks for.
 fn bytes_asked(alloc: Global, line: &str) -> Result<usize, AllocError> {
     let words = words_of(alloc, line)?;
-    let mut reader = Remembering::new(Source::new(b"some text"));
-    let mut writer = Remembering::new(Sink::new(alloc)?);
-    let mut errors = Messages::new(Sink::new(alloc)?);
+    let mut reader = Recording::new(Source::new(b"some text"));
+    let mut writer = Recording::new(Sink::new(alloc)?);
+    let mut errors = ProgressWriter::new(Sink::new(alloc)?);
     let memory = Refusing::new(alloc, NEVER);
     let ended = serve(&memory, &words, &mut reader, &mut writer, &mut errors);
     if ended.status != Status::Done {

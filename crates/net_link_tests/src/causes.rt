@@ -1,7 +1,7 @@
 //! What standard error says of streams that fail in two ways, of long causes, and of causes for which there is
 //! no memory; and how much memory `serve` asks for.
 use net_io::{Ended, Status};
-use net_link_lib::{Messages, Remembering, serve};
+use net_link_lib::{ProgressWriter, Recording, serve};
 use net_testing::{NEVER, Refusing, Sink, Source};
 use std::alloc::{AllocError, Allocator, Global};
 use std::io;
@@ -160,13 +160,13 @@ static FAILURES: [Failure; 12] = [
 ];
 
 /// Returns whether standard error has this text, and wasn't flushed.
-pub fn has_text(errors: &Messages<Sink>, told: &str) -> bool {
+pub fn has_text(errors: &ProgressWriter<Sink>, told: &str) -> bool {
     errors.stream.bytes.as_slice() == told.as_bytes() && errors.stream.flushes == 0
 }
 
 /// Returns whether the program ends like this, and standard error took everything, has this text, and wasn't
 /// flushed.
-pub fn is_so(ended: Ended, status: Status, errors: &Messages<Sink>, told: &str) -> bool {
+pub fn is_so(ended: Ended, status: Status, errors: &ProgressWriter<Sink>, told: &str) -> bool {
     ended
         == Ended {
             status,
@@ -181,10 +181,10 @@ fn fails_so(
     (line, read, write, flush, status, told): &Failure,
 ) -> Result<bool, AllocError> {
     let words = words_of(alloc, line)?;
-    let mut reader = Remembering::new(Source::failing(b"some text", NEVER, read.0, read.1));
-    let mut writer = Remembering::new(Sink::failing(alloc, NEVER, write.0, write.1)?);
+    let mut reader = Recording::new(Source::failing(b"some text", NEVER, read.0, read.1));
+    let mut writer = Recording::new(Sink::failing(alloc, NEVER, write.0, write.1)?);
     writer.stream.flush_kind = *flush;
-    let mut errors = Messages::new(Sink::new(alloc)?);
+    let mut errors = ProgressWriter::new(Sink::new(alloc)?);
     let ended = serve(alloc, &words, &mut reader, &mut writer, &mut errors);
     Ok(is_so(ended, *status, &errors, told) && writer.stream.flushes == 1)
 }
@@ -275,10 +275,10 @@ fn tells_kind(
     let words = words_of(alloc, "0 1 0 0 4")?;
     let read = if call == 0 { 0 } else { NEVER };
     let write = if call == 1 { 0 } else { NEVER };
-    let mut reader = Remembering::new(Source::failing(b"some text", NEVER, read, kind));
-    let mut writer = Remembering::new(Sink::failing(alloc, NEVER, write, Some(kind))?);
+    let mut reader = Recording::new(Source::failing(b"some text", NEVER, read, kind));
+    let mut writer = Recording::new(Sink::failing(alloc, NEVER, write, Some(kind))?);
     writer.stream.flush_kind = Some(if call == 2 { kind } else { other });
-    let mut errors = Messages::new(Sink::new(alloc)?);
+    let mut errors = ProgressWriter::new(Sink::new(alloc)?);
     let memory = Refusing::new(alloc, NEVER);
     let ended = serve(&memory, &words, &mut reader, &mut writer, &mut errors);
     let (what, counts) = ENDED[call.min(2)];
@@ -304,13 +304,13 @@ fn a_cause_of_any_kind_is_told(rt: HostRuntime) -> Result<(), AllocError> {
 /// cause.
 fn help_tells_kind(alloc: Global, is_flush: bool, kind: ErrorKind) -> Result<bool, AllocError> {
     let words = words_of(alloc, "--help")?;
-    let mut reader = Remembering::new(Source::new(b"some text"));
+    let mut reader = Recording::new(Source::new(b"some text"));
     let write = if is_flush { NEVER } else { 0 };
-    let mut writer = Remembering::new(Sink::failing(alloc, NEVER, write, Some(kind))?);
+    let mut writer = Recording::new(Sink::failing(alloc, NEVER, write, Some(kind))?);
     if is_flush {
         writer.stream.flush_kind = Some(kind);
     }
-    let mut errors = Messages::new(Sink::new(alloc)?);
+    let mut errors = ProgressWriter::new(Sink::new(alloc)?);
     let memory = Refusing::new(alloc, NEVER);
     let ended = serve(&memory, &words, &mut reader, &mut writer, &mut errors);
     let error = io::Error::from(kind);
@@ -370,9 +370,9 @@ fn fails_at_once<A: Allocator + Copy>(
     told: &str,
 ) -> Result<bool, AllocError> {
     let words = words_of(alloc, "0 1")?;
-    let mut reader = Remembering::new(Failing(error));
-    let mut writer = Remembering::new(Sink::new(alloc)?);
-    let mut errors = Messages::new(Sink::new(alloc)?);
+    let mut reader = Recording::new(Failing(error));
+    let mut writer = Recording::new(Sink::new(alloc)?);
+    let mut errors = ProgressWriter::new(Sink::new(alloc)?);
     let ended = serve(memory, &words, &mut reader, &mut writer, &mut errors);
     Ok(is_so(ended, Status::Failed, &errors, told))
 }
@@ -416,11 +416,11 @@ fn a_cause_of_the_system_is_told(rt: HostRuntime) -> Result<(), AllocError> {
 fn an_error_of_the_reader_is_not_the_cause_of_a_write(rt: HostRuntime) -> Result<(), AllocError> {
     let alloc = rt.alloc();
     let words = words_of(alloc, "0 1")?;
-    let mut reader = Remembering::new(Source::new(b"some text"));
+    let mut reader = Recording::new(Source::new(b"some text"));
     reader.error = Some(io::Error::from_raw_os_error(21));
     let sink = Sink::failing(alloc, NEVER, 0, Some(ErrorKind::TimedOut))?;
-    let mut writer = Remembering::new(sink);
-    let mut errors = Messages::new(Sink::new(alloc)?);
+    let mut writer = Recording::new(sink);
+    let mut errors = ProgressWriter::new(Sink::new(alloc)?);
     errors.is_told = false;
     let ended = serve(alloc, &words, &mut reader, &mut writer, &mut errors);
     let told = "net_link: write failed: timed out\n\

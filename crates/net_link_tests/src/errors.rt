@@ -1,7 +1,7 @@
 //! Errors of the system, at writes and flushes too; and what streams remember before and after a call.
 use crate::causes::{ENDED, Failing, assert_holds, is_so, words_of, wordy};
 use net_io::Status;
-use net_link_lib::{Messages, Remembering, serve};
+use net_link_lib::{ProgressWriter, Recording, serve};
 use net_testing::{NEVER, Sink, Source};
 use std::alloc::{AllocError, Global};
 use std::io;
@@ -60,10 +60,10 @@ fn returns<T: Drop>(
 fn a_call_returns_the_error_itself(rt: HostRuntime) -> Result<(), AllocError> {
     let alloc = rt.alloc();
     let error = wordy();
-    let mut reader = Remembering::new(Failing(error));
+    let mut reader = Recording::new(Failing(error));
     let is_read = returns(alloc, reader.read(&mut [0; 4]), error)?;
     assert_holds(&rt, is_read, 0);
-    let mut writer = Remembering::new(FailingWriter {
+    let mut writer = Recording::new(FailingWriter {
         error,
         fails_flushes: false,
     });
@@ -84,12 +84,12 @@ fn fails_with(
     (what, counts): (&str, &str),
 ) -> Result<bool, AllocError> {
     let words = words_of(alloc, line)?;
-    let mut reader = Remembering::new(Source::new(b"some text"));
-    let mut writer = Remembering::new(FailingWriter {
+    let mut reader = Recording::new(Source::new(b"some text"));
+    let mut writer = Recording::new(FailingWriter {
         error,
         fails_flushes,
     });
-    let mut errors = Messages::new(Sink::new(alloc)?);
+    let mut errors = ProgressWriter::new(Sink::new(alloc)?);
     let ended = serve(alloc, &words, &mut reader, &mut writer, &mut errors);
     let told = format!(in alloc; "net_link: {what}: {error}\n{counts}")?;
     let is_told = is_so(ended, Status::Failed, &errors, told.as_str());
@@ -136,11 +136,11 @@ fn tells_the_first(
     let before = Some(io::Error::from_raw_os_error(21));
     let read = if is_read { 0 } else { NEVER };
     let write = if is_read { NEVER } else { 0 };
-    let mut reader = Remembering::new(Source::failing(b"some text", NEVER, read, kind));
-    let mut writer = Remembering::new(Sink::failing(alloc, NEVER, write, Some(kind))?);
+    let mut reader = Recording::new(Source::failing(b"some text", NEVER, read, kind));
+    let mut writer = Recording::new(Sink::failing(alloc, NEVER, write, Some(kind))?);
     reader.error = if is_read { before } else { None };
     writer.error = if is_read { None } else { before };
-    let mut errors = Messages::new(Sink::new(alloc)?);
+    let mut errors = ProgressWriter::new(Sink::new(alloc)?);
     let ended = serve(alloc, &words, &mut reader, &mut writer, &mut errors);
     let first = io::Error::from_raw_os_error(21);
     let kept = if is_read { reader.error } else { writer.error };

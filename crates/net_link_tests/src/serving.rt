@@ -1,6 +1,6 @@
 //! The results of copies. The counts are those of a second program, written from docs/LINK.md.
 use net_io::{Ended, Status};
-use net_link_lib::{Messages, Remembering, serve};
+use net_link_lib::{ProgressWriter, Recording, serve};
 use net_testing::{NEVER, Refusing, Sink, Source};
 use std::alloc::{AllocError, Global};
 use std::io::ErrorKind;
@@ -365,8 +365,8 @@ fn assert_ended(rt: &impl Abort, found: Ended, status: Status, words: &str) {
 }
 
 /// Returns a standard error that takes seven bytes a call.
-fn messages(alloc: Global) -> Result<Messages<Sink>, AllocError> {
-    Ok(Messages::new(Sink::failing(alloc, 7, NEVER, None)?))
+fn messages(alloc: Global) -> Result<ProgressWriter<Sink>, AllocError> {
+    Ok(ProgressWriter::new(Sink::failing(alloc, 7, NEVER, None)?))
 }
 
 /// Makes the copy of a case, and compares.
@@ -376,9 +376,9 @@ fn check(rt: &impl Abort, alloc: Global, case: &Case) -> Result<(), Fail> {
     let (most_read, failing_read) = case.reads;
     let (most_written, failing_write) = case.writes;
     let kind = ErrorKind::Interrupted;
-    let mut reader = Remembering::new(Source::failing(&input, most_read, failing_read, kind));
+    let mut reader = Recording::new(Source::failing(&input, most_read, failing_read, kind));
     let sink = Sink::failing(alloc, most_written, failing_write, Some(kind))?;
-    let mut writer = Remembering::new(sink);
+    let mut writer = Recording::new(sink);
     if !case.is_flushed {
         writer.stream.flush_kind = Some(kind);
     }
@@ -418,8 +418,8 @@ Time is simulated: the program waits for nothing but its input.
 /// Calls `serve` with wrong words: nothing is read or written, and standard error says what is
 /// wrong with them, and how the program is used.
 fn check_misuse(rt: &impl Abort, alloc: Global, words: &[String], line: &str) -> Result<(), Fail> {
-    let mut reader = Remembering::new(Source::new(b"some text"));
-    let mut writer = Remembering::new(Sink::new(alloc)?);
+    let mut reader = Recording::new(Source::new(b"some text"));
+    let mut writer = Recording::new(Sink::new(alloc)?);
     let mut errors = messages(alloc)?;
     let memory = Refusing::new(alloc, NEVER);
     let ended = serve(&memory, words, &mut reader, &mut writer, &mut errors);
@@ -487,8 +487,8 @@ fn check_help(
 ) -> Result<(), Fail> {
     let (status, written, told) = wanted;
     let words = words_of(alloc, line)?;
-    let mut reader = Remembering::new(Source::new(b"some text"));
-    let mut writer = Remembering::new(Sink::failing(alloc, 100, failing_call, None)?);
+    let mut reader = Recording::new(Source::new(b"some text"));
+    let mut writer = Recording::new(Sink::failing(alloc, 100, failing_call, None)?);
     let mut errors = messages(alloc)?;
     let memory = Refusing::new(alloc, NEVER);
     let ended = serve(&memory, &words, &mut reader, &mut writer, &mut errors);
@@ -519,8 +519,8 @@ fn says_how_it_is_used(rt: HostRuntime) -> Result<(), Fail> {
 fn check_refused_memory(rt: &impl Abort, alloc: Global, refused: usize) -> Result<(), Fail> {
     let heap = Refusing::new(alloc, refused);
     let words = words_of(alloc, "0 1")?;
-    let mut reader = Remembering::new(Source::new(b"some text"));
-    let mut writer = Remembering::new(Sink::new(alloc)?);
+    let mut reader = Recording::new(Source::new(b"some text"));
+    let mut writer = Recording::new(Sink::new(alloc)?);
     let mut errors = messages(alloc)?;
     let ended = serve(&heap, &words, &mut reader, &mut writer, &mut errors);
     assert_ended(rt, ended, Status::Failed, "refused");
@@ -552,10 +552,10 @@ fn check_untold(
     let heap = Refusing::new(alloc, refused);
     let words = words_of(alloc, line)?;
     let kind = ErrorKind::Other;
-    let mut reader = Remembering::new(Source::failing(b"some text", NEVER, failing, kind));
-    let mut writer = Remembering::new(Sink::failing(alloc, NEVER, failing, Some(kind))?);
+    let mut reader = Recording::new(Source::failing(b"some text", NEVER, failing, kind));
+    let mut writer = Recording::new(Sink::failing(alloc, NEVER, failing, Some(kind))?);
     let sink = Sink::failing(alloc, usize::MAX, 0, Some(kind))?;
-    let mut errors = Messages::new(sink);
+    let mut errors = ProgressWriter::new(sink);
     let ended = serve(&heap, &words, &mut reader, &mut writer, &mut errors);
     assert!(rt; ended.status == status && !ended.is_told, "{line}");
     assert_bytes(rt, &errors.stream.bytes, b"", line);

@@ -2,7 +2,7 @@
 ghost use Rattle.std.specs.Prelude.{IfOk, ◌≤◌};
 
 use crate::causes::assert_holds;
-use net_link_lib::Remembering;
+use net_link_lib::Recording;
 use std::io;
 use std::io::{ErrorKind, Read, Write};
 
@@ -51,7 +51,7 @@ enum Call {
 }
 
 /// Makes a call, and returns its result.
-fn made(stream: &mut Remembering<Told>, call: Call) -> io::Result<usize> {
+fn made(stream: &mut Recording<Told>, call: Call) -> io::Result<usize> {
     match call {
         Call::Read => stream.read(&mut [0; 4]),
         Call::Write => stream.write(&[0; 4]),
@@ -73,7 +73,7 @@ fn is_same(found: io::Result<usize>, wanted: Result<usize, ErrorKind>) -> bool {
 }
 
 /// Returns whether an error of this kind, or none, is remembered.
-fn remembers(stream: &Remembering<Told>, wanted: Option<ErrorKind>) -> bool {
+fn remembers(stream: &Recording<Told>, wanted: Option<ErrorKind>) -> bool {
     match (&stream.error, wanted) {
         (Some(error), Some(kind)) => error.kind() == kind,
         (None, None) => true,
@@ -144,7 +144,7 @@ static FLUSHES: [Step; 3] = [
 
 /// Returns how many of these calls have their results, and leave these errors, up to the first that doesn't.
 fn all_of(steps: &[Step]) -> usize {
-    let mut stream = Remembering::new(Told { next: Ok(0) });
+    let mut stream = Recording::new(Told { next: Ok(0) });
     for i in 0..steps.len() {
         let (call, result, kept) = steps[i];
         stream.stream.next = result;

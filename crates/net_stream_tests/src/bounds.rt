@@ -3,7 +3,8 @@
 //! round less 4 in the first, 2 losses of 3 rounds, 9 acknowledgements that are delayed, and one round a byte.
 //! Whether a copy ever needs two rounds a byte is not known.
 ghost use Rattle.std.specs.Prelude.{◌≡◌, ℕ, List, ◌+◌, ◌*◌, ◌≤◌, length};
-ghost use Rattle.net_stream.specs.CopyState.{Setup, GaveUp, after};
+ghost use Rattle.net_stream.specs.CopyState.{Setup, Done, GaveUp, after};
+ghost use Rattle.net_stream.specs.Fates.{AllCome};
 ghost use Rattle.net_stream.specs.Promises.{CanPass, StartsFits};
 
 use net_stream::laws;
@@ -34,6 +35,34 @@ pub fn frames_of_a_burst_of_four()
     laws::sent_frames();
 }
 
+/// Over a link that loses and delays nothing a copy of ten bytes makes at most ten rounds.
+pub fn rounds_of_ten_bytes_at_once()
+    ensures { (s : Setup) (reads : List (List ℕ)) (n : ℕ) → CanPass s (after s reads n)
+        → AllCome s.fates → AllCome s.ack_fates → length (after s reads n).given ≡ 10
+        → (after s reads n).rounds ≤ 10 }
+{
+    laws::enough_rounds();
+}
+
+/// A copy that is done after three rounds, with a buffer of four bytes, read at most twelve.
+pub fn bytes_of_three_rounds()
+    ensures { (s : Setup) (reads : List (List ℕ)) (n : ℕ) → StartsFits s → s.chunk ≡ 4
+        → (after s reads n).status ≡ Done → (after s reads n).rounds ≡ 3
+        → length (after s reads n).given ≤ 12 }
+{
+    laws::enough_rounds();
+}
+
+/// A copy that gives up after three rounds without progress made three rounds, and lost or delayed three frames or
+/// acknowledgements.
+pub fn failures_of_three_rounds()
+    ensures { (s : Setup) (reads : List (List ℕ)) (n : ℕ) → CanPass s (after s reads n) → s.rounds ≡ 3
+        → (after s reads n).status ≡ GaveUp → (3 ≤ (after s reads n).rounds)
+        × (3 ≤ (after s reads n).link.counts.lost + (after s reads n).link.counts.delayed) }
+{
+    laws::gives_up_counted();
+}
+
 /// Of three rounds without progress, after which a copy gives up, two lost a frame or an acknowledgement.
 pub fn losses_of_three_rounds()
     ensures { (s : Setup) (reads : List (List ℕ)) (n : ℕ) → CanPass s (after s reads n) → s.rounds ≡ 3
@@ -42,10 +71,11 @@ pub fn losses_of_three_rounds()
     laws::gives_up_counted();
 }
 
-/// After a round of a burst of 4 frames at most 9 acknowledgements are delayed.
+/// After a round of a burst of 4 frames at most 4 frames and 9 acknowledgements are delayed.
 pub fn delayed_of_a_burst_of_four()
     ensures { (s : Setup) (reads : List (List ℕ)) (n : ℕ) → (after s reads n).link.max_burst ≡ 4
-        → length (after s reads n).link.reverse.delayed ≤ 9 }
+        → (length (after s reads n).link.forward.delayed ≤ 4)
+        × (length (after s reads n).link.reverse.delayed ≤ 9) }
 {
     laws::delayed_frames();
 }

@@ -78,6 +78,13 @@ fn ending(ended: Result<(), CopyError>) -> &'static str {
     }
 }
 
+/// Stores the counts of a copy, and returns the name of how it ended.
+fn ending_and(made: (Result<(), CopyError>, Counts), counts: &mut Counts) -> &'static str {
+    let (ended, counted) = made;
+    *counts = counted;
+    ending(ended)
+}
+
 /// Copies, and returns the name of how it ended.
 pub fn copy_by<A: Allocator + Copy, R: Read, W: Write>(
     alloc: A,
@@ -86,14 +93,8 @@ pub fn copy_by<A: Allocator + Copy, R: Read, W: Write>(
     writer: &mut W,
     counts: &mut Counts,
 ) -> &'static str {
-    ending(copy(
-        alloc,
-        setup.config,
-        link_fates(setup),
-        reader,
-        writer,
-        counts,
-    ))
+    let made = copy(alloc, setup.config, link_fates(setup), reader, writer);
+    ending_and(made, counts)
 }
 
 /// Copies, reports to a watch, and returns the name of how it ended.
@@ -105,15 +106,15 @@ pub fn copy_watched_by<A: Allocator + Copy, T: Watch, R: Read, W: Write>(
     writer: &mut W,
     counts: &mut Counts,
 ) -> &'static str {
-    ending(copy_watched(
+    let made = copy_watched(
         alloc,
         setup.config,
         link_fates(setup),
         watch,
         reader,
         writer,
-        counts,
-    ))
+    );
+    ending_and(made, counts)
 }
 
 /// Copies from a reader that states what its calls give, reports to a watch, and returns the name of how it
@@ -126,15 +127,15 @@ pub fn copy_stated_by<A: Allocator + Copy, T: Watch, R: StatedRead, W: Write>(
     writer: &mut W,
     counts: &mut Counts,
 ) -> &'static str {
-    ending(copy_stated(
+    let made = copy_stated(
         alloc,
         setup.config,
         link_fates(setup),
         watch,
         reader,
         writer,
-        counts,
-    ))
+    );
+    ending_and(made, counts)
 }
 
 /// Copies over buffers that are lent, and returns the name of how it
@@ -147,15 +148,15 @@ pub fn copy_over_by<A: Allocator + Copy, R: Read, W: Write>(
     writer: &mut W,
     counts: &mut Counts,
 ) -> &'static str {
-    ending(copy_with_buffers(
+    let made = copy_with_buffers(
         alloc,
         setup.config,
         link_fates(setup),
         buffers,
         reader,
         writer,
-        counts,
-    ))
+    );
+    ending_and(made, counts)
 }
 
 /// Returns a link over storage of the sender and of the receiver. It takes the first position, the
@@ -169,7 +170,7 @@ pub fn link_by<'a, A: Allocator + Copy>(
     StreamLink::new(
         alloc,
         setup.config.first,
-        setup.config.payload,
+        setup.config.max_payload,
         setup.config.max_burst,
         to_send,
         to_receive,

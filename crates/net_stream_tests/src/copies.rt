@@ -18,9 +18,9 @@ fn setup(forward: Way, reverse: Way, first: u64, capacity: usize, payload: u32) 
         config: Config {
             first,
             capacity,
-            payload,
+            max_payload: payload,
             max_burst: 4_096,
-            rounds: 100,
+            max_stalled_rounds: 100,
         },
     }
 }
@@ -282,7 +282,11 @@ fn little_memory_is_asked_for(rt: HostRuntime) {
     // Three storages, and nothing else.
     assert_holds(&rt, asks_for(rt.alloc(), 0, 100, 300, 300), 2);
     // One round, of a frame and two acknowledgements, of 8 bytes each.
-    assert_holds(&rt, asks_for(rt.alloc(), 6, 100_000, 302_000, 302_000), 0);
+    assert_holds(
+        &rt,
+        asks_for(rt.alloc(), 6, 1_000_000, 3_002_000, 3_002_000),
+        0,
+    );
     assert_holds(&rt, asks_for(rt.alloc(), 6, 100, 600, 600), 0);
     // 1,000 rounds of two frames and three acknowledgements.
     let frames = 1_000 * (2 * 1_008 + 3 * 8);

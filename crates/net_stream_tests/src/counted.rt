@@ -58,9 +58,9 @@ fn setup_of(case: &Case) -> Setup {
         config: Config {
             first,
             capacity,
-            payload,
+            max_payload: payload,
             max_burst,
-            rounds,
+            max_stalled_rounds: rounds,
         },
     }
 }

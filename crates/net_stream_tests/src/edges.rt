@@ -19,9 +19,9 @@ fn setup(forward: Way, reverse: Way, capacity: usize, payload: u32, rounds: u64)
         config: Config {
             first: 0,
             capacity,
-            payload,
+            max_payload: payload,
             max_burst: 4_096,
-            rounds,
+            max_stalled_rounds: rounds,
         },
     }
 }

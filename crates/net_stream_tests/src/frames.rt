@@ -63,30 +63,42 @@ fn long_frames_are_sent_and_sent_again(rt: HostRuntime) -> Result<(), AllocError
     Ok(())
 }
 
-/// Sends a frame, or these bytes again, in this memory; if memory is refused, no frame is there. Returns
-/// whether the frame was sent, and whether it is there exactly then.
-fn is_there_once_sent(memory: &Refusing, is_again: bool) -> (bool, bool) {
+/// Sends a frame of this payload, or these bytes again, in this memory; if memory is refused, no frame is
+/// there. Returns whether the frame was sent, and whether it is there exactly then.
+fn is_there_once_sent(memory: &Refusing, bytes: &[u8], is_again: bool) -> (bool, bool) {
     let mut device = Loopback::new(memory, Medium::Ip);
     let is_sent = if is_again {
-        requeue_frame(&mut device, start(), &[1, 2]).is_ok()
+        requeue_frame(&mut device, start(), bytes).is_ok()
     } else {
-        send_frame(&mut device, start(), 3, &[1]).is_ok()
+        send_frame(&mut device, start(), 3, bytes).is_ok()
     };
     (is_sent, gives_none(&mut device) != is_sent)
 }
 
-/// One request is for room in the queue, the other for the bytes.
+/// Returns whether two requests are made for a frame, of which each is refused in turn, and it is there exactly
+/// if neither is. One is for room in the queue, the other for the bytes.
+fn is_all_or_nothing(alloc: Global, bytes: &[u8], is_again: bool) -> bool {
+    let mut is_always_there = true;
+    let requests = refuse_each(alloc, |memory| {
+        let (is_sent, is_there) = is_there_once_sent(memory, bytes, is_again);
+        is_always_there = is_always_there && is_there;
+        is_sent
+    });
+    is_always_there && requests == Some(2)
+}
+
 #[test]
-fn refused_memory_sends_no_frame(rt: HostRuntime) {
+fn refused_memory_sends_no_frame(rt: HostRuntime) -> Result<(), AllocError> {
+    let long = pattern(rt.alloc(), 1_000_000)?;
     for is_again in [false, true] {
-        let mut is_always_there = true;
-        let requests = refuse_each(rt.alloc(), |memory| {
-            let (is_sent, is_there) = is_there_once_sent(memory, is_again);
-            is_always_there = is_always_there && is_there;
-            is_sent
-        });
-        assert_holds(&rt, is_always_there && requests == Some(2), 0);
+        assert_holds(&rt, is_all_or_nothing(rt.alloc(), &[1, 2], is_again), 2);
+        assert_holds(
+            &rt,
+            is_all_or_nothing(rt.alloc(), &long, is_again),
+            1_000_000,
+        );
     }
+    Ok(())
 }
 
 /// Puts a frame of this payload, or these bytes among the delayed ones, after another one. Returns
@@ -181,7 +193,7 @@ const COMINGS: [(Fate, bool, bool); 4] = [
 fn pairs_of_digits_decide_a_fate(rt: HostRuntime) {
     for i in 0..WORDS.len() {
         let (word, fate) = WORDS[i];
-        assert_holds(&rt, Fate::of_word(word, TEN_TWENTY_THIRTY) == fate, i);
+        assert_holds(&rt, Fate::from_word(word, TEN_TWENTY_THIRTY) == fate, i);
     }
     for i in 0..COMINGS.len() {
         let (fate, at_once, delayed) = COMINGS[i];

@@ -33,9 +33,9 @@ fn setup(
         config: Config {
             first,
             capacity: 0,
-            payload,
+            max_payload: payload,
             max_burst,
-            rounds: 0,
+            max_stalled_rounds: 0,
         },
     }
 }
@@ -262,7 +262,7 @@ type Round = (
 );
 
 /// Ten bytes from position 20 on, of which those from 28 on are at the storage's beginning.
-static OF_TEN: [Round; 8] = [
+static OF_TEN: [Round; 10] = [
     (&[], 100, 100, &[(20, 8), (28, 2)], 10),
     (&[], 3, 100, &[(20, 3), (23, 3), (26, 2), (28, 2)], 10),
     (&[], 3, 2, &[(20, 3), (23, 3)], 6),
@@ -279,6 +279,9 @@ static OF_TEN: [Round; 8] = [
     (&[(0, 99)], 100, 100, &[], 0),
     // A block past the end changes nothing.
     (&[(30, 40)], 100, 1, &[(20, 8)], 8),
+    // A block that has no byte, since it ends where it starts or before, ends a frame all the same.
+    (&[(23, 23)], 100, 100, &[(20, 3), (23, 5), (28, 2)], 10),
+    (&[(26, 21)], 100, 100, &[(20, 6), (26, 2), (28, 2)], 10),
 ];
 
 /// Returns whether a round of ten bytes sends these frames.
@@ -299,7 +302,7 @@ fn sends_of_ten(alloc: Global, (ranges, payload, max_burst, frames, sum): &Round
     let is_written = link.write(b"abcdefghijk") == 10;
     link.sender.acknowledge(20, SackBlocks::new());
     let is_full = link.write(b"yz") == 2;
-    link.sender.acknowledge(20, SackBlocks::of_bytes(&bytes));
+    link.sender.acknowledge(20, SackBlocks::from_bytes(&bytes));
     is_written && is_full && sends(&mut link, frames) && link.counts.payload == *sum
 }
 
@@ -360,7 +363,7 @@ fn sends_of_seventy(alloc: Global, count: u64, frames: &[(u64, usize)]) -> bool 
         ManagedSlice::Borrowed(&mut to_receive),
     );
     let is_written = link.write(&[7; 70]) == 70;
-    link.sender.acknowledge(0, SackBlocks::of_bytes(&ranges));
+    link.sender.acknowledge(0, SackBlocks::from_bytes(&ranges));
     is_written
         && link.pass_round().is_ok()
         && are_single(&mut link, 31)

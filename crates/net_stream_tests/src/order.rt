@@ -74,7 +74,7 @@ struct Row {
     reads: usize,
 }
 
-static ROWS: [Row; 5] = [
+static ROWS: [Row; 6] = [
     // Reads that fill their room, over a link that loses nothing, and over others.
     Row {
         bytes: 1_000,
@@ -96,6 +96,13 @@ static ROWS: [Row; 5] = [
         capacity: 16_384,
         lost: 20,
         reads: 4,
+    },
+    Row {
+        bytes: 1_700_000,
+        per_call: 1_700_000,
+        capacity: 1_000_000,
+        lost: 0,
+        reads: 3,
     },
     // Reads that give little.
     Row {
@@ -128,9 +135,9 @@ fn reads_in_turn(alloc: Global, row: &Row) -> bool {
     let config = Config {
         first: 0,
         capacity: row.capacity,
-        payload: 10_000,
+        max_payload: 10_000,
         max_burst: 4_096,
-        rounds: 100,
+        max_stalled_rounds: 100,
     };
     let setup = Setup {
         forward: way,

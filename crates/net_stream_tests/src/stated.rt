@@ -69,9 +69,9 @@ fn reads_one_by_one(alloc: Global, forward: Way, rounds: u64) -> Result<bool, Al
         config: Config {
             first: 0,
             capacity: 64,
-            payload: 4,
+            max_payload: 4,
             max_burst: 8,
-            rounds: 3,
+            max_stalled_rounds: 3,
         },
     };
     let mut reader = Slow {

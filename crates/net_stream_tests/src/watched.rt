@@ -76,9 +76,9 @@ fn setup_of((forward, reverse, payload, _, (end, _)): &Row) -> Setup {
         config: Config {
             first: 0,
             capacity: 64,
-            payload: *payload,
+            max_payload: *payload,
             max_burst: 4_096,
-            rounds: if *end == "gave up" { 1_000 } else { u64::MAX },
+            max_stalled_rounds: if *end == "gave up" { 1_000 } else { u64::MAX },
         },
     }
 }

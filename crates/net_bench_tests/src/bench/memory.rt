@@ -218,6 +218,19 @@ fn full_receivers(alloc: Global, times: usize) -> Result<(Vec<u8>, usize), Alloc
     Ok((input, times.saturating_mul(replies)))
 }
 
+/// The storage of a second schedule is asked for once, besides the first one, a line, replies, the bytes of a
+/// line and its reply.
+#[test]
+fn a_second_schedule_asks_for_its_storage_once(rt: HostRuntime) {
+    let bytes = 2 * 64_000 + 4_096 + 65_536 + 256;
+    let input = b"s 0 41\n--\ns 0 41\n".as_slice();
+    let output = (
+        input,
+        b"kept 1 queued 1 sack -\n".len() * 2 + b"same\n".len(),
+    );
+    check_memory(&rt, rt.alloc(), "stream 64000 4", output, (6, bytes));
+}
+
 /// Fills a receiver three times and reads all of it. Besides what a ring asks for, the bytes that
 /// are read are asked for, once.
 #[test]

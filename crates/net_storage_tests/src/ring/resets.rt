@@ -53,7 +53,7 @@ fn resets_in_order(alloc: Global, count: u32) -> Result<bool, Fail> {
 
 #[test]
 fn elements_are_reset_in_order(rt: HostRuntime) -> Result<(), Fail> {
-    for count in [0, 1, 2, 5, 300] {
+    for count in [0, 1, 2, 5, 300, 70_000] {
         assert!(rt; resets_in_order(rt.alloc(), count)?);
     }
     Ok(())

@@ -1,0 +1,38 @@
+#!/bin/sh
+# Runs the programs with little stack: sh tools/small_stack.sh [KIB]
+#
+# It runs net_bench, net_link and net_cases, as `rt ci` or `rt run` built them, each on the words and the input that are
+# stored beside its sources, under `ulimit -s KIB`, 256 if it is left out. A program that takes more stack than that is
+# ended by a signal. What it writes must be what is stored. The rows of net_cases run each mode of net_bench and make
+# copies as net_link does.
+set -eu
+
+root=$(cd "$(dirname "$0")/.." && pwd)
+kib=${1:-256}
+out=$(mktemp -d)
+trap 'rm -rf "$out"' EXIT
+
+fail() {
+    echo "small_stack.sh: $*" >&2
+    exit 1
+}
+
+for name in net_bench net_link net_cases; do
+    crate=$root/crates/$name
+    program=$crate/out/$name
+    [ -x "$program" ] || fail "there is no $program: rt ci, or rt run in crates/$name"
+    set --
+    if [ -f "$crate/args" ]; then
+        # One word a line, and none has a space.
+        set -- $(cat "$crate/args")
+    fi
+    status=0
+    (
+        ulimit -c 0
+        ulimit -s "$kib"
+        exec "$program" "$@"
+    ) < "$crate/stdin" > "$out/$name" 2> "$out/errors" || status=$?
+    [ "$status" = 0 ] || fail "$name ended with status $status with $kib KiB of stack"
+    cmp "$crate/stdout" "$out/$name" || fail "$name writes something else with $kib KiB of stack"
+done
+echo "small stack: 3 programs, $kib KiB"
