@@ -1,10 +1,18 @@
-"""The program net_link, by docs/LINK.md: what its words ask for, and what it then says."""
+"""The program net_link, by docs/LINK.md: what its words ask for, and what it then says.
+
+    python3 models/link_words.py PROGRAM [--cases 1000] [--seed 1]
+
+draws words, some of which aren't UTF-8, and runs the program on each list of them.
+"""
+import argparse
 import pathlib
 import re
+import subprocess
+import tempfile
 
 import net_link
 from branches import Count, Order, Question, Size, Test
-from drawing import TOP
+from drawing import TOP, Random
 from modes import number, numeral
 from showing import pattern, show_lent
 
@@ -101,8 +109,8 @@ def copied(length, numbers, is_shown):
     return status, copy.receiver.written, "".join(shown) + "net_link: gave up\n" * bool(status) + counts
 
 
-def reply(length, words):
-    """What comes of these words and an input of so many bytes."""
+def ended(length, words):
+    """The status, the output and what standard error says, of these words and an input of so many bytes."""
     output, told = b"", ""
     if words and HELP(words[0] == "--help"):
         status, output = 0, USAGE.encode()
@@ -115,6 +123,12 @@ def reply(length, words):
         else:
             status, written, told = copied(length, [int(word) for word in numbers], is_shown)
             output = pattern(length, 0)[:written]
+    return status, output, told
+
+
+def reply(length, words):
+    """What comes of these words and an input of so many bytes, as a row shows it."""
+    status, output, told = ended(length, words)
     first = "".join(" " + line for line in told.split("\n")[:1] if told)
     return f"{STATUS.note(status)} {show_lent(output)} {show_lent(told.encode())}{first}"
 
@@ -180,3 +194,51 @@ def draw(random, cases, lines):
         if random.one_in(6):
             words = [random.of(["--progress", "--progress", "--help", "--Help"])] + words
         add(cases, length, words)
+
+
+def readable(words):
+    """Words of bytes as the program can read them: as text, or none of them if one isn't UTF-8."""
+    try:
+        return [word.decode() for word in words]
+    except UnicodeDecodeError:
+        return []
+
+
+def spoiled(random, words):
+    """The words with bytes put into one of them, or after them all."""
+    drawn = bytes(1 + random.below(255) for _ in range(1 + random.below(3)))
+    at = random.below(len(words) + 1)
+    return words[:at] + [b"".join([*words[at:at + 1], drawn])] + words[at + 1:]
+
+
+def run_cases(program, cases, random):
+    """Runs the program and the model on the same words and inputs."""
+    ends = {0: 0, 2: 0, 3: 0}
+    for _ in range(cases):
+        words = asked(random)
+        if random.one_in(2):
+            words = wrong(random, words)
+        length = random.below(20)
+        if random.one_in(4):
+            words = [random.of(["--progress", "--help", "--Help"])] + words
+        words = [word.encode() for word in words]
+        if random.one_in(3):
+            words = spoiled(random, words)
+        expected = ended(length, readable(words))
+        with tempfile.TemporaryFile() as file:
+            file.write(pattern(length, 0))
+            file.seek(0)
+            run = subprocess.run([program, *words], stdin=file, capture_output=True)
+        if (run.returncode, run.stdout, run.stderr) != (expected[0], expected[1], expected[2].encode()):
+            raise SystemExit(f"net_link {words} over {length} bytes: {expected[2]}, but {run.returncode}: {run.stderr}")
+        ends[run.returncode] += 1
+    print(f"{cases} cases, all as predicted; by status: {ends}")
+
+
+if __name__ == "__main__":
+    parser = argparse.ArgumentParser(description=__doc__, formatter_class=argparse.RawDescriptionHelpFormatter)
+    parser.add_argument("program")
+    parser.add_argument("--cases", type=int, default=1_000)
+    parser.add_argument("--seed", type=int, default=1)
+    options = parser.parse_args()
+    run_cases(options.program, options.cases, Random(options.seed))
