@@ -1,17 +1,15 @@
 -- The last element of the queue.
-use Rattle.std.proofs.Common.{◌≡◌, ◌<◌, ◌-◌, ◌++◌, ℕ, zero, suc, List, [], ◌∷◌, length, take, drop}
-use Rattle.std.proofs.Common.{Some, ap, ap₂, ◌∙◌, sym, arith}
+use Rattle.std.proofs.Common.{◌≡◌, ◌<◌, ◌-◌, ◌++◌, ℕ, suc, List, [], ◌∷◌, length, take, drop, Some, ap, ap₂, ◌∙◌, sym, arith}
 use Rattle.std.specs.Prelude.{slice_get}
-use Rattle.std.proofs.lemmas.Option.{slice_get_within}
+use Rattle.std.proofs.lemmas.Option.{slice_get_within, gets}
+use Rattle.std.proofs.lemmas.List.{places, take_more, drop_more}
 use Rattle.net_ring.specs.Ring.{RingState, IsWellFormed, ring, queue, spare, rotation}
 use Rattle.net_ring.proofs.Rotations.{length-queue, length-rotation}
 
 -- the element m, after the first m and before those that follow it
 last_off : {X : Type 0} (l : List X) (m : ℕ) (x : X) → m < length l → slice_get (take (suc m) l) m ≡ Some x →
     (take (suc m) l ≡ take m l ++ x ∷ []) × (drop m l ≡ x ∷ drop (suc m) l)
-last_off [] m x fits e = absurd (omega arith)
-last_off (y ∷ l) zero x fits e = let is : Some y ≡ Some x = e in let same : y ≡ x = cc in (ap (λ z. z ∷ []) same, ap (λ z. z ∷ l) same)
-last_off (y ∷ l) (suc m) x fits e = let rest = last_off l m x (omega (arith, fits)) e in (ap (λ z. y ∷ z) rest.0, rest.1)
+last_off l m x fits e = (grind (arith, places, gets, take_more), grind (arith, places, gets, drop_more))
 
 -- the queue without its last element, which is the next free one
 pub off_back : {T : Type 0} (v g : RingState T) → v ≡ g → IsWellFormed g → (x : T) →

@@ -6,5 +6,7 @@ pub mod RingParts
 pub mod PlaceFacts
 pub mod RingOrder
 pub mod ResetFacts
+pub mod Walks
 mod OneField
+mod ManagedFields
 pub mod LastElement

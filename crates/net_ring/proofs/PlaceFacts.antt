@@ -1,6 +1,5 @@
 -- Spans of a storage, as parts of the ring of that storage and of the numbers by which they were found.
-use Rattle.std.proofs.Common.{◌≡◌, ℕ, ◌-◌, ◌≤◌, min, List, length, take, drop, refl, ap, ◌∙◌}
-use Rattle.std.proofs.Common.{take_all, arith}
+use Rattle.std.proofs.Common.{◌≡◌, ℕ, ◌-◌, ◌≤◌, min, List, length, take, drop, ap, ◌∙◌, take_all, arith}
 use Rattle.net_ring.specs.Overwrite.{overwrite}
 use Rattle.net_ring.specs.Ring.{queue, spare_index, with_elements_wrapping}
 use Rattle.net_ring.specs.Place.{ring_at, IsSound, free_index, queued_index, written_span, elements_at}
@@ -21,8 +20,7 @@ module _ {T : Type 0} where
   pub queued_elements : (xs : List T) (p : Place) (i : ℕ) (s : Span) → IsSound (length xs) p → s.from ≡ queued_index (length xs) p i
       → s.count ≤ p.length - i → s.contiguous ≡ min s.count (length xs - s.from)
       → elements_at xs s ≡ take s.count (drop i (queue (ring_at xs p)))
-  queued_elements xs p i s sound at few cut =
-      (read_parts (ring_at xs p) (ring_at xs p) refl sound i s.count s.from s.contiguous s.contiguous _ _ refl few at cut refl refl).1
+  queued_elements xs p i s sound at few cut = read_parts (ring_at xs p) sound i s.count s.from s.contiguous few at cut
 
   -- a storage xs of n elements that was lent whole, and came back as ws
   pub lent_whole : (n : ℕ) (xs lent ws : List T) → n ≡ length xs → lent ≡ take (n - 0) (drop 0 xs) → length ws ≡ length lent

@@ -1,102 +1,40 @@
 -- What the clauses of a ring's calls say, from its storage.
-use Rattle.std.proofs.Common.{◌≢◌, zero, suc, get_or, ◌≡◌, ℕ, ◌+◌, ◌-◌, ◌<◌, ◌≤◌, ◌⊎◌, List, []}
-use Rattle.std.proofs.Common.{◌∷◌, ◌++◌, length, take, drop, min, refl, sym, ap, ap₂, ◌∙◌, subst}
-use Rattle.std.proofs.Common.{inl, inr, arith, length-append, length-drop, add-zero, nat_lt}
-use Rattle.std.proofs.Common.{if◌then◌else◌, Bool}
-use Rattle.std.proofs.Common.{append_assoc, ⊎_elim, lt-ltb, le-ltb}
-use Rattle.std.proofs.lemmas.Bool.{cond-true, cond-false}
-use Rattle.std.proofs.lemmas.List.{drop-take, take_at, drop_at, take-take, drop-drop}
-use Rattle.std.proofs.lemmas.List.{length-take-le, take-append-drop, take_all, drop_all, append-nil}
-use Rattle.std.proofs.lemmas.List.{nil_from_length}
-use Rattle.std.proofs.lemmas.Bool.{false≢true, cases_lt, cases_eq, ne_eqb, eq-eqb}
+use Rattle.std.proofs.Common.{◌≢◌, get_or, ◌≡◌, ℕ, ◌+◌, ◌-◌, ◌<◌, ◌≤◌, ◌⊎◌, List, [], ◌∷◌, ◌++◌, length, take, drop, min, refl, sym, ap, ap₂, ◌∙◌, subst, inl, inr, arith, length-drop, add-zero, nat_lt, if◌then◌else◌}
+use Rattle.std.proofs.lemmas.Bool.Decides.{nat_tests}
+use Rattle.std.proofs.lemmas.Bool.{false≢true, cases_lt}
+use Rattle.std.proofs.lemmas.List.{drop-drop, length-take-le, take-append-drop, take_all, drop_all, nil_from_length, drop_more, places, same_lists}
 use Rattle.std.specs.Prelude.{Result, IsOk, IsErr, is_ok, slice_get}
-use Rattle.std.proofs.lemmas.Option.{slice_get_past}
+use Rattle.std.proofs.lemmas.Option.{gets}
 use Rattle.std.specs.declared.result.Result.TheVariants.{Ok, Err}
 use Rattle.net_ring.specs.Overwrite.{overwrite}
-use Rattle.net_ring.specs.Ring.{RingState, last_dequeued_index, rotation, ring, capacity, window, queue}
-use Rattle.net_ring.specs.Ring.{index_after, spare, storage_index, write_at, IsWellFormed, with_elements}
-use Rattle.net_ring.specs.Ring.{with_elements_wrapping, with_enqueued, with_dequeued}
-use Rattle.net_ring.specs.Ring.{from_start_if_empty, contiguous_window, contiguous_queued}
-use Rattle.net_ring.specs.Ring.{spare_index, contiguous_window_from, queue_index}
-use Rattle.net_ring.specs.Ring.{contiguous_queued_from, Enqueues, Dequeues, WritesSpare}
-use Rattle.net_ring.specs.Ring.{WritesQueue, EnqueuesFrom, DequeuesFrom}
-use Rattle.net_ring.specs.Place.{place, ring_at, rewound}
+use Rattle.net_ring.specs.Ring.{RingState, last_dequeued_index, rotation, ring, capacity, window, queue, index_after, spare, storage_index, write_at, IsWellFormed, with_elements, with_elements_wrapping, with_enqueued, with_dequeued, rewind_if_empty, contiguous_window, contiguous_queued, spare_index, contiguous_unallocated, queue_index, contiguous_allocated, Enqueues, Dequeues, WritesSpare, WritesQueue, EnqueuesFrom, DequeuesFrom}
+use Rattle.net_ring.specs.Place.{ring_at, rewound}
 use Rattle.net_ring.specs.declared.place.Place.{Place}
-use Rattle.net_ring.proofs.Rotations.{IsStorageIndex, cut, length-rotation, overwrite_at}
-use Rattle.net_ring.proofs.Rotations.{length-overwrite, storage_index_is, part-rotation}
-use Rattle.net_ring.proofs.Rotations.{read_at_le, whole, length-queue, length-spare}
-use Rattle.net_ring.proofs.Rotations.{spare-written, queue-written, with_enqueued_parts}
-use Rattle.net_ring.proofs.Rotations.{with_dequeued_parts, take_sum}
+use Rattle.net_ring.proofs.Rotations.{IsStorageIndex, length-rotation, length-overwrite, storage_index_is, read_at_le, whole, length-queue, length-spare, spare-written, queue-written, with_enqueued_parts, with_dequeued_parts, take_sum}
 
 module _ {T : Type 0} where
   -- ---- lists
   -- a write over the first elements
   overwrite_head : (s ws : List T) (k : ℕ) → k ≤ length ws → length ws ≤ length s → (take k (overwrite s 0 ws) ≡ take k ws)
       × (drop (length ws) (overwrite s 0 ws) ≡ drop (length ws) s)
-  overwrite_head s ws k e le =
-      let c = cut (length ws) s le in let m = c.0 in let z = c.1 in
-      let is : overwrite s 0 ws ≡ ws ++ z = ap (λ (l : List T). overwrite l 0 ws) c.2 ∙ overwrite_at [] m z ws 0 refl c.3 in
-      let low : take k (ws ++ z) ≡ take k ws = sym (take-take k (length ws) (ws ++ z) e) ∙ ap (take k) (take_at ws z (length ws) refl) in
-      (ap (take k) is ∙ low, ap (drop (length ws)) is ∙ drop_at ws z (length ws) refl ∙ sym (ap (drop (length ws)) c.2 ∙ drop_at m z (length ws) c.3))
+  overwrite_head s ws k e le = (
+    same_lists _ _ (grind (arith, places)) (λ m d h. grind (arith, places)),
+    same_lists _ _ (grind (arith, places)) (λ m d h. grind (arith, places)),
+  )
 
   pub overwrite_none : (s : List T) (i : ℕ) → overwrite s i [] ≡ s
   overwrite_none s i = ap (take (length s)) (take-append-drop i s) ∙ take_all (length s) s (omega arith)
 
   pub overwrite_whole : (s ws : List T) → length ws ≡ length s → overwrite s 0 ws ≡ ws
-  overwrite_whole s ws e = sym (take_all (length s) (overwrite s 0 ws) (omega (arith, length-overwrite s 0 ws)))
-      ∙ (overwrite_head s ws (length s) (omega (arith, e)) (omega (arith, e))).0 ∙ take_all (length s) ws (omega (arith, e))
+  overwrite_whole s ws e = same_lists _ _ (grind (arith, places)) (λ m d h. grind (arith, places))
 
   overwrite_twice : (s a b : List T) (i : ℕ) → i + length a + length b ≤ length s → overwrite (overwrite s i a) (i + length a) b ≡ overwrite s i (a ++ b)
-  overwrite_twice s a b i le =
-      let c1 = cut i s (omega arith) in let f = c1.0 in let v = c1.1 in let lf : length f ≡ i = c1.3 in let lv : length v ≡ length s - i = c1.4 in
-      let c2 = cut (length a) v (omega arith) in let m = c2.0 in let u = c2.1 in let lm : length m ≡ length a = c2.3 in
-      let lu : length u ≡ length v - length a = c2.4 in
-      let c3 = cut (length b) u (omega arith) in let n = c3.0 in let z = c3.1 in let ln : length n ≡ length b = c3.3 in
-      let whole : s ≡ f ++ (m ++ (n ++ z)) = c1.2 ∙ ap (λ (l : List T). f ++ l) (c2.2 ∙ ap (λ (l : List T). m ++ l) c3.2) in
-      let one : overwrite (f ++ (m ++ (n ++ z))) i a ≡ (f ++ a) ++ (n ++ z) = overwrite_at f m (n ++ z) a i lf lm ∙ sym (append_assoc f a (n ++ z)) in
-      let long : length (f ++ a) ≡ i + length a = omega (arith, length-append f a) in
-      let two : overwrite ((f ++ a) ++ (n ++ z)) (i + length a) b ≡ f ++ ((a ++ b) ++ z) =
-      overwrite_at (f ++ a) n z b (i + length a) long ln ∙ append_assoc f a (b ++ z) ∙ ap (λ (l : List T). f ++ l) (sym (append_assoc a b z)) in
-      let both : length (m ++ n) ≡ length (a ++ b) = omega (arith, length-append m n, length-append a b) in
-      let all : overwrite (f ++ (m ++ (n ++ z))) i (a ++ b) ≡ f ++ ((a ++ b) ++ z) =
-      ap (λ (l : List T). overwrite (f ++ l) i (a ++ b)) (sym (append_assoc m n z)) ∙ overwrite_at f (m ++ n) z (a ++ b) i lf both in
-      let P : List T → Type 0 = λ l. overwrite (overwrite l i a) (i + length a) b ≡ overwrite l i (a ++ b) in
-      subst P (sym whole) (ap (λ (l : List T). overwrite l (i + length a) b) one ∙ two ∙ sym all)
-
-  -- what reaches past the end of a list is not written
-  overwrite_cut : (s ws : List T) (i : ℕ) → i ≤ length s → length s ≤ i + length ws → overwrite s i ws ≡ overwrite s i (take (length s - i) ws)
-  overwrite_cut s ws i le past =
-      let m : ℕ = length s - i in
-      let c1 = cut i s le in let f = c1.0 in let v = c1.1 in let lf : length f ≡ i = c1.3 in let lv : length v ≡ m = c1.4 in
-      let c2 = cut m ws (omega arith) in let a = c2.0 in let b = c2.1 in let la : length a ≡ m = c2.3 in
-      let whole : s ≡ f ++ v = c1.2 in
-      let lfv : length (f ++ v) ≡ i + m = omega (arith, length-append f v, lf, lv) in
-      let lws : length ws ≡ m + length b = ap length c2.2 ∙ length-append a b ∙ ap (λ (n : ℕ). n + length b) la in
-      let none : drop (length ws) v ≡ [] = drop_all (length ws) v (omega (arith, lws, lv)) in
-      let lfa : length (f ++ a) ≡ i + m = omega (arith, length-append f a, lf, la) in
-      let left : overwrite (f ++ v) i ws ≡ f ++ a =
-      ap (take (length (f ++ v))) (ap₂ ◌++◌ (take_at f v i lf) (ap (λ (l : List T). ws ++ drop (length ws) l) (drop_at f v i lf)
-      ∙ ap (λ (l : List T). ws ++ l) none ∙ append-nil ws ∙ c2.2))
-      ∙ ap (λ (n : ℕ). take n (f ++ (a ++ b))) lfv ∙ ap (take (i + m)) (sym (append_assoc f a b)) ∙ take_at (f ++ a) b (i + m) lfa in
-      let right : overwrite (f ++ v) i a ≡ f ++ a = ap (λ (l : List T). overwrite (f ++ l) i a) (sym (append-nil v))
-      ∙ overwrite_at f v [] a i lf (omega (arith, la, lv)) ∙ ap (λ (l : List T). f ++ l) (append-nil a) in
-      ap (λ (l : List T). overwrite l i ws) whole ∙ left ∙ sym (ap (λ (l : List T). overwrite l i a) whole ∙ right)
-      ∙ ap (overwrite s i) (sym (ap (take m) c2.2 ∙ take_at a b m la))
+  overwrite_twice s a b i le = same_lists _ _ (grind (arith, places)) (λ m d h. grind (arith, places))
 
   -- a write in two parts, the second at the beginning
   pub wrapping_is : (s ws : List T) (i k : ℕ) → i ≤ length s → k ≡ min (length ws) (length s - i)
       → overwrite (overwrite s i (take k ws)) 0 (drop k ws) ≡ overwrite (overwrite s i ws) 0 (drop (length s - i) ws)
-  wrapping_is s ws i k le e = elim (cases_lt (length s - i) (length ws)) [
-    | inl past ↦
-        let n : k ≡ length s - i = omega (arith, e, past) in
-        ap (λ (n : ℕ). overwrite (overwrite s i (take n ws)) 0 (drop n ws)) n
-        ∙ ap (λ (l : List T). overwrite l 0 (drop (length s - i) ws)) (sym (overwrite_cut s ws i le (omega (arith, past))))
-    | inr within ↦
-        let n : k ≡ length ws = omega (arith, e, within) in
-        ap (λ (n : ℕ). overwrite (overwrite s i (take n ws)) 0 (drop n ws)) n
-        ∙ ap₂ (λ (a b : List T). overwrite (overwrite s i a) 0 b) (take_all (length ws) ws (omega arith)) (drop_all (length ws) ws (omega arith)
-        ∙ sym (drop_all (length s - i) ws within))
-  ]
+  wrapping_is s ws i k le e = same_lists _ _ (grind (arith, places)) (λ m d h. grind (arith, places))
 
   -- what a part of the storage is shown as
   pub part_is : (b : List T) (p m k : ℕ) → m ≡ k → p + k ≤ length b → (now : List T) → now ≡ take m (drop p b) → (length now ≡ k) × (now ≡ take k (drop p b))
@@ -105,9 +43,7 @@ module _ {T : Type 0} where
       (ap length is ∙ length-take-le k (drop p b) (omega (arith, length-drop p b)), is)
 
   pub take_one : (s : List T) (i : ℕ) (x : T) → i < length s → x ≡ get_or s i x → take 1 (drop i s) ≡ x ∷ []
-  take_one [] i x h e = absurd (omega arith)
-  take_one (y ∷ ys) zero x h e = ap (λ (z : T). z ∷ []) (sym e)
-  take_one (y ∷ ys) (suc i) x h e = take_one ys i x (omega arith) e
+  take_one s i x h e = ap (take 1) (drop_more s i x h) ∙ ap (λ (z : T). z ∷ []) (sym e)
 
   first_of : (xs : List T) (x : T) → x ∷ [] ≡ take 1 xs → xs ≡ x ∷ drop 1 xs
   first_of xs x e = sym (take-append-drop 1 xs) ∙ ap (λ (l : List T). l ++ drop 1 xs) (sym e)
@@ -121,19 +57,17 @@ module _ {T : Type 0} where
     written_wf p ws = subst (λ (n : ℕ). ((g.read_at ≡ 0) ⊎ (g.read_at < n)) × (g.count ≤ n)) (sym (length-overwrite g.storage p ws)) wf
 
     pub storage_index_le : (j : ℕ) → j ≤ capacity g → storage_index g j ≤ capacity g
-    storage_index_le j le = elim (storage_index_is g j) [ inl h ↦ omega (arith, h.0, h.1, read_at_le g wf) | inr h ↦ omega (arith, h.0, h.1, read_at_le g wf) ]
+    storage_index_le j le = grind (arith, nat_tests)
+
+    -- such an index is where a ring is read
+    storage_index_is_one : (k p n : ℕ) → p ≡ storage_index g k → k ≤ capacity g → n ≡ capacity g → (p ≡ 0) ⊎ (p < n)
+    storage_index_is_one k p n ep le long = grind (arith, nat_tests)
 
     pub read_index_is : IsStorageIndex (capacity g) g.read_at 0 g.read_at
-    read_index_is = elim wf.0 [
-      | inl e ↦ elim (cases_lt 0 (length g.storage)) [ inl h ↦ inl (omega (arith, e, h), omega arith) | inr h ↦ inr (omega (arith, e, h), omega (arith, e, h)) ]
-      | inr h ↦ inl (omega (arith, h), omega arith)
-    ]
+    read_index_is = grind arith
 
     pub storage_index-zero : storage_index g 0 ≡ g.read_at
-    storage_index-zero = elim (storage_index_is g 0) [
-      | inl i ↦ omega (arith, i.0, i.1)
-      | inr i ↦ elim wf.0 [ inl e ↦ omega (arith, i.0, i.1, e) | inr h ↦ omega (arith, i.0, i.1, h) ]
-    ]
+    storage_index-zero = grind (arith, nat_tests)
 
     pub write_index_is : IsStorageIndex (capacity g) g.read_at (g.count + 0) (write_at g)
     write_index_is = subst (λ (j : ℕ). IsStorageIndex (capacity g) g.read_at j (write_at g)) (sym (add-zero g.count)) (storage_index_is g g.count)
@@ -141,18 +75,11 @@ module _ {T : Type 0} where
     -- ---- parts of the storage, by queue and spare part
     pub spare_value : (i k p : ℕ) → i + k ≤ window g → p + k ≤ capacity g → IsStorageIndex (capacity g) g.read_at (g.count + i) p
         → take k (drop p g.storage) ≡ take k (drop i (spare g))
-    spare_value i k p hi hp at =
-        part-rotation g.storage g.read_at (g.count + i) p k (read_at_le g wf) (omega (arith, wf.1)) hp at
-        ∙ ap (take k) (sym (drop-drop i g.count (rotation g.storage g.read_at)))
+    spare_value i k p hi hp at = same_lists _ _ (grind (arith, places)) (λ m d h. grind (arith, places))
 
     pub queue_value : (i k p : ℕ) → i + k ≤ g.count → p + k ≤ capacity g → IsStorageIndex (capacity g) g.read_at i p
         → take k (drop p g.storage) ≡ take k (drop i (queue g))
-    queue_value i k p hi hp at =
-        let all = rotation g.storage g.read_at in
-        let whole : queue g ≡ take (i + (g.count - i)) all = ap (λ (j : ℕ). take j all) (omega arith) in
-        let low : take k (drop i (queue g)) ≡ take k (drop i all) =
-        ap (λ (l : List T). take k (drop i l)) whole ∙ ap (take k) (drop-take i (g.count - i) all) ∙ take-take k (g.count - i) (drop i all) (omega arith) in
-        part-rotation g.storage g.read_at i p k (read_at_le g wf) (omega (arith, wf.1)) hp at ∙ sym low
+    queue_value i k p hi hp at = same_lists _ _ (grind (arith, places)) (λ m d h. grind (arith, places))
 
     -- ---- writes
     pub spare_law : (i p : ℕ) (ws : List T) → i + length ws ≤ window g → p + length ws ≤ capacity g
@@ -219,13 +146,14 @@ module _ {T : Type 0} where
     with_dequeued_law k le = let t = with_dequeued_parts g wf k le in (t.0, t.1, refl)
 
     -- ---- a write that wraps at the storage's end
-    wrapping_once : (i p : ℕ) (ws : List T) → i + length ws ≤ window g → p + length ws ≤ capacity g
-        → IsStorageIndex (capacity g) g.read_at (g.count + i) p → WritesSpare g i ws (with_elements_wrapping g p ws)
-    wrapping_once i p ws le room at =
-        let none : drop (length g.storage - p) ws ≡ [] = drop_all (length g.storage - p) ws (omega (arith, room)) in
-        let still : with_elements_wrapping g p ws ≡ with_elements g p ws = ap (λ l. with_elements (with_elements g p ws) 0 l) none
-        ∙ ap (λ b. ring b g.read_at g.count) (overwrite_none (overwrite g.storage p ws) 0) in
-        subst (WritesSpare g i ws) (sym still) (spare_law i p ws le room at)
+    unwrapped : (p : ℕ) (ws : List T) → length ws ≤ capacity g - p → with_elements_wrapping g p ws ≡ with_elements g p ws
+    unwrapped p ws room = ap (with_elements (with_elements g p ws) 0) (drop_all (length g.storage - p) ws room)
+        ∙ ap (λ b. ring b g.read_at g.count) (overwrite_none (overwrite g.storage p ws) 0)
+
+    -- after a write that ends at the storage's end comes the storage's beginning
+    wrapped_index : (i p m n : ℕ) → i + m + n ≤ window g → p + m ≡ capacity g → 0 < n → IsStorageIndex (capacity g) g.read_at (g.count + i) p
+        → IsStorageIndex (capacity g) g.read_at (g.count + (i + m)) 0
+    wrapped_index i p m n le full some at = grind arith
 
     wrapping_twice : (i p : ℕ) (a b : List T) → i + length a + length b ≤ window g → p + length a ≡ capacity g → 0 < length b
         → IsStorageIndex (capacity g) g.read_at (g.count + i) p → WritesSpare g i (a ++ b) (with_elements (with_elements g p a) 0 b)
@@ -233,10 +161,7 @@ module _ {T : Type 0} where
         let s = spare_law i p a (omega (arith, le)) (omega (arith, full)) at in
         let w = with_elements g p a in
         let long = length-overwrite g.storage p a in
-        let next : IsStorageIndex (capacity g) g.read_at (g.count + (i + length a)) 0 = elim at [
-          | inl h ↦ inr (omega (arith, h.0, h.1, full, read_at_le g wf), omega (arith, h.0, h.1, full, read_at_le g wf))
-          | inr h ↦ absurd (omega (arith, h.0, h.1, full, le, some, read_at_le g wf, wf.1))
-        ] in
+        let next = wrapped_index i p (length a) (length b) le full some at in
         let t = spare-written w (written_wf p a) (i + length a) 0 b (omega (arith, long, le)) (omega (arith, long, le, wf.1))
         (subst (λ (n : ℕ). IsStorageIndex n g.read_at (g.count + (i + length a)) 0) (sym long) next) in
         (t.0 ∙ s.0, t.1 ∙ ap (λ (l : List T). overwrite l (i + length a) b) s.1 ∙ overwrite_twice (spare g) a b i (omega (arith, le, length-spare g wf)), refl)
@@ -244,7 +169,7 @@ module _ {T : Type 0} where
     pub wrapping_law : (i p : ℕ) (ws : List T) → i + length ws ≤ window g → p ≤ capacity g
         → IsStorageIndex (capacity g) g.read_at (g.count + i) p → WritesSpare g i ws (with_elements_wrapping g p ws)
     wrapping_law i p ws le within at = elim (cases_lt (length g.storage - p) (length ws)) [
-      | inr once ↦ wrapping_once i p ws le (omega (arith, once, within)) at
+      | inr once ↦ subst (WritesSpare g i ws) (sym (unwrapped p ws once)) (spare_law i p ws le (omega (arith, once, within)) at)
       | inl past ↦
           let m : ℕ = length g.storage - p in
           let n : m ≡ min (length ws) (length g.storage - p) = omega (arith, past) in
@@ -275,20 +200,30 @@ module _ {T : Type 0} where
     queue_index_le i = storage_index_le (min i g.count) (omega (arith, wf.1))
 
     pub spare_part_value : (i n : ℕ)
-        → take (contiguous_window_from g i n) (drop (spare_index g i) g.storage) ≡ take (contiguous_window_from g i n) (drop i (spare g))
+        → take (contiguous_unallocated g i n) (drop (spare_index g i) g.storage) ≡ take (contiguous_unallocated g i n) (drop i (spare g))
     spare_part_value i n = elim (cases_lt (window g) i) [
-      | inr h ↦ spare_value i (contiguous_window_from g i n) (spare_index g i) (omega (arith, h)) (omega (arith, spare_index_le i)) (spare_at i h)
-      | inl h ↦ let none : contiguous_window_from g i n ≡ 0 = omega (arith, h) in ap (λ (k : ℕ). take k (drop (spare_index g i) g.storage))
+      | inr h ↦ spare_value i (contiguous_unallocated g i n) (spare_index g i) (omega (arith, h)) (omega (arith, spare_index_le i)) (spare_at i h)
+      | inl h ↦ let none : contiguous_unallocated g i n ≡ 0 = omega (arith, h) in ap (λ (k : ℕ). take k (drop (spare_index g i) g.storage))
           none ∙ sym (ap (λ (k : ℕ). take k (drop i (spare g))) none)
     ]
 
     pub queue_part_value : (i n : ℕ)
-        → take (contiguous_queued_from g i n) (drop (queue_index g i) g.storage) ≡ take (contiguous_queued_from g i n) (drop i (queue g))
+        → take (contiguous_allocated g i n) (drop (queue_index g i) g.storage) ≡ take (contiguous_allocated g i n) (drop i (queue g))
     queue_part_value i n = elim (cases_lt g.count i) [
-      | inr h ↦ queue_value i (contiguous_queued_from g i n) (queue_index g i) (omega (arith, h)) (omega (arith, queue_index_le i)) (queue_at i h)
-      | inl h ↦ let none : contiguous_queued_from g i n ≡ 0 = omega (arith, h) in ap (λ (k : ℕ). take k (drop (queue_index g i) g.storage))
+      | inr h ↦ queue_value i (contiguous_allocated g i n) (queue_index g i) (omega (arith, h)) (omega (arith, queue_index_le i)) (queue_at i h)
+      | inl h ↦ let none : contiguous_allocated g i n ≡ 0 = omega (arith, h) in ap (λ (k : ℕ). take k (drop (queue_index g i) g.storage))
           none ∙ sym (ap (λ (k : ℕ). take k (drop i (queue g))) none)
     ]
+
+    -- what is read from the index p on, up to the storage's end, and the rest of it at the storage's beginning
+    pub read_around : (i n p k : ℕ) → n ≤ g.count - i → p ≤ capacity g → IsStorageIndex (capacity g) g.read_at (min i g.count) p
+        → k ≡ min n (capacity g - p) → take k (drop p g.storage) ++ take (n - k) g.storage ≡ take n (drop i (queue g))
+    read_around i n p k le within at ek = same_lists _ _ (grind (arith, places)) (λ m d h. grind (arith, places))
+
+    pub read_parts : (i n p k : ℕ) → n ≤ g.count - i → p ≡ queue_index g i → k ≡ min n (capacity g - p)
+        → take k (drop p g.storage) ++ take (n - k) g.storage ≡ take n (drop i (queue g))
+    read_parts i n p k le ep = read_around i n p k le (omega (arith, ep, queue_index_le i))
+        (subst (IsStorageIndex (capacity g) g.read_at (min i g.count)) (sym ep) (storage_index_is g (min i g.count)))
 
     nothing_spare : (i p : ℕ) → WritesSpare g i [] (with_elements g p [])
     nothing_spare i p =
@@ -308,14 +243,7 @@ module _ {T : Type 0} where
         spare_law (window g - k) (last_dequeued_index g k) ws (omega (arith, long, room)) (omega (arith, long, fits))
         (subst (λ (j : ℕ). IsStorageIndex (capacity g) g.read_at j (last_dequeued_index g k)) at (storage_index_is g (capacity g - k)))
 
-    pub spare_part_law : (i n : ℕ) (ws : List T) → length ws ≡ contiguous_window_from g i n → WritesSpare g i ws (with_elements g (spare_index g i) ws)
-    spare_part_law i n ws e = elim (cases_lt (window g) i) [
-      | inr h ↦ spare_law i (spare_index g i) ws (omega (arith, h, e)) (omega (arith, e, spare_index_le i)) (spare_at i h)
-      | inl h ↦ let none : ws ≡ [] = nil_from_length ws (omega (arith, e, h)) in subst
-          (λ (l : List T). WritesSpare g i l (with_elements g (spare_index g i) l)) (sym none) (nothing_spare i (spare_index g i))
-    ]
-
-    pub queue_part_law : (i n : ℕ) (ws : List T) → length ws ≡ contiguous_queued_from g i n → WritesQueue g i ws (with_elements g (queue_index g i) ws)
+    pub queue_part_law : (i n : ℕ) (ws : List T) → length ws ≡ contiguous_allocated g i n → WritesQueue g i ws (with_elements g (queue_index g i) ws)
     queue_part_law i n ws e = elim (cases_lt g.count i) [
       | inr h ↦ queue_law i (queue_index g i) ws (omega (arith, h, e)) (omega (arith, e, queue_index_le i)) (queue_at i h)
       | inl h ↦ let none : ws ≡ [] = nil_from_length ws (omega (arith, e, h)) in subst
@@ -327,13 +255,13 @@ module _ {T : Type 0} where
     wrapping_at i ws le = elim (cases_lt (window g) i) [
       | inr h ↦ wrapping_law i (spare_index g i) ws (omega (arith, h, le)) (spare_index_le i) (spare_at i h)
       | inl h ↦
-          let none : ws ≡ [] = nil_from_length ws (omega (arith, le, h)) in
           let p = spare_index g i in
-          let nothing : drop (length g.storage - p) [] ≡ [] = drop_all (length g.storage - p) [] (omega arith) in
-          let still : with_elements_wrapping g p [] ≡ with_elements g p [] = ap (λ l. with_elements (with_elements g p []) 0 l) nothing
-          ∙ ap (λ b. ring b g.read_at g.count) (overwrite_none (overwrite g.storage p []) 0) in
-          subst (λ (l : List T). WritesSpare g i l (with_elements_wrapping g p l)) (sym none) (subst (WritesSpare g i []) (sym still) (nothing_spare i p))
+          subst (λ (l : List T). WritesSpare g i l (with_elements_wrapping g p l)) (sym (nil_from_length ws (omega (arith, le, h))))
+          (subst (WritesSpare g i []) (sym (unwrapped p [] (omega arith))) (nothing_spare i p))
     ]
+
+    pub spare_part_law : (i n : ℕ) (ws : List T) → length ws ≡ contiguous_unallocated g i n → WritesSpare g i ws (with_elements g (spare_index g i) ws)
+    spare_part_law i n ws e = subst (WritesSpare g i ws) (unwrapped (spare_index g i) ws (omega (arith, e))) (wrapping_at i ws (omega (arith, e)))
 
     -- ---- one element
     pub read_fits : g.count ≢ 0 → g.read_at < capacity g
@@ -398,10 +326,10 @@ module _ {T : Type 0} where
     found_queued c i p ec ep = ep ∙ ap₂ (λ (n : ℕ) (o : RingState T). index_after n o.read_at (min i o.count)) ec is
 
     -- and how many elements are contiguous
-    pub found_window : (c m : ℕ) → c ≡ capacity g → m ≡ min (c - v.count) (c - index_after c v.read_at v.count) → m ≡ contiguous_window g
+    found_window : (c m : ℕ) → c ≡ capacity g → m ≡ min (c - v.count) (c - index_after c v.read_at v.count) → m ≡ contiguous_window g
     found_window c m ec em = em ∙ ap₂ (λ (n : ℕ) (o : RingState T). min (n - o.count) (n - index_after n o.read_at o.count)) ec is
 
-    pub found_head : (c m : ℕ) → c ≡ capacity g → m ≡ min v.count (c - v.read_at) → m ≡ contiguous_queued g
+    found_head : (c m : ℕ) → c ≡ capacity g → m ≡ min v.count (c - v.read_at) → m ≡ contiguous_queued g
     found_head c m ec em = em ∙ ap₂ (λ (n : ℕ) (o : RingState T). min o.count (n - o.read_at)) ec is
 
     -- one write leaves the ring well-formed
@@ -414,11 +342,7 @@ module _ {T : Type 0} where
     off_wf k p m a st ep le few e =
         let long : length st ≡ length v.storage = ap length e ∙ length-overwrite v.storage v.read_at a in
         let size : length v.storage ≡ length g.storage = ap (λ o. length o.storage) is in
-        let at : (p ≡ 0) ⊎ (p < length st) = elim (storage_index_is g k) [
-          | inl h ↦ inr (omega (arith, ep, h.0, h.1, long, size))
-          | inr h ↦ elim (well).0 [ inl z ↦ inl (omega (arith, ep, h.0, h.1, z, le)) | inr l ↦ inr (omega (arith, ep, h.0, h.1, l, le, long, size)) ]
-        ] in
-        (at, omega (arith, few, wf'.1, long))
+        (storage_index_is_one g well k p (length st) ep le (long ∙ size), omega (arith, few, wf'.1, long))
 
     -- and one after which elements were enqueued
     pub in_wf : (p n : ℕ) (a st : List T) → n ≤ window g → st ≡ overwrite v.storage p a → IsWellFormed (ring st v.read_at (v.count + n))
@@ -435,57 +359,6 @@ module _ {T : Type 0} where
         → h ≡ with_elements_wrapping g (spare_index g i) (take n src) → WritesSpare g i (take n src) h
     ahead_clause i n src h en e =
         subst (WritesSpare g i (take n src)) (sym e) (wrapping_at g well i (take n src) (omega (arith, en, length-take-le n src (omega (arith, en)))))
-
-    pub read_on : (o n p k : ℕ) (b : List T) → n ≤ g.count - o → o ≤ g.count → p ≡ storage_index g o → k ≡ min n (capacity g - p)
-        → b ≡ take (n - k) g.storage → b ≡ take (n - k) (drop k (drop o (queue g)))
-    read_on o n p k b le lo ep ek eb = elim (cases_lt k n) [
-      | inl more ↦
-          let within = storage_index_le g well o (omega (arith, lo, (well).1)) in
-          let at : IsStorageIndex (capacity g) g.read_at o p = subst (IsStorageIndex (capacity g) g.read_at o) (sym ep) (storage_index_is g o) in
-          let full : p + k ≡ capacity g = omega (arith, ek, more, within, ep) in
-          let next : IsStorageIndex (capacity g) g.read_at (o + k) 0 = elim at [
-            | inl h ↦ inr (omega (arith, h.0, h.1, full, read_at_le g well), omega (arith, h.0, h.1, full, read_at_le g well))
-            | inr h ↦ absurd (omega (arith, h.0, h.1, full, more, le, read_at_le g well, (well).1))
-          ] in
-          eb ∙ queue_value g well (o + k) (n - k) 0 (omega (arith, more, le)) (omega (arith, le, (well).1)) next
-          ∙ ap (take (n - k)) (sym (drop-drop k o (queue g)))
-      | inr none ↦
-          let y : n - k ≡ 0 = omega (arith, none) in
-          eb ∙ ap (λ (j : ℕ). take j g.storage) y ∙ sym (ap (λ (j : ℕ). take j (drop k (drop o (queue g)))) y)
-    ]
-
-    clamped : (i o n : ℕ) → o ≡ min i g.count → n ≤ g.count - o → take n (drop o (queue g)) ≡ take n (drop i (queue g))
-    clamped i o n eo le = elim (cases_lt g.count i) [
-      | inr h ↦ let same : o ≡ i = omega (arith, eo, h) in ap (λ (j : ℕ). take n (drop j (queue g))) same
-      | inl h ↦ let none : n ≡ 0 = omega (arith, eo, h, le) in ap (λ (j : ℕ). take j (drop o (queue g))) none ∙ sym
-          (ap (λ (j : ℕ). take j (drop i (queue g))) none)
-    ]
-
-    -- what is read from the index p on, up to the storage's end
-    read_first : (o n p k l : ℕ) (a : List T) → l ≡ k → n ≤ g.count - o → o ≤ g.count → p ≡ storage_index g o
-        → k ≡ min n (capacity g - p) → a ≡ take l (drop p v.storage)
-        → (length a ≡ k) × (a ≡ take k (drop o (queue g)))
-    read_first o n p k l a el le lo ep ek ea =
-        let within : p ≤ capacity g = omega (arith, ep, storage_index_le g well o (omega (arith, lo, (well).1))) in
-        let at : IsStorageIndex (capacity g) g.read_at o p = subst (IsStorageIndex (capacity g) g.read_at o) (sym ep) (storage_index_is g o) in
-        let r = part_is g.storage p l k el (omega (arith, ek, within)) a (ea ∙ ap (λ s. take l (drop p s)) same_storage) in
-        (r.0, r.1 ∙ queue_value g well o k p (omega (arith, ek, le, lo)) (omega (arith, ek, within)) at)
-
-    -- what is read from the index p on, and the rest of it at the storage's beginning
-    pub read_parts : (i n p k l : ℕ) (a b : List T) → l ≡ k → n ≤ g.count - i → p ≡ queue_index g i → k ≡ min n (capacity g - p)
-        → a ≡ take l (drop p v.storage) → b ≡ take (n - k) v.storage
-        → (length a ≡ k) × (a ++ b ≡ take n (drop i (queue g)))
-    read_parts i n p k l a b el le ep ek ea eb =
-        let o : ℕ = min i g.count in
-        let lo : o ≤ g.count = omega arith in
-        let few : n ≤ g.count - o = omega (arith, le) in
-        let r = read_first o n p k l a el few lo ep ek ea in
-        let two : b ≡ take (n - k) (drop k (drop o (queue g))) = read_on o n p k b few lo ep ek (eb ∙ ap (take (n - k)) same_storage) in
-        let m : k + (n - k) ≡ n = omega (arith, ek) in (
-          r.0,
-          ap₂ ◌++◌ r.1 two ∙ sym (take_sum k (n - k) (drop o (queue g)))
-              ∙ ap (λ (j : ℕ). take j (drop o (queue g))) m ∙ clamped i o n refl few,
-        )
 
     -- ---- elements that are enqueued or dequeued, and none that is written
     pub with_enqueued_is : (k m : ℕ) → k ≡ m → ring v.storage v.read_at (v.count + k) ≡ with_enqueued m g
@@ -514,19 +387,6 @@ module _ {T : Type 0} where
     shown : (p m k : ℕ) → m ≡ k → p + k ≤ capacity g → (now : List T) → now ≡ take m (drop p v.storage) → (length now ≡ k) × (now ≡ take k (drop p g.storage))
     shown p m k em le now e = part_is g.storage p m k em le now (e ∙ ap (λ l. take m (drop p l)) same_storage)
 
-    pub shown_spare : (i n p m : ℕ) → p ≡ spare_index g i → m ≡ contiguous_window_from g i n → (now : List T) → now ≡ take m (drop p v.storage)
-        → (length now ≡ contiguous_window_from g i n) × (now ≡ take (length now) (drop i (spare g)))
-        × (now ≡ take (length now) (drop (spare_index g i) g.storage))
-    shown_spare i n p m ep em now e =
-        let r = shown p m (contiguous_window_from g i n) em (omega (arith, ep, spare_index_le g well i)) now e in
-        let stored : now ≡ take (contiguous_window_from g i n) (drop (spare_index g i) g.storage) = r.1
-        ∙ ap (λ q. take (contiguous_window_from g i n) (drop q g.storage)) ep in (
-          r.0,
-          stored ∙ spare_part_value g well i n ∙ ap (λ j. take j (drop i (spare g))) (sym r.0),
-          stored
-              ∙ ap (λ j. take j (drop (spare_index g i) g.storage)) (sym r.0),
-        )
-
     -- the last k spare elements, as they are shown from the index p on, and where p is
     pub shown_last_dequeued : (k p m : ℕ) → k ≤ capacity g → last_dequeued_index g k + k ≤ capacity g → p ≡ last_dequeued_index g k → m ≡ k
         → (now : List T) → now ≡ take m (drop p v.storage)
@@ -535,54 +395,50 @@ module _ {T : Type 0} where
         let r = shown p m k em (omega (arith, ep, fits)) now e in
         (r.0, r.1 ∙ ap (λ q. take k (drop q g.storage)) ep)
 
-    pub shown_in_queue : (i n p m : ℕ) → p ≡ queue_index g i → m ≡ contiguous_queued_from g i n → (now : List T) → now ≡ take m (drop p v.storage)
-        → (length now ≡ contiguous_queued_from g i n) × (now ≡ take (length now) (drop i (queue g)))
+    -- the same, where these k elements of the storage are the first ones of ys
+    shown_as : (p q m k : ℕ) (ys : List T) → p ≡ q → m ≡ k → q + k ≤ capacity g → take k (drop q g.storage) ≡ take k ys → (now : List T)
+        → now ≡ take m (drop p v.storage)
+        → (length now ≡ k) × (now ≡ take (length now) ys) × (now ≡ take (length now) (drop q g.storage))
+    shown_as p q m k ys ep em le value now e =
+        let r = shown p m k em (omega (arith, ep, le)) now e in
+        let stored : now ≡ take k (drop q g.storage) = r.1 ∙ ap (λ j. take k (drop j g.storage)) ep in
+        (r.0, stored ∙ value ∙ ap (λ j. take j ys) (sym r.0), stored ∙ ap (λ j. take j (drop q g.storage)) (sym r.0))
+
+    pub shown_spare : (i n p m : ℕ) → p ≡ spare_index g i → m ≡ contiguous_unallocated g i n → (now : List T) → now ≡ take m (drop p v.storage)
+        → (length now ≡ contiguous_unallocated g i n) × (now ≡ take (length now) (drop i (spare g)))
+        × (now ≡ take (length now) (drop (spare_index g i) g.storage))
+    shown_spare i n p m ep em = shown_as p (spare_index g i) m _ (drop i (spare g)) ep em (omega (arith, spare_index_le g well i)) (spare_part_value g well i n)
+
+    pub shown_in_queue : (i n p m : ℕ) → p ≡ queue_index g i → m ≡ contiguous_allocated g i n → (now : List T) → now ≡ take m (drop p v.storage)
+        → (length now ≡ contiguous_allocated g i n) × (now ≡ take (length now) (drop i (queue g)))
         × (now ≡ take (length now) (drop (queue_index g i) g.storage))
-    shown_in_queue i n p m ep em now e =
-        let r = shown p m (contiguous_queued_from g i n) em (omega (arith, ep, queue_index_le g well i)) now e in
-        let stored : now ≡ take (contiguous_queued_from g i n) (drop (queue_index g i) g.storage) = r.1
-        ∙ ap (λ q. take (contiguous_queued_from g i n) (drop q g.storage)) ep in (
-          r.0,
-          stored ∙ queue_part_value g well i n ∙ ap (λ j. take j (drop i (queue g))) (sym r.0),
-          stored
-              ∙ ap (λ j. take j (drop (queue_index g i) g.storage)) (sym r.0),
-        )
+    shown_in_queue i n p m ep em =
+        shown_as p (queue_index g i) m _ (drop i (queue g)) ep em (omega (arith, queue_index_le g well i)) (queue_part_value g well i n)
 
     pub shown_next : (p m k : ℕ) → p ≡ write_at g → m ≡ k → k ≤ contiguous_window g → (now : List T) → now ≡ take m (drop p v.storage)
         → (length now ≡ k) × (now ≡ take (length now) (spare g)) × (now ≡ take (length now) (drop (write_at g) g.storage))
-    shown_next p m k ep em le now e =
+    shown_next p m k ep em le =
         let fits : write_at g + k ≤ capacity g = omega (arith, le, storage_index_le g well g.count (well).1) in
-        let r = shown p m k em (omega (arith, ep, fits)) now e in
-        let stored : now ≡ take k (drop (write_at g) g.storage) = r.1 ∙ ap (λ q. take k (drop q g.storage)) ep in (
-          r.0,
-          stored ∙ spare_value g well 0 k (write_at g) (omega (arith, le)) fits (write_index_is g well)
-              ∙ ap (λ j. take j (spare g)) (sym r.0),
-          stored ∙ ap (λ j. take j (drop (write_at g) g.storage)) (sym r.0),
-        )
+        shown_as p (write_at g) m k (spare g) ep em fits (spare_value g well 0 k (write_at g) (omega (arith, le)) fits (write_index_is g well))
 
     pub shown_head : (p m k : ℕ) → p ≡ g.read_at → m ≡ k → k ≤ contiguous_queued g → (now : List T) → now ≡ take m (drop p v.storage)
         → (length now ≡ k) × (now ≡ take (length now) (queue g)) × (now ≡ take (length now) (drop g.read_at g.storage))
-    shown_head p m k ep em le now e =
+    shown_head p m k ep em le =
         let fits : g.read_at + k ≤ capacity g = omega (arith, le, read_at_le g well) in
-        let r = shown p m k em (omega (arith, ep, fits)) now e in
-        let stored : now ≡ take k (drop g.read_at g.storage) = r.1 ∙ ap (λ q. take k (drop q g.storage)) ep in (
-          r.0,
-          stored ∙ queue_value g well 0 k g.read_at (omega (arith, le)) fits (read_index_is g well)
-              ∙ ap (λ j. take j (queue g)) (sym r.0),
-          stored ∙ ap (λ j. take j (drop g.read_at g.storage)) (sym r.0),
-        )
+        shown_as p g.read_at m k (queue g) ep em fits (queue_value g well 0 k g.read_at (omega (arith, le)) fits (read_index_is g well))
 
     -- the contiguous free elements, and the contiguous ones at the head of the queue
-    pub lent_next : (p m : ℕ) → p ≡ write_at g → m ≡ contiguous_window g → (now : List T) → now ≡ take m (drop p v.storage)
+    pub lent_next : (c p n m : ℕ) → c ≡ capacity g → p ≡ index_after c v.read_at v.count
+        → n ≡ min (c - v.count) (c - index_after c v.read_at v.count) → m ≡ n → (now : List T) → now ≡ take m (drop p v.storage)
         → (now ≡ take (contiguous_window g) (spare g)) × (length now ≡ contiguous_window g)
-    lent_next p m ep em now e =
-        let all = shown_next p m (contiguous_window g) ep em (omega arith) now e in
+    lent_next c p n m ec ep en em now e =
+        let all = shown_next p m (contiguous_window g) (found_next c p ec ep) (em ∙ found_window c n ec en) (omega arith) now e in
         (all.1 ∙ ap (λ j. take j (spare g)) all.0, all.0)
 
-    pub lent_head : (p m : ℕ) → p ≡ g.read_at → m ≡ contiguous_queued g → (now : List T) → now ≡ take m (drop p v.storage)
+    pub lent_head : (c n m : ℕ) → c ≡ capacity g → n ≡ min v.count (c - v.read_at) → m ≡ n → (now : List T) → now ≡ take m (drop v.read_at v.storage)
         → (now ≡ take (contiguous_queued g) (queue g)) × (length now ≡ contiguous_queued g)
-    lent_head p m ep em now e =
-        let all = shown_head p m (contiguous_queued g) ep em (omega arith) now e in
+    lent_head c n m ec en em now e =
+        let all = shown_head v.read_at m (contiguous_queued g) (ap (λ o. o.read_at) is) (em ∙ found_head c n ec en) (omega arith) now e in
         (all.1 ∙ ap (λ j. take j (queue g)) all.0, all.0)
 
     -- and what stays of them, n of the elements w being enqueued, or dequeued
@@ -614,29 +470,17 @@ module _ {T : Type 0} where
       subst (Enqueues g ws) (sym e) (q, p, t.2)
 
   -- ---- laws
-  pub rewound_is : (g : RingState T) → (queue (from_start_if_empty g) ≡ queue g) × ((from_start_if_empty g).count ≡ g.count)
-      × ((from_start_if_empty g).storage ≡ g.storage)
-  rewound_is g = elim (cases_lt 0 g.count) [
-    | inl h ↦ let e : from_start_if_empty g ≡ g = ap (λ t. if t then ring g.storage 0 0 else g) (ne_eqb g.count 0 (omega (arith, h)))
-        in (ap (λ o. queue o) e, ap (λ o. o.count) e, ap (λ o. o.storage) e)
-    | inr h ↦
-        let z : g.count ≡ 0 = omega (arith, h) in
-        let e : from_start_if_empty g ≡ ring g.storage 0 0 = ap (λ t. if t then ring g.storage 0 0 else g) (eq-eqb g.count 0 z) in
-        (ap (λ o. queue o) e ∙ sym (ap (λ n. take n (rotation g.storage g.read_at)) z), ap (λ o. o.count) e ∙ sym z, ap (λ o. o.storage) e)
-  ]
-
   -- the storage, from the rotated list
   abbrev back : List T → ℕ → List T
   back l r = drop (length l - r) l ++ take (length l - r) l
 
+  back_rotation : (b : List T) (r : ℕ) → r ≤ length b → back (rotation b r) r ≡ b
+  back_rotation b r le = same_lists _ _ (grind (arith, places)) (λ m d h. grind (arith, places))
+
   back_is : (g : RingState T) → IsWellFormed g → g.storage ≡ back (queue g ++ spare g) g.read_at
   back_is g wf =
-      let r = g.read_at in
-      let b = g.storage in
-      let n : length (rotation b r) - r ≡ length (drop r b) = omega (arith, length-rotation b r, length-drop r b) in
-      let e : back (rotation b r) r ≡ take r b ++ drop r b = ap (λ (m : ℕ). drop m (rotation b r) ++ take m (rotation b r)) n
-      ∙ ap₂ ◌++◌ (drop_at (drop r b) (take r b) (length (drop r b)) refl) (take_at (drop r b) (take r b) (length (drop r b)) refl) in
-      sym (ap (λ l. back l r) (sym (whole g wf)) ∙ e ∙ take-append-drop r b)
+      let turned : back (rotation g.storage g.read_at) g.read_at ≡ g.storage = back_rotation g.storage g.read_at (read_at_le g wf) in
+      sym (ap (λ l. back l g.read_at) (sym (whole g wf)) ∙ turned)
 
   pub parts_are : (g h : RingState T) → IsWellFormed g → IsWellFormed h → g.read_at ≡ h.read_at → queue g ≡ queue h → spare g ≡ spare h → g ≡ h
   parts_are g h wg wh er eq es =
@@ -645,36 +489,34 @@ module _ {T : Type 0} where
       ring_is g h b er n
 
 -- a ring with an empty queue is read from the storage's beginning on, and any other is as it was
-pub rewind_cases : {T : Type 0} (b : RingState T) → ((b.count ≡ 0) × (from_start_if_empty b ≡ ring b.storage 0 0)) ⊎
-    ((b.count ≢ 0) × (from_start_if_empty b ≡ b))
-rewind_cases b = elim (cases_eq b.count 0) [
-  | inl h ↦ inl (h, ap (λ (t : Bool). if t then ring b.storage 0 0 else b) (eq-eqb b.count 0 h))
-  | inr h ↦ inr (h, ap (λ (t : Bool). if t then ring b.storage 0 0 else b) (ne_eqb b.count 0 h))
+pub rewind_cases : {T : Type 0} (b : RingState T) → ((b.count ≡ 0) × (rewind_if_empty b ≡ ring b.storage 0 0)) ⊎
+    ((b.count ≢ 0) × (rewind_if_empty b ≡ b))
+rewind_cases b = grind (arith, nat_tests)
+
+pub rewound_is : {T : Type 0} (g : RingState T) → (queue (rewind_if_empty g) ≡ queue g) × ((rewind_if_empty g).count ≡ g.count)
+    × ((rewind_if_empty g).storage ≡ g.storage)
+rewound_is g = elim (rewind_cases g) [
+  | inl h ↦ (ap queue h.1 ∙ sym (ap (λ n. take n (rotation g.storage g.read_at)) h.0), ap (λ o. o.count) h.1 ∙ sym h.0, ap (λ o. o.storage) h.1)
+  | inr h ↦ (ap queue h.1, ap (λ o. o.count) h.1, ap (λ o. o.storage) h.1)
 ]
 
-pub rewind_wf : {T : Type 0} (b : RingState T) → IsWellFormed b → IsWellFormed (from_start_if_empty b)
+pub rewind_wf : {T : Type 0} (b : RingState T) → IsWellFormed b → IsWellFormed (rewind_if_empty b)
 rewind_wf b wf = elim (rewind_cases b) [ inl h ↦ subst IsWellFormed (sym h.1) (inl refl, omega arith) | inr h ↦ subst IsWellFormed (sym h.1) wf ]
 
 -- the same of the numbers of a ring
-pub rewound_ring : {T : Type 0} (xs : List T) (p : Place) → ring_at xs (rewound p) ≡ from_start_if_empty (ring_at xs p)
-rewound_ring xs p = elim (rewind_cases (ring_at xs p)) [
-  | inl h ↦ ap (λ (t : Bool). ring_at xs (if t then place 0 0 else p)) (eq-eqb p.length 0 h.0) ∙ sym h.1
-  | inr h ↦ ap (λ (t : Bool). ring_at xs (if t then place 0 0 else p)) (ne_eqb p.length 0 h.0) ∙ sym h.1
-]
+pub rewound_ring : {T : Type 0} (xs : List T) (p : Place) → ring_at xs (rewound p) ≡ rewind_if_empty (ring_at xs p)
+rewound_ring xs p = grind (arith, nat_tests)
 
 -- the index of an element that a ring can hold is below the storage's end
 storage_index_below : (c r j : ℕ) → j < c → (if nat_lt j (c - r) then r + j else j - (c - r)) < c
-storage_index_below c r j l =
-    ⊎_elim (λ (a : j < c - r). subst (λ (p : ℕ). p < c) (sym (cond-true _ _ _ (lt-ltb j (c - r) a))) (omega arith))
-    (λ (b : c - r ≤ j). subst (λ (p : ℕ). p < c) (sym (cond-false _ _ _ (le-ltb j (c - r) b))) (omega arith))
-    (cases_lt j (c - r))
+storage_index_below c r j l = grind (arith, nat_tests)
 
 -- if an element is queued, some contiguous ones are
-contiguous_in_queue_some : {T : Type 0} (g : RingState T) (i n : ℕ) → g.count ≤ length g.storage → i < g.count → 0 < n → 0 < contiguous_queued_from g i n
+contiguous_in_queue_some : {T : Type 0} (g : RingState T) (i n : ℕ) → g.count ≤ length g.storage → i < g.count → 0 < n → 0 < contiguous_allocated g i n
 contiguous_in_queue_some g i n room l m = let below = storage_index_below (length g.storage) g.read_at (min i g.count) (omega arith) in omega arith
 
 -- if an element is free, some contiguous ones are
-pub contiguous_free_some : {T : Type 0} (g : RingState T) (i n : ℕ) → i < window g → 0 < n → 0 < contiguous_window_from g i n
+pub contiguous_free_some : {T : Type 0} (g : RingState T) (i n : ℕ) → i < window g → 0 < n → 0 < contiguous_unallocated g i n
 contiguous_free_some g i n l m = let below =
     storage_index_below (length g.storage) g.read_at (g.count + min i (window g)) (omega (arith, l)) in omega (arith, l, m, below)
 
@@ -682,38 +524,21 @@ contiguous_free_some g i n l m = let below =
 pub contiguous_next_some : {T : Type 0} (g : RingState T) → window g ≢ 0 → 0 < contiguous_window g
 contiguous_next_some g l = let below = storage_index_below (length g.storage) g.read_at g.count (omega (arith, l)) in omega (arith, l, below)
 
-pub contiguous_rewound_some : {T : Type 0} (g : RingState T) → window g ≢ 0 → 0 < contiguous_window (from_start_if_empty g)
+pub contiguous_rewound_some : {T : Type 0} (g : RingState T) → window g ≢ 0 → 0 < contiguous_window (rewind_if_empty g)
 contiguous_rewound_some g l =
     let same = rewound_is g in
-    contiguous_next_some (from_start_if_empty g) (λ none. l (ap₂ (λ (s : List _) (n : ℕ). length s - n) (sym same.2) (sym same.1) ∙ none))
+    contiguous_next_some (rewind_if_empty g) (λ none. l (ap₂ (λ (s : List _) (n : ℕ). length s - n) (sym same.2) (sym same.1) ∙ none))
 
 pub contiguous_head_some : {T : Type 0} (g : RingState T) → IsWellFormed g → g.count ≢ 0 → 0 < contiguous_queued g
 contiguous_head_some g wf l = omega (arith, l, read_fits g wf l)
 
-slice_get_at : {T : Type 0} (xs : List T) (i : ℕ) → slice_get (drop i xs) 0 ≡ slice_get xs i
-slice_get_at [] zero = refl
-slice_get_at [] (suc i) = refl
-slice_get_at (x ∷ xs) zero = refl
-slice_get_at (x ∷ xs) (suc i) = slice_get_at xs i
-
-slice_get_head : {T : Type 0} (xs : List T) (n : ℕ) → 0 < n → slice_get (take n xs) 0 ≡ slice_get xs 0
-slice_get_head xs zero some = absurd (omega (arith, some))
-slice_get_head [] (suc n) some = refl
-slice_get_head (x ∷ xs) (suc n) some = refl
-
 -- the first of the elements that are shown from an index on, of which some are if there are any
 first_shown : {T : Type 0} (xs now : List T) (i : ℕ) → now ≡ take (length now) (drop i xs) → (i < length xs → 0 < length now) → slice_get now 0 ≡ slice_get xs i
-first_shown xs now i e some = elim (cases_lt 0 (length now)) [
-  | inl h ↦ ap (λ l. slice_get l 0) e ∙ slice_get_head (drop i xs) (length now) h ∙ slice_get_at xs i
-  | inr h ↦ elim (cases_lt i (length xs)) [
-    | inl l ↦ absurd (omega (arith, h, some l))
-    | inr r ↦ slice_get_past now 0 h ∙ sym (slice_get_past xs i r)
-  ]
-]
+first_shown xs now i e some = grind (arith, places, gets)
 
 -- a part of the queue that is shown from an index on has elements if there are any, and its first one is the one at that index
 pub first_in_queue : {T : Type 0} (g : RingState T) → IsWellFormed g → (i n : ℕ) (now : List T)
-    → length now ≡ contiguous_queued_from g i n → now ≡ take (length now) (drop i (queue g))
+    → length now ≡ contiguous_allocated g i n → now ≡ take (length now) (drop i (queue g))
     → (i < g.count → 0 < n → 0 < length now) × (0 < n → slice_get now 0 ≡ slice_get (queue g) i)
 first_in_queue g wf i n now long is =
     let some : i < g.count → 0 < n → 0 < length now = λ l m. (let h = contiguous_in_queue_some g i n wf.1 l m in omega (arith, h, long)) in
@@ -721,9 +546,7 @@ first_in_queue g wf i n now long is =
 
 -- a list's first element alone, or nothing if it has none
 pub take_first : {T : Type 0} (q : List T) (k : ℕ) → k ≡ min (length q) 1 → take k q ≡ take 1 q
-take_first [] zero e = refl
-take_first [] (suc k) e = absurd (omega (arith, e))
-take_first (x ∷ q) k e = let one : k ≡ 1 = omega (arith, e) in ap (λ n. take n (x ∷ q)) one
+take_first q k e = same_lists _ _ (grind (arith, places)) (λ m d h. grind (arith, places))
 
 -- and its first element
 pub first_taken : {T : Type 0} (q l : List T) → l ≡ take 1 q → slice_get l 0 ≡ slice_get q 0

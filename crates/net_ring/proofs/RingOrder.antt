@@ -1,34 +1,24 @@
 -- Elements leave a ring in the order in which they came, over any calls.
-use Rattle.std.proofs.Common.{◌≡◌, ℕ, ◌+◌, ◌-◌, ◌≤◌, List, [], ◌∷◌, ◌++◌, length, take, drop}
-use Rattle.std.proofs.Common.{refl, sym, ap, ap₂, ◌∙◌, subst, inl, inr, arith, append_assoc, length-append, length-drop}
-use Rattle.std.proofs.lemmas.List.{take_at, take-append-drop, drop-append-le, append-nil, nil_from_length, take-take, take_all}
+use Rattle.std.proofs.Common.{◌≡◌, ℕ, ◌+◌, ◌-◌, ◌≤◌, List, [], ◌∷◌, ◌++◌, length, take, drop, refl, sym, ap, ap₂, ◌∙◌, subst, inl, inr, arith, append_assoc, length-append, length-drop}
+use Rattle.std.proofs.lemmas.List.{take_at, append-nil, nil_from_length, take-take, take_all, places, same_lists}
 use Rattle.std.proofs.lemmas.Bool.{cases_lt}
 use Rattle.net_ring.specs.Overwrite.{overwrite}
 use Rattle.net_ring.specs.Log.{Log, empty_log, log_accepted, log_left, log_dropped}
-use Rattle.net_ring.specs.Ring.{RingState, IsWellFormed, ring, capacity, window, queue, write_at, storage_index}
-use Rattle.net_ring.specs.Ring.{contiguous_window, contiguous_queued, contiguous_queue}
-use Rattle.net_ring.specs.Ring.{last_dequeued_index, spare_index, queue_index, with_elements, with_elements_wrapping, with_enqueued, from_start_if_empty}
-use Rattle.net_ring.specs.RingHistory.{RingCall, Clear, Reset, RewindIfEmpty, WriteLastDequeued, PopBack, EnqueueSlice, EnqueueUnallocated, EnqueueMany, EnqueueManyWith}
-use Rattle.net_ring.specs.RingHistory.{EnqueueOne, EnqueueErr, GetUnallocated, WriteUnallocated, Dequeue, DequeueMany}
-use Rattle.net_ring.specs.RingHistory.{DequeueManyWith, DequeueOne, DequeueErr, GetAllocatedMut}
-use Rattle.net_ring.specs.RingHistory.{Makes, MakesAll, log_written, log_without_last, log_after, log_after_all, history}
-use Rattle.net_ring.proofs.Rotations.{cut, length-overwrite, overwrite_at, overwrite-append_right, length-queue}
+use Rattle.net_ring.specs.Ring.{RingState, IsWellFormed, ring, capacity, window, queue, write_at, storage_index, contiguous_window, contiguous_queued, contiguous_queue, last_dequeued_index, spare_index, queue_index, with_elements, with_elements_wrapping, with_enqueued, rewind_if_empty}
+use Rattle.net_ring.specs.RingHistory.{RingCall, Clear, Reset, RewindIfEmpty, WriteLastDequeued, PopBack, EnqueueSlice, EnqueueUnallocated, EnqueueMany, EnqueueManyWith, EnqueueOne, EnqueueErr, GetUnallocated, WriteUnallocated, Dequeue, DequeueMany, DequeueManyWith, DequeueOne, DequeueErr, GetAllocatedMut, Makes, MakesAll, log_written, log_without_last, log_after, log_after_all, history}
+use Rattle.net_ring.proofs.Rotations.{length-overwrite, overwrite-append_right, length-queue}
 use Rattle.net_ring.proofs.RingFacts as facts
 
 -- ---- lists: some of which left, and the queue
 module _ {X : Type 0} where
   -- more came
   more : (gone q came next xs : List X) → gone ++ q ≡ came → next ≡ q ++ xs → gone ++ next ≡ came ++ xs
-  more gone q came next xs turn is =
-      ap (λ (l : List X). gone ++ l) is ∙ sym (append_assoc gone q xs) ∙ ap (λ (l : List X). l ++ xs) turn
+  more gone q came next xs turn is = cc (append_assoc gone q xs)
 
   -- the first ones left
   off : (gone q came next xs : List X) (n : ℕ) → gone ++ q ≡ came → xs ≡ take n q → next ≡ drop n q →
       (gone ++ xs) ++ next ≡ came
-  off gone q came next xs n turn head_is rest =
-      append_assoc gone xs next
-      ∙ ap (λ (l : List X). gone ++ l) (ap₂ ◌++◌ head_is rest ∙ take-append-drop n q)
-      ∙ turn
+  off gone q came next xs n turn head_is rest = same_lists _ _ (grind (arith, places)) (λ m d h. grind (arith, places))
 
   -- those that have not left were written over
   over : (gone q came next ws : List X) (i : ℕ) → gone ++ q ≡ came → i + length ws ≤ length q → next ≡ overwrite q i ws →
@@ -41,16 +31,7 @@ module _ {X : Type 0} where
   -- the first ones were written over, and then some of these left
   drop-overwrite : (q ws : List X) (n : ℕ) → n ≤ length ws → length ws ≤ length q →
       drop n (overwrite q 0 ws) ≡ overwrite (drop n q) 0 (drop n ws)
-  drop-overwrite q ws n le fits =
-      let c = cut (length ws) q fits in
-      let m : List X = c.0 in
-      let z : List X = c.1 in
-      let head_is : overwrite q 0 ws ≡ ws ++ z =
-      ap (λ (l : List X). overwrite l 0 ws) c.2 ∙ overwrite_at [] m z ws 0 refl c.3 in
-      let rest : drop n q ≡ drop n m ++ z = ap (drop n) c.2 ∙ drop-append-le n m z (omega (arith, le, c.3)) in
-      let same : length (drop n m) ≡ length (drop n ws) = omega (arith, length-drop n m, length-drop n ws, c.3) in
-      ap (drop n) head_is ∙ drop-append-le n ws z le
-      ∙ sym (ap (λ (l : List X). overwrite l 0 (drop n ws)) rest ∙ overwrite_at [] (drop n m) z (drop n ws) 0 refl same)
+  drop-overwrite q ws n le fits = same_lists _ _ (grind (arith, places)) (λ m d h. grind (arith, places))
 
 -- ---- rings
 module _ {T : Type 0} where
@@ -77,8 +58,8 @@ module _ {T : Type 0} where
       length-overwrite (overwrite g.storage p ws) 0 (drop (length g.storage - p) ws) ∙ length-overwrite g.storage p ws
 
   -- an empty ring that was moved to the storage's beginning
-  moved : (g : RingState T) → IsWellFormed g → IsWellFormed (from_start_if_empty g) × (queue (from_start_if_empty g) ≡ queue g)
-      × (window (from_start_if_empty g) ≡ window g)
+  moved : (g : RingState T) → IsWellFormed g → IsWellFormed (rewind_if_empty g) × (queue (rewind_if_empty g) ≡ queue g)
+      × (window (rewind_if_empty g) ≡ window g)
   moved g ok =
       let same = facts.rewound_is g in
       (facts.rewind_wf g ok, same.0, ap₂ (λ (s : List T) (n : ℕ). length s - n) same.2 same.1)
@@ -172,18 +153,18 @@ module _ {T : Type 0} where
       last_off log g h x before does.0 (subst IsWellFormed (sym does.1) (before.ok.0, omega (arith, before.ok.1)))
   step (EnqueueSlice xs) log g h before does =
       let m = moved g before.ok in
-      let w = in_wrapping (from_start_if_empty g) xs m.0 (omega (arith, does.0, m.2)) in
+      let w = in_wrapping (rewind_if_empty g) xs m.0 (omega (arith, does.0, m.2)) in
       more_after log g _ h before does.1 w.0 xs (w.1 ∙ ap (λ (l : List T). l ++ xs) m.1)
   step (EnqueueUnallocated xs) log g h before does =
       let law = facts.with_enqueued_law g before.ok (length xs) does.0 in
       more_after log g _ h before does.2 (in_ok g (length xs) before.ok does.0) xs (law.0 ∙ ap (λ (l : List T). queue g ++ l) (sym does.1))
   step (EnqueueMany xs) log g h before does =
       let m = moved g before.ok in
-      let w = in_written (from_start_if_empty g) (length xs) xs m.0 (omega arith) does.0 in
+      let w = in_written (rewind_if_empty g) (length xs) xs m.0 (omega arith) does.0 in
       more_after log g _ h before does.1 w.0 xs (w.1 ∙ ap₂ ◌++◌ m.1 (take_all (length xs) xs (omega arith)))
   step (EnqueueManyWith ws n) log g h before does =
       let m = moved g before.ok in
-      let w = in_written (from_start_if_empty g) n ws m.0 does.1 (omega (arith, does.0)) in
+      let w = in_written (rewind_if_empty g) n ws m.0 does.1 (omega (arith, does.0)) in
       more_after log g _ h before does.2 w.0 (take n ws) (w.1 ∙ ap (λ (l : List T). l ++ take n ws) m.1)
   step (EnqueueOne x) log g h before does =
       let ok = facts.written_wf (with_enqueued 1 g) (in_ok g 1 before.ok (omega (arith, does.0))) (write_at g) (x ∷ []) in

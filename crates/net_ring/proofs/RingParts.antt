@@ -1,40 +1,28 @@
 -- The queue in its two contiguous parts, and parts of lists by index.
-use Rattle.std.proofs.Common.{◌≡◌, ◌≢◌, ℕ, ◌+◌, ◌-◌, ◌<◌, ◌≤◌, List, ◌++◌, length, take, drop, get_or}
-use Rattle.std.proofs.Common.{refl, sym, ap, ap₂, ◌∙◌, arith, length-take, length-drop}
-use Rattle.std.proofs.lemmas.List.{get_or-take, get_or-drop, get_or_append_left, get_or-append_right}
-use Rattle.std.proofs.lemmas.List.{take-append-drop, take_all}
-use Rattle.net_ring.specs.Ring.{RingState, IsWellFormed, queue, contiguous_queue, contiguous_queued, storage_index}
-use Rattle.net_ring.proofs.Rotations.{length-queue}
-use Rattle.net_ring.proofs.RingFacts.{well, shown_head, contiguous_head_some, read_on, storage_index-zero}
+use Rattle.std.proofs.Common.{min, subst, ◌≡◌, ◌≢◌, ℕ, ◌+◌, ◌-◌, ◌<◌, ◌≤◌, List, ◌++◌, length, take, drop, get_or, sym, ap, ap₂, ◌∙◌, arith, length-take, length-drop}
+use Rattle.std.proofs.lemmas.List.{drop_at, take_all, places}
+use Rattle.net_ring.specs.Ring.{RingState, IsWellFormed, queue, contiguous_queue, contiguous_queued, capacity}
+use Rattle.net_ring.proofs.Rotations.{IsStorageIndex, length-queue, read_at_le}
+use Rattle.net_ring.proofs.RingFacts.{well, shown_head, contiguous_head_some, read_around, read_index_is}
 
 module _ {X : Type 0} where
   -- the elements of a part of a list, which begins at the index i
   pub each_of : (xs part : List X) (i : ℕ) → part ≡ take (length part) (drop i xs) →
       (k : ℕ) (d : X) → i ≤ k → k < i + length part → get_or xs k d ≡ get_or part (k - i) d
-  each_of xs part i is k d from below =
-      let at : i + (k - i) ≡ k = omega (arith, from) in
-      sym (
-      ap (λ (l : List X). get_or l (k - i) d) is
-      ∙ get_or-take (length part) (drop i xs) (k - i) d (omega (arith, from, below))
-      ∙ get_or-drop i xs (k - i) d
-      ∙ ap (λ (n : ℕ). get_or xs n d) at
-      )
+  each_of xs part i is k d from below = grind (arith, places)
 
   -- it ends within the list
   pub end_of : (xs part : List X) (i : ℕ) → part ≡ take (length part) (drop i xs) →
       i ≤ length xs → i + length part ≤ length xs
-  end_of xs part i is le =
-      let long : length part ≡ length (take (length part) (drop i xs)) = ap length is in
-      omega (arith, long, le, length-take (length part) (drop i xs), length-drop i xs)
+  end_of xs part i is le = omega (arith, simp (length-take, length-drop) at (ap length is))
 
   -- the elements of two lists that are one, of the first and of the second
   pub each_head : (xs a b : List X) → a ++ b ≡ xs → (k : ℕ) (d : X) → k < length a → get_or xs k d ≡ get_or a k d
-  each_head xs a b is k d below = ap (λ (l : List X). get_or l k d) (sym is) ∙ get_or_append_left a b d k below
+  each_head xs a b is k d below = grind (arith, places)
 
   pub each_behind : (xs a b : List X) → a ++ b ≡ xs →
       (k : ℕ) (d : X) → length a ≤ k → get_or xs k d ≡ get_or b (k - length a) d
-  each_behind xs a b is k d from =
-      ap (λ (l : List X). get_or l k d) (sym is) ∙ get_or-append_right a b (length a) k d refl from
+  each_behind xs a b is k d from = grind (arith, places)
 
 module _ {T : Type 0} where
   -- what is contiguous at the head of the queue, and what wraps
@@ -54,20 +42,20 @@ module _ {T : Type 0} where
     two_parts k p m n ek ep em en a b ea eb =
         let wg = well v g is wf in
         let head_is = shown_head v g is wf p m k ep em (omega (arith, ek)) a ea in
-        let at : g.read_at ≡ storage_index g 0 = sym (storage_index-zero g wg) in
         let second_is : b ≡ take (g.count - k) g.storage = eb ∙ ap₂ (λ j (o : RingState T). take j o.storage) en is in
-        let rest : b ≡ take (g.count - k) (drop k (queue g)) =
-        read_on v g is wf 0 g.count g.read_at k b (omega arith) (omega arith) at (omega (arith, ek)) second_is in
-        let behind : length (drop k (queue g)) ≡ g.count - k = omega (arith, length-drop k (queue g), length-queue g wg) in
-        let second : b ≡ drop k (queue g) = rest ∙ take_all (g.count - k) (drop k (queue g)) (omega (arith, behind)) in
+        let from : IsStorageIndex (capacity g) g.read_at (min 0 g.count) g.read_at =
+        subst (λ j. IsStorageIndex (capacity g) g.read_at j g.read_at) (omega arith) (read_index_is g wg) in
+        let whole : a ++ b ≡ queue g = ap₂ ◌++◌ (head_is.2 ∙ ap (λ j. take j (drop g.read_at g.storage)) head_is.0) second_is
+        ∙ read_around g wg 0 g.count g.read_at k (omega arith) (read_at_le g wg) from ek ∙ take_all g.count (queue g) (omega (arith, length-queue g wg)) in
+        let second : b ≡ drop k (queue g) = sym (drop_at a b k head_is.0) ∙ ap (drop k) whole in
         let first : a ≡ take k (queue g) = head_is.1 ∙ ap (λ (j : ℕ). take j (queue g)) head_is.0 in
-        let long : length b ≡ g.count - k = ap length second ∙ behind in
+        let long : length b ≡ g.count - k = omega (arith, ap length second, length-drop k (queue g), length-queue g wg) in
         record {
           cut = head_is.0 ∙ ek;
           count = omega (arith, head_is.0, long, ek);
           some = λ l. (let h = contiguous_head_some g wg l in omega (arith, head_is.0, ek, h));
           first = first ∙ ap (λ (j : ℕ). take j (queue g)) ek;
           second = second ∙ sym (ap (λ (j : ℕ). drop j (queue g)) head_is.0);
-          queue = ap₂ ◌++◌ first second ∙ take-append-drop k (queue g);
+          queue = whole;
           stored = (head_is.2, second_is ∙ sym (ap (λ (j : ℕ). take (g.count - j) g.storage) head_is.0));
         }

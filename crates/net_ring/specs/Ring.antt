@@ -2,12 +2,12 @@
 --     RingState T, ring b r n, IsWellFormed g      a ring, and what is true of each
 --     capacity g, window g, queue g, spare g      its capacity and window, and its two parts
 --     index_after c r i, storage_index g i, write_at g, last_dequeued_index g k      indices of the storage
---     contiguous_window g, contiguous_spare g, spare_index g i, contiguous_window_from g i n      the
+--     contiguous_window g, contiguous_spare g, spare_index g i, contiguous_unallocated g i n      the
 --         contiguous elements of the spare part
---     contiguous_queued g, contiguous_queue g, queue_index g i, contiguous_queued_from g i n      those
+--     contiguous_queued g, contiguous_queue g, queue_index g i, contiguous_allocated g i n      those
 --         of the queue
 --     with_elements g p ws, with_elements_wrapping g p ws, with_enqueued k g, with_dequeued k g,
---         from_start_if_empty g      what calls leave
+--         rewind_if_empty g      what calls leave
 --     Enqueues g ws h, Dequeues g k ws h, WritesSpare g i ws h, WritesQueue g i ws h,
 --         EnqueuesFrom g k ws h, DequeuesFrom g k ws h      the same by queue and spare part
 use Rattle.std.specs.Prelude.{◌≡◌, ◌⊎◌, ℕ, ◌+◌, ◌-◌, ◌<◌, ◌≤◌, nat_lt, nat_eq, min, if◌then◌else◌}
@@ -87,8 +87,8 @@ module _ {T : Type 0} where
 
   -- of at most n spare elements from element i on, how many are contiguous; none if i is at or above
   -- the window
-  abbrev pub contiguous_window_from : RingState T → ℕ → ℕ → ℕ
-  contiguous_window_from g i n = min n (min (window g - i) (length g.storage - spare_index g i))
+  abbrev pub contiguous_unallocated : RingState T → ℕ → ℕ → ℕ
+  contiguous_unallocated g i n = min n (min (window g - i) (length g.storage - spare_index g i))
 
   -- the index of element i of the queue, or of its end if i is past the queue
   abbrev pub queue_index : RingState T → ℕ → ℕ
@@ -96,8 +96,8 @@ module _ {T : Type 0} where
 
   -- of at most n elements of the queue from element i on, how many are contiguous; none if i is
   -- past the queue
-  abbrev pub contiguous_queued_from : RingState T → ℕ → ℕ → ℕ
-  contiguous_queued_from g i n = min n (min (g.count - i) (length g.storage - queue_index g i))
+  abbrev pub contiguous_allocated : RingState T → ℕ → ℕ → ℕ
+  contiguous_allocated g i n = min n (min (g.count - i) (length g.storage - queue_index g i))
 
   -- the index where the last k elements of the spare part begin: k elements before the read index
   abbrev pub last_dequeued_index : RingState T → ℕ → ℕ
@@ -122,8 +122,8 @@ module _ {T : Type 0} where
   with_dequeued k g = ring g.storage (storage_index g k) (g.count - k)
 
   -- a ring with an empty queue is read from the storage's beginning on
-  abbrev pub from_start_if_empty : RingState T → RingState T
-  from_start_if_empty g = if nat_eq g.count 0 then ring g.storage 0 0 else g
+  abbrev pub rewind_if_empty : RingState T → RingState T
+  rewind_if_empty g = if nat_eq g.count 0 then ring g.storage 0 0 else g
 
   -- ---- the same by queue and spare part
   -- ws was appended to the queue, over the first spare elements

@@ -6,9 +6,9 @@ use Rattle.net_ring.specs.Overwrite.{overwrite}
 use Rattle.net_ring.specs.Log.{Log, empty_log, log_accepted, log_left, log_dropped}
 use Rattle.net_ring.specs.Ring.{RingState, ring, capacity, window, queue, spare, write_at}
 use Rattle.net_ring.specs.Ring.{contiguous_window, contiguous_queued, contiguous_queue}
-use Rattle.net_ring.specs.Ring.{contiguous_window_from, contiguous_queued_from, spare_index}
+use Rattle.net_ring.specs.Ring.{contiguous_unallocated, contiguous_allocated, spare_index}
 use Rattle.net_ring.specs.Ring.{queue_index, last_dequeued_index, with_elements, with_elements_wrapping, with_enqueued}
-use Rattle.net_ring.specs.Ring.{with_dequeued, from_start_if_empty}
+use Rattle.net_ring.specs.Ring.{with_dequeued, rewind_if_empty}
 
 -- ---- calls
 -- what one call did, with the elements that it was given, lent or left. A call that returns `Full`
@@ -60,25 +60,25 @@ module _ {T : Type 0} where
   unfoldable pub Makes : RingCall T → RingState T → RingState T → Type 0
   Makes Clear g h = h ≡ ring g.storage 0 0
   Makes (Reset storage) g h = (length storage ≡ capacity g) × (h ≡ ring storage 0 0)
-  Makes RewindIfEmpty g h = h ≡ from_start_if_empty g
+  Makes RewindIfEmpty g h = h ≡ rewind_if_empty g
   Makes (EnqueueSlice xs) g h =
       (length xs ≤ window g)
       × (h
-      ≡ with_enqueued (length xs) (with_elements_wrapping (from_start_if_empty g) (write_at (from_start_if_empty g)) xs))
+      ≡ with_enqueued (length xs) (with_elements_wrapping (rewind_if_empty g) (write_at (rewind_if_empty g)) xs))
   Makes (EnqueueUnallocated xs) g h =
       (length xs ≤ window g) × (xs ≡ take (length xs) (spare g))
       × (h ≡ with_enqueued (length xs) g)
   Makes (EnqueueMany xs) g h =
-      (length xs ≤ contiguous_window (from_start_if_empty g))
-      × (h ≡ with_elements (with_enqueued (length xs) (from_start_if_empty g)) (write_at (from_start_if_empty g)) xs)
+      (length xs ≤ contiguous_window (rewind_if_empty g))
+      × (h ≡ with_elements (with_enqueued (length xs) (rewind_if_empty g)) (write_at (rewind_if_empty g)) xs)
   Makes (EnqueueManyWith ws n) g h =
-      (length ws ≡ contiguous_window (from_start_if_empty g)) × (n ≤ length ws)
-      × (h ≡ with_elements (with_enqueued n (from_start_if_empty g)) (write_at (from_start_if_empty g)) ws)
+      (length ws ≡ contiguous_window (rewind_if_empty g)) × (n ≤ length ws)
+      × (h ≡ with_elements (with_enqueued n (rewind_if_empty g)) (write_at (rewind_if_empty g)) ws)
   Makes (EnqueueOne x) g h =
       (window g ≢ 0) × (h ≡ with_elements (with_enqueued 1 g) (write_at g) (x ∷ []))
   Makes (EnqueueErr x) g h = (window g ≢ 0) × (h ≡ with_elements g (write_at g) (x ∷ []))
   Makes (GetUnallocated i ws) g h =
-      (length ws ≡ contiguous_window_from g i (length ws)) × (h ≡ with_elements g (spare_index g i) ws)
+      (length ws ≡ contiguous_unallocated g i (length ws)) × (h ≡ with_elements g (spare_index g i) ws)
   Makes (WriteUnallocated i ws) g h =
       (length ws ≤ window g - i) × (h ≡ with_elements_wrapping g (spare_index g i) ws)
   Makes (WriteLastDequeued ws) g h =
@@ -99,7 +99,7 @@ module _ {T : Type 0} where
       × (h ≡ with_elements (with_dequeued 1 g) g.read_at (y ∷ []))
   Makes (DequeueErr y) g h = (g.count ≢ 0) × (h ≡ with_elements g g.read_at (y ∷ []))
   Makes (GetAllocatedMut i ws) g h =
-      (length ws ≡ contiguous_queued_from g i (length ws)) × (h ≡ with_elements g (queue_index g i) ws)
+      (length ws ≡ contiguous_allocated g i (length ws)) × (h ≡ with_elements g (queue_index g i) ws)
 
   -- the calls, one after another, make h of g
   abbrev pub MakesAll : List (RingCall T) → RingState T → RingState T → Type 0

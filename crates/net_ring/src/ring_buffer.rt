@@ -3,7 +3,7 @@ ghost use Rattle.std.specs.Prelude.{◌≡◌, ◌≤◌, ◌<◌, ◌-◌, ◌+
 ghost use Rattle.std.specs.Prelude.{IsTrue};
 ghost use Rattle.std.specs.List.{AllZip};
 ghost use Rattle.net_ring.specs.Ring.{ring, capacity, window, queue, spare};
-ghost use Rattle.net_ring.specs.Ring.{write_at, contiguous_window, from_start_if_empty};
+ghost use Rattle.net_ring.specs.Ring.{write_at, contiguous_window, rewind_if_empty};
 ghost use Rattle.net_ring.specs.Ring.{IsWellFormed};
 ghost use Rattle.net_ring.specs.RingHistory.{Makes, Clear, Reset, RewindIfEmpty};
 ghost use Rattle.net_ring.specs.Place.{place, IsSound, ring_at};
@@ -259,7 +259,7 @@ impl<T, S: Storage<T>> RingOver<T, S> {
     #[inline]
     #[tactic(auto, unfolding(crate::specs::RingHistory::Makes))]
     pub fn rewind_if_empty(&mut self)
-        ensures ring { self.new ≡ from_start_if_empty self.old }
+        ensures ring { self.new ≡ rewind_if_empty self.old }
         ensures call { Makes RewindIfEmpty self.old self.new }
         ensures fits { capacity self.new < 2 ^ 64 }
     {

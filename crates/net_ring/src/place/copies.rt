@@ -1,7 +1,7 @@
 //! Elements that are copied into a storage and out of it.
 ghost use Rattle.std.specs.Prelude.{◌≡◌, ◌-◌, ◌+◌, ◌++◌, min, length, take, drop};
 ghost use Rattle.net_ring.specs.Ring.{queue, window, with_elements_wrapping};
-ghost use Rattle.net_ring.specs.Ring.{with_enqueued, with_dequeued, from_start_if_empty, write_at};
+ghost use Rattle.net_ring.specs.Ring.{with_enqueued, with_dequeued, rewind_if_empty, write_at};
 ghost use Rattle.net_ring.specs.Ring.{spare_index, WritesSpare, Enqueues, Dequeues};
 ghost use Rattle.net_ring.specs.Place.{IsSound, ring_at};
 
@@ -64,10 +64,10 @@ impl Place {
     pub fn enqueue_slice<T: Copy>(&mut self, storage: &mut [T], data: &[T]) -> usize
         requires sound { IsSound (length storage.old) self.old }
         ensures count { result ≡ min (length «data».now) (window (ring_at storage.old self.old)) }
-        ensures ring { let g = from_start_if_empty (ring_at storage.old self.old) in
+        ensures ring { let g = rewind_if_empty (ring_at storage.old self.old) in
             ring_at storage.new self.new
             ≡ with_enqueued result (with_elements_wrapping g (write_at g) (take result «data».now)) }
-        ensures enqueued { Enqueues (from_start_if_empty (ring_at storage.old self.old))
+        ensures enqueued { Enqueues (rewind_if_empty (ring_at storage.old self.old))
             (take result «data».now) (ring_at storage.new self.new) }
         ensures queue { queue (ring_at storage.new self.new)
             ≡ queue (ring_at storage.old self.old) ++ take result «data».now }

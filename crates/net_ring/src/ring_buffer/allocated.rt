@@ -2,7 +2,7 @@
 ghost use Rattle.std.specs.Prelude.{◌≡◌, ◌≢◌, ◌≤◌, ◌<◌, ◌-◌, ◌+◌, length, take, drop, ◌++◌, min};
 ghost use Rattle.std.specs.Prelude.{ℕ, List, slice_get, slice_index_or};
 ghost use Rattle.std.specs.Borrow.{sem};
-ghost use Rattle.net_ring.specs.Ring.{ring, queue, queue_index, contiguous_queued_from, with_elements};
+ghost use Rattle.net_ring.specs.Ring.{ring, queue, queue_index, contiguous_allocated, with_elements};
 ghost use Rattle.net_ring.specs.Ring.{contiguous_queued, contiguous_queue};
 ghost use Rattle.net_ring.specs.Ring.{window, with_dequeued, Dequeues, WritesQueue};
 ghost use Rattle.net_ring.specs.RingHistory.{Makes, Dequeue, GetAllocatedMut};
@@ -19,7 +19,7 @@ impl<T, S: Storage<T>> RingOver<T, S> {
     /// smoltcp has no such call. A caller needs it, since a ring can't be asked anything while a
     /// part of it is lent.
     pub fn contiguous_allocated(&self, offset: usize, size: usize) -> usize
-        ensures count { result ≡ contiguous_queued_from self.now offset size }
+        ensures count { result ≡ contiguous_allocated self.now offset size }
         ensures within { (result ≤ size) × (result ≤ self.now.count - offset) }
         ensures not_empty { offset < self.now.count → 0 < size → 0 < result }
     {
@@ -35,7 +35,7 @@ impl<T, S: Storage<T>> RingOver<T, S> {
     /// ring.get_allocated(at, 1).first().copied()
     /// ```
     pub fn get_allocated(&self, offset: usize, size: usize) -> &[T]
-        ensures count { length result.now ≡ contiguous_queued_from self.now offset size }
+        ensures count { length result.now ≡ contiguous_allocated self.now offset size }
         ensures not_empty { offset < self.now.count → 0 < size → 0 < length result.now }
         ensures value { result.now ≡ take (length result.now) (drop offset (queue self.now)) }
         ensures first { 0 < size → slice_get result.now 0 ≡ slice_get (queue self.now) offset }
@@ -91,7 +91,7 @@ impl<T, S: Storage<T>> RingOver<T, S> {
     pub fn get_allocated_mut(&mut self, offset: usize, size: usize) -> &mut [T]
         ensures* writes_back { sem 𝓛 (lends_many T.row S.row S.Storage self.entry
             self.old (queue_index self.old offset) result) }
-        ensures count { length result.now ≡ contiguous_queued_from self.old offset size }
+        ensures count { length result.now ≡ contiguous_allocated self.old offset size }
         ensures not_empty { offset < self.old.count → 0 < size → 0 < length result.now }
         ensures value { result.now ≡ take (length result.now) (drop offset (queue self.old)) }
         ensures first { 0 < size → slice_get result.now 0 ≡ slice_get (queue self.old) offset }
@@ -101,10 +101,10 @@ impl<T, S: Storage<T>> RingOver<T, S> {
             offset + length result.now ≤ length (queue self.old) }
         ensures stored { result.now
             ≡ take (length result.now) (drop (queue_index self.old offset) self.old.storage) }
-        ensures written { (ws : List T) → length ws ≡ contiguous_queued_from self.old offset size →
+        ensures written { (ws : List T) → length ws ≡ contiguous_allocated self.old offset size →
             WritesQueue self.old offset ws
             (with_elements self.old (queue_index self.old offset) ws) }
-        ensures call { (ws : List T) → length ws ≡ contiguous_queued_from self.old offset size →
+        ensures call { (ws : List T) → length ws ≡ contiguous_allocated self.old offset size →
             Makes (GetAllocatedMut offset ws) self.old
             (with_elements self.old (queue_index self.old offset) ws) }
     {

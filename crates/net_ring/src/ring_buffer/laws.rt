@@ -3,7 +3,7 @@ ghost use Rattle.std.specs.Prelude.{◌≡◌, ◌+◌, ◌++◌, ◌∷◌, [],
 ghost use Rattle.std.specs.Prelude.{slice_set};
 ghost use Rattle.net_ring.specs.Managed.{elements, with_part};
 ghost use Rattle.net_ring.specs.Overwrite.{overwrite, OverwritesAt};
-ghost use Rattle.net_ring.specs.Ring.{RingState, ring, capacity, window, queue, spare, from_start_if_empty};
+ghost use Rattle.net_ring.specs.Ring.{RingState, ring, capacity, window, queue, spare, rewind_if_empty};
 ghost use Rattle.net_ring.specs.Ring.{IsWellFormed};
 ghost use Rattle.net_ring.specs.RingHistory.{RingCall, MakesAll, history};
 
@@ -26,8 +26,8 @@ pub fn count_and_window_are_capacity<T>()
 /// States that moving the read index of an empty ring to the storage's beginning changes neither
 /// the queue nor the counts.
 pub fn rewinding_keeps_the_queue<T>()
-    ensures { (g : RingState T) → (queue (from_start_if_empty g) ≡ queue g)
-        × ((from_start_if_empty g).count ≡ g.count) × ((from_start_if_empty g).storage ≡ g.storage) }
+    ensures { (g : RingState T) → (queue (rewind_if_empty g) ≡ queue g)
+        × ((rewind_if_empty g).count ≡ g.count) × ((rewind_if_empty g).storage ≡ g.storage) }
 {}
 
 /// States that the k-th element to leave is the k-th that was enqueued. Over any calls, in any

@@ -4,7 +4,7 @@ ghost use Rattle.std.specs.Borrow.{sem};
 ghost use Rattle.std.specs.Fn.{FnOnceTakesAtMut, FnOnceReturnsAtMut};
 ghost use Rattle.net_ring.specs.Ring.{capacity, window, queue, spare, write_at, contiguous_window};
 ghost use Rattle.net_ring.specs.Ring.{contiguous_queued, contiguous_spare, contiguous_queue};
-ghost use Rattle.net_ring.specs.Ring.{with_elements, with_enqueued, with_dequeued, from_start_if_empty};
+ghost use Rattle.net_ring.specs.Ring.{with_elements, with_enqueued, with_dequeued, rewind_if_empty};
 ghost use Rattle.net_ring.specs.Ring.{Enqueues, Dequeues};
 ghost use Rattle.net_ring.specs.RingHistory.{Makes, EnqueueMany, EnqueueManyWith, DequeueMany, DequeueManyWith};
 ghost use Rattle.net_ring.specs.RingCalls.{CountsWithin, CalledOnSpare, CalledOnQueue};
@@ -27,12 +27,12 @@ impl<T, S: Storage<T>> RingOver<T, S> {
     ///
     /// `f` may be called on the part that it is lent, and counts at most its length.
     pub fn enqueue_many_with<R, F: FnOnce(&mut [T]) -> (usize, R)>(&mut self, f: F) -> (usize, R)
-        requires callable { FnOnceTakesAtMut F.FnOnce f (contiguous_spare (from_start_if_empty self.old)) }
-        requires count { CountsWithin F.FnOnce f (contiguous_spare (from_start_if_empty self.old))
-            (contiguous_window (from_start_if_empty self.old)) }
-        ensures called { CalledOnSpare F.FnOnce f (from_start_if_empty self.old) result self.new }
+        requires callable { FnOnceTakesAtMut F.FnOnce f (contiguous_spare (rewind_if_empty self.old)) }
+        requires count { CountsWithin F.FnOnce f (contiguous_spare (rewind_if_empty self.old))
+            (contiguous_window (rewind_if_empty self.old)) }
+        ensures called { CalledOnSpare F.FnOnce f (rewind_if_empty self.old) result self.new }
         ensures call { (ws : List T)
-            × FnOnceReturnsAtMut F.FnOnce f (contiguous_spare (from_start_if_empty self.old)) result ws
+            × FnOnceReturnsAtMut F.FnOnce f (contiguous_spare (rewind_if_empty self.old)) result ws
             × Makes (EnqueueManyWith ws result.0) self.old self.new }
     {
         self.rewind_if_empty();
@@ -49,23 +49,23 @@ impl<T, S: Storage<T>> RingOver<T, S> {
     /// An empty ring first moves its read index to the storage's beginning.
     pub fn enqueue_many(&mut self, size: usize) -> &mut [T]
         ensures* writes_back { sem 𝓛 (lends_many T.row S.row S.Storage self.entry
-            (with_enqueued (min size (contiguous_window (from_start_if_empty self.old))) (from_start_if_empty self.old))
-            (write_at (from_start_if_empty self.old)) result) }
-        ensures count { length result.now ≡ min size (contiguous_window (from_start_if_empty self.old)) }
+            (with_enqueued (min size (contiguous_window (rewind_if_empty self.old))) (rewind_if_empty self.old))
+            (write_at (rewind_if_empty self.old)) result) }
+        ensures count { length result.now ≡ min size (contiguous_window (rewind_if_empty self.old)) }
         ensures not_empty { window self.old ≢ 0 → 0 < size → 0 < length result.now }
-        ensures value { result.now ≡ take (length result.now) (spare (from_start_if_empty self.old)) }
-        ensures stored { let g = from_start_if_empty self.old in
+        ensures value { result.now ≡ take (length result.now) (spare (rewind_if_empty self.old)) }
+        ensures stored { let g = rewind_if_empty self.old in
             result.now ≡ take (length result.now) (drop (write_at g) g.storage) }
-        ensures enqueued { let g = from_start_if_empty self.old in let k = min size (contiguous_window g) in
+        ensures enqueued { let g = rewind_if_empty self.old in let k = min size (contiguous_window g) in
             (ws : List T) → length ws ≡ k → Enqueues g ws
             (with_elements (with_enqueued k g) (write_at g) ws) }
-        ensures call { let g = from_start_if_empty self.old in let k = min size (contiguous_window g) in
+        ensures call { let g = rewind_if_empty self.old in let k = min size (contiguous_window g) in
             (ws : List T) → length ws ≡ k → Makes (EnqueueMany ws) self.old
             (with_elements (with_enqueued k g) (write_at g) ws) }
-        ensures room { let g = from_start_if_empty self.old in let k = min size (contiguous_window g) in
+        ensures room { let g = rewind_if_empty self.old in let k = min size (contiguous_window g) in
             (ws : List T) → window (with_elements (with_enqueued k g) (write_at g) ws) + k
             ≡ window self.old }
-        ensures capacity { let g = from_start_if_empty self.old in let k = min size (contiguous_window g) in
+        ensures capacity { let g = rewind_if_empty self.old in let k = min size (contiguous_window g) in
             (ws : List T) → capacity (with_elements (with_enqueued k g) (write_at g) ws)
             ≡ capacity self.old }
     {

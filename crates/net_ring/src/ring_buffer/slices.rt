@@ -1,7 +1,7 @@
 //! Elements that are copied in and out.
 ghost use Rattle.std.specs.Prelude.{◌≡◌, ◌-◌, ◌+◌, length, take, drop, ◌++◌, min};
 ghost use Rattle.net_ring.specs.Ring.{ring, capacity, window, queue, write_at, with_elements_wrapping};
-ghost use Rattle.net_ring.specs.Ring.{with_enqueued, with_dequeued, from_start_if_empty};
+ghost use Rattle.net_ring.specs.Ring.{with_enqueued, with_dequeued, rewind_if_empty};
 ghost use Rattle.net_ring.specs.Ring.{Enqueues};
 ghost use Rattle.net_ring.specs.Ring.{Dequeues};
 ghost use Rattle.net_ring.specs.RingHistory.{Makes, EnqueueSlice, Dequeue};
@@ -22,9 +22,9 @@ impl<T: Copy, S: Storage<T>> RingOver<T, S> {
     /// ```
     pub fn enqueue_slice(&mut self, data: &[T]) -> usize
         ensures count { result ≡ min (length «data».now) (window self.old) }
-        ensures ring { let g = from_start_if_empty self.old in self.new
+        ensures ring { let g = rewind_if_empty self.old in self.new
             ≡ with_enqueued result (with_elements_wrapping g (write_at g) (take result «data».now)) }
-        ensures enqueued { Enqueues (from_start_if_empty self.old)
+        ensures enqueued { Enqueues (rewind_if_empty self.old)
             (take result «data».now) self.new }
         ensures queue { queue self.new ≡ queue self.old ++ take result «data».now }
         ensures call { Makes (EnqueueSlice (take result «data».now)) self.old self.new }

@@ -3,7 +3,7 @@ ghost use Rattle.std.specs.Prelude.{◌≡◌, ◌≤◌, ◌<◌, ◌-◌, ◌+
 ghost use Rattle.std.specs.Prelude.{slice_index_or};
 ghost use Rattle.std.specs.Borrow.{sem};
 ghost use Rattle.net_ring.specs.Ring.{ring, capacity, window, spare, spare_index};
-ghost use Rattle.net_ring.specs.Ring.{contiguous_window_from, with_elements, with_elements_wrapping};
+ghost use Rattle.net_ring.specs.Ring.{contiguous_unallocated, with_elements, with_elements_wrapping};
 ghost use Rattle.net_ring.specs.Ring.{with_enqueued, last_dequeued_index, Enqueues, WritesSpare};
 ghost use Rattle.net_ring.specs.RingHistory.{Makes, EnqueueUnallocated, GetUnallocated, WriteUnallocated};
 ghost use Rattle.net_ring.specs.RingHistory.{WriteLastDequeued};
@@ -20,7 +20,7 @@ impl<T, S: Storage<T>> RingOver<T, S> {
     /// smoltcp has no such call. A caller needs it, since a ring can't be asked anything while a
     /// part of it is lent.
     pub fn contiguous_unallocated(&self, offset: usize, size: usize) -> usize
-        ensures count { result ≡ contiguous_window_from self.now offset size }
+        ensures count { result ≡ contiguous_unallocated self.now offset size }
         ensures within { (result ≤ size) × (result ≤ window self.now - offset) }
         ensures not_empty { offset < window self.now → 0 < size → 0 < result }
     {
@@ -41,7 +41,7 @@ impl<T, S: Storage<T>> RingOver<T, S> {
     pub fn get_unallocated(&mut self, offset: usize, size: usize) -> &mut [T]
         ensures* writes_back { sem 𝓛 (lends_many T.row S.row S.Storage self.entry
             self.old (spare_index self.old offset) result) }
-        ensures count { length result.now ≡ contiguous_window_from self.old offset size }
+        ensures count { length result.now ≡ contiguous_unallocated self.old offset size }
         ensures not_empty { offset < window self.old → 0 < size → 0 < length result.now }
         ensures value { result.now ≡ take (length result.now) (drop offset (spare self.old)) }
         ensures each { (k : ℕ) (d : T) → offset ≤ k → k < offset + length result.now →
@@ -50,10 +50,10 @@ impl<T, S: Storage<T>> RingOver<T, S> {
             offset + length result.now ≤ length (spare self.old) }
         ensures stored { result.now
             ≡ take (length result.now) (drop (spare_index self.old offset) self.old.storage) }
-        ensures written { (ws : List T) → length ws ≡ contiguous_window_from self.old offset size →
+        ensures written { (ws : List T) → length ws ≡ contiguous_unallocated self.old offset size →
             WritesSpare self.old offset ws
             (with_elements self.old (spare_index self.old offset) ws) }
-        ensures call { (ws : List T) → length ws ≡ contiguous_window_from self.old offset size →
+        ensures call { (ws : List T) → length ws ≡ contiguous_unallocated self.old offset size →
             Makes (GetUnallocated offset ws) self.old
             (with_elements self.old (spare_index self.old offset) ws) }
     {

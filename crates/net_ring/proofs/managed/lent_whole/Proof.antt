@@ -1,149 +1,36 @@
 -- `lent_whole` lends all of what a `&mut [T]` points at, for every T.
-use mathlib.Core.Path.{◌≡◌, refl, sym}
-use Prim.Native.Nat.{ℕ}
-use mathlib.Core.List.{List, [], ◌∷◌, ◌++◌, append-nil}
-use lib.ListN.{length}
-use seplogic.Ra.Ura.{Ura}
-use mir.Syntax.{Args, Fn, Ty, named, erased, mut, a_type, ty_ref, ty_param}
-use mir.MapTy.{inst_fn}
-use mir.Val.{Val, vptr}
-use base.Logic.{SProp, ent}
-use base.Fraction.{full_share}
-use base.Fml.{Lft, GName, Share, ftrue, fat, flft}
-use mir.Raw.{raw as bare}
-use prog.Memory.{Memory}
-use prog.Routine.{Routine}
-use prog.Wp.{Calls, Loops, WpFn, Tables}
-use types.Logic.{Logic}
-use contract.BorrowLft.{◌⊑◌}
-use contract.Lifetimes.{AllOutlive}
-use contract.Monad.{Fun}
-use contract.Running.{tables, tables_of}
-use sound.WpLaws.{WpFn-mono}
-use types.Kit.{‵, ◌⊛◌, raw, given, some, later, ◌$◌, ◌∵◌, !, qed, by, move, keep, drop, split}
-use types.Kit.{split3, join, fsplit, fsplit3, fjoin, rewrite, use1, use2, use3, await, pick}
-use types.Kit.{suffices, frame, done}
-use types.Part.{whole, sub, look_in, agg}
-use types.Run.{stop, fld, hop, addr, of_opd, load, no_more, and_then, returns, enter}
-use types.ByLocal.{alloc_all, pass_all, free_all, look_at, get, through, sets}
-use denote.Exit.{no}
-use denote.Follow.{follows, follows_then}
-use denote.Through.{lends_inner_slice, renamed}
-use denote.Array.{Array}
-use denote.Laws.{shows}
-use denote.Param.{param, layouts}
-use denote.RattleType.{RattleType, owns}
-use denote.Ref.{MutBor, MutRef, at_last, mut_vals, mut_Tells}
-use denote.Memory.{cell_at}
-use denote.Signature.{plain, mut_ref_to, mut_slice_of}
-use denote.Slice.{slice_ty, MutSlice, Room, slice_val, mut_slice_vals}
-use denote.Steps.{nothing, opens, closes, peeks}
-use denote.Triple.Clauses.{Clauses, Ended, closing}
-use denote.Triple.Entry.{on_entry}
-use denote.Triple.Spec.{Meets, triple_of}
-use denote.Triple.Table.{entered}
-use denote.Triple.Walked.{says, Stays, stay_dropped, walk_of, ends_at, walked, Goes-spent_ref, walk_Meets}
-use Rattle.net_ring.specs.Overwrite.{overwrite}
-use Rattle.net_ring.proofs.Relend.{part_lent, lends_part}
-use Rattle.net_ring.specs.contracts.managed.lent_whole as F
-use Rattle.net_ring.specs.contracts.managed.lent_whole.Key.{name as #self}
-use Rattle.net_ring.proofs.managed.lent_whole.Statement as stated
+use Rattle.net_ring.proofs.Walks.{refl, sym, List, [], ◌∷◌, append-nil, length, named, a_type, inst_fn, Val, full_share, ftrue, fat, flft, ‵, ◌⊛◌, raw, ◌$◌, ◌∵◌, !, qed, move, keep, split, join, fsplit, fsplit3, fjoin, rewrite, use1, suffices, frame, done, whole, sub, look_in, agg, stop, fld, hop, addr, of_opd, load, no_more, and_then, returns, enter, alloc_all, pass_all, free_all, look_at, get, through, sets, no, shows, param, layouts, RattleType, owns, MutBor, MutRef, mut_vals, mut_Tells, cell_at, plain, mut_slice_of, MutSlice, slice_val, nothing, opens, closes, peeks, says, Stays, stay_dropped, walk_of, ends_at, Goes-spent_ref, proved, bare}
+use Rattle.net_ring.proofs.Relend.{words_ty, lends_run}
+use Rattle.net_ring.specs.contracts.managed.lent_whole as f
+use Rattle.net_ring.proofs.managed.lent_whole.Statement.{statement}
 use Rattle.net_ring.proofs.managed.lent_whole.Code as code
 
-abbrev written : Ty
-written = slice_ty (ty_ref erased mut (ty_param 0))
-
-module _ (X : RattleType) where
-  abbrev args : Args
-  args = layouts (a_type ∷ []) (X, tt)
-
-  abbrev function : Fn
-  function = inst_fn args code.function
-
-  abbrev R : RattleType
-  R = param 0 X
-
-  abbrev ended : Ended
-  ended = F.ended X
-
-  abbrev stayed : Stays ended.signature.params ended.kept
-  stayed = (stay_dropped (mut_ref_to (0 ∷ []) tt (mut_slice_of (1 ∷ []) tt (plain (λ _. R)))) no, tt)
-
-module _ (X : RattleType) {M : Type 1} {𝓤 : Ura M} (𝓛 : Logic 𝓤) (at_mem : Memory → SProp 𝓤) (run : Routine → Fun 𝓤) where
-  open 𝓛 use {H}
-
-  abbrev clauses : Clauses 𝓤 (ended X)
-  clauses = F.clauses X 𝓛 at_mem run
-
-  module _ (C : Calls 𝓤 H) (Λ : Loops 𝓤 H) (κ κA κT : Lft) (q qA qT : Share) (bd : AllOutlive 3 (ended X).signature.outlives (κ, (κA, (κT, tt))))
-      (self : MutBor (MutBor (List (R X).Denot))) where
-    abbrev inner : MutBor (List (R X).Denot)
-    inner = self.now
-
-    abbrev xs : List (R X).Denot
-    xs = inner.now
-
-    abbrev Sl : RattleType
-    Sl = MutSlice (named 1) κA (R X)
-
-    abbrev bound : (walk_of 𝓛 (ended X) (stayed X) clauses).Ghost
-    bound = (((κ, (κA, (κT, tt))), (q, (qA, (qT, tt))), bd, (self, tt), (mut_vals self, tt)), tt)
-
-    abbrev Post : Val → SProp 𝓤
-    Post = (walk_of 𝓛 (ended X) (stayed X) clauses).post bound
-
-    walk : ent 𝓤 (on_entry 𝓛 (ended X).signature (κ, (κA, (κT, tt))) (q, (qA, (qT, tt))) (self, tt) (mut_vals self, tt))
-        (WpFn 𝓤 H C Λ (function X) (vptr self.ref_ptr.0 self.ref_ptr.1 ∷ []) Post)
-    walk =
-        let b : ℕ = self.ref_ptr.0 in
-        let o : ℕ = self.ref_ptr.1 in
-        let c : ℕ = inner.ref_ptr.0 in
-        let d : ℕ = inner.ref_ptr.1 in
-        let cut : xs ≡ [] ++ (xs ++ []) = sym (append-nil xs) in
-        qed 𝓛 ((‵ (flft κ q) ⊛ ‵ (flft κA qA) ⊛ ‵ (flft κT qT) ⊛ ‵ ftrue) ∷ ‵ (owns (MutRef (named 0) κ Sl ∷ []) (self, tt) (mut_vals self, tt)) ∷ []) ∵
-        split ! $ move ! (2 ∷ []) $ fsplit ! $ fsplit3 ! $ move ! (1 ∷ 2 ∷ 4 ∷ []) $
-        enter ! C Λ (function X) (vptr b o ∷ []) _ $
-        alloc_all ! (λ l. pass_all ! refl ((tt, tt), tt) $
-        opens ! tt Sl b o (λ us. move ! (1 ∷ []) $ peeks ! Sl _ (shows 𝓛 Sl) inner us (λ ok.
-        let Cell = λ (vs : List Val). ‵ (cell_at full_share Sl.mir vs b o) in
-        let rm : Room (R X) (length xs) = ok.0.1 in
-        let v : Val = slice_val (c, d) (length xs) in
-        rewrite ! 1 Cell ok.0.0 refl $ move ! (1 ∷ []) $
-        use1 𝓛 (‵ (fat full_share written b o v)) (𝓛.laws.raw_at full_share written b o v) $
-        sets ! (of_opd ! (load ! (through ! refl (fld ! refl (stop !))) (look_in ! 0 (sub ! 1 refl (whole !))))) refl (tt, record { fits = rm.0 }) $
-        sets ! (addr ! (through ! refl (fld ! refl (hop ! (look_in ! 0 (sub ! 0 refl (whole !))) (stop !))))) refl (tt, tt) $
-        use1 𝓛 (‵ (fat full_share (bare written) b o v)) (𝓛.laws.at_raw full_share written b o v) $
-        rewrite ! 0 Cell (sym ok.0.0) refl $ closes ! tt Sl inner us b o $
-        sets ! (agg ! (and_then ! (get ! refl) (and_then ! (get ! refl) (no_more !)))) refl (tt, (tt, (record { fits = rm.0 }, tt))) $
-        let γ : GName = self.ghost_name in
-        use3 𝓛 (later (some (λ (δ : GName). ‵ ((MutSlice (named 0) κ (R X)).own_val (renamed inner δ) (mut_slice_vals inner)) ⊛ ‵ (flft κ q) ⊛
-        ‵ (follows Sl (Array (R X) 0) γ δ (at_last inner)))))
-        (lends_inner_slice 𝓛 (R X) (named 0) (named 1) κ κA self bd.0 rm q) $ await ! tt $ pick ! (λ δ. split3 ! $ move ! (0 ∷ 1 ∷ []) $
-        use2 𝓛 (later (some (part_lent 𝓛 (named 0) κ q c d δ (R X) 0 xs [] xs [] cut refl d refl rm)))
-        (lends_part 𝓛 (named 0) κ q c d δ (R X) 0 xs [] xs [] cut refl d refl rm (mut_slice_vals inner)) $ await ! tt $ pick ! (λ δ'. split3 ! $
-        let r : MutBor (List (R X).Denot) = record { ref_ptr = (c, d); ghost_name = δ'; now = xs } in
-        move ! (3 ∷ 2 ∷ []) $
-        use2 𝓛 (‵ (follows Sl (Array (R X) 0) γ δ' (λ w. at_last inner (overwrite xs 0 w))))
-        (follows_then 𝓛 Sl (Array (R X) 0) (Array (R X) 0) (at_last inner) (overwrite xs 0) γ δ δ') $
-        returns ! (look_at ! 0 refl) $ free_all ! refl $ keep ! (1 ∷ 2 ∷ 0 ∷ 5 ∷ []) $
-        suffices ! _ (ends_at 𝓛 (ended X) (stayed X) clauses bound (slice_val (c, d) (length xs)) r (tt, tt) (tt, tt)) $
-        nothing ! $ nothing ! $ fjoin ! $ join ! $ move ! (1 ∷ 3 ∷ []) $ join ! $ join ! $ frame ! $ says ! refl $ done !)))))
-
-  meets : (𝓣 : Tables 𝓤 H) → Meets 𝓛 (ended X).signature (WpFn 𝓤 H 𝓣.C 𝓣.Λ (function X)) (closing 𝓛 (ended X) clauses)
-  meets 𝓣 =
-      walk_Meets 𝓛 (ended X) (stayed X)
-      (Goes-spent_ref 𝓛 3 (0 ∷ []) tt (mut_slice_of (1 ∷ []) tt (plain (λ _. R X))), tt) clauses (WpFn 𝓤 H 𝓣.C 𝓣.Λ (function X))
-      (WpFn-mono 𝓤 H 𝓛.laws 𝓣 (function X))
-      (walked 𝓛 (ended X) (stayed X) clauses (WpFn 𝓤 H 𝓣.C 𝓣.Λ (function X)) (λ κs. (mut_vals, tt))
-      (λ κs. (mut_Tells (named 0) κs.0 (MutSlice (named 1) κs.1.0 (R X)), tt))
-      (λ κs qs bounds a g are.
-      let On : SProp 𝓤 = on_entry 𝓛 (ended X).signature κs qs a (mut_vals a.0, tt) in
-      qed 𝓛 (raw On ∷ (given (κs.1.1.0 ⊑ X.lives) (‵ ftrue) ⊛ ‵ ftrue) ∷ []) ∵ move ! (1 ∷ []) $ drop ! $
-      by ! (walk 𝓣.C 𝓣.Λ κs.0 κs.1.0 κs.1.1.0 qs.0 qs.1.0 qs.1.1.0 bounds a.0)))
-
-pub lent_whole_spec : {M : Type 1} → stated.statement M
-unfolding tables_of
+pub lent_whole_spec : {M : Type 1} → statement M
 lent_whole_spec 𝓤 𝓛 𝓜 𝓡 wired X L =
-    let 𝓣 : Tables 𝓤 𝓛.H = tables_of 𝓤 𝓛.H 𝓜 (tables 𝓤 𝓛.H 𝓜 𝓡 𝓡.env) in
-    entered 𝓤 𝓛.H (triple_of 𝓛 (ended X).signature (closing 𝓛 (ended X) (clauses X 𝓛 𝓜.mem 𝓡.returns))) 𝓣.C 𝓣.Λ (#self (args X)) (function X)
-    (code.unfolded 𝓤 𝓛.H 𝓜 𝓡 wired (X, tt)) (meets X 𝓛 𝓜.mem 𝓡.returns 𝓣)
+    let R : RattleType = param 0 X in let args = layouts (a_type ∷ []) (X, tt) in let fn = inst_fn args code.function in
+    let E = f.ended X in let c = f.clauses X 𝓛 𝓜.mem 𝓡.returns in
+    let hs : Stays E.signature.params E.kept = (stay_dropped _ no, tt) in
+    proved 𝓛 E hs c 𝓜 𝓡 (Goes-spent_ref 𝓛 3 (0 ∷ []) tt (mut_slice_of (1 ∷ []) tt (plain (λ _. R))), tt) (f.Key.name args) fn
+    (code.unfolded 𝓤 𝓛.H 𝓜 𝓡 wired (X, tt))
+    (λ κs. (mut_vals, tt)) (λ κs. (mut_Tells (named 0) κs.0 (MutSlice (named 1) κs.1.0 R), tt)) (λ κs qs bounds a g are.
+    let κ = κs.0 in let q = qs.0 in let b = a.0.ref_ptr.0 in let o = a.0.ref_ptr.1 in let vs = mut_vals a.0 in
+    let inner : MutBor (List R.Denot) = a.0.now in let xs : List R.Denot = inner.now in let v : Val = slice_val inner.ref_ptr (length xs) in
+    let Sl : RattleType = MutSlice (named 1) κs.1.0 R in let Cell = λ (us : List Val). ‵ (cell_at full_share Sl.mir us b o) in
+    let y : (walk_of 𝓛 E hs c).Ghost = ((κs, qs, bounds, a, (vs, tt)), g) in
+    qed 𝓛 (((‵ (flft κ q) ⊛ ‵ (flft κs.1.0 qs.1.0) ⊛ ‵ (flft κs.1.1.0 qs.1.1.0) ⊛ ‵ ftrue) ⊛ ‵ (owns (MutRef (named 0) κ Sl ∷ []) a (vs, tt))) ∷
+    raw ((c κs a).requires g) ∷ []) ∵
+    split ! $ split ! $ move ! (2 ∷ []) $ fsplit ! $ fsplit3 ! $ keep ! (1 ∷ 2 ∷ 4 ∷ 5 ∷ []) $
+    enter ! _ _ _ _ _ $ alloc_all ! (λ l. pass_all ! refl ((tt, tt), tt) $
+    opens ! tt Sl b o (λ us. move ! (1 ∷ []) $ peeks ! Sl _ (shows 𝓛 Sl) inner us (λ ok.
+    rewrite ! 1 Cell ok.0.0 refl $ move ! (1 ∷ []) $ use1 𝓛 (‵ (fat full_share words_ty b o v)) (𝓛.laws.raw_at full_share words_ty b o v) $
+    -- [the slice's words; ..]
+    sets ! (of_opd ! (load ! (through ! refl (fld ! refl (stop !))) (look_in ! 0 (sub ! 1 refl (whole !))))) refl (tt, record { fits = ok.0.1.0 }) $
+    sets ! (addr ! (through ! refl (fld ! refl (hop ! (look_in ! 0 (sub ! 0 refl (whole !))) (stop !))))) refl (tt, tt) $
+    use1 𝓛 (‵ (fat full_share (bare words_ty) b o v)) (𝓛.laws.at_raw full_share words_ty b o v) $
+    rewrite ! 0 Cell (sym ok.0.0) refl $ closes ! tt Sl inner us b o $
+    sets ! (agg ! (and_then ! (get ! refl) (and_then ! (get ! refl) (no_more !)))) refl (tt, (tt, (record { fits = ok.0.1.0 }, tt))) $
+    lends_run ! tt R κs.1.0 bounds.0 a.0 ok.0.1 0 [] xs [] (sym (append-nil xs)) refl inner.ref_ptr.1 refl ok.0.1 (λ δ.
+    -- [the loan; its token; what the reference follows; the other tokens]
+    let r : MutBor (List R.Denot) = record { ref_ptr = inner.ref_ptr; ghost_name = δ; now = xs } in
+    returns ! (look_at ! 0 refl) $ free_all ! refl $ keep ! (0 ∷ 1 ∷ 2 ∷ 3 ∷ []) $ suffices ! _ (ends_at 𝓛 E hs c y v r (tt, tt) (tt, tt)) $
+    nothing ! $ nothing ! $ fjoin ! $ join ! $ move ! (1 ∷ 3 ∷ []) $ join ! $ join ! $ frame ! $ says ! refl $ done !)))))

@@ -1,171 +1,54 @@
 -- `element_mut` at a `&mut [T]` lends an element of what the reference points at, for every T.
-use mathlib.Core.Path.{◌≡◌, refl, sym, subst, ap, ◌∙◌}
-use Prim.Native.Nat.{ℕ, ◌+◌, ◌-◌, ◌*◌, ◌^◌, ◌<◌, ◌≤◌}
-use native.Mathlib.Nat.{mul-le-mul_right}
-use native.Mathlib.Omega.{arith}
-use mathlib.Core.List.{List, [], ◌∷◌, ◌++◌}
-use lib.ListN.{length, take, drop as drop_list, take-append-drop, length-drop}
-use seplogic.Ra.Ura.{Ura}
-use mir.Syntax.{Args, Fn, Ty, named, erased, mut, w64, a_type, ty_ref, ty_param}
-use mir.MapTy.{inst_fn}
-use mir.Val.{Val, vptr, vint}
-use base.Logic.{SProp, ent}
-use base.Fraction.{full_share}
-use base.Fml.{Lft, GName, Share, ftrue, fat, flft}
-use mir.Raw.{raw as bare}
-use prog.Memory.{Memory, size}
-use prog.Routine.{Routine}
-use prog.Wp.{Calls, Loops, WpFn, Tables}
-use types.Logic.{Logic}
-use contract.BorrowLft.{◌⊑◌}
-use contract.Lifetimes.{AllOutlive}
-use contract.Monad.{Fun}
-use contract.Running.{tables, tables_of}
-use sound.WpLaws.{WpFn-mono}
-use types.Kit.{‵, ◌⊛◌, raw, given, some, later, ◌$◌, ◌∵◌, !, qed, by, move, keep, drop, split}
-use types.Kit.{split3, join, learn, fsplit, fsplit3, fjoin, rewrite, use1, use2, use3, await, pick}
-use types.Kit.{suffices, frame, done}
-use types.Part.{whole, sub, look_in}
-use types.Run.{stop, fld, addr, bin, load, returns, enter, size_word}
-use types.ByLocal.{alloc_all, pass_all, free_all, look_at, get, through, sets, is}
-use denote.Builtin.{usize}
-use denote.Exit.{yes, no}
-use denote.Follow.{follows, follows_then}
-use denote.Through.{lends_inner_slice, renamed}
-use denote.Array.{Array}
-use denote.Laws.{shows}
-use denote.Param.{param, layout, layouts}
-use denote.Plain.{uint_vals, uint_Tells}
-use denote.RattleType.{RattleType, owns}
-use denote.Ref.{MutBor, MutRef, at_last, mut_vals, mut_Tells}
-use denote.Memory.{cell_at}
-use denote.Signature.{plain, mut_ref_to, mut_slice_of}
-use denote.Slice.{slice_ty, MutSlice, Room, slice_val, mut_slice_vals}
-use denote.Steps.{nothing, opens, closes, peeks}
-use denote.Triple.Clauses.{Clauses, Ended, closing}
-use denote.Triple.Entry.{on_entry}
-use denote.Triple.Spec.{Meets, triple_of}
-use denote.Triple.Table.{entered}
-use denote.Triple.Walked.{says, Stays, stay_dropped, walk_of, ends_at, walked, Goes-dropped, Goes-spent_ref, walk_Meets}
-use borrow.Table.Elements.{at, at_mul, length-take-le}
-use Rattle.net_ring.proofs.Rotations.{cut_prefix}
-use lib.ListN.{set}
-use Rattle.net_ring.proofs.Relend.{uncapped, element_lent, lends_element, here_or}
-use Rattle.net_ring.specs.contracts.managed.RefMutSliceStorage.element_mut as F
-use Rattle.net_ring.specs.contracts.managed.RefMutSliceStorage.element_mut.Key.{name as #self}
-use Rattle.net_ring.proofs.managed.RefMutSliceStorage.element_mut.Statement as stated
+use Rattle.net_ring.proofs.Walks.{refl, sym, ℕ, List, [], ◌∷◌, length, named, a_type, inst_fn, Val, vptr, full_share, GName, ftrue, fat, flft, ◌⊑◌, ‵, ◌⊛◌, given, some, later, ◌$◌, ◌∵◌, !, qed, move, keep, drop, split, split3, join, fsplit, fsplit3, fjoin, rewrite, use1, use2, use3, await, pick, suffices, frame, done, whole, sub, look_in, stop, fld, addr, load, returns, enter, alloc_all, pass_all, free_all, look_at, get, through, sets, no, follows, follows_then, lends_inner_slice, renamed, Array, shows, param, layouts, RattleType, owns, MutBor, MutRef, at_last, mut_vals, mut_Tells, cell_at, plain, mut_slice_of, MutSlice, slice_val, mut_slice_vals, nothing, opens, closes, peeks, says, Stays, stay_dropped, walk_of, ends_at, Goes-spent_ref, subst, ap, ◌+◌, ◌^◌, ◌<◌, w64, vint, learn, usize, yes, mem, uint_vals, uint_Tells, Goes-dropped, ◌*◌, arith, size, bin, size_word, is, layout, at_mul, uncapped, set, coded_list, fobs, fbor, fjoin3, feq_i, Body, heres_id, proved, takes_at, bare}
+use Rattle.net_ring.proofs.Relend.{words_ty, run_fits, element_at}
+use Rattle.net_ring.specs.contracts.managed.RefMutSliceStorage.element_mut as f
+use Rattle.net_ring.proofs.managed.RefMutSliceStorage.element_mut.Statement.{statement}
 use Rattle.net_ring.proofs.managed.RefMutSliceStorage.element_mut.Code as code
 
-abbrev written : Ty
-written = slice_ty (ty_ref erased mut (ty_param 0))
-
-module _ (X : RattleType) where
-  abbrev args : Args
-  args = layouts (a_type ∷ []) (X, tt)
-
-  abbrev function : Fn
-  function = inst_fn args code.function
-
-  abbrev R : RattleType
-  R = param 0 X
-
-  abbrev ended : Ended
-  ended = F.ended X
-
-  abbrev stayed : Stays ended.signature.params ended.kept
-  stayed = (stay_dropped (mut_ref_to (0 ∷ []) tt (mut_slice_of (1 ∷ []) tt (plain (λ _. R)))) no, (stay_dropped (plain (λ _. usize)) yes, tt))
-
-module _ (X : RattleType) {M : Type 1} {𝓤 : Ura M} (𝓛 : Logic 𝓤) (at_mem : Memory → SProp 𝓤) (run : Routine → Fun 𝓤) where
-  open 𝓛 use {H}
-
-  abbrev clauses : Clauses 𝓤 (ended X)
-  clauses = F.clauses X 𝓛 at_mem run
-
-  module _ (C : Calls 𝓤 H) (Λ : Loops 𝓤 H) (κ κA κT : Lft) (q qA qT : Share) (bd : AllOutlive 3 (ended X).signature.outlives (κ, (κA, (κT, tt))))
-      (self : MutBor (MutBor (List (R X).Denot))) (m : ℕ) where
-    abbrev inner : MutBor (List (R X).Denot)
-    inner = self.now
-
-    abbrev xs : List (R X).Denot
-    xs = inner.now
-
-    abbrev Sl : RattleType
-    Sl = MutSlice (named 1) κA (R X)
-
-    abbrev bound : (walk_of 𝓛 (ended X) (stayed X) clauses).Ghost
-    bound = (((κ, (κA, (κT, tt))), (q, (qA, (qT, tt))), bd, (self, (m, tt)), (mut_vals self, (vint w64 m ∷ [], tt))), tt)
-
-    abbrev Post : Val → SProp 𝓤
-    Post = (walk_of 𝓛 (ended X) (stayed X) clauses).post bound
-
-    walk : m < 2 ^ 64 → m < length xs
-        → ent 𝓤 (on_entry 𝓛 (ended X).signature (κ, (κA, (κT, tt))) (q, (qA, (qT, tt))) (self, (m, tt)) (mut_vals self, (vint w64 m ∷ [], tt)))
-        (WpFn 𝓤 H C Λ (function X) (vptr self.ref_ptr.0 self.ref_ptr.1 ∷ vint w64 m ∷ []) Post)
-    walk fm el =
-        let b : ℕ = self.ref_ptr.0 in
-        let o : ℕ = self.ref_ptr.1 in
-        let c : ℕ = inner.ref_ptr.0 in
-        let d : ℕ = inner.ref_ptr.1 in
-        let s : ℕ = size (layout X) in
-        let prefix : List X.Denot = take m xs in
-        let lf : length prefix ≡ m = length-take-le m xs (omega arith) in
-        let lb : length (drop_list m xs) ≡ length xs - m = length-drop m xs in
-        let first = cut_prefix (drop_list m xs) (omega arith) in
-        let x : X.Denot = first.0 in
-        let back : List X.Denot = first.1 in
-        let cut : xs ≡ prefix ++ (x ∷ back) = sym (take-append-drop m xs) ∙ ap (λ (l : List X.Denot). prefix ++ l) first.2 in
-        let on : at d s (length prefix) ≡ m * s + d = at_mul d s (length prefix) ∙ ap (λ (k : ℕ). k * s + d) lf in
-        qed 𝓛 ((‵ (flft κ q) ⊛ ‵ (flft κA qA) ⊛ ‵ (flft κT qT) ⊛ ‵ ftrue) ∷
-        ‵ (owns (MutRef (named 0) κ Sl ∷ usize ∷ []) (self, (m, tt)) (mut_vals self, (vint w64 m ∷ [], tt))) ∷ []) ∵
-        split ! $ move ! (2 ∷ []) $ fsplit ! $ fsplit3 ! $ move ! (1 ∷ 2 ∷ 4 ∷ []) $
-        enter ! C Λ (function X) (vptr b o ∷ vint w64 m ∷ []) _ $
-        alloc_all ! (λ l. pass_all ! refl ((tt, tt), ((tt, record { fits = fm }), tt)) $
-        opens ! tt Sl b o (λ us. move ! (1 ∷ []) $ peeks ! Sl _ (shows 𝓛 Sl) inner us (λ ok.
-        let Cell = λ (vs : List Val). ‵ (cell_at full_share Sl.mir vs b o) in
-        let rm : Room (R X) (length xs) = ok.0.1 in
-        let fit : length xs * s < 2 ^ 63 = rm.1 in
-        let within : m * s ≤ length xs * s = mul-le-mul_right s (omega arith) in
-        let fs : m * s < 2 ^ 64 = omega arith in
-        let v : Val = slice_val (c, d) (length xs) in
-        rewrite ! 1 Cell ok.0.0 refl $ move ! (1 ∷ []) $
-        use1 𝓛 (‵ (fat full_share written b o v)) (𝓛.laws.raw_at full_share written b o v) $
-        sets ! (is ! (bin ! (get ! refl) (size_word !) (record { fits = subst (λ (k : ℕ). k < 2 ^ 64) (sym (uncapped m s fs)) fs }))
-        (ap (vint w64) (uncapped m s fs))) refl (tt, record { fits = fs }) $
-        sets ! (bin ! (load ! (through ! refl (fld ! refl (stop !))) (look_in ! 0 (sub ! 0 refl (whole !)))) (get ! refl) tt) refl (tt, tt) $
-        use1 𝓛 (‵ (fat full_share (bare written) b o v)) (𝓛.laws.at_raw full_share written b o v) $
-        rewrite ! 0 Cell (sym ok.0.0) refl $ closes ! tt Sl inner us b o $
-        sets ! (addr ! (through ! refl (stop !))) refl (tt, tt) $
-        let γ : GName = self.ghost_name in
-        let p : ℕ = m * s + d in
-        use3 𝓛 (later (some (λ (δ : GName). ‵ ((MutSlice (named 0) κ (R X)).own_val (renamed inner δ) (mut_slice_vals inner)) ⊛ ‵ (flft κ q) ⊛
-        ‵ (follows Sl (Array (R X) 0) γ δ (at_last inner)))))
-        (lends_inner_slice 𝓛 (R X) (named 0) (named 1) κ κA self bd.0 rm q) $ await ! tt $ pick ! (λ δ. split3 ! $ move ! (0 ∷ 1 ∷ []) $
-        use2 𝓛 (later (some (element_lent 𝓛 (named 0) κ q c d δ (R X) m xs prefix x back cut lf p on)))
-        (lends_element 𝓛 (named 0) κ q c d δ (R X) m xs prefix x back cut lf p on (mut_slice_vals inner)) $ await ! tt $ pick ! (λ δ'. split3 ! $
-        let r : MutBor (R X).Denot = record { ref_ptr = (c, p); ghost_name = δ'; now = x } in
-        move ! (3 ∷ 2 ∷ []) $
-        use2 𝓛 (‵ (follows Sl (R X) γ δ' (λ w. at_last inner (set xs m w)))) (follows_then 𝓛 Sl (Array (R X) 0) (R X) (at_last inner) (set xs m) γ δ δ') $
-        returns ! (look_at ! 0 refl) $ free_all ! refl $ keep ! (1 ∷ 2 ∷ 0 ∷ 5 ∷ []) $
-        suffices ! _ (ends_at 𝓛 (ended X) (stayed X) clauses bound (vptr c p) r (tt, (tt, tt)) (tt, (tt, tt))) $
-        nothing ! $ nothing ! $ fjoin ! $ nothing ! $ fjoin ! $ join ! $ move ! (1 ∷ 3 ∷ []) $ join ! $ join ! $ frame ! $
-        says ! (here_or prefix back x xs m lf cut) $ done !)))))
-
-  meets : (𝓣 : Tables 𝓤 H) → Meets 𝓛 (ended X).signature (WpFn 𝓤 H 𝓣.C 𝓣.Λ (function X)) (closing 𝓛 (ended X) clauses)
-  meets 𝓣 =
-      walk_Meets 𝓛 (ended X) (stayed X)
-      (Goes-spent_ref 𝓛 3 (0 ∷ []) tt (mut_slice_of (1 ∷ []) tt (plain (λ _. R X))), (Goes-dropped 𝓛 3 (plain (λ _. usize)) yes (λ κs x f. refl), tt))
-      clauses (WpFn 𝓤 H 𝓣.C 𝓣.Λ (function X)) (WpFn-mono 𝓤 H 𝓛.laws 𝓣 (function X))
-      (walked 𝓛 (ended X) (stayed X) clauses (WpFn 𝓤 H 𝓣.C 𝓣.Λ (function X)) (λ κs. (mut_vals, (uint_vals w64, tt)))
-      (λ κs. (mut_Tells (named 0) κs.0 (MutSlice (named 1) κs.1.0 (R X)), (uint_Tells w64, tt)))
-      (λ κs qs bounds a g are.
-      let On : SProp 𝓤 = on_entry 𝓛 (ended X).signature κs qs a (mut_vals a.0, (vint w64 a.1.0 ∷ [], tt)) in
-      qed 𝓛 (raw On ∷ (given (κs.1.1.0 ⊑ X.lives) (‵ ftrue) ⊛ given (a.1.0 < length a.0.now.now) (‵ ftrue)) ∷ []) ∵
-      move ! (1 ∷ []) $ split ! $ drop ! $ learn ! (λ le. drop ! $
-      by ! (walk 𝓣.C 𝓣.Λ κs.0 κs.1.0 κs.1.1.0 qs.0 qs.1.0 qs.1.1.0 bounds a.0 a.1.0 are.1.0.1 le))))
-
-pub element_mut_spec : {M : Type 1} → stated.statement M
-unfolding tables_of
+pub element_mut_spec : {M : Type 1} → statement M
 element_mut_spec 𝓤 𝓛 𝓜 𝓡 wired X L =
-    let 𝓣 : Tables 𝓤 𝓛.H = tables_of 𝓤 𝓛.H 𝓜 (tables 𝓤 𝓛.H 𝓜 𝓡 𝓡.env) in
-    entered 𝓤 𝓛.H (triple_of 𝓛 (ended X).signature (closing 𝓛 (ended X) (clauses X 𝓛 𝓜.mem 𝓡.returns))) 𝓣.C 𝓣.Λ (#self (args X)) (function X)
-    (code.unfolded 𝓤 𝓛.H 𝓜 𝓡 wired (X, tt)) (meets X 𝓛 𝓜.mem 𝓡.returns 𝓣)
+    let R : RattleType = param 0 X in let args = layouts (a_type ∷ []) (X, tt) in let fn = inst_fn args code.function in
+    let E = f.ended X in let c = f.clauses X 𝓛 𝓜.mem 𝓡.returns in let s : ℕ = size (layout X) in
+    let hs : Stays E.signature.params E.kept = (stay_dropped _ no, (stay_dropped _ yes, tt)) in
+    proved 𝓛 E hs c 𝓜 𝓡
+    (Goes-spent_ref 𝓛 3 (0 ∷ []) tt (mut_slice_of (1 ∷ []) tt (plain (λ _. R))), (Goes-dropped 𝓛 3 (plain (λ _. usize)) yes (λ κs x w. refl), tt))
+    (f.Key.name args) fn (code.unfolded 𝓤 𝓛.H 𝓜 𝓡 wired (X, tt)) (λ κs. (mut_vals, (uint_vals w64, tt)))
+    (λ κs. (mut_Tells (named 0) κs.0 (MutSlice (named 1) κs.1.0 R), (uint_Tells w64, tt))) (λ κs qs bounds a g are.
+    let κ = κs.0 in let q = qs.0 in let b = a.0.ref_ptr.0 in let o = a.0.ref_ptr.1 in let m : ℕ = a.1.0 in
+    let vss : List Val × (List Val × Unit {0}) = (mut_vals a.0, (vint w64 m ∷ [], tt)) in
+    let inner : MutBor (List R.Denot) = a.0.now in let xs : List R.Denot = inner.now in let v : Val = slice_val inner.ref_ptr (length xs) in
+    let Sl : RattleType = MutSlice (named 1) κs.1.0 R in let Cell = λ (us : List Val). ‵ (cell_at full_share Sl.mir us b o) in
+    let y : (walk_of 𝓛 E hs c).Ghost = ((κs, qs, bounds, a, vss), g) in
+    qed 𝓛 (((‵ (flft κ q) ⊛ ‵ (flft κs.1.0 qs.1.0) ⊛ ‵ (flft κs.1.1.0 qs.1.1.0) ⊛ ‵ ftrue) ⊛ ‵ (owns (MutRef (named 0) κ Sl ∷ usize ∷ []) a vss)) ∷
+    (given (κs.1.1.0 ⊑ X.lives) (‵ ftrue) ⊛ given (m < length xs) (‵ ftrue)) ∷ []) ∵
+    move ! (1 ∷ []) $ split ! $ drop ! $ learn ! (λ inside. drop ! $
+    split ! $ split ! $ move ! (2 ∷ []) $ fsplit ! $ fsplit3 ! $ keep ! (1 ∷ 2 ∷ 4 ∷ 5 ∷ []) $
+    enter ! _ _ _ _ _ $ alloc_all ! (λ l. pass_all ! refl ((tt, tt), ((tt, record { fits = are.1.0.1 }), tt)) $
+    opens ! tt Sl b o (λ us. move ! (1 ∷ []) $ peeks ! Sl _ (shows 𝓛 Sl) inner us (λ ok.
+    let fit = run_fits m m (length xs) s (omega arith, omega arith) ok.0.1 in let there = element_at xs m inside in
+    rewrite ! 1 Cell ok.0.0 refl $ move ! (1 ∷ []) $ use1 𝓛 (‵ (fat full_share words_ty b o v)) (𝓛.laws.raw_at full_share words_ty b o v) $
+    -- [the slice's words; ..]
+    sets ! (is ! (bin ! (get ! refl) (size_word !) (record { fits = subst (λ (k : ℕ). k < 2 ^ 64) (sym (uncapped m s fit.0)) fit.0 }))
+    (ap (vint w64) (uncapped m s fit.0))) refl (tt, record { fits = fit.0 }) $
+    sets ! (bin ! (load ! (through ! refl (fld ! refl (stop !))) (look_in ! 0 (sub ! 0 refl (whole !)))) (get ! refl) tt) refl (tt, tt) $
+    use1 𝓛 (‵ (fat full_share (bare words_ty) b o v)) (𝓛.laws.at_raw full_share words_ty b o v) $
+    rewrite ! 0 Cell (sym ok.0.0) refl $ closes ! tt Sl inner us b o $
+    sets ! (addr ! (through ! refl (stop !))) refl (tt, tt) $
+    use3 𝓛 (later (some (λ (δ : GName). ‵ ((MutSlice (named 0) κ R).own_val (renamed inner δ) (mut_slice_vals inner)) ⊛ ‵ (flft κ q) ⊛
+    ‵ (follows Sl (Array R 0) a.0.ghost_name δ (at_last inner)))))
+    (lends_inner_slice 𝓛 R (named 0) (named 1) κ κs.1.0 a.0 bounds.0 ok.0.1 q) $ await ! tt $ pick ! (λ δ. split3 ! $ fsplit3 ! $ drop ! $
+    rewrite ! 0 (λ (l : List R.Denot). ‵ (fobs δ ((coded_list R.coded).code l))) (heres_id R xs) refl $
+    let x : R.Denot = there.0 in let p : ℕ = m * s + inner.ref_ptr.1 in
+    use3 𝓛 (later (some (λ (δ' : GName). ‵ (fobs δ' (R.coded.code x)) ⊛ ‵ (fbor κ (Body (mem R) inner.ref_ptr.0 p δ')) ⊛ ‵ (flft κ q) ⊛
+    ‵ (follows (Array R 0) R δ δ' (set xs m)))))
+    (takes_at 𝓛 (mem R) κ (length xs) inner.ref_ptr.0 inner.ref_ptr.1 q δ xs m p x x (at_mul inner.ref_ptr.1 s m) inside there.1) $ await ! tt $
+    pick ! (λ δ'. split3 ! $ feq_i ! (List Val) (vptr inner.ref_ptr.0 p ∷ []) (vptr inner.ref_ptr.0 p ∷ []) refl $ fjoin3 ! $
+    move ! (1 ∷ []) $ split ! $ move ! (3 ∷ 1 ∷ []) $
+    use2 𝓛 (‵ (follows Sl R a.0.ghost_name δ' (λ w. at_last inner (set xs m w))))
+    (follows_then 𝓛 Sl (Array R 0) R (at_last inner) (set xs m) a.0.ghost_name δ δ') $
+    -- [what the reference follows; the token; the loan; the other tokens]
+    let r : MutBor R.Denot = record { ref_ptr = (inner.ref_ptr.0, p); ghost_name = δ'; now = x } in
+    returns ! (look_at ! 0 refl) $ free_all ! refl $ keep ! (2 ∷ 1 ∷ 0 ∷ 3 ∷ []) $
+    suffices ! _ (ends_at 𝓛 E hs c y (vptr inner.ref_ptr.0 p) r (tt, (tt, tt)) (tt, (tt, tt))) $
+    nothing ! $ nothing ! $ fjoin ! $ nothing ! $ fjoin ! $ join ! $ move ! (1 ∷ 3 ∷ []) $ join ! $ join ! $ frame ! $
+    says ! (sym there.1) $ done !)))))))

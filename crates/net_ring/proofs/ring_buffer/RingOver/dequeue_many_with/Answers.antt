@@ -4,60 +4,42 @@ use denote.MutBor.{at_last}
 use Rattle.net_ring.specs.Ring.{IsWellFormed, DequeuesFrom, queue, contiguous_queued}
 use Rattle.net_ring.specs.Place.{ring_at}
 use Rattle.net_ring.proofs.Rotations.{read_at_le}
-use Rattle.net_ring.proofs.RingFacts.{well, found, found_head, off_wf, lent_head, left_off_from}
+use Rattle.net_ring.proofs.RingFacts.{well, found, off_wf, lent_head, left_off_from}
 use Rattle.net_ring.specs.RingHistory.{Makes}
 use Rattle.net_ring.proofs.ring_buffer.RingOver.dequeue_many_with.Goals as goal
 
 pub f-answer-requires : goal.f-answer-requires
 f-answer-requires g c =
     let is = c.self.view_is in
-    let run = found_head _ _ is c.self.invariant c.capacity-capacity.result _ c.capacity-capacity.ensures.capacity c.contiguous_queue.ensures.count in
-    let lent = lent_head _ _ is c.self.invariant _ _ (ap (λ o. o.read_at) is) (omega (arith, run)) _ c.part_mut.ensures.value in
+    let lent = lent_head _ _ is c.self.invariant _ _ _ c.capacity-capacity.ensures.capacity c.contiguous_queue.ensures.count (omega arith) _
+    c.part_mut.ensures.value in
     c.requires.callable c.part_mut.result lent.0
 
 pub dequeue_contiguous-requires-clause-queued : goal.dequeue_contiguous-requires-clause-queued
 dequeue_contiguous-requires-clause-queued g c =
     let is = c.self.view_is in
-    let run = found_head _ _ is c.self.invariant c.capacity-capacity.result _ c.capacity-capacity.ensures.capacity c.contiguous_queue.ensures.count in
-    let lent = lent_head _ _ is c.self.invariant _ _ (ap (λ o. o.read_at) is) (omega (arith, run)) _ c.part_mut.ensures.value in
-    let le = c.requires.count c.f-answer.result c.f-answer.new.arg2 (record {
-      shown = c.part_mut.result;
-      shows = lent.0;
-      left =
-          at_last c.part_mut.result c.f-answer.new.arg2;
-      leaves = refl;
-      met = c.f-answer.ensures;
-    }) in
+    let lent = lent_head _ _ is c.self.invariant _ _ _ c.capacity-capacity.ensures.capacity c.contiguous_queue.ensures.count (omega arith) _
+    c.part_mut.ensures.value in
+    let le = c.requires.count c.f-answer.result c.f-answer.new.arg2
+    (record { shown = c.part_mut.result; shows = lent.0; left = at_last c.part_mut.result c.f-answer.new.arg2; leaves = refl; met = c.f-answer.ensures }) in
     omega (arith, le, ap (λ o. o.count) is)
 
 pub dequeue_contiguous-requires-clause-contiguous : goal.dequeue_contiguous-requires-clause-contiguous
 dequeue_contiguous-requires-clause-contiguous g c =
     let is = c.self.view_is in
-    let run = found_head _ _ is c.self.invariant c.capacity-capacity.result _ c.capacity-capacity.ensures.capacity c.contiguous_queue.ensures.count in
-    let lent = lent_head _ _ is c.self.invariant _ _ (ap (λ o. o.read_at) is) (omega (arith, run)) _ c.part_mut.ensures.value in
-    let le = c.requires.count c.f-answer.result c.f-answer.new.arg2 (record {
-      shown = c.part_mut.result;
-      shows = lent.0;
-      left =
-          at_last c.part_mut.result c.f-answer.new.arg2;
-      leaves = refl;
-      met = c.f-answer.ensures;
-    }) in
+    let lent = lent_head _ _ is c.self.invariant _ _ _ c.capacity-capacity.ensures.capacity c.contiguous_queue.ensures.count (omega arith) _
+    c.part_mut.ensures.value in
+    let le = c.requires.count c.f-answer.result c.f-answer.new.arg2
+    (record { shown = c.part_mut.result; shows = lent.0; left = at_last c.part_mut.result c.f-answer.new.arg2; leaves = refl; met = c.f-answer.ensures }) in
     omega (arith, le, read_at_le _ (well _ _ is c.self.invariant), ap (λ o. o.read_at) is, c.capacity-capacity.ensures.capacity)
 
 pub invariant_of-self : goal.invariant_of-self
 invariant_of-self g c =
     let is = c.self.view_is in
-    let run = found_head _ _ is c.self.invariant c.capacity-capacity.result _ c.capacity-capacity.ensures.capacity c.contiguous_queue.ensures.count in
-    let lent = lent_head _ _ is c.self.invariant _ _ (ap (λ o. o.read_at) is) (omega (arith, run)) _ c.part_mut.ensures.value in
-    let le = c.requires.count c.f-answer.result c.f-answer.new.arg2 (record {
-      shown = c.part_mut.result;
-      shows = lent.0;
-      left =
-          at_last c.part_mut.result c.f-answer.new.arg2;
-      leaves = refl;
-      met = c.f-answer.ensures;
-    }) in
+    let lent = lent_head _ _ is c.self.invariant _ _ _ c.capacity-capacity.ensures.capacity c.contiguous_queue.ensures.count (omega arith) _
+    c.part_mut.ensures.value in
+    let le = c.requires.count c.f-answer.result c.f-answer.new.arg2
+    (record { shown = c.part_mut.result; shows = lent.0; left = at_last c.part_mut.result c.f-answer.new.arg2; leaves = refl; met = c.f-answer.ensures }) in
     let old = c.args.self.now in
     let n = c.f-answer.result.0 in
     let law = g.met.S.Storage.part_written c.self.inside.storage c.self.inside.place.read_at c.f-answer.new.arg2 in
@@ -70,8 +52,8 @@ pub returns : goal.returns
 unfolding Makes
 returns g c =
     let is = c.self.view_is in
-    let run = found_head _ _ is c.self.invariant c.capacity-capacity.result _ c.capacity-capacity.ensures.capacity c.contiguous_queue.ensures.count in
-    let lent = lent_head _ _ is c.self.invariant _ _ (ap (λ o. o.read_at) is) (omega (arith, run)) _ c.part_mut.ensures.value in
+    let lent = lent_head _ _ is c.self.invariant _ _ _ c.capacity-capacity.ensures.capacity c.contiguous_queue.ensures.count (omega arith) _
+    c.part_mut.ensures.value in
     let old = c.args.self.now in
     let after = c.f-answer.new.arg2 in
     let n = c.f-answer.result.0 in

@@ -1,5 +1,5 @@
 use Rattle.std.proofs.Common.{List, ◌≡◌, ◌∙◌, refl, sym, subst, ap, length, min, arith}
-use Rattle.net_ring.specs.Ring.{IsWellFormed, index_after, capacity, from_start_if_empty, contiguous_window, write_at, with_enqueued, with_elements}
+use Rattle.net_ring.specs.Ring.{IsWellFormed, index_after, capacity, rewind_if_empty, contiguous_window, write_at, with_enqueued, with_elements}
 use Rattle.net_ring.specs.Place.{ring_at, rewound}
 use Rattle.net_ring.proofs.RingFacts.{well, found_next, rewind_wf, rewound_ring, left_in, shown_next, enqueued_law, contiguous_rewound_some, rewound_is}
 use Rattle.net_ring.proofs.Rotations.{length-overwrite}
@@ -9,11 +9,11 @@ use Rattle.net_ring.proofs.ring_buffer.RingOver.enqueue_many.Goals as goal
 pub returns : goal.returns
 unfolding Makes
 returns g c =
-    let old = from_start_if_empty c.args.self.now in
+    let old = rewind_if_empty c.args.self.now in
     let same = rewound_is c.args.self.now in
     let xs = g.S.Storage.elements c.self.inside.storage in
     let moved = rewound_ring xs c.self.inside.place in
-    let is = moved ∙ ap from_start_if_empty c.self.view_is in
+    let is = moved ∙ ap rewind_if_empty c.self.view_is in
     let wf = subst IsWellFormed (sym moved) (rewind_wf (ring_at xs c.self.inside.place) c.self.invariant) in
     let span = c.put_contiguous-span.ensures in
     let p = c.put_contiguous-span.result.from in

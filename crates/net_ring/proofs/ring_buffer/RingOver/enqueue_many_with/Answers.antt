@@ -1,56 +1,41 @@
 use Rattle.std.proofs.Common.{take, refl, sym, ap, subst, ◌∙◌, arith}
 use Rattle.std.specs.Fn.{FnOnceReturnsAtMut}
 use denote.MutBor.{at_last}
-use Rattle.net_ring.specs.Ring.{IsWellFormed, EnqueuesFrom, from_start_if_empty, capacity, spare, contiguous_window}
+use Rattle.net_ring.specs.Ring.{IsWellFormed, EnqueuesFrom, rewind_if_empty, capacity, spare, contiguous_window}
 use Rattle.net_ring.specs.Place.{ring_at}
-use Rattle.net_ring.proofs.RingFacts.{found_next, found_window, in_wf, lent_next, left_in_from}
+use Rattle.net_ring.proofs.RingFacts.{found_next, in_wf, lent_next, left_in_from}
 use Rattle.net_ring.specs.RingHistory.{Makes}
 use Rattle.net_ring.proofs.ring_buffer.RingOver.enqueue_many_with.Goals as goal
 
 pub f-answer-requires : goal.f-answer-requires
 f-answer-requires g c =
-    let old = from_start_if_empty c.args.self.now in
+    let old = rewind_if_empty c.args.self.now in
     let is = c.self.view_is ∙ c.rewind_if_empty.ensures.ring in
     let size = c.capacity-capacity.ensures.capacity ∙ ap capacity c.rewind_if_empty.ensures.ring in
-    let at = found_next _ _ is c.self.invariant c.capacity-capacity.result _ size c.index-from.ensures.index in
-    let run = found_window _ _ is c.self.invariant c.capacity-capacity.result _ size c.contiguous_window.ensures.count in
-    let lent = lent_next _ _ is c.self.invariant _ _ at (omega (arith, run)) _ c.part_mut.ensures.value in
+    let lent = lent_next _ _ is c.self.invariant _ _ _ _ size c.index-from.ensures.index c.contiguous_window.ensures.count (omega arith) _
+    c.part_mut.ensures.value in
     c.requires.callable c.part_mut.result lent.0
 
 pub enqueue-requires-clause-free : goal.enqueue-requires-clause-free
 enqueue-requires-clause-free g c =
-    let old = from_start_if_empty c.args.self.now in
+    let old = rewind_if_empty c.args.self.now in
     let is = c.self.view_is ∙ c.rewind_if_empty.ensures.ring in
     let size = c.capacity-capacity.ensures.capacity ∙ ap capacity c.rewind_if_empty.ensures.ring in
-    let at = found_next _ _ is c.self.invariant c.capacity-capacity.result _ size c.index-from.ensures.index in
-    let run = found_window _ _ is c.self.invariant c.capacity-capacity.result _ size c.contiguous_window.ensures.count in
-    let lent = lent_next _ _ is c.self.invariant _ _ at (omega (arith, run)) _ c.part_mut.ensures.value in
-    let le = c.requires.count c.f-answer.result c.f-answer.new.arg2 (record {
-      shown = c.part_mut.result;
-      shows = lent.0;
-      left =
-          at_last c.part_mut.result c.f-answer.new.arg2;
-      leaves = refl;
-      met = c.f-answer.ensures;
-    }) in
+    let lent = lent_next _ _ is c.self.invariant _ _ _ _ size c.index-from.ensures.index c.contiguous_window.ensures.count (omega arith) _
+    c.part_mut.ensures.value in
+    let le = c.requires.count c.f-answer.result c.f-answer.new.arg2
+    (record { shown = c.part_mut.result; shows = lent.0; left = at_last c.part_mut.result c.f-answer.new.arg2; leaves = refl; met = c.f-answer.ensures }) in
     omega (arith, le, size, ap (λ o. o.count) is)
 
 pub invariant_of-self : goal.invariant_of-self
 invariant_of-self g c =
-    let old = from_start_if_empty c.args.self.now in
+    let old = rewind_if_empty c.args.self.now in
     let is = c.self.view_is ∙ c.rewind_if_empty.ensures.ring in
     let size = c.capacity-capacity.ensures.capacity ∙ ap capacity c.rewind_if_empty.ensures.ring in
-    let at = found_next _ _ is c.self.invariant c.capacity-capacity.result _ size c.index-from.ensures.index in
-    let run = found_window _ _ is c.self.invariant c.capacity-capacity.result _ size c.contiguous_window.ensures.count in
-    let lent = lent_next _ _ is c.self.invariant _ _ at (omega (arith, run)) _ c.part_mut.ensures.value in
-    let le = c.requires.count c.f-answer.result c.f-answer.new.arg2 (record {
-      shown = c.part_mut.result;
-      shows = lent.0;
-      left =
-          at_last c.part_mut.result c.f-answer.new.arg2;
-      leaves = refl;
-      met = c.f-answer.ensures;
-    }) in
+    let lent = lent_next _ _ is c.self.invariant _ _ _ _ size c.index-from.ensures.index c.contiguous_window.ensures.count (omega arith) _
+    c.part_mut.ensures.value in
+    let le = c.requires.count c.f-answer.result c.f-answer.new.arg2
+    (record { shown = c.part_mut.result; shows = lent.0; left = at_last c.part_mut.result c.f-answer.new.arg2; leaves = refl; met = c.f-answer.ensures }) in
     subst (λ q. IsWellFormed (ring_at (g.S.Storage.elements (g.S.Storage.with_part c.self.inside.storage c.index-from.result c.f-answer.new.arg2)) q)) (sym c.enqueue.ensures.place)
     (in_wf _ old is c.self.invariant _ _ c.f-answer.new.arg2 _ (omega (arith, le))
     (g.met.S.Storage.part_written c.self.inside.storage c.index-from.result c.f-answer.new.arg2))
@@ -58,12 +43,12 @@ invariant_of-self g c =
 pub returns : goal.returns
 unfolding Makes
 returns g c =
-    let old = from_start_if_empty c.args.self.now in
+    let old = rewind_if_empty c.args.self.now in
     let is = c.self.view_is ∙ c.rewind_if_empty.ensures.ring in
     let size = c.capacity-capacity.ensures.capacity ∙ ap capacity c.rewind_if_empty.ensures.ring in
+    let lent = lent_next _ _ is c.self.invariant _ _ _ _ size c.index-from.ensures.index c.contiguous_window.ensures.count (omega arith) _
+    c.part_mut.ensures.value in
     let at = found_next _ _ is c.self.invariant c.capacity-capacity.result _ size c.index-from.ensures.index in
-    let run = found_window _ _ is c.self.invariant c.capacity-capacity.result _ size c.contiguous_window.ensures.count in
-    let lent = lent_next _ _ is c.self.invariant _ _ at (omega (arith, run)) _ c.part_mut.ensures.value in
     let after = c.f-answer.new.arg2 in
     let n = c.f-answer.result.0 in
     let met : FnOnceReturnsAtMut g.F.FnOnce c.args.f (take (contiguous_window old) (spare old)) c.f-answer.result after =

@@ -1,6 +1,5 @@
 use Rattle.std.proofs.Common.{◌≡◌, ◌+◌, ◌++◌, length, take, min, sym, ap, subst, ◌∙◌, arith, length-take}
-use Rattle.net_ring.specs.Ring.{IsWellFormed, Enqueues, capacity, window, queue, write_at}
-use Rattle.net_ring.specs.Ring.{from_start_if_empty, with_enqueued, with_elements_wrapping}
+use Rattle.net_ring.specs.Ring.{IsWellFormed, Enqueues, capacity, window, queue, write_at, rewind_if_empty, with_enqueued, with_elements_wrapping}
 use Rattle.net_ring.specs.Place.{ring_at}
 use Rattle.net_ring.proofs.PlaceFacts.{lent_whole}
 use Rattle.net_ring.specs.RingHistory.{Makes}
@@ -30,16 +29,16 @@ returns g c =
     let after : new ≡ ring_at ws q = ap (λ l. ring_at l q) (g.met.S.Storage.part_written s 0 ws ∙ all.1) in
     let count = met.count ∙ ap (λ o. min (length c.args.«data».now) (window o)) before in
     let ring = after ∙ met.ring
-    ∙ ap (λ o. with_enqueued n (with_elements_wrapping (from_start_if_empty o) (write_at (from_start_if_empty o)) d)) before in
+    ∙ ap (λ o. with_enqueued n (with_elements_wrapping (rewind_if_empty o) (write_at (rewind_if_empty o)) d)) before in
     let long : length d ≡ n = omega (arith, length-take n c.args.«data».now, count) in
     record {
       count = count;
       ring = ring;
       call =
-          (omega (arith, long, count), subst (λ k. new ≡ with_enqueued k (with_elements_wrapping (from_start_if_empty c.args.self.now) (write_at (from_start_if_empty c.args.self.now)) d)) (sym long) ring);
+          (omega (arith, long, count), subst (λ k. new ≡ with_enqueued k (with_elements_wrapping (rewind_if_empty c.args.self.now) (write_at (rewind_if_empty c.args.self.now)) d)) (sym long) ring);
       enqueued =
-          subst (λ o. Enqueues (from_start_if_empty o) d new) before
-          (subst (Enqueues (from_start_if_empty (ring_at c.part_mut.result.now p)) d) (sym after) met.enqueued);
+          subst (λ o. Enqueues (rewind_if_empty o) d new) before
+          (subst (Enqueues (rewind_if_empty (ring_at c.part_mut.result.now p)) d) (sym after) met.enqueued);
       queue = ap queue after ∙ met.queue ∙ ap (λ o. queue o ++ d) before;
       same = (met.same.0 ∙ ap (λ o. o.count + n) before, ap capacity after ∙ met.same.1 ∙ ap capacity before);
     }

@@ -1,5 +1,5 @@
 use Rattle.std.proofs.Common.{◌≡◌, ◌∙◌, refl, ap, arith}
-use Rattle.net_ring.specs.Ring.{capacity, queue, queue_index, contiguous_queued_from}
+use Rattle.net_ring.specs.Ring.{capacity, queue, queue_index, contiguous_allocated}
 use Rattle.net_ring.proofs.RingFacts.{well, found_queued, left_at, shown_in_queue, queue_part_law, first_in_queue}
 use Rattle.net_ring.proofs.RingParts.{each_of, end_of}
 use Rattle.net_ring.specs.RingHistory.{Makes}
@@ -13,7 +13,7 @@ returns g c =
     let span = c.queued-span.ensures in
     let counts = ap (λ o. o.count) is in
     let at : c.queued-span.result.from ≡ queue_index old c.args.offset = found_queued _ _ is c.self.invariant c.capacity.result c.args.offset _ (c.capacity.ensures.capacity ∙ ap capacity is) span.from in
-    let count : c.queued-span.result.contiguous ≡ contiguous_queued_from old c.args.offset c.args.size =
+    let count : c.queued-span.result.contiguous ≡ contiguous_allocated old c.args.offset c.args.size =
     omega (arith, span.count, span.contiguous, at, counts, c.capacity.ensures.capacity, ap capacity is) in
     let lent = shown_in_queue _ _ is c.self.invariant c.args.offset c.args.size _ _ at (omega (arith, count)) _ c.part_mut.ensures.value in
     let wf = well _ _ is c.self.invariant in

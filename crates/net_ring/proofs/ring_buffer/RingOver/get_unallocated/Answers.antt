@@ -1,5 +1,5 @@
 use Rattle.std.proofs.Common.{◌≡◌, ◌∙◌, refl, ap, arith}
-use Rattle.net_ring.specs.Ring.{capacity, spare, spare_index, contiguous_window_from}
+use Rattle.net_ring.specs.Ring.{capacity, spare, spare_index, contiguous_unallocated}
 use Rattle.net_ring.proofs.RingFacts.{well, found_free, left_at, shown_spare, spare_part_law, contiguous_free_some}
 use Rattle.net_ring.proofs.RingParts.{each_of, end_of}
 use Rattle.net_ring.specs.RingHistory.{Makes}
@@ -13,7 +13,7 @@ returns g c =
     let span = c.free-span.ensures in
     let counts = ap (λ o. o.count) is in
     let at : c.free-span.result.from ≡ spare_index old c.args.offset = found_free _ _ is c.self.invariant c.capacity.result c.args.offset _ (c.capacity.ensures.capacity ∙ ap capacity is) span.from in
-    let count : c.free-span.result.contiguous ≡ contiguous_window_from old c.args.offset c.args.size =
+    let count : c.free-span.result.contiguous ≡ contiguous_unallocated old c.args.offset c.args.size =
     omega (arith, span.count, span.contiguous, at, counts, c.capacity.ensures.capacity, ap capacity is) in
     let lent = shown_spare _ _ is c.self.invariant c.args.offset c.args.size _ _ at (omega (arith, count)) _ c.part_mut.ensures.value in (
       (refl, λ w. left_at _ _ is c.self.invariant _ _ at _ w (g.met.S.Storage.part_written c.self.inside.storage c.free-span.result.from w)),
