@@ -6,7 +6,5 @@ pub mod PacketRuns
 mod EmptyQueue
 mod LendInside
 mod ResultParts
-mod SaidFacts
 mod WalkedQueue
-mod PassedNumber
 pub mod PacketCount

@@ -1,13 +1,11 @@
 -- What the two rings of a queue of packets say of its packets.
-use Rattle.std.proofs.Common.{◌≢◌, zero, suc, ◌≡◌, ℕ, ◌+◌, ◌-◌, ◌<◌, ◌≤◌, List, [], ◌∷◌, ◌++◌}
-use Rattle.std.proofs.Common.{length, min, refl, sym, ap, ◌∙◌, subst, inl, inr, arith, ◌⊎◌}
-use Rattle.std.proofs.Common.{append_assoc, nat_le, if◌then◌else◌, Bool, ◌==◌}
-use Rattle.std.proofs.lemmas.Bool.{cases_lt, le-leb, lt-leb, lt-ltb, le-ltb, ne_eqb}
+use Rattle.std.proofs.Common.{◌≢◌, zero, suc, ◌≡◌, ℕ, ◌+◌, ◌-◌, ◌<◌, ◌≤◌, List, [], ◌∷◌, ◌++◌, length, min, refl, sym, ap, ◌∙◌, subst, inl, inr, arith, ◌⊎◌, append_assoc, nat_le, if◌then◌else◌, Bool, ◌==◌}
+use Rattle.std.proofs.lemmas.Bool.{cases_lt, cases_Bool, cond-true, cond-false, leb-true, lt-ltb, le-ltb}
+use Rattle.std.proofs.lemmas.Bool.Decides.{nat_tests}
 use Rattle.std.proofs.lemmas.Option.{none-some, cond_some}
 use Rattle.std.specs.Prelude.{Option, true}
 use Rattle.std.specs.declared.option.Option.TheVariants.{Some, None}
-use Rattle.net_ring.specs.Ring.{RingState, index_after, capacity, window, queue, write_at, IsWellFormed, Enqueues}
-use Rattle.net_ring.specs.Ring.{with_enqueued, with_dequeued, with_elements}
+use Rattle.net_ring.specs.Ring.{RingState, index_after, capacity, window, queue, write_at, IsWellFormed, Enqueues, with_enqueued, with_dequeued, with_elements}
 use Rattle.net_packets.specs.Packets.{Packet, packet, bytes_used, slots_used, slots_for, IsPlaced, ArePlaced, gap_for, if_slots}
 use Rattle.net_packets.specs.PacketSlots.{slot, gap_slot, packet_slots, packets_in, Represents}
 use Rattle.net_packets.specs.declared.packet_metadata.PacketMetadata.{PacketMetadata}
@@ -21,71 +19,36 @@ place_cases c r i = elim (cases_lt i (c - r)) [
 ]
 
 pub place_place : (c r k j : ℕ) → (r ≡ 0) ⊎ (r < c) → k + j ≤ c → index_after c (index_after c r k) j ≡ index_after c r (k + j)
-place_place c r k j wf le =
-    let q = index_after c r k in
-    elim (place_cases c r k) [
-      | inl a ↦ elim (place_cases c r (k + j)) [
-        | inl b ↦ elim (place_cases c q j) [ inl d ↦ omega (arith, a.0, a.1, b.0, b.1, d.0, d.1) | inr d ↦ absurd (omega (arith, a.0, a.1, b.0, b.1, d.0)) ]
-        | inr b ↦ elim (place_cases c q j) [ inl d ↦ absurd (omega (arith, a.0, a.1, b.0, d.0)) | inr d ↦ omega (arith, a.0, a.1, b.0, b.1, d.0, d.1) ]
-      ]
-      | inr a ↦ elim (place_cases c r (k + j)) [
-        | inl b ↦ absurd (omega (arith, a.0, b.0))
-        | inr b ↦ elim (place_cases c q j) [
-          | inl d ↦ omega (arith, a.0, a.1, b.0, b.1, d.0, d.1)
-          | inr d ↦ elim wf [ inl z ↦ omega (arith, z, le, a.0, a.1, b.0, b.1, d.0, d.1) | inr l ↦ omega (arith, l, le, a.0, a.1, b.0, b.1, d.0, d.1) ]
-        ]
-      ]
-    ]
+place_place c r k j wf le = omega (arith, place_cases c r k, place_cases c r (k + j), place_cases c (index_after c r k) j)
 
 pub place_le_in : (c r i : ℕ) → (r ≡ 0) ⊎ (r < c) → i ≤ c → index_after c r i ≤ c
-place_le_in c r i wf le = elim (place_cases c r i) [
-  | inl a ↦ omega (arith, a.0, a.1)
-  | inr a ↦ elim wf [ inl z ↦ omega (arith, z, le, a.1) | inr l ↦ omega (arith, l, le, a.1) ]
-]
+place_le_in c r i wf le = omega (arith, place_cases c r i)
 
 pub place_wf : (c r i : ℕ) → (r ≡ 0) ⊎ (r < c) → i ≤ c → (index_after c r i ≡ 0) ⊎ (index_after c r i < c)
 place_wf c r i wf le = elim (place_cases c r i) [
-  | inl a ↦ inr (omega (arith, a.0, a.1))
-  | inr a ↦ elim wf [ inl z ↦ inl (omega (arith, z, le, a.0, a.1)) | inr l ↦ inr (omega (arith, l, le, a.0, a.1)) ]
+  | inl a ↦ inr (omega (arith, a))
+  | inr a ↦ elim wf [ inl z ↦ inl (omega (arith, z, a)) | inr l ↦ inr (omega (arith, l, a)) ]
 ]
 
 pub place_zero : (c r : ℕ) → (r ≡ 0) ⊎ (r < c) → index_after c r 0 ≡ r
-place_zero c r wf = elim (place_cases c r 0) [
-  | inl a ↦ omega (arith, a.1)
-  | inr a ↦ elim wf [ inl z ↦ omega (arith, z, a.0, a.1) | inr l ↦ absurd (omega (arith, l, a.0)) ]
-]
+place_zero c r wf = omega (arith, place_cases c r 0)
 
 pub slots_for_pos : (g : ℕ) → (1 ≤ slots_for g) × (slots_for g ≤ 2)
 slots_for_pos zero = (omega arith, omega arith)
 slots_for_pos (suc g) = (omega arith, omega arith)
 
-some_inj : (x y : ℕ) → Some x ≡ Some y → x ≡ y
-some_inj x y e = (cond_some true x y e).1
-
 -- ---- placement
-if_slots_some : (free g gap : ℕ) → if_slots free (Some g) ≡ Some gap → (g ≡ gap) × (slots_for gap ≤ free)
-if_slots_some free g gap e = elim (cases_lt free (slots_for g)) [
-  | inl h ↦ absurd (none-some _ (sym (ap (λ (t : Bool). if t then Some g else None) (lt-leb (slots_for g) free h)) ∙ e))
-  | inr h ↦
-      let same : g ≡ gap = some_inj _ _ (sym (ap (λ (t : Bool). if t then Some g else None) (le-leb (slots_for g) free h)) ∙ e) in
-      (same, subst (λ (n : ℕ). slots_for n ≤ free) same h)
-]
-
 pub slots_some : (free : ℕ) (o : Option ℕ) (gap : ℕ) → if_slots free o ≡ Some gap → (o ≡ Some gap) × (slots_for gap ≤ free)
 slots_some free None gap e = absurd (none-some _ e)
-slots_some free (Some g) gap e = let i = if_slots_some free g gap e in (ap Some i.0, i.1)
+slots_some free (Some g) gap e = elim (cases_Bool (nat_le (slots_for g) free)) [
+  | inl t ↦
+      let same : Some g ≡ Some gap = sym (cond-true _ _ _ t) ∙ e in
+      (same, subst (λ (n : ℕ). slots_for n ≤ free) (cond_some true g gap same).1 (leb-true (slots_for g) free t))
+  | inr f ↦ absurd (none-some _ (sym (cond-false _ _ _ f) ∙ e))
+]
 
 pub gap_some : (s c w gap : ℕ) → gap_for s c w ≡ Some gap → ((gap ≡ 0) × (s ≤ c)) ⊎ ((gap ≡ c) × (c < s) × (s ≤ w - c))
-gap_some s c w gap e = elim (cases_lt c s) [
-  | inr h ↦ inl (sym (some_inj _ _ (sym (ap (λ (t : Bool). if t then Some 0 else if nat_le s (w - c) then Some c else None) (le-leb s c h)) ∙ e)), h)
-  | inl h ↦
-      let f : (if nat_le s (w - c) then Some c else None) ≡ Some gap =
-      sym (ap (λ (t : Bool). if t then Some 0 else if nat_le s (w - c) then Some c else None) (lt-leb s c h)) ∙ e in
-      elim (cases_lt (w - c) s) [
-        | inl n ↦ absurd (none-some _ (sym (ap (λ (t : Bool). if t then Some c else None) (lt-leb s (w - c) n)) ∙ f))
-        | inr l ↦ inr (sym (some_inj _ _ (sym (ap (λ (t : Bool). if t then Some c else None) (le-leb s (w - c) l)) ∙ f)), h, l)
-      ]
-]
+gap_some s c w gap e = grind (arith, nat_tests)
 
 -- where a packet of s bytes comes, in a ring of c elements that is read from r on and holds n
 pub placed_here : (c r n s gap : ℕ) → (r ≡ 0) ⊎ (r < c) → n ≤ c → gap_for s (min (c - n) (c - index_after c r n)) (c - n) ≡ Some gap
@@ -95,21 +58,11 @@ placed_here c r n s gap wf le e =
     elim (gap_some s (min (c - n) (c - index_after c r n)) (c - n) gap e) [
       | inl h ↦
           let z : n + gap ≡ n = omega (arith, h.0) in
-          let zz = ap (index_after c r) z in
-          (omega (arith, zz, h.1, at), λ k. absurd (k h.0), omega (arith, h.0, h.1, le))
+          (omega (arith, ap (index_after c r) z, h.1, at), λ k. absurd (k h.0), omega (arith, h.0, h.1, le))
       | inr h ↦
           let ends : index_after c r n + gap ≡ c = omega (arith, h.0, h.1, h.2, at, le) in
-          let fits : n + gap + s ≤ c = omega (arith, h.0, h.1, h.2, le) in (
-            elim (place_cases c r n) [
-              | inl a ↦ elim (place_cases c r (n + gap)) [
-                | inl b ↦ absurd (omega (arith, a.0, a.1, b.0, ends))
-                | inr b ↦ omega (arith, a.0, a.1, b.0, b.1, ends, fits)
-              ]
-              | inr a ↦ absurd (omega (arith, a.0, a.1, ends, fits, h.0, h.1))
-            ],
-            λ k. ends,
-            fits,
-          )
+          let fits : n + gap + s ≤ c = omega (arith, h.0, h.1, h.2, le) in
+          (omega (arith, place_cases c r n, place_cases c r (n + gap), ends, fits, h), λ k. ends, fits)
     ]
 
 module _ {H : Type 0} where
@@ -130,9 +83,9 @@ module _ {H : Type 0} where
   length-slots [] = refl
   length-slots (p ∷ ps) = length-gap p.gap (slot p.size (Some p.header)) (packet_slots ps) ∙ ap (λ (n : ℕ). slots_for p.gap + n) (length-slots ps)
 
-  pub slots_pos : (ps : List (Packet H)) → length ps ≤ slots_used ps
-  slots_pos [] = omega arith
-  slots_pos (p ∷ ps) = omega (arith, slots_pos ps, slots_for_pos p.gap)
+  pub slots_pos : (ps : List (Packet H)) → (length ps ≤ slots_used ps) × (slots_used ps ≤ length ps + length ps)
+  slots_pos [] = (omega arith, omega arith)
+  slots_pos (p ∷ ps) = (omega (arith, slots_pos ps, slots_for_pos p.gap), omega (arith, slots_pos ps, slots_for_pos p.gap))
 
   -- ---- a packet more
   pub slots_append : (ps : List (Packet H)) (p : Packet H)
@@ -187,14 +140,10 @@ module _ {H : Type 0} where
   pub placed_skip : (c r : ℕ) (p : Packet H) (ps : List (Packet H)) → (r ≡ 0) ⊎ (r < c) → bytes_used (p ∷ ps) ≤ c
       → ArePlaced c r 0 (p ∷ ps) → ArePlaced c (index_after c r p.gap) 0 (packet p.header p.size 0 ∷ ps)
   placed_skip c r p ps wf le a =
-      let at = place_place c r p.gap (0 + 0) wf (omega (arith, le)) in
-      let z : p.gap + (0 + 0) ≡ 0 + p.gap = omega arith in
-      let at_is = ap (index_after c r) z in
-      let n : 0 + p.gap + p.size ≡ p.gap + (0 + 0 + p.size) = omega arith in (
-        (omega (arith, at, at_is, a.0.0), λ k. absurd (k refl)),
-        placed_from c r p.gap (0 + 0 + p.size) ps wf (omega (arith, le))
-            (subst (λ (j : ℕ). ArePlaced c r j ps) n a.1),
-      )
+      let at : 0 + p.gap ≡ p.gap + 0 + 0 = omega arith in
+      let n : 0 + p.gap + p.size ≡ p.gap + 0 + 0 + p.size = omega arith in
+      placed_from c r p.gap 0 (packet p.header p.size 0 ∷ ps) wf (omega (arith, le))
+      ((omega (arith, ap (index_after c r) at, a.0.0), λ k. absurd (k refl)), subst (λ (j : ℕ). ArePlaced c r j ps) n a.1)
 
   -- and once the first one, which has no gap, is gone
   pub placed_pop : (c r : ℕ) (p : Packet H) (ps : List (Packet H)) → (r ≡ 0) ⊎ (r < c) → bytes_used (p ∷ ps) ≤ c → p.gap ≡ 0
@@ -207,13 +156,8 @@ module _ {H : Type 0} where
     pub count_is : m.count ≡ slots_used ps
     count_is = sym (length-queue m h.0) ∙ ap length h.2 ∙ length-slots ps
 
-  empty_go : (n : ℕ) (xs : List (Packet H)) → n ≡ slots_used xs → (n == 0) ≡ (length xs == 0)
-  empty_go n [] e = ap (λ (k : ℕ). k == 0) e
-  empty_go n (x ∷ xs) e = let p = slots_pos (x ∷ xs) in ne_eqb n 0 (λ z. absurd (omega (arith, p, e, z)))
-      ∙ sym (ne_eqb (length (x ∷ xs)) 0 (λ z. absurd (omega (arith, z))))
-
-  pub empty_is : (m : RingState (PacketMetadata H)) (b : RingState ℕ) (ps : List (Packet H)) → Represents m b ps → (m.count == 0) ≡ (length ps == 0)
-  empty_is m b ps h = empty_go m.count ps (count_is m b ps h)
+    pub empty_is : (m.count == 0) ≡ (length ps == 0)
+    empty_is = let n = count_is in let some = slots_pos ps in grind (arith, nat_tests)
 
   -- ---- a slot more
   pub gap_slot_one : (gap : ℕ) → 0 < gap → gap_slot {H = H} gap ≡ slot gap None ∷ []

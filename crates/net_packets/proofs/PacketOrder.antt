@@ -1,31 +1,15 @@
 -- A queue's packets leave in the order in which they came.
-use Rattle.std.proofs.Common.{◌≢◌, ◌≡◌, ℕ, ◌+◌, ◌-◌, ◌≤◌, List, [], ◌∷◌, ◌++◌, length, take, drop}
-use Rattle.std.proofs.Common.{refl, sym, ap, ap₂, ◌∙◌, subst, inl, arith, length-append}
-use Rattle.std.proofs.Common.{length-drop}
-use Rattle.std.proofs.lemmas.List.{take_at, drop_at, nil_from_length, take_all, take-take}
-use Rattle.std.proofs.lemmas.List.{drop-drop, length-take-le, take-append-le, drop-append-le}
-use Rattle.std.proofs.lemmas.List.{append-nil, length-replicate}
-use Rattle.std.specs.Prelude.{Option, replicate}
+use Rattle.std.proofs.Common.{◌≢◌, ◌≡◌, ℕ, ◌+◌, ◌≤◌, List, [], ◌∷◌, ◌++◌, length, take, drop, refl, sym, ap, ap₂, ◌∙◌, arith, length-drop}
+use Rattle.std.proofs.lemmas.List.{take_at, drop_at, nil_from_length, take_all, take-take, drop-drop, length-take-le, take-append-le, drop-append-le}
+use Rattle.std.specs.Prelude.{Option}
 use Rattle.std.specs.declared.option.Option.TheVariants.{Some, None}
 use Rattle.net_ring.specs.Overwrite.{overwrite}
-use Rattle.net_ring.specs.Ring.{RingState, ring, index_after, capacity, window, queue, spare}
-use Rattle.net_ring.specs.Ring.{storage_index, IsWellFormed, from_start_if_empty, with_enqueued}
-use Rattle.net_ring.specs.Ring.{with_elements}
-use Rattle.net_packets.specs.Packets.{Packet, PacketsState, packet, bytes_used, slots_used}
-use Rattle.net_packets.specs.Packets.{byte_ring, ArePlaced, placement, with_packet_if_room}
-use Rattle.net_packets.specs.Packets.{with_last_bytes, with_last_size, first_gap, first_size}
-use Rattle.net_packets.specs.Packets.{without_first_gap, without_gap, IsFirstSized, IsFirst}
-use Rattle.net_packets.specs.Packets.{with_first_header, with_first_bytes, without_first}
-use Rattle.net_packets.specs.Packets.{without_first_and_gap, IsWellPlaced}
-use Rattle.net_packets.specs.PacketSlots.{slot, packet_slots, packets_in, Represents, packets_state}
+use Rattle.net_ring.specs.Ring.{RingState, capacity, window, queue, spare, storage_index, IsWellFormed, rewind_if_empty, with_enqueued, with_elements}
+use Rattle.net_packets.specs.Packets.{Packet, PacketsState, packet, bytes_used, byte_ring, placement, with_packet, with_packet_if_room, last_index, with_bytes, with_last_bytes, with_last_size, first_gap, first_size, without_first_gap, without_gap, first_bytes, IsFirst, with_first_header, with_first_bytes, without_first, IsWellPlaced}
 use Rattle.net_packets.specs.PacketHistory.{contents_of, contents}
-use Rattle.net_packets.specs.declared.packet_metadata.PacketMetadata.{PacketMetadata}
-use Rattle.net_ring.proofs.Rotations.{length-overwrite, length-queue, length-spare}
-use Rattle.net_ring.proofs.Rotations.{with_enqueued_parts, with_dequeued_parts, take_sum, cut}
-use Rattle.net_ring.proofs.Rotations.{overwrite_at, storage_index_is}
+use Rattle.net_ring.proofs.Rotations.{length-overwrite, length-queue, length-spare, with_enqueued_parts, with_dequeued_parts, take_sum, cut, overwrite_at, storage_index_is}
 use Rattle.net_ring.proofs.RingFacts.{written_wf, spare_law, queue_law, queue_value, rewound_is, read_index_is}
-use Rattle.net_packets.proofs.PacketFacts.{bytes_append, length-slots, place_wf}
-use Rattle.net_packets.proofs.PacketSteps.{viewed, here, wfg, count_g, byte_room, put_is, cut_is, same, closed}
+use Rattle.net_packets.proofs.PacketSteps.{here, wfg, count_g, byte_room, enqueued_is, pushed_is, push_place, cut_is, close_gap, skipped_well, skipped_ring, head_fits, headed, headed_ring, headed_well, popped_ring}
 
 pub some_of : (o : Option ℕ) → o ≢ None → (n : ℕ) × (o ≡ Some n)
 some_of None h = absurd (h refl)
@@ -62,9 +46,6 @@ filled_queue g wf gap k ws room fits le =
     t.0 ∙ ap₂ ◌++◌ w.0 (ap (take (gap + k)) w.1 ∙ take_over (spare g) ws gap k (omega (arith, room, s)) le)
 
 module _ {H : Type 0} where
-  abbrev mk : ℕ → List ℕ → ℕ → List (Packet H) → PacketsState H
-  mk n st r ps = record { slot_count = n; storage = st; read_at = r; packets = ps }
-
   pub contents_append : (ps : List (Packet H)) (p : Packet H) (bs x ws : List ℕ) → length bs ≡ bytes_used ps → length x ≡ p.gap
       → contents_of (ps ++ (p ∷ [])) (bs ++ (x ++ ws)) ≡ contents_of ps bs ++ ((p.header, take p.size ws) ∷ [])
   contents_append [] p bs x ws n l =
@@ -81,242 +62,133 @@ module _ {H : Type 0} where
       ap₂ (λ (one rest : List ℕ). (o.header, one) ∷ contents_of (ps ++ (p ∷ [])) rest) t r
       ∙ ap (λ c. (o.header, take o.size (drop o.gap bs)) ∷ c) (contents_append ps p (drop (o.gap + o.size) bs) x ws (omega (arith, n, m)) l)
 
-  -- ---- the rings of a queue
-  module _ (q : PacketsState H) (ok : IsWellPlaced q) where
-    abbrev fill : List (PacketMetadata H)
-    fill = replicate (q.slot_count - slots_used q.packets) (slot 0 None)
-
-    abbrev pub m : RingState (PacketMetadata H)
-    m = ring (packet_slots q.packets ++ fill) 0 (slots_used q.packets)
-
-    abbrev pub b : RingState ℕ
-    b = byte_ring q
-
-    long : length (packet_slots q.packets ++ fill) ≡ q.slot_count
-    long =
-        let a = length-append (packet_slots q.packets) fill in
-        let n = length-slots q.packets in
-        let r = length-replicate (q.slot_count - slots_used q.packets) (slot {H = H} 0 None) in
-        omega (arith, a, n, r, ok.2)
-
-    queue_is : queue m ≡ packet_slots q.packets
-    queue_is = ap (take (slots_used q.packets)) (append-nil (packet_slots q.packets ++ fill))
-        ∙ take_at (packet_slots q.packets) fill (slots_used q.packets) (length-slots q.packets)
-
-    pub holds : Represents m b q.packets
-    holds = ((inl refl, omega (arith, long, ok.2)), ok.0, queue_is, refl, ok.1)
-
-    pub is_queue : packets_state m b ≡ q
-    is_queue = viewed m b q.packets holds ∙ ap (λ (n : ℕ). mk n q.storage q.read_at q.packets) long
-
   -- ---- a packet comes last
-  module _ (m : RingState (PacketMetadata H)) (b : RingState ℕ) (h : Represents m b (packets_in 0 (queue m))) (gap s : ℕ) (e : placement (packets_state m b) s
-      ≡ Some gap) (hd : H) (k : ℕ) (le : k ≤ s) (ws : List ℕ) (long : length ws ≡ s) where
-    abbrev kept : List (Packet H)
-    kept = packets_in 0 (queue m)
-
-    abbrev g : RingState ℕ
-    g = from_start_if_empty b
-
-    abbrev at : ℕ
-    at = storage_index g (g.count + gap)
-
-    accepted_go : contents (mk (capacity m) (overwrite g.storage at ws) g.read_at (kept ++ (packet hd k gap ∷ [])))
-        ≡ contents (packets_state m b) ++ ((hd, take k ws) ∷ [])
+  module _ (q : PacketsState H) (ok : IsWellPlaced q) (s : ℕ) (hd : H) (ws : List ℕ) (some : placement q s ≢ None) (long : length ws ≡ s) where
+    filled_go : (gap : ℕ) → placement q s ≡ Some gap → (k : ℕ) → k ≤ s
+        → contents (with_bytes (with_packet q gap k hd) (last_index (with_packet q gap s hd)) ws) ≡ contents q ++ ((hd, take k ws) ∷ [])
     unfolding contents
-    accepted_go =
-        let fits = here m b h gap s e in
-        let room = byte_room m b h gap s e in
-        let wf = wfg m b h gap s e in
-        let counts = count_g m b h gap s e in
-        let sum = bytes_append kept (packet hd k gap) in
-        let n : bytes_used (kept ++ (packet hd k gap ∷ [])) ≡ g.count + (gap + k) = omega (arith, sum, counts) in
+    filled_go gap e k le =
+        let g = rewind_if_empty (byte_ring q) in
+        let fits = here q ok gap s e in
+        let room = byte_room q ok gap s e in
+        let wf = wfg q ok gap s e in
+        let counts = count_g q ok gap s e in
         let filled = filled_queue g wf gap k ws (omega (arith, room, long)) (omega (arith, fits.0, long)) (omega (arith, le, long)) in
-        let q = length-queue g wf in
+        let bytes = length-queue g wf in
         let free = length-spare g wf in
         let skip : length (take gap (spare g)) ≡ gap = length-take-le gap (spare g) (omega (arith, free, room)) in
-        ap (λ (i : ℕ). contents_of (kept ++ (packet hd k gap ∷ [])) (queue (ring (overwrite g.storage at ws) g.read_at i))) n
-        ∙ ap (contents_of (kept ++ (packet hd k gap ∷ []))) filled
-        ∙ contents_append kept (packet hd k gap) (queue g) (take gap (spare g)) (take k ws) (omega (arith, q, counts)) skip
-        ∙ ap₂ (λ (bs one : List ℕ). contents_of kept bs ++ ((hd, one) ∷ [])) (rewound_is b).0 (take-take k k ws (omega arith))
-        ∙ ap (λ (o : RingState ℕ). contents_of kept (queue o) ++ ((hd, take k ws) ∷ [])) (sym (same m b h gap s e))
-
-  module _ (q : PacketsState H) (ok : IsWellPlaced q) (s : ℕ) (hd : H) (ws : List ℕ) (some : placement q s ≢ None) (long : length ws ≡ s) where
-    module _ (m : RingState (PacketMetadata H)) (b : RingState ℕ) (h : Represents m b (packets_in 0 (queue m))) (is : packets_state m b ≡ q) where
-      gap_is : (n : ℕ) × (placement (packets_state m b) s ≡ Some n)
-      gap_is = some_of (placement (packets_state m b) s) (subst (λ (o : PacketsState H). placement o s ≢ None) (sym is) some)
-
-      put_go : contents (with_last_bytes (with_packet_if_room q s hd) ws) ≡ contents q ++ ((hd, ws) ∷ [])
-      put_go =
-          let gap = gap_is.0 in let e = gap_is.1 in
-          let all : take s ws ≡ ws = take_all s ws (omega (arith, long)) in
-          subst (λ (o : PacketsState H). contents (with_last_bytes (with_packet_if_room o s hd) ws) ≡ contents o ++ ((hd, ws) ∷ [])) is
-          (sym (ap contents (put_is m b h gap s e hd ws)) ∙ accepted_go m b h gap s e hd s (omega arith) ws long
-          ∙ ap (λ (l : List ℕ). contents (packets_state m b) ++ ((hd, l) ∷ [])) all)
-
-      cut_go : (k : ℕ) → k ≤ s → contents (with_last_size k (with_last_bytes (with_packet_if_room q s hd) ws)) ≡ contents q ++ ((hd, take k ws) ∷ [])
-      cut_go k le =
-          let gap = gap_is.0 in let e = gap_is.1 in
-          subst (λ (o : PacketsState H). contents (with_last_size k (with_last_bytes (with_packet_if_room o s hd) ws)) ≡ contents o ++ ((hd, take k ws) ∷ [])) is
-          (sym (ap contents (cut_is m b h gap s e hd k ws)) ∙ accepted_go m b h gap s e hd k le ws long)
+        ap₂ (λ (o : RingState ℕ) (p : ℕ). contents_of (q.packets ++ (packet hd k gap ∷ [])) (queue (with_elements o p ws)))
+        (sym (enqueued_is q ok gap s e hd k)) (sym (push_place q ok gap s e hd))
+        ∙ ap (contents_of (q.packets ++ (packet hd k gap ∷ []))) filled
+        ∙ contents_append q.packets (packet hd k gap) (queue g) (take gap (spare g)) (take k ws) (omega (arith, bytes, counts)) skip
+        ∙ ap₂ (λ (bs one : List ℕ). contents_of q.packets bs ++ ((hd, one) ∷ [])) (rewound_is (byte_ring q)).0 (take-take k k ws (omega arith))
 
     pub accepted : contents (with_last_bytes (with_packet_if_room q s hd) ws) ≡ contents q ++ ((hd, ws) ∷ [])
-    accepted = put_go (m q ok) (b q ok) (closed (m q ok) (b q ok) q.packets (holds q ok)) (is_queue q ok)
+    accepted =
+        let p = some_of (placement q s) some in
+        ap (λ (o : PacketsState H). contents (with_last_bytes o ws)) (pushed_is q ok p.0 s p.1 hd) ∙ filled_go p.0 p.1 s (omega arith)
+        ∙ ap (λ (l : List ℕ). contents q ++ ((hd, l) ∷ [])) (take_all s ws (omega (arith, long)))
 
     pub accepted_with : (k : ℕ) → k ≤ s → contents (with_last_size k (with_last_bytes (with_packet_if_room q s hd) ws)) ≡ contents q ++ ((hd, take k ws) ∷ [])
-    accepted_with = cut_go (m q ok) (b q ok) (closed (m q ok) (b q ok) q.packets (holds q ok)) (is_queue q ok)
+    accepted_with k le = let p = some_of (placement q s) some in ap contents (sym (cut_is q ok p.0 s p.1 hd k ws)) ∙ filled_go p.0 p.1 k le
 
   -- ---- the first packet
-  abbrev bytes : List ℕ → ℕ → List (Packet H) → RingState ℕ
-  bytes st r ps = ring st r (bytes_used ps)
+  -- the gap before it goes
+  gap_le : (ps : List (Packet H)) → first_gap ps ≤ bytes_used ps
+  gap_le [] = omega arith
+  gap_le (p ∷ ps) = omega arith
 
-  abbrev head_or : Packet H → List (Packet H) → Packet H
-  head_or d [] = d
-  head_or d (o ∷ os) = o
+  contents_skip : (ps : List (Packet H)) (bs : List ℕ) → contents_of (without_first_gap ps) (drop (first_gap ps) bs) ≡ contents_of ps bs
+  contents_skip [] bs = refl
+  contents_skip (p ∷ ps) bs =
+      let n : p.gap + (0 + p.size) ≡ p.gap + p.size = omega arith in
+      ap (λ (l : List ℕ). (p.header, take p.size (drop p.gap bs)) ∷ contents_of ps l) (drop-drop (0 + p.size) p.gap bs ∙ ap (λ (i : ℕ). drop i bs) n)
 
-  -- the queue of bytes once a gap is gone
-  skip_queue : (st : List ℕ) (r : ℕ) (p : Packet H) (ps : List (Packet H)) → IsWellFormed (bytes st r (p ∷ ps))
-      → (queue (bytes st (storage_index (bytes st r (p ∷ ps)) p.gap) (packet p.header p.size 0 ∷ ps)) ≡ drop p.gap (queue (bytes st r (p ∷ ps))))
-      × IsWellFormed (bytes st (storage_index (bytes st r (p ∷ ps)) p.gap) (packet p.header p.size 0 ∷ ps))
-  skip_queue st r p ps wf =
-      let c = bytes st r (p ∷ ps) in
-      let n : p.gap + p.size + bytes_used ps - p.gap ≡ 0 + p.size + bytes_used ps = omega arith in (
-        sym (ap (λ (i : ℕ). queue (ring st (storage_index c p.gap) i)) n) ∙ (with_dequeued_parts c wf p.gap (omega arith)).0,
-        (place_wf (length st) r p.gap wf.0 (omega (arith, wf.1)), omega (arith, wf.1)),
-      )
+  -- it goes
+  contents_rest : (ps : List (Packet H)) (bs : List ℕ) → first_gap ps ≡ 0 → contents_of (drop 1 ps) (drop (first_size ps) bs) ≡ drop 1 (contents_of ps bs)
+  contents_rest [] bs z = refl
+  contents_rest (p ∷ ps) bs z = let n : p.size ≡ p.gap + p.size = omega (arith, z) in ap (λ (i : ℕ). contents_of ps (drop i bs)) n
 
-  -- the queue of bytes once the first packet is gone, where it has no gap
-  pop_queue : (st : List ℕ) (r : ℕ) (h : H) (s : ℕ) (ps : List (Packet H)) → IsWellFormed (bytes st r (packet h s 0 ∷ ps))
-      → queue (bytes st (storage_index (bytes st r (packet h s 0 ∷ ps)) s) ps) ≡ drop s (queue (bytes st r (packet h s 0 ∷ ps)))
-  pop_queue st r h s ps wf =
-      let c = bytes st r (packet h s 0 ∷ ps) in
-      let n : 0 + s + bytes_used ps - s ≡ bytes_used ps = omega arith in
-      sym (ap (λ (i : ℕ). queue (ring st (storage_index c s) i)) n) ∙ (with_dequeued_parts c wf s (omega arith)).0
+  -- it is written over
+  contents_headed : (hd : H) (ps : List (Packet H)) (bs ws : List ℕ) → first_gap ps ≡ 0 → length ws ≡ first_size ps → first_size ps ≤ length bs
+      → (ps ≢ [] → contents_of (with_first_header hd ps) (overwrite bs 0 ws) ≡ (hd, ws) ∷ drop 1 (contents_of ps bs))
+      × (drop 1 (contents_of (with_first_header hd ps) (overwrite bs 0 ws)) ≡ drop 1 (contents_of ps bs))
+  contents_headed hd [] bs ws z long fits = (λ some. absurd (some refl), refl)
+  contents_headed hd (p ∷ ps) bs ws z long fits =
+      let all = overwrite bs 0 ws in
+      let o = over_head bs ws p.size fits long in
+      let n : p.gap + p.size ≡ p.size = omega (arith, z) in
+      let one : take p.size (drop p.gap all) ≡ ws = ap (λ (i : ℕ). take p.size (drop i all)) z ∙ o.0 in
+      let rest : drop (p.gap + p.size) all ≡ drop (p.gap + p.size) bs = ap (λ (i : ℕ). drop i all) n ∙ o.1 ∙ ap (λ (i : ℕ). drop i bs) (sym n) in
+      (λ some. ap₂ (λ (l r : List ℕ). (hd, l) ∷ contents_of ps r) one rest, ap (contents_of ps) rest)
 
-  -- the queue of bytes once the first packet, which has no gap, is written
-  write_queue : (st : List ℕ) (r : ℕ) (h : H) (s : ℕ) (ps : List (Packet H)) (ws : List ℕ)
-      → IsWellFormed (bytes st r (packet h s 0 ∷ ps)) → r + s ≤ length st → length ws ≡ s
-      → (queue (bytes (overwrite st r ws) r (packet h s 0 ∷ ps)) ≡ overwrite (queue (bytes st r (packet h s 0 ∷ ps))) 0 ws)
-      × IsWellFormed (bytes (overwrite st r ws) r (packet h s 0 ∷ ps))
-  write_queue st r h s ps ws wf fits long =
-      let c = bytes st r (packet h s 0 ∷ ps) in
-      ((queue_law c wf 0 r ws (omega (arith, long)) (omega (arith, long, fits)) (read_index_is c wf)).0, written_wf c wf r ws)
+  -- where it has no gap
+  module _ (q : PacketsState H) (ok : IsWellPlaced q) (z : first_gap q.packets ≡ 0) where
+    fits : (first_size q.packets ≤ bytes_used q.packets) × (q.read_at + first_size q.packets ≤ length q.storage)
+    fits = head_fits (length q.storage) q.read_at q.packets ok.0.0 ok.0.1 ok.1 z
 
-  contents_skip : (h : H) (s gap : ℕ) (ps : List (Packet H)) (bs : List ℕ)
-      → contents_of (packet h s 0 ∷ ps) (drop gap bs) ≡ contents_of (packet h s gap ∷ ps) bs
-  contents_skip h s gap ps bs =
-      let z : gap + 0 ≡ gap = omega arith in
-      let n : gap + (0 + s) ≡ gap + s = omega arith in
-      ap (λ (l : List ℕ). (h, take s l) ∷ contents_of ps (drop (0 + s) (drop gap bs))) (drop-drop 0 gap bs ∙ ap (λ (i : ℕ). drop i bs) z)
-      ∙ ap (λ (l : List ℕ). (h, take s (drop gap bs)) ∷ contents_of ps l) (drop-drop (0 + s) gap bs ∙ ap (λ (i : ℕ). drop i bs) n)
+    first_left : contents (without_first q) ≡ drop 1 (contents q)
+    unfolding contents
+    first_left =
+        ap (λ o. contents_of (drop 1 q.packets) (queue o)) (sym (popped_ring q z))
+        ∙ ap (contents_of (drop 1 q.packets)) (with_dequeued_parts (byte_ring q) ok.0 (first_size q.packets) fits.0).0
+        ∙ contents_rest q.packets (queue (byte_ring q)) z
 
-  skipped_go : (st : List ℕ) (r : ℕ) (ps : List (Packet H)) → IsWellFormed (bytes st r ps)
-      → contents_of (without_first_gap ps) (queue (bytes st (storage_index (bytes st r ps) (first_gap ps)) (without_first_gap ps)))
-      ≡ contents_of ps (queue (bytes st r ps))
-  skipped_go st r [] wf = refl
-  skipped_go st r (p ∷ ps) wf =
-      ap (contents_of (packet p.header p.size 0 ∷ ps)) (skip_queue st r p ps wf).0 ∙ contents_skip p.header p.size p.gap ps (queue (bytes st r (p ∷ ps)))
+    first_shown : (hd : H) (ws : List ℕ) (rest : List (Packet H)) → q.packets ≡ packet hd (length ws) 0 ∷ rest → ws ≡ first_bytes q
+        → contents q ≡ (hd, ws) ∷ drop 1 (contents q)
+    unfolding contents
+    first_shown hd ws rest e is =
+        let bs = queue (byte_ring q) in
+        let value = queue_value (byte_ring q) ok.0 0 (first_size q.packets) q.read_at (omega (arith, fits.0)) fits.1 (read_index_is (byte_ring q) ok.0) in
+        ap (λ ps. contents_of ps bs) e
+        ∙ ap (λ (l : List ℕ). (hd, l) ∷ contents_of rest (drop (0 + length ws) bs)) (sym (is ∙ value ∙ ap (λ ps. take (first_size ps) bs) e))
+        ∙ ap (λ ps. (hd, ws) ∷ drop 1 (contents_of ps bs)) (sym e)
 
-  -- where the first packet's bytes are
-  first_run : (st : List ℕ) (r : ℕ) (p : Packet H) (ps : List (Packet H)) → IsWellFormed (bytes st r (p ∷ ps)) → ArePlaced (length st) r 0 (p ∷ ps)
-      → (storage_index (bytes st r (p ∷ ps)) p.gap + p.size ≤ length st)
-      × (take p.size (drop (storage_index (bytes st r (p ∷ ps)) p.gap) st) ≡ take p.size (drop p.gap (queue (bytes st r (p ∷ ps)))))
-  first_run st r p ps wf a =
-      let c = bytes st r (p ∷ ps) in
-      let z : 0 + p.gap ≡ p.gap = omega arith in
-      let at = ap (index_after (length st) r) z in
-      let fits : storage_index c p.gap + p.size ≤ length st = omega (arith, at, a.0.0) in
-      (fits, queue_value c wf p.gap p.size (storage_index c p.gap) (omega arith) fits (storage_index_is c p.gap))
+    first_written : (hd : H) (ws : List ℕ) → length ws ≡ first_size q.packets
+        → (q.packets ≢ [] → contents (with_first_bytes q hd ws) ≡ (hd, ws) ∷ drop 1 (contents q))
+        × (drop 1 (contents (with_first_bytes q hd ws)) ≡ drop 1 (contents q))
+    unfolding contents
+    first_written hd ws long =
+        let c = byte_ring q in
+        let bytes : queue (byte_ring (with_first_bytes q hd ws)) ≡ overwrite (queue c) 0 ws = ap queue (sym (headed_ring q hd ws))
+        ∙ (queue_law c ok.0 0 q.read_at ws (omega (arith, long, fits.0)) (omega (arith, long, fits.1)) (read_index_is c ok.0)).0 in
+        let all = contents_headed hd q.packets (queue c) ws z long (omega (arith, fits.0, length-queue c ok.0)) in (
+          λ some. ap (contents_of (with_first_header hd q.packets)) bytes ∙ all.0 some,
+          ap (λ bs. drop 1 (contents_of (with_first_header hd q.packets) bs)) bytes ∙ all.1,
+        )
 
-  shown_go : (st : List ℕ) (r : ℕ) (ps : List (Packet H)) → IsWellFormed (bytes st r ps) → ArePlaced (length st) r 0 ps
-      → (hd : H) (ws : List ℕ) → IsFirstSized ps hd (length ws)
-      → ws ≡ take (first_size (without_first_gap ps)) (drop (storage_index (bytes st r ps) (first_gap ps)) st)
-      → contents_of ps (queue (bytes st r ps)) ≡ (hd, ws) ∷ drop 1 (contents_of ps (queue (bytes st r ps)))
-  shown_go st r [] wf a hd ws e f = absurd (let n = ap length e in omega (arith, n))
-  shown_go st r (p ∷ ps) wf a hd ws e f =
-      let head : p.header ≡ hd = ap (λ l. (head_or p l).header) e in
-      let rest = contents_of ps (drop (p.gap + p.size) (queue (bytes st r (p ∷ ps)))) in
-      ap₂ (λ (x : H) (y : List ℕ). (x, y) ∷ rest) head (sym (f ∙ (first_run st r p ps wf a).1))
-
-  contents_first : (h : H) (s : ℕ) (ps : List (Packet H)) (bs ws : List ℕ) → s ≤ length bs → length ws ≡ s
-      → contents_of (packet h s 0 ∷ ps) (overwrite bs 0 ws) ≡ (h, ws) ∷ contents_of ps (drop s bs)
-  contents_first h s ps bs ws fits long =
-      let o = over_head bs ws s fits long in
-      let n : 0 + s ≡ s = omega arith in
-      ap₂ (λ (one rest : List ℕ). (h, one) ∷ contents_of ps rest) o.0 (ap (λ (i : ℕ). drop i (overwrite bs 0 ws)) n ∙ o.1)
-
-  contents_rest : (h : H) (s : ℕ) (ps : List (Packet H)) (bs : List ℕ) → drop 1 (contents_of (packet h s 0 ∷ ps) bs) ≡ contents_of ps (drop s bs)
-  contents_rest h s ps bs = let n : 0 + s ≡ s = omega arith in ap (λ (i : ℕ). contents_of ps (drop i bs)) n
-
-  refused_go : (st : List ℕ) (r : ℕ) (ps : List (Packet H)) → IsWellFormed (bytes st r ps) → ArePlaced (length st) r 0 ps → ps ≢ []
-      → (hd : H) (ws : List ℕ) → length ws ≡ first_size ps
-      → contents_of (with_first_header hd (without_first_gap ps))
-      (queue (bytes (overwrite st (storage_index (bytes st r ps) (first_gap ps)) ws) (storage_index (bytes st r ps) (first_gap ps))
-      (with_first_header hd (without_first_gap ps))))
-      ≡ (hd, ws) ∷ drop 1 (contents_of ps (queue (bytes st r ps)))
-  refused_go st r [] wf a some hd ws long = absurd (some refl)
-  refused_go st r (p ∷ ps) wf a some hd ws long =
-      let c = bytes st r (p ∷ ps) in
-      let sk = skip_queue st r p ps wf in
-      let fits = (first_run st r p ps wf a).0 in
-      let w = write_queue st (storage_index c p.gap) p.header p.size ps ws sk.1 fits long in
-      let n = length-drop p.gap (queue c) in
-      let q = length-queue c wf in
-      ap (contents_of (packet hd p.size 0 ∷ ps)) (w.0 ∙ ap (λ (l : List ℕ). overwrite l 0 ws) sk.0)
-      ∙ contents_first hd p.size ps (drop p.gap (queue c)) ws (omega (arith, n, q)) long
-      ∙ ap (λ l. (hd, ws) ∷ l) (sym (contents_rest p.header p.size ps (drop p.gap (queue c))) ∙ ap (drop 1) (contents_skip p.header p.size p.gap ps (queue c)))
-
-  left_go : (st : List ℕ) (r : ℕ) (ps : List (Packet H)) → IsWellFormed (bytes st r ps)
-      → contents_of (drop 1 (without_first_gap ps))
-      (queue (bytes st (storage_index (bytes st (storage_index (bytes st r ps) (first_gap ps)) (without_first_gap ps))
-      (first_size (without_first_gap ps))) (drop 1 (without_first_gap ps))))
-      ≡ drop 1 (contents_of ps (queue (bytes st r ps)))
-  left_go st r [] wf = refl
-  left_go st r (p ∷ ps) wf =
-      let c = bytes st r (p ∷ ps) in
-      let sk = skip_queue st r p ps wf in
-      ap (contents_of ps) (pop_queue st (storage_index c p.gap) p.header p.size ps sk.1 ∙ ap (drop p.size) sk.0)
-      ∙ sym (contents_rest p.header p.size ps (drop p.gap (queue c))) ∙ ap (drop 1) (contents_skip p.header p.size p.gap ps (queue c))
-
-  left_with_go : (st : List ℕ) (r : ℕ) (ps : List (Packet H)) → IsWellFormed (bytes st r ps) → ArePlaced (length st) r 0 ps
-      → (hd : H) (ws : List ℕ) → length ws ≡ first_size ps → (o : List ℕ) → o ≡ overwrite st (storage_index (bytes st r ps) (first_gap ps)) ws
-      → contents_of (drop 1 (with_first_header hd (without_first_gap ps)))
-      (queue (bytes o (storage_index (bytes o (storage_index (bytes st r ps) (first_gap ps)) (with_first_header hd (without_first_gap ps)))
-      (first_size (with_first_header hd (without_first_gap ps)))) (drop 1 (with_first_header hd (without_first_gap ps)))))
-      ≡ drop 1 (contents_of ps (queue (bytes st r ps)))
-  left_with_go st r [] wf a hd ws long o is = refl
-  left_with_go st r (p ∷ ps) wf a hd ws long o is =
-      let c = bytes st r (p ∷ ps) in
-      let from = storage_index c p.gap in
-      let sk = skip_queue st r p ps wf in
-      let fits = (first_run st r p ps wf a).0 in
-      let w = write_queue st from p.header p.size ps ws sk.1 fits long in
-      let n = length-drop p.gap (queue c) in
-      let q = length-queue c wf in
-      ap (λ (l : List ℕ). contents_of ps (queue (bytes l (storage_index (bytes l from (packet hd p.size 0 ∷ ps)) p.size) ps))) is
-      ∙ ap (contents_of ps) (pop_queue (overwrite st from ws) from p.header p.size ps w.1
-      ∙ ap (drop p.size) (w.0 ∙ ap (λ (l : List ℕ). overwrite l 0 ws) sk.0) ∙ (over_head (drop p.gap (queue c)) ws p.size (omega (arith, n, q)) long).1)
-      ∙ sym (contents_rest p.header p.size ps (drop p.gap (queue c))) ∙ ap (drop 1) (contents_skip p.header p.size p.gap ps (queue c))
+  pub close_size : (ps : List (Packet H)) → (first_size (without_first_gap ps) ≡ first_size ps) × (length (without_first_gap ps) ≡ length ps)
+  close_size [] = (refl, refl)
+  close_size (p ∷ ps) = (refl, refl)
 
   module _ (q : PacketsState H) (ok : IsWellPlaced q) where
-    pub gap_dropped : contents (without_gap q) ≡ contents q
+    abbrev next : PacketsState H
+    next = without_gap q
+
+    pub gap_dropped : contents next ≡ contents q
     unfolding contents
-    gap_dropped = skipped_go q.storage q.read_at q.packets ok.0
+    gap_dropped =
+        ap (λ o. contents_of (without_first_gap q.packets) (queue o)) (sym (skipped_ring q))
+        ∙ ap (contents_of (without_first_gap q.packets)) (with_dequeued_parts (byte_ring q) ok.0 (first_gap q.packets) (gap_le q.packets)).0
+        ∙ contents_skip q.packets (queue (byte_ring q))
 
     pub shown : (hd : H) (ws : List ℕ) → IsFirst q hd ws → contents q ≡ (hd, ws) ∷ drop 1 (contents q)
-    unfolding contents
-    shown hd ws f = shown_go q.storage q.read_at q.packets ok.0 ok.1 hd ws f.0 f.1
+    shown hd ws f =
+        sym gap_dropped ∙ first_shown next (skipped_well q ok) (close_gap q.packets) hd ws (drop 1 q.packets) (ap without_first_gap f.0) f.1
+        ∙ ap (λ l. (hd, ws) ∷ drop 1 l) gap_dropped
 
     pub refused : (hd : H) (ws : List ℕ) → q.packets ≢ [] → length ws ≡ first_size q.packets
-        → contents (with_first_bytes (without_gap q) hd ws) ≡ (hd, ws) ∷ drop 1 (contents q)
-    unfolding contents
-    refused hd ws some long = refused_go q.storage q.read_at q.packets ok.0 ok.1 some hd ws long
+        → contents (with_first_bytes next hd ws) ≡ (hd, ws) ∷ drop 1 (contents q)
+    refused hd ws some long =
+        let size = close_size q.packets in
+        (first_written next (skipped_well q ok) (close_gap q.packets) hd ws (long ∙ sym size.0)).0
+        (λ e. some (nil_from_length q.packets (sym size.1 ∙ ap length e)))
+        ∙ ap (λ l. (hd, ws) ∷ drop 1 l) gap_dropped
 
-    pub left : contents (without_first_and_gap q) ≡ drop 1 (contents q)
-    unfolding contents
-    left = left_go q.storage q.read_at q.packets ok.0
+    pub left : contents (without_first next) ≡ drop 1 (contents q)
+    left = first_left next (skipped_well q ok) (close_gap q.packets) ∙ ap (drop 1) gap_dropped
 
-    pub left_with : (hd : H) (ws : List ℕ) → length ws ≡ first_size q.packets →
-        contents (without_first (with_first_bytes (without_gap q) hd ws)) ≡ drop 1 (contents q)
-    unfolding contents
-    left_with hd ws long = left_with_go q.storage q.read_at q.packets ok.0 ok.1 hd ws long _ refl
+    pub left_with : (hd : H) (ws : List ℕ) → length ws ≡ first_size q.packets → contents (without_first (with_first_bytes next hd ws)) ≡ drop 1 (contents q)
+    left_with hd ws long =
+        first_left (with_first_bytes next hd ws) (headed_well next (skipped_well q ok) hd ws) ((headed hd next.packets).0 ∙ close_gap q.packets)
+        ∙ (first_written next (skipped_well q ok) (close_gap q.packets) hd ws (long ∙ sym (close_size q.packets).0)).1 ∙ ap (drop 1) gap_dropped

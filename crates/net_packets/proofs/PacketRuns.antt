@@ -1,8 +1,5 @@
 -- Over whole runs, a queue's packets leave in the order in which they came.
-use Rattle.std.proofs.Common.{◌≢◌, ◌≡◌, ℕ, ◌+◌, ◌-◌, ◌≤◌, List, [], ◌∷◌, ◌++◌, length, take, drop}
-use Rattle.std.proofs.Common.{refl, sym, ap, ap₂, ◌∙◌, subst, inl, inr, arith, ◌⊎◌, ◌<◌}
-use Rattle.std.proofs.Common.{append_assoc, length-append, length-drop, suc, ◌↔◌, Bool, true, false}
-use Rattle.std.proofs.Common.{if◌then◌else◌, ◌==◌, Result, Ok, Err, IfOk, min}
+use Rattle.std.proofs.Common.{◌≢◌, ◌≡◌, ℕ, ◌+◌, ◌-◌, ◌≤◌, List, [], ◌∷◌, ◌++◌, length, take, drop, refl, sym, ap, ap₂, ◌∙◌, subst, inl, arith, append_assoc, length-append, length-drop, suc, ◌↔◌, Bool, true, false, if◌then◌else◌, ◌==◌, Result, Ok, Err, IfOk, min}
 use Rattle.std.proofs.lemmas.List.{append-nil, take_all, drop_all, nil_from_length, length-take-le}
 use Rattle.std.proofs.lemmas.Bool.{eqb-true, eq-eqb}
 use Rattle.std.proofs.lemmas.Option.{none-some}
@@ -11,27 +8,15 @@ use Rattle.std.specs.Prelude.{set}
 use Rattle.std.specs.declared.option.Option.TheVariants.{Some, None}
 use Rattle.net_ring.specs.Overwrite.{overwrite}
 use Rattle.net_ring.specs.Ring.{index_after, queue, storage_index}
-use Rattle.net_packets.specs.Packets.{Packet, PacketsState, no_packets, packet, bytes_used}
-use Rattle.net_packets.specs.Packets.{slots_used, byte_ring, ArePlaced, placement, with_packet}
-use Rattle.net_packets.specs.Packets.{with_packet_if, with_packet_if_room, only_last, last_index}
-use Rattle.net_packets.specs.Packets.{last_bytes, with_last_bytes, with_last_size, with_first_size}
-use Rattle.net_packets.specs.Packets.{first_gap, first_size, without_first_gap, without_gap}
-use Rattle.net_packets.specs.Packets.{with_first_header, with_first_bytes, without_first}
-use Rattle.net_packets.specs.Packets.{without_first_and_gap, after_hand_out, last_dequeued_bytes_index}
-use Rattle.net_packets.specs.Packets.{last_dequeued_bytes, AreLastDequeued, with_bytes, first_bytes, IsFirst}
-use Rattle.net_packets.specs.Packets.{IsFirstSized, IsWellPlaced}
+use Rattle.net_packets.specs.Packets.{Packet, PacketsState, no_packets, packet, bytes_used, byte_ring, placement, with_packet, with_packet_if_room, only_last, last_index, last_bytes, with_last_bytes, with_last_size, first_gap, first_size, without_first_gap, without_gap, with_first_bytes, without_first, without_first_and_gap, after_hand_out, last_dequeued_bytes_index, last_dequeued_bytes, AreLastDequeued, with_bytes, first_bytes, IsFirst, IsFirstSized, IsWellPlaced}
 use Rattle.net_ring.specs.Log.{Log, empty_log}
-use Rattle.net_packets.specs.PacketHistory.{contents_of, contents, QueueCall, Reset, Place}
-use Rattle.net_packets.specs.PacketHistory.{WriteLast, Enqueue, EnqueueWith, Peek, DequeueErr}
-use Rattle.net_packets.specs.PacketHistory.{DequeueOk, DequeueWith, Take, WriteLastDequeued, Dequeue, Makes, MakesAll}
-use Rattle.net_packets.specs.PacketHistory.{with_bytes_in_last_entry, log_after, log_after_all}
-use Rattle.net_packets.specs.PacketHistory.{history}
+use Rattle.net_packets.specs.PacketHistory.{contents_of, contents, QueueCall, Reset, Place, WriteLast, Enqueue, EnqueueWith, Peek, DequeueErr, DequeueOk, DequeueWith, Take, WriteLastDequeued, Dequeue, Makes, MakesAll, with_bytes_in_last_entry, log_after, log_after_all, history}
 use Rattle.net_ring.proofs.Overwrites.{overwrite-same}
-use Rattle.net_ring.proofs.Rotations.{IsStorageIndex, length-overwrite, length-queue, cut, overwrite_at, storage_index_is}
+use Rattle.net_ring.proofs.Rotations.{IsStorageIndex, length-queue, cut, overwrite_at, storage_index_is}
 use Rattle.net_ring.proofs.RingFacts.{queue_law, spare_law}
-use Rattle.net_packets.proofs.PacketFacts.{bytes_append, place_cases, place_place, place_wf, placed_skip, placed_pop, slots_for_pos}
-use Rattle.net_packets.proofs.PacketSteps.{closed, last_append, before_append, last_fits, head_fits, push_well, close_gap}
-use Rattle.net_packets.proofs.PacketOrder.{some_of, contents_append}
+use Rattle.net_packets.proofs.PacketFacts.{bytes_append, place_cases, place_place}
+use Rattle.net_packets.proofs.PacketSteps.{mk, last_append, last_ends, head_fits, push_well, pushed_is, cut_is, with_bytes_well, skipped_well, headed, headed_well, popped_well, close_gap}
+use Rattle.net_packets.proofs.PacketOrder.{some_of, contents_append, close_size}
 use Rattle.net_packets.proofs.PacketOrder as order
 
 -- what two clauses say of a result that is `Ok`
@@ -53,81 +38,20 @@ ends_in (x ∷ (o ∷ xs)) some =
     (x ∷ rest.0, rest.1, ap (λ l. x ∷ l) rest.2)
 
 module _ {H : Type 0} where
-  abbrev mk : ℕ → List ℕ → ℕ → List (Packet H) → PacketsState H
-  mk n st r ps = record { slot_count = n; storage = st; read_at = r; packets = ps }
-
   -- ---- each step leaves the packets well placed
-  with_bytes_well : (q : PacketsState H) → IsWellPlaced q → (p : ℕ) (ws : List ℕ) → IsWellPlaced (with_bytes q p ws)
-  with_bytes_well q ok p ws =
-      subst (λ (n : ℕ). (((q.read_at ≡ 0) ⊎ (q.read_at < n)) × (bytes_used q.packets ≤ n)) × ArePlaced n q.read_at 0 q.packets
-      × (slots_used q.packets ≤ q.slot_count)) (sym (length-overwrite q.storage p ws)) ok
-
-  skipped_go : (n : ℕ) (st : List ℕ) (r : ℕ) (ps : List (Packet H)) → IsWellPlaced (mk n st r ps) → IsWellPlaced (without_gap (mk n st r ps))
-  skipped_go n st r [] ok = ((place_wf (length st) r 0 ok.0.0 (omega arith), ok.0.1), tt, ok.2)
-  skipped_go n st r (p ∷ ps) ok =
-      let some = slots_for_pos p.gap in
-      let at = place_wf (length st) r p.gap ok.0.0 (omega (arith, ok.0.1)) in
-      ((at, omega (arith, ok.0.1)), placed_skip (length st) r p ps ok.0.0 ok.0.1 ok.1, omega (arith, some, ok.2))
-
-  popped_go : (n : ℕ) (st : List ℕ) (r : ℕ) (ps : List (Packet H)) → first_gap ps ≡ 0 →
-      IsWellPlaced (mk n st r ps) → IsWellPlaced (without_first (mk n st r ps))
-  popped_go n st r [] z ok = ((place_wf (length st) r 0 ok.0.0 (omega arith), ok.0.1), tt, ok.2)
-  popped_go n st r (p ∷ ps) z ok =
-      let at = place_wf (length st) r p.size ok.0.0 (omega (arith, ok.0.1)) in
-      ((at, omega (arith, ok.0.1)), placed_pop (length st) r p ps ok.0.0 ok.0.1 z ok.1, omega (arith, ok.2))
-
-  headed_go : (n : ℕ) (st : List ℕ) (r : ℕ) (ps : List (Packet H)) (hd : H) → IsWellPlaced (mk n st r ps)
-      → IsWellPlaced (mk n st r (with_first_header hd ps)) × (first_gap (with_first_header hd ps) ≡ first_gap ps)
-  headed_go n st r [] hd ok = (ok, refl)
-  headed_go n st r (p ∷ ps) hd ok = (ok, refl)
-
   module _ (q : PacketsState H) (ok : IsWellPlaced q) where
-    skipped_well : IsWellPlaced (without_gap q)
-    skipped_well = skipped_go q.slot_count q.storage q.read_at q.packets ok
-
     taken_well : IsWellPlaced (without_first_and_gap q)
-    taken_well = popped_go q.slot_count q.storage _ (without_first_gap q.packets) (close_gap q.packets) skipped_well
-
-    module _ (hd : H) (ws : List ℕ) where
-      written_headed : IsWellPlaced (with_first_bytes (without_gap q) hd ws)
-          × (first_gap (with_first_bytes (without_gap q) hd ws).packets ≡ first_gap (without_first_gap q.packets))
-      written_headed =
-          let at = (without_gap q).read_at in
-          headed_go q.slot_count (overwrite q.storage at ws) at (without_first_gap q.packets) hd (with_bytes_well (without_gap q) skipped_well at ws)
-
-      written_off : IsWellPlaced (without_first (with_first_bytes (without_gap q) hd ws))
-      written_off = popped_go q.slot_count _ _ (with_first_header hd (without_first_gap q.packets)) (written_headed.1 ∙ close_gap q.packets) written_headed.0
-
-    -- a packet that comes last
-    module _ (s : ℕ) (hd : H) (gap : ℕ) (e : placement q s ≡ Some gap) where
-      pushed_well : (k : ℕ) → k ≤ s → IsWellPlaced (with_packet q gap k hd)
-      pushed_well k le =
-          let m = order.m q ok in let b = order.b q ok in
-          let is = order.is_queue q ok in
-          let h = closed m b q.packets (order.holds q ok) in
-          subst (λ (o : PacketsState H). IsWellPlaced (with_packet o gap k hd)) is
-          (push_well m b h gap s (ap (λ (o : PacketsState H). placement o s) is ∙ e) hd k le)
-
-      placed_is : with_packet_if_room q s hd ≡ with_packet q gap s hd
-      placed_is = ap (λ o. with_packet_if q o s hd) e
-
-      cut_is : (k : ℕ) (ws : List ℕ) → with_bytes (with_packet q gap k hd) (last_index (with_packet q gap s hd)) ws ≡ with_last_size k
-          (with_last_bytes (with_packet_if_room q s hd) ws)
-      cut_is k ws =
-          let all = with_packet q gap s hd in
-          ap₂ (λ (before back : List (Packet H)). mk q.slot_count (overwrite q.storage (last_index all) ws) all.read_at (before ++ back))
-          (sym (before_append q.packets (packet hd s gap))) (sym (ap (with_first_size k) (last_append q.packets (packet hd s gap))))
-          ∙ ap (λ o. with_last_size k (with_last_bytes o ws)) (sym placed_is)
+    taken_well = popped_well (without_gap q) (close_gap q.packets) (skipped_well q ok)
 
     module _ (s : ℕ) (hd : H) (some : placement q s ≢ None) where
       placed_well : IsWellPlaced (with_packet_if_room q s hd)
-      placed_well = let g = some_of (placement q s) some in subst IsWellPlaced (sym (placed_is s hd g.0 g.1)) (pushed_well s hd g.0 g.1 s (omega arith))
+      placed_well = let g = some_of (placement q s) some in subst IsWellPlaced (sym (pushed_is q ok g.0 s g.1 hd)) (push_well q ok g.0 s g.1 hd s (omega arith))
 
       cut_well : (k : ℕ) → k ≤ s → (ws : List ℕ) → IsWellPlaced (with_last_size k (with_last_bytes (with_packet_if_room q s hd) ws))
       cut_well k le ws =
           let g = some_of (placement q s) some in
-          subst IsWellPlaced (cut_is s hd g.0 g.1 k ws)
-          (with_bytes_well (with_packet q g.0 k hd) (pushed_well s hd g.0 g.1 k le) (last_index (with_packet q g.0 s hd)) ws)
+          subst IsWellPlaced (cut_is q ok g.0 s g.1 hd k ws)
+          (with_bytes_well (with_packet q g.0 k hd) (push_well q ok g.0 s g.1 hd k le) (last_index (with_packet q g.0 s hd)) ws)
 
   keeps : (call : QueueCall H) (q r : PacketsState H) → IsWellPlaced q → Makes call q r → IsWellPlaced r
   keeps Reset q r ok is = subst IsWellPlaced (sym is) ((inl refl, omega arith), tt, omega arith)
@@ -138,8 +62,11 @@ module _ {H : Type 0} where
       with_bytes_well o (placed_well q ok (length ws) hd does.0) (last_index o) ws)
   keeps (EnqueueWith hd ws count) q r ok does = subst IsWellPlaced (sym does.2) (cut_well q ok (length ws) hd does.0 count does.1 ws)
   keeps Peek q r ok is = subst IsWellPlaced (sym is) (skipped_well q ok)
-  keeps (DequeueErr hd ws) q r ok does = subst IsWellPlaced (sym does.2) (written_headed q ok hd ws).0
-  keeps (DequeueOk hd ws after written) q r ok does = subst IsWellPlaced (sym does.2) (written_off q ok after written)
+  keeps (DequeueErr hd ws) q r ok does = subst IsWellPlaced (sym does.2) (headed_well (without_gap q) (skipped_well q ok) hd ws)
+  keeps (DequeueOk hd ws after written) q r ok does =
+      let next = with_first_bytes (without_gap q) after written in
+      subst IsWellPlaced (sym does.2)
+      (popped_well next ((headed after (without_first_gap q.packets)).0 ∙ close_gap q.packets) (headed_well (without_gap q) (skipped_well q ok) after written))
   keeps (Take hd ws) q r ok does = subst IsWellPlaced (sym does.1) (taken_well q ok)
   keeps (WriteLastDequeued ws) q r ok does = subst IsWellPlaced (sym does.1) (with_bytes_well q ok (last_dequeued_bytes_index q (length ws)) ws)
   keeps (Dequeue hd ws written) q r ok does = subst IsWellPlaced (sym does.2)
@@ -168,11 +95,9 @@ module _ {H : Type 0} where
       let bs = queue c in
       let sum = bytes_append ps p in
       let size : length ws ≡ p.size = long ∙ ap first_size (last_append ps p) in
-      let f = last_fits (length st) r 0 q.packets ok.0.0 (omega (arith, ok.0.1)) ok.1 in
+      let f = last_ends q ok in
       let i : ℕ = bytes_used q.packets - first_size (only_last q.packets) in
-      let z : 0 + bytes_used q.packets - first_size (only_last q.packets) ≡ i = omega arith in
-      let at = ap (index_after (length st) r) z in
-      let w = (queue_law c ok.0 i (last_index q) ws (omega (arith, long, f.0)) (omega (arith, long, at, f.1)) (storage_index_is c i)).0 in
+      let w = (queue_law c ok.0 i (last_index q) ws (omega (arith, long, f.0)) (omega (arith, long, f.1)) (storage_index_is c i)).0 in
       let all = length-queue c ok.0 in
       let c1 = cut (bytes_used ps) bs (omega (arith, all, sum)) in let a = c1.0 in let v = c1.1 in
       let c2 = cut p.gap v (omega (arith, all, sum, c1.4)) in let x = c2.0 in let old = c2.1 in
@@ -212,10 +137,6 @@ module _ {H : Type 0} where
       (subst (λ (j : ℕ). IsStorageIndex (length q.storage) q.read_at j (last_dequeued_bytes_index q s)) z (storage_index_is c (length q.storage - s))) in
       ap (contents_of q.packets) w.0
 
-  close_size : (ps : List (Packet H)) → first_size (without_first_gap ps) ≡ first_size ps
-  close_size [] = refl
-  close_size (p ∷ ps) = refl
-
   -- the bytes of a packet that was taken off are before the read index
   rest_bytes : (ps : List (Packet H)) → bytes_used (drop 1 ps) + first_size ps ≤ bytes_used ps
   rest_bytes [] = omega arith
@@ -230,17 +151,14 @@ module _ {H : Type 0} where
       let f = head_fits c r ps ok.0.0 ok.0.1 ok.1 z in
       let back : s + (c - s) ≡ c = omega (arith, f.1) in
       let round : last_dequeued_bytes_index (without_first (mk n st r ps)) s ≡ r =
-      place_place c r s (c - s) ok.0.0 (omega (arith, f.1)) ∙ ap (index_after c r) back ∙ (elim (place_cases c r c) [
-        | inl h ↦ absurd (omega (arith, h.0))
-        | inr h ↦ omega (arith, h.1, f.1)
-      ]) in
+      place_place c r s (c - s) ok.0.0 (omega (arith, f.1)) ∙ ap (index_after c r) back ∙ omega (arith, place_cases c r c, f.1) in
       (round, (omega (arith, rest, ok.0.1), omega (arith, round, f.1)))
 
   off_contents : (q : PacketsState H) → IsWellPlaced q → (ws : List ℕ) → length ws ≡ first_size q.packets
       → contents (with_bytes (without_first_and_gap q) (without_gap q).read_at ws) ≡ contents (without_first_and_gap q)
   off_contents q ok ws long =
       let f = off_go q.slot_count q.storage (without_gap q).read_at (without_first_gap q.packets) (skipped_well q ok) (close_gap q.packets) in
-      let size : first_size (without_first_gap q.packets) ≡ length ws = close_size q.packets ∙ sym long in
+      let size : first_size (without_first_gap q.packets) ≡ length ws = (close_size q.packets).0 ∙ sym long in
       ap (λ (p : ℕ). contents (with_bytes (without_first_and_gap q) p ws)) (sym f.0 ∙ ap (last_dequeued_bytes_index (without_first_and_gap q)) size)
       ∙ last_dequeued_contents (without_first_and_gap q) (taken_well q ok) ws (subst (λ (s : ℕ). AreLastDequeued (without_first_and_gap q) s) size f.1)
 
@@ -270,15 +188,10 @@ module _ {H : Type 0} where
   placed_long q ok s hd some =
       let g = some_of (placement q s) some in
       let o = with_packet_if_room q s hd in
-      let w = placed_well q ok s hd some in
-      let f = last_fits (length o.storage) o.read_at 0 o.packets w.0.0 (omega (arith, w.0.1)) w.1 in
-      let z : 0 + bytes_used o.packets - first_size (only_last o.packets) ≡ bytes_used o.packets - first_size (only_last o.packets) = omega arith in
-      let at = ap (index_after (length o.storage) o.read_at) z in
+      let f = last_ends o (placed_well q ok s hd some) in
       let long = length-drop (last_index o) o.storage in
-      let size : first_size (only_last o.packets) ≡ s =
-      ap (λ (p : PacketsState H). first_size (only_last p.packets)) (placed_is q ok s hd g.0 g.1)
-      ∙ ap first_size (last_append q.packets (packet hd s g.0)) in
-      length-take-le (first_size (only_last o.packets)) (drop (last_index o) o.storage) (omega (arith, at, f.1, long)) ∙ size
+      length-take-le (first_size (only_last o.packets)) (drop (last_index o) o.storage) (omega (arith, f.1, long))
+      ∙ ap (λ (p : PacketsState H). first_size (only_last p.packets)) (pushed_is q ok g.0 s g.1 hd) ∙ ap first_size (last_append q.packets (packet hd s g.0))
 
   placed_stands : (q : PacketsState H) → IsWellPlaced q → (s : ℕ) (hd : H) → placement q s ≢ None
       → contents (with_packet_if_room q s hd) ≡ contents q ++ ((hd, last_bytes (with_packet_if_room q s hd)) ∷ [])
@@ -300,7 +213,7 @@ module _ {H : Type 0} where
       → (last_dequeued_bytes (without_first_and_gap q) s ≡ first_bytes (without_gap q)) × (length (last_dequeued_bytes (without_first_and_gap q) s) ≡ s)
   taken_bytes q ok s is =
       let f = off_go q.slot_count q.storage (without_gap q).read_at (without_first_gap q.packets) (skipped_well q ok) (close_gap q.packets) in
-      let size : first_size (without_first_gap q.packets) ≡ s = close_size q.packets ∙ sym is in
+      let size : first_size (without_first_gap q.packets) ≡ s = (close_size q.packets).0 ∙ sym is in
       let fits = subst (λ (n : ℕ). AreLastDequeued (without_first_and_gap q) n) size f.1 in
       let at : last_dequeued_bytes_index (without_first_and_gap q) s ≡ (without_gap q).read_at = sym (ap (last_dequeued_bytes_index (without_first_and_gap q)) size) ∙ f.0 in
       let long = length-drop (last_dequeued_bytes_index (without_first_and_gap q) s) q.storage in (
@@ -324,12 +237,8 @@ module _ {H : Type 0} where
   pub peeked_contents : (q : PacketsState H) → IsWellPlaced q → contents (without_first_and_gap (without_gap q)) ≡ drop 1 (contents q)
   peeked_contents q ok = order.left (without_gap q) (skipped_well q ok) ∙ ap (drop 1) (order.gap_dropped q ok)
 
-  still_go : (ps : List (Packet H)) → length (without_first_gap ps) ≡ length ps
-  still_go [] = refl
-  still_go (p ∷ ps) = refl
-
   pub still_there : (q : PacketsState H) → length (without_gap q).packets ≡ length q.packets
-  still_there q = still_go q.packets
+  still_there q = (close_size q.packets).1
 
   some_first : (ps : List (Packet H)) (hd : H) (n : ℕ) → IsFirstSized ps hd n → ps ≢ []
   some_first [] hd n e z = let k = ap length e in omega (arith, k)

@@ -6,10 +6,11 @@ use lib.Dec.{T}
 use seplogic.Ra.Ura.{Ura}
 use mir.Syntax.{Ty, tcons, tnil}
 use mir.Val.{Val, WT, has_ty, has_tys, vstruct, vcons, vnil, of_list}
-use base.Logic.{ent, sep}
+use base.Logic.{SProp, ent, sep, emp, via, comm∗, mono_l, emp∗}
 use types.Logic.{Logic, sem}
-use types.Kit.{Item, Goal, Seq, ‵, ◌$◌, ◌∵◌, !, qed, move, drop, fsplit, fsplit3, fpick, feq_l, feq_i, fjoin, fpack, done}
+use types.Kit.{Item, Goal, Seq, prop, Step, step, ‵, ◌$◌, ◌∵◌, !, qed, move, drop, fsplit, fsplit3, fpick, feq_l, feq_i, fjoin, fpack, done}
 use types.Match.{live}
+use contract.Monad.{fact, fact_i}
 use denote.Laws.{Typed}
 use denote.RattleType.{RattleType, Valss}
 use denote.Steps.{nothing, only}
@@ -46,6 +47,14 @@ pair_of 𝓛 R S x y u v =
     qed 𝓛 (‵ (R.own_val x (u ∷ [])) ∷ ‵ (S.own_val y (v ∷ [])) ∷ []) ∵ nothing ! $ move ! (2 ∷ 0 ∷ []) $ fjoin ! $ move ! (1 ∷ 0 ∷ []) $ fjoin ! $
     feq_i ! (List Val) (pair_val u v ∷ []) (pair_val u v ∷ []) refl $ fjoin ! $
     fpack ! (Valss (R ∷ S ∷ [])) (within (shape (tuple_type (R ∷ S ∷ []))) (x, (y, tt)) (pair_val u v ∷ [])) (u ∷ [], (v ∷ [], tt)) $ done !
+
+-- a goal P ∗ F, where F is several facts: they are shown, and P is left
+pub and_fact : {M : Type 1} (𝓤 : Ura M) (φ : Type 0) (F : SProp 𝓤) → φ → ent 𝓤 (emp 𝓤) F → ent 𝓤 (emp 𝓤) (sep 𝓤 (fact 𝓤 φ) F)
+and_fact 𝓤 φ F x f = via 𝓤 (sep 𝓤 (emp 𝓤) F) (via 𝓤 F f (emp∗ 𝓤 F)) (mono_l 𝓤 F (fact_i 𝓤 φ (emp 𝓤) x))
+
+pub says_all : {M : Type 1} {𝓤 : Ura M} {𝓛 : Logic 𝓤} {K : Type 0} {Γ : List (Item 𝓤)} → K → {P F : SProp 𝓤} → ent 𝓤 (emp 𝓤) F
+    → Step K 𝓛 Γ (prop P) Γ (prop (sep 𝓤 P F))
+says_all {𝓤 = 𝓤} t {P} {F} f = step (λ s. record { prf = via 𝓤 P s.prf (via 𝓤 (sep 𝓤 (emp 𝓤) P) (emp∗ 𝓤 P) (via 𝓤 (sep 𝓤 F P) (mono_l 𝓤 P f) (comm∗ 𝓤 F P))) })
 
 module _ {M : Type 1} {𝓤 : Ura M} {𝓛 : Logic 𝓤} {K : Type 0} {Γ : List (Item 𝓤)} {G : Goal 𝓤 𝓛.H} where
   -- what is owned at `Ok` and at `Err`

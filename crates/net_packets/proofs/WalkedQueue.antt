@@ -6,11 +6,12 @@ use mir.Syntax.{Args, Dict, a_type, dcons, dnil}
 use base.Logic.{SProp, ent, sep, emp}
 use base.Fml.{flft, ftrue}
 use types.Logic.{Logic}
-use types.Kit.{Item, ‵, raw, ◌⊛◌, ◌$◌, ◌∵◌, !, qed, use0, join, done}
+use types.Kit.{Item, ‵, raw, ◌⊛◌, ◌$◌, ◌∵◌, !, qed, by, move, drop, use0, join, done}
 use contract.BorrowLft.{◌⊑◌}
 use contract.Lifetimes.{Lfts, Shares}
 use contract.Monad.{fact, fact_i}
 use denote.RattleType.{RattleType}
+use denote.Steps.{heard}
 use denote.Param.{param, bounded}
 use denote.Param.Laws.{Laws}
 use Rattle.net_packets.specs.Packets.{PacketsState}
@@ -61,3 +62,10 @@ module _ (G : Given) where
       qed 𝓛 (raw P ∷ []) ∵ use0 𝓛 (raw (fact 𝓤 (κs.1.1.1.0 ⊑ G.B.lives))) (fact_i 𝓤 _ (emp 𝓤) live.2) $ join ! $
       use0 𝓛 (raw (fact 𝓤 (κs.1.1.0 ⊑ G.N.lives))) (fact_i 𝓤 _ (emp 𝓤) live.1) $ join ! $
       use0 𝓛 (raw (fact 𝓤 (κs.1.0 ⊑ G.H.lives))) (fact_i 𝓤 _ (emp 𝓤) live.0) $ join ! $ done !
+
+  -- what a call of such a queue is given says the lifetimes
+  pub lives : {M : Type 1} {𝓤 : Ura M} (𝓛 : Logic 𝓤) (κs : Lfts 4) (P R : SProp 𝓤) → (Live κs → ent 𝓤 P R) → ent 𝓤 (sep 𝓤 P (Asked 𝓤 κs (emp 𝓤))) R
+  lives {𝓤 = 𝓤} 𝓛 κs P R k =
+      qed 𝓛 (raw P ∷ raw (fact 𝓤 (κs.1.0 ⊑ G.H.lives)) ∷ raw (fact 𝓤 (κs.1.1.0 ⊑ G.N.lives)) ∷ raw (fact 𝓤 (κs.1.1.1.0 ⊑ G.B.lives)) ∷ ‵ ftrue ∷ []) ∵
+      move ! (1 ∷ []) $ heard ! _ (λ lH. move ! (1 ∷ []) $ heard ! _ (λ lN. move ! (1 ∷ []) $ heard ! _ (λ lB. move ! (1 ∷ []) $ drop ! $
+      by ! (k (lH, lN, lB)))))

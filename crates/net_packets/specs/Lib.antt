@@ -4,3 +4,4 @@ pub mod PacketSlots
 pub mod PacketLends
 pub mod PacketHistory
 pub mod PacketCalls
+pub mod Drops

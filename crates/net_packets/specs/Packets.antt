@@ -21,7 +21,7 @@ use Rattle.std.specs.Prelude.{Option}
 use Rattle.std.specs.declared.option.Option.TheVariants.{Some, None}
 use Rattle.net_ring.specs.Overwrite.{overwrite}
 use Rattle.net_ring.specs.Ring.{RingState, ring, window, index_after, storage_index, last_dequeued_index}
-use Rattle.net_ring.specs.Ring.{contiguous_window, from_start_if_empty, IsWellFormed}
+use Rattle.net_ring.specs.Ring.{contiguous_window, rewind_if_empty, IsWellFormed}
 
 -- a packet: its header, how many bytes it has, and how many bytes of the storage are skipped before
 -- it
@@ -76,7 +76,7 @@ module _ {H : Type 0} where
   -- the gap before a packet of s bytes, if there are room and slots for it
   abbrev pub placement : PacketsState H → ℕ → Option ℕ
   placement q s =
-      let g = from_start_if_empty (byte_ring q) in
+      let g = rewind_if_empty (byte_ring q) in
       if_slots (q.slot_count - slots_used q.packets) (gap_for s (contiguous_window g) (window g))
 
   -- in a storage of c bytes, a packet that begins o bytes after the index r: it doesn't reach past the
@@ -126,7 +126,7 @@ module _ {H : Type 0} where
       record {
         slot_count = q.slot_count;
         storage = q.storage;
-        read_at = (from_start_if_empty (byte_ring q)).read_at;
+        read_at = (rewind_if_empty (byte_ring q)).read_at;
         packets = q.packets ++ (packet h s gap ∷ []);
       }
 

@@ -1,8 +1,9 @@
 //! Laws of packet queues. No function here does anything: each is called for its contract.
-ghost use Rattle.std.specs.Prelude.{◌≡◌, ◌≢◌, ◌≤◌, ◌<◌, ◌++◌, ◌∷◌, ◌↔◌, [], ℕ, List, Bool};
+ghost use Rattle.std.specs.Prelude.{◌≡◌, ◌≢◌, ◌≤◌, ◌<◌, ◌+◌, ◌++◌, ◌∷◌, ◌↔◌, [], ℕ, List, Bool};
 ghost use Rattle.std.specs.Prelude.{length, take, drop, if◌then◌else◌};
 ghost use Rattle.std.specs.declared.option.Option.TheVariants.{Some, None};
 ghost use Rattle.net_packets.specs.Packets.{PacketsState, IsWellPlaced, no_packets, IsFirst};
+ghost use Rattle.net_packets.specs.Drops.{after_drops, without_oldest, HasNoRoom, HasNoRoomBefore};
 ghost use Rattle.net_packets.specs.Packets.{placement, with_packet_if_room};
 ghost use Rattle.net_packets.specs.Packets.{with_last_bytes, with_last_size, without_gap};
 ghost use Rattle.net_packets.specs.Packets.{first_size, with_first_bytes, without_first, after_hand_out};
@@ -93,6 +94,18 @@ pub fn accepted_packets_leave_in_turn<H>()
     ensures { (slot_count : ℕ) (storage : List ℕ) (calls : List (QueueCall H)) (r : PacketsState H)
         → MakesAll calls (no_packets slot_count storage) r
         → (history calls).left ++ contents r ≡ (history calls).accepted }
+{}
+
+/// States how a queue changes in a loop that drops its oldest packets until a new one has room, for the invariant of that
+/// loop: by contents, and by states, in words of `Drops.antt` that a caller's proof keeps as names.
+pub fn drops<H>()
+    ensures contents { (k : ℕ) (p q r : PacketsState H) → contents q ≡ drop k (contents p)
+        → contents r ≡ drop 1 (contents q) → contents r ≡ drop (k + 1) (contents p) }
+    ensures none { (p : PacketsState H) (s : ℕ) → (p ≡ after_drops 0 p) × HasNoRoomBefore 0 p s }
+    ensures one_more { (k : ℕ) (p q r : PacketsState H) → q ≡ after_drops k p
+        → r ≡ without_oldest q → r ≡ after_drops (k + 1) p }
+    ensures lacks { (k : ℕ) (p q : PacketsState H) (s : ℕ) → HasNoRoomBefore k p s → q ≡ after_drops k p
+        → HasNoRoom q s → HasNoRoomBefore (k + 1) p s }
 {}
 
 /// States that a clone of a slot is the same, if that of a header is, and is never refused, if that of

@@ -6,11 +6,11 @@ use Prim.Native.Nat.{ℕ, ◌<◌, ◌^◌}
 use lib.ListN.{length, take as take-list, drop as drop-list}
 use lib.Dec.{T, lit<}
 use seplogic.Ra.Ura.{Ura}
-use mir.Syntax.{Fn, Opd as Operand, named, erased, mut, w8, w64, ty_int, ty_ref}
+use mir.Syntax.{Fn, named, erased, mut, w8, w64, ty_int, ty_ref}
 use mir.MapTy.{inst_fn}
 use mir.Val.{Val, vint, vptr, vstruct, of_list, has_ty, WT}
 use base.Logic.{SProp, ent, sep, emp, id⊢}
-use base.Fml.{GName, Share, Fml, ftrue, flft, fres}
+use base.Fml.{GName, Share, Fml, flft, fres}
 use prog.Wp.{Env, WpFn, Wp, after_seq, at_return}
 use prog.Model.{Model}
 use types.Logic.{Logic, sem}
@@ -18,17 +18,15 @@ use contract.BorrowLft.{◌⊑◌, ⊑_trans, meet_⊑_right}
 use contract.Lifetimes.{Lfts, Shares, AllOutlive}
 use contract.Monad.{fact, fact_i}
 use contract.Running.{Running, MachineTables, tables}
-use types.Kit.{mean, any_q, Post as After, rewrite, frame, ‵, raw, ◌⊛◌, some, later, at_ret, ◌$◌}
-use types.Kit.{◌∵◌, !, qed, by, move, keep, drop, split, split3, join, fsplit, fsplit3, fjoin}
-use types.Kit.{feq_i, fpack, pick, suffices, use0, use1, use2, use3, await, done}
+use types.Kit.{mean, any_q, Post as After, rewrite, frame, ‵, raw, ◌⊛◌, some, later, at_ret, ◌$◌, ◌∵◌, !, qed, by, move, keep, drop, split, split3, join, fsplit, fsplit3, fjoin, feq_i, fpack, pick, suffices, use0, use1, use2, use3, await, done}
 use types.Run.{stop, fld, addr, lit, of_opd, no_more, and_then, first, switches_on, exec, returns, returns_within, enter}
 use types.ByLocal.{lands_as, alloc_all, pass_all, free_all, look_at, get, get_in, get_tag, through, sets, sets_last, env}
 use types.Part.{agg, sub, whole}
 use types.Match.{live, vrt, in_variant}
 use denote.Exit.{no}
 use denote.RattleType.{RattleType, Valss, owns}
-use denote.Laws.{Are, Ises, Is, shows}
-use denote.Signature.{types_at, plain, mut_ref_to}
+use denote.Laws.{Is, shows}
+use denote.Signature.{plain, mut_ref_to}
 use denote.Builtin.{u8, usize}
 use denote.Ref.{MutBor, MutRef, mut_vals, mut_Tells}
 use denote.Plain.{uint_Makes}
@@ -48,23 +46,17 @@ use denote.Triple.Statement.{Contract}
 use denote.Triple.Table.{framed}
 use denote.Triple.Call.{calls_at}
 use denote.Triple.Walked.{Stays, stay_dropped, walk_of, ends_at, Goes-spent_ref}
-use Rattle.std.proofs.VecSteps.Shapes.{after, head, front, arm_body}
-use Rattle.std.proofs.Common.{arith}
-use Rattle.std.proofs.raw_atomic.Walks.{proved_at}
+use Rattle.std.proofs.VecSteps.Shapes.{after, front, arm_body}
+use Rattle.std.proofs.raw_atomic.Walks.{proved}
 use Rattle.std.proofs.ResultValues.{ok_of, err_of, and_tt}
 use Rattle.std.specs.Prelude.{Ok, Err, IsErr, IfOk, OnOk, OnErr, ◌↔◌}
 use Rattle.std.specs.contracts.result.Result as RS
-use Rattle.net_packets.specs.Packets.{without_gap, without_first_and_gap, last_dequeued_bytes_index, last_dequeued_bytes}
-use Rattle.net_packets.specs.Packets.{AreLastDequeued, IsFirstSized, IsFirst, first_size}
-use Rattle.net_packets.specs.Packets.{without_first_gap, with_bytes}
+use Rattle.net_packets.specs.Packets.{without_gap, without_first_and_gap, last_dequeued_bytes_index, last_dequeued_bytes, AreLastDequeued, IsFirstSized, IsFirst, first_size, without_first_gap, with_bytes}
 use Rattle.net_ring.specs.contracts.error.Empty as EM
 use Rattle.net_packets.specs.PacketHistory.{contents, Makes, Take as Taken, WriteLastDequeued}
-use Rattle.net_packets.proofs.SaidFacts.{says_six}
 use Rattle.net_packets.proofs.LendInside.{lent, Back, lends_inside, comes_inside}
-use Rattle.net_packets.proofs.ResultParts.{no_fields, alone, ok_or_err, ok_had, err_had, pair_had, pair_of, pair_val, pair_typed}
-use Rattle.net_packets.proofs.PacketSteps.{last_dequeued_less}
-use Rattle.net_packets.proofs.PassedNumber.{second_passed, number_of, number_fits, number}
-use Rattle.net_packets.proofs.WalkedQueue.{Given, args, Header, Self, Q, Live, others, Asked, asked}
+use Rattle.net_packets.proofs.ResultParts.{no_fields, alone, ok_or_err, ok_had, err_had, pair_had, pair_of, pair_val, pair_typed, and_fact, says_all}
+use Rattle.net_packets.proofs.WalkedQueue.{Given, args, Header, Self, Q, Live, others, Asked, asked, lives}
 use Rattle.net_packets.specs.contracts.packet_buffer.PacketsOver.take as take
 use Rattle.net_packets.proofs.packet_buffer.PacketsOver.take.Symbol.{name as #take}
 use Rattle.net_packets.proofs.packet_buffer.PacketsOver.take.Met as take_met
@@ -79,10 +71,6 @@ use Rattle.net_packets.proofs.packet_buffer.PacketsOver.dequeue.Code as code
 module _ (G : Given) where
   abbrev function : Fn
   function = inst_fn (args G) code.function
-
-  -- what `last_dequeued_mut` is passed for the size
-  abbrev passed : Operand
-  passed = second_passed (head (after 5 function.body))
 
   abbrev ended : Ended
   ended = F.ended G.H G.N G.B G.slots G.slots_by G.bytes G.bytes_by G.drops_by
@@ -180,7 +168,8 @@ module _ (G : Given) {M : Type 1} {𝓤 : Ura M} (𝓛 : Logic 𝓤) (𝓜 : Mod
         (err_of 𝓛 Both EM.the_row (record {}) no_fields) $
         suffices ! _ (ends_at 𝓛 (ended G) (stayed G) all_clauses bound (live 1 (of_list (no_fields ∷ []))) (Err (record {})) (tt, tt) (tt, tt)) $
         nothing ! $ nothing ! $ fjoin ! $ join ! $ move ! (2 ∷ 3 ∷ []) $ join ! $ join ! $ frame ! $
-        says_six ! (((λ _. no_contents), (λ _. refl)), tt, tt, ((λ _. none), (λ _. refl)), tt, tt) $ done !
+        says_all ! (and_fact 𝓤 _ _ ((λ _. no_contents), (λ _. refl)) (and_fact 𝓤 _ _ tt (and_fact 𝓤 _ _ tt
+        (and_fact 𝓤 _ _ ((λ _. none), (λ _. refl)) (and_fact 𝓤 _ _ tt (fact_i 𝓤 _ (emp 𝓤) tt)))))) $ done !
 
     -- the first packet has the header h and the bytes ws
     abbrev Shows : G.H.Denot → List ℕ → Type 0
@@ -204,14 +193,9 @@ module _ (G : Given) {M : Type 1} {𝓤 : Ura M} (𝓛 : Logic 𝓤) (𝓜 : Mod
         (ok_of 𝓛 Both EM.the_row (h, r) (pair_val hv w)) $
         suffices ! _ (ends_at 𝓛 (ended G) (stayed G) all_clauses bound (live 0 (of_list (pair_val hv w ∷ []))) (Ok (h, r)) (tt, tt) (tt, tt)) $
         nothing ! $ nothing ! $ fjoin ! $ join ! $ move ! (2 ∷ 3 ∷ []) $ join ! $ join ! $ frame ! $
-        says_six ! (
-          ((λ f. absurd (subst T (sym f) tt)), (λ e. absurd (has_some e))),
-          shown,
-          leaves,
-          ((λ f. absurd (subst T (sym f) tt)), (λ e. absurd (is_some e))),
-          is_head,
-          λ ws long. (is_head, long, refl),
-        ) $ done !
+        says_all ! (and_fact 𝓤 _ _ ((λ f. absurd (subst T (sym f) tt)), (λ e. absurd (has_some e))) (and_fact 𝓤 _ _ shown (and_fact 𝓤 _ _ leaves
+        (and_fact 𝓤 _ _ ((λ f. absurd (subst T (sym f) tt)), (λ e. absurd (is_some e))) (and_fact 𝓤 _ _ is_head
+        (fact_i 𝓤 _ (emp 𝓤) (λ ws long. (is_head, long, refl)))))))) $ done !
 
     walk : ent 𝓤 (on_entry 𝓛 (ended G).signature κs qs bound.0.3 bound.0.4) (WpFn 𝓤 H 𝓣.C 𝓣.Λ (function G) (vptr self.ref_ptr.0 self.ref_ptr.1 ∷ []) Post)
     unfolding follows_by
@@ -254,7 +238,6 @@ module _ (G : Given) {M : Type 1} {𝓤 : Ura M} (𝓛 : Logic 𝓤) (𝓜 : Mod
           | inl c ↦
               let h : G.H.Denot = c.0.0 in
               let s : ℕ = c.0.1 in
-              let k : ℕ = number_of s (passed G) in
               let is_y : ws.0 ≡ y = subst (λ t. OnOk t (ws.0 ≡ y)) c.1 is_taken in
               let head_is : IsFirstSized x.packets h s = subst (λ t. IfOk t (λ u. IsFirstSized x.packets u.0 u.1)) c.1 is_first in
               let lies : AreLastDequeued y s × (last_dequeued_bytes_index y s ≡ from) = subst
@@ -285,27 +268,25 @@ module _ (G : Given) {M : Type 1} {𝓤 : Ura M} (𝓛 : Logic 𝓤) (𝓜 : Mod
               (tt, record { fits = is_s.1 }) $
               exec ! 𝓣.C 𝓣.Λ En (after 3 (function G).body) (at_ret En Post) $
               sets ! (of_opd ! (get ! refl)) refl good $ sets ! (addr ! (through ! refl (stop !))) refl (tt, tt) $
-              nothing ! $ owned ! usize (Is usize) (uint_Makes 𝓛 w64) k _ (refl, number_fits 3 s (passed G) tt is_s.1) $ fjoin ! $ move ! (2 ∷ 0 ∷ []) $
+              nothing ! $ owned ! usize (Is usize) (uint_Makes 𝓛 w64) s _ (refl, is_s.1) $ fjoin ! $ move ! (2 ∷ 0 ∷ []) $
               fjoin ! $ move ! (2 ∷ 3 ∷ []) $ join ! $ join ! $
-              use0 𝓛 (raw (fact 𝓤 (AreLastDequeued y k))) (fact_i 𝓤 _ (emp 𝓤) (last_dequeued_less y s k lies.0 (omega arith))) $
-              use1 𝓛 (raw (Asked G 𝓤 κs (fact 𝓤 (AreLastDequeued y k)))) (asked G 𝓛 κs live-in (fact 𝓤 (AreLastDequeued y k))) $
-              move ! (1 ∷ 0 ∷ []) $ join ! $ use1 𝓛 (raw (LastDequeued.pre (to_last_dequeued k))) (id⊢ 𝓤 _) $
-              calls_at ! (framed 𝓤 H 𝓜 𝓣) LastDequeued last_dequeued-met (to_last_dequeued k)
-              (and_then ! (get ! refl) (and_then ! (number ! 3 s (passed G) tt (get ! refl)) (no_more !))) (λ u.
+              use0 𝓛 (raw (fact 𝓤 (AreLastDequeued y s))) (fact_i 𝓤 _ (emp 𝓤) lies.0) $
+              use1 𝓛 (raw (Asked G 𝓤 κs (fact 𝓤 (AreLastDequeued y s)))) (asked G 𝓛 κs live-in (fact 𝓤 (AreLastDequeued y s))) $
+              move ! (1 ∷ 0 ∷ []) $ join ! $ use1 𝓛 (raw (LastDequeued.pre (to_last_dequeued s))) (id⊢ 𝓤 _) $
+              calls_at ! (framed 𝓤 H 𝓜 𝓣) LastDequeued last_dequeued-met (to_last_dequeued s)
+              (and_then ! (get ! refl) (and_then ! (get ! refl) (no_more !))) (λ u.
               use1 𝓛 (later (some (λ (m : MutBor (List ℕ)). ((‵ (flft κs.0 qs.0) ⊛ others G 𝓤 κs qs) ⊛ ‵ (Part.own_val m (u ∷ []))) ⊛
               some (λ (ws : Unit {0} × (Unit {0} × Unit {0})).
-              ‵ (lasts (last_dequeued.ended G.H G.N G.B G.slots G.slots_by G.bytes G.bytes_by G.drops_by) (to_last_dequeued k).0.0 (to_last_dequeued k).0.3 ws)
-              ⊛ ‵ (follow (last_dequeued_bytes_index y k) m)
-              ⊛ raw (fact 𝓤 ((l : List ℕ) → length l ≡ k → contents (with_bytes y (last_dequeued_bytes_index y k) l) ≡ contents y)) ⊛
-              raw (fact 𝓤 (m.now ≡ take-list k (drop-list (last_dequeued_bytes_index y k) y.storage))) ⊛ raw (fact 𝓤 (length m.now ≡ k))
-              ⊛ raw (fact 𝓤 ((l : List ℕ) → length (with_bytes y (last_dequeued_bytes_index y k) l).storage ≡ length y.storage))
-              ⊛ raw (fact 𝓤 ((l : List ℕ) → length l ≡ k → Makes (WriteLastDequeued l) y (with_bytes y (last_dequeued_bytes_index y k) l)))))))
-              (id⊢ 𝓤 (LastDequeued.post (to_last_dequeued k) u)) $
+              ‵ (lasts (last_dequeued.ended G.H G.N G.B G.slots G.slots_by G.bytes G.bytes_by G.drops_by) (to_last_dequeued s).0.0 (to_last_dequeued s).0.3 ws)
+              ⊛ ‵ (follow (last_dequeued_bytes_index y s) m)
+              ⊛ raw (fact 𝓤 ((l : List ℕ) → length l ≡ s → contents (with_bytes y (last_dequeued_bytes_index y s) l) ≡ contents y)) ⊛
+              raw (fact 𝓤 (m.now ≡ take-list s (drop-list (last_dequeued_bytes_index y s) y.storage))) ⊛ raw (fact 𝓤 (length m.now ≡ s))
+              ⊛ raw (fact 𝓤 ((l : List ℕ) → length (with_bytes y (last_dequeued_bytes_index y s) l).storage ≡ length y.storage))
+              ⊛ raw (fact 𝓤 ((l : List ℕ) → length l ≡ s → Makes (WriteLastDequeued l) y (with_bytes y (last_dequeued_bytes_index y s) l)))))))
+              (id⊢ 𝓤 (LastDequeued.post (to_last_dequeued s) u)) $
               await ! tt $ pick ! (λ m. split ! $ split ! $ move ! (2 ∷ []) $
               pick ! (λ _. split3 ! $ drop ! $ move ! (1 ∷ []) $ split3 ! $ heard ! _ (λ unseen. heard ! _ (λ value. split3 ! $ heard ! _ (λ size. heard ! _ (λ _. heard ! _ (λ _.
               -- [what self follows; the tokens; the part; the header]
-              -- the size that the clause `front` says
-              let sized : length m.now ≡ s = omega (arith, size) in
               rewrite ! 0 (λ (p : ℕ). ‵ (follow p m)) lies.1 refl $ move ! (2 ∷ []) $ peeks ! Part (Is Part) (shows 𝓛 Part) m (u ∷ []) (λ ok.
               let w : Val = slice_val m.ref_ptr (length m.now) in
               let fits : length m.now < 2 ^ 64 = ok.0.1.0 in
@@ -320,7 +301,7 @@ module _ (G : Given) {M : Type 1} {𝓤 : Ura M} (𝓛 : Logic 𝓤) (𝓜 : Mod
               (λ (p : ℕ). contents (with_bytes y p l) ≡ contents y) lies.1 (unseen l (long ∙ size)) ∙ rest in
               by ! (lends h hv m w (λ e. subst T (sym (subst (λ t. IsErr t) c.1 (empty.1 e))) tt)
               (λ e. subst T (sym (subst (λ t. IsErr t) c.1 (none.1 e))) tt) shown leaves
-              (subst (IsFirstSized x.packets h) (sym sized) head_is, value ∙ (λ i. take-list (sym sizes i) (drop-list (lies.1 i) x.storage)))))))))))))))))
+              (subst (IsFirstSized x.packets h) (sym size) head_is, value ∙ (λ i. take-list (sym sizes i) (drop-list (lies.1 i) x.storage)))))))))))))))))
           | inr c ↦
               let is_x : ws.0 ≡ x = subst (λ t. OnErr t (ws.0 ≡ x)) c.1 unchanged in
               rewrite ! 0 (λ (m : Q G). ‵ (mine m)) is_x refl $ rewrite ! 3 (λ (t : Answer.Denot). ‵ (Answer.own_val t (v ∷ []))) c.1 refl $ move ! (3 ∷ []) $
@@ -337,32 +318,12 @@ module _ (G : Given) {M : Type 1} {𝓤 : Ura M} (𝓛 : Logic 𝓤) (𝓜 : Mod
               by ! (refuses (empty.0 (subst (λ t. IsErr t) (sym c.1) refl)) (none.0 (subst (λ t. IsErr t) (sym c.1) refl)))))
         ])))))))))))))))
 
-  module _ (z : (walk_of 𝓛 (ended G) (stayed G) all_clauses).Ghost) where
-    abbrev Rs : List RattleType
-    Rs = types_at (ended G).signature.params z.0.0
-
-    abbrev At : Valss Rs → (walk_of 𝓛 (ended G) (stayed G) all_clauses).Ghost
-    At vss = ((z.0.0, z.0.1, z.0.2, z.0.3, vss), z.1)
-
-    abbrev Goes : Valss Rs → Type 1
-    Goes vss = ent 𝓤 (on_entry 𝓛 (ended G).signature z.0.0 z.0.1 z.0.3 vss)
-        (WpFn 𝓤 H 𝓣.C 𝓣.Λ (function G) ((walk_of 𝓛 (ended G) (stayed G) all_clauses).args (At vss))
-        ((walk_of 𝓛 (ended G) (stayed G) all_clauses).post (At vss)))
-
-    entry : Are Rs (Ises Rs) z.0.3 z.0.4 → ent 𝓤 ((walk_of 𝓛 (ended G) (stayed G) all_clauses).pre z)
-        (WpFn 𝓤 H 𝓣.C 𝓣.Λ (function G) ((walk_of 𝓛 (ended G) (stayed G) all_clauses).args z) ((walk_of 𝓛 (ended G) (stayed G) all_clauses).post z))
-    entry are =
-        let κs = z.0.0 in
-        qed 𝓛 (raw (on_entry 𝓛 (ended G).signature κs z.0.1 z.0.3 z.0.4) ∷ raw (fact 𝓤 (κs.1.0 ⊑ G.H.lives)) ∷ raw (fact 𝓤 (κs.1.1.0 ⊑ G.N.lives)) ∷ raw
-        (fact 𝓤 (κs.1.1.1.0 ⊑ G.B.lives)) ∷ ‵ ftrue ∷ []) ∵
-        move ! (1 ∷ []) $ heard ! _ (λ lH. move ! (1 ∷ []) $ heard ! _ (λ lN. move ! (1 ∷ []) $ heard ! _ (λ lB. move ! (1 ∷ []) $ drop ! $
-        by ! (subst Goes (λ i. (sym (mut_Tells (named 0) κs.0 (Self G) z.0.3.0 z.0.4.0 are.0) i, tt))
-        (walk κs z.0.1 z.0.2 (lH, lN, lB) z.0.3.0)))))
-
 pub dequeue_spec : {M : Type 1} → stated.statement M
 dequeue_spec 𝓤 𝓛 𝓜 𝓡 wired X Y Z LX LY LZ g gd b bd hd gm bm hm =
     let G : Given = record { H = X; N = Y; B = Z; laws = LX; slots = g; slots_by = gd; bytes = b; bytes_by = bd; drops_by = hd } in
     let first = take_met.met 𝓤 𝓛 𝓜 𝓡 (code.calls-net_packets::packet_buffer::PacketsOver::take 𝓡.env wired) X Y Z LX LY LZ g gd b bd hd gm bm hm in
     let second = last_dequeued_met.met 𝓤 𝓛 𝓜 𝓡 (code.calls-net_packets::packet_buffer::PacketsOver::last_dequeued_mut 𝓡.env wired) X Y Z LX LY LZ g gd b bd hd gm bm hm in
-    proved_at 𝓛 (ended G) (stayed G) (all_clauses G 𝓛 𝓜 𝓡 first second) 𝓜 𝓡 (Goes-spent_ref 𝓛 4 (0 ∷ []) tt (plain (λ _. Self G)), tt)
-    (#self (args G)) (function G) (code.unfolded 𝓤 𝓛.H 𝓜 𝓡 wired (X, (Y, (Z, tt))) gd bd hd) (entry G 𝓛 𝓜 𝓡 first second)
+    proved 𝓛 (ended G) (stayed G) (all_clauses G 𝓛 𝓜 𝓡 first second) 𝓜 𝓡 (Goes-spent_ref 𝓛 4 (0 ∷ []) tt (plain (λ _. Self G)), tt)
+    (#self (args G)) (function G) (code.unfolded 𝓤 𝓛.H 𝓜 𝓡 wired (X, (Y, (Z, tt))) gd bd hd)
+    (λ κs. (mut_vals, tt)) (λ κs. (mut_Tells (named 0) κs.0 (Self G), tt))
+    (λ κs qs bounds a g are. lives G 𝓛 κs _ _ (λ live-in. walk G 𝓛 𝓜 𝓡 first second κs qs bounds live-in a.0))

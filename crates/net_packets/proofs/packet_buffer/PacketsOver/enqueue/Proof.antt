@@ -6,11 +6,11 @@ use Prim.Native.Nat.{ℕ, ◌<◌, ◌^◌}
 use lib.ListN.{length}
 use lib.Dec.{T, lit<}
 use seplogic.Ra.Ura.{Ura}
-use mir.Syntax.{Fn, Opd as Operand, named, w64}
+use mir.Syntax.{Fn, named, w64}
 use mir.MapTy.{inst_fn}
 use mir.Val.{Val, vint, vptr, of_list, has_ty, WT}
 use base.Logic.{SProp, ent, sep, emp, id⊢}
-use base.Fml.{GName, Share, Fml, ftrue, flft, fres}
+use base.Fml.{GName, Share, Fml, flft, fres}
 use prog.Wp.{Env, WpFn, Wp, after_seq, at_return}
 use prog.Model.{Model}
 use types.Logic.{Logic, sem}
@@ -18,9 +18,7 @@ use contract.BorrowLft.{◌⊑◌, ⊑_trans, meet_⊑_right}
 use contract.Lifetimes.{Lfts, Shares, AllOutlive}
 use contract.Monad.{fact, fact_i}
 use contract.Running.{Running, MachineTables, tables}
-use types.Kit.{mean, any_q, Post as After, rewrite, frame, ‵, raw, ◌⊛◌, some, later, at_ret, ◌$◌}
-use types.Kit.{◌∵◌, !, qed, by, move, keep, drop, split, split3, join, fsplit, fsplit3, fjoin}
-use types.Kit.{feq_i, fpack, pick, suffices, use0, use1, use2, use3, await, done}
+use types.Kit.{mean, any_q, Post as After, rewrite, frame, ‵, raw, ◌⊛◌, some, later, at_ret, ◌$◌, ◌∵◌, !, qed, by, move, keep, drop, split, split3, join, fsplit, fsplit3, fjoin, feq_i, fpack, pick, suffices, use0, use1, use2, use3, await, done}
 use types.Run.{stop, fld, addr, lit, of_opd, no_more, and_then, first, skips, switches_on, exec, returns, returns_within, enter}
 use types.ByLocal.{lands_as, alloc_all, pass_all, free_all, look_at, get, get_tag, through, sets, env}
 use types.Part.{agg, whole}
@@ -47,8 +45,7 @@ use denote.Triple.Statement.{Contract}
 use denote.Triple.Table.{framed}
 use denote.Triple.Call.{calls_at}
 use denote.Triple.Walked.{Stays, stay_dropped, walk_of, ends_at, Goes-spent_ref, Goes-dropped}
-use Rattle.std.proofs.VecSteps.Shapes.{after, head, front, arm_body}
-use Rattle.std.proofs.Common.{arith}
+use Rattle.std.proofs.VecSteps.Shapes.{after, front, arm_body}
 use Rattle.std.proofs.raw_atomic.Walks.{proved_at}
 use Rattle.std.proofs.ResultValues.{ok_of, err_of}
 use Rattle.std.specs.Prelude.{Ok, Err, IsErr, OnOk, OnErr, ◌↔◌}
@@ -58,11 +55,9 @@ use Rattle.net_packets.specs.Packets.{placement, with_packet_if, with_packet_if_
 use Rattle.net_ring.specs.contracts.error.Full as FU
 use Rattle.net_packets.specs.PacketHistory.{contents, Makes, Place as Placed}
 use Rattle.net_packets.proofs.PacketRuns.{enqueue_call}
-use Rattle.net_packets.proofs.SaidFacts.{says_five}
 use Rattle.net_packets.proofs.LendInside.{lent, Back, lends_inside, comes_inside}
-use Rattle.net_packets.proofs.ResultParts.{no_fields, alone, ok_or_err, ok_had, err_had}
-use Rattle.net_packets.proofs.PassedNumber.{second_passed, number_of, number_fits, number}
-use Rattle.net_packets.proofs.WalkedQueue.{Given, args, Header, Self, Q, Live, others, Asked, asked}
+use Rattle.net_packets.proofs.ResultParts.{no_fields, alone, ok_or_err, ok_had, err_had, and_fact, says_all}
+use Rattle.net_packets.proofs.WalkedQueue.{Given, args, Header, Self, Q, Live, others, Asked, asked, lives}
 use Rattle.net_packets.specs.contracts.packet_buffer.PacketsOver.place as place
 use Rattle.net_packets.proofs.packet_buffer.PacketsOver.place.Symbol.{name as #place}
 use Rattle.net_packets.proofs.packet_buffer.PacketsOver.place.Met as place_met
@@ -77,14 +72,6 @@ use Rattle.net_packets.proofs.packet_buffer.PacketsOver.enqueue.Code as code
 module _ (G : Given) where
   abbrev function : Fn
   function = inst_fn (args G) code.function
-
-  -- what `place` is passed for the size
-  abbrev passed : Operand
-  passed = second_passed (head (after 2 function.body))
-
-  -- what `last_part_mut` is passed for it
-  abbrev lent_size : Operand
-  lent_size = second_passed (head (after 5 function.body))
 
   abbrev ended : Ended
   ended = F.ended G.H G.N G.B G.slots G.slots_by G.bytes G.bytes_by G.drops_by
@@ -121,17 +108,9 @@ module _ (G : Given) {M : Type 1} {𝓤 : Ura M} (𝓛 : Logic 𝓤) (𝓜 : Mod
     abbrev x : Q G
     x = self.now
 
-    -- the size that `place` is passed
-    abbrev k : ℕ
-    k = number_of n (passed G)
-
-    -- and the one that `last_part_mut` is
-    abbrev j : ℕ
-    j = number_of n (lent_size G)
-
     -- the queue with the packet in it, if it could be placed
     abbrev y : Q G
-    y = with_packet_if_room x k h
+    y = with_packet_if_room x n h
 
     abbrev bound : (walk_of 𝓛 (ended G) (stayed G) all_clauses).Ghost
     bound = ((κs, qs, bounds, (self, (n, (h, tt))), (mut_vals self, (vint w64 n ∷ [], (hv ∷ [], tt)))), tt)
@@ -167,18 +146,18 @@ module _ (G : Given) {M : Type 1} {𝓤 : Ura M} (𝓛 : Logic 𝓤) (𝓜 : Mod
           (κ', κs.1),
           (p.1, qs.1),
           (⊑_trans κ' κs.0 κs.1.0 in_κ bounds.0, (⊑_trans κ' κs.0 κs.1.1.0 in_κ bounds.1.0, (⊑_trans κ' κs.0 κs.1.1.1.0 in_κ bounds.1.1.0, tt))),
-          (record self { ghost_name = p.2 }, (k, (h, tt))),
-          (mut_vals self, (vint w64 k ∷ [], (hv ∷ [], tt))),
+          (record self { ghost_name = p.2 }, (n, (h, tt))),
+          (mut_vals self, (vint w64 n ∷ [], (hv ∷ [], tt))),
         ),
         tt,
       )
 
     abbrev to_last : Last.Ghost
-    to_last = ((κs, qs, bounds, (record self { now = y }, (j, tt)), (mut_vals self, (vint w64 j ∷ [], tt))), tt)
+    to_last = ((κs, qs, bounds, (record self { now = y }, (n, tt)), (mut_vals self, (vint w64 n ∷ [], tt))), tt)
 
     -- what `last_part_mut` requires
     abbrev Sized : Type 0
-    Sized = j ≡ first_size (last-of y.packets)
+    Sized = n ≡ first_size (last-of y.packets)
 
     -- the end at `Err`, where self ends as it was
     refuses : placement x n ≡ None → ent 𝓤 (sep 𝓤 (sem 𝓛 (ends_as x)) (sep 𝓤 (𝓛.A.lft κs.0 qs.0) (mean 𝓛 (others G 𝓤 κs qs))))
@@ -193,30 +172,24 @@ module _ (G : Given) {M : Type 1} {𝓤 : Ura M} (𝓛 : Logic 𝓤) (𝓜 : Mod
         suffices ! _ (ends_at 𝓛 (ended G) (stayed G) all_clauses bound (live 1 (of_list (no_fields ∷ []))) (Err (record {})) (tt, (tt, (tt, tt)))
         (tt, (tt, (tt, tt)))) $
         nothing ! $ nothing ! $ fjoin ! $ nothing ! $ fjoin ! $ nothing ! $ fjoin ! $ join ! $ move ! (2 ∷ 3 ∷ []) $ join ! $ join ! $ frame ! $
-        says_five ! (tt, ((λ _. none), (λ _. refl)), tt, tt, tt) $ done !
+        says_all ! (and_fact 𝓤 _ _ tt (and_fact 𝓤 _ _ ((λ _. none), (λ _. refl)) (and_fact 𝓤 _ _ tt (and_fact 𝓤 _ _ tt (fact_i 𝓤 _ (emp 𝓤) tt))))) $ done !
 
     -- what the contents are, once the packet of q that came last is written
-    abbrev Accepts : ℕ → Q G → Type 0
-    Accepts s q = (ws : List ℕ) → length ws ≡ s → contents (with_last_bytes q ws) ≡ contents x ++ ((h, ws) ∷ [])
+    abbrev Accepts : Q G → Type 0
+    Accepts q = (ws : List ℕ) → length ws ≡ n → contents (with_last_bytes q ws) ≡ contents x ++ ((h, ws) ∷ [])
 
     -- the end at `Ok`, where self follows the part
-    lends : (r : MutBor (List ℕ)) (w : Val) → placement x n ≢ None → Accepts n (with_packet_if_room x n h) →
-        r.now ≡ last_bytes (with_packet_if_room x n h) → length r.now ≡ n
-        → ent 𝓤 (sep 𝓤 (sem 𝓛 (Part.own_val r (w ∷ [])))
-        (sep 𝓤 (sem 𝓛 (follow (with_packet_if_room x n h) r)) (sep 𝓤 (𝓛.A.lft κs.0 qs.0) (mean 𝓛 (others G 𝓤 κs qs))))) (Post (live 0 (of_list (w ∷ []))))
+    lends : (r : MutBor (List ℕ)) (w : Val) → placement x n ≢ None → Accepts y → r.now ≡ last_bytes y → length r.now ≡ n
+        → ent 𝓤 (sep 𝓤 (sem 𝓛 (Part.own_val r (w ∷ []))) (sep 𝓤 (sem 𝓛 (follow y r)) (sep 𝓤 (𝓛.A.lft κs.0 qs.0) (mean 𝓛 (others G 𝓤 κs qs)))))
+        (Post (live 0 (of_list (w ∷ []))))
     unfolding follows_by
     lends r w is_placed accepted value size =
-        qed 𝓛 (‵ (Part.own_val r (w ∷ [])) ∷ ‵ (follow (with_packet_if_room x n h) r) ∷ ‵ (flft κs.0 qs.0) ∷ others G 𝓤 κs qs ∷ []) ∵
+        qed 𝓛 (‵ (Part.own_val r (w ∷ [])) ∷ ‵ (follow y r) ∷ ‵ (flft κs.0 qs.0) ∷ others G 𝓤 κs qs ∷ []) ∵
         use1 𝓛 (‵ ((RS.the_row Part FU.the_row).own_val (Ok r) (live 0 (of_list (w ∷ [])) ∷ []))) (ok_of 𝓛 Part FU.the_row r w) $
         suffices ! _ (ends_at 𝓛 (ended G) (stayed G) all_clauses bound (live 0 (of_list (w ∷ []))) (Ok r) (tt, (tt, (tt, tt))) (tt, (tt, (tt, tt)))) $
         nothing ! $ nothing ! $ fjoin ! $ nothing ! $ fjoin ! $ nothing ! $ fjoin ! $ join ! $ move ! (2 ∷ 3 ∷ []) $ join ! $ join ! $ frame ! $
-        says_five ! (
-          accepted,
-          ((λ f. absurd (subst T (sym f) tt)), (λ e. absurd (is_placed e))),
-          value,
-          size,
-          λ ws long. enqueue_call x n h ws is_placed long,
-        ) $ done !
+        says_all ! (and_fact 𝓤 _ _ accepted (and_fact 𝓤 _ _ ((λ f. absurd (subst T (sym f) tt)), (λ e. absurd (is_placed e))) (and_fact 𝓤 _ _ value
+        (and_fact 𝓤 _ _ size (fact_i 𝓤 _ (emp 𝓤) (λ ws long. enqueue_call x n h ws is_placed long)))))) $ done !
 
     walk : n < 2 ^ 64 → T (has_ty (layout G.H) hv) × WT hv
         → ent 𝓤 (on_entry 𝓛 (ended G).signature κs qs bound.0.3 bound.0.4)
@@ -235,17 +208,17 @@ module _ (G : Given) {M : Type 1} {𝓤 : Ura M} (𝓛 : Logic 𝓤) (𝓜 : Mod
         (lends_inside 𝓛 κs.0 (Self G) qs.0 self x) $ await ! tt $ pick ! (λ p. split3 ! $
         -- [self, lent; its token; the way back; the header; the other tokens]
         move ! (3 ∷ []) $ nothing ! $ move ! (1 ∷ 0 ∷ []) $ fjoin ! $
-        owned ! usize (Is usize) (uint_Makes 𝓛 w64) k _ (refl, number_fits 2 n (passed G) tt fits-n) $ fjoin ! $ move ! (1 ∷ 0 ∷ []) $ fjoin ! $
+        owned ! usize (Is usize) (uint_Makes 𝓛 w64) n _ (refl, fits-n) $ fjoin ! $ move ! (1 ∷ 0 ∷ []) $ fjoin ! $
         move ! (1 ∷ 3 ∷ []) $ join ! $ join ! $ nothing ! $ use1 𝓛 (raw (Asked G 𝓤 κs (emp 𝓤))) (asked G 𝓛 κs live-in (emp 𝓤)) $ move ! (1 ∷ 0 ∷ []) $
         join ! $ use1 𝓛 (raw (Place.pre (to_place p))) (id⊢ 𝓤 _) $
         calls_at ! (framed 𝓤 H 𝓜 𝓣) Place place-met (to_place p)
-        (and_then ! (get ! refl) (and_then ! (number ! 2 n (passed G) tt (get ! refl)) (and_then ! (get ! refl) (no_more !)))) (λ v.
+        (and_then ! (get ! refl) (and_then ! (get ! refl) (and_then ! (get ! refl) (no_more !)))) (λ v.
         use1 𝓛 (later (some (λ (r : Answer.Denot). ((‵ (flft (κ' p) p.1) ⊛ others G 𝓤 κs qs) ⊛ ‵ (Answer.own_val r (v ∷ []))) ⊛
         some (λ (ws : Q G × (Unit {0} × (Unit {0} × Unit {0}))).
         ‵ (lasts (place.ended G.H G.N G.B G.slots G.slots_by G.bytes G.bytes_by G.drops_by) (to_place p).0.0 (to_place p).0.3 ws)
-        ⊛ raw (fact 𝓤 (OnOk r (Accepts k ws.0))) ⊛ raw (fact 𝓤 (OnOk r (contents ws.0 ≡ contents x ++ ((h, last_bytes ws.0) ∷ [])))) ⊛
+        ⊛ raw (fact 𝓤 (OnOk r (Accepts ws.0))) ⊛ raw (fact 𝓤 (OnOk r (contents ws.0 ≡ contents x ++ ((h, last_bytes ws.0) ∷ [])))) ⊛
         raw (fact 𝓤 (OnErr r (ws.0 ≡ x)))
-        ⊛ raw (fact 𝓤 (IsErr r ↔ (placement x k ≡ None))) ⊛ raw (fact 𝓤 (ws.0 ≡ y)) ⊛ raw (fact 𝓤 (OnOk r (first_size (last-of ws.0.packets) ≡ k)))
+        ⊛ raw (fact 𝓤 (IsErr r ↔ (placement x n ≡ None))) ⊛ raw (fact 𝓤 (ws.0 ≡ y)) ⊛ raw (fact 𝓤 (OnOk r (first_size (last-of ws.0.packets) ≡ n)))
         ⊛ raw (fact 𝓤 ((ws.0.slot_count ≡ x.slot_count) × (length ws.0.storage ≡ length x.storage)))
         ⊛ raw (fact 𝓤 (OnOk r (Makes (Placed h (last_bytes ws.0)) x ws.0)))))))
         (id⊢ 𝓤 (Place.post (to_place p) v)) $
@@ -258,10 +231,10 @@ module _ (G : Given) {M : Type 1} {𝓤 : Ura M} (𝓛 : Logic 𝓤) (𝓜 : Mod
         -- [self; the token; the other tokens; the answer]
         elim (ok_or_err r) [
           | inl c ↦
-              let is_placed : placement x k ≢ None = λ e. subst T (sym (subst (λ t. IsErr t) c.1 (full.1 e))) tt in
-              let sizes : first_size (last-of y.packets) ≡ k = subst (λ m. first_size (last-of m.packets) ≡ k) is_y
-              (subst (λ t. OnOk t (first_size (last-of ws.0.packets) ≡ k)) c.1 is_sized) in
-              let accepted : Accepts k y = subst (Accepts k) is_y (subst (λ t. OnOk t (Accepts k ws.0)) c.1 accepts) in
+              let is_placed : placement x n ≢ None = λ e. subst T (sym (subst (λ t. IsErr t) c.1 (full.1 e))) tt in
+              let sizes : first_size (last-of y.packets) ≡ n = subst (λ m. first_size (last-of m.packets) ≡ n) is_y
+              (subst (λ t. OnOk t (first_size (last-of ws.0.packets) ≡ n)) c.1 is_sized) in
+              let accepted : Accepts y = subst Accepts is_y (subst (λ t. OnOk t (Accepts ws.0)) c.1 accepts) in
               rewrite ! 3 (λ (t : Answer.Denot). ‵ (Answer.own_val t (v ∷ []))) c.1 refl $ move ! (3 ∷ []) $
               ok_had ! unit FU.the_row c.0 v (λ us is_v. peeks ! unit (Is unit) (shows 𝓛 unit) c.0 us (λ is_unit. drop ! $
               lands_as ! (is_v ∙ ap (λ (l : List Val). live 0 (of_list (l ++ []))) is_unit) refl (tt, (record { fits = lit< tt }, (tt, tt))) $
@@ -269,12 +242,12 @@ module _ (G : Given) {M : Type 1} {𝓤 : Ura M} (𝓛 : Logic 𝓤) (𝓜 : Mod
               exec ! 𝓣.C 𝓣.Λ En (arm_body 0 (front (after 3 (function G).body))) Then $
               skips ! $ exec ! 𝓣.C 𝓣.Λ En (after 4 (function G).body) (at_ret En Post) $
               sets ! (addr ! (through ! refl (stop !))) refl (tt, tt) $
-              nothing ! $ owned ! usize (Is usize) (uint_Makes 𝓛 w64) j _ (refl, number_fits 2 n (lent_size G) tt fits-n) $ fjoin ! $ move ! (1 ∷ 0 ∷ []) $
+              nothing ! $ owned ! usize (Is usize) (uint_Makes 𝓛 w64) n _ (refl, fits-n) $ fjoin ! $ move ! (1 ∷ 0 ∷ []) $
               fjoin ! $ move ! (1 ∷ 2 ∷ []) $ join ! $ join ! $
               use0 𝓛 (raw (fact 𝓤 Sized)) (fact_i 𝓤 _ (emp 𝓤) (sym sizes)) $ use1 𝓛 (raw (Asked G 𝓤 κs (fact 𝓤 Sized))) (asked G 𝓛 κs live-in (fact 𝓤 Sized)) $
               move ! (1 ∷ 0 ∷ []) $ join ! $ use1 𝓛 (raw (Last.pre to_last)) (id⊢ 𝓤 _) $
               calls_at ! (framed 𝓤 H 𝓜 𝓣) Last last-met to_last
-              (and_then ! (get ! refl) (and_then ! (number ! 2 n (lent_size G) tt (get ! refl)) (no_more !))) (λ u.
+              (and_then ! (get ! refl) (and_then ! (get ! refl) (no_more !))) (λ u.
               use1 𝓛 (later (some (λ (m : MutBor (List ℕ)). ((‵ (flft κs.0 qs.0) ⊛ others G 𝓤 κs qs) ⊛ ‵ (Part.own_val m (u ∷ []))) ⊛
               some (λ (ws : Unit {0} × (Unit {0} × Unit {0})).
               ‵ (lasts (last.ended G.H G.N G.B G.slots G.slots_by G.bytes G.bytes_by G.drops_by) to_last.0.0 to_last.0.3 ws)
@@ -286,16 +259,14 @@ module _ (G : Given) {M : Type 1} {𝓤 : Ura M} (𝓛 : Logic 𝓤) (𝓜 : Mod
               move ! (2 ∷ []) $ peeks ! Part (Is Part) (shows 𝓛 Part) m (u ∷ []) (λ ok.
               let w : Val = slice_val m.ref_ptr (length m.now) in
               let fits : length m.now < 2 ^ 64 = ok.0.1.0 in
-              -- the clause `size`
-              let sized : length m.now ≡ n = omega (arith, size, sizes) in
               lands_as ! (ap only ok.0.0) refl (tt, (tt, (record { fits = fits }, tt))) $
               sets ! (agg ! (and_then ! (lit ! tt) (and_then ! (get ! refl) (no_more !)))) refl
               (tt, (record { fits = lit< tt }, ((tt, (record { fits = fits }, tt)), tt))) $
               rewrite ! 0 (λ (l : List Val). ‵ (Part.own_val m l)) ok.0.0 refl $ returns ! (look_at ! 0 refl) $ free_all ! refl $ keep ! (0 ∷ 1 ∷ 2 ∷ []) $
-              by ! (lends m w is_placed accepted value sized)))))))))
+              by ! (lends m w is_placed accepted value (size ∙ sizes))))))))))
           | inr c ↦
-              let none : placement x k ≡ None = full.0 (subst (λ t. IsErr t) (sym c.1) refl) in
-              rewrite ! 0 (λ (m : Q G). ‵ (mine m)) (ap (λ m. with_packet_if x m k h) none) refl $
+              let none : placement x n ≡ None = full.0 (subst (λ t. IsErr t) (sym c.1) refl) in
+              rewrite ! 0 (λ (m : Q G). ‵ (mine m)) (ap (λ m. with_packet_if x m n h) none) refl $
               rewrite ! 3 (λ (t : Answer.Denot). ‵ (Answer.own_val t (v ∷ []))) c.1 refl $ move ! (3 ∷ []) $
               err_had ! unit FU.the_row c.0 v (λ us is_v. peeks ! FU.the_row (Is FU.the_row) (shows 𝓛 FU.the_row) c.0 us (λ is_error. drop ! $
               lands_as ! (is_v ∙ ap (λ (l : List Val). live 1 (of_list (l ++ []))) is_error.1.0) refl (tt, (record { fits = lit< tt }, (tt, tt))) $
@@ -312,24 +283,18 @@ module _ (G : Given) {M : Type 1} {𝓤 : Ura M} (𝓛 : Logic 𝓤) (𝓜 : Mod
     abbrev Rs : List RattleType
     Rs = types_at (ended G).signature.params z.0.0
 
-    abbrev At : Valss Rs → (walk_of 𝓛 (ended G) (stayed G) all_clauses).Ghost
-    At vss = ((z.0.0, z.0.1, z.0.2, z.0.3, vss), z.1)
-
     abbrev Goes : Valss Rs → Type 1
-    Goes vss = ent 𝓤 (on_entry 𝓛 (ended G).signature z.0.0 z.0.1 z.0.3 vss)
-        (WpFn 𝓤 H 𝓣.C 𝓣.Λ (function G) ((walk_of 𝓛 (ended G) (stayed G) all_clauses).args (At vss))
-        ((walk_of 𝓛 (ended G) (stayed G) all_clauses).post (At vss)))
+    Goes vss =
+        let at : (walk_of 𝓛 (ended G) (stayed G) all_clauses).Ghost = ((z.0.0, z.0.1, z.0.2, z.0.3, vss), z.1) in
+        ent 𝓤 (on_entry 𝓛 (ended G).signature z.0.0 z.0.1 z.0.3 vss)
+        (WpFn 𝓤 H 𝓣.C 𝓣.Λ (function G) ((walk_of 𝓛 (ended G) (stayed G) all_clauses).args at) ((walk_of 𝓛 (ended G) (stayed G) all_clauses).post at))
 
     entry : Are Rs (Ises Rs) z.0.3 z.0.4 → ent 𝓤 ((walk_of 𝓛 (ended G) (stayed G) all_clauses).pre z)
         (WpFn 𝓤 H 𝓣.C 𝓣.Λ (function G) ((walk_of 𝓛 (ended G) (stayed G) all_clauses).args z) ((walk_of 𝓛 (ended G) (stayed G) all_clauses).post z))
     entry are =
-        let κs = z.0.0 in
         let h = alone (layout G.H) z.0.4.1.1.0 (((param_laws 0 G.H G.laws).lawful 𝓛).typed z.0.3.1.1.0 z.0.4.1.1.0 are.1.1.0) in
-        qed 𝓛 (raw (on_entry 𝓛 (ended G).signature κs z.0.1 z.0.3 z.0.4) ∷ raw (fact 𝓤 (κs.1.0 ⊑ G.H.lives)) ∷ raw (fact 𝓤 (κs.1.1.0 ⊑ G.N.lives)) ∷ raw
-        (fact 𝓤 (κs.1.1.1.0 ⊑ G.B.lives)) ∷ ‵ ftrue ∷ []) ∵
-        move ! (1 ∷ []) $ heard ! _ (λ lH. move ! (1 ∷ []) $ heard ! _ (λ lN. move ! (1 ∷ []) $ heard ! _ (λ lB. move ! (1 ∷ []) $ drop ! $
-        by ! (subst Goes (λ i. (sym (mut_Tells (named 0) κs.0 (Self G) z.0.3.0 z.0.4.0 are.0) i, (sym are.1.0.0 i, (sym h.1 i, tt))))
-        (walk κs z.0.1 z.0.2 (lH, lN, lB) z.0.3.0 z.0.3.1.0 z.0.3.1.1.0 h.0 are.1.0.1 h.2)))))
+        lives G 𝓛 z.0.0 _ _ (λ live-in. subst Goes (λ i. (sym (mut_Tells (named 0) z.0.0.0 (Self G) z.0.3.0 z.0.4.0 are.0) i, (sym are.1.0.0 i, (sym h.1 i, tt))))
+        (walk z.0.0 z.0.1 z.0.2 live-in z.0.3.0 z.0.3.1.0 z.0.3.1.1.0 h.0 are.1.0.1 h.2))
 
 pub enqueue_spec : {M : Type 1} → stated.statement M
 enqueue_spec 𝓤 𝓛 𝓜 𝓡 wired X Y Z LX LY LZ g gd b bd hd gm bm hm =

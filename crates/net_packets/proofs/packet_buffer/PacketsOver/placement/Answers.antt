@@ -1,6 +1,6 @@
-use Rattle.std.proofs.Common.{length, ap, ◌∙◌, subst}
+use Rattle.std.proofs.Common.{length, ap, ◌∙◌}
 use Rattle.net_ring.specs.Place.{place}
-use Rattle.net_packets.specs.Packets.{bytes_used, slots_used, IsWellPlaced}
+use Rattle.net_packets.specs.Packets.{bytes_used, slots_used}
 use Rattle.net_packets.proofs.HeadFacts.{placed_alike}
 use Rattle.net_packets.proofs.PacketFacts.{count_is}
 use Rattle.net_packets.proofs.PacketSteps.{well_placed}
@@ -18,4 +18,4 @@ returns-clause-gap g c =
     (c.place-2.ensures.place ∙ ap (place b.read_at) c.self.invariant.3 ∙ ap (λ q. place q.read_at (bytes_used q.packets)) is)
 
 pub returns-clause-well_placed : goal.returns-clause-well_placed
-returns-clause-well_placed g c = subst (λ q. IsWellPlaced q) c.self.view_is (well_placed c.self.inside.slots c.self.inside.bytes c.self.invariant)
+returns-clause-well_placed g c = well_placed _ _ c.self.invariant _ c.self.view_is

@@ -1,28 +1,18 @@
 use Rattle.std.proofs.Common.{◌≡◌, sym, ap, ◌∙◌, subst, drop, rules}
-use Rattle.std.specs.declared.option.Option.TheVariants.{Some, None}
-use Rattle.net_ring.specs.Ring.{queue, with_dequeued, IsWellFormed}
-use Rattle.net_packets.specs.Packets.{first_gap, without_first_and_gap, IsFirstSized}
-use Rattle.net_packets.specs.PacketSlots.{packets_state, packets_in, slot, Represents}
+use Rattle.net_ring.specs.Ring.{IsWellFormed}
+use Rattle.net_packets.specs.Packets.{without_first_and_gap, IsFirstSized}
+use Rattle.net_packets.specs.PacketSlots.{packets_state}
 use Rattle.net_packets.proofs.PacketFacts.{off_wf}
-use Rattle.net_packets.proofs.PacketSteps.{close_gap, head_slot, head_long, pop_holds, closed}
+use Rattle.net_packets.proofs.PacketSteps.{close_gap, take_left}
 use Rattle.net_packets.proofs.PacketRuns.{none_of, taken_as, left_as, take_call}
 use Rattle.net_packets.proofs.packet_buffer.PacketsOver.take.Goals as goal
 
 pub invariant_of-self-2 : goal.invariant_of-self-2
 invariant_of-self-2 g c =
-    let m = c.self.inside.slots in
-    let b = c.self.inside.bytes in
-    let m2 = c.take_slot.new.slots in
-    let z = ap (λ q. first_gap q.packets) (c.self.view_is ∙ c.skip.ensures.skipped) ∙ close_gap c.args.self.now.packets in
-    let at = c.in_ok-size.ensures.first in
-    let f = head_slot m b c.self.invariant z (slot c.in_ok-size.size (Some c.in_ok-size.header)) at in
-    let size = head_long m b c.self.invariant z (slot c.in_ok-size.size (Some c.in_ok-size.header)) at in
     let lifted = c.in_ok-size.ensures.left in
-    let em = c.take_slot.ensures.queue ∙ ap (drop 1) lifted.0 in
-    let wfm = subst IsWellFormed (sym c.take_slot.ensures.slots)
-    (off_wf c.lift_header.new.slots (slot c.in_ok-size.size None) (drop 1 (queue m)) lifted.1 lifted.0) in
-    let is = c.take_slot.ensures.bytes ∙ ap (λ n. with_dequeued n b) size in
-    subst (λ o. Represents m2 o (packets_in 0 (queue m2))) (sym is) (closed m2 _ _ (pop_holds m b c.self.invariant z m2 (em ∙ f.3) wfm))
+    let wfm = subst IsWellFormed (sym c.take_slot.ensures.slots) (off_wf c.lift_header.new.slots _ _ lifted.1 lifted.0) in
+    (take_left _ _ c.self.invariant _ (c.self.view_is ∙ c.skip.ensures.skipped) (close_gap c.args.self.now.packets) c.in_ok-size.size c.in_ok-size.header
+    c.in_ok-size.ensures.first c.take_slot.new.slots wfm c.take_slot.new.bytes (c.take_slot.ensures.queue ∙ ap (drop 1) lifted.0) c.take_slot.ensures.bytes).0
 
 pub returns-in_err-size-clause-empty : goal.returns-in_err-size-clause-empty
 returns-in_err-size-clause-empty g c = none_of c.args.self.now (search rules)
