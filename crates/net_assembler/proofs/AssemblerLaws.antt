@@ -1,9 +1,10 @@
 -- Laws of sets of positions and of what the contracts of an assembler's calls say.
-use Rattle.std.proofs.Common.{◌≡◌, ℕ, zero, suc, ◌+◌, ◌/◌, ◌<◌, ◌≤◌, ◌^◌, Bool, true, false, ◌&&◌, ◌||◌, ◌==◌, List}
-use Rattle.std.proofs.Common.{[], ◌∷◌, length, drop, nat_le, nat_lt, nat_eq, refl, sym, ap, subst, ◌∙◌, arith}
+use Rattle.std.proofs.Common.{◌≡◌, ℕ, zero, suc, ◌+◌, ◌/◌, ◌<◌, ◌≤◌, ◌^◌, false, ◌&&◌, ◌||◌, ◌==◌, List, [], ◌∷◌, length, drop, nat_le, nat_lt, nat_eq, refl, sym, ap, subst, ◌∙◌, arith}
 use Rattle.std.specs.Prelude.{Option, Some, None, Ok, Err}
 use Rattle.std.specs.List.{list_any}
 use Rattle.std.specs.Int.Digits.{digits_of}
+use Rattle.std.proofs.Math.Bool.{or_assoc, or_comm, or_self}
+use Rattle.std.proofs.Math.Seq.{drop-nil}
 use Rattle.std.proofs.Math.Nat.{pow-suc}
 use Rattle.std.proofs.Math.Pow.{pow_mono}
 use Rattle.std.proofs.lemmas.Bool.{cases_lt, false≢true, lt-leb}
@@ -12,12 +13,8 @@ use Rattle.std.proofs.lemmas.Int.Digits.{length-digits_of_step, length-digits_of
 use Rattle.net_assembler.specs.Positions.{Positions, contains, with_range, front, runs, maximal_runs, AreMaximalRuns}
 use Rattle.net_assembler.specs.Turns.{TurnsWithin, binary_digits}
 use Rattle.net_assembler.specs.Assembler.{MakesTooManyRuns}
-use Rattle.net_assembler.specs.AssemblerLaws.{CallsNext, results_of_next, EqualSets, MembersOfList, FirstMissingIsLeast}
-use Rattle.net_assembler.specs.AssemblerLaws.{FrontIsLeastMissing, EqualMaximalRuns, MaximalRunsByNumber}
-use Rattle.net_assembler.specs.AssemblerLaws.{EnoughBinaryDigits, EqualAssemblers, RangeAgain, AddingAgain}
-use Rattle.net_assembler.specs.AssemblerLaws.{AddingInBothOrders, IteratesMaximalRuns}
-use Rattle.net_assembler.proofs.Positions.{has, either, same_positions, contains-set_of_list, contains-with_range}
-use Rattle.net_assembler.proofs.Positions.{first_missing-misses, first_missing-has, first_missing-le}
+use Rattle.net_assembler.specs.AssemblerLaws.{CallsNext, results_of_next, EqualSets, MembersOfList, FirstMissingIsLeast, FrontIsLeastMissing, EqualMaximalRuns, MaximalRunsByNumber, EnoughBinaryDigits, EqualAssemblers, RangeAgain, AddingAgain, AddingInBothOrders, IteratesMaximalRuns}
+use Rattle.net_assembler.proofs.Positions.{has, either, same_positions, contains-set_of_list, contains-with_range, first_missing-misses, first_missing-has, first_missing-le}
 use Rattle.net_assembler.proofs.MaximalRuns.{are_maximal_runs, equal_maximal_runs, run_by_number, no_run_by_number}
 
 pub equal_sets : EqualSets
@@ -78,23 +75,11 @@ few_binary_digits n = (enough_binary_digits n n).0 (below_power n)
 pub equal_assemblers : EqualAssemblers
 equal_assemblers s t b c = (λ e. (equal_sets s t).0 (c.same.0 e), λ is. c.same.1 ((equal_sets s t).1 is))
 
-or_twice : (a b : Bool) → ((a || b) || b) ≡ (a || b)
-or_twice true b = refl
-or_twice false true = refl
-or_twice false false = refl
-
-or_swap : (a b c : Bool) → ((a || b) || c) ≡ ((a || c) || b)
-or_swap true b c = refl
-or_swap false true true = refl
-or_swap false true false = refl
-or_swap false false true = refl
-or_swap false false false = refl
-
 pub range_again : RangeAgain
 range_again s o n =
     same_positions _ _ (λ q. let here = nat_le o q && nat_lt q (o + n) in
     contains-with_range (with_range s o n) o n q ∙ ap (λ b. b || here) (contains-with_range s o n q)
-    ∙ or_twice (contains s q) here ∙ sym (contains-with_range s o n q))
+    ∙ or_assoc (contains s q) here here ∙ ap (λ b. contains s q || b) (or_self here) ∙ sym (contains-with_range s o n q))
 
 -- a set that has a range already has no more runs with it
 again_runs : (most_runs o n : ℕ) (s once : Positions) → once ≡ with_range s o n → runs once ≤ most_runs → MakesTooManyRuns most_runs once o n → ⊥
@@ -112,7 +97,8 @@ adding_again most_runs o n s once twice (Err x) e l ok err refused = absurd (aga
 with_range-swap : (s : Positions) (a m b n : ℕ) → with_range (with_range s a m) b n ≡ with_range (with_range s b n) a m
 with_range-swap s a m b n =
     same_positions _ _ (λ q. let here = nat_le a q && nat_lt q (a + m) in let there = nat_le b q && nat_lt q (b + n) in
-    contains-with_range (with_range s a m) b n q ∙ ap (λ t. t || there) (contains-with_range s a m q) ∙ or_swap (contains s q) here there
+    contains-with_range (with_range s a m) b n q ∙ ap (λ t. t || there) (contains-with_range s a m q)
+    ∙ or_assoc (contains s q) here there ∙ ap (λ t. contains s q || t) (or_comm here there) ∙ sym (or_assoc (contains s q) there here)
     ∙ ap (λ t. t || here) (sym (contains-with_range s b n q)) ∙ sym (contains-with_range (with_range s b n) a m q))
 
 pub adding_in_both_orders : AddingInBothOrders
@@ -120,10 +106,6 @@ adding_in_both_orders most_runs a m b n s one two ab ba equal first second third
     compared.same.1
     (second.ok ∙ ap (λ (t : Positions). with_range t b n) first.ok ∙ with_range-swap s a m b n
     ∙ ap (λ (t : Positions). with_range t a m) (sym third.ok) ∙ sym fourth.ok)
-
-drop-nothing : (n : ℕ) → let none : List (ℕ × ℕ) = [] in drop n none ≡ none
-drop-nothing zero = refl
-drop-nothing (suc n) = refl
 
 -- calls of `next` return what is left, in turn, and then `None`
 next_results : (left last : List (ℕ × ℕ)) (results : List (Option (ℕ × ℕ))) → CallsNext left results last →
@@ -133,7 +115,7 @@ next_results [] last (None ∷ results) h =
     let ended : h.0 ≡ [] = h.1.1 in
     let rest = next_results h.0 last results h.2 in
     let n = length results in
-    (ap (λ xs. None ∷ xs) (rest.0 ∙ ap (λ xs. results_of_next xs n) ended), rest.1 ∙ ap (drop n) ended ∙ drop-nothing n)
+    (ap (λ xs. None ∷ xs) (rest.0 ∙ ap (λ xs. results_of_next xs n) ended), rest.1 ∙ ap (drop n) ended ∙ drop-nil n)
 next_results [] last (Some r ∷ results) h = let e : [] ≡ r ∷ h.0 = h.1 in cc
 next_results (l ∷ left) last (None ∷ results) h = let e : l ∷ left ≡ [] = h.1.0 in cc
 next_results (l ∷ left) last (Some r ∷ results) h =

@@ -1,27 +1,18 @@
 -- A head and runs that are those of an assembler: its runs as a list, and their set.
-use Rattle.std.proofs.Common.{◌≡◌, ℕ, ◌+◌, ◌-◌, ◌<◌, ◌≤◌, ◌^◌, List, [], ◌∷◌, length, take, drop}
-use Rattle.std.proofs.Common.{set, get_or, max, refl, sym, ap, subst, ◌∙◌, arith}
+use Rattle.std.proofs.Common.{◌≡◌, ℕ, ◌+◌, ◌-◌, ◌<◌, ◌≤◌, ◌^◌, List, [], ◌∷◌, length, take, drop, set, get_or, max, refl, sym, ap, subst, ◌∙◌, arith}
 use Rattle.std.specs.Prelude.{Result, Ok, Err, IsOk, IsErr}
 use Rattle.std.proofs.lemmas.List.{length-set, take_more_set, length-map, length-take-le, length-drop, get_or-take}
 use Rattle.net_assembler.specs.declared.assembler.error.TooManyHolesError.{TooManyHolesError}
 use Rattle.net_assembler.specs.declared.assembler.head.AssemblerHead.{AssemblerHead}
 use Rattle.net_assembler.specs.AssemblerLaws.{Adds, AddsThenRemovesFront}
 use Rattle.net_assembler.specs.Positions.{Positions, front, runs, runs_shifted_up, with_range, maximal_runs, shift_down}
-use Rattle.net_assembler.specs.RunLists.{start_at, end_at, AreRuns, HasSoundRuns, StartsAtZero, FitsFrom, used_runs}
-use Rattle.net_assembler.specs.RunLists.{runs_of, set_of, set_of_runs, runs_with_range, runs_shifted_down}
+use Rattle.net_assembler.specs.RunLists.{start_at, end_at, AreRuns, HasSoundRuns, StartsAtZero, FitsFrom, used_runs, runs_of, set_of, set_of_runs, runs_with_range, runs_shifted_down}
 use Rattle.std.proofs.lemmas.Bool.{cases_lt}
 use Rattle.net_assembler.proofs.MaximalRuns.{one_run_more}
 use Rattle.net_assembler.proofs.Positions.{either}
-use Rattle.net_assembler.proofs.Runs.{rising-runs_with_range, front_of_runs, front-set_of_runs, runs-set_of_runs}
-use Rattle.net_assembler.proofs.Runs.{maximal_runs-set_of_runs, set_of_runs_injective, set-runs_with_range}
-use Rattle.net_assembler.proofs.Runs.{runs-runs_with_range}
-use Rattle.net_assembler.proofs.RunLists.{front_none, shift_down-zero, Completed, completed_at, at_run, apart, front_of_first, with_range-none}
-use Rattle.net_assembler.proofs.RunLists.{top_of}
-use Rattle.net_assembler.proofs.ShiftedRuns.{end_at-up, top_before}
-use Rattle.net_assembler.proofs.ShiftedRuns.{down-zero, start_at-up, alone-runs_with_range, first-runs_with_range}
-use Rattle.net_assembler.proofs.ShiftedRuns.{fits-runs_with_range, fits-up, up-runs_with_range, up-up}
-use Rattle.net_assembler.proofs.ShiftedRuns.{zero-runs_with_range, length-up, drop-up, runs-up, down-up, fits-at}
-use Rattle.net_assembler.proofs.ShiftedRuns.{start-up, end-up, first_at, get_or-up, up-injective}
+use Rattle.net_assembler.proofs.Runs.{rising-runs_with_range, front_of_runs, front-set_of_runs, runs-set_of_runs, maximal_runs-set_of_runs, set_of_runs_injective, set-runs_with_range, runs-runs_with_range}
+use Rattle.net_assembler.proofs.RunLists.{front_none, shift_down-zero, Completed, completed_at, at_run, apart, front_of_first, with_range-none, top_of}
+use Rattle.net_assembler.proofs.ShiftedRuns.{end_at-up, top_before, down-zero, start_at-up, alone-runs_with_range, first-runs_with_range, fits-runs_with_range, fits-up, up-runs_with_range, up-up, zero-runs_with_range, length-up, drop-up, runs-up, down-up, fits-at, start-up, first_at, get_or-up, up-injective}
 
 module _ (h : AssemblerHead) (xs : List (ℕ × ℕ)) (s : HasSoundRuns h xs) where
   pub length-used_runs : length (used_runs h xs) ≡ h.used
@@ -89,7 +80,7 @@ module _ (h : AssemblerHead) (xs : List (ℕ × ℕ)) (s : HasSoundRuns h xs) wh
       let f = front_of_first (runs_of h xs) (omega (arith, front-set_of)) in
       let some : 0 < h.used = omega (arith, f.0, length-runs_of) in
       let begins = run_start some in
-      let ends = end-up h.first_start (used_runs h xs) (omega (arith, length-used_runs)) in
+      let ends = end_at-up h.first_start (used_runs h xs) 0 (omega (arith, length-used_runs)) in
       let last = end_of 0 some in
       (some, omega (arith, f.1), omega (arith, f.1, f.2, front-set_of))
 

@@ -1,22 +1,17 @@
 -- The list of maximal runs of a set, for every set.
-use Rattle.std.proofs.Common.{◌≡◌, ℕ, zero, suc, ◌+◌, ◌-◌, ◌<◌, ◌≤◌, Bool, true, false, cond, ◌&&◌, ◌||◌, ◌==◌, List}
-use Rattle.std.proofs.Common.{[], ◌∷◌, length, max, min, map, filter, nat_le, nat_lt, refl, sym, ap, subst, ◌∙◌}
-use Rattle.std.proofs.Common.{arith}
+use Rattle.std.proofs.Common.{◌≡◌, ℕ, zero, suc, ◌+◌, ◌-◌, ◌<◌, ◌≤◌, Bool, true, false, cond, ◌&&◌, ◌||◌, ◌==◌, List, [], ◌∷◌, length, max, min, map, filter, nat_le, nat_lt, refl, sym, ap, subst, ◌∙◌, arith}
 use Rattle.std.specs.Prelude.{All, AllPairs, count_by, Some, None, ◌↔◌}
 use Rattle.std.specs.List.{AllByRecursion, slice_get}
-use Rattle.std.proofs.lemmas.Bool.{false≢true, eqb-true, cases_eq, cases_lt}
-use Rattle.std.proofs.lemmas.Bool.Decides.{nat_tests}
+use Rattle.std.proofs.lemmas.Bool.{false≢true, eqb-true, cases_eq, cases_lt, cases_Bool, cond_both, or_cases, or_left, or_right, false_from_ne_true, true_from_ne_false}
+use Rattle.std.proofs.lemmas.Bool.Decides.{nat_tests, same_from_decides}
 use Rattle.std.proofs.lemmas.List.Elements.{All-from_recursion, All-head, All-tail}
 use Rattle.std.proofs.lemmas.Option.{slice_get_past, slice_get_within, slice_get-get_or, get_or_from_slice_get}
 use Rattle.std.proofs.lemmas.List.Kept.{AllPairs-cons}
 use Rattle.std.proofs.lemmas.List.Sums.{sum_by-cons}
-use Rattle.net_assembler.specs.Positions.{Positions, contains, positions, begins_run, run_starts, first_missing}
-use Rattle.net_assembler.specs.Positions.{maximal_runs, runs, with_range, lies_in, IsMaximalRun, AreMaximalRuns}
+use Rattle.net_assembler.specs.Positions.{Positions, contains, positions, begins_run, run_starts, first_missing, maximal_runs, runs, with_range, lies_in, IsMaximalRun, AreMaximalRuns}
 use Rattle.net_assembler.specs.RunLists.{IsRising, runs_with_range, set_of_runs}
-use Rattle.net_assembler.proofs.Positions.{has, contains-positions, same_positions, Rises, positions_rise, rises-has}
-use Rattle.net_assembler.proofs.Positions.{either, by_or, not_true, first_missing-misses, first_missing-has}
-use Rattle.net_assembler.proofs.Positions.{first_missing-le, begins-true, begins-false, runs-maximal_runs}
-use Rattle.net_assembler.proofs.Runs.{in_runs, not_in_runs, maximal_runs-set_of_runs, runs-runs_with_range}
+use Rattle.net_assembler.proofs.Positions.{has, contains-positions, same_positions, Rises, positions_rise, rises-has, has_head, either, first_missing-misses, first_missing-has, first_missing-le, begins-true, begins-false, runs-maximal_runs}
+use Rattle.net_assembler.proofs.Runs.{in_runs, not_in_runs, rising_from, maximal_runs-set_of_runs, runs-runs_with_range}
 use Rattle.net_assembler.proofs.RunLists.{with_range-none}
 
 -- the run of s that begins at p
@@ -25,7 +20,7 @@ run_from s p = (p, first_missing s p)
 
 -- a position of s that begins a run makes a maximal run
 begun_at : (s : Positions) (p : ℕ) → begins_run s p ≡ true → 0 < p → contains s (p - 1) ≡ false
-begun_at s p h l = not_true _ (λ m. false≢true (sym (begins-false s p l m) ∙ h))
+begun_at s p h l = false_from_ne_true _ (λ m. false≢true (sym (begins-false s p l m) ∙ h))
 
 some_at : (s : Positions) (p : ℕ) → contains s p ≡ true → p < first_missing s p
 some_at s p h = either (cases_eq p (first_missing s p))
@@ -44,9 +39,6 @@ is_maximal s p h b = record {
 abbrev Within : Positions → List ℕ → Type 0
 Within s ks = (k : ℕ) → has ks k ≡ true → contains s k ≡ true
 
-has_head : (k : ℕ) (ks : List ℕ) → has (k ∷ ks) k ≡ true
-has_head k ks = grind (arith, nat_tests)
-
 has_tail : (k q : ℕ) (ks : List ℕ) → has ks q ≡ true → has (k ∷ ks) q ≡ true
 has_tail k q ks h = grind (arith, nat_tests)
 
@@ -54,11 +46,7 @@ all_maximal : (s : Positions) (ks : List ℕ) → Within s ks → AllByRecursion
 all_maximal s [] w = tt
 all_maximal s (k ∷ ks) w =
     let rest = all_maximal s ks (λ q h. w q (has_tail k q ks h)) in
-    elim (begins_run s k) as (λ b. begins_run s k ≡ b → AllByRecursion (IsMaximalRun s)
-    (map (run_from s) (cond b (k ∷ filter (begins_run s) ks) (filter (begins_run s) ks)))) [
-      | true ↦ λ e. (is_maximal s k (w k (has_head k ks)) e, rest)
-      | false ↦ λ e. rest
-    ] refl
+    cond_both (begins_run s k) _ _ (λ l. AllByRecursion (IsMaximalRun s) (map (run_from s) l)) (λ e. (is_maximal s k (w k (has_head k ks)) e, rest)) (λ e. rest)
 
 -- the runs rise with a gap
 after_run : (s : Positions) (k j : ℕ) → k < j → begins_run s j ≡ true → first_missing s k + 1 ≤ j
@@ -72,16 +60,14 @@ rising_runs : (s : Positions) (low from : ℕ) (ks : List ℕ) →
     IsRising low (map (run_from s) (filter (begins_run s) ks))
 rising_runs s low from [] above h w = tt
 rising_runs s low from (k ∷ ks) above h w =
-    elim (begins_run s k) as (λ b. begins_run s k ≡ b → IsRising low (map (run_from s) (cond b (k ∷ filter (begins_run s) ks) (filter (begins_run s) ks)))) [
-      | true ↦ λ e. (
-        above k (has_head k ks) e,
-        some_at s k (w k (has_head k ks)),
-        rising_runs s (first_missing s k + 1) (k + 1) ks
-            (λ j m b. after_run s k j (let l = rises-has (k + 1) ks j h.1 m in omega arith) b) h.1
-            (λ q m. w q (has_tail k q ks m)),
-      )
-      | false ↦ λ e. rising_runs s low (k + 1) ks (λ j m b. above j (has_tail k j ks m) b) h.1 (λ q m. w q (has_tail k q ks m))
-    ] refl
+    let rest : Within s ks = λ q m. w q (has_tail k q ks m) in
+    cond_both (begins_run s k) _ _ (λ l. IsRising low (map (run_from s) l))
+    (λ e. (
+      above k (has_head k ks) e,
+      some_at s k (w k (has_head k ks)),
+      rising_runs s (first_missing s k + 1) (k + 1) ks (λ j m b. after_run s k j (let l = rises-has (k + 1) ks j h.1 m in omega arith) b) h.1 rest,
+    ))
+    (λ e. rising_runs s low (k + 1) ks (λ j m b. above j (has_tail k j ks m) b) h.1 rest)
 
 within_positions : (s : Positions) → Within s (positions s)
 within_positions s k h = contains-positions s k ∙ h
@@ -94,12 +80,10 @@ rising-maximal_runs s = rising_runs s 0 0 (positions s) (λ k _ _. omega arith) 
 has-filter : (f : ℕ → Bool) (ks : List ℕ) (q : ℕ) → f q ≡ true → has ks q ≡ true → has (filter f ks) q ≡ true
 has-filter f [] q g h = h
 has-filter f (k ∷ ks) q g h =
-    elim (f k) as (λ b. f k ≡ b → has (cond b (k ∷ filter f ks) (filter f ks)) q ≡ true) [
-      | true ↦ λ e. by_or (q == k) (has ks q) (has (k ∷ filter f ks) q ≡ true)
-          (λ m. ap (λ b. b || has (filter f ks) q) m) (λ m. has_tail k q (filter f ks) (has-filter f ks q g m)) h
-      | false ↦ λ e. by_or (q == k) (has ks q) (has (filter f ks) q ≡ true)
-          (λ m. absurd (false≢true (sym e ∙ ap f (sym (eqb-true q k m)) ∙ g))) (λ m. has-filter f ks q g m) h
-    ] refl
+    let cases = or_cases (q == k) (has ks q) h in
+    cond_both (f k) _ _ (λ l. has l q ≡ true)
+    (λ e. either cases (or_left (q == k) _) (λ m. has_tail k q (filter f ks) (has-filter f ks q g m)))
+    (λ e. either cases (λ m. absurd (false≢true (sym e ∙ ap f (sym (eqb-true q k m)) ∙ g))) (has-filter f ks q g))
 
 -- a start at or below q whose run reaches past q
 pub record RunOf (s : Positions) (q : ℕ) : Type 0 where
@@ -130,31 +114,19 @@ begins-zero s = refl
 begins-suc : (s : Positions) (q : ℕ) → begins_run s (suc q) ≡ false → contains s q ≡ true
 begins-suc s q h =
     let before : suc q - 1 ≡ q = omega arith in
-    elim (contains s q) as (λ b. contains s q ≡ b → b ≡ true) [
-      | true ↦ λ _. refl
-      | false ↦ λ e. absurd (false≢true (sym h ∙ begins-true s (suc q) (λ _. ap (contains s) before ∙ e)))
-    ] refl
+    true_from_ne_false _ (λ e. false≢true (sym h ∙ begins-true s (suc q) (λ _. ap (contains s) before ∙ e)))
 
 run_of : (s : Positions) (q : ℕ) → contains s q ≡ true → RunOf s q
 run_of s zero h = own_run s 0 h (begins-zero s)
-run_of s (suc q) h =
-    elim (begins_run s (suc q)) as (λ b. begins_run s (suc q) ≡ b → RunOf s (suc q)) [
-      | true ↦ λ e. own_run s (suc q) h e
-      | false ↦ λ e. next_in_run s q h (run_of s q (begins-suc s q e))
-    ] refl
+run_of s (suc q) h = either (cases_Bool (begins_run s (suc q))) (own_run s (suc q) h) (λ e. next_in_run s q h (run_of s q (begins-suc s q e)))
 
 in_runs-start : (s : Positions) (ks : List ℕ) (a q : ℕ) → has ks a ≡ true → a ≤ q → q < first_missing s a → in_runs (map (run_from s) ks) q ≡ true
 in_runs-start s [] a q h l m = h
 in_runs-start s (k ∷ ks) a q h l m =
-    by_or (a == k) (has ks a) (in_runs (map (run_from s) (k ∷ ks)) q ≡ true)
+    either (or_cases (a == k) (has ks a) h)
     (λ e. let same = eqb-true a k e in let top = subst (λ (p : ℕ). q < first_missing s p) same m in
-    let here : lies_in q (run_from s k) ≡ true = grind (arith, nat_tests) in
-    ap (λ b. b || in_runs (map (run_from s) ks) q) here)
-    (λ e. let there = in_runs-start s ks a q e l m in let here = lies_in q (run_from s k) in or_true here there) h
-  where
-    or_true : (a : Bool) {b : Bool} → b ≡ true → (a || b) ≡ true
-    or_true true e = refl
-    or_true false e = e
+    let here : lies_in q (run_from s k) ≡ true = grind (arith, nat_tests) in or_left _ _ here)
+    (λ e. or_right (lies_in q (run_from s k)) _ (in_runs-start s ks a q e l m))
 
 in_maximal_runs : (s : Positions) (q : ℕ) → contains s q ≡ true → in_runs (maximal_runs s) q ≡ true
 unfolding maximal_runs run_starts
@@ -177,11 +149,7 @@ count-lies_in low (r ∷ rs) q h =
 -- rising runs rise pair by pair
 above_low : (low : ℕ) (rs : List (ℕ × ℕ)) → IsRising (low + 1) rs → AllByRecursion (λ r. low < r.0) rs
 above_low low [] h = tt
-above_low low (r ∷ rs) h = (omega (arith, h.0), above_low low rs (rising_lower (low + 1) (r.1 + 1) rs (omega (arith, h.0, h.1)) h.2))
-  where
-    rising_lower : (low high : ℕ) (rs : List (ℕ × ℕ)) → low ≤ high → IsRising high rs → IsRising low rs
-    rising_lower low high [] l h = tt
-    rising_lower low high (r ∷ rs) l h = (omega (arith, h.0), h.1, h.2)
+above_low low (r ∷ rs) h = (omega (arith, h.0), above_low low rs (rising_from (low + 1) (r.1 + 1) rs (omega (arith, h.0, h.1)) h.2))
 
 pairs_rise : (low : ℕ) (rs : List (ℕ × ℕ)) → IsRising low rs → AllPairs (λ (q r : ℕ × ℕ). q.1 < r.0) rs
 pairs_rise low [] h = λ i j d l m. absurd (omega arith)
@@ -200,22 +168,17 @@ are_maximal_runs s = record {
   number = sym (runs-maximal_runs s);
 }
 
--- sets that have the same maximal runs are equal
-same_tests : (a b : Bool) → (a ≡ true → b ≡ true) → (b ≡ true → a ≡ true) → a ≡ b
-same_tests true b f g = sym (f refl)
-same_tests false true f g = g refl
-same_tests false false f g = refl
-
 -- a position that is in one of a set's maximal runs is in the set
 member : (s : Positions) (q : ℕ) (rs : List (ℕ × ℕ)) → All (IsMaximalRun s) rs → in_runs rs q ≡ true → contains s q ≡ true
 member s q [] all h = absurd (false≢true h)
 member s q (r ∷ rs) all h =
-    by_or (nat_le r.0 q && nat_lt q r.1) (in_runs rs q) (contains s q ≡ true)
+    either (or_cases (nat_le r.0 q && nat_lt q r.1) (in_runs rs q) h)
     (λ e. (All-head (IsMaximalRun s) r rs all).inside q (grind (arith, nat_tests)) (grind (arith, nat_tests)))
-    (λ e. member s q rs (All-tail (IsMaximalRun s) r rs all) e) h
+    (member s q rs (All-tail (IsMaximalRun s) r rs all))
 
+-- sets that have the same maximal runs are equal
 pub equal_maximal_runs : (s t : Positions) → maximal_runs s ≡ maximal_runs t → s ≡ t
-equal_maximal_runs s t e = same_positions s t (λ q. same_tests _ _ (into s t e q) (into t s (sym e) q))
+equal_maximal_runs s t e = same_positions s t (λ q. same_from_decides {P = contains s q ≡ true} _ _ (λ h. h, λ h. h) (into t s (sym e) q, into s t e q))
   where
     into : (s t : Positions) → maximal_runs s ≡ maximal_runs t → (q : ℕ) → contains s q ≡ true → contains t q ≡ true
     into s t e q h = member t q (maximal_runs t) (maximal_all t) (ap (λ rs. in_runs rs q) (sym e) ∙ in_maximal_runs s q h)
@@ -242,17 +205,10 @@ set_of_maximal_runs s = equal_maximal_runs _ s (maximal_runs-set_of_runs (maxima
 few_with_range : (rs : List (ℕ × ℕ)) (lo hi : ℕ) → length (runs_with_range rs lo hi) ≤ length rs + 1
 few_with_range [] lo hi = omega arith
 few_with_range (r ∷ rs) lo hi =
+    let Few : List (ℕ × ℕ) → Type 0 = λ l. length l ≤ length (r ∷ rs) + 1 in
     let before = few_with_range rs lo hi in
     let meets = few_with_range rs (min r.0 lo) (max r.1 hi) in
-    elim (nat_lt r.1 lo) as (λ b. length
-    (cond b (r ∷ runs_with_range rs lo hi) (cond (nat_lt hi r.0) ((lo, hi) ∷ r ∷ rs)
-    (runs_with_range rs (min r.0 lo) (max r.1 hi)))) ≤ length (r ∷ rs) + 1) [
-      | true ↦ omega arith
-      | false ↦ elim (nat_lt hi r.0) as (λ b. length (cond b ((lo, hi) ∷ r ∷ rs) (runs_with_range rs (min r.0 lo) (max r.1 hi))) ≤ length (r ∷ rs) + 1) [
-        | true ↦ omega arith
-        | false ↦ omega arith
-      ]
-    ]
+    cond_both (nat_lt r.1 lo) _ _ Few (λ e. omega arith) (λ e. cond_both (nat_lt hi r.0) _ _ Few (λ e. omega arith) (λ e. omega arith))
 
 -- and so of a set
 pub one_run_more : (s : Positions) (o n : ℕ) → runs (with_range s o n) ≤ runs s + 1

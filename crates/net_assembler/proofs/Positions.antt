@@ -1,10 +1,7 @@
 -- What membership, runs and shifts of a set of positions come to, whatever holds the set.
-use Rattle.std.proofs.Common.{◌≡◌, ℕ, zero, suc, ◌+◌, ◌-◌, ◌<◌, ◌≤◌, Bool, true, false, cond, not, ◌&&◌, ◌||◌, ◌==◌}
-use Rattle.std.proofs.Common.{List, [], ◌∷◌, ◌++◌, map, filter, length, nat_le, nat_lt, refl, sym, ap, subst, ◌∙◌}
-use Rattle.std.proofs.Common.{◌⊎◌, inl, inr, arith, Decides, le-leb}
-use Rattle.std.proofs.lemmas.Bool.{false≢true}
+use Rattle.std.proofs.Common.{◌≡◌, ℕ, zero, suc, ◌+◌, ◌-◌, ◌<◌, ◌≤◌, Bool, true, false, cond, not, ◌&&◌, ◌||◌, ◌==◌, List, [], ◌∷◌, ◌++◌, map, filter, length, nat_le, nat_lt, refl, sym, ap, subst, ◌∙◌, ◌⊎◌, inl, inr, arith, Decides, le-leb}
+use Rattle.std.proofs.lemmas.Bool.{false≢true, eqb-true, eq-eqb, cases_lt, cases_eq, cases_Bool, lt-leb, and_parts, and_right, or_cases, or_left, or_right, cond_both, false_from_ne_true}
 use Rattle.std.proofs.lemmas.List.{length-map}
-use Rattle.std.proofs.lemmas.Bool.{eqb-true, eq-eqb, cases_lt, cases_eq, lt-leb}
 use Rattle.std.specs.List.{range_with_len, list_any}
 use Rattle.std.specs.Prelude.{T, is_some, Option, Some, None}
 use Rattle.std.specs.Ordering.{nat_cmp, eq_by_cmp, is_lt}
@@ -12,9 +9,7 @@ use Rattle.std.specs.Cmp.{nat_cmp_total, unsigned_tied}
 use Rattle.std.specs.FinMap.{entries, contains_key-keys, get-from_entries, get-empty, same_map, nat_cmp-IsAntisymmetric, entries_sorted}
 use Rattle.std.specs.FinMap.Entries.{is_sorted, below_all, is_some-find}
 use Rattle.std.proofs.lemmas.Bool.Decides.{nat_tests}
-use Rattle.net_assembler.specs.Positions.{Positions, contains, positions, set_of_list, nothing, with_range, begins_run}
-use Rattle.net_assembler.specs.Positions.{run_starts, runs, maximal_runs, runs_shifted_up, shift_down, shift_up}
-use Rattle.net_assembler.specs.Positions.{bound_of, missing_within, first_missing, are_same}
+use Rattle.net_assembler.specs.Positions.{Positions, contains, positions, set_of_list, nothing, with_range, begins_run, run_starts, runs, maximal_runs, runs_shifted_up, shift_down, shift_up, bound_of, missing_within, first_missing, are_same}
 use Rattle.std.specs.Cmp.Lexicographic.{bytes_decides}
 
 -- membership in a list
@@ -87,24 +82,12 @@ pub either : {P Q R : Type 0} → P ⊎ Q → (P → R) → (Q → R) → R
 either (inl p) f g = f p
 either (inr q) f g = g q
 
-first_is : (a b : Bool) → (a && b) ≡ true → a ≡ true
-first_is true b p = refl
-first_is false b p = p
-
-pub by_or : (a b : Bool) (P : Type 0) → (a ≡ true → P) → (b ≡ true → P) → (a || b) ≡ true → P
-by_or true b P f g h = f refl
-by_or false b P f g h = g h
-
-pub not_true : (b : Bool) → (b ≡ true → ⊥) → b ≡ false
-not_true true f = absurd (f refl)
-not_true false f = refl
-
 is_lt-nat_cmp : (x y : ℕ) → is_lt (nat_cmp x y) ≡ true → x < y
 is_lt-nat_cmp x y h = grind (arith, nat_tests)
 
 begins_above : (k : ℕ) (es : List (ℕ × Unit {0})) → below_all nat_cmp k es ≡ true → BeginsAt (k + 1) es
 begins_above k [] h = tt
-begins_above k (e ∷ es) h = let p = is_lt-nat_cmp k e.0 (first_is _ _ h) in omega arith
+begins_above k (e ∷ es) h = let p = is_lt-nat_cmp k e.0 (and_parts _ _ h).0 in omega arith
 
 sorted_rises : (low : ℕ) (es : List (ℕ × Unit {0})) → T (is_sorted nat_cmp es) → BeginsAt low es → Rises low (map (λ e. e.0) es)
 sorted_rises low [] h b = tt
@@ -119,14 +102,14 @@ positions_rise s = sorted_rises 0 (entries s) (entries_sorted s) (begins_at_zero
 
 pub rises-has : (low : ℕ) (ks : List ℕ) (q : ℕ) → Rises low ks → has ks q ≡ true → low ≤ q
 rises-has low [] q h m = absurd (false≢true m)
-rises-has low (k ∷ ks) q h m = by_or (q == k) (has ks q) (low ≤ q)
+rises-has low (k ∷ ks) q h m = either (or_cases (q == k) (has ks q) m)
     (λ e. let same = eqb-true q k e in omega (arith, h.0))
-    (λ e. let l = rises-has (k + 1) ks q h.1 e in omega (arith, h.0)) m
+    (λ e. let l = rises-has (k + 1) ks q h.1 e in omega (arith, h.0))
 
 not_has : (low : ℕ) (ks : List ℕ) (q : ℕ) → Rises low ks → q < low → has ks q ≡ false
-not_has low ks q h l = not_true (has ks q) (λ m. let p = rises-has low ks q h m in omega arith)
+not_has low ks q h l = false_from_ne_true (has ks q) (λ m. let p = rises-has low ks q h m in omega arith)
 
-has_head : (x : ℕ) (xs : List ℕ) → has (x ∷ xs) x ≡ true
+pub has_head : (x : ℕ) (xs : List ℕ) → has (x ∷ xs) x ≡ true
 has_head x xs = ap (λ b. b || has xs x) (eq-eqb x x refl)
 
 has_tail : (x : ℕ) (xs : List ℕ) (q : ℕ) → x < q → has (x ∷ xs) q ≡ has xs q
@@ -158,32 +141,23 @@ positions-set_of_list ks h = rising_unique 0 _ ks (positions_rise (set_of_list k
 
 has-below : (ks : List ℕ) (q : ℕ) → has ks q ≡ true → q < bound_of ks
 has-below [] q m = absurd (false≢true m)
-has-below (k ∷ ks) q m = by_or (q == k) (has ks q) (q < bound_of (k ∷ ks))
-    (λ e. let same = eqb-true q k e in omega arith) (λ e. let l = has-below ks q e in omega arith) m
+has-below (k ∷ ks) q m = either (or_cases (q == k) (has ks q) m)
+    (λ e. let same = eqb-true q k e in omega arith) (λ e. let l = has-below ks q e in omega arith)
 
 missing-at : (s : Positions) (n p : ℕ) → bound_of (positions s) ≤ p + n → contains s (missing_within s p n) ≡ false
-missing-at s zero p h = not_true _ (λ m. let l = has-below (positions s) p (sym (contains-positions s p) ∙ m) in omega arith)
-missing-at s (suc n) p h =
-    elim (contains s p) as (λ b. contains s p ≡ b → contains s (cond b (missing_within s (p + 1) n) p) ≡ false) [
-      | true ↦ λ e. missing-at s n (p + 1) (omega arith)
-      | false ↦ λ e. e
-    ] refl
+missing-at s zero p h = false_from_ne_true _ (λ m. let l = has-below (positions s) p (sym (contains-positions s p) ∙ m) in omega arith)
+missing-at s (suc n) p h = cond_both (contains s p) _ _ (λ k. contains s k ≡ false) (λ e. missing-at s n (p + 1) (omega arith)) (λ e. e)
 
 missing-below : (s : Positions) (n p q : ℕ) → p ≤ q → q < missing_within s p n → contains s q ≡ true
 missing-below s zero p q h = λ l. absurd (omega arith)
 missing-below s (suc n) p q h =
-    elim (contains s p) as (λ b. contains s p ≡ b → q < cond b (missing_within s (p + 1) n) p → contains s q ≡ true) [
-      | true ↦ λ e l. either (cases_eq p q) (λ same. subst (λ (k : ℕ). contains s k ≡ true) same e) (λ other. missing-below s n (p + 1) q (omega arith) l)
-      | false ↦ λ e l. absurd (omega arith)
-    ] refl
+    cond_both (contains s p) _ _ (λ k. q < k → contains s q ≡ true)
+    (λ e l. either (cases_eq p q) (λ same. subst (λ (k : ℕ). contains s k ≡ true) same e) (λ other. missing-below s n (p + 1) q (omega arith) l))
+    (λ e l. absurd (omega arith))
 
 missing-le : (s : Positions) (n p : ℕ) → p ≤ missing_within s p n
 missing-le s zero p = omega arith
-missing-le s (suc n) p = elim (contains s p) as (λ b. p ≤ cond b (missing_within s (p + 1) n) p) [
-  | true ↦
-      (let l = missing-le s n (p + 1) in omega arith)
-  | false ↦ omega arith
-]
+missing-le s (suc n) p = let l = missing-le s n (p + 1) in cond_both (contains s p) _ _ (λ k. p ≤ k) (λ e. omega arith) (λ e. omega arith)
 
 -- the first missing position is missing, all before it are there, and it is the only such
 pub first_missing-misses : (s : Positions) (p : ℕ) → contains s (first_missing s p) ≡ false
@@ -207,14 +181,9 @@ first_missing-is s p e h misses all =
     either (cases_lt m e) (λ l. absurd (not_below l)) (λ l. either (cases_lt e m) (λ k. absurd (not_above k)) (λ k. omega arith))
 
 -- where a run begins
-or_true : (b : Bool) → (b || true) ≡ true
-or_true true = refl
-or_true false = refl
-
 pub begins-true : (s : Positions) (p : ℕ) → (0 < p → contains s (p - 1) ≡ false) → begins_run s p ≡ true
 unfolding begins_run
-begins-true s p h = either (cases_eq p 0) (λ e. ap (λ b. b || not (contains s (p - 1))) (eq-eqb p 0 e))
-    (λ e. ap (λ b. (p == 0) || not b) (h (omega arith)) ∙ or_true (p == 0))
+begins-true s p h = either (cases_eq p 0) (λ e. or_left (p == 0) _ (eq-eqb p 0 e)) (λ e. or_right (p == 0) _ (ap not (h (omega arith))))
 
 pub begins-false : (s : Positions) (p : ℕ) → 0 < p → contains s (p - 1) ≡ true → begins_run s p ≡ false
 unfolding begins_run
@@ -230,10 +199,8 @@ shifted_ne m k q e = grind (arith, nat_tests)
 has-shifted : (m : ℕ) (ks : List ℕ) (q : ℕ) → has (map (λ p. p - m) (filter (nat_le m) ks)) q ≡ has ks (q + m)
 has-shifted m [] q = refl
 has-shifted m (k ∷ ks) q =
-    elim (nat_le m k) as (λ b. nat_le m k ≡ b → has (map (λ p. p - m) (cond b (k ∷ filter (nat_le m) ks) (filter (nat_le m) ks))) q ≡ has (k ∷ ks) (q + m)) [
-      | true ↦ λ e. (λ i. shifted_eq m k q e i || has-shifted m ks q i)
-      | false ↦ λ e. has-shifted m ks q ∙ ap (λ b. b || has ks (q + m)) (sym (shifted_ne m k q e))
-    ] refl
+    cond_both (nat_le m k) _ _ (λ l. has (map (λ p. p - m) l) q ≡ has (k ∷ ks) (q + m))
+    (λ e i. shifted_eq m k q e i || has-shifted m ks q i) (λ e. has-shifted m ks q ∙ ap (λ b. b || has ks (q + m)) (sym (shifted_ne m k q e)))
 
 pub contains-shift_down : (s : Positions) (m q : ℕ) → contains (shift_down s m) q ≡ contains s (q + m)
 unfolding shift_down
@@ -249,16 +216,12 @@ rises_up : (n low high : ℕ) (ks : List ℕ) → high ≤ n + low → Rises low
 rises_up n low high [] l h = tt
 rises_up n low high (k ∷ ks) l h = (omega (arith, h.0), rises_up n (k + 1) (n + k + 1) ks (omega arith) h.1)
 
-none_and : (b : Bool) → false ≡ (b && false)
-none_and true = refl
-none_and false = refl
-
 up_step : (n k q : ℕ) (b : Bool) → ((q == n + k) || (nat_le n q && b)) ≡ (nat_le n q && ((q - n == k) || b))
 up_step n k q true = grind (arith, nat_tests)
 up_step n k q false = grind (arith, nat_tests)
 
 has-up : (n : ℕ) (ks : List ℕ) (q : ℕ) → has (map (λ p. n + p) ks) q ≡ (nat_le n q && has ks (q - n))
-has-up n [] q = none_and (nat_le n q)
+has-up n [] q = sym (and_right (nat_le n q) false refl)
 has-up n (k ∷ ks) q = ap (λ b. (q == n + k) || b) (has-up n ks q) ∙ up_step n k q (has ks (q - n))
 
 pub contains-shift_up : (s : Positions) (n q : ℕ) → contains (shift_up s n) q ≡ (nat_le n q && contains s (q - n))
@@ -294,12 +257,10 @@ module _ (s : Positions) (n : ℕ) where
   begins-shift_up : (p : ℕ) → begins_run (shift_up s n) (n + p) ≡ begins_run s p
   begins-shift_up p =
       either (cases_lt 0 p)
-      (λ (l : 0 < p). by (contains s (p - 1)) l refl)
-      (λ (l : p ≤ 0). begins-true (shift_up s n) (n + p) (λ k. gone (n + p - 1) (omega arith)) ∙ sym (begins-true s p (λ k. absurd (omega arith))))
-    where
-      by : (b : Bool) → 0 < p → contains s (p - 1) ≡ b → begins_run (shift_up s n) (n + p) ≡ begins_run s p
-      by true l e = begins-false (shift_up s n) (n + p) (omega arith) (there (n + p - 1) (p - 1) (omega arith) ∙ e) ∙ sym (begins-false s p l e)
-      by false l e = begins-true (shift_up s n) (n + p) (λ _. there (n + p - 1) (p - 1) (omega arith) ∙ e) ∙ sym (begins-true s p (λ _. e))
+      (λ l. let same = there (n + p - 1) (p - 1) (omega arith) in
+      either (cases_Bool (contains s (p - 1))) (λ e. begins-false (shift_up s n) (n + p) (omega arith) (same ∙ e) ∙ sym (begins-false s p l e))
+      (λ e. begins-true (shift_up s n) (n + p) (λ _. same ∙ e) ∙ sym (begins-true s p (λ _. e))))
+      (λ l. begins-true (shift_up s n) (n + p) (λ k. gone (n + p - 1) (omega arith)) ∙ sym (begins-true s p (λ k. absurd (omega arith))))
 
   first_missing-shift_up : (p : ℕ) → first_missing (shift_up s n) (n + p) ≡ n + first_missing s p
   first_missing-shift_up p =

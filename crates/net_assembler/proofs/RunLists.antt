@@ -1,21 +1,16 @@
 -- Where a range joins a list of runs.
-use Rattle.std.proofs.Common.{◌≡◌, ℕ, zero, suc, ◌+◌, ◌-◌, ◌*◌, ◌<◌, ◌≤◌, ◌^◌, max, min, true, false, cond, ◌&&◌}
-use Rattle.std.proofs.Common.{◌||◌, ◌==◌, List, [], ◌∷◌, ◌++◌, length, take, drop, set, get_or, nat_le, nat_lt, refl}
-use Rattle.std.proofs.Common.{sym, ap, subst, ◌∙◌, arith, ◌≢◌}
+use Rattle.std.proofs.Common.{◌≡◌, ℕ, zero, suc, ◌+◌, ◌-◌, ◌*◌, ◌<◌, ◌≤◌, ◌^◌, max, min, true, false, cond, ◌&&◌, ◌||◌, ◌==◌, List, [], ◌∷◌, ◌++◌, length, take, drop, set, get_or, nat_le, nat_lt, refl, sym, ap, subst, ◌∙◌, arith, ◌≢◌}
+use Rattle.std.proofs.Math.Bool.{or-false}
 use Rattle.std.proofs.Math.Nat.{pow-suc}
 use Rattle.std.proofs.Math.Seq.{take-set-lt}
-use Rattle.std.proofs.lemmas.List.{get_or-drop, get_or_read_under, drop_all, append_assoc, length-append, length-take-le}
-use Rattle.std.proofs.lemmas.List.{length-drop, take_more_set, drop-set-lt, take-append-drop, take-take, get_or-take}
-use Rattle.std.proofs.lemmas.Bool.{cases_lt, cases_eq, eq-eqb, ne_eqb, lt-ltb, le-ltb}
+use Rattle.std.proofs.lemmas.List.{get_or-drop, get_or_read_under, drop_all, append_assoc, length-append, length-take-le, length-drop, take_more_set, drop-set-lt, take-append-drop, take-take, get_or-take}
+use Rattle.std.proofs.lemmas.Bool.{cases_lt, cases_eq, eq-eqb, ne_eqb, lt-ltb, le-ltb, cond-true, cond-false}
 use Rattle.std.proofs.lemmas.Bool.Decides.{nat_tests}
 use Rattle.net_assembler.proofs.Moves.{rest_at}
 use Rattle.net_assembler.specs.Positions.{Positions, contains, nothing, front, with_range, runs, shift_down, set_of_list}
 use Rattle.net_assembler.specs.RunLists.{start_at, end_at, IsRising, AreRuns, runs_with_range, runs_shifted_down, set_of_runs}
 use Rattle.net_assembler.proofs.Positions.{either, same_positions, contains-with_range, contains-shift_down}
-use Rattle.net_assembler.proofs.Runs.{in_runs, in_first, past_first, not_in_runs, front_of_runs, step_before}
-use Rattle.net_assembler.proofs.Runs.{step_behind, step_meets, rising-runs_with_range, front-set_of_runs}
-use Rattle.net_assembler.proofs.Runs.{set_of_runs_injective, or_false, set-without_front, rising-runs_shifted_down}
-use Rattle.net_assembler.proofs.Runs.{runs-set_of_runs, set-runs_with_range}
+use Rattle.net_assembler.proofs.Runs.{in_runs, in_first, past_first, not_in_runs, front_of_runs, step_before, step_behind, step_meets, rising-runs_with_range, front-set_of_runs, set_of_runs_injective, set-without_front, runs-set_of_runs, set-runs_with_range}
 
 -- what is read at an index, where no default is given
 pub read : (xs : List (ℕ × ℕ)) (k : ℕ) (r : ℕ × ℕ) → k < length xs → r ≡ get_or xs k r → r ≡ get_or xs k (0, 0)
@@ -107,15 +102,6 @@ rising-drop low [] (suc n) m h above = tt
 rising-drop low (r ∷ rs) zero m h above = (above 0 (omega arith) (omega arith), h.1, h.2)
 rising-drop low (r ∷ rs) (suc n) m h above = rising-drop (r.1 + 1) rs n m h.2 (λ k b d. above (suc k) (omega arith) (omega arith))
 
--- what is after the run `from` starts at or above it
-pub rising_behind : (xs : List (ℕ × ℕ)) (used from : ℕ) → AreRuns (take used xs) → from < used → used ≤ length xs →
-    IsRising (start_at xs from) (drop from (take used xs))
-rising_behind xs used from h l m =
-    let cs = take used xs in
-    let len = length-take-le used xs m in
-    let same = ap (λ (r : ℕ × ℕ). r.0) (get_or-take used xs from (0, 0) l) in
-    rising-drop 0 cs from (start_at xs from) h (λ k a b. let p = starts_rise 0 cs from k h a b in omega arith)
-
 set_of_no_runs : nothing ≡ set_of_runs []
 unfolding set_of_runs set_of_list
 set_of_no_runs = refl
@@ -135,7 +121,7 @@ no_range o n q e = grind (arith, nat_tests)
 
 -- a set with the range (o, 0) is itself
 pub with_range-none : (s : Positions) (o n : ℕ) → n ≡ 0 → with_range s o n ≡ s
-with_range-none s o n e = same_positions _ _ (λ q. contains-with_range s o n q ∙ ap (λ b. contains s q || b) (no_range o n q e) ∙ or_false (contains s q))
+with_range-none s o n e = same_positions _ _ (λ q. contains-with_range s o n q ∙ ap (λ b. contains s q || b) (no_range o n q e) ∙ or-false (contains s q))
 
 pub shift_down-zero : (s : Positions) (m : ℕ) → m ≡ 0 → shift_down s m ≡ s
 shift_down-zero s m e = same_positions _ _ (λ q. let z : q + m ≡ q = omega arith in contains-shift_down s m q ∙ ap (contains s) z)
@@ -179,11 +165,11 @@ completed rs n size h l m upto behind =
 -- what the first run says of the front
 pub front_none : (rs : List (ℕ × ℕ)) → (0 < length rs → start_at rs 0 ≢ 0) → 0 ≡ front_of_runs rs
 front_none [] h = refl
-front_none (r ∷ rs) h = ap (λ b. cond b r.1 0) (sym (ne_eqb r.0 0 (h (omega arith))))
+front_none (r ∷ rs) h = sym (cond-false _ _ _ (ne_eqb r.0 0 (h (omega arith))))
 
 pub front_some : (rs : List (ℕ × ℕ)) → 0 < length rs → start_at rs 0 ≡ 0 → end_at rs 0 ≡ front_of_runs rs
 front_some [] l h = absurd (omega arith)
-front_some (r ∷ rs) l h = ap (λ b. cond b r.1 0) (sym (eq-eqb r.0 0 h))
+front_some (r ∷ rs) l h = sym (cond-true _ _ _ (eq-eqb r.0 0 h))
 
 -- half of a number below a power of two is below half of it
 pub halved : (c w v : ℕ) → 0 < w → w < 2 ^ c → 2 * v ≤ w → (d : ℕ) × (c ≡ d + 1) × (v < 2 ^ d)
@@ -193,48 +179,96 @@ halved (suc d) w v l m n = (d, omega arith, omega (arith, pow-suc 2 d))
 pub length_apart : (rs : List (ℕ × ℕ)) (i : ℕ) (r : ℕ × ℕ) → i ≤ length rs → length (take i rs ++ r ∷ drop i rs) ≡ length rs + 1
 length_apart rs i r l = let n = length-append (take i rs) (r ∷ drop i rs) in omega (arith, length-take-le i rs l, length-drop i rs)
 
-replaced : (xs : List (ℕ × ℕ)) (used i j : ℕ) (v : ℕ × ℕ) → i < j → j ≤ used → used ≤ length xs →
-    take (i + 1) (set xs i v) ++ drop j (take used (set xs i v)) ≡ take i (take used xs) ++ v ∷ drop j (take used xs)
-replaced xs used i j v l m n =
-    (λ k. take_more_set xs i v (omega arith) k ++ (ap (drop j) (take-set-lt used xs i v (omega arith)) ∙ drop-set-lt j (take used xs) i v l) k)
-    ∙ append_assoc (take i xs) (v ∷ []) (drop j (take used xs))
-    ∙ ap (λ zs. zs ++ v ∷ drop j (take used xs)) (sym (take-take i used xs (omega arith)))
+-- runs that are the first pairs of an array
+module _ (xs : List (ℕ × ℕ)) (used : ℕ) (h : AreRuns (take used xs)) (room : used ≤ length xs) where
+  abbrev cs : List (ℕ × ℕ)
+  cs = take used xs
 
--- one entry in the place of those from i up to j
-pub replaced_run : (xs : List (ℕ × ℕ)) (used i j start end lo hi : ℕ) → AreRuns (take used xs) → i < j → j ≤ used → used ≤ length xs →
-    ((k : ℕ) → k < i → end_at (take used xs) k < start) → start ≤ end_at (take used xs) i →
-    ((k : ℕ) → i ≤ k → k < j → start_at (take used xs) k ≤ end) → ((k : ℕ) → j ≤ k → k < used → end < start_at (take used xs) k) →
-    lo ≡ min (start_at xs i) start → hi ≡ max (end_at xs (j - 1)) end →
-    take (i + 1) (set xs i (lo, hi)) ++ drop j (take used (set xs i (lo, hi))) ≡ runs_with_range (take used xs) start end
-replaced_run xs used i j start end lo hi h l m n before from upto behind low high =
-    let cs = take used xs in
-    let len = length-take-le used xs n in
-    let last : suc (j - 1) ≡ j = omega arith in
-    let lo_is : lo ≡ min (start_at cs i) start = low ∙ ap (λ (r : ℕ × ℕ). min r.0 start) (sym (get_or-take used xs i (0, 0) (omega arith))) in
-    let hi_is : hi ≡ max (end_at cs (j - 1)) end = high ∙ ap (λ (r : ℕ × ℕ). max r.1 end) (sym (get_or-take used xs (j - 1) (0, 0) (omega arith))) in
-    replaced xs used i j (lo, hi) l m n
-    ∙ (λ k. take i cs ++ (lo_is k, hi_is k) ∷ drop (sym last k) cs)
-    ∙ sym (joined_at 0 cs i (j - 1) start end h (omega arith) (omega arith) before from
-    (λ k a b. upto k a (omega arith)) (λ k a b. behind k (omega arith) (omega arith)))
+  len : length cs ≡ used
+  len = length-take-le used xs room
 
--- one entry more
-pub inserted_run : (xs : List (ℕ × ℕ)) (used i start end : ℕ) → AreRuns (take used xs) → i ≤ used → used ≤ length xs → start < end →
-    ((k : ℕ) → k < i → end_at (take used xs) k < start) → ((k : ℕ) → i ≤ k → k < used → end < start_at (take used xs) k) →
-    take i xs ++ (start, end) ∷ drop i (take used xs) ≡ runs_with_range (take used xs) start end
-inserted_run xs used i start end h l n m before behind =
-    let cs = take used xs in
-    let len = length-take-le used xs n in
-    ap (λ zs. zs ++ (start, end) ∷ drop i cs) (sym (take-take i used xs l))
-    ∙ sym (apart_at 0 cs i start end h (omega arith) m before (λ k a b. behind k a (omega arith)))
+  pair_is : (k : ℕ) → k < used → (start_at cs k ≡ start_at xs k) × (end_at cs k ≡ end_at xs k)
+  pair_is k l = let same = get_or-take used xs k (0, 0) l in (ap (λ (r : ℕ × ℕ). r.0) same, ap (λ (r : ℕ × ℕ). r.1) same)
 
-pub refused_run : (xs : List (ℕ × ℕ)) (used i start end : ℕ) → AreRuns (take used xs) → i ≤ used → used ≤ length xs → start < end →
-    ((k : ℕ) → k < i → end_at (take used xs) k < start) → ((k : ℕ) → i ≤ k → k < used → end < start_at (take used xs) k) →
-    length (runs_with_range (take used xs) start end) ≡ used + 1
-refused_run xs used i start end h l n m before behind =
-    let cs = take used xs in
-    let len = length-take-le used xs n in
-    ap length (apart_at 0 cs i start end h (omega arith) m before (λ k a b. behind k a (omega arith)))
-    ∙ length_apart cs i (start, end) (omega arith) ∙ omega arith
+  -- what is after the run `from` starts at or above it
+  pub rising_behind : (from : ℕ) → from < used → IsRising (start_at xs from) (drop from cs)
+  rising_behind from l =
+      rising-drop 0 cs from (start_at xs from) h (λ k a b. let p = starts_rise 0 cs from k h a b in omega (arith, pair_is from l))
+
+  -- runs from i on, where a range ends before the run i
+  pub all_behind : (i end : ℕ) → i < used → end < start_at xs i → (k : ℕ) → i ≤ k → k < used → end < start_at cs k
+  all_behind i end l first k a b = let p = starts_rise 0 cs i k h a (omega (arith, len)) in omega (arith, pair_is i l)
+
+  replaced : (i j : ℕ) (v : ℕ × ℕ) → i < j → j ≤ used →
+      take (i + 1) (set xs i v) ++ drop j (take used (set xs i v)) ≡ take i cs ++ v ∷ drop j cs
+  replaced i j v l m =
+      (λ k. take_more_set xs i v (omega (arith, room)) k ++ (ap (drop j) (take-set-lt used xs i v (omega (arith, room))) ∙ drop-set-lt j cs i v l) k)
+      ∙ append_assoc (take i xs) (v ∷ []) (drop j cs)
+      ∙ ap (λ zs. zs ++ v ∷ drop j cs) (sym (take-take i used xs (omega arith)))
+
+  -- one entry in the place of those from i up to j
+  pub replaced_run : (i j start end lo hi : ℕ) → i < j → j ≤ used → ((k : ℕ) → k < i → end_at cs k < start) → start ≤ end_at cs i →
+      ((k : ℕ) → i ≤ k → k < j → start_at cs k ≤ end) → ((k : ℕ) → j ≤ k → k < used → end < start_at cs k) →
+      lo ≡ min (start_at xs i) start → hi ≡ max (end_at xs (j - 1)) end →
+      take (i + 1) (set xs i (lo, hi)) ++ drop j (take used (set xs i (lo, hi))) ≡ runs_with_range cs start end
+  replaced_run i j start end lo hi l m before from upto behind low high =
+      let last : suc (j - 1) ≡ j = omega arith in
+      let lo_is : lo ≡ min (start_at cs i) start = omega (arith, low, pair_is i (omega arith)) in
+      let hi_is : hi ≡ max (end_at cs (j - 1)) end = omega (arith, high, pair_is (j - 1) (omega arith)) in
+      replaced i j (lo, hi) l m
+      ∙ (λ k. take i cs ++ (lo_is k, hi_is k) ∷ drop (sym last k) cs)
+      ∙ sym (joined_at 0 cs i (j - 1) start end h (omega arith) (omega (arith, len)) before from
+      (λ k a b. upto k a (omega arith)) (λ k a b. behind k (omega arith) (omega (arith, len))))
+
+  -- one entry more
+  pub inserted_run : (i start end : ℕ) → i ≤ used → start < end → ((k : ℕ) → k < i → end_at cs k < start) →
+      ((k : ℕ) → i ≤ k → k < used → end < start_at cs k) → take i xs ++ (start, end) ∷ drop i cs ≡ runs_with_range cs start end
+  inserted_run i start end l m before behind =
+      ap (λ zs. zs ++ (start, end) ∷ drop i cs) (sym (take-take i used xs l))
+      ∙ sym (apart_at 0 cs i start end h (omega (arith, len)) m before (λ k a b. behind k a (omega (arith, len))))
+
+  pub refused_run : (i start end : ℕ) → i ≤ used → start < end → ((k : ℕ) → k < i → end_at cs k < start) →
+      ((k : ℕ) → i ≤ k → k < used → end < start_at cs k) → length (runs_with_range cs start end) ≡ used + 1
+  refused_run i start end l m before behind =
+      ap length (apart_at 0 cs i start end h (omega (arith, len)) m before (λ k a b. behind k a (omega (arith, len))))
+      ∙ length_apart cs i (start, end) (omega (arith, len)) ∙ omega (arith, len)
+
+  -- runs that all end before a range
+  all_before : (start : ℕ) → (0 < used → end_at xs (used - 1) < start) → (k : ℕ) → k < used → end_at cs k < start
+  all_before start last k m =
+      let p = ends_rise 0 cs k (used - 1) h (omega arith) (omega (arith, len)) in
+      let q = last (omega arith) in
+      omega (arith, pair_is (used - 1) (omega arith))
+
+  pub pushed_run : (start end : ℕ) → used < length xs → start < end → (0 < used → end_at xs (used - 1) < start) →
+      take (used + 1) (set xs used (start, end)) ≡ runs_with_range cs start end
+  pushed_run start end l m last =
+      take_more_set xs used (start, end) l ∙ ap (λ ts. take used xs ++ (start, end) ∷ ts) (sym (drop_all used cs (omega (arith, len))))
+      ∙ inserted_run used start end (omega arith) m (all_before start last) (λ k a b. absurd (omega arith))
+
+  pub not_pushed : (start end : ℕ) → start < end → (0 < used → end_at xs (used - 1) < start) → length (runs_with_range cs start end) ≡ used + 1
+  not_pushed start end m last = refused_run used start end (omega arith) m (all_before start last) (λ k a b. absurd (omega arith))
+
+  -- a range that meets the run i alone
+  pub grown_run : (i start end lo hi : ℕ) → i < used → ((k : ℕ) → k < i → end_at cs k < start) → start ≤ end_at cs i → start_at cs i ≤ end →
+      ((k : ℕ) → i + 1 ≤ k → k < used → end < start_at cs k) → lo ≡ min (start_at xs i) start → hi ≡ max (end_at xs i) end →
+      take used (set xs i (lo, hi)) ≡ runs_with_range cs start end
+  grown_run i start end lo hi l before from upto behind low high =
+      let ys = set xs i (lo, hi) in
+      let at : i + 1 - 1 ≡ i = omega arith in
+      sym (take-append-drop (i + 1) (take used ys)) ∙ ap (λ zs. zs ++ drop (i + 1) (take used ys)) (take-take (i + 1) used ys (omega arith))
+      ∙ replaced_run i (i + 1) start end lo hi (omega arith) (omega arith) before from
+      (λ k a b. let p = starts_rise 0 cs k i h (omega arith) (omega (arith, len)) in omega arith)
+      behind low (high ∙ ap (λ k. max (end_at xs k) end) (sym at))
+
+  -- a range that meets the last run alone
+  pub extended_run : (start end hi : ℕ) → 0 < used → start < end → start_at xs (used - 1) ≤ start → start ≤ end_at xs (used - 1) →
+      hi ≡ max (end_at xs (used - 1)) end → take used (set xs (used - 1) (start_at xs (used - 1), hi)) ≡ runs_with_range cs start end
+  extended_run start end hi some m low from high =
+      let i = used - 1 in
+      let same = pair_is i (omega arith) in
+      grown_run i start end (start_at xs i) hi (omega arith) (λ k a. let p = apart 0 cs k i h a (omega (arith, len)) in omega (arith, same))
+      (omega (arith, same)) (omega (arith, same)) (λ k a b. absurd (omega arith)) (omega arith) high
 
 -- what is left after a range at 0 that ends at top once it is joined with the first n runs, and removed
 abbrev pub Completed : List (ℕ × ℕ) → ℕ → ℕ → ℕ → Type 0
@@ -247,63 +281,6 @@ pub completed_at : (rs : List (ℕ × ℕ)) (n size top : ℕ) → AreRuns rs �
 completed_at rs n size top h l m upto behind e =
     let both = completed rs n size h l m upto behind in
     (e ∙ both.0, ap (λ t. set_of_runs (runs_shifted_down t (drop n rs))) e ∙ both.1 ∙ ap (shift_down (with_range (set_of_runs rs) 0 size)) (sym e))
-
-none_behind : (xs : List (ℕ × ℕ)) (used : ℕ) → used ≤ length xs → drop used (take used xs) ≡ []
-none_behind xs used l = drop_all used (take used xs) (let n = length-take-le used xs l in omega arith)
-
--- runs that all end before a range
-pub all_before : (xs : List (ℕ × ℕ)) (used start : ℕ) → AreRuns (take used xs) → used ≤ length xs →
-    (0 < used → end_at xs (used - 1) < start) → (k : ℕ) → k < used → end_at (take used xs) k < start
-all_before xs used start h l last k m =
-    let cs = take used xs in
-    let len = length-take-le used xs l in
-    let p = ends_rise 0 cs k (used - 1) h (omega arith) (omega arith) in
-    let same = ap (λ (r : ℕ × ℕ). r.1) (get_or-take used xs (used - 1) (0, 0) (omega arith)) in
-    let q = last (omega arith) in
-    omega arith
-
-pub pushed_run : (xs : List (ℕ × ℕ)) (used start end : ℕ) → AreRuns (take used xs) → used < length xs → start < end →
-    (0 < used → end_at xs (used - 1) < start) →
-    take (used + 1) (set xs used (start, end)) ≡ runs_with_range (take used xs) start end
-pushed_run xs used start end h l m last =
-    take_more_set xs used (start, end) l ∙ ap (λ ts. take used xs ++ (start, end) ∷ ts) (sym (none_behind xs used (omega arith)))
-    ∙ inserted_run xs used used start end h (omega arith) (omega arith) m (all_before xs used start h (omega arith) last) (λ k a b. absurd (omega arith))
-
-pub not_pushed : (xs : List (ℕ × ℕ)) (used start end : ℕ) → AreRuns (take used xs) → used ≤ length xs → start < end →
-    (0 < used → end_at xs (used - 1) < start) →
-    length (runs_with_range (take used xs) start end) ≡ used + 1
-not_pushed xs used start end h l m last = refused_run xs used used start end h (omega arith) l m
-    (all_before xs used start h l last) (λ k a b. absurd (omega arith))
-
--- a range that meets the run i alone
-pub grown_run : (xs : List (ℕ × ℕ)) (used i start end lo hi : ℕ) → AreRuns (take used xs) → i < used → used ≤ length xs →
-    ((k : ℕ) → k < i → end_at (take used xs) k < start) → start ≤ end_at (take used xs) i → start_at (take used xs) i ≤ end →
-    ((k : ℕ) → i + 1 ≤ k → k < used → end < start_at (take used xs) k) → lo ≡ min (start_at xs i) start → hi ≡ max (end_at xs i) end →
-    take used (set xs i (lo, hi)) ≡ runs_with_range (take used xs) start end
-grown_run xs used i start end lo hi h l m before from upto behind low high =
-    let cs = take used xs in
-    let ys = set xs i (lo, hi) in
-    let len = length-take-le used xs m in
-    let at : i + 1 - 1 ≡ i = omega arith in
-    sym (take-append-drop (i + 1) (take used ys)) ∙ ap (λ zs. zs ++ drop (i + 1) (take used ys)) (take-take (i + 1) used ys (omega arith))
-    ∙ replaced_run xs used i (i + 1) start end lo hi h (omega arith) (omega arith) m before from
-    (λ k a b. let p = starts_rise 0 cs k i h (omega arith) (omega arith) in omega arith)
-    behind low (high ∙ ap (λ k. max (end_at xs k) end) (sym at))
-
--- a range that meets the last run alone
-pub extended_run : (xs : List (ℕ × ℕ)) (used start end hi : ℕ) → AreRuns (take used xs) → 0 < used → used ≤ length xs → start < end →
-    start_at xs (used - 1) ≤ start → start ≤ end_at xs (used - 1) → hi ≡ max (end_at xs (used - 1)) end →
-    take used (set xs (used - 1) (start_at xs (used - 1), hi)) ≡ runs_with_range (take used xs) start end
-extended_run xs used start end hi h some l m low from high =
-    let cs = take used xs in
-    let len = length-take-le used xs l in
-    let i = used - 1 in
-    let same = get_or-take used xs i (0, 0) (omega arith) in
-    let same_start = ap (λ (r : ℕ × ℕ). r.0) same in
-    let same_end = ap (λ (r : ℕ × ℕ). r.1) same in
-    grown_run xs used i start end (start_at xs i) hi h (omega arith) l
-    (λ k a. let p = apart 0 cs k i h a (omega arith) in omega arith)
-    (omega arith) (omega arith) (λ k a b. absurd (omega arith)) (omega arith) high
 
 -- the entry k, which a loop that counts lower has not reached, is above
 pub above_at : (xs ys : List (ℕ × ℕ)) (used from by k : ℕ) → from ≤ k → k < used → used ≤ length ys →
@@ -320,15 +297,6 @@ above_at xs ys used from by k l m n h rest =
     let start = ap (λ (r : ℕ × ℕ). r.0) same in
     let end = ap (λ (r : ℕ × ℕ). r.1) same in
     (omega (arith, p.0, p.1), omega (arith, p.0, p.1))
-
--- runs from i on, where a range ends before the run i
-pub all_behind : (xs : List (ℕ × ℕ)) (used i end : ℕ) → AreRuns (take used xs) → i < used → used ≤ length xs →
-    end < start_at xs i → (k : ℕ) → i ≤ k → k < used → end < start_at (take used xs) k
-all_behind xs used i end h l m first k a b =
-    let len = length-take-le used xs m in
-    let p = starts_rise 0 (take used xs) i k h a (omega arith) in
-    let same = ap (λ (r : ℕ × ℕ). r.0) (get_or-take used xs i (0, 0) l) in
-    omega arith
 
 -- a position before the first run
 pub not_before : (low : ℕ) (rs : List (ℕ × ℕ)) (q : ℕ) → IsRising low rs → (0 < length rs → q < start_at rs 0) → in_runs rs q ≡ false

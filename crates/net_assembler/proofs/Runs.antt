@@ -1,17 +1,12 @@
 -- Rising lists of runs, and the sets of positions that they represent.
-use Rattle.std.proofs.Common.{◌≡◌, ℕ, zero, suc, ◌+◌, ◌-◌, ◌<◌, ◌≤◌, max, min, Bool, true, false, cond, ◌&&◌, ◌||◌}
-use Rattle.std.proofs.Common.{List, [], ◌∷◌, ◌++◌, map, filter, length, nat_le, nat_lt, nat_eq, refl, sym, ap, subst}
-use Rattle.std.proofs.Common.{◌∙◌, arith}
-use Rattle.std.proofs.lemmas.Bool.{false≢true, eq-eqb, cases_lt, cases_eq, lt-ltb, le-ltb, ne_eqb}
+use Rattle.std.proofs.Common.{◌≡◌, ℕ, zero, suc, ◌+◌, ◌-◌, ◌<◌, ◌≤◌, max, min, Bool, true, false, cond, ◌&&◌, ◌||◌, List, [], ◌∷◌, ◌++◌, map, filter, length, nat_le, nat_lt, nat_eq, refl, sym, ap, subst, ◌∙◌, arith}
+use Rattle.std.proofs.Math.Bool.{or_assoc, or_comm, or-false}
+use Rattle.std.proofs.lemmas.Bool.{false≢true, eq-eqb, cases_lt, cases_eq, lt-ltb, le-ltb, ne_eqb, or_cases, cond-true, cond-false, false_from_ne_true}
 use Rattle.std.specs.List.{range_with_len}
 use Rattle.std.proofs.lemmas.Bool.Decides.{nat_tests}
-use Rattle.net_assembler.specs.Positions.{Positions, contains, positions, with_range, begins_run, run_starts, runs}
-use Rattle.net_assembler.specs.Positions.{first_missing, front, maximal_runs, shift_down}
+use Rattle.net_assembler.specs.Positions.{Positions, contains, positions, with_range, begins_run, run_starts, runs, first_missing, front, maximal_runs, shift_down}
 use Rattle.net_assembler.specs.RunLists.{IsRising, run_positions, set_of_runs, runs_with_range, runs_shifted_down}
-use Rattle.net_assembler.proofs.Positions.{has, has-append, has-range_with_len, contains-set_of_list}
-use Rattle.net_assembler.proofs.Positions.{contains-with_range, same_positions, Rises, positions-set_of_list, by_or}
-use Rattle.net_assembler.proofs.Positions.{not_true, either, first_missing-is, begins-true, begins-false}
-use Rattle.net_assembler.proofs.Positions.{contains-shift_down, runs-maximal_runs}
+use Rattle.net_assembler.proofs.Positions.{has, has-append, has-range_with_len, contains-set_of_list, contains-with_range, same_positions, Rises, positions-set_of_list, either, first_missing-is, begins-true, begins-false, contains-shift_down, runs-maximal_runs}
 
 -- whether a position is in one of the runs
 abbrev pub in_runs : List (ℕ × ℕ) → ℕ → Bool
@@ -32,12 +27,12 @@ contains-set_of_runs rs q = contains-set_of_list (run_positions rs) q ∙ has-ru
 -- a position of rising runs is at or above where they may begin
 pub rising-in_runs : (low : ℕ) (rs : List (ℕ × ℕ)) (q : ℕ) → IsRising low rs → in_runs rs q ≡ true → low ≤ q
 rising-in_runs low [] q h m = absurd (false≢true m)
-rising-in_runs low (r ∷ rs) q h m = by_or (nat_le r.0 q && nat_lt q r.1) (in_runs rs q) (low ≤ q)
+rising-in_runs low (r ∷ rs) q h m = either (or_cases (nat_le r.0 q && nat_lt q r.1) (in_runs rs q) m)
     (λ e. let n : r.0 ≤ q = grind (arith, nat_tests) in omega (arith, h.0))
-    (λ e. let l = rising-in_runs (r.1 + 1) rs q h.2 e in omega (arith, h.0, h.1)) m
+    (λ e. let l = rising-in_runs (r.1 + 1) rs q h.2 e in omega (arith, h.0, h.1))
 
 pub not_in_runs : (low : ℕ) (rs : List (ℕ × ℕ)) (q : ℕ) → IsRising low rs → q < low → in_runs rs q ≡ false
-not_in_runs low rs q h l = not_true (in_runs rs q) (λ m. let p = rising-in_runs low rs q h m in omega arith)
+not_in_runs low rs q h l = false_from_ne_true (in_runs rs q) (λ m. let p = rising-in_runs low rs q h m in omega arith)
 
 pub rising_from : (low high : ℕ) (rs : List (ℕ × ℕ)) → low ≤ high → IsRising high rs → IsRising low rs
 rising_from low high [] l h = tt
@@ -59,17 +54,14 @@ rises-run_positions low (r ∷ rs) h = rises-range (r.1 - r.0) r.0 r.1 low (run_
 filter_inner : (s : Positions) (n b : ℕ) (ks : List ℕ) → ((q : ℕ) → b ≤ q → q < b + n → begins_run s q ≡ false) →
     filter (begins_run s) (range_with_len b n ++ ks) ≡ filter (begins_run s) ks
 filter_inner s zero b ks h = refl
-filter_inner s (suc n) b ks h = ap (λ t. cond t (b ∷ filter (begins_run s) (range_with_len (b + 1) n ++ ks))
-    (filter (begins_run s) (range_with_len (b + 1) n ++ ks))) (h b (omega arith) (omega arith))
-    ∙ filter_inner s n (b + 1) ks (λ q l m. h q (omega arith) (omega arith))
+filter_inner s (suc n) b ks h =
+    cond-false _ _ _ (h b (omega arith) (omega arith)) ∙ filter_inner s n (b + 1) ks (λ q l m. h q (omega arith) (omega arith))
 
 filter_run : (s : Positions) (n a : ℕ) (ks : List ℕ) → 0 < n → begins_run s a ≡ true →
     ((q : ℕ) → a ≤ q → q < a + n → contains s q ≡ true) →
     filter (begins_run s) (range_with_len a n ++ ks) ≡ a ∷ filter (begins_run s) ks
 filter_run s zero a ks l b h = absurd (omega arith)
-filter_run s (suc n) a ks l b h = ap (λ t. cond t (a ∷ filter (begins_run s) (range_with_len (a + 1) n ++ ks))
-    (filter (begins_run s) (range_with_len (a + 1) n ++ ks))) b
-    ∙ ap (λ xs. a ∷ xs) (filter_inner s n (a + 1) ks
+filter_run s (suc n) a ks l b h = cond-true _ _ _ b ∙ ap (λ xs. a ∷ xs) (filter_inner s n (a + 1) ks
     (λ q l m. begins-false s q (omega arith) (h (q - 1) (omega arith) (omega arith))))
 
 -- the runs of a set that is given by rising runs, from low on
@@ -117,19 +109,14 @@ set_of_runs_injective rs ts h g e = sym (maximal_runs-set_of_runs rs h) ∙ ap m
 
 -- the three cases of a step
 pub step_before : (r : ℕ × ℕ) (rs : List (ℕ × ℕ)) (lo hi : ℕ) → r.1 < lo → runs_with_range (r ∷ rs) lo hi ≡ r ∷ runs_with_range rs lo hi
-step_before r rs lo hi l = ap (λ b. cond b (r ∷ runs_with_range rs lo hi)
-    (cond (nat_lt hi r.0) ((lo, hi) ∷ r ∷ rs) (runs_with_range rs (min r.0 lo) (max r.1 hi)))) (lt-ltb r.1 lo l)
+step_before r rs lo hi l = cond-true _ _ _ (lt-ltb r.1 lo l)
 
 pub step_behind : (r : ℕ × ℕ) (rs : List (ℕ × ℕ)) (lo hi : ℕ) → lo ≤ r.1 → hi < r.0 → runs_with_range (r ∷ rs) lo hi ≡ (lo, hi) ∷ r ∷ rs
-step_behind r rs lo hi l m =
-    ap (λ b. cond b (r ∷ runs_with_range rs lo hi) (cond (nat_lt hi r.0) ((lo, hi) ∷ r ∷ rs) (runs_with_range rs (min r.0 lo) (max r.1 hi)))) (le-ltb r.1 lo l)
-    ∙ ap (λ b. cond b ((lo, hi) ∷ r ∷ rs) (runs_with_range rs (min r.0 lo) (max r.1 hi))) (lt-ltb hi r.0 m)
+step_behind r rs lo hi l m = cond-false _ _ _ (le-ltb r.1 lo l) ∙ cond-true _ _ _ (lt-ltb hi r.0 m)
 
 pub step_meets : (r : ℕ × ℕ) (rs : List (ℕ × ℕ)) (lo hi : ℕ) → lo ≤ r.1 → r.0 ≤ hi →
     runs_with_range (r ∷ rs) lo hi ≡ runs_with_range rs (min r.0 lo) (max r.1 hi)
-step_meets r rs lo hi l m =
-    ap (λ b. cond b (r ∷ runs_with_range rs lo hi) (cond (nat_lt hi r.0) ((lo, hi) ∷ r ∷ rs) (runs_with_range rs (min r.0 lo) (max r.1 hi)))) (le-ltb r.1 lo l)
-    ∙ ap (λ b. cond b ((lo, hi) ∷ r ∷ rs) (runs_with_range rs (min r.0 lo) (max r.1 hi))) (le-ltb hi r.0 m)
+step_meets r rs lo hi l m = cond-false _ _ _ (le-ltb r.1 lo l) ∙ cond-false _ _ _ (le-ltb hi r.0 m)
 
 pub rising-runs_with_range : (low : ℕ) (rs : List (ℕ × ℕ)) (lo hi : ℕ) → IsRising low rs → low ≤ lo → lo < hi → IsRising low (runs_with_range rs lo hi)
 rising-runs_with_range low [] lo hi h l m = (l, m, tt)
@@ -141,22 +128,8 @@ rising-runs_with_range low (r ∷ rs) lo hi h l m =
     (rising-runs_with_range low rs (min r.0 lo) (max r.1 hi)
     (rising_from low (r.1 + 1) rs (omega (arith, h.0, h.1)) h.2) (omega (arith, h.0)) (omega (arith, h.1)))))
 
-pub or_false : (a : Bool) → (a || false) ≡ a
-or_false true = refl
-or_false false = refl
-
-or_assoc : (a b c : Bool) → (a || (b || c)) ≡ ((a || b) || c)
-or_assoc true b c = refl
-or_assoc false b c = refl
-
-or_comm : (a b : Bool) → (a || b) ≡ (b || a)
-or_comm true true = refl
-or_comm true false = refl
-or_comm false true = refl
-or_comm false false = refl
-
 joined : (a b c m : Bool) → m ≡ (a || c) → (b || m) ≡ ((a || b) || c)
-joined a b c m e = ap (λ x. b || x) e ∙ or_assoc b a c ∙ ap (λ x. x || c) (or_comm b a)
+joined a b c m e = ap (λ x. b || x) e ∙ sym (or_assoc b a c) ∙ ap (λ x. x || c) (or_comm b a)
 
 merged : (x y lo hi q : ℕ) → x < y → lo < hi → lo ≤ y → x ≤ hi →
     (nat_le (min x lo) q && nat_lt q (max y hi)) ≡ ((nat_le x q && nat_lt q y) || (nat_le lo q && nat_lt q hi))
@@ -164,12 +137,12 @@ merged x y lo hi q k l m n = grind (arith, nat_tests)
 
 pub in_runs-runs_with_range : (low : ℕ) (rs : List (ℕ × ℕ)) (lo hi q : ℕ) → IsRising low rs → lo < hi →
     in_runs (runs_with_range rs lo hi) q ≡ (in_runs rs q || (nat_le lo q && nat_lt q hi))
-in_runs-runs_with_range low [] lo hi q h m = or_false _
+in_runs-runs_with_range low [] lo hi q h m = or-false _
 in_runs-runs_with_range low (r ∷ rs) lo hi q h m =
     let here = nat_le r.0 q && nat_lt q r.1 in
     let new = nat_le lo q && nat_lt q hi in
     either (cases_lt r.1 lo) (λ b. ap (λ ts. in_runs ts q) (step_before r rs lo hi b) ∙ ap (λ x. here || x)
-    (in_runs-runs_with_range (r.1 + 1) rs lo hi q h.2 m) ∙ or_assoc here (in_runs rs q) new)
+    (in_runs-runs_with_range (r.1 + 1) rs lo hi q h.2 m) ∙ sym (or_assoc here (in_runs rs q) new))
     (λ b. either (cases_lt hi r.0) (λ c. ap (λ ts. in_runs ts q) (step_behind r rs lo hi b c) ∙ or_comm new (here || in_runs rs q))
     (λ c. ap (λ ts. in_runs ts q) (step_meets r rs lo hi b c)
     ∙ in_runs-runs_with_range (r.1 + 1) rs (min r.0 lo) (max r.1 hi) q h.2 (omega (arith, h.1))
@@ -207,10 +180,10 @@ front-set_of_runs (r ∷ rs) h =
     first_missing-is s 0 r.1 (omega arith) (contains-set_of_runs (r ∷ rs) r.1 ∙ past_first r.0 r.1 r.1 rs
     (omega arith) ∙ not_in_runs (r.1 + 1) rs r.1 h.2 (omega arith))
     (λ q l m. contains-set_of_runs (r ∷ rs) q ∙ in_first r.0 r.1 q rs (omega arith) m)
-    ∙ ap (λ b. cond b r.1 0) (sym (eq-eqb r.0 0 e)))
+    ∙ sym (cond-true _ _ _ (eq-eqb r.0 0 e)))
     (λ e. first_missing-is s 0 0 (omega arith) (contains-set_of_runs (r ∷ rs) 0 ∙ not_in_runs r.0 (r ∷ rs) 0
     (omega arith, h.1, h.2) (omega arith)) (λ q l m. absurd (omega arith))
-    ∙ ap (λ b. cond b r.1 0) (sym (ne_eqb r.0 0 e)))
+    ∙ sym (cond-false _ _ _ (ne_eqb r.0 0 e)))
 
 pub rising-runs_shifted_down : (m low high : ℕ) (rs : List (ℕ × ℕ)) → m + low ≤ high → IsRising high rs → IsRising low (runs_shifted_down m rs)
 rising-runs_shifted_down m low high [] l h = tt

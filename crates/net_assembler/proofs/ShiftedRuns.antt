@@ -1,8 +1,6 @@
 -- Runs that are counted from where the first of them starts, and the sets that they represent.
-use Rattle.std.proofs.Common.{◌≡◌, ℕ, zero, suc, ◌+◌, ◌-◌, ◌<◌, ◌≤◌, ◌^◌, max, min, false, ◌&&◌}
-use Rattle.std.proofs.Common.{◌||◌, List, [], ◌∷◌, ◌++◌, length, take, drop, set, get_or, nat_le, nat_lt, refl, sym}
-use Rattle.std.proofs.Common.{ap, subst, ◌∙◌, arith}
-use Rattle.std.proofs.lemmas.List.{drop-map, length-map, length-take-le, get_or-take}
+use Rattle.std.proofs.Common.{◌≡◌, ℕ, zero, suc, ◌+◌, ◌-◌, ◌<◌, ◌≤◌, ◌^◌, max, min, false, ◌&&◌, ◌||◌, List, [], ◌∷◌, ◌++◌, length, map, take, drop, set, get_or, nat_le, nat_lt, refl, sym, ap, subst, ◌∙◌, arith}
+use Rattle.std.proofs.lemmas.List.{drop-map, length-map, length-take-le, get_or-take, get_or-map, map-id, nil_from_length}
 use Rattle.std.proofs.lemmas.Bool.{cases_lt}
 use Rattle.std.proofs.lemmas.Bool.Decides.{nat_tests}
 use Rattle.net_assembler.specs.Positions.{runs_shifted_up}
@@ -29,14 +27,15 @@ rising-up n low high (r ∷ rs) l h =
 pub runs-up : (n : ℕ) (rs : List (ℕ × ℕ)) → AreRuns rs → AreRuns (runs_shifted_up n rs)
 runs-up n rs h = rising-up n 0 0 rs (omega arith) h
 
--- twice
+-- twice: pairs of which each part was changed by g, and then by f
+moved_twice : (f g h : ℕ → ℕ) → ((x : ℕ) → f (g x) ≡ h x) → (rs : List (ℕ × ℕ)) →
+    let each : (ℕ → ℕ) → List (ℕ × ℕ) → List (ℕ × ℕ) = λ k ps. map {B = ℕ × ℕ} (λ r. (k r.0, k r.1)) ps in each f (each g rs) ≡ each h rs
+moved_twice f g h is [] = refl
+moved_twice f g h is (r ∷ rs) = λ i. (is r.0 i, is r.1 i) ∷ moved_twice f g h is rs i
+
 pub up-up : (a b c : ℕ) (rs : List (ℕ × ℕ)) → a + b ≡ c →
     runs_shifted_up a (runs_shifted_up b rs) ≡ runs_shifted_up c rs
-up-up a b c [] e = refl
-up-up a b c (r ∷ rs) e =
-    let start : a + (b + r.0) ≡ c + r.0 = omega arith in
-    let end : a + (b + r.1) ≡ c + r.1 = omega arith in
-    λ i. (start i, end i) ∷ up-up a b c rs e i
+up-up a b c rs e = moved_twice (λ x. a + x) (λ x. b + x) (λ x. c + x) (λ x. omega arith) rs
 
 -- up and down again
 pub up-down : (f e : ℕ) (rs : List (ℕ × ℕ)) → e ≤ f → IsRising f rs →
@@ -50,19 +49,11 @@ up-down f e (r ∷ rs) l h =
 
 pub down-up : (n m : ℕ) (rs : List (ℕ × ℕ)) →
     runs_shifted_down (n + m) (runs_shifted_up n rs) ≡ runs_shifted_down m rs
-down-up n m [] = refl
-down-up n m (r ∷ rs) =
-    let start : n + r.0 - (n + m) ≡ r.0 - m = omega arith in
-    let end : n + r.1 - (n + m) ≡ r.1 - m = omega arith in
-    λ i. (start i, end i) ∷ down-up n m rs i
+down-up n m rs = moved_twice (λ x. x - (n + m)) (λ x. n + x) (λ x. x - m) (λ x. omega arith) rs
 
 pub down-less : (n m : ℕ) (rs : List (ℕ × ℕ)) → m ≤ n →
     runs_shifted_down m (runs_shifted_up n rs) ≡ runs_shifted_up (n - m) rs
-down-less n m [] l = refl
-down-less n m (r ∷ rs) l =
-    let start : n + r.0 - m ≡ n - m + r.0 = omega arith in
-    let end : n + r.1 - m ≡ n - m + r.1 = omega arith in
-    λ i. (start i, end i) ∷ down-less n m rs l i
+down-less n m rs l = moved_twice (λ x. x - m) (λ x. n + x) (λ x. n - m + x) (λ x. omega arith) rs
 
 -- a range that joins them, counted alike
 pub up-runs_with_range : (n : ℕ) (rs : List (ℕ × ℕ)) (lo hi : ℕ) →
@@ -159,23 +150,26 @@ pub first-down : (n : ℕ) (rs : List (ℕ × ℕ)) → start_at rs 0 ≤ n → 
 first-down n [] l = tt
 first-down n (r ∷ rs) l = omega arith
 
--- equal runs are counted from one place
+-- the run k of them
+pub get_or-up : (n : ℕ) (rs : List (ℕ × ℕ)) (k : ℕ) → k < length rs →
+    get_or (runs_shifted_up n rs) k (0, 0) ≡ (n + start_at rs k, n + end_at rs k)
+get_or-up n rs k l = get_or-map (λ (r : ℕ × ℕ). (n + r.0, n + r.1)) rs k (0, 0) (0, 0) l
+
+pub start_at-up : (n : ℕ) (rs : List (ℕ × ℕ)) (k : ℕ) → k < length rs →
+    start_at (runs_shifted_up n rs) k ≡ n + start_at rs k
+start_at-up n rs k l = ap (λ (r : ℕ × ℕ). r.0) (get_or-up n rs k l)
+
+pub end_at-up : (n : ℕ) (rs : List (ℕ × ℕ)) (k : ℕ) → k < length rs →
+    end_at (runs_shifted_up n rs) k ≡ n + end_at rs k
+end_at-up n rs k l = ap (λ (r : ℕ × ℕ). r.1) (get_or-up n rs k l)
+
 pub start-up : (n : ℕ) (rs : List (ℕ × ℕ)) → 0 < length rs → StartsAtZero rs →
     start_at (runs_shifted_up n rs) 0 ≡ n
-start-up n [] l f = absurd (omega arith)
-start-up n (r ∷ rs) l f = omega (arith, f)
+start-up n rs l f = let s = start_at-up n rs 0 l in let z = first_at rs f in omega arith
 
-pub end-up : (n : ℕ) (rs : List (ℕ × ℕ)) → 0 < length rs →
-    end_at (runs_shifted_up n rs) 0 ≡ n + end_at rs 0
-end-up n [] l = absurd (omega arith)
-end-up n (r ∷ rs) l = refl
-
+-- equal runs are counted from one place
 down-all : (n : ℕ) (rs : List (ℕ × ℕ)) → runs_shifted_down n (runs_shifted_up n rs) ≡ rs
-down-all n [] = refl
-down-all n (r ∷ rs) =
-    let start : n + r.0 - n ≡ r.0 = omega arith in
-    let end : n + r.1 - n ≡ r.1 = omega arith in
-    λ i. (start i, end i) ∷ down-all n rs i
+down-all n rs = moved_twice (λ x. x - n) (λ x. n + x) (λ x. x) (λ x. omega arith) rs ∙ map-id rs
 
 pub up-injective : (m n : ℕ) (rs ts : List (ℕ × ℕ)) → m ≡ n →
     runs_shifted_up m rs ≡ runs_shifted_up n ts → rs ≡ ts
@@ -214,18 +208,6 @@ below_at xs ys used by k m n h f rest =
     let p = at_run 0 cs k h (omega arith) in
     let q = fits-at by cs k f (omega arith) in
     (omega (arith, p.1), omega arith)
-
-pub start_at-up : (n : ℕ) (rs : List (ℕ × ℕ)) (k : ℕ) → k < length rs →
-    start_at (runs_shifted_up n rs) k ≡ n + start_at rs k
-start_at-up n [] k l = absurd (omega arith)
-start_at-up n (r ∷ rs) zero l = refl
-start_at-up n (r ∷ rs) (suc k) l = start_at-up n rs k (omega arith)
-
-pub end_at-up : (n : ℕ) (rs : List (ℕ × ℕ)) (k : ℕ) → k < length rs →
-    end_at (runs_shifted_up n rs) k ≡ n + end_at rs k
-end_at-up n [] k l = absurd (omega arith)
-end_at-up n (r ∷ rs) zero l = refl
-end_at-up n (r ∷ rs) (suc k) l = end_at-up n rs k (omega arith)
 
 -- a range that starts before the first run, and ends before it
 pub before_first : (by size : ℕ) (rs : List (ℕ × ℕ)) → size < by →
@@ -272,12 +254,6 @@ set_first_end (y ∷ ys) [] (suc n) e rest l m o f h = absurd (omega arith)
 set_first_end (y ∷ ys) (x ∷ xs) (suc n) e rest l m o f h =
     ap (λ ts. (start_at ts 0, e) ∷ drop 1 ts) h ∙ ap (λ s. (s, e) ∷ rest) f
 
-pub get_or-up : (n : ℕ) (rs : List (ℕ × ℕ)) (k : ℕ) → k < length rs →
-    get_or (runs_shifted_up n rs) k (0, 0) ≡ (n + start_at rs k, n + end_at rs k)
-get_or-up n [] k l = absurd (omega arith)
-get_or-up n (r ∷ rs) zero l = refl
-get_or-up n (r ∷ rs) (suc k) l = get_or-up n rs k (omega arith)
-
 pub start-drop : (rs : List (ℕ × ℕ)) (k : ℕ) → start_at (drop k rs) 0 ≡ start_at rs k
 start-drop rs zero = refl
 start-drop [] (suc k) = refl
@@ -290,12 +266,7 @@ down-none n (r ∷ rs) e = absurd (omega arith)
 -- a range where no run is
 pub alone-runs_with_range : (rs : List (ℕ × ℕ)) (lo hi : ℕ) → length rs ≡ 0 →
     runs_with_range rs lo hi ≡ (lo, hi) ∷ []
-alone-runs_with_range [] lo hi e = refl
-alone-runs_with_range (r ∷ rs) lo hi e = absurd (omega arith)
+alone-runs_with_range rs lo hi e = ap (λ ts. runs_with_range ts lo hi) (nil_from_length rs e)
 
 pub down-zero : (n : ℕ) (rs : List (ℕ × ℕ)) → n ≡ 0 → runs_shifted_down n rs ≡ rs
-down-zero n [] e = refl
-down-zero n (r ∷ rs) e =
-    let start : r.0 - n ≡ r.0 = omega arith in
-    let end : r.1 - n ≡ r.1 = omega arith in
-    λ i. (start i, end i) ∷ down-zero n rs e i
+down-zero n rs e = ap (runs_shifted_down n) (sym (map-id rs)) ∙ moved_twice (λ x. x - n) (λ x. x) (λ x. x) (λ x. omega arith) rs ∙ map-id rs

@@ -17,11 +17,10 @@ returns-then-second-used-clause-joined c =
     λ k a b. elim c.then-second-used.branch [
       | then-second-used-via-then-second-used w ↦ absurd (omega arith)
       | then-second-used-via-else-second-used+then-end-start_of w ↦
-          all_behind xs c.args.used (c.args.first + 1) c.args.end c.requires.runs (omega arith) c.requires.used
-          (omega arith) k a b
+          all_behind xs c.args.used c.requires.runs c.requires.used (c.args.first + 1) c.args.end (omega arith) (omega arith) k a b
     ] in
-    grown_run xs c.args.used c.args.first c.args.start c.args.end c.min-low.result c.max-high.result c.requires.runs
-    c.requires.first c.requires.used c.requires.before c.requires.from c.requires.meets behind
+    grown_run xs c.args.used c.requires.runs c.requires.used c.args.first c.args.start c.args.end c.min-low.result c.max-high.result
+    c.requires.first c.requires.before c.requires.from c.requires.meets behind
     (c.min-low.ensures ∙ ap (λ e. min e c.args.start) c.start_of.ensures)
     (c.max-high.ensures ∙ ap (λ e. max e c.args.end) c.end_of.ensures)
 
@@ -37,8 +36,8 @@ returns-clause-joined c =
     (λ l. let p = starts_rise 0 cs k (c.args.first + 1) c.requires.runs (omega arith) (omega arith) in
     omega arith) (λ l. search.before k (omega arith) b) in
     c.remove_runs.ensures.runs
-    ∙ replaced_run xs c.args.used c.args.first c.runs_starting_by-next.result c.args.start c.args.end
-    c.min-low.result c.max-high-2.result c.requires.runs (omega arith) (omega (arith, search.within)) c.requires.used
+    ∙ replaced_run xs c.args.used c.requires.runs c.requires.used c.args.first c.runs_starting_by-next.result c.args.start c.args.end
+    c.min-low.result c.max-high-2.result (omega arith) (omega (arith, search.within))
     c.requires.before c.requires.from upto (λ k a b. search.behind k a (omega arith))
     (c.min-low.ensures ∙ ap (λ e. min e c.args.start) c.start_of.ensures)
     (c.max-high-2.ensures ∙ ap (λ e. max e c.args.end) c.end_of-2.ensures)

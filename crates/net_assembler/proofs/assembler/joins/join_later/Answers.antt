@@ -10,9 +10,9 @@ returns-then-used-runs-clause-joined c =
     let search = c.runs_ending_before-first.ensures in
     let first = c.runs_ending_before-first.result in
     let len = length-take-le c.args.used c.args.runs.now c.requires.used in
-    let behind = all_behind c.args.runs.now c.args.used first c.args.end c.requires.runs (omega (arith, search.within)) c.requires.used (omega arith) in
-    let n = refused_run c.args.runs.now c.args.used first c.args.start c.args.end c.requires.runs
-    (omega (arith, search.within)) c.requires.used c.requires.some search.before behind in
+    let behind = all_behind c.args.runs.now c.args.used c.requires.runs c.requires.used first c.args.end (omega (arith, search.within)) (omega arith) in
+    let n = refused_run c.args.runs.now c.args.used c.requires.runs c.requires.used first c.args.start c.args.end
+    (omega (arith, search.within)) c.requires.some search.before behind in
     (refl, omega arith)
 
 pub returns-then-end-start_of-clause-joined : goal.returns-then-end-start_of-clause-joined
@@ -20,10 +20,10 @@ returns-then-end-start_of-clause-joined c =
     let search = c.runs_ending_before-first.ensures in
     let first = c.runs_ending_before-first.result in
     let len = length-take-le c.args.used c.args.runs.now c.requires.used in
-    let behind = all_behind c.args.runs.now c.args.used first c.args.end c.requires.runs (omega (arith, search.within)) c.requires.used (omega arith) in (
+    let behind = all_behind c.args.runs.now c.args.used c.requires.runs c.requires.used first c.args.end (omega (arith, search.within)) (omega arith) in (
       c.insert_run.ensures.runs
-          ∙ inserted_run c.args.runs.now c.args.used first c.args.start c.args.end c.requires.runs
-          (omega (arith, search.within)) c.requires.used c.requires.some search.before behind,
+          ∙ inserted_run c.args.runs.now c.args.used c.requires.runs c.requires.used first c.args.start c.args.end
+          (omega (arith, search.within)) c.requires.some search.before behind,
       omega arith,
     )
 

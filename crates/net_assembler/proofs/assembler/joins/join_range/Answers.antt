@@ -5,12 +5,12 @@ use Rattle.net_assembler.proofs.assembler.joins.join_range.Goals as goal
 
 pub returns-then-used-runs-clause-joined : goal.returns-then-used-runs-clause-joined
 returns-then-used-runs-clause-joined c =
-    let n = not_pushed c.args.runs.now c.args.used c.args.start c.args.end c.requires.runs c.requires.used c.requires.some (λ _. omega arith) in
+    let n = not_pushed c.args.runs.now c.args.used c.requires.runs c.requires.used c.args.start c.args.end c.requires.some (λ _. omega arith) in
     (refl, omega arith)
 
 pub returns-then-last_end-start-clause-joined : goal.returns-then-last_end-start-clause-joined
 returns-then-last_end-start-clause-joined c = (
-  pushed_run c.args.runs.now c.args.used c.args.start c.args.end c.requires.runs
+  pushed_run c.args.runs.now c.args.used c.requires.runs c.requires.used c.args.start c.args.end
       (omega (arith, c.requires.used)) c.requires.some (λ _. omega arith),
   omega (arith, c.requires.used),
 )
@@ -18,8 +18,8 @@ returns-then-last_end-start-clause-joined c = (
 pub returns-then-last_start-start-clause-joined : goal.returns-then-last_start-start-clause-joined
 returns-then-last_start-start-clause-joined c = (
   (λ i. take c.args.used (set c.args.runs.now (c.args.used - 1) (c.start_of-last_start.ensures i, c.max.result)))
-      ∙ extended_run c.args.runs.now c.args.used c.args.start c.args.end c.max.result c.requires.runs
-      (omega arith) c.requires.used c.requires.some (omega arith) (omega arith)
+      ∙ extended_run c.args.runs.now c.args.used c.requires.runs c.requires.used c.args.start c.args.end c.max.result
+      (omega arith) c.requires.some (omega arith) (omega arith)
       (c.max.ensures ∙ ap (λ e. max e c.args.end) c.end_of-last_end.ensures),
   c.requires.used,
 )

@@ -3,8 +3,7 @@ use Rattle.std.proofs.lemmas.List.{length-set}
 use Rattle.net_assembler.specs.Positions.{runs_shifted_up}
 use Rattle.net_assembler.specs.RunLists.{used_runs, set_of_runs}
 use Rattle.net_assembler.proofs.ShiftedRuns.{fits-less}
-use Rattle.net_assembler.proofs.Heads.{accepted, first_runs, first_sound, joined_length, joined_runs, joined_sound}
-use Rattle.net_assembler.proofs.Heads.{no_room, none_added, preceded_length, preceded_runs, preceded_sound, refused}
+use Rattle.net_assembler.proofs.Heads.{accepted, first_runs, first_sound, joined_length, joined_runs, joined_sound, no_room, none_added, preceded_length, preceded_runs, preceded_sound, refused}
 use Rattle.net_assembler.proofs.assembler.head.AssemblerHead.add.Goals as goal
 
 pub returns-then-size-eq0-clause-added : goal.returns-then-size-eq0-clause-added
@@ -33,8 +32,7 @@ returns-then-self-eq0-clause-added c =
     let h = c.args.self.now in
     let xs = c.args.runs.now in
     let s = c.requires.sound in
-    accepted h xs _ _ s (length-set xs 0 _) c.args.offset c.args.size (omega arith)
-    (first_sound h xs s c.args.offset c.args.size (omega arith) (omega arith) (omega arith) c.requires.range)
+    accepted h xs _ _ s (length-set xs 0 _) c.args.offset c.args.size (omega arith) (returns-then-self-eq0-clause-sound c)
     (first_runs h xs s c.args.offset c.args.size (omega arith) (omega arith) (omega arith))
 
 pub returns-in_err-self-clause-added : goal.returns-in_err-self-clause-added
@@ -73,12 +71,8 @@ returns-in_ok-self-clause-added c =
     let h = c.args.self.now in
     let xs = c.args.runs.now in
     let s = c.requires.sound in
-    let left = c.in_ok-self.ensures.joined in
-    let same = c.join_before.auto.runs in
-    accepted h xs _ _ s same c.args.offset c.args.size (omega arith)
-    (preceded_sound h xs s c.join_before.new.runs c.args.offset c.args.size (omega arith) (omega arith)
-    c.in_ok-self.field-0 (omega (arith, left.1)) c.requires.range left.0)
-    (preceded_runs h xs s c.join_before.new.runs c.args.offset c.args.size (omega arith) (omega arith) c.in_ok-self.field-0 left.0)
+    accepted h xs _ _ s c.join_before.auto.runs c.args.offset c.args.size (omega arith) (returns-in_ok-self-clause-sound c)
+    (preceded_runs h xs s c.join_before.new.runs c.args.offset c.args.size (omega arith) (omega arith) c.in_ok-self.field-0 c.in_ok-self.ensures.joined.0)
 
 pub returns-in_ok-self-2-clause-sound : goal.returns-in_ok-self-2-clause-sound
 returns-in_ok-self-2-clause-sound c =
@@ -95,9 +89,6 @@ returns-in_ok-self-2-clause-added c =
     let h = c.args.self.now in
     let xs = c.args.runs.now in
     let s = c.requires.sound in
-    let left = c.in_ok-self-2.ensures.joined in
-    let same = c.join_range.auto.runs in
-    accepted h xs _ _ s same c.args.offset c.args.size (omega arith)
-    (joined_sound h xs s c.join_range.new.runs c.args.offset c.args.size (omega arith) (omega arith) (omega arith)
-    c.in_ok-self-2.field-0 (omega (arith, left.1)) c.requires.range left.0)
-    (joined_runs h xs s c.join_range.new.runs c.args.offset c.args.size (omega arith) (omega arith) (omega arith) c.in_ok-self-2.field-0 left.0)
+    accepted h xs _ _ s c.join_range.auto.runs c.args.offset c.args.size (omega arith) (returns-in_ok-self-2-clause-sound c)
+    (joined_runs h xs s c.join_range.new.runs c.args.offset c.args.size (omega arith) (omega arith) (omega arith) c.in_ok-self-2.field-0
+    c.in_ok-self-2.ensures.joined.0)

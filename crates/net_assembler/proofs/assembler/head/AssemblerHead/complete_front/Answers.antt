@@ -8,9 +8,7 @@ use Rattle.net_assembler.proofs.AssemblerLaws.{below_binary_digits}
 use Rattle.net_assembler.proofs.Positions.{either}
 use Rattle.net_assembler.proofs.RunLists.{with_range-none}
 use Rattle.net_assembler.proofs.ShiftedRuns.{down-less, down-none, fits-less}
-use Rattle.net_assembler.proofs.Heads.{few_held, next_alone, dropped, dropped_number, reached}
-use Rattle.net_assembler.proofs.Heads.{length-used_runs, length-runs_of, pair_fits, pairs_apart, runs-set_of}
-use Rattle.net_assembler.proofs.Heads.{start_of}
+use Rattle.net_assembler.proofs.Heads.{few_held, next_alone, dropped, dropped_number, reached, length-used_runs, length-runs_of, pair_fits, pairs_apart, runs-set_of, start_of}
 use Rattle.net_assembler.proofs.assembler.head.AssemblerHead.complete_front.Goals as goal
 
 pub returns-then-size-eq0-clause-size : goal.returns-then-size-eq0-clause-size

@@ -15,7 +15,7 @@ returns-clause-sound c =
     let m = c.args.count in
     let f = start_at xs m in
     let behind = drop m (used_runs h xs) in
-    let rises = rising_behind xs h.used m s.runs (omega arith) s.room in
+    let rises = rising_behind xs h.used s.runs s.room m (omega arith) in
     let is = c.shift_runs_down.ensures.runs in
     let first = start-drop (used_runs h xs) m ∙ start_of h xs s m (omega arith) in
     record {
@@ -37,4 +37,4 @@ returns-clause-runs c =
     let l = c.requires.behind m (omega arith) (omega arith) in
     (λ i. runs_shifted_up (c.start_of.ensures i - c.args.end) (take (h.used - m) c.shift_runs_down.new.runs))
     ∙ ap (runs_shifted_up (f - c.args.end)) c.shift_runs_down.ensures.runs
-    ∙ up-down f c.args.end (drop m (used_runs h xs)) (omega arith) (rising_behind xs h.used m s.runs (omega arith) s.room)
+    ∙ up-down f c.args.end (drop m (used_runs h xs)) (omega arith) (rising_behind xs h.used s.runs s.room m (omega arith))
