@@ -1,61 +1,48 @@
 -- What one call leaves and replies, as its callers want it.
-use Rattle.std.proofs.Common.{◌≡◌, ℕ, zero, suc, ◌+◌, ◌-◌, ◌<◌, ◌≤◌, min, Bool, true, false, cond}
-use Rattle.std.proofs.Common.{List, [], ◌∷◌, ◌++◌, length, take, drop, nat_eq, nat_lt, not, ◌&&◌}
-use Rattle.std.proofs.Common.{Some, is_some, unwrap_or, slice_get, slice_range, get_or, refl, sym}
-use Rattle.std.proofs.Common.{ap, subst, ◌∙◌, arith, ⊎_elim, take_all, Result, Ok, Err, IsOk, IfOk}
-use Rattle.std.proofs.Common.{OnErr, IsTrue, All, length-take, length-drop, eqb-true, le-ltb}
+use Rattle.std.proofs.Common.{nat_le, leb-true, ltb-true, ◌≡◌, ℕ, zero, suc, ◌+◌, ◌-◌, ◌<◌, ◌≤◌, min, List, [], ◌∷◌, ◌++◌, length, take, drop, nat_lt, Some, unwrap_or, slice_get, slice_range, refl, sym, ap, subst, ◌∙◌, arith, ⊎_elim, take_all, Result, Ok, Err, IsOk, IfOk, OnErr, All, length-take, length-drop}
 use Rattle.std.specs.FinMap as fin
 use Rattle.std.specs.Option.{option_or}
+use Rattle.std.specs.Prelude.{⊤}
 use Rattle.std.proofs.lemmas.Grind.{common_steps}
-use Rattle.std.proofs.lemmas.Bool.{both_ways, cases_lt, cases_Bool, cond-true, cond-false, false≢true}
-use Rattle.std.proofs.lemmas.Option.{slice_get-get_or}
-use Rattle.std.proofs.lemmas.List.{take-append-drop, drop-take, drop-drop, take-take}
-use Rattle.net_assembler.specs.Positions.{Positions, runs, with_range}
+use Rattle.std.proofs.lemmas.Bool.{both_ways, cases_lt, false≢true, or_left}
+use Rattle.std.proofs.lemmas.List.{append_assoc, take-append-drop, drop-take, drop-drop, drop_at, take-take}
 use Rattle.net_assembler.specs.declared.assembler.error.TooManyHolesError.{TooManyHolesError}
 use Rattle.net_receiver.specs.declared.receiver.kept.Kept.{Kept}
-use Rattle.net_receiver.specs.KeptList.{Piece, piece, piece_byte_at, piece_within}
-use Rattle.std.proofs.lemmas.List.Elements.{All-nil, All-cons, All-append}
-use Rattle.net_receiver.specs.KeptList.{byte_at, held_byte_at, next}
+use Rattle.net_receiver.specs.KeptList.{Piece, piece, piece_within, byte_at, next}
+use Rattle.std.proofs.lemmas.List.Elements.{All-head}
 use Rattle.net_receiver.proofs.Stream.{agrees_at}
-use Rattle.net_receiver.specs.Rules.{Show, CommandValue, ReplyValue, Segment, Read, Verdict, KeepsNone}
-use Rattle.net_receiver.specs.Rules.{Refuses, Keeps, verdict_of_piece, verdict, state_after, segment_result}
-use Rattle.net_receiver.specs.Schedule.{KeptState, Agrees, kept_after_commands, Follows, EndsBy, bytes_read, PieceAgrees}
-use Rattle.net_receiver.specs.ReceiverState.{receiver_reply, receiver_after_commands, setting, Refines, ReceiverState}
-use Rattle.net_receiver.specs.ReceiverState.{HeldBytes, domain, held_with_piece, first_lacking, held_bytes_at}
-use Rattle.net_receiver.specs.ReceiverState.{next_position, receiver_ops, receiver_after_read, receiver_after_command}
-use Rattle.net_receiver.specs.ReceiverState.{fresh_receiver, IsSound, StaysInSetting}
+use Rattle.net_receiver.specs.Rules.{Show, CommandValue, ReplyValue, Segment, Read, verdict, state_after, segment_result}
+use Rattle.net_receiver.specs.Schedule.{KeptState, kept_after_commands, Follows, EndsBy, bytes_read}
+use Rattle.net_receiver.specs.ReceiverState.{receiver_reply, setting, Refines, ReceiverState, HeldBytes, domain, held_with_piece, first_lacking, held_bytes_at, next_position, receiver_ops, receiver_after_read, receiver_after_command, fresh_receiver, IsSound, StaysInSetting}
 use Rattle.net_receiver.specs.Segments.{KeepsOrRefuses, JoinsQueue}
 use Rattle.net_receiver.proofs.Whole.{ran}
-use Rattle.net_receiver.specs.OneStream.{MatchesLonger, EmptyMatches, SegmentMatches, ReadMatches, ShowMatches}
-use Rattle.net_receiver.specs.OneStream.{BothMatch, TruthfulIsKept, FreshReceivesFrom, AgreeingReceives}
-use Rattle.net_receiver.specs.OneStream.{ReceivesFromLonger, SegmentReceives, HeldIsOfStream, QueueIsOfStream}
-use Rattle.net_receiver.proofs.Step.{same_next}
-use Rattle.net_receiver.proofs.Run.{setting_kept}
-use Rattle.net_receiver.proofs.OneStream.{longer_at, longer_receives}
+use Rattle.net_receiver.specs.OneStream.{HeldIsOfStream, QueueIsOfStream, CapacityStays, Receives, ReceivesFrom, MatchesStream, AllMatch, IsTruthful, MatchesWhatIsThere, window_part}
+use Rattle.net_receiver.proofs.Step.{any_verdict, same_next}
+use Rattle.net_receiver.proofs.Run.{setting_kept, settings_kept, read_prefix}
+use Rattle.net_receiver.proofs.OneStream.{one_receives, queue_is_of, fresh_receives, first_stays, run_receives}
 use Rattle.net_receiver.specs.Execution.{Executes}
 use Rattle.net_receiver.specs.Retransmission.{InOrderReaches}
-use Rattle.net_receiver.specs.OneStream.{CapacityStays, Receives, ReceivesFrom, MatchesStream, AllMatch, IsTruthful, MatchesWhatIsThere, window_part}
-use Rattle.net_receiver.proofs.Maps.{get-with_bytes_at, first_lacking_is, next_joined}
-use Rattle.net_receiver.proofs.Covering.{next_is, piece_before, piece_from, slice_get-drop, slice_get-take}
+use Rattle.net_receiver.proofs.Maps.{get-with_bytes_at, next_joined, lacks, lacking, laid_has}
+use Rattle.net_receiver.proofs.Covering.{next_is, piece_from, piece_some, cond_some, slice_get-drop, slice_get-take}
 use Rattle.net_receiver.proofs.Recover.{follows_verdict}
-use Rattle.net_receiver.proofs.Run.{read_prefix}
-use Rattle.net_receiver.proofs.OneStream.{truthful_is_kept, none_is_not, cond_some, one_receives, queue_is_of, fresh_receives, first_stays, first_kept, run_receives}
 
 -- ---- streams
 first_of : (N : ℕ) (v u : ReceiverState) (c : CommandValue) → u ≡ receiver_after_command N v c → u.first ≡ v.first
 first_of N v u c e = ap (λ (y : ReceiverState). y.first) e ∙ first_stays N v c
 
+receives_after : (N f : ℕ) (x : List ℕ) (v u : ReceiverState) (c : CommandValue) → u ≡ receiver_after_command N v c → ReceivesFrom f x v →
+    IsTruthful f x c → ReceivesFrom f x u
+unfolding ReceivesFrom
+receives_after N f x v u c e r h =
+    (first_of N v u c e ∙ r.0, subst (Receives x) (sym e) (one_receives N x v c r.1 (subst (λ b. IsTruthful b x c) (sym r.0) h)))
+
 pub segment_receives : (N f : ℕ) (x : List ℕ) (v u : ReceiverState) (pos : ℕ) (xs : List ℕ) →
     u ≡ receiver_after_command N v (Segment pos xs) → ReceivesFrom f x v → MatchesStream f x pos xs → ReceivesFrom f x u
-unfolding ReceivesFrom MatchesStream
-segment_receives N f x v u pos xs e r h = (
-  first_of N v u (Segment pos xs) e ∙ r.0,
-  subst (Receives x) (sym e) (one_receives N x v (Segment pos xs) r.1 (subst (λ b. PieceAgrees b x (piece pos xs)) (sym r.0) h)),
-)
+unfolding MatchesStream
+segment_receives N f x v u pos xs e r h = receives_after N f x v u (Segment pos xs) e r h
 
 pub read_receives : (f : ℕ) (x : List ℕ) (v u : ReceiverState) (n : ℕ) → u ≡ receiver_after_read v n → ReceivesFrom f x v → ReceivesFrom f x u
-unfolding ReceivesFrom
-read_receives f x v u n e r = (first_of 0 v u (Read n) e ∙ r.0, subst (Receives x) (sym e) (one_receives 0 x v (Read n) r.1 tt))
+read_receives f x v u n e r = receives_after 0 f x v u (Read n) e r tt
 
 pub fresh_receives_from : (x : List ℕ) (first capacity : ℕ) → ReceivesFrom first x (fresh_receiver first capacity)
 unfolding ReceivesFrom
@@ -65,27 +52,24 @@ pub queue_of : QueueIsOfStream
 unfolding ReceivesFrom
 queue_of f x v r = queue_is_of x v r.1
 
-pub run_receives_from :
-    (N f : ℕ) (x : List ℕ) (v u : ReceiverState) (cs : List CommandValue) (rs : List ReplyValue) (complete : Bool) →
-    Executes N v u cs rs (IsTrue complete) → ReceivesFrom f x v → AllMatch f x cs →
+pub run_receives_from : {N : ℕ} {v u : ReceiverState} {cs : List CommandValue} {rs : List ReplyValue} {complete : Type 0} (f : ℕ) (x : List ℕ) →
+    Executes N v u cs rs complete → ReceivesFrom f x v → AllMatch f x cs →
     ReceivesFrom f x u × (bytes_read rs ++ u.queue ≡ slice_range x v.read (next_position u - u.first))
 unfolding ReceivesFrom AllMatch
-run_receives_from N f x v u cs rs complete run r h =
-    let both = run_receives N x v u cs rs complete r.1 (subst (λ b. All (IsTruthful b x) cs) (sym r.0) h) run in
-    ((ap (λ (y : ReceiverState). y.first) run.state ∙ first_kept N v (take run.prefix.count cs) ∙ r.0, both.0), both.1)
+run_receives_from {N} {v} {u} {cs} f x run r h =
+    let both = run_receives x r.1 (subst (λ b. All (IsTruthful b x) cs) (sym r.0) h) run in
+    ((ap (λ (y : ReceiverState). y.first) run.state ∙ ap (λ w. w.first) (settings_kept N v (take run.prefix.count cs)) ∙ r.0, both.0), both.1)
 
 pub matches_what_is_there : MatchesWhatIsThere
 unfolding MatchesStream
 matches_what_is_there f pos x xs h e = λ p b from is.
-    ⊎_elim
-    (λ (l : p < pos). absurd (none_is_not b (sym (piece_before (piece pos xs) p l) ∙ is)))
-    (λ (l : pos ≤ p).
+    let there = cond_some (nat_le pos p) (slice_get xs (p - pos)) b is in
+    let l = leb-true pos p there.0 in
     let at : (pos - f) + (p - pos) ≡ p - f = omega arith in
     ap (slice_get x) (sym at)
     ∙ sym (slice_get-drop (pos - f) x (p - pos))
-    ∙ cond_some (nat_lt (p - pos) (length xs)) (slice_get (drop (pos - f) x) (p - pos)) b
-    (sym (slice_get-take (length xs) (drop (pos - f) x) (p - pos)) ∙ ap (λ l. slice_get l (p - pos)) (sym e) ∙ sym (piece_from (piece pos xs) p l) ∙ is))
-    (cases_lt p pos)
+    ∙ (cond_some (nat_lt (p - pos) (length xs)) (slice_get (drop (pos - f) x) (p - pos)) b
+    (sym (slice_get-take (length xs) (drop (pos - f) x) (p - pos)) ∙ ap (λ l. slice_get l (p - pos)) (sym e) ∙ there.1)).1
 
 prefix_of : (x q : List ℕ) (a n : ℕ) → q ≡ take (length q) (drop a x) → n ≤ length q → take n q ≡ slice_range x a (a + n)
 prefix_of x q a n e h = grind (arith, common_steps)
@@ -114,27 +98,19 @@ laid_at v part q i b e is =
     get-with_bytes_at v.held part.start part.bytes q ∙ ap (λ o. option_or o (fin.get v.held q))
     (piece_from part q (omega arith) ∙ ap (slice_get part.bytes) at ∙ is)
 
-reaches : (v : ReceiverState) (part : Piece) → part.start ≡ next_position v → next_position v + length part.bytes ≤ first_lacking (held_with_piece v part) (next_position v)
+reaches : (v : ReceiverState) (part : Piece) → part.start ≡ next_position v → next_position v + length part.bytes ≤ lacks v part
 reaches v part at =
-    let m = first_lacking (held_with_piece v part) (next_position v) in
-    let is = first_lacking_is (held_with_piece v part) (next_position v) in
-    let from = is.from in
-    ⊎_elim (λ (l : m < next_position v + length part.bytes).
-    absurd
-    (both_ways (fin.contains_key (held_with_piece v part) m) is.here
-    (ap is_some
-    (laid_at v part m (m - part.start) (get_or part.bytes (m - part.start) 0) (omega arith) (slice_get-get_or part.bytes (m - part.start) 0 (omega arith))))))
-    (λ (l : next_position v + length part.bytes ≤ m). l)
-    (cases_lt m (next_position v + length part.bytes))
-
-splits_at : (q w part : List ℕ) (m : ℕ) → m ≡ length q + length part → take (length part) w ≡ part → q ++ w ≡ q ++ part ++ drop m (q ++ w)
-splits_at [] w part m n e =
-    sym (take-append-drop (length part) w) ∙ ap (λ l. l ++ drop (length part) w) e ∙ ap (λ j. part ++ drop j w) (let h : length part ≡ m = omega arith in h)
-splits_at (y ∷ q) w part zero n e = absurd (omega arith)
-splits_at (y ∷ q) w part (suc m) n e = ap (λ l. y ∷ l) (splits_at q w part m (omega arith) e)
+    let from = (lacking v part).from in
+    ⊎_elim (λ (l : lacks v part < next_position v + length part.bytes).
+    absurd (both_ways _ (lacking v part).here (laid_has v part _ ∙ or_left _ _ (piece_some part (lacks v part) (omega arith, omega arith)))))
+    (λ (l : next_position v + length part.bytes ≤ lacks v part). l)
+    (cases_lt (lacks v part) (next_position v + length part.bytes))
 
 splits : (q w part : List ℕ) → take (length part) w ≡ part → q ++ w ≡ q ++ part ++ drop (length q + length part) (q ++ w)
-splits q w part e = splits_at q w part (length q + length part) refl e
+splits q w part e =
+    ap (λ l. q ++ l) (sym (take-append-drop (length part) w) ∙ (λ i. e i ++ drop (length part) (sym (drop_at q w (length q) refl) i))
+    ∙ ap (λ l. part ++ l) (drop-drop (length part) (length q) (q ++ w)))
+    ∙ sym (append_assoc q part (drop (length q + length part) (q ++ w)))
 
 splits_none : (q part : List ℕ) → length part ≡ 0 → q ≡ q ++ part ++ drop (length q + length part) q
 splits_none q part e = grind (arith, common_steps)
@@ -163,18 +139,6 @@ in_order N v u pos xs r state told h =
     (subst (JoinsQueue v part.bytes (state_after receiver_ops v (verdict receiver_ops N v (piece pos xs)))) (sym told) all)
 
 -- what any segment comes to
-pub any_verdict : (P : Verdict → Type 0) (n most : ℕ) (h : Positions) (part : Piece) →
-    (length part.bytes ≡ 0 → P KeepsNone) → P Refuses → P (Keeps part) → P (verdict_of_piece n most h part)
-any_verdict P n most h part empty refused keeps =
-    ⊎_elim (λ (e : nat_eq (length part.bytes) 0 ≡ true). subst P (sym (cond-true _ _ _ e)) (empty (eqb-true (length part.bytes) 0 e)))
-    (λ (e : nat_eq (length part.bytes) 0 ≡ false). subst P (sym (cond-false _ _ _ e))
-    (both (not (is_some (piece_byte_at part n)) && nat_lt most (runs (with_range h part.start (length part.bytes))))))
-    (cases_Bool (nat_eq (length part.bytes) 0))
-  where
-    both : (b : Bool) → P (cond b Refuses (Keeps part))
-    both true = refused
-    both false = keeps
-
 pub any_order : (N : ℕ) (v u : ReceiverState) (pos : ℕ) (xs : List ℕ) (r : Result Kept TooManyHolesError) →
     u ≡ state_after receiver_ops v (verdict receiver_ops N v (piece pos xs)) →
     r ≡ segment_result receiver_ops v (verdict receiver_ops N v (piece pos xs)) →
@@ -183,7 +147,7 @@ any_order N v u pos xs r state told =
     let n = next_position v in
     let part = piece_within n (v.first + v.read + v.capacity) (piece pos xs) in
     let more = next_joined v part in
-    let from = (first_lacking_is (held_with_piece v part) n).from in
+    let from = (lacking v part).from in
     let all = any_verdict (λ y. KeepsOrRefuses v part.bytes (state_after receiver_ops v y) (segment_result receiver_ops v y)) n N (domain v.held) part
     (λ none. record { read = refl; refused = tt; kept = sym none; queued = omega arith; grows = omega arith })
     (record { read = refl; refused = refl; kept = tt; queued = tt; grows = omega arith })
@@ -191,91 +155,41 @@ any_order N v u pos xs r state told =
     subst (λ z. KeepsOrRefuses v part.bytes z r) (sym state)
     (subst (KeepsOrRefuses v part.bytes (state_after receiver_ops v (verdict receiver_ops N v (piece pos xs)))) (sym told) all)
 
--- ---- what makes the relations
-pub matches_longer : MatchesLonger
-unfolding MatchesStream
-matches_longer f pos x more xs h = λ p b from is. longer_at x more (p - f) b (h p b from is)
-
-pub empty_matches : EmptyMatches
-unfolding AllMatch
-empty_matches f x = All-nil (IsTruthful f x)
-
-pub segment_matches : SegmentMatches
-unfolding MatchesStream AllMatch
-segment_matches f x pos xs cs h all = All-cons (IsTruthful f x) (Segment pos xs) cs h all
-
-pub read_matches : ReadMatches
-unfolding AllMatch
-read_matches f x count cs all = All-cons (IsTruthful f x) (Read count) cs tt all
-
-pub show_matches : ShowMatches
-unfolding AllMatch
-show_matches f x cs all = All-cons (IsTruthful f x) Show cs tt all
-
-pub both_match : BothMatch
-unfolding AllMatch
-both_match f x cs ds all more = All-append (IsTruthful f x) cs ds all more
-
-pub matching_is_kept : TruthfulIsKept
-unfolding AllMatch
-matching_is_kept w s x cs all h = truthful_is_kept w s x cs all h
-
-pub fresh_receives_as : FreshReceivesFrom
-fresh_receives_as f x v e = subst (ReceivesFrom f x) (sym e) (fresh_receives_from x f v.capacity)
-
-pub agreeing_receives : AgreeingReceives
-unfolding ReceivesFrom
-agreeing_receives f x v s e d all = (e, record { state = s; refines = d; agrees = subst (λ b. Agrees b s.kept x) (sym e) all })
-
-pub receives_from_longer : ReceivesFromLonger
-unfolding ReceivesFrom
-receives_from_longer f x more v h = (h.0, longer_receives x more v h.1)
-
-pub segment_receives_from : SegmentReceives
-segment_receives_from N f x v pos xs r h = segment_receives N f x v (receiver_after_command N v (Segment pos xs)) pos xs refl r h
-
+-- ---- what is held
 pub held_of_stream : HeldIsOfStream
 unfolding ReceivesFrom
 held_of_stream f x v p b r is =
     let s = r.1.state in
     let low = (next_is v.first s.kept).from in
-    let there : held_byte_at v.first s.kept p ≡ Some b = sym (r.1.refines.held p) ∙ is in
-    ⊎_elim
-    (λ (l : next v.first s.kept < p).
-    let from : v.first ≤ p = omega arith in
-    subst (λ g. slice_get x (p - g) ≡ Some b) r.0
-    (agrees_at v.first s.kept x r.1.agrees p b from (cond_some (nat_lt (next v.first s.kept) p) (byte_at s.kept p) b there)))
-    (λ (l : p ≤ next v.first s.kept). absurd (none_is_not b (sym (cond-false _ _ _ (le-ltb (next v.first s.kept) p l)) ∙ there)))
-    (cases_lt (next v.first s.kept) p)
+    let there = cond_some (nat_lt (next v.first s.kept) p) (byte_at s.kept p) b (sym (r.1.refines.held p) ∙ is) in
+    let above = ltb-true (next v.first s.kept) p there.0 in
+    subst (λ g. slice_get x (p - g) ≡ Some b) r.0 (agrees_at v.first s.kept x r.1.agrees p b (omega arith) there.1)
 
 -- ---- one command, of which a refusal of memory leaves nothing
-pub executed_keeps : {T E : Type 0} (P : ReceiverState → Type 0) (r : Result T E) (v u w : ReceiverState) → IfOk r (λ _. u ≡ w) → OnErr r (u ≡ v) → P v → P w → P u
-executed_keeps P (Ok t) v u w ok err old new = subst P (sym ok) new
-executed_keeps P (Err e) v u w ok err old new = subst P (sym err) old
-
 pub capacity_stays : CapacityStays
 capacity_stays N v c = ap (λ w. w.capacity) (setting_kept N v c)
 
+stays_by : (N : ℕ) (v u : ReceiverState) → setting N u ≡ setting N v → IsSound N u → StaysInSetting N v u
+stays_by N v u e sound = record { first = ap (λ w. w.first) e; capacity = ap (λ w. w.capacity) e; bound = sound.few }
+
 -- what a command leaves of what was there, and a refusal of memory too
 pub stays : (N : ℕ) (v u : ReceiverState) (c : CommandValue) → u ≡ receiver_after_command N v c → IsSound N u → StaysInSetting N v u
-stays N v u c e sound =
-    record { first = first_of N v u c e; capacity = ap (λ (y : ReceiverState). y.capacity) e ∙ capacity_stays N v c; bound = sound.few }
+stays N v u c e sound = stays_by N v u (ap (setting N) e ∙ setting_kept N v c) sound
 
 pub executed_stays : (N : ℕ) {T E : Type 0} (r : Result T E) (v u : ReceiverState) (c : CommandValue) →
     IfOk r (λ _. u ≡ receiver_after_command N v c) → OnErr r (u ≡ v) → IsSound N u → StaysInSetting N v u
 executed_stays N (Ok t) v u c ok err sound = stays N v u c ok sound
 executed_stays N (Err e) v u c ok err sound = stays N v u Show err sound
 
-one_run : (N : ℕ) (v : ReceiverState) (c : CommandValue) → Executes N v (receiver_after_command N v c) (c ∷ []) (receiver_reply N v c ∷ []) (IsTrue true)
+one_run : (N : ℕ) (v : ReceiverState) (c : CommandValue) → Executes N v (receiver_after_command N v c) (c ∷ []) (receiver_reply N v c ∷ []) ⊤
 one_run N v c = record { prefix = record { count = 1; within = omega arith; whole = λ _. refl }; state = refl; replies = refl }
-
-pub one_receives_from : (N f : ℕ) (x : List ℕ) (v : ReceiverState) (c : CommandValue) → ReceivesFrom f x v → AllMatch f x (c ∷ []) → ReceivesFrom f x (receiver_after_command N v c)
-one_receives_from N f x v c r h = (run_receives_from N f x v (receiver_after_command N v c) (c ∷ []) (receiver_reply N v c ∷ []) true (one_run N v c) r h).0
 
 pub executed_receives : (N f : ℕ) (x : List ℕ) {T E : Type 0} (r : Result T E) (v u : ReceiverState) (c : CommandValue) →
     IfOk r (λ _. u ≡ receiver_after_command N v c) → OnErr r (u ≡ v) → ReceivesFrom f x v → AllMatch f x (c ∷ []) →
     ReceivesFrom f x u
-executed_receives N f x r v u c ok err from h = executed_keeps (ReceivesFrom f x) r v u (receiver_after_command N v c) ok err from (one_receives_from N f x v c from h)
+unfolding AllMatch
+executed_receives N f x (Ok t) v u c ok err from h = receives_after N f x v u c ok from (All-head (IsTruthful f x) c [] h)
+executed_receives N f x (Err e) v u c ok err from h = subst (ReceivesFrom f x) (sym err) from
 
 pub executed_bytes :
     (N f : ℕ) (x : List ℕ) {T E : Type 0} (seen : T → ReplyValue) (r : Result T E) (v u : ReceiverState) (c : CommandValue) →
@@ -284,36 +198,27 @@ pub executed_bytes :
     IfOk r (λ t. bytes_read (seen t ∷ []) ++ u.queue ≡ slice_range x v.read (next_position u - u.first))
 executed_bytes N f x seen (Ok t) v u c ok is from h =
     (λ i. bytes_read (is i ∷ []) ++ (ok i).queue)
-    ∙ (run_receives_from N f x v (receiver_after_command N v c) (c ∷ []) (receiver_reply N v c ∷ []) true (one_run N v c) from h).1
+    ∙ (run_receives_from f x (one_run N v c) from h).1
     ∙ ap (λ (y : ReceiverState). slice_range x v.read (next_position y - y.first)) (sym ok)
 executed_bytes N f x seen (Err e) v u c ok is from h = tt
 
-capacity_kept : (most : ℕ) (v : ReceiverState) (cs : List CommandValue) → (receiver_after_commands most v cs).capacity ≡ v.capacity
-capacity_kept most v [] = refl
-capacity_kept most v (c ∷ cs) = capacity_kept most (receiver_after_command most v c) cs ∙ capacity_stays most v c
-
-pub run_stays : (N : ℕ) (v u : ReceiverState) (cs : List CommandValue) (rs : List ReplyValue) (complete : Type 0) →
+pub run_stays : {N : ℕ} {v u : ReceiverState} {cs : List CommandValue} {rs : List ReplyValue} {complete : Type 0} →
     Executes N v u cs rs complete → IsSound N u → StaysInSetting N v u
-run_stays N v u cs rs complete run sound =
-    record {
-      first = ap (λ (y : ReceiverState). y.first) run.state ∙ first_kept N v (take run.prefix.count cs);
-      capacity = ap (λ (y : ReceiverState). y.capacity) run.state ∙ capacity_kept N v (take run.prefix.count cs);
-      bound = sound.few;
-    }
+run_stays {N} {v} {u} {cs} run sound = stays_by N v u (ap (setting N) run.state ∙ settings_kept N v (take run.prefix.count cs)) sound
 
 -- ---- segments that follow on one another
 pub reached :
-    (N : ℕ) (v u : ReceiverState) (cs : List CommandValue) (rs : List ReplyValue) {T E : Type 0} (r : Result T E) (s : KeptState) →
+    {N : ℕ} {v u : ReceiverState} {cs : List CommandValue} {rs : List ReplyValue} {T E : Type 0} (r : Result T E) (s : KeptState) →
     Executes N v u cs rs (IsOk r) → Refines v s →
     Follows (setting N v) s (next_position v) cs → IfOk r (λ _. EndsBy (next_position u) cs)
-reached N v u cs rs (Err e) s run d follows = tt
-reached N v u cs rs (Ok t) s run d follows =
-    let first : u.first ≡ v.first = ap (λ (y : ReceiverState). y.first) run.state ∙ first_kept N v (take run.prefix.count cs) in
-    let seen = ran N v u cs rs _ run.prefix.count run.prefix.within run.prefix.whole run.state run.replies s d in
+reached (Err e) s run d follows = tt
+reached {N} {v} {u} {cs} (Ok t) s run d follows =
+    let first : u.first ≡ v.first = ap (λ w. w.first) (ap (setting N) run.state ∙ settings_kept N v (take run.prefix.count cs)) in
+    let seen = ran run s d in
     let all : take seen.prefix.count cs ≡ cs = take_all seen.prefix.count cs (omega (arith, seen.prefix.whole refl)) in
-    let there : Refines u (kept_after_commands (setting N v) s cs) = subst (λ l. Refines u (kept_after_commands (setting N v) s l)) all seen.refines in
-    let end : next_position u ≡ next v.first (kept_after_commands (setting N v) s cs).kept =
-    same_next u (kept_after_commands (setting N v) s cs) there ∙ ap (λ b. next b (kept_after_commands (setting N v) s cs).kept) first in
+    let w = kept_after_commands (setting N v) s cs in
+    let there : Refines u w = subst (λ l. Refines u (kept_after_commands (setting N v) s l)) all seen.refines in
+    let end : next_position u ≡ next v.first w.kept = same_next u w there ∙ ap (λ b. next b w.kept) first in
     subst (λ n. EndsBy n cs) (sym end) (seen.recovers refl (subst (λ n. Follows (setting N v) s n cs) (same_next v s d) follows))
 
 -- ---- parts of the queue

@@ -1,13 +1,11 @@
 -- How many bytes of the queue are contiguous in the storage, by the count read.
-use Rattle.std.proofs.Common.{◌≡◌, ℕ, ◌+◌, ◌-◌, ◌<◌, ◌≤◌, ◌%◌, min, List, ◌++◌, length, take, drop}
-use Rattle.std.proofs.Common.{sym, ap, subst, ◌∙◌, arith, ⊎_elim, lt-ltb, le-ltb, length-take}
-use Rattle.std.proofs.Common.{length-drop, length-append, take_at, drop_at, get_or-drop, get_or-take}
+use Rattle.std.proofs.Common.{◌≡◌, ℕ, ◌+◌, ◌-◌, ◌<◌, ◌≤◌, ◌%◌, min, List, ◌++◌, length, take, drop, sym, ap, subst, ◌∙◌, arith, ⊎_elim, lt-ltb, le-ltb, length-take, length-drop, take_at, drop_at, get_or-drop, get_or-take}
 use Rattle.std.specs.Prelude.{slice_index_or}
 use Rattle.std.proofs.Math.Nat.{mod-eq_of_lt, mod-add-mod, add-mod_left}
 use Rattle.std.proofs.lemmas.Bool.{cond-true, cond-false, cases_lt}
 use Rattle.std.proofs.lemmas.Nat.{mod_below}
-use Rattle.net_ring.specs.Ring.{RingState, ring, index_after, storage_index, rotation, queue}
-use Rattle.net_ring.specs.Ring.{spare, contiguous_queued_from, contiguous_queued, with_dequeued}
+use Rattle.net_ring.specs.Ring.{RingState, ring, index_after, storage_index, rotation, queue, spare, contiguous_allocated, contiguous_queued, with_dequeued}
+use Rattle.net_ring.proofs.Rotations.{length-rotation}
 use Rattle.net_assembler.specs.Positions.{Positions}
 use Rattle.net_receiver.specs.Contiguous.{contiguous_count, first_part, IsReadAt}
 use Rattle.net_receiver.specs.Parts.{parts}
@@ -32,29 +30,19 @@ index_is c i j some few =
     (cases_lt j (c - i % c))
 
 module _ (g : RingState ℕ) where
-  rotated : length (rotation g.storage g.read_at) ≡ length g.storage
-  rotated =
-      let both = length-append (drop g.read_at g.storage) (take g.read_at g.storage) in
-      let back = length-drop g.read_at g.storage in
-      let prefix = length-take g.read_at g.storage in
-      omega arith
-
   pub queue_length : length (queue g) ≡ min g.count (length g.storage)
-  queue_length = length-take g.count (rotation g.storage g.read_at) ∙ ap (min g.count) rotated
+  queue_length = length-take g.count (rotation g.storage g.read_at) ∙ ap (min g.count) (length-rotation g.storage g.read_at)
 
   pub both_lengths : length (queue g) + length (spare g) ≡ length g.storage
   both_lengths =
-      let a = queue_length in
-      let b = length-drop g.count (rotation g.storage g.read_at) in
-      let r = rotated in
-      omega arith
+      omega (arith, queue_length, length-drop g.count (rotation g.storage g.read_at), length-rotation g.storage g.read_at)
 
   module _ (i : ℕ) (at : IsReadAt g i) where
     index_at : (j : ℕ) → 0 < length g.storage → j ≤ length g.storage → storage_index g j ≡ (i + j) % length g.storage
     index_at j some few = ap (λ r. index_after (length g.storage) r j) (at some) ∙ index_is (length g.storage) i j some few
 
     -- how many are lent from byte o of the queue on
-    pub lent_from : (o n lent : ℕ) → lent ≡ contiguous_queued_from g o n → lent ≤ length (queue g) - o →
+    pub lent_from : (o n lent : ℕ) → lent ≡ contiguous_allocated g o n → lent ≤ length (queue g) - o →
         lent ≡ min n (min (length (queue g) - o) (length (queue g) + length (spare g) - (i + o) % (length (queue g) + length (spare g))))
     lent_from o n lent is few =
         let a = queue_length in
@@ -103,7 +91,7 @@ parts_are q a b n whole size = (
 
 -- what is lent from the first byte of the queue on is its first part
 pub first_part_lent : (f r n : ℕ) (g : RingState ℕ) (s : Positions) (v : ReceiverState) (bytes : List ℕ) → IsReadAt g r → parts f r (queue g) (spare g) s ≡ v →
-    n ≡ length (queue g) → length bytes ≡ contiguous_queued_from g 0 n → bytes ≡ take (length bytes) (queue g) → bytes ≡ first_part v
+    n ≡ length (queue g) → length bytes ≡ contiguous_allocated g 0 n → bytes ≡ take (length bytes) (queue g) → bytes ≡ first_part v
 first_part_lent f r n g s v bytes at view all lent value =
     let few : length bytes ≤ length (queue g) = omega (arith, ap length value, length-take (length bytes) (queue g)) in
     let start : r + 0 ≡ r = omega arith in

@@ -1,58 +1,28 @@
 -- What truthful segments leave.
-use Rattle.std.proofs.Common.{◌≡◌, ℕ, zero, suc, ◌+◌, ◌-◌, ◌<◌, ◌≤◌, max, Bool, true, false, cond}
-use Rattle.std.proofs.Common.{List, [], ◌∷◌, ◌++◌, length, take, drop, nat_lt, All, Option, Some}
-use Rattle.std.proofs.Common.{None, IsTrue, is_some, slice_get, slice_range, refl, sym, ap, subst, ◌∙◌}
-use Rattle.std.proofs.Common.{arith, length-append, length-drop, ⊎_elim, take-add}
-use Rattle.std.proofs.lemmas.Bool.{both_ways, cases_lt}
-use Rattle.std.proofs.lemmas.Option.{slice_get_within}
-use Rattle.std.proofs.lemmas.List.Elements.{All-nil, All-cons, All-head, All-tail}
-use Rattle.net_receiver.specs.KeptList.{Piece, piece, piece_byte_at, piece_within, byte_at, next, bytes, held_positions}
-use Rattle.net_receiver.specs.Rules.{CommandValue, ReplyValue, Segment, Read, Show, Keeps, state_after}
+use Rattle.std.proofs.Common.{◌≡◌, ℕ, zero, suc, ◌+◌, ◌-◌, ◌<◌, ◌≤◌, List, [], ◌∷◌, ◌++◌, length, take, drop, All, Some, slice_get, slice_range, refl, sym, ap, subst, ◌∙◌, arith, length-append, length-drop, ⊎_elim, take-add}
+use Rattle.std.proofs.lemmas.Bool.{cases_lt}
+use Rattle.std.proofs.lemmas.Option.{slice_get_within, none-some}
+use Rattle.std.proofs.lemmas.List.Elements.{All-nil, All-cons, All-head, All-tail, All-push, All-take, All-weaker}
+use Rattle.net_receiver.specs.KeptList.{Piece, piece, piece_within, byte_at, next, bytes, held_positions}
+use Rattle.net_receiver.specs.Rules.{CommandValue, ReplyValue, Segment, Read, Show, state_after}
 use Rattle.net_receiver.specs.Schedule.{Setting, KeptState, fresh_kept, kept_after_command, kept_after_commands, bytes_read, PieceAgrees, Agrees, kept_ops}
-use Rattle.net_receiver.specs.ReceiverState.{ReceiverState, domain, receiver_ops, fresh_receiver, next_position, receiver_after_command, receiver_after_commands, setting}
+use Rattle.net_receiver.specs.ReceiverState.{ReceiverState, receiver_ops, fresh_receiver, next_position, receiver_after_command, receiver_after_commands, setting}
 use Rattle.net_receiver.specs.Execution.{Executes}
 use Rattle.net_receiver.specs.OneStream.{IsTruthful, Receives, QueueIsOf, FirstStays, NextGrows, SegmentReadsNothing}
-use Rattle.net_receiver.proofs.Covering.{piece_before, piece_from, slice_get-drop, slice_get-take, next_is}
-use Rattle.net_receiver.proofs.Step.{verdict_cases, same_next, queue_length}
-use Rattle.net_receiver.proofs.Run.{schedule, setting_kept}
-use Rattle.net_receiver.proofs.Stream.{queue_agrees, agrees_at, stream}
+use Rattle.net_receiver.proofs.Covering.{clip_at, next_is}
+use Rattle.net_receiver.proofs.Step.{any_verdict, segment_cases, same_next, queue_length}
+use Rattle.net_receiver.proofs.Run.{schedule, setting_kept, settings_kept}
+use Rattle.net_receiver.proofs.Stream.{queue_agrees, agrees_at, some_of, stream}
 use Rattle.net_receiver.proofs.Whole.{fresh_refines}
 
-pub none_is_not : {A : Type 0} (b : A) → None ≡ Some b → ⊥
-none_is_not b e = both_ways false refl (ap is_some e)
-
--- what a clip says, the whole says
-pub cond_some : {A : Type 0} (t : Bool) (o : Option A) (b : A) → cond t o None ≡ Some b → o ≡ Some b
-cond_some true o b e = e
-cond_some false o b e = absurd (none_is_not b e)
-
-pub clip_at : (low high : ℕ) (e : Piece) (p b : ℕ) → piece_byte_at (piece_within low high e) p ≡ Some b → piece_byte_at e p ≡ Some b
-clip_at low high e p b is =
-    ⊎_elim
-    (λ (l : p < max e.start low). absurd (none_is_not b (sym (piece_before (piece_within low high e) p l) ∙ is)))
-    (λ (l : max e.start low ≤ p).
-    let place : (low - e.start) + (p - max e.start low) ≡ p - e.start = omega arith in
-    piece_from e p (omega arith)
-    ∙ cond_some (nat_lt (p - e.start) (high - e.start)) (slice_get e.bytes (p - e.start)) b
-    (sym (slice_get-take (high - e.start) e.bytes (p - e.start))
-    ∙ ap (slice_get (take (high - e.start) e.bytes)) (sym place)
-    ∙ sym (slice_get-drop (low - e.start) (take (high - e.start) e.bytes) (p - max e.start low))
-    ∙ sym (piece_from (piece_within low high e) p l)
-    ∙ is))
-    (cases_lt p (max e.start low))
-
 clip_agrees : (f low high : ℕ) (x : List ℕ) (e : Piece) → PieceAgrees f x e → PieceAgrees f x (piece_within low high e)
-clip_agrees f low high x e h = λ p b from is. h p b from (clip_at low high e p b is)
-
-All-push : {X : Type 0} (P : X → Type 0) (xs : List X) (y : X) → All P xs → P y → All P (xs ++ y ∷ [])
-All-push P [] y all one = All-cons P y [] one (All-nil P)
-All-push P (x ∷ xs) y all one = All-cons P x (xs ++ y ∷ []) (All-head P x xs all) (All-push P xs y (All-tail P x xs all) one)
+clip_agrees f low high x e h = λ p b from is. h p b from (clip_at low high e p b is).2
 
 one_kept : (w : Setting) (s : KeptState) (x : List ℕ) (c : CommandValue) → Agrees w.first s.kept x → IsTruthful w.first x c →
     Agrees w.first (kept_after_command w s c).kept x
 one_kept w s x (Segment pos xs) all h =
     let part = piece_within (next w.first s.kept) (w.first + s.read + w.capacity) (piece pos xs) in
-    verdict_cases (λ y. Agrees w.first (state_after (kept_ops w) s y).kept x) (next w.first s.kept) w.most_runs (held_positions w.first s.kept) part all all
+    any_verdict (λ y. Agrees w.first (state_after (kept_ops w) s y).kept x) (next w.first s.kept) w.most_runs (held_positions w.first s.kept) part (λ _. all) all
     (All-push (PieceAgrees w.first x) s.kept part all (clip_agrees w.first (next w.first s.kept) (w.first + s.read + w.capacity) x (piece pos xs) h))
 one_kept w s x (Read count) all h = all
 one_kept w s x Show all h = all
@@ -66,10 +36,6 @@ truthful_is_kept w s x (c ∷ cs) all h =
 pub fresh_receives : (x : List ℕ) (first capacity : ℕ) → Receives x (fresh_receiver first capacity)
 fresh_receives x first capacity = record { state = fresh_kept; refines = fresh_refines first capacity; agrees = All-nil (PieceAgrees first x) }
 
-pub first_kept : (most : ℕ) (v : ReceiverState) (cs : List CommandValue) → (receiver_after_commands most v cs).first ≡ v.first
-first_kept most v [] = refl
-first_kept most v (c ∷ cs) = first_kept most (receiver_after_command most v c) cs ∙ ap (λ w. w.first) (setting_kept most v c)
-
 all_receive : (most : ℕ) (x : List ℕ) (v : ReceiverState) (cs : List CommandValue) → Receives x v → All (IsTruthful v.first x) cs →
     Receives x (receiver_after_commands most v cs)
 all_receive most x v cs r h =
@@ -77,7 +43,7 @@ all_receive most x v cs r h =
     record {
       state = kept_after_commands w r.state cs;
       refines = (schedule most v r.state r.refines cs).0;
-      agrees = subst (λ f. Agrees f (kept_after_commands w r.state cs).kept x) (sym (first_kept most v cs)) (truthful_is_kept w r.state x cs r.agrees h);
+      agrees = subst (λ f. Agrees f (kept_after_commands w r.state cs).kept x) (sym (ap (λ y. y.first) (settings_kept most v cs))) (truthful_is_kept w r.state x cs r.agrees h);
     }
 
 pub one_receives : (most : ℕ) (x : List ℕ) (v : ReceiverState) (c : CommandValue) → Receives x v → IsTruthful v.first x c →
@@ -86,26 +52,18 @@ one_receives most x v c r h = all_receive most x v (c ∷ []) r (All-cons (IsTru
 
 -- a longer list
 pub longer_at : (x more : List ℕ) (i b : ℕ) → slice_get x i ≡ Some b → slice_get (x ++ more) i ≡ Some b
-longer_at [] more i b e = absurd (none_is_not b e)
+longer_at [] more i b e = absurd (none-some b e)
 longer_at (y ∷ x) more zero b e = e
 longer_at (y ∷ x) more (suc i) b e = longer_at x more i b e
-
-All-map : {X : Type 0} (P Q : X → Type 0) → ((a : X) → P a → Q a) → (xs : List X) → All P xs → All Q xs
-All-map P Q f [] all = All-nil Q
-All-map P Q f (x ∷ xs) all = All-cons Q x xs (f x (All-head P x xs all)) (All-map P Q f xs (All-tail P x xs all))
 
 pub longer_receives : (x more : List ℕ) (v : ReceiverState) → Receives x v → Receives (x ++ more) v
 longer_receives x more v r = record {
   state = r.state;
   refines = r.refines;
   agrees =
-      All-map (PieceAgrees v.first x) (PieceAgrees v.first (x ++ more))
+      All-weaker (PieceAgrees v.first x) (PieceAgrees v.first (x ++ more))
       (λ e h p b from is. longer_at x more (p - v.first) b (h p b from is)) r.state.kept r.agrees;
 }
-
-some_of : {A : Type 0} (o : Option A) → is_some o ≡ true → (x : A) × (o ≡ Some x)
-some_of None e = absurd (both_ways false refl e)
-some_of (Some x) e = (x, refl)
 
 -- the bytes up to `next` are those of x
 covered_within : (f : ℕ) (k : List Piece) (x : List ℕ) → Agrees f k x → next f k - f ≤ length x
@@ -141,22 +99,17 @@ queue_is_of x v r =
       next = omega arith;
     }
 
-All-take : {X : Type 0} (P : X → Type 0) (n : ℕ) (xs : List X) → All P xs → All P (take n xs)
-All-take P zero xs all = All-nil P
-All-take P (suc n) [] all = All-nil P
-All-take P (suc n) (x ∷ xs) all = All-cons P x (take n xs) (All-head P x xs all) (All-take P n xs (All-tail P x xs all))
-
-pub run_receives : (most : ℕ) (x : List ℕ) (v u : ReceiverState) (cs : List CommandValue) (rs : List ReplyValue) (complete : Bool) →
-    Receives x v → All (IsTruthful v.first x) cs → Executes most v u cs rs (IsTrue complete) →
+pub run_receives : {most : ℕ} {v u : ReceiverState} {cs : List CommandValue} {rs : List ReplyValue} {complete : Type 0} (x : List ℕ) →
+    Receives x v → All (IsTruthful v.first x) cs → Executes most v u cs rs complete →
     Receives x u × (bytes_read rs ++ u.queue ≡ slice_range x v.read (next_position u - u.first))
-run_receives most x v u cs rs complete r h run =
+run_receives {most} {v} {u} {cs} {rs} x r h run =
     let w = setting most v in
     let prefix = take run.prefix.count cs in
     let kept = All-take (IsTruthful v.first x) run.prefix.count cs h in
     let z = receiver_after_commands most v prefix in
     let t = kept_after_commands w r.state prefix in
     let d = schedule most v r.state r.refines prefix in
-    let f : z.first ≡ v.first = first_kept most v prefix in
+    let f : z.first ≡ v.first = ap (λ y. y.first) (settings_kept most v prefix) in
     let end : next_position z - z.first ≡ next v.first t.kept - v.first =
     (let e = same_next z t d.0 in let e' : next z.first t.kept ≡ next v.first t.kept = ap (λ b. next b t.kept) f in omega arith) in (
       subst (Receives x) (sym run.state) (all_receive most x v prefix r kept),
@@ -170,18 +123,11 @@ run_receives most x v u cs rs complete r h run =
 pub first_stays : FirstStays
 first_stays most v c = ap (λ w. w.first) (setting_kept most v c)
 
--- each verdict on a segment
-pub segment_cases : (P : ReceiverState → Type 0) (most : ℕ) (v : ReceiverState) (pos : ℕ) (xs : List ℕ) → P v →
-    ((part : Piece) → P (state_after receiver_ops v (Keeps part))) → P (receiver_after_command most v (Segment pos xs))
-segment_cases P most v pos xs same kept =
-    let part = piece_within (next_position v) (v.first + v.read + v.capacity) (piece pos xs) in
-    verdict_cases (λ y. P (state_after receiver_ops v y)) (next_position v) most (domain v.held) part same same (kept part)
-
 pub next_position_grows : NextGrows
 next_position_grows most v (Segment pos xs) =
-    segment_cases (λ u. next_position v ≤ next_position u) most v pos xs (omega arith) (λ part. omega (arith, length-append {A = ℕ}))
+    segment_cases receiver_ops (λ u. next_position v ≤ next_position u) most v pos xs (omega arith) (λ part. omega (arith, length-append {A = ℕ}))
 next_position_grows most v (Read count) = omega (arith, length-drop count v.queue)
 next_position_grows most v Show = omega arith
 
 pub segment_reads_nothing : SegmentReadsNothing
-segment_reads_nothing most v pos xs = segment_cases (λ u. u.read ≡ v.read) most v pos xs refl (λ part. refl)
+segment_reads_nothing most v pos xs = segment_cases receiver_ops (λ u. u.read ≡ v.read) most v pos xs refl (λ part. refl)

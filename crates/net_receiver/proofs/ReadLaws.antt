@@ -1,13 +1,8 @@
 -- What reads leave.
-use Rattle.std.proofs.Common.{◌≡◌, inl, inr, ◌+◌, ◌<◌, min, true, length, drop, refl, sym, arith, ⊎_elim, length-drop, take-add}
-use Rattle.std.specs.FinMap as fin
+use Rattle.std.proofs.Common.{◌≡◌, inl, inr, ◌+◌, ◌<◌, min, length, drop, sym, arith, ⊎_elim, length-drop, take-add}
 use Rattle.std.proofs.lemmas.List.{drop-drop}
 use Rattle.net_receiver.specs.ReceiverState.{next_position, receiver_after_read}
-use Rattle.net_receiver.specs.ReadLaws.{ReadReceives, ReadLeavesNext, ReadLeavesBytes, ReadsAdd, ReadsGiveTogether}
-use Rattle.net_receiver.proofs.Called.{read_receives}
-
-pub read_receives_from : ReadReceives
-read_receives_from f n x v r = read_receives f x v (receiver_after_read v n) n refl r
+use Rattle.net_receiver.specs.ReadLaws.{ReadLeavesNext, ReadLeavesBytes, ReadsAdd, ReadsGiveTogether}
 
 pub read_leaves_next : ReadLeavesNext
 read_leaves_next v n = (let size = length-drop n v.queue in omega arith)
@@ -15,8 +10,8 @@ read_leaves_next v n = (let size = length-drop n v.queue in omega arith)
 pub read_leaves_bytes : ReadLeavesBytes
 read_leaves_bytes v n p =
     let same = read_leaves_next v n in (
-      (λ h. ⊎_elim (λ (l : p < next_position (receiver_after_read v n)). inl (omega arith)) (λ (k : fin.contains_key v.held p ≡ true). inr k) h),
-      (λ h. ⊎_elim (λ (l : p < next_position v). inl (omega arith)) (λ (k : fin.contains_key v.held p ≡ true). inr k) h),
+      (λ h. ⊎_elim (λ (l : p < next_position (receiver_after_read v n)). inl (omega arith)) (λ k. inr k) h),
+      (λ h. ⊎_elim (λ (l : p < next_position v). inl (omega arith)) (λ k. inr k) h),
     )
 
 pub reads_add : ReadsAdd

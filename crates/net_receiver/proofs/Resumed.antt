@@ -1,6 +1,5 @@
 -- The parts of which a test has found that they are those of a receiver.
-use Rattle.std.proofs.Common.{◌≡◌, ℕ, suc, zero, ◌+◌, ◌-◌, ◌<◌, ◌≤◌, ◌^◌, true, List, [], ◌∷◌, length}
-use Rattle.std.proofs.Common.{nat_le, nat_lt, ◌&&◌, is_some, sym, ap, subst, refl, ◌∙◌, arith, ⊎_elim, le-leb, lt-ltb, ltb-true}
+use Rattle.std.proofs.Common.{◌≡◌, ℕ, suc, zero, ◌+◌, ◌-◌, ◌<◌, ◌≤◌, ◌^◌, true, List, [], ◌∷◌, length, nat_le, nat_lt, ◌&&◌, is_some, sym, ap, refl, ◌∙◌, arith, ⊎_elim, le-leb, lt-ltb, ltb-true}
 use Rattle.std.specs.FinMap as fin
 use Rattle.std.proofs.lemmas.Bool.{false≢true, both_ways, cases_lt, or_cases, or_left, or_right, and_parts, and_from}
 use Rattle.net_assembler.specs.declared.assembler.head.AssemblerHead.{AssemblerHead}
@@ -9,9 +8,8 @@ use Rattle.net_assembler.specs.RunLists.{IsRising, start_at, end_at, runs_of, se
 use Rattle.net_assembler.proofs.Heads.{length-runs_of, run_at, first_pair}
 use Rattle.net_assembler.proofs.Runs.{in_runs, contains-set_of_runs, rising-in_runs}
 use Rattle.net_assembler.proofs.ShiftedRuns.{rising-up}
-use Rattle.net_receiver.specs.ReceiverState.{IsSound}
-use Rattle.net_receiver.specs.Parts.{held_bytes, parts, Fits64Bits}
-use Rattle.net_receiver.proofs.Placed.{get_before, has_place, held_count, place_within}
+use Rattle.net_receiver.specs.Parts.{held_bytes}
+use Rattle.net_receiver.proofs.Placed.{IsReceiver, get_before, has_place, held_count, place_within}
 
 -- the first and the last position of rising runs
 run_has : (low : ℕ) (rs : List (ℕ × ℕ)) (k : ℕ) → IsRising low rs → k < length rs →
@@ -90,21 +88,18 @@ module _ (most f r : ℕ) (queue spare : List ℕ) (s : Positions) where
         (let apart = (within (p - n) there).0 in omega arith, there))
         (cases_lt p n)
 
-    pub resumed : IsSound most (parts f r queue spare s) × Fits64Bits (parts f r queue spare s)
-    resumed = (
-      record {
-        few = subst (λ k. k ≤ most) (sym (held_count f r queue spare s)) few;
+    pub resumed : IsReceiver most f r queue spare s
+    resumed = record {
+      sound = record {
+        few = omega (arith, few, held_count f r queue spare s);
         above = λ p h. (place p h).0;
-        below = λ p h. (let a = place p h in let b = (within (p - n) a.1).1 in let c = a.0 in omega arith);
+        below = λ p h. (let a = place p h in omega (arith, a.0, (within (p - n) a.1).1));
         fits = omega arith;
-      },
-      record {
-        next = next;
-        held = λ p h. (let a = place p h in let b = (within (p - n) a.1).2 in let c = a.0 in omega arith);
-      },
-    )
+      };
+      fits = record { next = next; held = λ p h. (let a = place p h in omega (arith, a.0, (within (p - n) a.1).2)) };
+    }
 
-  pub are_within : IsSound most (parts f r queue spare s) → Fits64Bits (parts f r queue spare s) → AreWithin
-  are_within sound fits p m =
+  pub are_within : IsReceiver most f r queue spare s → AreWithin
+  are_within is p m =
       let there = has_place s n spare p (n + p) refl ∙ m in
-      (let a = sound.above (n + p) there in omega arith, place_within most f r queue spare s sound p m, fits.held (n + p) there)
+      (omega (arith, is.sound.above (n + p) there), place_within is p m, is.fits.held (n + p) there)

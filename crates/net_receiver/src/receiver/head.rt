@@ -1,7 +1,7 @@
 //! A receiver in parts: a head of numbers, a storage, and runs that are kept elsewhere.
 ghost use Rattle.std.specs.Prelude.{◌≡◌, ◌↔◌, ℕ, ◌+◌, ◌-◌, ◌<◌, ◌≤◌, ◌^◌, ◌%◌, min, List, ◌++◌, length};
 ghost use Rattle.std.specs.Prelude.{take, drop, All, IsTrue, OnErr};
-ghost use Rattle.net_ring.specs.Ring.{queue, contiguous_queued_from, contiguous_queued};
+ghost use Rattle.net_ring.specs.Ring.{queue, contiguous_allocated, contiguous_queued};
 ghost use Rattle.net_ring.specs.Place.{IsSound as IsSoundPlace, ring_at};
 ghost use Rattle.net_assembler.specs.Positions.{contains, maximal_runs};
 ghost use Rattle.net_assembler.specs.RunLists.{HasSoundRuns, set_of};
@@ -333,7 +333,7 @@ impl ReceiverHead {
     pub fn peek<'a>(&self, storage: &'a [u8], offset: usize, size: usize) -> &'a [u8]
         requires { IsSoundPlace (length storage.now) self.now.place }
         ensures count { let g = ring_at storage.now self.now.place in
-            length result.now ≡ contiguous_queued_from g offset size }
+            length result.now ≡ contiguous_allocated g offset size }
         ensures not_empty { offset < self.now.place.length → 0 < size → 0 < length result.now }
         ensures value { let g = ring_at storage.now self.now.place in
             result.now ≡ take (length result.now) (drop offset (queue g)) }

@@ -1,20 +1,16 @@
-use Rattle.net_receiver.proofs.Called.{empty_matches, segment_matches, read_matches, show_matches, both_match, matching_is_kept}
+use Rattle.std.proofs.lemmas.List.Elements.{All-nil, All-cons, All-append}
+use Rattle.net_receiver.specs.Rules.{Segment, Read, Show}
+use Rattle.net_receiver.specs.OneStream.{AllMatch, MatchesStream, IsTruthful}
+use Rattle.net_receiver.proofs.OneStream.{truthful_is_kept}
 use Rattle.net_receiver.proofs.laws.all_match.Goals as goal
 
-pub returns-clause-empty : goal.returns-clause-empty
-returns-clause-empty c = empty_matches
-
-pub returns-clause-segment : goal.returns-clause-segment
-returns-clause-segment c = segment_matches
-
-pub returns-clause-read : goal.returns-clause-read
-returns-clause-read c = read_matches
-
-pub returns-clause-show : goal.returns-clause-show
-returns-clause-show c = show_matches
-
-pub returns-clause-both : goal.returns-clause-both
-returns-clause-both c = both_match
-
-pub returns-clause-kept : goal.returns-clause-kept
-returns-clause-kept c = matching_is_kept
+pub returns : goal.returns
+unfolding AllMatch MatchesStream
+returns c = record {
+  empty = λ f x. All-nil (IsTruthful f x);
+  segment = λ f x pos xs cs h all. All-cons (IsTruthful f x) (Segment pos xs) cs h all;
+  read = λ f x count cs all. All-cons (IsTruthful f x) (Read count) cs tt all;
+  show = λ f x cs all. All-cons (IsTruthful f x) Show cs tt all;
+  both = λ f x cs ds all more. All-append (IsTruthful f x) cs ds all more;
+  kept = truthful_is_kept;
+}

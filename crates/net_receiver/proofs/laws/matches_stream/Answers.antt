@@ -1,8 +1,8 @@
-use Rattle.net_receiver.proofs.Called.{matches_what_is_there, matches_longer}
+use Rattle.net_receiver.specs.OneStream.{MatchesStream}
+use Rattle.net_receiver.proofs.OneStream.{longer_at}
+use Rattle.net_receiver.proofs.Called.{matches_what_is_there}
 use Rattle.net_receiver.proofs.laws.matches_stream.Goals as goal
 
-pub returns-clause-there : goal.returns-clause-there
-returns-clause-there c = matches_what_is_there
-
-pub returns-clause-longer : goal.returns-clause-longer
-returns-clause-longer c = matches_longer
+pub returns : goal.returns
+unfolding MatchesStream
+returns c = record { there = matches_what_is_there; longer = λ f pos x more xs h p b from is. longer_at x more _ b (h p b from is) }

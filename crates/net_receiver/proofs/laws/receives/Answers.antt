@@ -1,20 +1,17 @@
-use Rattle.net_receiver.proofs.Called.{fresh_receives_as, agreeing_receives, receives_from_longer, segment_receives_from, held_of_stream, queue_of}
+use Rattle.std.proofs.Common.{refl, subst, sym}
+use Rattle.net_receiver.specs.Schedule.{Agrees}
+use Rattle.net_receiver.specs.OneStream.{ReceivesFrom}
+use Rattle.net_receiver.proofs.OneStream.{longer_receives}
+use Rattle.net_receiver.proofs.Called.{fresh_receives_from, segment_receives, held_of_stream, queue_of}
 use Rattle.net_receiver.proofs.laws.receives.Goals as goal
 
-pub returns-clause-fresh : goal.returns-clause-fresh
-returns-clause-fresh c = fresh_receives_as
-
-pub returns-clause-agrees : goal.returns-clause-agrees
-returns-clause-agrees c = agreeing_receives
-
-pub returns-clause-longer : goal.returns-clause-longer
-returns-clause-longer c = receives_from_longer
-
-pub returns-clause-segment : goal.returns-clause-segment
-returns-clause-segment c = segment_receives_from
-
-pub returns-clause-held : goal.returns-clause-held
-returns-clause-held c = held_of_stream
-
-pub returns-clause-queue : goal.returns-clause-queue
-returns-clause-queue c = queue_of
+pub returns : goal.returns
+unfolding ReceivesFrom
+returns c = record {
+  fresh = λ f x v e. subst (ReceivesFrom f x) (sym e) (fresh_receives_from x f v.capacity);
+  agrees = λ f x v s e d all. (e, record { state = s; refines = d; agrees = subst (λ b. Agrees b s.kept x) (sym e) all });
+  longer = λ f x more v h. (h.0, longer_receives x more v h.1);
+  segment = λ most f x v pos xs r h. segment_receives most f x v _ pos xs refl r h;
+  held = held_of_stream;
+  queue = queue_of;
+}

@@ -16,4 +16,4 @@ returns g c =
     first_part_lent i.head.first i.head.count_read c.queued.result (ring_at xs i.head.place) (set_of i.head.held i.runs)
     c.args.self.now c.peek.result.now sound.read_at
     (lent_view _ _ _ _ c.whole.ensures c.args.self.now c.self.view_is)
-    (c.queued.ensures ∙ sym (queue_size i.head xs i.runs sound.place)) c.peek.ensures.count c.peek.ensures.value
+    (c.queued.ensures ∙ sym (queue_size sound)) c.peek.ensures.count c.peek.ensures.value

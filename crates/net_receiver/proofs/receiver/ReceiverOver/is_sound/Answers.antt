@@ -4,10 +4,7 @@ use Rattle.net_receiver.proofs.Heads.{next_fits, sound_for}
 use Rattle.net_receiver.proofs.receiver.ReceiverOver.is_sound.Goals as goal
 
 pub next-next-requires : goal.next-next-requires
-next-next-requires g c = next_fits c.self.inside.head (g.S.Storage.elements c.self.inside.storage) c.self.inside.runs c.self.invariant.0
+next-next-requires g c = next_fits c.self.invariant.0
 
 pub returns : goal.returns
-returns g c =
-    let i = c.self.inside in
-    subst (IsSound g.row.N) c.self.view_is
-    (sound_for i.head (g.S.Storage.elements i.storage) i.runs c.self.invariant.0 g.row.N c.self.invariant.1)
+returns g c = subst (IsSound g.row.N) c.self.view_is (sound_for c.self.invariant.0 g.row.N c.self.invariant.1)

@@ -30,10 +30,8 @@ returns-clause-few g c =
 
 pub returns-clause-some : goal.returns-clause-some
 returns-clause-some g c = λ within some.
-    let h = c.self.inside.head in
-    let size = queue_size h (g.S.Storage.elements c.self.inside.storage) c.self.inside.runs c.self.invariant.0.place in
     let queued = ap (λ (v : ReceiverState). length v.queue) c.self.view_is in
-    c.peek.ensures.not_empty (omega (arith, within, size, queued)) some
+    c.peek.ensures.not_empty (omega (arith, within, queue_size c.self.invariant.0, queued)) some
 
 pub returns-clause-step : goal.returns-clause-step
 returns-clause-step g c = λ s d.

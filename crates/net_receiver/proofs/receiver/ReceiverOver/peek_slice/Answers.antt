@@ -9,9 +9,7 @@ use Rattle.net_receiver.proofs.receiver.ReceiverOver.peek_slice.Goals as goal
 pub returns-clause-count : goal.returns-clause-count
 returns-clause-count g c =
     c.peek_slice.ensures.count
-    ∙ ap (min (length c.args.into.now))
-    (sym (queue_size c.self.inside.head (g.S.Storage.elements c.self.inside.storage) c.self.inside.runs c.self.invariant.0.place)
-    ∙ ap (λ (v : ReceiverState). length v.queue) c.self.view_is)
+    ∙ ap (min (length c.args.into.now)) (sym (queue_size c.self.invariant.0) ∙ ap (λ (v : ReceiverState). length v.queue) c.self.view_is)
 
 pub returns-clause-into : goal.returns-clause-into
 returns-clause-into g c =

@@ -8,7 +8,7 @@ use Rattle.net_receiver.proofs.Run.{steps, read_prefix}
 use Rattle.net_receiver.proofs.receiver.ReceiverOver.read.Goals as goal
 
 pub read-requires-clause-fits : goal.read-requires-clause-fits
-read-requires-clause-fits g c = next_fits c.self.inside.head (g.S.Storage.elements c.self.inside.storage) c.self.inside.runs c.self.invariant.0
+read-requires-clause-fits g c = next_fits c.self.invariant.0
 
 pub invariant_of-self : goal.invariant_of-self
 invariant_of-self g c =
@@ -24,9 +24,7 @@ returns-clause-state g c =
 pub returns-clause-count : goal.returns-clause-count
 returns-clause-count g c =
     c.read.ensures.count
-    ∙ ap (min (length c.args.into.now))
-    (sym (queue_size c.self.inside.head (g.S.Storage.elements c.self.inside.storage) c.self.inside.runs c.self.invariant.0.place)
-    ∙ ap (λ (v : ReceiverState). length v.queue) c.self.view_is)
+    ∙ ap (min (length c.args.into.now)) (sym (queue_size c.self.invariant.0) ∙ ap (λ (v : ReceiverState). length v.queue) c.self.view_is)
 
 pub returns-clause-into : goal.returns-clause-into
 returns-clause-into g c =
@@ -44,7 +42,7 @@ returns-clause-step g c = λ s d.
 pub returns-clause-setting : goal.returns-clause-setting
 returns-clause-setting g c =
     stays g.row.N c.args.self.now _ (Read (length c.args.into.now)) (returns-clause-state g c)
-    (sound_for c.read.new.self (g.S.Storage.elements c.self.inside.storage) c.self.inside.runs (invariant_of-self g c).0 g.row.N c.self.invariant.1)
+    (sound_for (invariant_of-self g c).0 g.row.N c.self.invariant.1)
 
 pub returns-clause-next : goal.returns-clause-next
 returns-clause-next g c = ap next_position (returns-clause-state g c) ∙ read_leaves_next c.args.self.now (length c.args.into.now)

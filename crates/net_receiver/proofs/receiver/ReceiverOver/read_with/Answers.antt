@@ -26,14 +26,13 @@ remove-requires-clause-place g c = subst (λ n. IsSoundPlace n c.self.inside.hea
 
 pub remove-requires-clause-queued : goal.remove-requires-clause-queued
 remove-requires-clause-queued g c =
-    let i = c.self.inside in
     let counted = c.requires.count c.f-answer.result (c.first_slice.result, c.f-answer.ensures, c.first_slice.ensures) in
     let size = first_part_length c.args.self.now in
     let queued = ap (λ (v : ReceiverState). length v.queue) c.self.view_is in
-    omega (arith, counted, size, queued, queue_size i.head (g.S.Storage.elements i.storage) i.runs c.self.invariant.0.place)
+    omega (arith, counted, size, queued, queue_size c.self.invariant.0)
 
 pub remove-requires-clause-fits : goal.remove-requires-clause-fits
-remove-requires-clause-fits g c = next_fits c.self.inside.head (g.S.Storage.elements c.self.inside.storage) c.self.inside.runs c.self.invariant.0
+remove-requires-clause-fits g c = next_fits c.self.invariant.0
 
 pub invariant_of-self : goal.invariant_of-self
 invariant_of-self g c =
@@ -61,7 +60,7 @@ returns-clause-step g c = λ s d.
 pub returns-clause-setting : goal.returns-clause-setting
 returns-clause-setting g c =
     stays g.row.N c.args.self.now _ (Read c.f-answer.result.0) (returns-clause-state g c)
-    (sound_for c.remove.new.self (g.S.Storage.elements c.self.inside.storage) c.self.inside.runs (invariant_of-self g c).0 g.row.N c.self.invariant.1)
+    (sound_for (invariant_of-self g c).0 g.row.N c.self.invariant.1)
 
 pub returns-clause-next : goal.returns-clause-next
 returns-clause-next g c = ap next_position (returns-clause-state g c) ∙ read_leaves_next c.args.self.now c.f-answer.result.0

@@ -60,7 +60,7 @@ returns-clause-step g c =
 pub returns-clause-setting : goal.returns-clause-setting
 returns-clause-setting g c =
     stays g.row.N c.args.self.now _ (Segment c.args.pos c.args.bytes.now) (state_is g c)
-    (sound_for c.segment.new.self _ c.segment.new.runs (sound_is g c) g.row.N (runs_are g c))
+    (sound_for (sound_is g c) g.row.N (runs_are g c))
 
 pub returns-clause-keeps : goal.returns-clause-keeps
 returns-clause-keeps g c =

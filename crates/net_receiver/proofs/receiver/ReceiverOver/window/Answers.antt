@@ -8,13 +8,9 @@ window-requires g c = omega (arith, c.self.invariant.0.place.1, c.count.ensures)
 
 pub returns-clause-window : goal.returns-clause-window
 returns-clause-window g c =
-    let i = c.self.inside in
-    let xs = g.S.Storage.elements i.storage in
-    let queued = queue_size i.head xs i.runs c.self.invariant.0.place in
-    let free = spare_size i.head xs i.runs c.self.invariant.0 in
     let size = ap (λ (v : ReceiverState). length v.queue) c.self.view_is in
     let whole = ap (λ (v : ReceiverState). v.capacity) c.self.view_is in
-    omega (arith, c.window.ensures, c.count.ensures, queued, free, size, whole)
+    omega (arith, c.window.ensures, c.count.ensures, queue_size c.self.invariant.0, spare_size c.self.invariant.0, size, whole)
 
 pub returns-clause-room : goal.returns-clause-room
 returns-clause-room g c =

@@ -1,14 +1,13 @@
-use Rattle.std.proofs.Common.{◌≡◌, IsTrue, sym, refl, ◌∙◌, eqb-true, eq-eqb}
+use Rattle.std.proofs.Common.{◌≡◌, sym, ◌∙◌, eqb-true, eq-eqb}
 use Rattle.std.proofs.lemmas.Bool.{both_ways}
 use Rattle.net_ring.specs.Place.{ring_at}
 use Rattle.net_ring.specs.Ring.{queue, spare}
 use Rattle.net_assembler.specs.RunLists.{set_of}
 use Rattle.net_receiver.specs.ReceiverState.{IsSameState}
 use Rattle.net_receiver.specs.Head.{receiver_of}
-use Rattle.net_receiver.proofs.Placed.{alike_views}
+use Rattle.net_receiver.proofs.Placed.{alike}
 use Rattle.net_receiver.proofs.receiver.head.ReceiverHead.is_same_state.Goals as goal
-use Rattle.net_receiver.proofs.receiver.head.ReceiverHead.is_same_state.Goals.{then-self-other, else-self-other}
-use Rattle.net_receiver.proofs.receiver.head.ReceiverHead.is_same_state.Goals.{then-self-other-2, else-self-other-2}
+use Rattle.net_receiver.proofs.receiver.head.ReceiverHead.is_same_state.Goals.{then-self-other, else-self-other, then-self-other-2, else-self-other-2}
 
 -- what is compared before the held runs is equal
 before_held : (c : goal.After-is_same) →
@@ -33,11 +32,11 @@ returns-then-is_same_queue c =
     let before = before_held c in
     let h = c.args.self.now in
     let h' = c.args.other.now in
-    let g = ring_at c.args.storage.now h.place in
-    let g' = ring_at c.args.other_storage.now h'.place in
-    alike_views c.equal_maximal_runs.ensures h.first h.count_read h'.first h'.count_read (queue g) (spare g) (queue g') (spare g')
-    (set_of h.held c.args.runs.now) (set_of h'.held c.args.other_runs.now) (receiver_of h c.args.storage.now c.args.runs.now)
-    (receiver_of h' c.args.other_storage.now c.args.other_runs.now) refl refl before.0 before.1 before.2 (IsTrue c.is_same.result) c.is_same.ensures.same
+    let both = alike c.equal_maximal_runs.ensures (spare (ring_at c.args.storage.now h.place)) (spare (ring_at c.args.other_storage.now h'.place))
+    (set_of h.held c.args.runs.now) (set_of h'.held c.args.other_runs.now) before.0 before.1 before.2 in (
+      (λ yes. (before.0, before.1, before.2, both.0 (c.is_same.ensures.same.0 yes))),
+      (λ same. c.is_same.ensures.same.1 (both.1 same.3)),
+    )
 
 -- one that is compared before the held runs differs
 pub returns-else-is_same_queue : goal.returns-else-is_same_queue

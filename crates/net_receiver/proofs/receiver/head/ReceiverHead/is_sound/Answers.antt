@@ -27,8 +27,8 @@ returns c =
             omega (arith, a.1, free, c.min.ensures, c.window-window.ensures),
             omega (arith, a.1, queued, c.min.ensures, c.next-positions.ensures, next),
           ))) in
-          record { place = place; runs = runs; state = all.0; fits = all.1; read_at = turn }),
+          record { place = place; runs = runs; state = all.sound; fits = all.fits; read_at = turn }),
       (λ sound. c.is_held_below.ensures.1 (λ p m.
-          (let a = are_within (length rs) h.first h.count_read (queue g) (spare g) (set_of h.held rs) sound.state sound.fits p m in
+          (let a = are_within (length rs) h.first h.count_read (queue g) (spare g) (set_of h.held rs) (record { sound = sound.state; fits = sound.fits }) p m in
           (a.0, omega (arith, a.1, a.2, free, queued, c.min.ensures, c.window-window.ensures, c.next-positions.ensures))))),
     )

@@ -34,11 +34,11 @@ returns-clause-head c = λ i. record {
 pub returns-clause-sound : goal.returns-clause-sound
 returns-clause-sound c = λ rs s.
     subst (λ h. HasSoundParts h c.args.storage.now rs) (sym (returns-clause-head c))
-    (after_read c.args.self.now c.args.storage.now rs s c.dequeue_slice-count.result (length c.args.into.now) c.dequeue_slice-count.ensures.count
+    (after_read s c.dequeue_slice-count.result (length c.args.into.now) c.dequeue_slice-count.ensures.count
     (subst (IsSoundPlace (length c.args.storage.now)) (place_is c) c.dequeue_slice-count.ensures.sound)).1
 
 pub returns-clause-state : goal.returns-clause-state
 returns-clause-state c = λ rs s.
     ap (λ h. receiver_of h c.args.storage.now rs) (returns-clause-head c)
-    ∙ (after_read c.args.self.now c.args.storage.now rs s c.dequeue_slice-count.result (length c.args.into.now) c.dequeue_slice-count.ensures.count
+    ∙ (after_read s c.dequeue_slice-count.result (length c.args.into.now) c.dequeue_slice-count.ensures.count
     (subst (IsSoundPlace (length c.args.storage.now)) (place_is c) c.dequeue_slice-count.ensures.sound)).0

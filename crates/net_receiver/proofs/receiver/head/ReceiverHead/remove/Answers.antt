@@ -18,11 +18,11 @@ returns-clause-sound c = λ xs rs size s.
     (subst (IsSoundPlace c.args.capacity) c.dequeue.ensures.place c.dequeue.ensures.sound) in
     subst (λ h. HasSoundParts h xs rs)
     (sym (returns-clause-head c ∙ ap (λ n. head_after_read n c.args.count c.args.self.now) (sym size)))
-    (after_read c.args.self.now xs rs s c.args.count c.args.count (omega (arith, c.requires.queued)) place).1
+    (after_read s c.args.count c.args.count (omega (arith, c.requires.queued)) place).1
 
 pub returns-clause-state : goal.returns-clause-state
 returns-clause-state c = λ xs rs size s.
     let place = subst (λ n. IsSoundPlace n (dequeued_place n c.args.count c.args.self.now.place)) (sym size)
     (subst (IsSoundPlace c.args.capacity) c.dequeue.ensures.place c.dequeue.ensures.sound) in
     ap (λ h. receiver_of h xs rs) (returns-clause-head c ∙ ap (λ n. head_after_read n c.args.count c.args.self.now) (sym size))
-    ∙ (after_read c.args.self.now xs rs s c.args.count c.args.count (omega (arith, c.requires.queued)) place).0
+    ∙ (after_read s c.args.count c.args.count (omega (arith, c.requires.queued)) place).0
