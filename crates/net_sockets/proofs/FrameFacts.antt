@@ -36,26 +36,22 @@ module _ {A B : Type 0} (taken : A → List ℕ → A → Type 0) (is_idle : A �
   ended_same keeps max n x x' y (inr (inl e)) = ap incoming (sym e.1)
   ended_same keeps max n x x' y (inr (inr e)) = sym (keeps x x' e.1)
 
+  -- the frames that passed were the first
+  were_first : TakesFirst taken incoming → KeepsAll → (max n : ℕ) (x x' : A) (y y' : B) (p : ForwardsUpTo taken is_idle idled is_busy sent max n x x' y y') →
+      incoming x ≡ p.passed.frames ++ incoming x'
+  were_first takes keeps max n x x' y y' p = taken_list taken incoming takes x p.between p.passed.frames p.passed.taken_off
+      ∙ ap (λ (r : List (List ℕ)). p.passed.frames ++ r) (ended_same keeps max n p.between x' y' p.ended)
+
   pub passed_lists : TakesFirst taken incoming → KeepsAll → PutsLast sent outgoing → (max n : ℕ) (x x' : A) (y y' : B) →
       ForwardsUpTo taken is_idle idled is_busy sent max n x x' y y' → (moved : List (List ℕ)) × (incoming x ≡ moved ++ incoming x')
       × (outgoing y' ≡ outgoing y ++ moved)
   passed_lists takes keeps puts max n x x' y y' p =
-      let fs : List (List ℕ) = p.passed.frames in
-      let same : incoming p.between ≡ incoming x' = ended_same keeps max n p.between x' y' p.ended in (
-        fs,
-        taken_list taken incoming takes x p.between fs p.passed.taken_off ∙ ap (λ (r : List (List ℕ)). fs ++ r) same,
-        sent_list sent outgoing puts y y' fs p.passed.sent_on,
-      )
+      (p.passed.frames, were_first takes keeps max n x x' y y' p, sent_list sent outgoing puts y y' p.passed.frames p.passed.sent_on)
 
   pub passed_count : TakesFirst taken incoming → KeepsAll → (max n : ℕ) (x x' : A) (y y' : B) → ForwardsUpTo taken is_idle idled is_busy sent max n x x' y y' →
       length (incoming x) ≡ n + length (incoming x')
-  passed_count takes keeps max n x x' y y' p =
-      let fs : List (List ℕ) = p.passed.frames in
-      let same : incoming p.between ≡ incoming x' = ended_same keeps max n p.between x' y' p.ended in
-      let all : incoming x ≡ fs ++ incoming x' =
-      taken_list taken incoming takes x p.between fs p.passed.taken_off ∙ ap (λ (r : List (List ℕ)). fs ++ r) same
-      in
-      ap length all ∙ length-append fs (incoming x') ∙ ap (λ (k : ℕ). k + length (incoming x')) p.passed.count
+  passed_count takes keeps max n x x' y y' p = ap length (were_first takes keeps max n x x' y y' p) ∙ length-append p.passed.frames (incoming x')
+      ∙ ap (λ (k : ℕ). k + length (incoming x')) p.passed.count
 
 module _ {A B : Type 0} (taken : A → List ℕ → A → Type 0) (sent : B → List ℕ → B → Type 0) (lacks_memory : B → ℕ → Type 0) (incoming : A → List (List ℕ))
     (outgoing : B → List (List ℕ)) where

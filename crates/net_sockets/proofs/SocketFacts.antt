@@ -1,5 +1,5 @@
 -- The slots and bytes of a queue stay as many.
-use Rattle.std.proofs.Common.{◌≡◌, ◌∙◌, ℕ, List, Bool, true, false, length, Result, Ok, Err, OnOk, OnErr, IfOk, refl, subst, sym}
+use Rattle.std.proofs.Common.{◌≡◌, ◌∙◌, ℕ, List, Bool, true, false, length, Result, Ok, Err, OnOk, OnErr, IfOk, refl}
 use Rattle.std.specs.Prelude.{Option}
 use Rattle.std.specs.declared.option.Option.TheVariants.{Some, None}
 use Rattle.net_ring.specs.Overwrite.{overwrite}
@@ -27,11 +27,11 @@ handed_same long false q h ws = (refl, long q.storage ws _)
 -- a packet came last, or nothing changed
 pub put_same : {T E : Type 0} → LengthStays → (q r : PacketsState Endpoint) (h : Endpoint) (ws : List ℕ) (result : Result T E) → OnErr result (r ≡ q) →
     OnOk result (r ≡ with_packet_of q h ws) → SameCapacity r q
-put_same long q r h ws (Ok t) kept made = subst (λ (z : PacketsState Endpoint). SameCapacity z q) (sym made) (enqueued_same long q h ws)
-put_same long q r h ws (Err e) kept made = subst (λ (z : PacketsState Endpoint). SameCapacity z q) (sym kept) (refl, refl)
+put_same long q r h ws (Ok t) kept made = rw made (enqueued_same long q h ws)
+put_same long q r h ws (Err e) kept made = rw kept (refl, refl)
 
 -- the first packet was handed out, or nothing changed
 pub handed_out_same : {T E : Type 0} → LengthStays → (q r : PacketsState Endpoint) (result : Result T E) → OnErr result (r ≡ q) →
     IfOk result (λ _. (gone : Bool) × (h : Endpoint) × (ws : List ℕ) × (r ≡ after_hand_out gone q h ws)) → SameCapacity r q
-handed_out_same long q r (Ok t) kept made = subst (λ (z : PacketsState Endpoint). SameCapacity z q) (sym made.3) (handed_same long made.0 q made.1 made.2)
-handed_out_same long q r (Err e) kept made = subst (λ (z : PacketsState Endpoint). SameCapacity z q) (sym kept) (refl, refl)
+handed_out_same long q r (Ok t) kept made = rw made.3 (handed_same long made.0 q made.1 made.2)
+handed_out_same long q r (Err e) kept made = rw kept (refl, refl)

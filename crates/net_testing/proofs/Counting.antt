@@ -9,8 +9,7 @@ use prog.Memory.{Memory}
 use prog.Routine.{Routine}
 use types.Logic.{Logic, sem}
 use contract.Monad.{Fun}
-use types.Kit.{‵, ◌⊛◌, some, later, raw, ◌$◌, ◌∵◌, !, qed, move, keep, use1, split, join, pick}
-use types.Kit.{fjoin, feq_i, feq_l, flt_i, show, check, await, updating, now as at_once, done}
+use types.Kit.{‵, ◌⊛◌, some, later, raw, ◌$◌, ◌∵◌, !, qed, move, keep, use1, split, join, pick, fjoin, feq_i, feq_l, flt_i, show, check, await, updating, now as at_once, done}
 use denote.RattleType.{RattleType}
 use denote.Memory.{hidden_shr}
 use denote.Builtin.{bool, unit}
@@ -62,11 +61,7 @@ module _ {M : Type 1} {𝓤 : Ura M} (𝓛 : Logic 𝓤) (at_mem : Memory → SP
 
   pub Returns-goes : s < 2 ^ 64 → ent 𝓤 (sep 𝓤 (sem 𝓛 (hidden_shr Counter κ n c.0 c.1)) (A.lft κ q))
       ((Returns 𝓛 at_mem run).pre (at_returns 𝓛 at_mem run κ q c n s))
-  Returns-goes fs =
-      qed 𝓛 (‵ (hidden_shr Counter κ n c.0 c.1) ∷ ‵ (flft κ q) ∷ []) ∵
-      nothing ! $ flt_i ! s (2 ^ 64) fs $ feq_i ! (List Val) (vint w64 s ∷ []) (vint w64 s ∷ []) refl $ fjoin ! $ fjoin ! $
-      move ! (1 ∷ []) $ feq_i ! (List Val) (vptr c.0 c.1 ∷ []) (vptr c.0 c.1 ∷ []) refl $ fjoin ! $ move ! (0 ∷ 1 ∷ []) $ fjoin ! $ nothing ! $
-      move ! (2 ∷ []) $ join ! $ join ! $ nothing ! $ move ! (1 ∷ []) $ done !
+  Returns-goes fs = Counts-goes fs
 
   pub Returns-gives : (v : Val) → ent 𝓤 ((Returns 𝓛 at_mem run).post (at_returns 𝓛 at_mem run κ q c n s) v) (H.⇛ (guard 𝓤 (v ≡ vunit) (A.lft κ q)))
   Returns-gives v =

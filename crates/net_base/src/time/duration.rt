@@ -234,7 +234,7 @@ impl Duration {
         let secs = self.secs();
         let millis = self.millis();
         let mut text = InlineText::new();
-        write!(text, "{secs}.{millis:03}s")?;
+        write!(text, "{secs}.{millis:0>3}s")?;
         Ok(text)
     }
 }

@@ -68,6 +68,7 @@ pub fn texts(instant: &Instant, duration: &Duration)
 
 /// States that a fold with `earlier`, from `None` on, finds the earliest of the moments of a list's
 /// elements.
+#[tactic(auto, using(crate::proofs::EarliestFacts::earliest_is))]
 pub fn earliest_of_each<T>()
     ensures { (f : T → Option ℤ) (xs : List T) (t : Option ℤ) → t ≡ earliest_of f xs →
         IsEarliest f xs t }

@@ -1,6 +1,6 @@
 use Rattle.std.proofs.Common.{arith}
-use Rattle.net_base.proofs.Period.{IsPeriod-all}
+use Rattle.net_base.proofs.Period.{each_period}
 use Rattle.net_base.proofs.rand.laws.period.Goals as goal
 
 pub returns : goal.returns
-returns c = IsPeriod-all c.args.state.now (omega arith)
+returns c = each_period c.args.state.now (omega arith)
