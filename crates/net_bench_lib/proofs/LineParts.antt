@@ -1,83 +1,64 @@
--- The lines of a text, taken apart at its line feeds.
-use Rattle.std.proofs.Common.{◌≡◌, ℕ, ◌+◌, ◌<◌, ◌≤◌, suc, List, [], ◌∷◌, ◌++◌, length, take, drop, true}
-use Rattle.std.proofs.Common.{false, ◌==◌, Some, None, refl, sym, ◌∙◌, ap, append_assoc, arith, cond}
-use Rattle.std.proofs.Common.{nat_lt, get_or, drop-cons, add-one}
-use Rattle.std.specs.List.{onto_first, position, position_or_len}
+-- The parts of a text between bytes of one kind, and its lines.
+use Rattle.std.proofs.Common.{◌≡◌, ℕ, ◌+◌, ◌<◌, ◌≤◌, suc, List, [], ◌∷◌, ◌++◌, length, take, drop, Bool, true, false, ◌==◌, Some, None, refl, sym, ◌∙◌, ap, append_assoc, arith, cond, drop-cons, add-one, All}
+use Rattle.std.specs.List.{onto_first, position, position_or_len, slice_split}
 use Rattle.std.proofs.lemmas.List.Splits.{slice_split_at, slice_split_none, slice_split-cons_no}
 use Rattle.std.proofs.lemmas.List.{take-append-drop, get_or-take, length-take-le}
 use Rattle.std.proofs.lemmas.List.Elements.{All-head, All-tail, All-append, All-from_get_or}
-use Rattle.std.proofs.lemmas.List.Sums.{fails_before_first, passes_at_first}
+use Rattle.std.proofs.lemmas.List.Sums.{fails_before_first}
+use Rattle.std.proofs.lemmas.List.Quantifiers.{position-Some}
+use Rattle.std.proofs.lemmas.Bool.{eqb-true}
 use Rattle.std.proofs.lemmas.Bool.Decides.{nat_tests}
 use Rattle.net_bench_lib.specs.Text.{parts_of, lines_of, ended_lines, unended_line, without_last, without_empty_last, last_part}
 use Rattle.net_bench_lib.specs.Progress.{HasNoFeed}
 
--- what a position is, found or not
-pub found-at : (n m at : ℕ) → cond (nat_lt n m) (Some n) None ≡ Some at → (n ≡ at) × (n < m)
-found-at n m at h = grind (arith, nat_tests)
-
-pub found-nowhere : (n m : ℕ) → cond (nat_lt n m) (Some n) None ≡ None → m ≤ n
-found-nowhere n m h = grind (arith, nat_tests)
-
--- a byte that passes the test is a line feed
-is-feed : (b : ℕ) → (b == 10) ≡ true → b ≡ 10
-is-feed b h = grind (arith, nat_tests)
-
--- the first line feed, and what is before it
-pub feed-found : (bytes : List ℕ) (at : ℕ) → Some at ≡ position (λ b. b == 10) bytes →
-    (at < length bytes) × (bytes ≡ take at bytes ++ (10 ∷ drop (at + 1) bytes)) × HasNoFeed (take at bytes)
-feed-found bytes at h =
-    let p = found-at (position_or_len (λ b. b == 10) bytes) (length bytes) at (sym h) in
-    let within : at < length bytes = omega (arith, p.0, p.1) in
-    let feed : get_or bytes at 0 ≡ 10 = is-feed (get_or bytes at 0) (rw p.0 at (passes_at_first (λ b. b == 10) bytes 0 p.1)) in (
+-- the first byte c, and what is before it
+pub found : (c : ℕ) (bytes : List ℕ) (at : ℕ) → Some at ≡ position (λ b. b == c) bytes →
+    (at < length bytes) × (bytes ≡ take at bytes ++ (c ∷ drop (at + 1) bytes)) × All (λ b. (b == c) ≡ false) (take at bytes)
+found c bytes at h =
+    let (within, is, none) = position-Some (λ b. b == c) bytes at 0 (sym h) in (
       within,
       sym (take-append-drop at bytes) ∙ ap (λ t. take at bytes ++ t)
-          (drop-cons bytes at 0 within ∙ ap (λ t. t ∷ drop (suc at) bytes) feed ∙ rw add-one refl),
-      All-from_get_or (λ b. (b == 10) ≡ false) (take at bytes) 0
-          (λ i lt. let under : i < at = omega (arith, lt, length-take-le at bytes (omega (arith, within))) in
-          rw (get_or-take at bytes i 0 under) (fails_before_first (λ b. b == 10) bytes i 0 (omega (arith, p.0, under)))),
+          (drop-cons bytes at 0 within ∙ ap (λ t. t ∷ drop (suc at) bytes) (eqb-true _ c is) ∙ rw add-one refl),
+      All-from_get_or (λ b. (b == c) ≡ false) (take at bytes) 0
+          (λ i lt. let under : i < at = omega (arith, length-take-le at bytes (omega arith)) in rw (get_or-take at bytes i 0 under) (none i under)),
     )
 
--- where no line feed is found there is none
-pub feed-nowhere : (bytes : List ℕ) → None ≡ position (λ b. b == 10) bytes → HasNoFeed bytes
-feed-nowhere bytes h =
-    let none : length bytes ≤ position_or_len (λ b. b == 10) bytes = found-nowhere (position_or_len (λ b. b == 10) bytes) (length bytes) (sym h) in
-    All-from_get_or (λ b. (b == 10) ≡ false) bytes 0 (λ k lt. fails_before_first (λ b. b == 10) bytes k 0 (omega arith))
+-- where no byte c is found there is none
+pub not_found : (c : ℕ) (bytes : List ℕ) → None ≡ position (λ b. b == c) bytes → All (λ b. (b == c) ≡ false) bytes
+not_found c bytes h =
+    let past : length bytes ≤ position_or_len (λ b. b == c) bytes = grind (arith, nat_tests) in
+    All-from_get_or (λ b. (b == c) ≡ false) bytes 0 (λ k lt. fails_before_first (λ b. b == c) bytes k 0 (omega arith))
 
--- there is always a last part
-pub parts-cons : (text : List ℕ) → (part : List ℕ) × (parts : List (List ℕ)) × (parts_of text ≡ part ∷ parts)
-parts-cons [] = ([], [], refl)
-parts-cons (b ∷ text) =
-    elim (b == 10) as (λ v. (part : List ℕ) × (parts : List (List ℕ)) × (cond v ([] ∷ parts_of text) (onto_first b (parts_of text)) ≡ part ∷ parts)) [
-      | true ↦ ([], parts_of text, refl)
-      | false ↦ elim (parts_of text) as (λ v. (part : List ℕ) × (parts : List (List ℕ)) × (onto_first b v ≡ part ∷ parts)) [
-        | [] ↦ (b ∷ [], [], refl)
-        | part ∷ parts ↦ (b ∷ part, parts, refl)
-      ]
+-- there is always a first part
+pub parts-cons : (p : ℕ → Bool) (text : List ℕ) → (part : List ℕ) × (parts : List (List ℕ)) × (slice_split p text ≡ part ∷ parts)
+parts-cons p [] = ([], [], refl)
+parts-cons p (b ∷ text) =
+    elim (p b) as (λ v. (part : List ℕ) × (parts : List (List ℕ)) × (cond v ([] ∷ slice_split p text) (onto_first b (slice_split p text)) ≡ part ∷ parts)) [
+      | true ↦ ([], slice_split p text, refl)
+      | false ↦ let (part, parts, is) = parts-cons p text in (b ∷ part, parts, ap (onto_first b) is)
     ]
 
-without_last-append : (xs : List (List ℕ)) (y : List ℕ) (ys : List (List ℕ)) → without_last (xs ++ (y ∷ ys)) ≡ xs ++ without_last (y ∷ ys)
-without_last-append [] y ys = refl
-without_last-append (x ∷ []) y ys = refl
-without_last-append (x ∷ z ∷ xs) y ys = ap (λ t. x ∷ t) (without_last-append (z ∷ xs) y ys)
+-- a function of parts that looks no further than the last two
+module _ (f : List (List ℕ) → List (List ℕ)) (next : (x y : List ℕ) (ys : List (List ℕ)) → f (x ∷ y ∷ ys) ≡ x ∷ f (y ∷ ys)) where
+  before_rest : (xs : List (List ℕ)) (y : List ℕ) (ys : List (List ℕ)) → f (xs ++ (y ∷ ys)) ≡ xs ++ f (y ∷ ys)
+  before_rest [] y ys = refl
+  before_rest (x ∷ []) y ys = next x y ys
+  before_rest (x ∷ z ∷ xs) y ys = next x z (xs ++ (y ∷ ys)) ∙ ap (λ t. x ∷ t) (before_rest (z ∷ xs) y ys)
 
-without_empty_last-append : (xs : List (List ℕ)) (y : List ℕ) (ys : List (List ℕ)) →
-    without_empty_last (xs ++ (y ∷ ys)) ≡ xs ++ without_empty_last (y ∷ ys)
-without_empty_last-append [] y ys = refl
-without_empty_last-append (x ∷ []) y ys = refl
-without_empty_last-append (x ∷ z ∷ xs) y ys = ap (λ t. x ∷ t) (without_empty_last-append (z ∷ xs) y ys)
+  from_parts : (text : List ℕ) (lines : List (List ℕ)) (rest : List ℕ) → parts_of text ≡ lines ++ parts_of rest →
+      f (parts_of text) ≡ lines ++ f (parts_of rest)
+  from_parts text lines rest e =
+      let (part, parts, is) = parts-cons (λ b. b == 10) rest in
+      ap f (e ∙ ap (λ t. lines ++ t) is) ∙ before_rest lines part parts ∙ ap (λ t. lines ++ f t) (sym is)
 
 -- lines before a text are its first lines
-pub lines-from_parts : (text : List ℕ) (lines : List (List ℕ)) (rest : List ℕ) →
-    parts_of text ≡ lines ++ parts_of rest → lines_of text ≡ lines ++ lines_of rest
-lines-from_parts text lines rest e =
-    let p = parts-cons rest in
-    ap without_empty_last (e ∙ ap (λ t. lines ++ t) p.2) ∙ without_empty_last-append lines p.0 p.1 ∙ ap (λ t. lines ++ without_empty_last t) (sym p.2)
+pub lines-from_parts : (text : List ℕ) (lines : List (List ℕ)) (rest : List ℕ) → parts_of text ≡ lines ++ parts_of rest →
+    lines_of text ≡ lines ++ lines_of rest
+lines-from_parts = from_parts without_empty_last (λ x y ys. refl)
 
-pub ended-from_parts : (text : List ℕ) (lines : List (List ℕ)) (rest : List ℕ) →
-    parts_of text ≡ lines ++ parts_of rest → ended_lines text ≡ lines ++ ended_lines rest
-ended-from_parts text lines rest e =
-    let p = parts-cons rest in
-    ap without_last (e ∙ ap (λ t. lines ++ t) p.2) ∙ without_last-append lines p.0 p.1 ∙ ap (λ t. lines ++ without_last t) (sym p.2)
+pub ended-from_parts : (text : List ℕ) (lines : List (List ℕ)) (rest : List ℕ) → parts_of text ≡ lines ++ parts_of rest →
+    ended_lines text ≡ lines ++ ended_lines rest
+ended-from_parts = from_parts without_last (λ x y ys. refl)
 
 -- a line in two pieces, its line feed, and the rest
 pub parts-feed : (line bytes rest : List ℕ) → HasNoFeed line → HasNoFeed bytes →

@@ -1,5 +1,5 @@
 -- Two modes that treat their states alike write one text and find one fault.
-use Rattle.std.proofs.Common.{◌≡◌, ℕ, List, [], ◌∷◌, ◌++◌, length, cond, true, false, nat_lt, Option, Some, Result, Ok, Err, refl, ap, ap₂}
+use Rattle.std.proofs.Common.{◌≡◌, ℕ, List, [], ◌∷◌, ◌++◌, length, cond, true, false, nat_lt, Some, Result, Ok, Err, refl, ap, ◌∙◌}
 use Rattle.net_bench_lib.specs.Text.{words_of, next_number}
 use Rattle.net_bench_lib.specs.Transcript.{Rules, line_step, by_step, text_of, error_at, first_fault, transcript}
 use Rattle.net_bench_lib.specs.declared.fault.Fault.{Fault}
@@ -10,8 +10,7 @@ use Rattle.net_bench_lib.specs.declared.limits.TheConstants.{MAX_LINE}
 abbrev pub AlikeAfter : {S T : Type 0} → (S → T → Type 0) → Result (S × List ℕ) Fault → Result (T × List ℕ) Fault → Type 0
 AlikeAfter Alike (Ok a) (Ok b) = Alike a.0 b.0 × (a.1 ≡ b.1)
 AlikeAfter Alike (Err e) (Err f) = e ≡ f
-AlikeAfter Alike (Ok a) (Err f) = ⊥
-AlikeAfter Alike (Err e) (Ok b) = ⊥
+AlikeAfter Alike _ _ = ⊥
 
 -- lines treat states that are alike alike
 abbrev pub TreatsAlike : {S T : Type 0} → (S → T → Type 0) → Rules S → Rules T → Type 0
@@ -27,37 +26,26 @@ module _ {S T : Type 0} (Alike : S → T → Type 0) (rules : Rules S) (others :
         | false ↦ steps s t (words_of line) a
       ]
 
-  step_text : (f : S → List ℕ) (g : T → List ℕ) → ((s : S) (t : T) → Alike s t → f s ≡ g t) →
-      (r : Result (S × List ℕ) Fault) (q : Result (T × List ℕ) Fault) → AlikeAfter Alike r q →
-      by_step (λ next reply. reply ++ f next) (λ _. []) r ≡ by_step (λ next reply. reply ++ g next)
-      (λ _. []) q
-  step_text f g more (Ok a) (Ok b) h = ap₂ ◌++◌ h.1 (more a.0 b.0 h.0)
-  step_text f g more (Err e) (Err e') h = refl
-  step_text f g more (Ok a) (Err e) h = absurd h
-  step_text f g more (Err e) (Ok b) h = absurd h
-
-  step_fault : (n : ℕ) (f : S → Option _) (g : T → Option _) → ((s : S) (t : T) → Alike s t → f s ≡ g t) →
-      (r : Result (S × List ℕ) Fault) (q : Result (T × List ℕ) Fault) → AlikeAfter Alike r q →
-      by_step (λ next reply. f next) (λ fault. Some (error_at n fault)) r ≡ by_step
-      (λ next reply. g next) (λ fault. Some (error_at n fault)) q
-  step_fault n f g more (Ok a) (Ok b) h = more a.0 b.0 h.0
-  step_fault n f g more (Err e) (Err e') h = ap (λ fault. Some (error_at n fault)) h
-  step_fault n f g more (Ok a) (Err e) h = absurd h
-  step_fault n f g more (Err e) (Ok b) h = absurd h
+  same_step : {X : Type 0} (go : S → List ℕ → X) (other_go : T → List ℕ → X) (stop : Fault → X) →
+      ((s : S) (t : T) (reply : List ℕ) → Alike s t → go s reply ≡ other_go t reply) → (r : Result (S × List ℕ) Fault)
+      (q : Result (T × List ℕ) Fault) → AlikeAfter Alike r q → by_step go stop r ≡ by_step other_go stop q
+  same_step go other_go stop more (Ok a) (Ok b) h = more a.0 b.0 a.1 h.0 ∙ ap (other_go b.0) h.1
+  same_step go other_go stop more (Err e) (Err f) h = ap stop h
+  same_step go other_go stop more r q h = absurd h
 
   same_text : (closing : S → List ℕ) (other_closing : T → List ℕ) → ((s : S) (t : T) → Alike s t → closing s ≡ other_closing t) →
       (lines : List (List ℕ)) (s : S) (t : T) → Alike s t → text_of rules closing s lines ≡ text_of others other_closing t lines
   same_text closing other_closing closes [] s t a = closes s t a
   same_text closing other_closing closes (line ∷ lines) s t a =
-      step_text (λ next. text_of rules closing next lines) (λ next. text_of others other_closing next
-      lines) (same_text closing other_closing closes lines)
+      same_step (λ next reply. reply ++ text_of rules closing next lines) (λ next reply. reply ++ text_of others other_closing next lines) (λ _. [])
+      (λ s t reply a. ap (λ text. reply ++ text) (same_text closing other_closing closes lines s t a))
       (line_step rules s line) (line_step others t line) (line_alike s t line a)
 
   same_fault : (lines : List (List ℕ)) (n : ℕ) (s : S) (t : T) → Alike s t → first_fault rules n s lines ≡ first_fault others n t lines
   same_fault [] n s t a = refl
   same_fault (line ∷ lines) n s t a =
-      step_fault n (λ next. first_fault rules (next_number n) next lines)
-      (λ next. first_fault others (next_number n) next lines) (same_fault lines (next_number n))
+      same_step (λ next reply. first_fault rules (next_number n) next lines) (λ next reply. first_fault others (next_number n) next lines)
+      (λ fault. Some (error_at n fault)) (λ s t reply. same_fault lines (next_number n) s t)
       (line_step rules s line) (line_step others t line) (line_alike s t line a)
 
   -- one text, one list of replies and one fault, for every list of lines

@@ -1,5 +1,5 @@
 -- What `same_state` returns is whether two outcomes are one.
-use Rattle.std.proofs.Common.{◌≡◌, ◌↔◌, ℕ, length, Bool, true, false, cond, ◌==◌, Some, IsTrue, codes, refl, sym, ◌∙◌, ap, arith}
+use Rattle.std.proofs.Common.{◌≡◌, ◌↔◌, ℕ, length, Bool, cond, ◌==◌, Some, IsTrue, codes, refl, sym, ◌∙◌, ap, arith}
 use Rattle.std.specs.Bool.{Decides}
 use Rattle.std.specs.Cmp.Lexicographic.{pointwise}
 use Rattle.std.proofs.lemmas.Bool.Decides.{Decides-eqb, Decides-and, same_from_decides}
@@ -38,18 +38,9 @@ module _ (v u : ReceiverState) where
       let d = outcome_decides (outcome receiver_ops v) (outcome receiver_ops u) in
       same_from_decides same _ ((λ h. outcomes (exact.0 h)), λ h. exact.1 (states h)) d
 
-closing_is : (x : Schedules ReceiverState) (ended : ReceiverState) (same : Bool) → x.ended ≡ Some ended → IsTrue same ↔ IsSameState ended x.present →
-    cond same (codes "same\n") (codes "differs\n") ≡ stream_closing receiver_schedule_ops x
-closing_is x ended same there exact =
-    ap (λ s. cond s (codes "same\n") (codes "differs\n")) (same_decides ended x.present same exact) ∙ ap (comparison_with receiver_schedule_ops x) (sym there)
-
 -- the closing line, as `same_state` returns
-module _ (x y : Schedules ReceiverState) (seen : x ≡ y) (ended : ReceiverState) (same : Bool)
-    (there : x.ended ≡ Some ended) (exact : IsTrue same ↔ IsSameState ended x.present) where
-  pub closing_same : same ≡ true → codes "same\n" ≡ stream_closing receiver_schedule_ops y
-  closing_same h = ap (λ s. cond s (codes "same\n") (codes "differs\n")) (sym h) ∙ closing_is x ended
-      same there exact ∙ ap (stream_closing receiver_schedule_ops) seen
-
-  pub closing_differs : same ≡ false → codes "differs\n" ≡ stream_closing receiver_schedule_ops y
-  closing_differs h = ap (λ s. cond s (codes "same\n") (codes "differs\n")) (sym h) ∙ closing_is x ended
-      same there exact ∙ ap (stream_closing receiver_schedule_ops) seen
+pub closing_line : (x y : Schedules ReceiverState) → x ≡ y → (ended : ReceiverState) (same t : Bool) → x.ended ≡ Some ended →
+    IsTrue same ↔ IsSameState ended x.present → same ≡ t → cond t (codes "same\n") (codes "differs\n") ≡ stream_closing receiver_schedule_ops y
+closing_line x y seen ended same t there exact is =
+    ap (λ s. cond s (codes "same\n") (codes "differs\n")) (sym is ∙ same_decides ended x.present same exact)
+    ∙ ap (comparison_with receiver_schedule_ops x) (sym there) ∙ ap (stream_closing receiver_schedule_ops) seen

@@ -1,14 +1,11 @@
 -- What receivers store in mode stream represents the states of schedules, line by line.
-use Rattle.std.proofs.Common.{◌≡◌, ℕ, [], ◌∷◌, cond, true, false, Option, Some, None, Ok, Err, refl, sym, ◌∙◌, ap, subst}
+use Rattle.std.proofs.Common.{◌≡◌, ℕ, [], ◌∷◌, cond, true, false, Option, Some, None, Ok, Err, refl, ◌∙◌, ap, subst}
 use Rattle.net_receiver.specs.Rules.{CommandValue, Segment, Read, Show, Verdict, KeepsNone, Refuses, Keeps, state_after}
 use Rattle.net_receiver.specs.Schedule.{Setting, KeptState, queue_bytes, kept_ops, kept_after_command, kept_reply}
 use Rattle.net_receiver.specs.ReceiverState.{ReceiverState, receiver_ops, receiver_after_command, receiver_reply, setting, Refines}
 use Rattle.net_receiver.specs.Execution.{FreshRefines, EverySchedule}
 use Rattle.net_bench_lib.specs.Transcript.{transcript}
-use Rattle.net_bench_lib.specs.StreamMode.{StreamCommand, ToReceiver, NextSchedule, end_fits}
-use Rattle.net_bench_lib.specs.StreamMode.{stream_command, reply_text, outcome, comparison, kept_schedule_ops}
-use Rattle.net_bench_lib.specs.StreamMode.{Schedules, first_schedule, after_command, stream_does}
-use Rattle.net_bench_lib.specs.StreamMode.{stream_replies, stream_rules, comparison_with, stream_closing}
+use Rattle.net_bench_lib.specs.StreamMode.{StreamCommand, ToReceiver, NextSchedule, end_fits, stream_command, reply_text, outcome, comparison, kept_schedule_ops, Schedules, first_schedule, after_command, stream_does, stream_replies, stream_rules, comparison_with, stream_closing}
 use Rattle.net_bench_lib.specs.StreamReceivers.{receiver_schedule_ops}
 use Rattle.net_bench_lib.specs.declared.fault.Fault.TheVariants as faults
 use Rattle.net_bench_lib.proofs.SameText.{AlikeAfter, TreatsAlike, same_transcript}
@@ -22,8 +19,7 @@ record RefinesIn (w : Setting) (v : ReceiverState) (s : KeptState) : Type 0 wher
 abbrev EndedAlike : Setting → Option ReceiverState → Option KeptState → Type 0
 EndedAlike w None None = Unit {0}
 EndedAlike w (Some v) (Some s) = RefinesIn w v s
-EndedAlike w None (Some s) = ⊥
-EndedAlike w (Some v) None = ⊥
+EndedAlike w _ _ = ⊥
 
 record Alike (x : Schedules ReceiverState) (y : Schedules KeptState) : Type 0 where
   setting : x.setting ≡ y.setting
@@ -63,29 +59,19 @@ module _ (fresh_refines : FreshRefines) (every : EverySchedule) where
       let queue : v.queue ≡ queue_bytes w.first s = h.state.queue ∙ ap (λ f. queue_bytes f s) first in
       λ i. record { read = h.state.read i; next = next_is i; queue = queue i; held = held_is i }
 
+  -- first schedules
+  begun_alike : (w : Setting) → RefinesIn w (receiver_schedule_ops.begun w) (kept_schedule_ops.begun w)
+  begun_alike w = record { setting = refl; state = fresh_refines w.first w.capacity }
+
   -- a line, where both settings are one
   module _ (w : Setting) (v : ReceiverState) (s : KeptState) (present : RefinesIn w v s) where
-    next_alike : (o : Option ReceiverState) (p : Option KeptState) → EndedAlike w o p →
-        AlikeAfter Alike (stream_does receiver_schedule_ops (record { setting = w; present = v; ended = o })
-        NextSchedule) (stream_does kept_schedule_ops (record { setting = w; present = s; ended = p })
-        NextSchedule)
-    next_alike None None ended = (
-      record {
-        setting = refl;
-        present =
-            record { setting = refl; state = fresh_refines w.first w.capacity };
-        ended = present;
-      },
-      refl,
-    )
-    next_alike (Some u) (Some t) ended = refl
-    next_alike None (Some t) ended = absurd ended
-    next_alike (Some u) None ended = absurd ended
-
     does_alike : (o : Option ReceiverState) (p : Option KeptState) → EndedAlike w o p → (c : StreamCommand) →
         AlikeAfter Alike (stream_does receiver_schedule_ops (record { setting = w; present = v; ended = o }) c)
         (stream_does kept_schedule_ops (record { setting = w; present = s; ended = p }) c)
-    does_alike o p ended NextSchedule = next_alike o p ended
+    does_alike None None ended NextSchedule = (record { setting = refl; present = begun_alike w; ended = present }, refl)
+    does_alike (Some u) (Some t) ended NextSchedule = refl
+    does_alike None (Some t) ended c = absurd ended
+    does_alike (Some u) None ended c = absurd ended
     does_alike o p ended (ToReceiver c) =
         elim (end_fits c) as (λ fits. AlikeAfter Alike (cond fits
         (Ok (after_command receiver_schedule_ops (record { setting = w; present = v; ended = o }) c))
@@ -106,25 +92,17 @@ module _ (fresh_refines : FreshRefines) (every : EverySchedule) where
         (record { setting = w; present = s; ended = p }) p
     compared_alike None None ended = refl
     compared_alike (Some u) (Some t) ended = λ i. comparison (same_outcome_there w u t ended i) (same_outcome_there w v s present i)
-    compared_alike None (Some t) ended = absurd ended
-    compared_alike (Some u) None ended = absurd ended
+    compared_alike _ _ ended = absurd ended
+
+  one_setting : (x : Schedules ReceiverState) (y : Schedules KeptState) → Alike x y → x ≡ record x { setting = y.setting }
+  one_setting x y a = λ i. record x { setting = a.setting i }
 
   lines_alike : TreatsAlike Alike (stream_rules receiver_schedule_ops) (stream_rules kept_schedule_ops)
   lines_alike x y words a =
-      subst (λ w. AlikeAfter Alike (stream_rules receiver_schedule_ops (record
-      { setting = w; present = x.present; ended = x.ended }) words)
-      (stream_rules kept_schedule_ops y words)) (sym a.setting)
-      (replies_alike y.setting x.present y.present a.present x.ended y.ended a.ended (stream_command words))
+      rw (one_setting x y a) (replies_alike y.setting x.present y.present a.present x.ended y.ended a.ended (stream_command words))
 
   closings_alike : (x : Schedules ReceiverState) (y : Schedules KeptState) → Alike x y → stream_closing receiver_schedule_ops x ≡ stream_closing kept_schedule_ops y
-  closings_alike x y a =
-      subst (λ w. stream_closing receiver_schedule_ops (record {
-        setting = w;
-        present = x.present;
-        ended =
-            x.ended;
-      }) ≡ stream_closing kept_schedule_ops y) (sym a.setting)
-      (compared_alike y.setting x.present y.present a.present x.ended y.ended a.ended)
+  closings_alike x y a = rw (one_setting x y a) (compared_alike y.setting x.present y.present a.present x.ended y.ended a.ended)
 
   -- what is written for what is stored is what is written for the schedules' states
   pub receiver_transcript : (w : Setting) → transcript (stream_rules receiver_schedule_ops) (stream_closing receiver_schedule_ops)
@@ -134,4 +112,4 @@ module _ (fresh_refines : FreshRefines) (every : EverySchedule) where
       same_transcript Alike (stream_rules receiver_schedule_ops) (stream_rules kept_schedule_ops) lines_alike
       (stream_closing receiver_schedule_ops) (stream_closing kept_schedule_ops) closings_alike
       1 (first_schedule receiver_schedule_ops w) (first_schedule kept_schedule_ops w)
-      (record { setting = refl; present = record { setting = refl; state = fresh_refines w.first w.capacity }; ended = tt })
+      (record { setting = refl; present = begun_alike w; ended = tt })

@@ -2,7 +2,7 @@ use Rattle.std.proofs.Common.{◌≡◌, ◌==◌, false}
 use Rattle.std.proofs.lemmas.Result.{err_from_is_err_and, IfErr-weaker}
 use Rattle.std.proofs.lemmas.List.Elements.{All-append}
 use Rattle.net_bench_lib.specs.Progress.{outlet}
-use Rattle.net_bench_lib.proofs.LineParts.{feed-found, feed-nowhere}
+use Rattle.net_bench_lib.proofs.LineParts.{found, not_found}
 use Rattle.net_bench_lib.proofs.Progress.{AfterLines-none, AfterLines-more, AfterLines-err, AfterLines-long}
 use Rattle.net_bench_lib.proofs.bench.Bench.run_ended_lines.Goals as goal
 
@@ -10,7 +10,7 @@ pub lines-init : goal.lines-init
 lines-init g c = AfterLines-none g.S.Session.rules c.args.bytes.now _ _
 
 pub end_line-requires : goal.end_line-requires
-end_line-requires g c = (feed-found c.lines.rest.now c.in-Some.at c.in-Some.ensures).2
+end_line-requires g c = (found 10 c.lines.rest.now c.in-Some.at c.in-Some.ensures).2
 
 pub returns-in_err-end_line-clause-err : goal.returns-in_err-end_line-clause-err
 returns-in_err-end_line-clause-err g c =
@@ -26,7 +26,7 @@ lines-preserved g c =
     c.lines.invariant c.in-Some.ensures c.lines.self.unended c.in_ok-end_line.ensures.ok
 
 pub store-requires : goal.store-requires
-store-requires g c = feed-nowhere c.lines.rest.now c.in_default.ensures
+store-requires g c = not_found 10 c.lines.rest.now c.in_default.ensures
 
 pub returns-clause-err : goal.returns-clause-err
 returns-clause-err g c =
@@ -34,5 +34,5 @@ returns-clause-err g c =
     (λ e h more. rw c.store.ensures.replies (AfterLines-long g.S.Session.rules g.S.Session.closing
     c.args.bytes.now c.lines.rest.now _ _ more _ _ e c.lines.invariant
     (All-append (λ b. (b == 10) ≡ false) c.lines.self.line.items c.lines.rest.now c.lines.self.unended
-    (feed-nowhere c.lines.rest.now c.in_default.ensures)) h))
+    (not_found 10 c.lines.rest.now c.in_default.ensures)) h))
     c.store.ensures.err
