@@ -1,39 +1,33 @@
 -- What a round delivers, and how many rounds a copy makes, where nothing is lost or delayed.
-use Rattle.std.proofs.Common.{◌≡◌, ℕ, ◌+◌, ◌≤◌, ◌<◌, ◌^◌, nat_lt, true, false, List, [], ◌∷◌, ◌++◌, length, All, Some}
-use Rattle.std.proofs.Common.{sym, ap, subst, ◌∙◌, arith, le_trans, length-take, length-append, append_assoc, suc, ◌-◌}
-use Rattle.std.proofs.Common.{◌*◌, min, cond, take, refl, ⊎_elim, length-drop, drop, zero, nat_eq}
+use Rattle.std.proofs.Common.{◌≡◌, ℕ, ◌+◌, ◌≤◌, ◌<◌, ◌^◌, nat_lt, true, false, List, [], ◌∷◌, ◌++◌, length, All, Some, sym, ap, subst, ◌∙◌, arith, le_trans, length-take, length-append, append_assoc, suc, ◌-◌, ◌*◌, min, cond, take, refl, length-drop, drop, zero, nat_eq}
 use Rattle.std.proofs.Math.Seq.{drop-append_seam}
 use Rattle.std.proofs.lemmas.Bool.{ltb-false, both_ways, cond-true, eq-eqb, ltb-true}
 use Rattle.std.proofs.lemmas.List.Elements.{All-head, All-tail, All-drop}
+use Rattle.net_assembler.proofs.Positions.{either}
 use Rattle.net_receiver.specs.Rules.{Segment}
-use Rattle.net_receiver.specs.ReceiverState.{ReceiverState, IsSound, next_position, receiver_after_command, domain}
+use Rattle.net_receiver.specs.ReceiverState.{ReceiverState, IsSound, next_position, receiver_after_command, domain, limit_of}
 use Rattle.net_receiver.specs.OneStream.{MatchesStream, ReceivesFrom}
 use Rattle.net_receiver.specs.Retransmission.{HasByteAt}
 use Rattle.net_stream_model.specs.SenderState.{end_of, at_least_one, SenderState, contiguous_end, stop_of}
 use Rattle.net_stream_model.specs.Frames.{Part, frame_of, frames_from, part_bytes, segment_of, FrameMatches}
-use Rattle.net_stream_model.specs.SackBlocks.{most_sack_blocks, is_sacked, count_from, next_start, greatest_end}
-use Rattle.net_stream_model.specs.SackBlocks.{is_full, block_bytes, blocks_of}
+use Rattle.net_stream_model.specs.SackBlocks.{most_sack_blocks, is_sacked, count_from, next_start, greatest_end, is_full, block_bytes, blocks_of}
 use Rattle.net_stream_model.specs.Fates.{NextCome, AllCome}
 use Rattle.net_stream_model.specs.PathState.{receiver_after, PathState}
 use Rattle.net_stream_model.specs.LinkInvariant.{HasAllOf, LinkInvariant}
 use Rattle.net_stream_model.specs.Transmission.{AreSparedIfSacked, HasSize, part_end, HaveEnds, SendsRound}
-use Rattle.net_receiver.specs.ReceiverState.{limit_of}
 use Rattle.net_stream_model.specs.Arrivals.{receiver_after_all}
 use Rattle.net_stream_model.specs.Round.{HasRoomFor, Passes, RoundDelivers}
 use Rattle.net_stream_model.specs.LinkState.{LinkState, round, next_burst}
 use Rattle.net_stream_model.specs.Facts.{RoundFacts}
-use Rattle.net_stream_model.proofs.Kept.{at_parts, round_keeps_invariant, held_within, in_stream, contains_held}
-use Rattle.net_stream_model.proofs.Kept.{ranges_stop}
+use Rattle.net_stream_model.proofs.Kept.{at_parts, round_keeps_invariant, held_within, in_stream, contains_held, ranges_stop}
 use Rattle.net_stream_model.proofs.Steps.{split, all_arrive, brought_append, says_ends, no_gap, next_come}
 use Rattle.net_stream_model.proofs.Passed.{round_sends}
-use Rattle.net_stream_model.proofs.Stuck.{coming_all, head_meets, arrived_grows, arrived_limit, brought_grows}
-use Rattle.net_stream_model.proofs.Stuck.{brought_limit, round_keeps, all_after}
+use Rattle.net_stream_model.proofs.Stuck.{coming_all, head_meets, arrived_grows, arrived_limit, brought_grows, brought_limit, round_keeps, all_after}
 use Rattle.net_stream_model.proofs.Sent.{all_sent}
 use Rattle.net_stream_model.proofs.StuckRounds.{enough_rounds, rounds_at_once, all_sound, Stays, all_stays, fed_stays, at_end, done_none}
 use Rattle.net_assembler.specs.Positions.{IsMaximalRun, maximal_runs}
 use Rattle.net_stream_model.specs.Streams.{LinkInvariantFits, Writes}
-use Rattle.net_stream_model.specs.CopyState.{Setup, CopyState, Running, Done, is_written, room_for, with_read, waited}
-use Rattle.net_stream_model.specs.CopyState.{pass, turn, after}
+use Rattle.net_stream_model.specs.CopyState.{Setup, CopyState, Running, Done, begin, is_written, room_for, with_read, waited, pass, turn, after}
 use Rattle.net_stream_model.specs.Promises.{most_read, HasRoomAtOnce, ExactRounds}
 use Rattle.net_stream_model.proofs.Turns.{written_from, asks, asks_from, fed_by, ends, GoesOn, goes_on}
 use Rattle.net_stream_model.proofs.Written.{one_end}
@@ -82,17 +76,17 @@ module _ (known : RoundFacts) (s : LinkState) (p : Passes s (round s)) (sound : 
       All (FrameMatches f w) p.sent.in_flight →
       (s.sender.first_unacknowledged + p.n ≤ next_position (round s).receiver) × ((round s).sender.first_unacknowledged ≡ next_position (round s).receiver)
       × (p.n ≡ length s.sender.queue → (next_position (round s).receiver ≡ end_of s.sender) × (length (round s).sender.queue ≡ 0))
-  delivers f w carries room come come_reverse says =
+  delivers f w carries room arrive come_reverse says =
       let m = round s in
       let r = s.receiver in
       let before = s.forward.delayed ++ s.forward.in_flight in
       let r1 = receiver_after_all most_sack_blocks r before in
       let frames = frames_from s.sender.first_unacknowledged p.all.prefix.parts in
       let sent : p.sent.in_flight ≡ s.forward.in_flight ++ frames = ap (λ t. t.in_flight) p.all.prefix.sent in
-      let came : p.came ≡ before ++ frames = p.coming ∙ ap (λ l. s.forward.delayed ++ l) (coming_all s.forward.fates p.sent.in_flight come ∙ sent)
+      let arrived : p.arrived ≡ before ++ frames = p.coming ∙ ap (λ l. s.forward.delayed ++ l) (coming_all s.forward.fates p.sent.in_flight arrive ∙ sent)
       ∙ sym (append_assoc s.forward.delayed s.forward.in_flight frames) in
       let received : m.receiver ≡ receiver_after_all most_sack_blocks r1 frames =
-      p.received ∙ ap (receiver_after_all most_sack_blocks r) came ∙ brought_append most_sack_blocks r before frames in
+      p.received ∙ ap (receiver_after_all most_sack_blocks r) arrived ∙ brought_append most_sack_blocks r before frames in
       let grows = brought_grows known most_sack_blocks r before in
       let limit = brought_limit known most_sack_blocks r before in
       let size : length (part_bytes p.all.prefix.parts) ≡ p.n = omega (arith, ap length p.all.prefix.all, length-take p.n s.sender.queue) in
@@ -113,7 +107,7 @@ round_delivers known s counted sound fits =
     let p = round.passes in
     record {
       passed = p;
-      delivers = λ f w carries room come come_reverse. delivers known s p sound fits f w carries room come come_reverse
+      delivers = λ f w carries room arrive come_reverse. delivers known s p sound fits f w carries room arrive come_reverse
           (subst (All (FrameMatches f w)) (sym round.in_flight) (at_parts known.stream f w (length s.sender.queue) s (record { way = carries; fits = fits })).carries.way.coming);
       all = all_sent s.sender (at_least_one s.payload) (at_least_one s.burst) p.n s.forward p.sent p.all;
     }
@@ -146,17 +140,13 @@ module _ (v : SenderState) (most : ℕ) (none : v.sack_blocks ≡ []) (far : end
   -- so that enough frames send all
   pub all_parts : (burst n : ℕ) (old new : PathState) → SendsRound v most burst n old new → length v.queue ≤ burst * most → n ≡ length v.queue
   all_parts burst n old new sent few =
-      ⊎_elim {C = n ≡ length v.queue}
-      (λ (l : stop_of v ≤ v.first_unacknowledged + n).
+      either sent.stop
+      (λ l.
       let stop : stop_of v ≡ end_of v = (λ i. cond (is_full (none i)) (min (end_of v) (greatest_end (none i) v.first_unacknowledged + 1)) (end_of v)) in
       omega arith)
-      (λ (l : length (frames_from v.first_unacknowledged sent.prefix.parts) ≡ burst).
+      (λ l.
       let reach = parts_far v.first_unacknowledged sent.prefix.parts sent.prefix.sizes sent.prefix.marked sent.prefix.ends in
-      let size : length (part_bytes sent.prefix.parts) ≡ n = ap length sent.prefix.all ∙ (let e : length (take n v.queue) ≡ n = omega (arith, length-take n v.queue) in e) in
-      let enough : min (end_of v) (v.first_unacknowledged + burst * most) ≤ v.first_unacknowledged + n =
-      subst (λ k. min (end_of v) (v.first_unacknowledged + k * most) ≤ v.first_unacknowledged + n) l (subst (λ k. min (end_of v) (v.first_unacknowledged + length (frames_from v.first_unacknowledged sent.prefix.parts) * most) ≤ v.first_unacknowledged + k) size reach) in
-      omega arith)
-      sent.stop
+      omega (arith, reach, ap (λ k. k * most) l, ap length sent.prefix.all, length-take n v.queue))
 
 -- a receiver that has all of the stream holds nothing
 no_runs : (known : RoundFacts) (f : ℕ) (w : List ℕ) (r : ReceiverState) → IsSound most_sack_blocks r →
@@ -173,37 +163,27 @@ no_runs known f w r sound from all = by (maximal_runs (domain r.held)) (known.st
         let high = held_within known.stream f w r run.0 from held in
         absurd (omega arith)
 
--- a round that has room for all
-pub record DeliversAll (l m : LinkState) : Type 0 where
-  pub next : next_position m.receiver ≡ end_of l.sender
-  pub queue : length m.sender.queue ≡ 0
-  pub first_unacknowledged : m.sender.first_unacknowledged ≡ next_position m.receiver
-  pub sack_blocks : m.sender.sack_blocks ≡ []
-
+-- a round that has room for all delivers all
 pub delivers_all : RoundFacts → (f : ℕ) (w : List ℕ) (l : LinkState) → l.counts.payload < 2 ^ 64 → IsSound most_sack_blocks l.receiver →
     IsSound most_sack_blocks (round l).receiver → LinkInvariantFits f w l →
     l.sender.sack_blocks ≡ [] → end_of l.sender ≤ l.sender.wraps_at → length l.sender.queue ≤ at_least_one l.burst * at_least_one l.payload → HasRoomFor l →
-    AllCome l.forward.fates → AllCome l.reverse.fates → DeliversAll l (round l)
-delivers_all known f w l counted sound sound_after h none far few room come come_reverse =
+    AllCome l.forward.fates → AllCome l.reverse.fates → (let m = round l in (next_position m.receiver ≡ end_of l.sender) × (length m.sender.queue ≡ 0)
+    × (m.sender.first_unacknowledged ≡ next_position m.receiver) × (m.sender.sack_blocks ≡ []))
+delivers_all known f w l counted sound sound_after h none far few room arrive come_reverse =
     let m = round l in
     let one = round_delivers known l counted sound h.fits in
     let p = one.passed in
     let come_acks = next_come (length p.acks) l.reverse.fates come_reverse in
-    let brought = one.delivers f w h.way room (next_come (length p.sent.in_flight) l.forward.fates come) come_acks in
+    let brought = one.delivers f w h.way room (next_come (length p.sent.in_flight) l.forward.fates arrive) come_acks in
     let all = brought.2 (all_parts l.sender (at_least_one l.payload) none far (at_least_one l.burst) p.n l.forward p.sent p.all few) in
     let after = round_keeps_invariant known.stream f w l h in
     let runs = no_runs known f w m.receiver sound_after after.way.receives (omega arith) in
     let met = head_meets known l m p come_acks after.way.behind (omega arith) h.fits in
-    record {
-      next = all.0;
-      queue = all.1;
-      first_unacknowledged = brought.1;
-      sack_blocks = ap (λ v. v.sack_blocks) met.1 ∙ ap (λ k. blocks_of most_sack_blocks (block_bytes (take most_sack_blocks k))) runs
-          ∙ ranges_stop most_sack_blocks [] refl;
-    }
+    let blocks = ap (λ k. blocks_of most_sack_blocks (block_bytes (take most_sack_blocks k))) runs ∙ ranges_stop most_sack_blocks [] refl in
+    (all.0, all.1, brought.1, ap (λ v. v.sack_blocks) met.1 ∙ blocks)
 
 -- ---- turns
-module _ (known : RoundFacts) (s : Setup) (bytes : List ℕ) (has : HasRoomAtOnce s) (fits : s.first + length bytes < 2 ^ 64 - 1) (come : AllCome s.fates)
+module _ (known : RoundFacts) (s : Setup) (bytes : List ℕ) (has : HasRoomAtOnce s) (fits : s.first + length bytes < 2 ^ 64 - 1) (arrive : AllCome s.fates)
     (come_reverse : AllCome s.ack_fates) where
   abbrev reads : List (List ℕ)
   reads = bytes ∷ [] ∷ []
@@ -228,12 +208,8 @@ module _ (known : RoundFacts) (s : Setup) (bytes : List ℕ) (has : HasRoomAtOnc
     few : length c.given ≤ length bytes
     ahead : Ahead c c.reads
 
-  is_all_written : (c : CopyState) → SoFar known.stream s reads c → Ready c → is_written c.link ≡ true
-  is_all_written c was h = written_from c.link (omega arith) h.empty
-
   le_times : (r k : ℕ) → 0 < k → r ≤ r * k
-  le_times r zero some = absurd (omega arith)
-  le_times r (suc k) some = omega arith
+  le_times r k some = grind arith
 
   -- a round of all that was read
   passed_ready : (c : CopyState) (rest : List ℕ) (last : List (List ℕ)) → 0 < length rest → Stays known s c.link → (h : Ready c) →
@@ -266,19 +242,19 @@ module _ (known : RoundFacts) (s : Setup) (bytes : List ℕ) (has : HasRoomAtOnc
       let p = (round_sends l stays.payload).passes in
       let keeps = round_keeps l m p known in
       let one = delivers_all known s.first e.given l stays.payload stays.sound
-      (subst (IsSound most_sack_blocks) (sym p.received) (all_sound known.sound l.receiver p.came stays.sound))
+      (subst (IsSound most_sack_blocks) (sym p.received) (all_sound known.sound l.receiver p.arrived stays.sound))
       (record { way = w.carries.way; fits = w.carries.fits }) h.sack_blocks (omega (arith, wrap_is, queue_is, few_taken)) few
       (omega (arith, queue_is, few_taken))
-      (subst AllCome (sym stays.met.left) (all_after stays.met.frames s.fates come)) (subst AllCome (sym stays.met.left_reverse) (all_after stays.met.acks s.ack_fates come_reverse)) in
+      (subst AllCome (sym stays.met.left) (all_after stays.met.frames s.fates arrive)) (subst AllCome (sym stays.met.left_reverse) (all_after stays.met.acks s.ack_fates come_reverse)) in
       let size : length m.receiver.queue ≡ length taken = omega (arith, queue_is) in
       let left = length-drop s.chunk m.receiver.queue in
       let word : c.rounds < 2 ^ 64 - 1 = (let r = le_times c.rounds k has_some in omega (arith, r, exact, all, some, fits)) in
       let rounds_is : (pass s.chunk e).rounds ≡ c.rounds + 1 = omega arith in
       let burst_is : next_burst l.max_burst l.burst (is_full m.sender.sack_blocks) ≡ at_least_one s.max_burst =
-      (λ i. next_burst (h.max_burst i) (h.burst i) (is_full (one.sack_blocks i))) ∙ (let same : min (at_least_one s.max_burst) (at_least_one s.max_burst + most_sack_blocks) ≡ at_least_one s.max_burst = omega arith in same) in
+      (λ i. next_burst (h.max_burst i) (h.burst i) (is_full (one.3 i))) ∙ (let same : min (at_least_one s.max_burst) (at_least_one s.max_burst + most_sack_blocks) ≡ at_least_one s.max_burst = omega arith in same) in
       record {
-        queue = one.queue;
-        sack_blocks = one.sack_blocks;
+        queue = one.1;
+        sack_blocks = one.3;
         empty = omega (arith, left, size, few_taken);
         head = omega (arith, left);
         burst = p.burst ∙ burst_is;
@@ -300,7 +276,7 @@ module _ (known : RoundFacts) (s : Setup) (bytes : List ℕ) (has : HasRoomAtOnc
   one_ready : (c : CopyState) → SoFar known.stream s reads c → Stays known s c.link → Ready c →
       GoesOn s.rounds s.chunk c → Ready (turn s.rounds s.chunk c)
   one_ready c was stays h one =
-      let all = is_all_written c was h in
+      let all : is_written c.link ≡ true = written_from c.link (omega arith) h.empty in
       let P : CopyState → Type 0 = λ d. Writes s.first d.given d → Stays known s d.link → ends d ≡ false → Ready (pass s.chunk d) in
       subst Ready (sym one.is) (fed_by P s.chunk c (λ _ is. absurd (subst (Ahead c) is h.ahead))
       (λ rest _ _ _ _ on. absurd (both_ways (is_written c.link) on all))
@@ -312,37 +288,22 @@ module _ (known : RoundFacts) (s : Setup) (bytes : List ℕ) (has : HasRoomAtOnc
       (fed_so_far known.stream s reads c was).writes (fed_stays known s c stays) one.on)
 
   ready : (n : ℕ) → (after s reads n).status ≡ Running → Ready (after s reads n)
-  ready zero on = record {
-    queue = refl;
-    sack_blocks = refl;
-    empty = refl;
-    head = (let e : s.first ≡ s.first + 0 + 0 = omega arith in e);
-    burst = refl;
-    max_burst = refl;
-    payload = refl;
-    more = refl;
-    low = omega arith;
-    high = (let some = has.some in omega arith);
-    few = omega arith;
-    ahead = (omega arith, λ some. (refl, omega arith));
-  }
+  ready zero on =
+      let some = has.some in
+      let ahead : Ahead (begin s reads) reads = (omega arith, λ long. (refl, omega arith)) in
+      search arith
   ready (suc n) on =
       let c = after s reads n in
       let one = goes_on s.rounds s.chunk c on in
       one_ready c (so_far known.stream s reads (omega arith) n) (all_stays known s reads n) (ready n one.before) one
 
 pub exact_rounds : RoundFacts → ExactRounds
-exact_rounds known s bytes n has fits come come_reverse done =
+exact_rounds known s bytes n has fits arrive come_reverse done =
     at_end s (bytes ∷ [] ∷ []) (λ c. (length bytes ≤ c.rounds * most_read s) × (c.rounds * most_read s < length bytes + most_read s)) Done (λ (e : Done ≡ Running). cc)
     (λ m on is.
-    let reads = bytes ∷ [] ∷ [] in
-    let h = ready known s bytes has fits come come_reverse m on in
-    let same = done_none s.rounds s.chunk (after s reads m) on is in
-    let was = so_far known.stream s reads (omega arith) (suc m) in
-    let given : length (after s reads (suc m)).given ≡ length bytes = ap length (was.over (was.done is).0) ∙ ap length (one_end bytes).1 in
-    let all : length (after s reads m).given ≡ length bytes = sym same.0 ∙ given in
-    subst (λ r. (length bytes ≤ r * most_read s) × (r * most_read s < length bytes + most_read s)) (sym same.1)
-    (subst (λ b. (b ≤ (after s reads m).rounds * most_read s) × ((after s reads m).rounds * most_read s < b + most_read s)) all (h.low, h.high)))
-    n done
+    let h = ready known s bytes has fits arrive come_reverse m on in
+    let same = done_none s.rounds s.chunk (after s (bytes ∷ [] ∷ []) m) on is in
+    let was = so_far known.stream s (bytes ∷ [] ∷ []) (omega arith) (suc m) in
+    omega (arith, ap length (was.over (was.done is).0), ap length (one_end bytes).1, ap (λ r. r * most_read s) same.1, same.0, h.low, h.high)) n done
 
 pub ruleset laws_of_rounds = (enough_rounds, rounds_at_once, exact_rounds)

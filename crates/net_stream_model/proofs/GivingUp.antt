@@ -1,7 +1,6 @@
 -- Why a copy gave up.
-use Rattle.std.proofs.Common.{◌≡◌, ℕ, zero, suc, ◌+◌, ◌-◌, ◌<◌, ◌^◌, min, inl, inr, ◌∷◌, [], length, Ok, Err, sym, ap, ◌∙◌, arith}
-use Rattle.std.proofs.Common.{length-append, subst, refl}
-use Rattle.net_stream_model.specs.declared.error.CopyError.TheVariants.{GaveUp, OutOfMemory, ReadFailed, WriteFailed}
+use Rattle.std.proofs.Common.{◌≡◌, ℕ, zero, suc, ◌-◌, ◌<◌, ◌^◌, min, inl, inr, ◌∷◌, [], length, Ok, Err, sym, ap, ◌∙◌, arith, length-append, subst, refl}
+use Rattle.net_stream_model.specs.declared.error.CopyError.TheVariants.{GaveUp}
 use Rattle.net_stream_model.specs.LinkState.{times}
 use Rattle.net_stream_model.specs.CopyState.{CopyState, begin, turn, after, outcome}
 use Rattle.net_stream_model.specs.CopyResult.{counts_after}
@@ -42,6 +41,4 @@ module _ (known : RoundFacts) where
   results_fail T s (Err GaveUp) reads told reader reader' writer writer' counts (inl h) =
       λ _. rounds_fail s reads told reader reader' writer writer' counts h
   results_fail T s (Err GaveUp) reads told reader reader' writer writer' counts (inr h) = absurd (let e = h.0 in cc)
-  results_fail T s (Err OutOfMemory) reads told reader reader' writer writer' counts h = λ e. absurd (cc)
-  results_fail T s (Err ReadFailed) reads told reader reader' writer writer' counts h = λ e. absurd (cc)
-  results_fail T s (Err WriteFailed) reads told reader reader' writer writer' counts h = λ e. absurd (cc)
+  results_fail T s (Err error) reads told reader reader' writer writer' counts h = λ e. absurd (cc)

@@ -1,12 +1,9 @@
 -- The invariant of a link, and that each step of a round keeps it.
-use Rattle.std.proofs.Common.{◌≡◌, ℕ, List, ◌≤◌, false, [], ◌++◌, All, Option, Some, refl, sym, ap, subst, le_trans}
-use Rattle.std.proofs.Common.{arith, Bool, not, cond, min, ◌||◌, zero, suc, ◌+◌, ◌-◌, ◌<◌, ◌^◌, nat_eq, true, ◌∷◌}
-use Rattle.std.proofs.Common.{length, take, drop, None, inr, ◌∙◌, append_assoc, take-add, length-drop, nat_lt}
-use Rattle.std.proofs.Common.{length-take}
+use Rattle.std.proofs.Common.{◌≡◌, ℕ, List, ◌≤◌, false, [], ◌++◌, All, Option, Some, refl, sym, ap, subst, le_trans, arith, Bool, not, cond, min, ◌||◌, zero, suc, ◌+◌, ◌-◌, ◌<◌, ◌^◌, nat_eq, true, ◌∷◌, length, take, drop, None, inr, ◌∙◌, append_assoc, take-add, length-drop, nat_lt, length-take}
 use Rattle.net_receiver.specs.ReceiverState.{ReceiverState, next_position, HeldBytes, domain}
 use Rattle.net_receiver.specs.OneStream.{ReceivesFrom, QueueIsOf, QueueIsOfStream, MatchesLonger, ReceivesFromLonger}
 use Rattle.std.proofs.lemmas.Bool.{both_ways, false≢true}
-use Rattle.std.proofs.lemmas.List.Elements.{All-nil, All-weaker, All-head, All-tail, All-push, All-take}
+use Rattle.std.proofs.lemmas.List.Elements.{All-nil, All-same, All-weaker, All-head, All-tail, All-push, All-take}
 use Rattle.net_receiver.specs.Retransmission.{HasByteAt}
 use Rattle.net_stream_model.specs.SenderState.{SenderState, Sends, end_of, sender_from}
 use Rattle.net_stream_model.specs.Frames.{FrameMatches, frame_of, FramesDecode, segment_of}
@@ -20,9 +17,8 @@ use Rattle.std.proofs.lemmas.Bool.Decides.{nat_tests}
 use Rattle.std.proofs.lemmas.List.{append-nil, take_all, drop-drop, take-take}
 use Rattle.std.proofs.lemmas.List.Sums.{sum_by-append}
 use Rattle.net_assembler.specs.Positions.{Positions, contains, lies_in, IsMaximalRun, maximal_runs}
-use Rattle.net_assembler.specs.AssemblerLaws.{MembersOfList, MaximalRunsOfEverySet}
-use Rattle.net_stream_model.specs.SackBlocks.{is_sacked, count_outside, most_sack_blocks, block_bytes, block_to}
-use Rattle.net_stream_model.specs.SackBlocks.{block_from, first_block, with_more, blocks_of}
+use Rattle.net_assembler.specs.AssemblerLaws.{MembersOfList}
+use Rattle.net_stream_model.specs.SackBlocks.{is_sacked, count_outside, most_sack_blocks, block_bytes, block_to, block_from, first_block, with_more, blocks_of}
 use Rattle.net_stream_model.specs.Transmission.{IsSackedIf}
 use Rattle.net_stream_model.specs.Counts.{with_payload}
 use Rattle.net_stream_model.specs.declared.counts.FrameCounts.{FrameCounts}
@@ -30,15 +26,12 @@ use Rattle.std.specs.Option.{is_some}
 use Rattle.std.proofs.lemmas.Option.{slice_get_within}
 use Rattle.net_receiver.specs.Rules.{Segment}
 use Rattle.net_stream_model.specs.declared.fate.Fate.{Fate}
-use Rattle.net_stream_model.specs.Fates.{next_fate, comes, comes_delayed}
-use Rattle.net_stream_model.specs.LinkState.{LinkState, times, Cursor, start, frame_len, send, part, take_in, come}
-use Rattle.net_stream_model.specs.LinkState.{came, meet, take_frame, acknowledge, came_ack, meet_ack, take_ack, round}
-use Rattle.net_stream_model.specs.LinkState.{StopsRound}
+use Rattle.net_stream_model.specs.Fates.{next_fate, arrives, arrives_later}
+use Rattle.net_stream_model.specs.LinkState.{LinkState, times, Cursor, start, frame_len, send, part, take_in, arrive, arrived, apply_fate, take_frame, acknowledge_all, acknowledge, arrived_ack, apply_ack_fate, take_ack, round, StopsRound}
 use Rattle.net_stream_model.specs.Facts.{StreamFacts}
 use Rattle.net_stream_model.specs.Streams.{LinkInvariantFits}
 use Rattle.net_stream_model.proofs.Sent.{lent_says, stop_within}
-use Rattle.net_stream_model.proofs.Steps.{by_keeps_end, arrives, heard, keeps, split, by_part, StepsKeep, round_kept}
-use Rattle.net_stream_model.proofs.Steps.{stop_kept}
+use Rattle.net_stream_model.proofs.Steps.{by_keeps_end, taken_in, heard, keeps, split, by_part, StepsKeep, round_kept, stop_kept}
 use Rattle.std.specs.FinMap as fin
 
 -- it begins where the stream does
@@ -67,16 +60,15 @@ module _ (f : ℕ) (w : List ℕ) where
 pub begun : (f : ℕ) (s : SenderState) (r : ReceiverState) (forward reverse : PathState) → Sends f [] s →
     s.first_unacknowledged ≡ f → s.sack_blocks ≡ [] → ReceivesFrom f [] r → r.first ≡ f →
     forward.in_flight ≡ [] → forward.delayed ≡ [] → reverse.in_flight ≡ [] → reverse.delayed ≡ [] → PartsInvariant f [] s r forward reverse
-begun f s r forward reverse sends head none_sacked receives from none none_delayed none_reverse none_delayed_reverse = record {
-  sends = sends;
-  receives = receives;
-  coming = subst (All (FrameMatches f [])) (sym none) (All-nil (FrameMatches f []));
-  delayed = subst (All (FrameMatches f [])) (sym none_delayed) (All-nil (FrameMatches f []));
-  in_flight_reverse = subst (All (AckMatches r)) (sym none_reverse) (All-nil (AckMatches r));
-  delayed_reverse = subst (All (AckMatches r)) (sym none_delayed_reverse) (All-nil (AckMatches r));
-  behind = omega arith;
-  sack_blocks = subst (HasAllOf r) (sym none_sacked) (λ p h. absurd (both_ways false refl h));
-}
+begun f s r forward reverse sends head none_sacked receives from none none_delayed none_reverse none_delayed_reverse =
+    let sack_blocks : HasAllOf r s.sack_blocks = subst (HasAllOf r) (sym none_sacked) (λ p h. absurd (both_ways false refl h)) in
+    let behind : s.first_unacknowledged ≤ next_position r = omega arith in
+    assumption (
+      All-same (FrameMatches f []) _ [] none (All-nil (FrameMatches f [])),
+      All-same (FrameMatches f []) _ [] none_delayed (All-nil (FrameMatches f [])),
+      All-same (AckMatches r) _ [] none_reverse (All-nil (AckMatches r)),
+      All-same (AckMatches r) _ [] none_delayed_reverse (All-nil (AckMatches r)),
+    )
 
 -- more was written
 pub written : MatchesLonger → ReceivesFromLonger →
@@ -168,18 +160,6 @@ same_tests (k ∷ ks) q = λ i. unsigned_tied q k i || same_tests ks q i
 pub contains_held : MembersOfList → (m : HeldBytes) (q : ℕ) → contains (domain m) q ≡ fin.contains_key m q
 contains_held members m q = members (fin.keys m) q ∙ sym (fin.contains_key-keys m q ∙ same_tests (fin.keys m) q)
 
--- the acknowledgement of a receiver tells only of what it holds
-pub ack_tells : FramesDecode → MembersOfList → MaximalRunsOfEverySet → (r : ReceiverState) → next_position r < 2 ^ 64 →
-    length (take most_sack_blocks (maximal_runs (domain r.held))) ≤ most_sack_blocks →
-    All IsWords (take most_sack_blocks (maximal_runs (domain r.held))) → AckMatches r (ack_of r)
-ack_tells trip members maximal r word few words = λ n xs at.
-    let runs = maximal_runs (domain r.held) in
-    let rs = take most_sack_blocks runs in
-    let e = same_parts (next_position r) n (block_bytes rs) xs (sym (trip (next_position r) (block_bytes rs) word) ∙ at) in
-    let has : HasAllOf r rs = λ p h. inr (sym (contains_held members r.held p)
-    ∙ in_run (domain r.held) p most_sack_blocks runs (maximal (domain r.held)).maximal h) in
-    (omega arith, subst (HasAllOf r) (sym (ranges_listed trip most_sack_blocks rs words few) ∙ ap (blocks_of most_sack_blocks) e.1) has)
-
 -- ---- how many positions are in no SACK block
 count_more : (ranges : List (ℕ × ℕ)) (a n : ℕ) →
     count_outside ranges a (suc n) ≡ cond (is_sacked ranges a) 0 1 + count_outside ranges (a + 1) n
@@ -189,12 +169,9 @@ count_more ranges a n =
 count_both : (ranges : List (ℕ × ℕ)) (a k n : ℕ) → count_outside ranges a (k + n) ≡ count_outside ranges a k + count_outside ranges (a + k) n
 count_both ranges a zero n = grind arith
 count_both ranges a (suc k) n =
-    let all = count_more ranges a (k + n) in
-    let some = count_more ranges a k in
-    let others = count_both ranges (a + 1) k n in
     let first = ap (count_outside ranges a) (let e : suc k + n ≡ suc (k + n) = omega arith in e) in
     let place = ap (λ b. count_outside ranges b n) (let e : a + 1 + k ≡ a + suc k = omega arith in e) in
-    omega arith
+    omega (arith, count_more ranges a (k + n), count_more ranges a k, count_both ranges (a + 1) k n)
 
 -- of positions that are marked all or none are in the ranges
 pub count_marked : (ranges : List (ℕ × ℕ)) (a n : ℕ) (spared : Bool) → IsSackedIf ranges a n spared →
@@ -215,9 +192,7 @@ counted_more ranges b pos n c0 c1 c2 from so_far more =
     let both = count_both ranges b (pos - b) n in
     let bytes = count_outside ranges b (pos + n - b) in
     let all : bytes ≡ count_outside ranges b (pos - b) + count_outside ranges pos n = grind arith in
-    let capped : min (min (c0.payload + count_outside ranges b (pos - b)) (2 ^ 64 - 1) + count_outside ranges pos n) (2 ^ 64 - 1)
-    ≡ min (c0.payload + bytes) (2 ^ 64 - 1) = omega arith in
-    more ∙ ap (with_payload (count_outside ranges pos n)) so_far ∙ (λ i. record c0 { payload = capped i })
+    grind arith
 
 -- nothing was counted
 pub counted_none : (n : ℕ) (c : FrameCounts) → c.payload < 2 ^ 64 → n ≡ 0 → c ≡ with_payload n c
@@ -233,15 +208,22 @@ module _ (known : StreamFacts) (f : ℕ) (w : List ℕ) where
       here None e = absurd (both_ways false refl (sym (ap is_some e) ∙ sym (contains_held known.members r.held p) ∙ is))
       here (Some b) e = (let l = slice_get_within w (p - f) b (known.held f w r p b h e) in omega arith)
 
-  tells : (s : SenderState) (r : ReceiverState) (forward reverse : PathState) → end_of s < 2 ^ 64 →
-      PartsInvariant f w s r forward reverse → AckMatches r (ack_of r)
-  tells s r forward reverse fits c =
-      let stream = in_stream known.queue f w r c.receives in
+  -- the acknowledgement of a receiver tells only of what it holds
+  tells : (s : LinkState) → LinkInvariantFits f w s → AckMatches s.receiver (ack_of s.receiver)
+  tells s h =
+      let r = s.receiver in
+      let stream = in_stream known.queue f w r h.way.receives in
+      let word : next_position r < 2 ^ 64 = omega arith in
       let runs = maximal_runs (domain r.held) in
+      let rs = take most_sack_blocks runs in
+      let every = (known.maximal (domain r.held)).maximal in
       let words = All-weaker (IsMaximalRun (domain r.held)) IsWords
-      (λ run m. (let last = held_within r (run.1 - 1) c.receives (m.inside (run.1 - 1) (omega arith) (omega arith)) in omega arith))
-      runs (known.maximal (domain r.held)).maximal in
-      ack_tells known.decode known.members known.maximal r (omega arith) (omega (arith, length-take most_sack_blocks runs)) (All-take IsWords most_sack_blocks runs words)
+      (λ run m. (let last = held_within r (run.1 - 1) h.way.receives (m.inside (run.1 - 1) (omega arith) (omega arith)) in omega arith)) runs every in
+      let listed = ranges_listed known.decode most_sack_blocks rs (All-take IsWords most_sack_blocks runs words) (omega (arith, length-take most_sack_blocks runs)) in
+      λ n xs at.
+      let e = same_parts (next_position r) n (block_bytes rs) xs (sym (known.decode (next_position r) (block_bytes rs) word) ∙ at) in
+      let has : HasAllOf r rs = λ p is. inr (sym (contains_held known.members r.held p) ∙ in_run (domain r.held) p most_sack_blocks runs every is) in
+      (omega arith, subst (HasAllOf r) (sym listed ∙ ap (blocks_of most_sack_blocks) e.1) has)
 
   -- ---- step 1
   pub record At (c : Cursor) : Type 0 where
@@ -261,43 +243,43 @@ module _ (known : StreamFacts) (f : ℕ) (w : List ℕ) where
   at_part : (c : Cursor) → At c → At (part c)
   at_part c h =
       let stop = stop_within c.link.sender in
-      by_part At c h (λ _ _. record { from = omega arith; carries = h.carries })
-      (λ below _. record { from = omega arith; carries = sent c (frame_len c.link c.pos) (omega arith) h })
+      by_part At c (λ _. h) (λ _ _ _. record { from = omega arith; carries = h.carries })
+      (λ below _ _. record { from = omega arith; carries = sent c (frame_len c.link c.pos) (omega arith) h })
 
   pub at_parts : (n : ℕ) (s : LinkState) → LinkInvariantFits f w s → At (times n part (start s))
   at_parts n s h = keeps At part at_part n (start s) (record { from = omega arith; carries = h })
 
   -- ---- steps 2 to 4
-  -- the receiver took a frame that matches w
-  taken : (s : LinkState) (frame : List ℕ) → FrameMatches f w frame → LinkInvariantFits f w s → LinkInvariantFits f w (take_in s frame)
+  told_all : (s : LinkState) → LinkInvariantFits f w s → LinkInvariantFits f w (acknowledge_all s)
+  told_all s h = assumption (All-push (AckMatches s.receiver) s.reverse.in_flight (ack_of s.receiver) h.way.in_flight_reverse (tells s h))
+
+  told : (s : LinkState) (o : Option (ℕ × List ℕ)) → LinkInvariantFits f w s → LinkInvariantFits f w (record s { reverse = with_ack s.receiver o s.reverse })
+  told s None h = h
+  told s (Some (pos, xs)) h =
+      split (λ p. LinkInvariantFits f w (record s { reverse = p })) (nat_lt (pos + length xs) (2 ^ 64))
+      (record s.reverse { in_flight = s.reverse.in_flight ++ ack_of s.receiver ∷ [] }) s.reverse (λ _. told_all s h) (λ _. h)
+
+  -- the receiver took a frame that matches w, and acknowledged it
+  taken : (s : LinkState) (frame : List ℕ) → FrameMatches f w frame → LinkInvariantFits f w s →
+      LinkInvariantFits f w (take_in s frame) × LinkInvariantFits f w (arrive s frame)
   taken s frame says h =
       let r = s.receiver in
-      let way = arrives (λ u. PartsInvariant f w s.sender u s.forward s.reverse) most_sack_blocks r (segment_of frame)
+      let way = taken_in (λ u. PartsInvariant f w s.sender u s.forward s.reverse) most_sack_blocks r (segment_of frame)
       (λ pos xs at. took f w s.sender r _ s.forward s.reverse (λ g. known.segment most_sack_blocks f w r pos xs g (says pos xs at))
       (known.next most_sack_blocks r (Segment pos xs)) (known.has most_sack_blocks r (Segment pos xs)) h.way) h.way in
-      record { way = way; fits = h.fits }
-
-  told : (s : SenderState) (r : ReceiverState) (forward reverse : PathState) (o : Option (ℕ × List ℕ)) → end_of s < 2 ^ 64 →
-      PartsInvariant f w s r forward reverse → PartsInvariant f w s r forward (with_ack r o reverse)
-  told s r forward reverse None fits c = c
-  told s r forward reverse (Some (pos, xs)) fits c =
-      split (PartsInvariant f w s r forward) (nat_lt (pos + length xs) (2 ^ 64)) (record reverse { in_flight = reverse.in_flight ++ ack_of r ∷ [] }) reverse
-      (λ _. assumption (All-push (AckMatches r) reverse.in_flight (ack_of r) c.in_flight_reverse (tells s r forward reverse fits c))) (λ _. c)
-
-  comes_in : (s : LinkState) (frame : List ℕ) → FrameMatches f w frame → LinkInvariantFits f w s → LinkInvariantFits f w (come s frame)
-  comes_in s frame says h = record {
-    way = told s.sender (take_in s frame).receiver s.forward s.reverse (segment_of frame) h.fits (taken s frame says h).way;
-    fits = h.fits;
-  }
+      let one : LinkInvariantFits f w (take_in s frame) = record { way = way; fits = h.fits } in
+      (one, told (take_in s frame) (segment_of frame) one)
 
   -- it met its fate
   met : (fate : Fate) (s : LinkState) (frame : List ℕ) → FrameMatches f w frame → LinkInvariantFits f w s →
-      LinkInvariantFits f w (came fate s frame) × LinkInvariantFits f w (meet fate s frame)
+      LinkInvariantFits f w (take_in s frame) × LinkInvariantFits f w (arrived fate s frame) × LinkInvariantFits f w (apply_fate fate s frame)
   met fate s frame says h =
-      let u = came fate s frame in
-      let c : LinkInvariantFits f w u = split (LinkInvariantFits f w) (comes fate) (come s frame) s (λ _. comes_in s frame says h) (λ _. h) in (
+      let u = arrived fate s frame in
+      let one = taken s frame says h in
+      let c : LinkInvariantFits f w u = split (LinkInvariantFits f w) (arrives fate) (arrive s frame) s (λ _. one.1) (λ _. h) in (
+        one.0,
         c,
-        split (λ p. LinkInvariantFits f w (record u { forward = p })) (comes_delayed fate) (record u.forward { delayed = u.forward.delayed ++ frame ∷ [] }) u.forward
+        split (λ p. LinkInvariantFits f w (record u { forward = p })) (arrives_later fate) (record u.forward { delayed = u.forward.delayed ++ frame ∷ [] }) u.forward
             (λ _. assumption (All-push (FrameMatches f w) u.forward.delayed frame c.way.delayed says)) (λ _. c),
       )
 
@@ -324,14 +306,14 @@ module _ (known : StreamFacts) (f : ℕ) (w : List ℕ) where
   put_ack : (fate : Fate) (u : LinkState) (frame : List ℕ) → AckMatches u.receiver frame → LinkInvariantFits f w u →
       LinkInvariantFits f w (record u { reverse = with_delayed fate frame u.reverse })
   put_ack fate u frame says h =
-      split (λ p. LinkInvariantFits f w (record u { reverse = p })) (comes_delayed fate) (record u.reverse { delayed = u.reverse.delayed ++ frame ∷ [] }) u.reverse
+      split (λ p. LinkInvariantFits f w (record u { reverse = p })) (arrives_later fate) (record u.reverse { delayed = u.reverse.delayed ++ frame ∷ [] }) u.reverse
       (λ _. assumption (All-push (AckMatches u.receiver) u.reverse.delayed frame h.way.delayed_reverse says)) (λ _. h)
 
   met_ack : (fate : Fate) (s : LinkState) (frame : List ℕ) → AckMatches s.receiver frame → LinkInvariantFits f w s →
-      LinkInvariantFits f w (came_ack fate s frame) × LinkInvariantFits f w (meet_ack fate s frame)
+      LinkInvariantFits f w (arrived_ack fate s frame) × LinkInvariantFits f w (apply_ack_fate fate s frame)
   met_ack fate s frame says h =
       let acked = acknowledged s frame says h in
-      split (λ u. LinkInvariantFits f w u × LinkInvariantFits f w (record u { reverse = with_delayed fate frame u.reverse })) (comes fate) (acknowledge s frame) s
+      split (λ u. LinkInvariantFits f w u × LinkInvariantFits f w (record u { reverse = with_delayed fate frame u.reverse })) (arrives fate) (acknowledge s frame) s
       (λ _. (acked, put_ack fate (acknowledge s frame) frame says acked)) (λ _. (h, put_ack fate s frame says h))
 
   -- ---- a round
@@ -340,23 +322,17 @@ module _ (known : StreamFacts) (f : ℕ) (w : List ℕ) where
     sent = λ n s h. (at_parts n s h).carries;
     delayed = λ s frame rest is h.
         let all = subst (All (FrameMatches f w)) is h.way.delayed in
-        let says = All-head (FrameMatches f w) frame rest all in
-        let u : LinkState = record s { forward = record s.forward { delayed = rest } } in
-        let taken_off : LinkInvariantFits f w u = assumption (All-tail (FrameMatches f w) frame rest all) in
-        (taken u frame says taken_off, comes_in u frame says taken_off);
+        taken (record s { forward = record s.forward { delayed = rest } }) frame (All-head (FrameMatches f w) frame rest all)
+        (assumption (All-tail (FrameMatches f w) frame rest all));
     passed = λ s frame rest is h.
         let all = subst (All (FrameMatches f w)) is h.way.coming in
-        let says = All-head (FrameMatches f w) frame rest all in
-        let u = take_frame s rest in
-        let taken_off : LinkInvariantFits f w u = assumption (All-tail (FrameMatches f w) frame rest all) in
-        let both = met (next_fate s.forward.fates) u frame says taken_off in
-        (taken u frame says taken_off, both.0, both.1);
-    told = λ s h. assumption (All-push (AckMatches s.receiver) s.reverse.in_flight (ack_of s.receiver) h.way.in_flight_reverse
-        (tells s.sender s.receiver s.forward s.reverse h.fits h.way));
+        met (next_fate s.forward.fates) (take_frame s rest) frame (All-head (FrameMatches f w) frame rest all)
+        (assumption (All-tail (FrameMatches f w) frame rest all));
+    told = told_all;
     ack_delayed = λ s frame rest is h.
         let all = subst (All (AckMatches s.receiver)) is h.way.delayed_reverse in
-        let u : LinkState = record s { reverse = record s.reverse { delayed = rest } } in
-        acknowledged u frame (All-head (AckMatches s.receiver) frame rest all) (assumption (All-tail (AckMatches s.receiver) frame rest all));
+        acknowledged (record s { reverse = record s.reverse { delayed = rest } }) frame (All-head (AckMatches s.receiver) frame rest all)
+        (assumption (All-tail (AckMatches s.receiver) frame rest all));
     ack_passed = λ s frame rest is h.
         let all = subst (All (AckMatches s.receiver)) is h.way.in_flight_reverse in
         met_ack (next_fate s.reverse.fates) (take_ack s rest) frame (All-head (AckMatches s.receiver) frame rest all)

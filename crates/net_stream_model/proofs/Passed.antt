@@ -1,36 +1,26 @@
 -- What a round sends and passes, and what is counted of it.
-use Rattle.std.proofs.Common.{◌≡◌, ◌&&◌, ℕ, zero, suc, ◌+◌, ◌^◌, nat_lt, List, length, Option, Some, None, refl, ap}
-use Rattle.std.proofs.Common.{◌∙◌, arith, Bool, true, false, cond, [], ◌∷◌, ◌++◌, sym, append_assoc, ◌⊎◌, length-append}
-use Rattle.std.proofs.Common.{◌-◌, ◌≤◌, ◌<◌, min, subst, inl, inr}
-use Rattle.net_receiver.specs.Rules.{Segment}
-use Rattle.net_receiver.specs.ReceiverState.{ReceiverState, receiver_reply}
+use Rattle.std.proofs.Common.{◌≡◌, ℕ, zero, suc, ◌+◌, ◌^◌, nat_lt, List, length, Option, Some, None, refl, ap, ◌∙◌, arith, Bool, true, false, cond, [], ◌∷◌, ◌++◌, sym, append_assoc, ◌⊎◌, length-append, ◌-◌, ◌≤◌, ◌<◌, min, subst, inl, inr}
+use Rattle.net_receiver.specs.ReceiverState.{ReceiverState}
 use Rattle.net_stream_model.specs.declared.counts.FrameCounts.{FrameCounts}
 use Rattle.net_stream_model.specs.declared.fate.Fate.{Fate}
 use Rattle.net_stream_model.specs.declared.fate.Fate.TheVariants.{Delivered, Lost, Duplicated, Delayed}
-use Rattle.net_stream_model.specs.Fates.{FatesState, next_fate, after_fate, fates_after, comes, comes_delayed}
-use Rattle.net_stream_model.proofs.Steps.{split, times_front, keeps, goes_on, stops, by_part, brought_append}
-use Rattle.net_stream_model.proofs.Steps.{acks_append, acked_append}
-use Rattle.net_stream_model.specs.Counts.{more, with_fate, with_fates, SameButRefused, is_refused, with_refusal}
-use Rattle.net_stream_model.specs.Counts.{with_payload, no_frames}
+use Rattle.net_stream_model.specs.Fates.{FatesState, next_fate, after_fate, fates_after, arrives, arrives_later}
+use Rattle.net_stream_model.proofs.Steps.{times_front, keeps, by_part, brought_append, acks_append, acked_append}
+use Rattle.net_stream_model.specs.Counts.{with_fate, with_fates, SameButRefused, with_refusal, with_payload, no_frames}
 use Rattle.std.proofs.lemmas.List.{append-nil}
 use Rattle.net_stream_model.specs.Frames.{segment_of}
 use Rattle.net_stream_model.specs.SackBlocks.{most_sack_blocks, count_outside, is_sacked}
-use Rattle.net_stream_model.specs.PathState.{PathState, ack_of, receiver_after, with_ack}
+use Rattle.net_stream_model.specs.PathState.{PathState, ack_of, with_ack}
 use Rattle.net_stream_model.specs.Arrivals.{coming_of, delayed_of, receiver_after_all, ack_to, acks_of}
 use Rattle.net_stream_model.specs.Reach.{after_ack_frames}
-use Rattle.net_stream_model.specs.LinkState.{LinkState, times, come, meet, take_frame, pass_frame_of, pass_frame}
-use Rattle.net_stream_model.specs.LinkState.{delayed_frame_of, delayed_frame, acknowledge, delayed_ack_of, delayed_ack}
-use Rattle.net_stream_model.specs.LinkState.{meet_ack, take_ack, pass_ack_of, pass_ack, Cursor, start, frame_len, send}
-use Rattle.net_stream_model.specs.LinkState.{part, part_at, transmit, delayed_frames, pass_frames, acknowledge_all}
-use Rattle.net_stream_model.specs.LinkState.{delayed_acks, pass_acks, with_burst, round}
+use Rattle.net_stream_model.specs.LinkState.{LinkState, times, arrive, apply_fate, take_frame, pass_frame_of, pass_frame, delayed_frame_of, delayed_frame, acknowledge, delayed_ack_of, delayed_ack, apply_ack_fate, take_ack, pass_ack_of, pass_ack, Cursor, start, frame_len, send, part, transmit, delayed_frames, pass_frames, acknowledge_all, delayed_acks, pass_acks, with_burst, round}
 use Rattle.net_stream_model.specs.Round.{Passes, RoundPasses}
 use Rattle.net_stream_model.specs.FateCounts.{fates_only, CountsFates}
-use Rattle.std.proofs.lemmas.Bool.{cases_lt, cond-true, cond-false, ltb-true, ltb-false}
+use Rattle.std.proofs.lemmas.Bool.{cond-true, cond-false}
 use Rattle.net_assembler.proofs.Positions.{either}
 use Rattle.net_stream_model.specs.SenderState.{end_of, contiguous_end, at_least_one, stop_of, spared_from, next_block}
 use Rattle.net_stream_model.specs.Transmission.{IsSackedIf, SendsPart, SendsRound}
-use Rattle.net_stream_model.proofs.Sent.{count_inside, count_none, next_above, next_between, SentSoFar, none_sent}
-use Rattle.net_stream_model.proofs.Sent.{sent_more, round_sent, stop_within, row_above, row_within}
+use Rattle.net_stream_model.proofs.Sent.{count_inside, count_none, next_above, next_between, SentSoFar, none_sent, sent_more, round_sent, stop_within, row_above, row_within}
 use Rattle.net_stream_model.proofs.Kept.{count_marked, counted_more, counted_none}
 use Rattle.net_stream_model.specs.Promises.{acks_sent}
 
@@ -47,14 +37,7 @@ same_met (suc n) v c d same = same_met n (after_fate v) (with_fate (next_fate v)
 
 -- a frame that comes changes no other count
 refusing_is : (most : ℕ) (r : ReceiverState) (o : Option (ℕ × List ℕ)) (c : FrameCounts) → SameButRefused (with_refusal most r o c) c
-refusing_is most r None c = refl
-refusing_is most r (Some (pos, xs)) c =
-    split (λ d. SameButRefused d c) (nat_lt (pos + length xs) (2 ^ 64) && is_refused (receiver_reply most r (Segment pos xs)))
-    (record c { refused = more c.refused }) c (λ _. refl) (λ _. refl)
-
-pub same_refusing : (most : ℕ) (r : ReceiverState) (o : Option (ℕ × List ℕ)) (c d : FrameCounts) →
-    d ≡ with_refusal most r o c → SameButRefused d c
-same_refusing most r o c d is = same_equal d (with_refusal most r o c) is ∙ refusing_is most r o c
+refusing_is most r o c = grind arith
 
 -- ======== What frames and acknowledgements leave that come one after another, as folds of lists
 -- an acknowledgement of a frame, if it has one, and then others
@@ -70,10 +53,10 @@ with_acks r (Some (pos, xs)) reverse acks = both (nat_lt (pos + length xs) (2 ^ 
 
 -- the link, where these frames came, these are delayed, and so many drew their fates
 abbrev pub left : LinkState → List (List ℕ) → List (List ℕ) → FatesState → FrameCounts → LinkState
-left s came delayed fates counts = record s {
-  receiver = receiver_after_all most_sack_blocks s.receiver came;
+left s arrived delayed fates counts = record s {
+  receiver = receiver_after_all most_sack_blocks s.receiver arrived;
   forward = record { in_flight = []; delayed = s.forward.delayed ++ delayed; fates = fates };
-  reverse = record s.reverse { in_flight = s.reverse.in_flight ++ acks_of most_sack_blocks s.receiver came };
+  reverse = record s.reverse { in_flight = s.reverse.in_flight ++ acks_of most_sack_blocks s.receiver arrived };
   counts = counts;
 }
 
@@ -83,27 +66,19 @@ pub record PassedAll (s : LinkState) (frames : List (List ℕ)) (u : LinkState) 
   pub counted : SameButRefused u.counts (with_fates (length frames) s.forward.fates s.counts)
 
 -- a frame that was taken off meets this fate, and then others
-met_then : (lot : Fate) (s : LinkState) (frame : List ℕ) (came delayed : List (List ℕ)) (fates : FatesState) (c : FrameCounts) →
-    left (meet lot s frame) came delayed fates c ≡ left s (cond (comes lot) (frame ∷ came) came) (cond (comes_delayed lot) (frame ∷ delayed) delayed) fates c
-met_then Delivered s frame came delayed fates c =
-    let r = receiver_after most_sack_blocks s.receiver (segment_of frame) in
-    λ i. record (left s (frame ∷ came) delayed fates c) { reverse = with_acks r (segment_of frame) s.reverse (acks_of most_sack_blocks r came) i }
-met_then Lost s frame came delayed fates c = refl
-met_then Duplicated s frame came delayed fates c =
-    let r = receiver_after most_sack_blocks s.receiver (segment_of frame) in
-    λ i. record (left s (frame ∷ came) (frame ∷ delayed) fates c) {
-      forward = record { in_flight = []; delayed = append_assoc s.forward.delayed (frame ∷ []) delayed i; fates = fates };
-      reverse = with_acks r (segment_of frame) s.reverse (acks_of most_sack_blocks r came) i;
-    }
-met_then Delayed s frame came delayed fates c =
-    λ i. record (left s came (frame ∷ delayed) fates c) { forward = record { in_flight = []; delayed = append_assoc s.forward.delayed (frame ∷ []) delayed i; fates = fates } }
+met_then : (lot : Fate) (s : LinkState) (frame : List ℕ) (arrived delayed : List (List ℕ)) (fates : FatesState) (c : FrameCounts) →
+    left (apply_fate lot s frame) arrived delayed fates c ≡ left s (cond (arrives lot) (frame ∷ arrived) arrived) (cond (arrives_later lot) (frame ∷ delayed) delayed) fates c
+met_then Delivered s frame arrived delayed fates c = simp with_acks
+met_then Lost s frame arrived delayed fates c = refl
+met_then Duplicated s frame arrived delayed fates c = simp (with_acks, append_assoc)
+met_then Delayed s frame arrived delayed fates c = simp append_assoc
 
 met_left : (lot : Fate) (s : LinkState) (frame : List ℕ) →
-    ((meet lot s frame).forward.in_flight ≡ s.forward.in_flight) × ((meet lot s frame).forward.fates ≡ s.forward.fates)
-    × SameButRefused (meet lot s frame).counts s.counts
+    ((apply_fate lot s frame).forward.in_flight ≡ s.forward.in_flight) × ((apply_fate lot s frame).forward.fates ≡ s.forward.fates)
+    × SameButRefused (apply_fate lot s frame).counts s.counts
 met_left Lost s frame = (refl, refl, refl)
 met_left Delayed s frame = (refl, refl, refl)
-met_left _ s frame = (refl, refl, same_refusing most_sack_blocks s.receiver (segment_of frame) s.counts _ refl)
+met_left _ s frame = (refl, refl, refusing_is most_sack_blocks s.receiver (segment_of frame) s.counts)
 
 pub passed_all : (frames : List (List ℕ)) (s : LinkState) → s.forward.in_flight ≡ frames →
     PassedAll s frames (times (length frames) pass_frame s)
@@ -117,11 +92,10 @@ passed_all [] s is = record {
 passed_all (frame ∷ rest) s is =
     let lot = next_fate s.forward.fates in
     let t = take_frame s rest in
-    let v = meet lot t frame in
-    let here : pass_frame s ≡ v = ap (pass_frame_of s) is in
+    let v = apply_fate lot t frame in
     let kept = met_left lot t frame in
     let more = passed_all rest v kept.0 in
-    let reached : times (length (frame ∷ rest)) pass_frame s ≡ times (length rest) pass_frame v = times_front (length rest) pass_frame s ∙ ap (times (length rest) pass_frame) here in
+    let reached = times_front (length rest) pass_frame s v (ap (pass_frame_of s) is) in
     let u = times (length rest) pass_frame v in
     let after = after_fate s.forward.fates in
     record {
@@ -150,10 +124,8 @@ pub record CameDelayed (s : LinkState) (frames : List (List ℕ)) (u : LinkState
 
 -- one comes, and then others
 came_then : (s : LinkState) (frame : List ℕ) (rest : List (List ℕ)) (c : FrameCounts) →
-    came_delayed (come (record s { forward = record s.forward { delayed = rest } }) frame) rest c ≡ came_delayed s (frame ∷ rest) c
-came_then s frame rest c =
-    let r = receiver_after most_sack_blocks s.receiver (segment_of frame) in
-    λ i. record (came_delayed s (frame ∷ rest) c) { reverse = with_acks r (segment_of frame) s.reverse (acks_of most_sack_blocks r rest) i }
+    came_delayed (arrive (record s { forward = record s.forward { delayed = rest } }) frame) rest c ≡ came_delayed s (frame ∷ rest) c
+came_then s frame rest c = simp with_acks
 
 pub delayed_came : (frames : List (List ℕ)) (s : LinkState) → s.forward.delayed ≡ frames →
     CameDelayed s frames (times (length frames) delayed_frame s)
@@ -162,17 +134,14 @@ delayed_came [] s is = record {
   counted = refl;
 }
 delayed_came (frame ∷ rest) s is =
-    let t = record s { forward = record s.forward { delayed = rest } } in
-    let v = come t frame in
-    let here : delayed_frame s ≡ v = ap (delayed_frame_of s) is in
+    let v = arrive (record s { forward = record s.forward { delayed = rest } }) frame in
     let more = delayed_came rest v refl in
-    let reached : times (length (frame ∷ rest)) delayed_frame s ≡ times (length rest) delayed_frame v =
-    times_front (length rest) delayed_frame s ∙ ap (times (length rest) delayed_frame) here in
+    let reached = times_front (length rest) delayed_frame s v (ap (delayed_frame_of s) is) in
     let u = times (length rest) delayed_frame v in
     record {
       same = reached ∙ more.same ∙ came_then s frame rest u.counts ∙ ap (λ w. came_delayed s (frame ∷ rest) w.counts) (sym reached);
       counted = ap (λ w. record w.counts { refused = 0 }) reached ∙ more.counted
-          ∙ same_refusing most_sack_blocks s.receiver (segment_of frame) s.counts v.counts refl;
+          ∙ refusing_is most_sack_blocks s.receiver (segment_of frame) s.counts;
     }
 
 -- ---- acknowledgements
@@ -184,14 +153,13 @@ pub delayed_acked : (frames : List (List ℕ)) (s : LinkState) → s.reverse.del
     times (length frames) delayed_ack s ≡ acked_delayed s frames
 delayed_acked [] s is = λ i. record s { reverse = record s.reverse { delayed = is i } }
 delayed_acked (frame ∷ rest) s is =
-    let t = record s { reverse = record s.reverse { delayed = rest } } in
-    let here : delayed_ack s ≡ acknowledge t frame = ap (delayed_ack_of s) is in
-    times_front (length rest) delayed_ack s ∙ ap (times (length rest) delayed_ack) here ∙ delayed_acked rest (acknowledge t frame) refl
+    let v = acknowledge (record s { reverse = record s.reverse { delayed = rest } }) frame in
+    times_front (length rest) delayed_ack s v (ap (delayed_ack_of s) is) ∙ delayed_acked rest v refl
 
 -- the link, where these came, these are delayed, and so many drew their fates
 abbrev pub acked : LinkState → List (List ℕ) → List (List ℕ) → FatesState → FrameCounts → LinkState
-acked s came delayed fates counts = record s {
-  sender = after_ack_frames s.sender came;
+acked s arrived delayed fates counts = record s {
+  sender = after_ack_frames s.sender arrived;
   reverse = record { in_flight = []; delayed = s.reverse.delayed ++ delayed; fates = fates };
   counts = counts;
 }
@@ -200,17 +168,14 @@ abbrev pub all_acked : LinkState → List (List ℕ) → LinkState
 all_acked s frames = acked s (coming_of s.reverse.fates frames) (delayed_of s.reverse.fates frames) (fates_after (length frames) s.reverse.fates)
     (with_fates (length frames) s.reverse.fates s.counts)
 
-acked_then : (lot : Fate) (s : LinkState) (frame : List ℕ) (came delayed : List (List ℕ)) (fates : FatesState) (c : FrameCounts) →
-    acked (meet_ack lot s frame) came delayed fates c ≡ acked s (cond (comes lot) (frame ∷ came) came) (cond (comes_delayed lot) (frame ∷ delayed) delayed) fates c
-acked_then Delivered s frame came delayed fates c = refl
-acked_then Lost s frame came delayed fates c = refl
-acked_then Duplicated s frame came delayed fates c =
-    λ i. record (acked s (frame ∷ came) (frame ∷ delayed) fates c) { reverse = record { in_flight = []; delayed = append_assoc s.reverse.delayed (frame ∷ []) delayed i; fates = fates } }
-acked_then Delayed s frame came delayed fates c =
-    λ i. record (acked s came (frame ∷ delayed) fates c) { reverse = record { in_flight = []; delayed = append_assoc s.reverse.delayed (frame ∷ []) delayed i; fates = fates } }
+acked_then : (lot : Fate) (s : LinkState) (frame : List ℕ) (arrived delayed : List (List ℕ)) (fates : FatesState) (c : FrameCounts) →
+    acked (apply_ack_fate lot s frame) arrived delayed fates c ≡ acked s (cond (arrives lot) (frame ∷ arrived) arrived) (cond (arrives_later lot) (frame ∷ delayed) delayed) fates c
+acked_then Delivered s frame arrived delayed fates c = refl
+acked_then Lost s frame arrived delayed fates c = refl
+acked_then _ s frame arrived delayed fates c = simp append_assoc
 
-acked_left : (lot : Fate) (s : LinkState) (frame : List ℕ) → ((meet_ack lot s frame).reverse.in_flight ≡ s.reverse.in_flight)
-    × ((meet_ack lot s frame).reverse.fates ≡ s.reverse.fates) × ((meet_ack lot s frame).counts ≡ s.counts)
+acked_left : (lot : Fate) (s : LinkState) (frame : List ℕ) → ((apply_ack_fate lot s frame).reverse.in_flight ≡ s.reverse.in_flight)
+    × ((apply_ack_fate lot s frame).reverse.fates ≡ s.reverse.fates) × ((apply_ack_fate lot s frame).counts ≡ s.counts)
 acked_left Delivered s frame = (refl, refl, refl)
 acked_left _ s frame = (refl, refl, refl)
 
@@ -220,11 +185,10 @@ acks_passed [] s is = λ i. record s { reverse = record { in_flight = is i; dela
 acks_passed (frame ∷ rest) s is =
     let lot = next_fate s.reverse.fates in
     let t = take_ack s rest in
-    let v = meet_ack lot t frame in
-    let here : pass_ack s ≡ v = ap (pass_ack_of s) is in
+    let v = apply_ack_fate lot t frame in
     let kept = acked_left lot t frame in
     let after = after_fate s.reverse.fates in
-    times_front (length rest) pass_ack s ∙ ap (times (length rest) pass_ack) here ∙ acks_passed rest v kept.0
+    times_front (length rest) pass_ack s v (ap (pass_ack_of s) is) ∙ acks_passed rest v kept.0
     ∙ (λ i. acked v (coming_of (kept.1 i) rest) (delayed_of (kept.1 i) rest) (fates_after (length rest) (kept.1 i)) (with_fates (length rest) (kept.1 i) (kept.2 i)))
     ∙ acked_then lot t frame (coming_of after rest) (delayed_of after rest) (fates_after (length rest) after) (with_fates (length rest) after t.counts)
 
@@ -269,14 +233,11 @@ more_met v v' u u' c d bytes frames acks same h =
     let before = with_fates h.frames v no_frames in
     let both = with_fates h.acks v' before in
     let reached = with_fates (h.frames + frames) v no_frames in
-    let framed : with_fates frames u both ≡ with_fates h.acks v' reached =
-    all_past frames h.acks u v' before ∙ ap (with_fates h.acks v') (ap (λ w. with_fates frames w before) h.left ∙ met_more h.frames frames v no_frames) in
-    let acked : with_fates acks u' (with_fates h.acks v' reached) ≡ with_fates (h.acks + acks) v' reached =
-    ap (λ w. with_fates acks w (with_fates h.acks v' reached)) h.left_reverse ∙ met_more h.acks acks v' reached in
+    let framed : with_fates frames u both ≡ with_fates h.acks v' reached = cc (all_past frames h.acks u v' before, met_more h.frames frames v no_frames) in
+    let acked : with_fates acks u' (with_fates h.acks v' reached) ≡ with_fates (h.acks + acks) v' reached = cc (met_more h.acks acks v' reached) in
     ap fates_only same
     ∙ same_fates acks u' (with_fates frames u (with_payload bytes c)) (with_fates frames u both) (same_fates frames u (with_payload bytes c) both h.counted)
-    ∙ ap (λ x. fates_only (with_fates acks u' x)) framed
-    ∙ ap fates_only acked
+    ∙ ap (λ x. fates_only (with_fates acks u' x)) framed ∙ ap fates_only acked
 
 pub round_met : (v v' : FatesState) (old new : LinkState) → Passes old new → CountsFates v v' old.forward.fates old.reverse.fates old.counts →
     CountsFates v v' new.forward.fates new.reverse.fates new.counts
@@ -305,8 +266,8 @@ pub record OnlySent (s : LinkState) (c : Cursor) : Type 0 where
 
 part_only : (s : LinkState) (c : Cursor) → OnlySent s c → OnlySent s (part c)
 part_only s c h =
-    by_part (OnlySent s) c h (λ _ _. record { same = h.same; few = h.few })
-    (λ _ some.
+    by_part (OnlySent s) c (λ _. h) (λ _ _ _. record { same = h.same; few = h.few })
+    (λ _ some _.
     let u = send c.link c.pos (frame_len c.link c.pos) in
     let one : length u.forward.in_flight ≡ length c.link.forward.in_flight + 1 = length-append c.link.forward.in_flight _ in
     record { same = λ i. with_sent (h.same i) u.forward.in_flight u.counts.payload; few = omega arith })
@@ -326,9 +287,14 @@ module _ (s : LinkState) (fits : s.counts.payload < 2 ^ 64) where
   abbrev at : Cursor → Cursor
   at c = record c { link = record s { forward = c.link.forward; counts = c.link.counts } }
 
-  -- a part is spared, or sent
-  sent_at : (c : Cursor) → SentAt c → c.pos < stop_of s.sender → 0 < c.left → SentAt (part_at (at c)) × (c.pos < (part_at (at c)).pos)
-  sent_at c h below some =
+  -- after n parts nothing more can be sent, or n bytes are sent or spared at least
+  abbrev Reaches : ℕ → Cursor → Type 0
+  Reaches n c = SentAt c × (((stop_of s.sender ≤ c.pos) ⊎ (c.left ≡ 0)) ⊎ (s.sender.first_unacknowledged + n ≤ c.pos))
+
+  step : (k : ℕ) (c : Cursor) → Reaches k c → Reaches (suc k) (part c)
+  step k c g =
+      let again : at c ≡ c = λ i. record c { link = sym g.0.same i } in
+      let h : SentAt (at c) = subst SentAt (sym again) g.0 in
       let v = s.sender in
       let p = c.pos in
       let most = at_least_one s.payload in
@@ -336,11 +302,9 @@ module _ (s : LinkState) (fits : s.counts.payload < 2 ^ 64) where
       let from : v.first_unacknowledged ≤ p = h.from in
       let stop = stop_within v in
       let marked_end = min (p + most) (min (next_block v p) (contiguous_end v p)) in
-      split (λ (d : Cursor). SentAt d × (c.pos < d.pos)) (nat_lt 0 (spared_from v p)) (record (at c) { pos = p + spared_from v p })
-      (record { pos = p + frame_len s p; left = c.left - 1; link = send (at c).link p (frame_len s p) })
-      (λ on.
+      subst (λ d. Reaches (suc k) (part d)) again (by_part (Reaches (suc k)) (at c) (λ end. (h, inl end))
+      (λ below some more.
       let n = spared_from v p in
-      let more : 0 < n = ltb-true 0 n on in
       let marked : IsSackedIf v.sack_blocks p n true = λ q low high. count_inside v.sack_blocks p q low (omega arith) in
       let one : SendsPart v most p n 0 c.link.forward c.link.forward = record {
         some = more;
@@ -360,10 +324,9 @@ module _ (s : LinkState) (fits : s.counts.payload < 2 ^ 64) where
           counted = counted_more v.sack_blocks v.first_unacknowledged p n s.counts c.link.counts c.link.counts from h.counted
               (counted_none (count_outside v.sack_blocks p n) c.link.counts word (count_marked v.sack_blocks p n true marked));
         },
-        omega arith,
+        inr (omega arith),
       ))
-      (λ off.
-      let none = ltb-false 0 (spared_from v p) off in
+      (λ below some none.
       let here = count_none v.sack_blocks p (omega arith) in
       let next : p < next_block v p = next_above v.sack_blocks p (end_of v) (omega arith) in
       let row = row_above v p (omega arith) in
@@ -387,36 +350,8 @@ module _ (s : LinkState) (fits : s.counts.payload < 2 ^ 64) where
           counted = counted_more v.sack_blocks v.first_unacknowledged p n s.counts c.link.counts (with_payload n c.link.counts) from h.counted
               (ap (λ k. with_payload k c.link.counts) (sym (count_marked v.sack_blocks p n false marked)));
         },
-        omega arith,
-      ))
-
-  -- nothing more can be sent
-  abbrev Ended : Cursor → Type 0
-  Ended c = (stop_of s.sender ≤ c.pos) ⊎ (c.left ≡ 0)
-
-  -- after n parts this is so, or n bytes are sent or spared at least
-  abbrev Reaches : ℕ → Cursor → Type 0
-  Reaches n c = SentAt c × (Ended c ⊎ (s.sender.first_unacknowledged + n ≤ c.pos))
-
-  step : (n : ℕ) (c : Cursor) → Reaches n c → Reaches (suc n) (part c)
-  step n c h =
-      either (cases_lt c.pos (stop_of s.sender))
-      (λ below. either (cases_lt 0 c.left)
-      (λ some.
-      let is : part_at (at c) ≡ part c = ap part_at again ∙ sym (goes_on c (subst (λ v. c.pos < stop_of v) (sym sender) below) some) in
-      let one = subst (λ (d : Cursor). SentAt d × (c.pos < d.pos)) is (sent_at c h.0 below some) in
-      (one.0, inr (omega arith)))
-      (λ none. stay (inr (omega arith))))
-      (λ past. stay (inl past))
-    where
-      again : at c ≡ c
-      again = λ i. record c { link = sym h.0.same i }
-
-      sender : c.link.sender ≡ s.sender
-      sender = ap (λ l. l.sender) h.0.same
-
-      stay : Ended c → Reaches (suc n) (part c)
-      stay end = subst (Reaches (suc n)) (sym (stops c (subst (λ v. (stop_of v ≤ c.pos) ⊎ (c.left ≡ 0)) (sym sender) end))) (h.0, inl end)
+        inr (omega arith),
+      )))
 
   after : (n : ℕ) → Reaches n (times n part (start s))
   after zero =
@@ -426,23 +361,6 @@ module _ (s : LinkState) (fits : s.counts.payload < 2 ^ 64) where
       let counted = counted_none _ s.counts fits (ap (count_outside s.sender.sack_blocks first) none) in
       (record { same = refl; from = omega arith; so_far = so_far; counted = counted }, inr (omega arith))
   after (suc n) = step n (times n part (start s)) (after n)
-
-  pub record SentAll (n : ℕ) (t : LinkState) : Type 0 where
-    pub sent : SendsRound s.sender (at_least_one s.payload) (at_least_one s.burst) n s.forward t.forward
-    pub counted : t.counts ≡ with_payload (count_outside s.sender.sack_blocks s.sender.first_unacknowledged n) s.counts
-
-  pub sends_round : (n : ℕ) × SentAll n (transmit s)
-  sends_round =
-      let c = times (length s.sender.queue) part (start s) in
-      let all = after (length s.sender.queue) in
-      let stop = stop_within s.sender in (
-        c.pos - s.sender.first_unacknowledged,
-        record {
-          sent = round_sent s.sender (at_least_one s.payload) (at_least_one s.burst) c.left c.pos s.forward c.link.forward all.0.so_far all.0.from
-              (either all.1 (λ end. end) (λ far. inl (omega arith)));
-          counted = all.0.counted;
-        },
-      )
 
 -- ======== A round passes what it has to
 -- the link after each step, where these frames are in flight after the first one, and these are the counts
@@ -479,7 +397,7 @@ module _ (s : LinkState) (in_flight : List (List ℕ)) (c0 c1 c2 : FrameCounts) 
     sent = sent;
     n = n;
     all = all;
-    came = s.forward.delayed ++ coming;
+    arrived = s.forward.delayed ++ coming;
     coming = refl;
     received = sym (brought_append most_sack_blocks s.receiver s.forward.delayed coming);
     acks = acks;
@@ -544,12 +462,17 @@ pub round_sends : (s : LinkState) → s.counts.payload < 2 ^ 64 → RoundSends s
 unfolding passes_by
 round_sends s fits =
     let t = transmit s in
-    let sent = sends_round s fits in
+    let c = times (length s.sender.queue) part (start s) in
+    let all = after s fits (length s.sender.queue) in
+    let stop = stop_within s.sender in
+    let sent = round_sent s.sender (at_least_one s.payload) (at_least_one s.burst) c.left c.pos s.forward t.forward all.0.so_far all.0.from
+    (either all.1 (λ end. end) (λ far. inl (omega arith))) in
     let is = (round_is s).2 in
     subst (RoundSends s) (sym is.same) (record {
-      passes = passes_by s t.forward.in_flight t.counts (round_is s).0 (round_is s).1 sent.0
-          (subst (SendsRound s.sender (at_least_one s.payload) (at_least_one s.burst) sent.0 s.forward) (ap (λ (l : LinkState). l.forward) (only_sent s).same) sent.1.sent)
-          sent.1.counted is.delayed is.passed;
+      passes = passes_by s t.forward.in_flight t.counts (round_is s).0 (round_is s).1 (c.pos - s.sender.first_unacknowledged)
+          (subst (SendsRound s.sender (at_least_one s.payload) (at_least_one s.burst) (c.pos - s.sender.first_unacknowledged) s.forward)
+          (ap (λ (l : LinkState). l.forward) (only_sent s).same) sent)
+          all.0.counted is.delayed is.passed;
       in_flight = refl;
       acks = sym (ap (λ (v : LinkState). length (acknowledge_all v).reverse.in_flight) is.frames);
     })

@@ -1,33 +1,24 @@
 -- What rounds and turns keep of what a copy read and wrote, and how many turns it makes.
-use Rattle.std.proofs.Common.{◌≡◌, ℕ, ◌≤◌, List, Option, ◌∙◌, le_trans, arith, ◌+◌, ◌-◌, ◌<◌, min, nat_eq, nat_lt, Bool}
-use Rattle.std.proofs.Common.{true, false, [], ◌∷◌, ◌++◌, length, take, drop, refl, sym, ap, subst, ⊎_elim}
-use Rattle.std.proofs.Common.{length-append, length-take, length-drop, take-add, append_assoc, ◌⊎◌, ◌||◌, zero, suc}
-use Rattle.std.proofs.Common.{◌*◌, not, cond, inl, inr, mul-le-mul_right}
+use Rattle.std.proofs.Common.{◌≡◌, ℕ, ◌≤◌, List, Option, ◌∙◌, le_trans, arith, ◌+◌, ◌-◌, ◌<◌, min, nat_lt, true, false, [], ◌∷◌, ◌++◌, length, take, drop, refl, sym, ap, subst, length-append, length-take, length-drop, take-add, append_assoc, ◌⊎◌, zero, suc, ◌*◌, inl, inr, mul-le-mul_right, lt_of_not-le}
+use Rattle.net_assembler.proofs.Positions.{either}
 use Rattle.net_receiver.specs.ReceiverState.{ReceiverState, fresh_receiver, receiver_after_read}
 use Rattle.net_receiver.specs.OneStream.{SegmentReadsNothing, QueueIsOf}
 use Rattle.net_stream_model.specs.SenderState.{SenderState, after_ack_frame, with_written, Sends}
 use Rattle.net_stream_model.specs.Frames.{segment_of}
 use Rattle.net_stream_model.specs.SackBlocks.{most_sack_blocks}
-use Rattle.net_stream_model.specs.Fates.{next_fate, comes}
-use Rattle.net_stream_model.specs.LinkState.{LinkState, Cursor, start, part, take_in, come, came, take_frame}
-use Rattle.net_stream_model.specs.LinkState.{acknowledge, came_ack, take_ack, round, StopsRound}
-use Rattle.net_stream_model.proofs.Steps.{arrives, heard, keeps, split, by_part, StepsKeep, round_kept, stop_kept}
-use Rattle.net_stream_model.proofs.Steps.{stays, enough, first_is}
+use Rattle.net_stream_model.specs.Fates.{next_fate, arrives}
+use Rattle.net_stream_model.specs.LinkState.{LinkState, Cursor, start, part, take_in, arrive, take_frame, acknowledge, take_ack, round, StopsRound}
+use Rattle.net_stream_model.proofs.Steps.{taken_in, heard, keeps, split, by_part, StepsKeep, round_kept, stop_kept, enough, first_is}
 use Rattle.std.specs.Io.{StartsWith}
 use Rattle.std.proofs.lemmas.Bool.{both_ways, cases_Bool, ltb-true, ltb-false, cases_lt}
-use Rattle.std.proofs.lemmas.List.{take_all, take_min, take-take, take-append-le, take-append-drop, append-nil}
-use Rattle.std.proofs.lemmas.List.{drop-append-le}
+use Rattle.std.proofs.lemmas.List.{take_all, take_min, take-take, take-append-le, take-append-drop, append-nil, drop-append-le}
 use Rattle.std.proofs.Math.Seq.{take-append_seam}
-use Rattle.net_stream_model.specs.CopyState.{Setup, CopyState, Running, Done, begin, is_written, rest_of, room_for}
-use Rattle.net_stream_model.specs.CopyState.{feed, decide, waited, pass, after, turn, outcome, concat, most_turns}
+use Rattle.net_stream_model.specs.CopyState.{Setup, CopyState, Running, Done, begin, is_written, rest_of, room_for, feed, decide, waited, pass, after, turn, outcome, concat, most_turns}
 use Rattle.net_stream_model.specs.Facts.{StreamFacts}
 use Rattle.net_stream_model.specs.Streams.{LinkInvariantFits, Writes, ReadWrites, PassWrites, AllWritten}
-use Rattle.net_stream_model.specs.Promises.{StartsFits, before_end, WritesPrefix, WritesAll, FewRoundsAnyway, Ends}
-use Rattle.net_stream_model.specs.Promises.{HasEnded, Stays, FinalIs, CopiedIs, EndsInOneTurn}
+use Rattle.net_stream_model.specs.Promises.{StartsFits, before_end, WritesPrefix, WritesAll, FewRoundsAnyway, Ends, Stays, FinalIs, CopiedIs, EndsInOneTurn}
 use Rattle.net_stream_model.proofs.Kept.{begun, took, written, round_keeps_invariant}
-use Rattle.net_stream_model.proofs.Turns.{written_parts, fed_by, decides, all_turned, ended, running_or_not, fed_leaves}
-use Rattle.net_stream_model.proofs.Turns.{turns}
-use Rattle.std.proofs.lemmas.Bool.Decides.{nat_tests}
+use Rattle.net_stream_model.proofs.Turns.{Some, Nothing, brought, still_from, written_parts, fed_by, decides, all_turned, ended, running_or_not, fed_leaves, turns}
 use Rattle.std.proofs.Math.Nat.{add-mul}
 
 -- a sender never goes back
@@ -40,31 +31,27 @@ module _ (reads_nothing : SegmentReadsNothing) (from been : ℕ) where
   Grown s = (from ≤ s.sender.first_unacknowledged) × (s.receiver.read ≡ been)
 
   takes : (s : LinkState) (frame : List ℕ) → Grown s → Grown (take_in s frame)
-  takes s frame h = (
-    h.0,
-    arrives (λ (u : ReceiverState). u.read ≡ been) most_sack_blocks s.receiver (segment_of frame)
-        (λ pos xs _. reads_nothing most_sack_blocks s.receiver pos xs ∙ h.1) h.1,
-  )
+  takes s frame h =
+      let one = taken_in (λ (u : ReceiverState). u.read ≡ been) most_sack_blocks s.receiver (segment_of frame)
+      (λ pos xs _. reads_nothing most_sack_blocks s.receiver pos xs ∙ h.1) h.1 in
+      (h.0, one)
 
   acknowledged : (s : LinkState) (frame : List ℕ) → Grown s → Grown (acknowledge s frame)
   acknowledged s frame h = (le_trans h.0 (head_grows s.sender (segment_of frame)), h.1)
 
   steps_keep : StepsKeep Grown
   steps_keep = record {
-    sent = λ n s h. keeps (λ (c : Cursor). Grown c.link) part (λ c g. by_part (λ (d : Cursor). Grown d.link) c g (λ _ _. g) (λ _ _. g)) n (start s) h;
+    sent = λ n s h. keeps (λ (c : Cursor). Grown c.link) part (λ c g. by_part (λ (d : Cursor). Grown d.link) c (λ _. g) (λ _ _ _. g) (λ _ _ _. g)) n (start s) h;
     delayed = λ s frame rest _ h. (let one = takes (record s { forward = record s.forward { delayed = rest } }) frame h in (one, one));
     passed = λ s frame rest _ h.
-        let u = take_frame s rest in
-        let one = takes u frame h in
-        let fate = next_fate s.forward.fates in
-        let met : Grown (came fate u frame) = split Grown (comes fate) (come u frame) u (λ _. one) (λ _. h) in
+        let one = takes (take_frame s rest) frame h in
+        let met = split Grown (arrives (next_fate s.forward.fates)) (arrive (take_frame s rest) frame) (take_frame s rest) (λ _. one) (λ _. h) in
         (one, met, met);
     told = λ s h. h;
     ack_delayed = λ s frame rest _ h. acknowledged (record s { reverse = record s.reverse { delayed = rest } }) frame h;
     ack_passed = λ s frame rest _ h.
         let u = take_ack s rest in
-        let fate = next_fate s.reverse.fates in
-        let met : Grown (came_ack fate u frame) = split Grown (comes fate) (acknowledge u frame) u (λ _. acknowledged u frame h) (λ _. h) in
+        let met = split Grown (arrives (next_fate s.reverse.fates)) (acknowledge u frame) u (λ _. acknowledged u frame h) (λ _. h) in
         (met, met);
     burst = λ s h. h;
   }
@@ -188,12 +175,7 @@ module _ (known : StreamFacts) (s : Setup) (reads : List (List ℕ)) where
       (λ many. record { writes = search; coming = h.coming; over = h.over; done = λ d. absurd (cc) }) (λ few. h)
 
   pub passed_so_far : (c : CopyState) → c.status ≡ Running → SoFar c → SoFar (pass s.chunk c)
-  passed_so_far c on h = record {
-    writes = pass_writes known s.first c.given s.chunk c h.writes;
-    coming = h.coming;
-    over = h.over;
-    done = λ d. absurd (cc);
-  }
+  passed_so_far c on h = record { writes = pass_writes known s.first c.given s.chunk c h.writes; coming = h.coming; over = h.over; done = λ d. absurd (cc) }
 
   begun_so_far : StartsFits s → SoFar (begin s reads)
   begun_so_far fits = record {
@@ -217,18 +199,14 @@ module _ (known : StreamFacts) (s : Setup) (reads : List (List ℕ)) where
 pub starts_with : (xs ys zs : List ℕ) → ys ++ zs ≡ xs → StartsWith xs ys
 starts_with xs ys zs e = ap (take (length ys)) (sym e) ∙ take-append_seam ys zs
 
-starts_take : (n : ℕ) (xs : List ℕ) → StartsWith xs (take n xs)
-starts_take n xs = starts_with xs (take n xs) (drop n xs) (take-append-drop n xs)
-
 pub writes_prefix : StreamFacts → WritesPrefix
 writes_prefix known s reads n fits =
     let c = after s reads n in
+    let m = c.link.receiver.read in
     let h = so_far known s reads fits n in (
-      ⊎_elim {C = StartsWith (before_end reads) c.given}
-          (λ (e : c.more ≡ true). starts_with (before_end reads) c.given (before_end c.reads) (h.coming e))
-          (λ (e : c.more ≡ false). starts_with (before_end reads) c.given [] (append-nil c.given ∙ h.over e))
-          (cases_Bool c.more),
-      subst (StartsWith c.given) (sym h.writes.written) (starts_take c.link.receiver.read c.given),
+      either (cases_Bool c.more) (λ e. starts_with (before_end reads) c.given (before_end c.reads) (h.coming e))
+          (λ e. starts_with (before_end reads) c.given [] (append-nil c.given ∙ h.over e)),
+      subst (StartsWith c.given) (sym h.writes.written) (starts_with c.given (take m c.given) (drop m c.given) (take-append-drop m c.given)),
     )
 
 pub writes_all : StreamFacts → WritesAll
@@ -250,19 +228,13 @@ Moves x x' t t' = ((x < x') × (t' ≡ 0)) ⊎ ((x ≤ x') × (t' ≡ t + 1))
 pub progresses : SegmentReadsNothing → (chunk : ℕ) (c : CopyState) →
     (c.link.sender.first_unacknowledged ≤ (pass chunk c).link.sender.first_unacknowledged) × Moves (far c.link) (far (pass chunk c).link) c.stalled (pass chunk c).stalled
 progresses reads_nothing chunk c =
-    let h = grown reads_nothing c.link.sender.first_unacknowledged c.link.receiver.read (waited c) (omega arith, refl) in
-    let m = round (waited c) in (
+    let h = grown reads_nothing c.link.sender.first_unacknowledged c.link.receiver.read (waited c) (omega arith, refl) in (
       h.0,
-      by m.sender.first_unacknowledged m.receiver.read (min chunk (length m.receiver.queue)) (not (nat_eq m.sender.first_unacknowledged c.link.sender.first_unacknowledged))
-          (nat_lt 0 (min chunk (length m.receiver.queue))) refl refl h.0 h.1,
+      elim (brought chunk c) [
+        | Some none some ↦ inl (lt_of_not-le (λ l. some (still_from chunk c (omega arith) (omega arith))), none)
+        | Nothing more still empty ↦ inr (omega arith, more)
+      ],
     )
-  where
-    by : (head read k : ℕ) (moved some : Bool) → not (nat_eq head c.link.sender.first_unacknowledged) ≡ moved →
-        nat_lt 0 k ≡ some → c.link.sender.first_unacknowledged ≤ head → read ≡ c.link.receiver.read →
-        Moves (far c.link) (head + (read + k)) c.stalled (cond (moved || some) 0 (c.stalled + 1))
-    by head read k true some m e b r = inl (grind (arith, nat_tests), refl)
-    by head read k false true m e b r = inl ((let l = ltb-true 0 k e in omega arith), refl)
-    by head read k false false m e b r = inr (omega arith, refl)
 
 -- at most r rounds in a row make no progress
 one_more : (r f x x' t t' : ℕ) → f ≤ x → t < r → Moves x x' t t' → ((x - f) * r + t + 1 ≤ (x' - f) * r + t') × (t' ≤ r)
@@ -294,8 +266,8 @@ module _ (reads_nothing : SegmentReadsNothing) (s : Setup) where
       let low : s.first ≤ e.link.sender.first_unacknowledged = omega arith in
       let rounds : e.rounds ≤ gone e * s.rounds + e.stalled = omega arith in
       let few : e.stalled ≤ s.rounds = omega arith in
-      ⊎_elim {C = Counted (suc n) (turn s.rounds s.chunk c)}
-      (λ (on : c.status ≡ Running).
+      either (running_or_not c.status)
+      (λ on.
       let turns_few = h.3 on in
       turns (Counted (suc n)) s.rounds s.chunk c on (λ failed. (low, rounds, few, λ r. absurd (cc))) (λ done. (low, rounds, few, λ r. absurd (cc)))
       (λ _ _ many. (low, rounds, few, λ r. absurd (cc)))
@@ -303,15 +275,11 @@ module _ (reads_nothing : SegmentReadsNothing) (s : Setup) where
       let step = progresses reads_nothing s.chunk e in
       let grows = one_more s.rounds s.first (far e.link) (far (pass s.chunk e).link) e.stalled (pass s.chunk e).stalled (omega arith) less step.1 in
       (omega arith, omega arith, omega arith, λ r. omega arith)))
-      (λ (over : HasEnded c). subst (Counted (suc n)) (sym (ended s.rounds s.chunk c over)) (h.0, h.1, h.2, λ r. absurd (over r)))
-      (running_or_not c.status)
+      (λ over. subst (Counted (suc n)) (sym (ended s.rounds s.chunk c over)) (h.0, h.1, h.2, λ r. absurd (over r)))
 
 -- so many at most, of r each
 few_of : (r x t m : ℕ) → x ≤ 2 * m → t ≤ r → x * r + t ≤ (2 * m + 1) * r
-few_of r x t m few less =
-    let one : x * r ≤ 2 * m * r = mul-le-mul_right r few in
-    let is : (2 * m + 1) * r ≡ 2 * m * r + 1 * r = add-mul (2 * m) 1 r in
-    omega arith
+few_of r x t m few less = omega (arith, mul-le-mul_right r few)
 
 -- the bytes before the end are no more than all
 before_few : (reads : List (List ℕ)) → length (before_end reads) ≤ length (concat reads)
@@ -321,28 +289,18 @@ before_few ((x ∷ xs) ∷ reads) = omega (arith, before_few reads, length-appen
 
 module _ (known : StreamFacts) (s : Setup) (reads : List (List ℕ)) (fits : StartsFits s) (n : ℕ) where
   few_gone : gone known.reads_nothing s (after s reads n) ≤ 2 * length (after s reads n).given
-  few_gone =
-      let c = after s reads n in
-      let h = (so_far known s reads fits n).writes.carries in
-      let q = (queue_of known s.first c.given c.link h).within in
-      omega arith
+  few_gone = (let h = (so_far known s reads fits n).writes.carries in omega (arith, (queue_of known s.first _ _ h).within))
 
   few_given : length (after s reads n).given ≤ length (concat reads)
   few_given =
-      let c = after s reads n in
-      let so = so_far known s reads fits n in
-      let few = before_few reads in
-      ⊎_elim {C = length c.given ≤ length (concat reads)}
-      (λ (e : c.more ≡ true). omega (arith, ap length (so.coming e), length-append c.given (before_end c.reads)))
-      (λ (e : c.more ≡ false). omega (arith, ap length (so.over e)))
-      (cases_Bool c.more)
+      let given = (after s reads n).given in
+      omega (arith, before_few reads, ap length (writes_prefix known s reads n fits).0, length-take (length given) (before_end reads))
 
 pub few_rounds_anyway : StreamFacts → FewRoundsAnyway
 few_rounds_anyway known s reads n fits =
     let c = after s reads n in
     let h = counted known.reads_nothing s reads n in
-    let few = few_of s.rounds (gone known.reads_nothing s c) c.stalled (length c.given) (few_gone known s reads fits n) h.2 in
-    omega arith
+    omega (arith, few_of s.rounds (gone known.reads_nothing s c) c.stalled (length c.given) (few_gone known s reads fits n) h.2, h.1)
 
 pub ends : StreamFacts → Ends
 ends known s reads fits on =
@@ -351,22 +309,18 @@ ends known s reads fits on =
     let h = counted known.reads_nothing s reads n in
     let gone_few = few_gone known s reads fits n in
     let given = few_given known s reads fits n in
-    let turns_few = h.3 on in
-    let few = few_of s.rounds (gone known.reads_nothing s c) c.stalled (length (concat reads)) (omega arith) h.2 in
-    omega arith
+    omega (arith, few_of s.rounds (gone known.reads_nothing s c) c.stalled (length (concat reads)) (omega arith) h.2, h.3 on)
 
 -- ---- an ended copy
 pub stays_so : Stays
-stays_so s reads n k over = stays (turn s.rounds s.chunk) (begin s reads) n k (ended s.rounds s.chunk (after s reads n) over)
+stays_so s reads n k over = enough (turn s.rounds s.chunk) (begin s reads) n (n + k) (omega arith) (ended s.rounds s.chunk (after s reads n) over)
 
 pub final_is : StreamFacts → FinalIs
 final_is known s reads n fits over =
     let f = turn s.rounds s.chunk in
     let m = most_turns s reads in
-    ⊎_elim {C = after s reads m ≡ after s reads n}
-    (λ (l : m < n). sym (enough f (begin s reads) m n (omega arith) (ended s.rounds s.chunk (after s reads m) (ends known s reads fits))))
-    (λ (l : n ≤ m). enough f (begin s reads) n m l (ended s.rounds s.chunk (after s reads n) over))
-    (cases_lt m n)
+    either (cases_lt m n) (λ l. sym (enough f (begin s reads) m n (omega arith) (ended s.rounds s.chunk (after s reads m) (ends known s reads fits))))
+    (λ l. enough f (begin s reads) n m l (ended s.rounds s.chunk (after s reads n) over))
 
 pub copied_is : StreamFacts → CopiedIs
 copied_is known s reads n fits over = ap outcome (final_is known s reads n fits over)

@@ -1,7 +1,5 @@
 -- Which positions are spared, and what a sender lends and sends of what it keeps.
-use Rattle.std.proofs.Common.{cond, min, max, ◌≡◌, ℕ, suc, ◌+◌, ◌-◌, ◌<◌, ◌≤◌, nat_lt, true, false, List, [], ◌∷◌}
-use Rattle.std.proofs.Common.{length, take, drop, get_or, drop-cons, length-take, refl, ◌∙◌, arith, sym, ap, ◌⊎◌, Bool}
-use Rattle.std.proofs.Common.{◌++◌, All, subst, length-append, length-drop, append_assoc, take-add}
+use Rattle.std.proofs.Common.{cond, min, max, ◌≡◌, ℕ, suc, ◌+◌, ◌-◌, ◌<◌, ◌≤◌, nat_lt, true, false, List, [], ◌∷◌, length, take, drop, get_or, drop-cons, length-take, refl, ◌∙◌, arith, sym, ap, ◌⊎◌, Bool, ◌++◌, All, subst, length-append, length-drop, append_assoc, take-add}
 use Rattle.std.proofs.lemmas.Bool.Decides.{nat_tests}
 use Rattle.std.proofs.lemmas.List.{get_or-take, drop-drop, get_or-drop, append-nil, take-take}
 use Rattle.net_stream_model.specs.SackBlocks.{is_sacked, count_from, next_start, greatest_end, is_full}
@@ -12,8 +10,7 @@ use Rattle.std.proofs.Math.Seq.{take-append_seam}
 use Rattle.std.proofs.lemmas.List.Elements.{All-nil, All-head, All-push}
 use Rattle.net_stream_model.specs.Frames.{Part, frames_from, part_bytes}
 use Rattle.net_stream_model.specs.PathState.{PathState}
-use Rattle.net_stream_model.specs.Transmission.{IsSackedIf, AreSparedIfSacked, HasSize, part_end, HaveEnds, SendsPart}
-use Rattle.net_stream_model.specs.Transmission.{SendsPrefix, SendsRound}
+use Rattle.net_stream_model.specs.Transmission.{IsSackedIf, AreSparedIfSacked, HasSize, part_end, HaveEnds, SendsPart, SendsPrefix, SendsRound}
 
 -- of the first n elements, those from one on are it and those after it
 pub rest_of_first : {X : Type 0} (n i : ℕ) (xs : List X) (d : X) → i < n → n ≤ length xs →

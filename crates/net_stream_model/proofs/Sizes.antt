@@ -1,11 +1,11 @@
 -- How many frames and acknowledgements a round sends, and how many of them are delayed after it.
-use Rattle.std.proofs.Common.{◌≡◌, ℕ, zero, suc, ◌+◌, ◌-◌, ◌*◌, ◌^◌, ◌≤◌, List, [], ◌∷◌, length, take, Option, refl, sym, ap, subst, arith, le_trans, length-append}
+use Rattle.std.proofs.Common.{◌≡◌, ℕ, zero, suc, ◌+◌, ◌-◌, ◌*◌, ◌^◌, ◌≤◌, List, [], ◌∷◌, length, take, Option, refl, sym, ap, subst, arith, length-append}
 use Rattle.net_receiver.specs.ReceiverState.{ReceiverState}
 use Rattle.net_stream_model.specs.declared.counts.FrameCounts.{FrameCounts}
 use Rattle.net_stream_model.specs.declared.fate.Fate.{Fate}
 use Rattle.net_stream_model.specs.Frames.{segment_of}
 use Rattle.net_stream_model.specs.SackBlocks.{most_sack_blocks}
-use Rattle.net_stream_model.specs.Fates.{FatesState, next_fate, after_fate, comes_delayed}
+use Rattle.net_stream_model.specs.Fates.{FatesState, next_fate, after_fate}
 use Rattle.net_stream_model.specs.Counts.{more, with_fate, with_fates}
 use Rattle.net_stream_model.specs.PathState.{receiver_after}
 use Rattle.net_stream_model.specs.Arrivals.{ack_to, acks_of}
@@ -38,9 +38,7 @@ acks_few : (r : ReceiverState) (frames : List (List ℕ)) → length (acks_of mo
 acks_few r [] = omega arith
 acks_few r (x ∷ xs) =
     let u = receiver_after most_sack_blocks r (segment_of x) in
-    let one = acked_once u (segment_of x) in
-    let rest = acks_few u xs in
-    omega (arith, length-append (ack_to u (segment_of x)) (acks_of most_sack_blocks u xs))
+    omega (arith, acked_once u (segment_of x), acks_few u xs, length-append (ack_to u (segment_of x)) (acks_of most_sack_blocks u xs))
 
 -- ---- a round
 -- what it leaves that began with nothing in flight
@@ -69,16 +67,7 @@ sized_round l none none_reverse =
     let two : c2.sent ≡ (with_fates (length frames) l.forward.fates c1).sent = ap (λ (c : FrameCounts). c.sent) is.passed in
     let forward = sent_few (length frames) l.forward.fates c1 in
     let reverse = sent_few (length told) l.reverse.fates c2 in
-    subst (Sized l) (sym is.same) (record {
-      in_flight = refl;
-      in_flight_reverse = refl;
-      delayed = le_trans (passing_few comes_delayed l.forward.fates frames) few;
-      delayed_reverse = le_trans (passing_few comes_delayed l.reverse.fates told) (omega arith);
-      sent = omega arith;
-      within = λ word. reverse.1 (let k = forward.1 (omega arith) in omega arith);
-      max_burst = refl;
-      burst = omega arith;
-    })
+    subst (Sized l) (sym is.same) (search (arith, passing_few))
 
 pub round_keeps : RoundDelaysFew
 round_keeps l h = (let s = sized_round l h.in_flight h.in_flight_reverse in search arith)

@@ -1,18 +1,10 @@
 -- Iterated functions, and states after arrivals.
-use Rattle.std.proofs.Common.{◌≡◌, ◌⊎◌, ◌&&◌, ℕ, zero, suc, ◌+◌, ◌-◌, ◌≤◌, ◌<◌, nat_lt, Bool, true, false, cond, List}
-use Rattle.std.proofs.Common.{[], ◌∷◌, length, refl, sym, ap, subst, ◌∙◌, arith, inl, inr, ◌^◌, nat_le, Option, Some}
-use Rattle.std.proofs.Common.{None, All, ◌++◌, append_assoc, max, get_or, slice_get, le_of_suc-le-suc, lt_of_not-le}
-use Rattle.std.proofs.Common.{length-drop}
-use Rattle.std.proofs.lemmas.Bool.{cond-true, cond-false, and_parts, ltb-true, leb-true, cases_lt, le-leb}
+use Rattle.std.proofs.Common.{◌≡◌, ◌⊎◌, ◌&&◌, ℕ, zero, suc, ◌+◌, ◌-◌, ◌≤◌, ◌<◌, nat_lt, Bool, true, false, cond, List, [], ◌∷◌, length, refl, sym, ap, subst, ◌∙◌, arith, inl, inr, ◌^◌, nat_le, Option, Some, None, All, ◌++◌, append_assoc, max, get_or, slice_get, le_of_suc-le-suc, lt_of_not-le, length-drop}
+use Rattle.std.proofs.lemmas.Bool.{cond-true, cond-false, and_parts, ltb-true, ltb-false, leb-true, cases_lt, le-leb}
 use Rattle.std.proofs.lemmas.Bool.Decides.{nat_tests}
 use Rattle.net_stream_model.specs.SenderState.{stop_of, spared_from, SenderState, end_of, sender_from, after_ack_frame}
-use Rattle.net_stream_model.specs.Fates.{next_fate, FatesState, after_fate, next_of, after_of, comes, AllCome, NextCome}
-use Rattle.net_stream_model.specs.LinkState.{LinkState, times, Cursor, start, frame_len, send, part, part_at, transmit}
-use Rattle.net_stream_model.specs.LinkState.{take_in, come, delayed_frame_of, delayed_frame, delayed_frames, came, meet}
-use Rattle.net_stream_model.specs.LinkState.{take_frame, pass_frame_of, pass_frame, pass_frames, acknowledge_all}
-use Rattle.net_stream_model.specs.LinkState.{acknowledge, delayed_ack_of, delayed_ack, delayed_acks, came_ack, meet_ack}
-use Rattle.net_stream_model.specs.LinkState.{take_ack, pass_ack_of, pass_ack, pass_acks, with_burst, round}
-use Rattle.net_stream_model.specs.LinkState.{StopsDelayed, StopsFrame, StopsAck, StopsRound}
+use Rattle.net_stream_model.specs.Fates.{next_fate, FatesState, after_fate, next_of, after_of, arrives, AllCome, NextCome}
+use Rattle.net_stream_model.specs.LinkState.{LinkState, times, Cursor, start, frame_len, send, part, part_at, transmit, take_in, arrive, delayed_frame_of, delayed_frame, delayed_frames, arrived, apply_fate, take_frame, pass_frame_of, pass_frame, pass_frames, acknowledge_all, acknowledge, delayed_ack_of, delayed_ack, delayed_acks, arrived_ack, apply_ack_fate, take_ack, pass_ack_of, pass_ack, pass_acks, with_burst, round, StopsDelayed, StopsFrame, StopsAck, StopsRound}
 use Rattle.std.proofs.lemmas.List.Elements.{All-cons, All-head, All-tail}
 use Rattle.net_receiver.specs.Rules.{Segment}
 use Rattle.net_receiver.specs.ReceiverState.{ReceiverState, receiver_after_command, next_position, IsSound}
@@ -33,13 +25,10 @@ use Rattle.net_stream_model.specs.LinkInvariant.{HasAllOf}
 use Rattle.net_stream_model.specs.Transmission.{IsSackedIf}
 
 -- once a step changes nothing, no more of them do
-pub stays : {S : Type 0} (f : S → S) (s : S) (n k : ℕ) → f (times n f s) ≡ times n f s → times (n + k) f s ≡ times n f s
-stays f s n zero same = ap (λ j. times j f s) (let e : n + 0 ≡ n = omega arith in e)
-stays f s n (suc k) same =
-    ap (λ j. times j f s) (let e : n + suc k ≡ suc (n + k) = omega arith in e) ∙ ap f (stays f s n k same) ∙ same
-
 pub enough : {S : Type 0} (f : S → S) (s : S) (n m : ℕ) → n ≤ m → f (times n f s) ≡ times n f s → times m f s ≡ times n f s
-enough f s n m few same = ap (λ j. times j f s) (let e : m ≡ n + (m - n) = omega arith in e) ∙ stays f s n (m - n) same
+enough f s n zero few same = ap (λ j. times j f s) (let e : zero ≡ n = omega arith in e)
+enough f s n (suc m) few same =
+    either (cases_lt m n) (λ l. ap (λ j. times j f s) (let e : suc m ≡ n = omega arith in e)) (λ l. ap f (enough f s n m l same) ∙ same)
 
 -- what each step keeps, all do
 pub keeps : {S : Type 0} (P : S → Type 0) (f : S → S) → ((s : S) → P s → P (f s)) → (n : ℕ) (s : S) → P s → P (times n f s)
@@ -60,10 +49,10 @@ all_sent s c n e few same =
     let reached : part (times n part (start s)) ≡ times n part (start s) = sym (ap part e) ∙ same ∙ e in
     ap (λ d. d.link) (e ∙ sym (enough part (start s) n (length s.sender.queue) few reached))
 
--- the first step, and then the others
-pub times_front : {S : Type 0} (n : ℕ) (f : S → S) (s : S) → times (suc n) f s ≡ times n f (f s)
-times_front zero f s = refl
-times_front (suc n) f s = ap f (times_front n f s)
+-- the first step, which leads to v, and then the others
+pub times_front : {S : Type 0} (n : ℕ) (f : S → S) (s v : S) → f s ≡ v → times (suc n) f s ≡ times n f v
+times_front zero f s v is = is
+times_front (suc n) f s v is = ap f (times_front n f s v is)
 
 -- what both arms of a test have, it has
 pub split : {A : Type 0} (P : A → Type 0) (b : Bool) (x y : A) → (b ≡ true → P x) → (b ≡ false → P y) → P (cond b x y)
@@ -78,18 +67,18 @@ by_first P (frame ∷ rest) none some = some frame rest refl
 
 -- ---- a part of the queue
 -- what is true where no frame may begin, where bytes are spared and where a frame is sent
-pub by_part : (P : Cursor → Type 0) (c : Cursor) → P c →
-    (c.pos < stop_of c.link.sender → 0 < c.left → P (record c { pos = c.pos + spared_from c.link.sender c.pos })) →
-    (c.pos < stop_of c.link.sender → 0 < c.left →
+pub by_part : (P : Cursor → Type 0) (c : Cursor) → ((stop_of c.link.sender ≤ c.pos) ⊎ (c.left ≡ 0) → P c) →
+    (c.pos < stop_of c.link.sender → 0 < c.left → 0 < spared_from c.link.sender c.pos → P (record c { pos = c.pos + spared_from c.link.sender c.pos })) →
+    (c.pos < stop_of c.link.sender → 0 < c.left → spared_from c.link.sender c.pos ≡ 0 →
     P (record { pos = c.pos + frame_len c.link c.pos; left = c.left - 1; link = send c.link c.pos (frame_len c.link c.pos) })) → P (part c)
 by_part P c same spared sent =
-    split P (nat_lt c.pos (stop_of c.link.sender) && nat_lt 0 c.left) (part_at c) c
-    (λ on.
-    let both = and_parts (nat_lt c.pos (stop_of c.link.sender)) (nat_lt 0 c.left) on in
-    let below = ltb-true c.pos (stop_of c.link.sender) both.0 in
-    let some = ltb-true 0 c.left both.1 in
-    split P (nat_lt 0 (spared_from c.link.sender c.pos)) _ _ (λ _. spared below some) (λ _. sent below some))
-    (λ _. same)
+    either (cases_lt c.pos (stop_of c.link.sender))
+    (λ below. either (cases_lt 0 c.left)
+    (λ some. subst P (sym (goes_on c below some)) (split P (nat_lt 0 (spared_from c.link.sender c.pos)) _ _
+    (λ more. spared below some (ltb-true 0 (spared_from c.link.sender c.pos) more))
+    (λ none. sent below some (let l = ltb-false 0 (spared_from c.link.sender c.pos) none in omega arith))))
+    (λ none. subst P (sym (stops c (inr (omega arith)))) (same (inr (omega arith)))))
+    (λ past. subst P (sym (stops c (inl past))) (same (inl past)))
 
 -- ---- a round
 module _ (P : LinkState → Type 0) where
@@ -97,14 +86,14 @@ module _ (P : LinkState → Type 0) where
   pub record StepsKeep : Type 0 where
     pub sent : (n : ℕ) (s : LinkState) → P s → P (times n part (start s)).link
     pub delayed : (s : LinkState) (frame : List ℕ) (rest : List (List ℕ)) → s.forward.delayed ≡ frame ∷ rest → P s →
-        P (take_in (record s { forward = record s.forward { delayed = rest } }) frame) × P (come (record s { forward = record s.forward { delayed = rest } }) frame)
+        P (take_in (record s { forward = record s.forward { delayed = rest } }) frame) × P (arrive (record s { forward = record s.forward { delayed = rest } }) frame)
     pub passed : (s : LinkState) (frame : List ℕ) (rest : List (List ℕ)) → s.forward.in_flight ≡ frame ∷ rest → P s →
-        P (take_in (take_frame s rest) frame) × P (came (next_fate s.forward.fates) (take_frame s rest) frame) × P (meet (next_fate s.forward.fates) (take_frame s rest) frame)
+        P (take_in (take_frame s rest) frame) × P (arrived (next_fate s.forward.fates) (take_frame s rest) frame) × P (apply_fate (next_fate s.forward.fates) (take_frame s rest) frame)
     pub told : (s : LinkState) → P s → P (acknowledge_all s)
     pub ack_delayed : (s : LinkState) (frame : List ℕ) (rest : List (List ℕ)) → s.reverse.delayed ≡ frame ∷ rest → P s →
         P (acknowledge (record s { reverse = record s.reverse { delayed = rest } }) frame)
     pub ack_passed : (s : LinkState) (frame : List ℕ) (rest : List (List ℕ)) → s.reverse.in_flight ≡ frame ∷ rest → P s →
-        P (came_ack (next_fate s.reverse.fates) (take_ack s rest) frame) × P (meet_ack (next_fate s.reverse.fates) (take_ack s rest) frame)
+        P (arrived_ack (next_fate s.reverse.fates) (take_ack s rest) frame) × P (apply_ack_fate (next_fate s.reverse.fates) (take_ack s rest) frame)
     pub burst : (s : LinkState) → P s → P (with_burst s)
 
   module _ (k : StepsKeep) where
@@ -160,17 +149,17 @@ module _ (P : LinkState → Type 0) where
 -- ======== What frames that come leave, one after another
 -- ---- a receiver
 -- what is true where a frame is a segment, and where it changes nothing
-pub arrives : (P : ReceiverState → Type 0) (N : ℕ) (r : ReceiverState) (o : Option (ℕ × List ℕ)) →
+pub taken_in : (P : ReceiverState → Type 0) (N : ℕ) (r : ReceiverState) (o : Option (ℕ × List ℕ)) →
     ((pos : ℕ) (xs : List ℕ) → o ≡ Some (pos, xs) → P (receiver_after_command N r (Segment pos xs))) → P r → P (receiver_after N r o)
-arrives P N r None took same = same
-arrives P N r (Some (pos, xs)) took same =
+taken_in P N r None took same = same
+taken_in P N r (Some (pos, xs)) took same =
     split P (nat_lt (pos + length xs) (2 ^ 64)) (receiver_after_command N r (Segment pos xs)) r (λ _. took pos xs refl) (λ _. same)
 
 pub all_arrive : (P : ReceiverState → Type 0) (N : ℕ) →
     ((r : ReceiverState) (pos : ℕ) (xs : List ℕ) → P r → P (receiver_after_command N r (Segment pos xs))) →
     (r : ReceiverState) (frames : List (List ℕ)) → P r → P (receiver_after_all N r frames)
 all_arrive P N took r [] h = h
-all_arrive P N took r (x ∷ xs) h = all_arrive P N took (receiver_after N r (segment_of x)) xs (arrives P N r (segment_of x) (λ pos ys _. took r pos ys h) h)
+all_arrive P N took r (x ∷ xs) h = all_arrive P N took (receiver_after N r (segment_of x)) xs (taken_in P N r (segment_of x) (λ pos ys _. took r pos ys h) h)
 
 -- ---- a sender
 -- what is true where it keeps the rest of its queue, and where an acknowledgement changes nothing
@@ -252,16 +241,16 @@ no_gap most r ranges pos sound had marked =
 
 -- ---- fates
 drawn_comes : (rates : Rates) (a b c : ℕ) → rates.lost ≡ 0 → rates.delayed ≡ 0 →
-    comes (cond (nat_lt a rates.lost) Lost (cond (nat_lt b rates.duplicated) Duplicated (cond (nat_lt c rates.delayed) Delayed Delivered))) ≡ true
+    arrives (cond (nat_lt a rates.lost) Lost (cond (nat_lt b rates.duplicated) Duplicated (cond (nat_lt c rates.delayed) Delayed Delivered))) ≡ true
 drawn_comes rates a b c lost delayed = grind (arith, nat_tests)
 
-come_one : (rates : Rates) (state : ℕ) (listed : List Fate) → rates.lost ≡ 0 → rates.delayed ≡ 0 → All (λ y. comes y ≡ true) listed →
-    (comes (next_of rates state listed) ≡ true) × AllCome (after_of rates state listed)
+come_one : (rates : Rates) (state : ℕ) (listed : List Fate) → rates.lost ≡ 0 → rates.delayed ≡ 0 → All (λ y. arrives y ≡ true) listed →
+    (arrives (next_of rates state listed) ≡ true) × AllCome (after_of rates state listed)
 come_one rates state [] lost delayed all = (drawn_comes rates _ _ _ lost delayed, record { listed = all; lost = lost; delayed = delayed })
 come_one rates state (x ∷ xs) lost delayed all =
-    (All-head (λ y. comes y ≡ true) x xs all, record { listed = All-tail (λ y. comes y ≡ true) x xs all; lost = lost; delayed = delayed })
+    (All-head (λ y. arrives y ≡ true) x xs all, record { listed = All-tail (λ y. arrives y ≡ true) x xs all; lost = lost; delayed = delayed })
 
-pub come_next : (v : FatesState) → AllCome v → (comes (next_fate v) ≡ true) × AllCome (after_fate v)
+pub come_next : (v : FatesState) → AllCome v → (arrives (next_fate v) ≡ true) × AllCome (after_fate v)
 come_next v h = come_one v.rates v.state v.listed h.lost h.delayed h.listed
 
 -- if all come, so do the next ones
@@ -274,8 +263,7 @@ pub by_keeps_end : (s : SenderState) (o : Option (ℕ × List ℕ)) → end_of (
 by_keeps_end s o = heard (λ u. end_of u ≡ end_of s) s o (λ n xs _ low high. omega (arith, length-drop (n - s.first_unacknowledged) s.queue)) refl
 
 pub all_keep_end : (s : SenderState) (frames : List (List ℕ)) → end_of (after_ack_frames s frames) ≡ end_of s
-all_keep_end s [] = refl
-all_keep_end s (frame ∷ frames) = all_keep_end (after_ack_frame s (segment_of frame)) frames ∙ by_keeps_end s (segment_of frame)
+all_keep_end s frames = all_heard (λ u. end_of u ≡ end_of s) (λ u n xs low high h. omega (arith, length-drop (n - u.first_unacknowledged) u.queue)) s frames refl
 
 pub acked_append : (s : SenderState) (xs ys : List (List ℕ)) → after_ack_frames s (xs ++ ys) ≡ after_ack_frames (after_ack_frames s xs) ys
 acked_append s [] ys = refl

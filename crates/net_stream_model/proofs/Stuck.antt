@@ -1,16 +1,11 @@
 -- What failed in a round without progress.
-use Rattle.std.proofs.Common.{◌≡◌, ◌⊎◌, ℕ, zero, suc, ◌+◌, ◌-◌, ◌<◌, ◌≤◌, ◌^◌, min, nat_lt, true, false, List, [], ◌∷◌}
-use Rattle.std.proofs.Common.{◌++◌, length, take, All, Option, Some, None, refl, sym, ap, subst, ◌∙◌, arith, ⊎_elim}
-use Rattle.std.proofs.Common.{inl, inr, le_trans, le_refl, length-append, length-take, length-drop, ◌*◌, lt_of_not-le}
-use Rattle.std.proofs.Common.{append_assoc}
-use Rattle.std.proofs.lemmas.Bool.{both_ways, cases_lt, cases_Bool, cond-true, false_from_ne_true, lt-ltb, le-leb}
-use Rattle.std.proofs.lemmas.Bool.{and_from}
+use Rattle.std.proofs.Common.{◌≡◌, ◌⊎◌, ℕ, zero, suc, ◌+◌, ◌-◌, ◌<◌, ◌≤◌, ◌^◌, min, nat_lt, true, false, List, [], ◌∷◌, ◌++◌, length, take, All, Option, Some, None, refl, sym, ap, subst, ◌∙◌, arith, inl, inr, le_trans, le_refl, length-append, length-take, length-drop, ◌*◌, lt_of_not-le, append_assoc}
+use Rattle.std.proofs.lemmas.Bool.{both_ways, cases_lt, cases_Bool, cond-true, false_from_ne_true, lt-ltb, le-leb, and_from}
 use Rattle.std.proofs.lemmas.List.Elements.{All-nil, All-cons, All-head, All-append}
 use Rattle.net_assembler.specs.Positions.{maximal_runs}
+use Rattle.net_assembler.proofs.Positions.{either}
 use Rattle.net_receiver.specs.Rules.{Segment}
-use Rattle.net_receiver.specs.ReceiverState.{ReceiverState, IsSound, next_position, receiver_after_command}
-use Rattle.net_receiver.specs.ReceiverState.{receiver_after_read, domain}
-use Rattle.net_receiver.specs.OneStream.{QueueIsOfStream}
+use Rattle.net_receiver.specs.ReceiverState.{ReceiverState, IsSound, next_position, receiver_after_command, receiver_after_read, domain, limit_of}
 use Rattle.net_receiver.specs.Retransmission.{HasByteAt}
 use Rattle.net_stream_model.specs.SenderState.{SenderState, sender_from, end_of, at_least_one, after_ack_frame}
 use Rattle.net_stream_model.specs.Frames.{frame_of, frames_from, segment_of, FramesDecode}
@@ -20,21 +15,17 @@ use Rattle.net_stream_model.specs.LinkState.{LinkState}
 use Rattle.net_stream_model.specs.declared.fate.Fate.{Fate}
 use Rattle.net_stream_model.specs.declared.fate.Fate.TheVariants.{Lost}
 use Rattle.net_stream_model.specs.Counts.{with_fate, with_fates, with_payload}
-use Rattle.net_stream_model.specs.Fates.{FatesState, next_fate, after_fate, fates_after, comes, comes_delayed, AllCome}
-use Rattle.net_stream_model.specs.Fates.{NextCome}
+use Rattle.net_stream_model.specs.Fates.{FatesState, next_fate, after_fate, fates_after, arrives, arrives_later, AllCome, NextCome}
 use Rattle.net_stream_model.specs.PathState.{ack_of, receiver_after}
-use Rattle.net_receiver.specs.ReceiverState.{limit_of}
 use Rattle.net_stream_model.specs.Reach.{after_ack_frames}
 use Rattle.net_stream_model.specs.Arrivals.{coming_of, delayed_of, receiver_after_all, ack_to, acks_of}
 use Rattle.net_stream_model.specs.Round.{Passes}
 use Rattle.net_stream_model.specs.LinkInvariant.{LinkInvariant}
 use Rattle.net_stream_model.specs.Facts.{RoundFacts}
-use Rattle.net_stream_model.specs.Stuck.{failures, losses, RoundLeaves, ProgressesOrIsStuck, HasFailed}
-use Rattle.net_stream_model.specs.Stuck.{AllFail, FatesFail, FirstMatches, IsDue, IsStuck}
+use Rattle.net_stream_model.specs.Stuck.{failures, losses, RoundLeaves, ProgressesOrIsStuck, HasFailed, AllFail, FatesFail, FirstMatches, IsDue, IsStuck}
 use Rattle.net_stream_model.proofs.Prefix.{head_grows}
 use Rattle.net_stream_model.proofs.Sent.{first_sent}
-use Rattle.net_stream_model.proofs.Steps.{come_next, missing, all_keep_end, acked_append, next_come, arrives}
-use Rattle.net_stream_model.proofs.Steps.{all_arrive, all_heard, brought_append, passing_all, none_passes, split}
+use Rattle.net_stream_model.proofs.Steps.{come_next, missing, all_keep_end, acked_append, next_come, taken_in, all_arrive, all_heard, brought_append, passing_all, none_passes, split}
 use Rattle.net_stream_model.proofs.Kept.{in_stream}
 
 -- ---- an acknowledgement of a position from n up to m
@@ -60,13 +51,13 @@ brought_keeps F N r frames same = all_arrive (λ u. F u ≡ F r) N (λ u pos xs 
 
 module _ (known : RoundFacts) where
   pub arrived_grows : (N : ℕ) (r : ReceiverState) (o : Option (ℕ × List ℕ)) → next_position r ≤ next_position (receiver_after N r o)
-  arrived_grows N r o = arrives (λ u. next_position r ≤ next_position u) N r o (λ pos xs _. known.stream.next N r (Segment pos xs)) (omega arith)
+  arrived_grows N r o = taken_in (λ u. next_position r ≤ next_position u) N r o (λ pos xs _. known.stream.next N r (Segment pos xs)) (omega arith)
 
   same_limit : (N : ℕ) (r : ReceiverState) (pos : ℕ) (xs : List ℕ) → limit_of (receiver_after_command N r (Segment pos xs)) ≡ limit_of r
   same_limit N r pos xs = λ i. known.first N r (Segment pos xs) i + known.stream.reads_nothing N r pos xs i + known.capacity N r (Segment pos xs) i
 
   pub arrived_limit : (N : ℕ) (r : ReceiverState) (o : Option (ℕ × List ℕ)) → limit_of (receiver_after N r o) ≡ limit_of r
-  arrived_limit N r o = arrives (λ u. limit_of u ≡ limit_of r) N r o (λ pos xs _. same_limit N r pos xs) refl
+  arrived_limit N r o = taken_in (λ u. limit_of u ≡ limit_of r) N r o (λ pos xs _. same_limit N r pos xs) refl
 
   pub brought_grows : (N : ℕ) (r : ReceiverState) (frames : List (List ℕ)) → next_position r ≤ next_position (receiver_after_all N r frames)
   brought_grows N r frames = all_arrive (λ u. next_position r ≤ next_position u) N (λ u pos xs h. le_trans h (known.stream.next N u (Segment pos xs))) r frames (omega arith)
@@ -93,14 +84,11 @@ module _ (known : RoundFacts) where
   first_brings N r delayed rest frame pos xs at near far word room =
       let r1 = receiver_after_all N r delayed in
       let r2 = receiver_after N r1 (segment_of frame) in
-      let more : next_position r ≤ next_position r1 = brought_grows N r delayed in
-      let same : limit_of r1 ≡ limit_of r = brought_limit N r delayed in
       let is : r2 ≡ receiver_after_command N r1 (Segment pos xs) = ap (receiver_after N r1) at
       ∙ cond-true _ (receiver_after_command N r1 (Segment pos xs)) r1 (lt-ltb (pos + length xs) (2 ^ 64) word) in
-      let all : next_position r2 ≤ next_position (receiver_after_all N r2 rest) = brought_grows N r2 rest in
-      let reach : min (pos + length xs) (limit_of r1) ≤ next_position r2 =
-      subst (λ v. min (pos + length xs) (limit_of r1) ≤ next_position v) (sym is) (known.order N r1 pos xs (le_trans near more)) in
-      subst (λ v. next_position r < next_position v) (sym (brought_append N r delayed (frame ∷ rest))) (omega (arith, far, room, same, reach, all))
+      let reach = subst (λ v. min (pos + length xs) (limit_of r1) ≤ next_position v) (sym is) (known.order N r1 pos xs (le_trans near (brought_grows N r delayed))) in
+      subst (λ v. next_position r < next_position v) (sym (brought_append N r delayed (frame ∷ rest)))
+      (omega (arith, far, room, brought_limit N r delayed, reach, brought_grows N r2 rest))
 
 -- ---- a sender never goes back
 all_heads_grow : (s : SenderState) (frames : List (List ℕ)) → s.first_unacknowledged ≤ (after_ack_frames s frames).first_unacknowledged
@@ -110,20 +98,6 @@ all_heads_grow s frames = all_heard (λ (u : SenderState). s.first_unacknowledge
 one_moves : (s : SenderState) (b k : ℕ) (xs : List ℕ) (o : Option (ℕ × List ℕ)) → o ≡ Some (k, xs) → b < k →
     k ≤ end_of s → b < (after_ack_frame s o).first_unacknowledged
 one_moves s b k xs o at above within = subst (λ p. b < (after_ack_frame s p).first_unacknowledged) (sym at) (grind arith)
-
--- the last acknowledgement is of a position that the sender keeps, and that it isn't beyond
-pub acked_last : FramesDecode → (s : SenderState) (n : ℕ) (xs : List ℕ) (prefix : List (List ℕ)) → n ≤ end_of s → n < 2 ^ 64 →
-    (after_ack_frames s (prefix ++ frame_of n xs ∷ [])).first_unacknowledged ≤ n →
-    after_ack_frames s (prefix ++ frame_of n xs ∷ []) ≡ sender_from (after_ack_frames s prefix) n (blocks_of most_sack_blocks xs)
-acked_last trip s n xs prefix within word below =
-    let t = after_ack_frames s prefix in
-    let end : end_of t ≡ end_of s = all_keep_end s prefix in
-    let joined : after_ack_frames s (prefix ++ frame_of n xs ∷ []) ≡ after_ack_frame t (Some (n, xs)) =
-    acked_append s prefix (frame_of n xs ∷ []) ∙ ap (after_ack_frame t) (trip n xs word) in
-    let same = ap (λ v. v.first_unacknowledged) joined in
-    let grows = head_grows t (Some (n, xs)) in
-    joined ∙ cond-true _ (sender_from t n (blocks_of most_sack_blocks xs)) t
-    (and_from _ _ (le-leb t.first_unacknowledged n (omega arith)) (le-leb n (end_of t) (omega arith)))
 
 -- if the first unacknowledged position stays, none of these came
 none_come : (s s' : SenderState) (delayed c : List (List ℕ)) (n m : ℕ) → s' ≡ after_ack_frames s (delayed ++ c) →
@@ -135,10 +109,8 @@ none_come s s' delayed (a ∷ rest) n m is same above within all =
     let ack = All-head (Acks n m) a rest all in
     let e : end_of t ≡ end_of s = all_keep_end s delayed in
     let u = after_ack_frame t (segment_of a) in
-    let one : s.first_unacknowledged < u.first_unacknowledged = one_moves t s.first_unacknowledged ack.0 ack.1 (segment_of a) ack.2 (omega arith) (omega arith) in
-    let more : u.first_unacknowledged ≤ (after_ack_frames u rest).first_unacknowledged = all_heads_grow u rest in
-    let reached : s'.first_unacknowledged ≡ (after_ack_frames u rest).first_unacknowledged = ap (λ v. v.first_unacknowledged) (is ∙ acked_append s delayed (a ∷ rest)) in
-    absurd (omega arith)
+    let one = one_moves t s.first_unacknowledged ack.0 ack.1 (segment_of a) ack.2 (omega arith) (omega arith) in
+    absurd (omega (arith, one, all_heads_grow u rest, ap (λ v. v.first_unacknowledged) (is ∙ acked_append s delayed (a ∷ rest))))
 
 -- ---- a round
 -- from p up to e, bytes have the position n; an acknowledgement of p is beyond b, and not beyond the end
@@ -147,12 +119,6 @@ IsMissing n p e = (p ≤ n) × (n < e) × (e < 2 ^ 64)
 
 abbrev IsBeyond : ℕ → ℕ → ℕ → ℕ → Type 0
 IsBeyond b end p e = (b < p) × (p ≤ end)
-
--- a receiver has nothing past the sender's end
-all_within : QueueIsOfStream → (f : ℕ) (w : List ℕ) (l : LinkState) → LinkInvariant f w l → next_position l.receiver ≤ end_of l.sender
-all_within queue f w l carries =
-    let stream = in_stream queue f w l.receiver carries.receives in
-    omega arith
 
 -- ---- what is counted
 -- a count that never falls, and rises with each fate that has Q
@@ -182,7 +148,7 @@ module _ (F : FrameCounts → ℕ) (Q : Fate → Type 0) (grows : (lot : Fate) (
 failed_met : (lot : Fate) (c : FrameCounts) → failures c ≤ failures (with_fate lot c)
 failed_met lot c = grind arith
 
-failed_fails : (lot : Fate) (c : FrameCounts) → comes lot ≡ false → min (failures c + 1) (2 ^ 64 - 1) ≤ failures (with_fate lot c)
+failed_fails : (lot : Fate) (c : FrameCounts) → arrives lot ≡ false → min (failures c + 1) (2 ^ 64 - 1) ≤ failures (with_fate lot c)
 failed_fails lot c e = grind arith
 
 -- ---- what is lost
@@ -204,12 +170,12 @@ all_fail : (follow : ℕ) (v : FatesState) (frames : List (List ℕ)) → coming
     AllFail follow (length frames) v
 all_fail follow v [] none never = tt
 all_fail follow v (x ∷ xs) none never =
-    let here = none_passes comes v x xs none in
-    let later = λ (some : 0 < follow). none_passes comes_delayed v x xs (never some) in
+    let here = none_passes arrives v x xs none in
+    let later = λ (some : 0 < follow). none_passes arrives_later v x xs (never some) in
     ((here.0, λ some. (later some).0), all_fail follow (after_fate v) xs here.1 (λ some. (later some).1))
 
 -- ---- what is delayed
-first_delayed : (P : ℕ → ℕ → Type 0) (v : FatesState) (frames : List (List ℕ)) → FirstMatches frames P → comes_delayed (next_fate v) ≡ true →
+first_delayed : (P : ℕ → ℕ → Type 0) (v : FatesState) (frames : List (List ℕ)) → FirstMatches frames P → arrives_later (next_fate v) ≡ true →
     FirstMatches (delayed_of v frames) P
 first_delayed P v frames says e =
     let l = delayed_of (after_fate v) says.1 in
@@ -226,23 +192,19 @@ says_moved : (P Q : ℕ → ℕ → Type 0) (frames others : List (List ℕ)) �
 says_moved P Q frames others same h says = (says.0, says.1, says.2, says.3, same ∙ says.4, says.5, h says.2 (says.2 + length says.3) says.6)
 
 -- ---- rounds in a row
-failed_weaker : (k j : ℕ) (lot : Fate) → (0 < j → 0 < k) → HasFailed k lot → HasFailed j lot
-failed_weaker k j lot h e = (e.0, λ some. e.1 (h some))
+all_fail_weaker : (j n : ℕ) (v : FatesState) → AllFail 1 n v → AllFail j n v
+all_fail_weaker j zero v all = tt
+all_fail_weaker j (suc n) v all = ((all.0.0, λ _. all.0.1 (omega arith)), all_fail_weaker j n (after_fate v) all.1)
 
-all_fail_weaker : (k j n : ℕ) (v : FatesState) → (0 < j → 0 < k) → AllFail k n v → AllFail j n v
-all_fail_weaker k j zero v h all = tt
-all_fail_weaker k j (suc n) v h all = (failed_weaker k j (next_fate v) h all.0, all_fail_weaker k j n (after_fate v) h all.1)
-
-pub stuck_weaker : (k j frames acks : ℕ) (v v' : FatesState) → (0 < j → 0 < k) → FatesFail k frames acks v v' → FatesFail j frames acks v v'
-stuck_weaker k j frames acks v v' h = elim [
-  | inl a ↦ inl (a.0, failed_weaker k j (next_fate v) h a.1)
-  | inr b ↦ inr (b.0, all_fail_weaker k j acks v' h b.1)
+pub stuck_weaker : (j frames acks : ℕ) (v v' : FatesState) → FatesFail 1 frames acks v v' → FatesFail j frames acks v v'
+stuck_weaker j frames acks v v' = elim [
+  | inl a ↦ inl (a.0, (a.1.0, λ _. a.1.1 (omega arith)))
+  | inr b ↦ inr (b.0, all_fail_weaker j acks v' b.1)
 ]
 
 module _ (old new : LinkState) (p : Passes old new) where
   acks_some : 0 < length p.acks
-  acks_some = subst (λ l. 0 < length l) (sym p.acks_are)
-      (let e = length-append (old.reverse.in_flight ++ acks_of most_sack_blocks old.receiver p.came) (ack_of new.receiver ∷ []) in omega arith)
+  acks_some = omega (arith, ap length p.acks_are, length-append (old.reverse.in_flight ++ acks_of most_sack_blocks old.receiver p.arrived) (ack_of new.receiver ∷ []))
 
   -- a count of failed frames and acknowledgements doesn't fall, and it rises if the first of them failed
   abbrev Rises : (FrameCounts → ℕ) → (Fate → Type 0) → Type 0
@@ -253,8 +215,8 @@ module _ (old new : LinkState) (p : Passes old new) where
   abbrev before : FrameCounts
   before = with_payload (count_outside old.sender.sack_blocks old.sender.first_unacknowledged p.n) old.counts
 
-  pub round_failed : Rises failures (λ lot. comes lot ≡ false)
-  round_failed = both_count failures (λ lot. comes lot ≡ false) failed_met failed_fails (length p.sent.in_flight) (length p.acks)
+  pub round_failed : Rises failures (λ lot. arrives lot ≡ false)
+  round_failed = both_count failures (λ lot. arrives lot ≡ false) failed_met failed_fails (length p.sent.in_flight) (length p.acks)
       old.forward.fates old.reverse.fates before new.counts (ap failures p.counted)
 
   round_lost : Rises losses (HasFailed 1)
@@ -271,10 +233,10 @@ module _ (old new : LinkState) (p : Passes old new) where
     end = end_left;
     first_unacknowledged = subst (λ v. old.sender.first_unacknowledged ≤ v.first_unacknowledged) (sym p.acked) (all_heads_grow old.sender (old.reverse.delayed ++ coming_of old.reverse.fates p.acks));
     sender_capacity = ap (λ v. v.capacity) p.acked ∙ all_heard (λ (u : SenderState). u.capacity ≡ old.sender.capacity) (λ u n xs _ _ h. h) old.sender (old.reverse.delayed ++ coming_of old.reverse.fates p.acks) refl;
-    first = ap (λ v. v.first) p.received ∙ brought_keeps (λ v. v.first) most_sack_blocks old.receiver p.came (λ u pos xs. known.first most_sack_blocks u (Segment pos xs));
-    read = ap (λ v. v.read) p.received ∙ brought_keeps (λ v. v.read) most_sack_blocks old.receiver p.came (known.stream.reads_nothing most_sack_blocks);
-    receiver_capacity = ap (λ v. v.capacity) p.received ∙ brought_keeps (λ v. v.capacity) most_sack_blocks old.receiver p.came (λ u pos xs. known.capacity most_sack_blocks u (Segment pos xs));
-    grows = subst (λ v. next_position old.receiver ≤ next_position v) (sym p.received) (brought_grows known most_sack_blocks old.receiver p.came);
+    first = ap (λ v. v.first) p.received ∙ brought_keeps (λ v. v.first) most_sack_blocks old.receiver p.arrived (λ u pos xs. known.first most_sack_blocks u (Segment pos xs));
+    read = ap (λ v. v.read) p.received ∙ brought_keeps (λ v. v.read) most_sack_blocks old.receiver p.arrived (known.stream.reads_nothing most_sack_blocks);
+    receiver_capacity = ap (λ v. v.capacity) p.received ∙ brought_keeps (λ v. v.capacity) most_sack_blocks old.receiver p.arrived (λ u pos xs. known.capacity most_sack_blocks u (Segment pos xs));
+    grows = subst (λ v. next_position old.receiver ≤ next_position v) (sym p.received) (brought_grows known most_sack_blocks old.receiver p.arrived);
   }
 
   pub fates_left : new.forward.fates ≡ fates_after (length p.sent.in_flight) old.forward.fates
@@ -286,26 +248,17 @@ module _ (old new : LinkState) (p : Passes old new) where
   -- with what is delayed it would have made progress
   not_due : RoundFacts → next_position old.receiver < limit_of old.receiver → next_position new.receiver ≡ next_position old.receiver →
       new.sender.first_unacknowledged ≡ old.sender.first_unacknowledged → IsDue old → ⊥
-  not_due known room still still_reverse due =
+  not_due known room still still_reverse (inl h) =
       let r = old.receiver in
+      let rest = h.1 ++ coming_of old.forward.fates p.sent.in_flight in
+      let on = first_brings known most_sack_blocks r [] rest h.0 h.2 h.3 h.5 h.6.0 h.6.1 h.6.2 room in
+      omega (arith, on, still, ap next_position (p.received ∙ ap (receiver_after_all most_sack_blocks r) (p.coming ∙ ap (λ x. x ++ coming_of old.forward.fates p.sent.in_flight) h.4)))
+  not_due known room still still_reverse (inr h) =
       let s = old.sender in
-      let c = coming_of old.forward.fates p.sent.in_flight in
       let d = coming_of old.reverse.fates p.acks in
-      ⊎_elim {C = ⊥}
-      (λ (h : FirstMatches old.forward.delayed (IsMissing (next_position r))).
-      let came : p.came ≡ h.0 ∷ (h.1 ++ c) = p.coming ∙ ap (λ x. x ++ c) h.4 in
-      let on : next_position r < next_position (receiver_after_all most_sack_blocks r (h.0 ∷ (h.1 ++ c))) =
-      first_brings known most_sack_blocks r [] (h.1 ++ c) h.0 h.2 h.3 h.5 h.6.0 h.6.1 h.6.2 room in
-      let is : next_position new.receiver ≡ next_position (receiver_after_all most_sack_blocks r (h.0 ∷ (h.1 ++ c))) =
-      ap next_position p.received ∙ ap (λ x. next_position (receiver_after_all most_sack_blocks r x)) came in
-      omega (arith, on, is, still))
-      (λ (h : FirstMatches old.reverse.delayed (IsBeyond s.first_unacknowledged (end_of s))).
       let t = after_ack_frame s (segment_of h.0) in
-      let one : s.first_unacknowledged < t.first_unacknowledged = one_moves s s.first_unacknowledged h.2 h.3 (segment_of h.0) h.5 h.6.0 h.6.1 in
-      let more : t.first_unacknowledged ≤ (after_ack_frames t (h.1 ++ d)).first_unacknowledged = all_heads_grow t (h.1 ++ d) in
-      let is : new.sender.first_unacknowledged ≡ (after_ack_frames t (h.1 ++ d)).first_unacknowledged = ap (λ v. v.first_unacknowledged) (p.acked ∙ ap (λ x. after_ack_frames s (x ++ d)) h.4) in
-      omega (arith, one, more, is, still_reverse))
-      due
+      let one = one_moves s s.first_unacknowledged h.2 h.3 (segment_of h.0) h.5 h.6.0 h.6.1 in
+      omega (arith, one, all_heads_grow t (h.1 ++ d), still_reverse, ap (λ v. v.first_unacknowledged) (p.acked ∙ ap (λ x. after_ack_frames s (x ++ d)) h.4))
 
   -- a frame or each acknowledgement was lost, or what was delayed makes for progress in the next round
   abbrev HasLost : Type 0
@@ -315,19 +268,17 @@ module _ (old new : LinkState) (p : Passes old new) where
 
   -- a frame that has what the receiver lacks was delayed, or was lost
   frame_lost : FirstMatches p.sent.in_flight (IsMissing (next_position old.receiver)) → 0 < length p.sent.in_flight →
-      comes (next_fate old.forward.fates) ≡ false →
+      arrives (next_fate old.forward.fates) ≡ false →
       next_position new.receiver ≡ next_position old.receiver → HasLost
   frame_lost has some fails still =
-      let P = IsMissing (next_position old.receiver) in
       let v = old.forward.fates in
-      ⊎_elim {C = HasLost}
-      (λ (e : comes_delayed (next_fate v) ≡ true). inr (
-        inl (says_moved P (IsMissing (next_position new.receiver)) (delayed_of v p.sent.in_flight) new.forward.delayed delayed_left (omega arith)
-            (first_delayed P v p.sent.in_flight has e)),
+      either (cases_Bool (arrives_later (next_fate v)))
+      (λ e. inr (
+        inl (says_moved (IsMissing (next_position old.receiver)) (IsMissing (next_position new.receiver)) (delayed_of v p.sent.in_flight) new.forward.delayed delayed_left (omega arith)
+            (first_delayed (IsMissing (next_position old.receiver)) v p.sent.in_flight has e)),
         round_lost.0,
       ))
-      (λ (e : comes_delayed (next_fate v) ≡ false). (let lot : HasFailed 1 (next_fate v) = (fails, λ follow. e) in inl (inl (some, lot), round_lost.1 (inl (some, lot)))))
-      (cases_Bool (comes_delayed (next_fate v)))
+      (λ e. (let lot : HasFailed 1 (next_fate v) = (fails, λ follow. e) in inl (inl (some, lot), round_lost.1 (inl (some, lot)))))
 
   -- so were the acknowledgements, each or one
   acks_lost : old.sender.first_unacknowledged < next_position old.receiver → coming_of old.reverse.fates p.acks ≡ [] →
@@ -336,18 +287,16 @@ module _ (old new : LinkState) (p : Passes old new) where
   acks_lost above none acks within still_reverse =
       let n = next_position old.receiver in
       let v = old.reverse.fates in
-      ⊎_elim {C = HasLost}
-      (λ (never : delayed_of v p.acks ≡ []).
+      let same = end_left in
+      either (first_acks n n (delayed_of v p.acks) (passing_all (Acks n n) arrives_later v p.acks acks))
+      (λ never.
       let fail : AllFail 1 (length p.acks) v = all_fail 1 v p.acks none (λ follow. never) in
       inl (inr (acks_some, fail), round_lost.1 (inr (acks_some, first_of_all 1 (length p.acks) v acks_some fail))))
-      (λ (says : FirstMatches (delayed_of v p.acks) (λ k e. (n ≤ k) × (k ≤ n))).
-      let same = end_left in
-      inr (
+      (λ says. inr (
         inr (says_moved (λ k e. (n ≤ k) × (k ≤ n)) (IsBeyond new.sender.first_unacknowledged (end_of new.sender)) (delayed_of v p.acks) new.reverse.delayed
             (ap (λ t. t.delayed) p.left_reverse) (omega arith) says),
         round_lost.0,
       ))
-      (first_acks n n (delayed_of v p.acks) (passing_all (Acks n n) comes_delayed v p.acks acks))
 
   pub round_moves : RoundFacts → IsSound most_sack_blocks old.receiver → end_of old.sender < 2 ^ 64 →
       ProgressesOrIsStuck (length p.sent.in_flight) (length p.acks) old new
@@ -358,19 +307,20 @@ module _ (old new : LinkState) (p : Passes old new) where
       let b = old.sender.first_unacknowledged in
       let v = old.forward.fates in
       let u = old.reverse.fates in
-      let within = all_within known.stream.queue f w old carries in
-      let same : next_position (receiver_after_all N r p.came) ≡ n = sym (ap next_position p.received) ∙ still in
-      let result = ⊎_elim {C = FatesFail 0 (length p.sent.in_flight) (length p.acks) v u × HasLost}
-      (λ (l : b < n).
-      let ours : All (Acks n n) (acks_of N r p.came) = all_acks known N r p.came n n (omega arith) (omega arith) (omega arith) in
+      let stream = in_stream known.stream.queue f w r carries.receives in
+      let within : n ≤ end_of old.sender = omega arith in
+      let same : next_position (receiver_after_all N r p.arrived) ≡ n = sym (ap next_position p.received) ∙ still in
+      let result : FatesFail 0 (length p.sent.in_flight) (length p.acks) v u × HasLost = either (cases_lt b n)
+      (λ l.
+      let ours : All (Acks n n) (acks_of N r p.arrived) = all_acks known N r p.arrived n n (omega arith) (omega arith) (omega arith) in
       let last : Acks n n (ack_of new.receiver) = one_acks known.stream.decode new.receiver n n (omega arith) (omega arith) (omega arith) in
       let acks : All (Acks n n) p.acks =
-      subst (All (Acks n n)) (sym (p.acks_are ∙ ap (λ l. l ++ acks_of N r p.came ++ ack_of new.receiver ∷ []) none_reverse))
-      (All-append (Acks n n) (acks_of N r p.came) (ack_of new.receiver ∷ []) ours (All-cons (Acks n n) (ack_of new.receiver) [] last (All-nil (Acks n n)))) in
+      subst (All (Acks n n)) (sym (p.acks_are ∙ ap (λ l. l ++ acks_of N r p.arrived ++ ack_of new.receiver ∷ []) none_reverse))
+      (All-append (Acks n n) (acks_of N r p.arrived) (ack_of new.receiver ∷ []) ours (All-cons (Acks n n) (ack_of new.receiver) [] last (All-nil (Acks n n)))) in
       let never = none_come old.sender new.sender old.reverse.delayed (coming_of u p.acks) n n p.acked still_reverse l within
-      (passing_all (Acks n n) comes u p.acks acks) in
+      (passing_all (Acks n n) arrives u p.acks acks) in
       (inr (acks_some, all_fail 0 u p.acks never (λ follow. absurd (omega arith))), acks_lost l never acks within still_reverse))
-      (λ (l : n ≤ b).
+      (λ l.
       let is : b ≡ n = omega arith in
       let told : is_sacked old.sender.sack_blocks b ≡ false = false_from_ne_true (is_sacked old.sender.sack_blocks b)
       (λ e. missing N r sound (subst (HasByteAt r) is (carries.sack_blocks b e))) in
@@ -384,14 +334,13 @@ module _ (old new : LinkState) (p : Passes old new) where
       let at : segment_of frame ≡ Some (b, xs) = known.stream.decode b xs (omega arith) in
       let c = coming_of (after_fate v) rest in
       let sent_some : 0 < length p.sent.in_flight = subst (λ a. 0 < length a) (sym in_flight) (omega arith) in
-      let fails : comes (next_fate v) ≡ false = false_from_ne_true (comes (next_fate v)) (λ e.
-      let came : p.came ≡ old.forward.delayed ++ frame ∷ c =
+      let fails : arrives (next_fate v) ≡ false = false_from_ne_true (arrives (next_fate v)) (λ e.
+      let arrived : p.arrived ≡ old.forward.delayed ++ frame ∷ c =
       p.coming ∙ ap (λ x. old.forward.delayed ++ x) (ap (coming_of v) in_flight ∙ cond-true _ (frame ∷ c) c e) in
-      let on = subst (λ x. n < next_position (receiver_after_all N r x)) (sym came)
+      let on = subst (λ x. n < next_position (receiver_after_all N r x)) (sym arrived)
       (first_brings known N r old.forward.delayed c frame b xs at (omega arith) (omega arith) (omega arith) room) in
       omega arith) in
-      (inl (sent_some, (fails, λ follow. absurd (omega arith))), frame_lost (frame, rest, b, xs, in_flight, at, omega arith) sent_some fails still))
-      (cases_lt b n) in
+      (inl (sent_some, (fails, λ follow. absurd (omega arith))), frame_lost (frame, rest, b, xs, in_flight, at, omega arith) sent_some fails still)) in
       record {
         why = result.0;
         left = fates_left;
@@ -442,29 +391,33 @@ all_after (suc n) v all = all_after n (after_fate v) (come_next v all).1
 -- ======== How many rounds a copy takes
 -- ---- if every frame arrives in its round
 pub coming_all : (v : FatesState) (frames : List (List ℕ)) → NextCome (length frames) v → coming_of v frames ≡ frames
-coming_all v [] come = refl
-coming_all v (x ∷ xs) come =
+coming_all v [] arrive = refl
+coming_all v (x ∷ xs) arrive =
     let c = coming_of (after_fate v) xs in
-    cond-true _ (x ∷ c) c come.0 ∙ ap (λ l. x ∷ l) (coming_all (after_fate v) xs come.1)
+    cond-true _ (x ∷ c) c arrive.0 ∙ ap (λ l. x ∷ l) (coming_all (after_fate v) xs arrive.1)
 
 -- the last acknowledgement comes, and the sender keeps what the receiver lacks
 pub head_meets : RoundFacts → (old new : LinkState) (p : Passes old new) →
     NextCome (length p.acks) old.reverse.fates → new.sender.first_unacknowledged ≤ next_position new.receiver →
     next_position new.receiver ≤ end_of old.sender → end_of old.sender < 2 ^ 64 → (before : SenderState)
     × (new.sender ≡ sender_from before (next_position new.receiver) (blocks_of most_sack_blocks (block_bytes (take most_sack_blocks (maximal_runs (domain new.receiver.held))))))
-head_meets known old new p come behind within word =
+head_meets known old new p arrive behind within word =
     let n = next_position new.receiver in
     let xs = block_bytes (take most_sack_blocks (maximal_runs (domain new.receiver.held))) in
-    let others = old.reverse.in_flight ++ acks_of most_sack_blocks old.receiver p.came in
+    let others = old.reverse.in_flight ++ acks_of most_sack_blocks old.receiver p.arrived in
     let earlier = old.reverse.delayed ++ others in
-    let is : new.sender ≡ after_ack_frames old.sender (earlier ++ frame_of n xs ∷ []) =
-    p.acked ∙ ap (λ a. after_ack_frames old.sender (old.reverse.delayed ++ a)) (coming_all old.reverse.fates p.acks come ∙ p.acks_are)
-    ∙ ap (after_ack_frames old.sender) (sym (append_assoc old.reverse.delayed others (frame_of n xs ∷ []))) in
-    (after_ack_frames old.sender earlier, is ∙ acked_last known.stream.decode old.sender n xs earlier within (omega arith) (subst (λ v. v.first_unacknowledged ≤ n) is behind))
+    let t = after_ack_frames old.sender earlier in
+    let end : end_of t ≡ end_of old.sender = all_keep_end old.sender earlier in
+    let is : new.sender ≡ after_ack_frame t (Some (n, xs)) =
+    p.acked ∙ ap (λ a. after_ack_frames old.sender (old.reverse.delayed ++ a)) (coming_all old.reverse.fates p.acks arrive ∙ p.acks_are)
+    ∙ ap (after_ack_frames old.sender) (sym (append_assoc old.reverse.delayed others (frame_of n xs ∷ [])))
+    ∙ acked_append old.sender earlier (frame_of n xs ∷ []) ∙ ap (after_ack_frame t) (known.stream.decode n xs (omega arith)) in
+    let low : t.first_unacknowledged ≤ n = omega (arith, head_grows t (Some (n, xs)), ap (λ v. v.first_unacknowledged) is) in
+    (t, is ∙ cond-true _ (sender_from t n (blocks_of most_sack_blocks xs)) t (and_from _ _ (le-leb t.first_unacknowledged n low) (le-leb n (end_of t) (omega arith))))
 
 pub never_fails : (frames acks : ℕ) (v v' : FatesState) → AllCome v → AllCome v' → FatesFail 0 frames acks v v' → ⊥
-never_fails frames acks v v' come come' (inl a) = both_ways (comes (next_fate v)) a.1.0 (come_next v come).0
-never_fails frames acks v v' come come' (inr b) = both_ways (comes (next_fate v')) (first_of_all 0 acks v' b.0 b.1).0 (come_next v' come').0
+never_fails frames acks v v' arrive arrive' (inl a) = both_ways (arrives (next_fate v)) a.1.0 (come_next v arrive).0
+never_fails frames acks v v' arrive arrive' (inr b) = both_ways (arrives (next_fate v')) (first_of_all 0 acks v' b.0 b.1).0 (come_next v' arrive').0
 
 -- a round of a copy writes some
 pub round_at_once : RoundFacts → (f : ℕ) (w : List ℕ) (old new : LinkState) (room : ℕ) (p : Passes old new) →
@@ -473,21 +426,17 @@ pub round_at_once : RoundFacts → (f : ℕ) (w : List ℕ) (old new : LinkState
     old.forward.in_flight ≡ [] → old.reverse.in_flight ≡ [] → AllCome old.forward.fates → AllCome old.reverse.fates → old.sender.first_unacknowledged ≡ next_position old.receiver →
     0 < old.receiver.capacity → 0 < room → (length old.receiver.queue ≡ 0 → 0 < length old.sender.queue) →
     (new.sender.first_unacknowledged ≡ next_position (receiver_after_read new.receiver room)) × (old.receiver.read < (receiver_after_read new.receiver room).read)
-round_at_once known f w old new room p keeps moves word carries carries1 none none_reverse come come_reverse meet cap some kept =
+round_at_once known f w old new room p keeps moves word carries carries1 none none_reverse arrive come_reverse apply_fate cap some kept =
     let stream = in_stream known.stream.queue f w new.receiver carries1.receives in
     let left = length-drop room new.receiver.queue in
     let met : new.sender.first_unacknowledged ≡ next_position new.receiver =
     ap (λ v. v.first_unacknowledged) (head_meets known old new p (next_come (length p.acks) old.reverse.fates come_reverse) carries1.behind (omega arith) word).1 in
-    let more : 0 < length new.receiver.queue =
-    ⊎_elim {C = 0 < length new.receiver.queue}
-    (λ (l : 0 < length old.receiver.queue). omega arith)
-    (λ (l : length old.receiver.queue ≤ 0).
-    let far : next_position old.receiver < next_position new.receiver =
-    lt_of_not-le (λ (m : next_position new.receiver ≤ next_position old.receiver).
-    let one = moves f w carries none none_reverse (kept (omega arith)) (omega arith) (omega arith) (omega arith) in
-    never_fails (length p.sent.in_flight) (length p.acks) old.forward.fates old.reverse.fates come come_reverse one.why) in
-    omega arith)
-    (cases_lt 0 (length old.receiver.queue)) in
+    let more : 0 < length new.receiver.queue = either (cases_lt 0 (length old.receiver.queue)) (λ l. omega arith)
+    (λ l.
+    let far : next_position old.receiver < next_position new.receiver = lt_of_not-le (λ m.
+    never_fails (length p.sent.in_flight) (length p.acks) old.forward.fates old.reverse.fates arrive come_reverse
+    (moves f w carries none none_reverse (kept (omega arith)) (omega arith) (omega arith) (omega arith)).why) in
+    omega arith) in
     (omega arith, omega arith)
 
 -- ---- at least

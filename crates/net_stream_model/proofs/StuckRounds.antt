@@ -1,39 +1,30 @@
 -- What is true of a copy after each turn, what failed in its last rounds, and what it counted.
-use Rattle.std.proofs.Common.{◌≡◌, ℕ, zero, suc, ◌+◌, ◌-◌, ◌≤◌, ◌<◌, ◌^◌, min, List, [], length, refl, sym, ap}
-use Rattle.std.proofs.Common.{subst, ◌∙◌, arith, ⊎_elim, pos_of_ne-zero, lt_of_not-le, ◌⊎◌, ◌*◌, not, false, ◌∷◌, take}
-use Rattle.std.proofs.Common.{inl, inr, length-append, length-take}
+use Rattle.std.proofs.Common.{◌≡◌, ℕ, zero, suc, ◌+◌, ◌-◌, ◌≤◌, ◌<◌, ◌^◌, min, List, [], length, refl, sym, ap, subst, ◌∙◌, arith, pos_of_ne-zero, lt_of_not-le, ◌⊎◌, ◌*◌, not, false, ◌∷◌, take, inl, inr, length-append, length-take}
 use Rattle.std.proofs.lemmas.Bool.{cases_lt, both_ways, and_parts, not-true}
+use Rattle.net_assembler.proofs.Positions.{either}
 use Rattle.net_receiver.specs.Rules.{Segment, Read}
 use Rattle.net_receiver.specs.ReceiverState.{ReceiverState, IsSound, next_position}
 use Rattle.net_receiver.specs.Soundness.{SoundStays}
 use Rattle.net_stream_model.specs.declared.counts.FrameCounts.{FrameCounts}
 use Rattle.net_stream_model.specs.declared.fate.Fate.{Fate}
-use Rattle.net_stream_model.specs.SackBlocks.{most_sack_blocks, count_outside}
-use Rattle.net_stream_model.specs.Fates.{FatesState, next_fate, after_fate, fates_after, AllCome}
-use Rattle.net_stream_model.specs.Counts.{with_fate, with_fates, with_payload}
+use Rattle.net_stream_model.specs.SackBlocks.{most_sack_blocks}
+use Rattle.net_stream_model.specs.Fates.{FatesState, next_fate, after_fate, AllCome}
+use Rattle.net_stream_model.specs.Counts.{with_fate, with_fates}
 use Rattle.net_stream_model.specs.PathState.{PathState}
 use Rattle.net_stream_model.specs.Arrivals.{receiver_after_all}
 use Rattle.net_stream_model.specs.LinkState.{LinkState, round}
-use Rattle.net_stream_model.specs.CopyState.{Setup, CopyState, Status, Running, Done, GaveUp, begin, feed, waited, pass}
-use Rattle.net_stream_model.specs.CopyState.{turn, after, is_written, room_for}
+use Rattle.net_stream_model.specs.CopyState.{Setup, CopyState, Status, Running, Done, GaveUp, begin, feed, waited, pass, turn, after, is_written, room_for}
 use Rattle.net_stream_model.specs.Facts.{RoundFacts}
 use Rattle.net_stream_model.specs.Streams.{Writes}
-use Rattle.net_stream_model.specs.Stuck.{RoundLeaves, IsStuck, failures, IsDue, HasFailed, AllFail}
-use Rattle.net_stream_model.specs.Stuck.{FatesFail, losses}
-use Rattle.net_stream_model.specs.Promises.{CanPass, MakesNoProgress, before_round, frames_sent, acks_sent, Fails}
-use Rattle.net_stream_model.specs.Promises.{GivesUpIfFailed, NeverByDelays, EndsIfAllCome, FewRounds, StartsFits}
-use Rattle.net_stream_model.specs.Promises.{CountsRounds, CountsEachFate, GivesUpCounted, EnoughFailed, Unfinished}
-use Rattle.net_stream_model.specs.Promises.{EnoughRounds, RoundsAtOnce}
+use Rattle.net_stream_model.specs.Stuck.{RoundLeaves, IsStuck, failures, IsDue, losses}
+use Rattle.net_stream_model.specs.Promises.{CanPass, MakesNoProgress, before_round, frames_sent, acks_sent, Fails, GivesUpIfFailed, NeverByDelays, EndsIfAllCome, FewRounds, StartsFits, CountsRounds, CountsEachFate, GivesUpCounted, EnoughFailed, Unfinished, EnoughRounds, RoundsAtOnce}
 use Rattle.net_stream_model.specs.FateCounts.{CountsFates}
 use Rattle.net_stream_model.proofs.Passed.{round_met, RoundSends, round_sends}
 use Rattle.net_stream_model.proofs.Kept.{in_stream, round_keeps_invariant}
-use Rattle.net_stream_model.proofs.Stuck.{round_keeps, round_moves, step_moves, first_of_all, is_lost, due_kept}
-use Rattle.net_stream_model.proofs.Stuck.{stuck_weaker, all_after, round_failed, never_fails, round_at_once, more_taken}
+use Rattle.net_stream_model.proofs.Stuck.{round_keeps, round_moves, step_moves, first_of_all, is_lost, due_kept, stuck_weaker, all_after, round_failed, never_fails, round_at_once, more_taken}
 use Rattle.net_stream_model.proofs.Steps.{all_arrive}
-use Rattle.net_stream_model.proofs.Turns.{turned, decided_too, after_turns, ended, fed_by, fed_leaves, asked, GoesOn}
-use Rattle.net_stream_model.proofs.Turns.{goes_on, turns, running_or_not, Still, Some as Moved, Nothing, brought, runs}
-use Rattle.net_stream_model.proofs.Turns.{still_round, Some, still_from, stops, gives_up_after}
-use Rattle.net_stream_model.proofs.Prefix.{SoFar, so_far, fed_so_far, ends_in_one_turn}
+use Rattle.net_stream_model.proofs.Turns.{turned, decided_too, after_turns, ended, fed_by, fed_leaves, asked, GoesOn, goes_on, turns, running_or_not, Still, Some as Moved, Nothing, brought, runs, still_round, Some, still_from, stops, gives_up_after}
+use Rattle.net_stream_model.proofs.Prefix.{so_far, fed_so_far, ends_in_one_turn}
 
 -- fates that are met change no count of bytes
 one_counts : (lot : Fate) (c : FrameCounts) → (with_fate lot c).payload ≡ c.payload
@@ -47,10 +38,7 @@ fates_count (suc n) v c = fates_count n (after_fate v) (with_fate (next_fate v) 
 back : (P : ℕ → Type 0) → ((n : ℕ) → P (suc n) → P n) → (j n : ℕ) → j ≤ n → P n → P j
 back P one j zero few h = subst P (let e : zero ≡ j = omega arith in e) h
 back P one j (suc n) few h =
-    ⊎_elim {C = P j}
-    (λ (l : j < suc n). back P one j n (omega arith) (one n h))
-    (λ (l : suc n ≤ j). subst P (let e : suc n ≡ j = omega arith in e) h)
-    (cases_lt j (suc n))
+    either (cases_lt j (suc n)) (λ l. back P one j n (omega arith) (one n h)) (λ l. subst P (let e : suc n ≡ j = omega arith in e) h)
 
 -- frames that come leave a receiver sound
 module _ (stays : SoundStays) where
@@ -85,34 +73,15 @@ module _ (known : RoundFacts) where
         let m = round old in
         let p = (round_sends old h.payload).passes in
         let k = round_keeps old m p known in
-        let counted : m.counts.payload ≡ min (old.counts.payload + count_outside old.sender.sack_blocks old.sender.first_unacknowledged p.n) (2 ^ 64 - 1) =
-        ap (λ c. c.payload) p.counted
-        ∙ fates_count (length p.acks) old.reverse.fates (with_fates (length p.sent.in_flight) old.forward.fates
-        (with_payload (count_outside old.sender.sack_blocks old.sender.first_unacknowledged p.n) old.counts))
-        ∙ fates_count (length p.sent.in_flight) old.forward.fates (with_payload (count_outside old.sender.sack_blocks old.sender.first_unacknowledged p.n) old.counts) in
-        let received : IsSound most_sack_blocks m.receiver = subst (IsSound most_sack_blocks) (sym p.received) (all_sound known.sound old.receiver p.came h.sound) in
-        record {
-          in_flight = k.in_flight;
-          in_flight_reverse = k.in_flight_reverse;
-          outgoing = k.sender_capacity ∙ h.outgoing;
-          incoming = k.receiver_capacity ∙ h.incoming;
-          sound = known.sound most_sack_blocks m.receiver (Read s.chunk) received;
-          payload = omega arith;
-          met = round_met s.fates s.ack_fates old m p h.met;
-        }
+        let received : IsSound most_sack_blocks m.receiver = subst (IsSound most_sack_blocks) (sym p.received) (all_sound known.sound old.receiver p.arrived h.sound) in
+        let payload : m.counts.payload < 2 ^ 64 = omega (arith, fates_count, ap (λ (c : FrameCounts). c.payload) p.counted) in
+        search (arith, known.sound most_sack_blocks m.receiver (Read s.chunk) received, round_met s.fates s.ack_fates old m p h.met)
 
     module _ (reads : List (List ℕ)) where
       pub all_stays : (n : ℕ) → Stays (after s reads n).link
-      all_stays = after_turns (λ (c : CopyState). Stays c.link) (λ c status h. h) s reads fed_stays pass_stays
-          (record {
-            in_flight = refl;
-            in_flight_reverse = refl;
-            outgoing = refl;
-            incoming = refl;
-            sound = known.fresh most_sack_blocks s.first s.incoming;
-            payload = omega arith;
-            met = record { frames = 0; acks = 0; left = refl; left_reverse = refl; counted = refl };
-          })
+      all_stays =
+          let met : CountsFates s.fates s.ack_fates s.fates s.ack_fates (begin s reads).link.counts = record { frames = 0; acks = 0; left = refl; left_reverse = refl; counted = refl } in
+          after_turns (λ (c : CopyState). Stays c.link) (λ c status h. h) s reads fed_stays pass_stays (search (arith, known.fresh most_sack_blocks s.first s.incoming))
 
       -- ---- turns before others
       pub passes_before : (j n : ℕ) → j ≤ n → CanPass s (after s reads n) → CanPass s (after s reads j)
@@ -126,10 +95,12 @@ module _ (known : RoundFacts) where
       runs_before = back (λ n. (after s reads n).status ≡ Running) (λ n on. (goes_on s.rounds s.chunk (after s reads n) on).before)
 
       -- ---- a round that makes no progress
-      module _ (c : CopyState) (was : SoFar known.stream s reads c) (stays : Stays c.link) (can : CanPass s (turn s.rounds s.chunk c))
-          (one : GoesOn s.rounds s.chunk c) where
+      module _ (n : ℕ) (can : CanPass s (after s reads (suc n))) (on : (after s reads (suc n)).status ≡ Running) where
+        pub one : GoesOn s.rounds s.chunk (after s reads n)
+        one = goes_on s.rounds s.chunk (after s reads n) on
+
         abbrev e : CopyState
-        e = feed s.chunk c
+        e = feed s.chunk (after s reads n)
 
         abbrev old : LinkState
         old = waited e
@@ -138,10 +109,10 @@ module _ (known : RoundFacts) where
         new = round old
 
         pub writes : Writes s.first e.given e
-        writes = (fed_so_far known.stream s reads c was).writes
+        writes = (fed_so_far known.stream s reads (after s reads n) (so_far known.stream s reads (omega arith) n)).writes
 
         pub fed : Stays e.link
-        fed = fed_stays c stays
+        fed = fed_stays (after s reads n) (all_stays n)
 
         pub sends : RoundSends old new
         sends = round_sends old fed.payload
@@ -159,7 +130,7 @@ module _ (known : RoundFacts) where
             let stream = in_stream known.stream.queue s.first e.given e.link.receiver carries.way.receives in
             let most = left in
             let stay = fed in
-            asked s.chunk c one.fed one.on can.chunk (omega arith) (omega arith) (omega arith) none
+            asked s.chunk (after s reads n) one.fed one.on can.chunk (omega arith) (omega arith) (omega arith) none
 
         pub stuck_turn : Still e (pass s.chunk e) → min s.chunk (length new.receiver.queue) ≡ 0 →
             IsStuck (frames_sent old) (acks_sent old) old (pass s.chunk e).link
@@ -176,70 +147,58 @@ module _ (known : RoundFacts) where
             subst (λ n. IsStuck n (acks_sent old) old (pass s.chunk e).link) (ap length sends.in_flight)
             (subst (λ n. IsStuck (length p.sent.in_flight) n old (pass s.chunk e).link) sends.acks stuck)
 
+        pub stuck_round : MakesNoProgress s reads n →
+            IsStuck (frames_sent (before_round s reads n)) (acks_sent (before_round s reads n)) (before_round s reads n) (after s reads (suc n)).link
+        stuck_round nothing =
+            let stuck = elim (brought s.chunk e) as (λ _. IsStuck (frames_sent old) (acks_sent old) old (pass s.chunk e).link) [
+              | Moved none some ↦ absurd (some (still_round s.rounds s.chunk (after s reads n) one nothing))
+              | Nothing more still empty ↦ stuck_turn still empty
+            ] in
+            subst (λ x. IsStuck (frames_sent (waited x)) (acks_sent (waited x)) (waited x) (after s reads (suc n)).link) (sym (runs (feed s.chunk) (after s reads n) one.before))
+            (subst (λ x. IsStuck (frames_sent old) (acks_sent old) old x.link) (sym one.is) stuck)
+
+      -- what a round of it keeps
+      abbrev pub Rounding : (CopyState → Type 0) → Type 0
+      Rounding P = (n : ℕ) → CanPass s (after s reads (suc n)) → (after s reads (suc n)).status ≡ Running →
+          P (feed s.chunk (after s reads n)) → P (pass s.chunk (feed s.chunk (after s reads n)))
+
       -- what stays over a read, over a round and at the end, is true after each turn
       module _ (P : CopyState → Type 0) (reading : (c : CopyState) → P c → P (feed s.chunk c)) (ending : (c : CopyState) (status : Status) → P c → P (record c { status = status }))
-          (rounding : (c : CopyState) → SoFar known.stream s reads c → Stays c.link → CanPass s (turn s.rounds s.chunk c) → GoesOn s.rounds s.chunk c →
-          P (feed s.chunk c) → P (pass s.chunk (feed s.chunk c))) where
+          (rounding : Rounding P) where
         pub by_turns : P (begin s reads) → (n : ℕ) → CanPass s (after s reads n) → P (after s reads n)
         by_turns first zero can = first
         by_turns first (suc n) can =
             let c = after s reads n in
             let e = feed s.chunk c in
-            let starts : s.first < 2 ^ 64 = omega arith in
             let before = by_turns first n (passes_before n (suc n) (omega arith) can) in
             let read = reading c before in
-            ⊎_elim {C = P (after s reads (suc n))}
-            (λ (on : c.status ≡ Running).
-            turns (λ d. after s reads (suc n) ≡ d → P d) s.rounds s.chunk c on (λ _ _. read) (λ _ _. ending e Done read) (λ _ _ _ _. ending e GaveUp read)
-            (λ fed _ _ is. rounding c (so_far known.stream s reads starts n) (all_stays n) can (goes_on s.rounds s.chunk c (ap (λ d. d.status) is ∙ fed)) read)
-            refl)
-            (λ (over : c.status ≡ Running → ⊥). subst P (sym (ended s.rounds s.chunk c over)) before)
-            (running_or_not c.status)
+            either (running_or_not c.status)
+            (λ on. turns (λ d. after s reads (suc n) ≡ d → P d) s.rounds s.chunk c on (λ _ _. read) (λ _ _. ending e Done read) (λ _ _ _ _. ending e GaveUp read)
+            (λ fed _ _ is. rounding n can (ap (λ d. d.status) is ∙ fed) read) refl)
+            (λ over. subst P (sym (ended s.rounds s.chunk c over)) before)
 
       -- the fates that a round of it begins with
-      pub drawn_before : (n : ℕ) → (after s reads n).status ≡ Running → (a : ℕ) × (b : ℕ)
-          × ((before_round s reads n).forward.fates ≡ fates_after a s.fates) × ((before_round s reads n).reverse.fates ≡ fates_after b s.ack_fates)
+      pub drawn_before : (n : ℕ) → (after s reads n).status ≡ Running →
+          (let l = before_round s reads n in CountsFates s.fates s.ack_fates l.forward.fates l.reverse.fates l.counts)
       drawn_before n on =
-          let c = after s reads n in
-          let h = fed_stays c (all_stays n) in
-          subst (λ d. (a : ℕ) × (b : ℕ) × (d.link.forward.fates ≡ fates_after a s.fates) × (d.link.reverse.fates ≡ fates_after b s.ack_fates))
-          (sym (runs (feed s.chunk) c on)) (h.met.frames, h.met.acks, h.met.left, h.met.left_reverse)
-
-      pub stuck_round : (n : ℕ) → CanPass s (after s reads (suc n)) → (after s reads (suc n)).status ≡ Running → MakesNoProgress s reads n →
-          IsStuck (frames_sent (before_round s reads n)) (acks_sent (before_round s reads n)) (before_round s reads n) (after s reads (suc n)).link
-      stuck_round n can on nothing =
-          let c = after s reads n in
-          let one = goes_on s.rounds s.chunk c on in
-          let starts : s.first < 2 ^ 64 = omega arith in
-          let d = feed s.chunk c in
-          let stuck = elim (brought s.chunk d) as (λ _. IsStuck (frames_sent (waited d)) (acks_sent (waited d)) (waited d) (pass s.chunk d).link) [
-            | Moved none some ↦ absurd (some (still_round s.rounds s.chunk c one nothing))
-            | Nothing more still empty ↦ stuck_turn c (so_far known.stream s reads starts n) (all_stays n) can one still empty
-          ] in
-          subst (λ x. IsStuck (frames_sent (waited x)) (acks_sent (waited x)) (waited x) (after s reads (suc n)).link) (sym (runs (feed s.chunk) c one.before))
-          (subst (λ x. IsStuck (frames_sent (waited d)) (acks_sent (waited d)) (waited d) x.link) (sym one.is) stuck)
+          subst (λ d. CountsFates s.fates s.ack_fates d.link.forward.fates d.link.reverse.fates d.link.counts)
+          (sym (runs (feed s.chunk) (after s reads n) on)) (fed_stays (after s reads n) (all_stays n)).met
 
 -- ======== What failed in the last rounds of a copy that gives up, and how many rounds a copy makes
--- the turn with which a copy gives up
-gave_up_once : (s : Setup) (reads : List (List ℕ)) (n : ℕ) → (after s reads n).status ≡ GaveUp →
-    (m : ℕ) × (m < n) × ((after s reads m).status ≡ Running) × ((after s reads (suc m)).status ≡ GaveUp)
-gave_up_once s reads n gave =
-    let h = ends_in_one_turn s reads n (λ r. (let j : GaveUp ≡ Running = sym gave ∙ r in cc)) in
-    (h.0, h.1, h.2, ap (λ c. c.status) h.3 ∙ gave)
+-- what is delayed stays due over a read
+due_fed : (chunk : ℕ) (c : CopyState) → IsDue c.link → IsDue (feed chunk c).link
+due_fed chunk c due = (let f = fed_leaves chunk c in
+    due_kept c.link (feed chunk c).link (ap (λ p. p.delayed) f.forward) (ap (λ p. p.delayed) f.reverse)
+    (ap (λ r. r.first + r.read + length r.queue) f.receiver) f.first_unacknowledged f.end due)
 
 module _ (known : RoundFacts) where
   -- ---- what failed
   pub gives_up_if_failed : GivesUpIfFailed
   gives_up_if_failed s reads n can on gave k far below =
-      ⊎_elim {C = Fails (n - suc k) l}
-      (λ (more : suc k < n).
-      ⊎_elim {C = Fails (n - suc k) l}
-      (λ (lost : FatesFail 1 (frames_sent l) (acks_sent l) l.forward.fates l.reverse.fates × _).
-      stuck_weaker 1 (n - suc k) (frames_sent l) (acks_sent l) l.forward.fates l.reverse.fates (λ _. omega arith) lost.0)
-      (λ (due : IsDue (after s reads (suc k)).link × _). absurd ((stuck (suc k) (omega arith) more).not_due (still_due (suc k) (omega arith) due.0)))
-      (stuck k far below).lost)
-      (λ (last : n ≤ suc k). subst (λ follow. Fails follow l) (let e : 0 ≡ n - suc k = omega arith in e) (stuck k far below).why)
-      (cases_lt (suc k) n)
+      either (cases_lt (suc k) n)
+      (λ more. either (stuck k far below).lost (λ lost. stuck_weaker (n - suc k) (frames_sent l) (acks_sent l) l.forward.fates l.reverse.fates lost.0)
+      (λ due. absurd ((stuck (suc k) (omega arith) more).not_due (still_due (suc k) (omega arith) due.0))))
+      (λ last. subst (λ follow. Fails follow l) (let e : 0 ≡ n - suc k = omega arith in e) (stuck k far below).why)
     where
       l : LinkState
       l = before_round s reads k
@@ -251,43 +210,37 @@ module _ (known : RoundFacts) where
 
       still_due : (j : ℕ) → j ≤ n → IsDue (after s reads j).link → IsDue (before_round s reads j)
       still_due j few due =
-          let c = after s reads j in
-          let f = fed_leaves s.chunk c in
-          subst (λ d. IsDue (waited d)) (sym (runs (feed s.chunk) c (runs_before known s reads j n few on)))
-          (due_kept c.link (waited (feed s.chunk c)) (ap (λ p. p.delayed) f.forward) (ap (λ p. p.delayed) f.reverse)
-          (ap (λ r. r.first + r.read + length r.queue) f.receiver) f.first_unacknowledged f.end due)
+          subst (λ d. IsDue (waited d)) (sym (runs (feed s.chunk) (after s reads j) (runs_before known s reads j n few on))) (due_fed s.chunk (after s reads j) due)
 
   -- one of the last rounds of a copy that gave up, after which so many others failed
-  last_failed : (s : Setup) (reads : List (List ℕ)) (n follow : ℕ) → CanPass s (after s reads n) →
-      (after s reads n).status ≡ GaveUp → follow < s.rounds →
-      (k : ℕ) × Fails follow (before_round s reads k) × (a : ℕ) × (b : ℕ)
-      × ((before_round s reads k).forward.fates ≡ fates_after a s.fates) × ((before_round s reads k).reverse.fates ≡ fates_after b s.ack_fates)
+  last_failed : (s : Setup) (reads : List (List ℕ)) (n follow : ℕ) → CanPass s (after s reads n) → (after s reads n).status ≡ GaveUp → follow < s.rounds →
+      (k : ℕ) × (let l = before_round s reads k in Fails follow l × CountsFates s.fates s.ack_fates l.forward.fates l.reverse.fates l.counts)
   last_failed s reads n follow can gave few =
-      let at = gave_up_once s reads n gave in
-      let m = at.0 in
-      let early = at.1 in
-      let enough = (gives_up_after s reads m at.2 at.3).0 in
+      let h = ends_in_one_turn s reads n (λ r. (let j : GaveUp ≡ Running = sym gave ∙ r in cc)) in
+      let m = h.0 in
+      let early = h.1 in
+      let stop = ap (λ c. c.status) h.3 ∙ gave in
+      let enough = (gives_up_after s reads m h.2 stop).0 in
       let k = m - suc follow in
-      let drawn = drawn_before known s reads k (runs_before known s reads k m (omega arith) at.2) in
-      let failed = gives_up_if_failed s reads m (passes_before known s reads (suc m) n early can) at.2 at.3 k (omega arith) (omega arith) in
-      (k, subst (λ j. Fails j (before_round s reads k)) (let e : m - suc k ≡ follow = omega arith in e) failed, drawn.0, drawn.1, drawn.2, drawn.3)
+      let failed = gives_up_if_failed s reads m (passes_before known s reads (suc m) n early can) h.2 stop k (omega arith) (omega arith) in
+      let fails = subst (λ j. Fails j (before_round s reads k)) (let e : m - suc k ≡ follow = omega arith in e) failed in
+      (k, (fails, drawn_before known s reads k (runs_before known s reads k m (omega arith) h.2)))
 
   pub never_by_delays : NeverByDelays
   never_by_delays s reads n can none none_reverse many gave =
       let last = last_failed s reads n 1 can gave many in
       let l = before_round s reads last.0 in
-      ⊎_elim {C = ⊥}
-      (λ (a : (0 < frames_sent l) × HasFailed 1 (next_fate l.forward.fates)). none last.2 (ap next_fate (sym last.4) ∙ is_lost (next_fate l.forward.fates) a.1))
-      (λ (b : (0 < acks_sent l) × AllFail 1 (acks_sent l) l.reverse.fates).
-      none_reverse last.3 (ap next_fate (sym last.5) ∙ is_lost (next_fate l.reverse.fates) (first_of_all 1 (acks_sent l) l.reverse.fates b.0 b.1)))
-      last.1
+      let met = last.1.1 in
+      either last.1.0 (λ a. none met.frames (ap next_fate (sym met.left) ∙ is_lost (next_fate l.forward.fates) a.1))
+      (λ b. none_reverse met.acks (ap next_fate (sym met.left_reverse) ∙ is_lost (next_fate l.reverse.fates) (first_of_all 1 (acks_sent l) l.reverse.fates b.0 b.1)))
 
   pub ends_if_all_come : EndsIfAllCome
-  ends_if_all_come s reads n can come come_reverse some gave =
+  ends_if_all_come s reads n can arrive come_reverse some gave =
       let last = last_failed s reads n 0 can gave some in
       let l = before_round s reads last.0 in
-      never_fails (frames_sent l) (acks_sent l) l.forward.fates l.reverse.fates (subst AllCome (sym last.4) (all_after last.2 s.fates come))
-      (subst AllCome (sym last.5) (all_after last.3 s.ack_fates come_reverse)) last.1
+      let met = last.1.1 in
+      never_fails (frames_sent l) (acks_sent l) l.forward.fates l.reverse.fates (subst AllCome (sym met.left) (all_after met.frames s.fates arrive))
+      (subst AllCome (sym met.left_reverse) (all_after met.acks s.ack_fates come_reverse)) last.1.0
 
   -- ---- how many rounds
   module _ (s : Setup) (reads : List (List ℕ)) where
@@ -298,36 +251,30 @@ module _ (known : RoundFacts) where
     fed_bounded : (c : CopyState) → Bounded c → Bounded (feed s.chunk c)
     fed_bounded c h = (let f = fed_leaves s.chunk c in omega (arith, ap (λ r. r.read) f.receiver, ap failures f.counts))
 
-    passed_bounded : (e : CopyState) (frames acks : ℕ) → Bounded e → RoundLeaves (waited e) (round (waited e)) →
-        s.first ≤ e.link.sender.first_unacknowledged →
-        failures e.link.counts ≤ failures (round (waited e)).counts →
-        (Still e (pass s.chunk e) → min s.chunk (length (round (waited e)).receiver.queue) ≡ 0 → IsStuck frames acks (waited e) (pass s.chunk e).link) →
-        Bounded (pass s.chunk e)
-    passed_bounded e frames acks h keeps from grows stuck = elim (brought s.chunk e) [
-      | Some none some ↦ (
-          let m = round (waited e) in
-          let far : e.link.sender.first_unacknowledged + e.link.receiver.read < m.sender.first_unacknowledged + (pass s.chunk e).link.receiver.read =
-          lt_of_not-le (λ l. some (still_from s.chunk e (omega arith) (omega arith))) in
-          omega arith)
-      | Nothing more still empty ↦ (let counted = (stuck still empty).counted in omega arith)
-    ]
+    passed_bounded : Rounding known s reads Bounded
+    passed_bounded n can on h =
+        let e = feed s.chunk (after s reads n) in
+        let m = round (waited e) in
+        let keeps = leaves known s reads n can on in
+        let from = (writes known s reads n can on).carries.way.sends.from in
+        let grows = (round_failed (waited e) m (sends known s reads n can on).passes).0 in
+        elim (brought s.chunk e) [
+          | Some none some ↦ (
+              let far : e.link.sender.first_unacknowledged + e.link.receiver.read < m.sender.first_unacknowledged + (pass s.chunk e).link.receiver.read =
+              lt_of_not-le (λ l. some (still_from s.chunk e (omega arith) (omega arith))) in
+              omega arith)
+          | Nothing more still empty ↦ (let counted = (stuck_turn known s reads n can on still empty).counted in omega arith)
+        ]
 
     bounded : (n : ℕ) → CanPass s (after s reads n) → Bounded (after s reads n)
-    bounded = by_turns known s reads Bounded fed_bounded (λ c status h. h)
-        (λ c was stays can one h.
-        let old = waited (feed s.chunk c) in
-        passed_bounded (feed s.chunk c) (frames_sent old) (acks_sent old) h (leaves known s reads c was stays can one)
-        (writes known s reads c was stays can one).carries.way.sends.from (round_failed old (round old) (sends known s reads c was stays can one).passes).0
-        (stuck_turn known s reads c was stays can one)) (omega arith)
+    bounded = by_turns known s reads Bounded fed_bounded (λ c status h. h) passed_bounded (omega arith)
 
   pub few_rounds : FewRounds
   few_rounds s reads n can =
       let c = after s reads n in
-      let starts : s.first < 2 ^ 64 = omega arith in
-      let w = (so_far known.stream s reads starts n).writes in
-      let stream = in_stream known.stream.queue s.first c.given c.link.receiver w.carries.way.receives in
-      let few = bounded s reads n can in
-      omega arith
+      let w = (so_far known.stream s reads (omega arith) n).writes.carries.way in
+      let stream = in_stream known.stream.queue s.first c.given c.link.receiver w.receives in
+      omega (arith, bounded s reads n can)
 
 -- ======== What is counted of a copy's rounds and frames, turn by turn
 -- what is true where a copy ends so, is true from then on
@@ -356,24 +303,20 @@ gives_up_counted s reads n few = at_end s reads (λ c. s.rounds ≤ c.rounds) Ga
 -- ---- a copy that gives up hasn't written all
 module _ (known : RoundFacts) where
   pub unfinished : Unfinished
-  unfinished s reads n can gave = at_end s reads
-      (λ c. CanPass s c → length c.given < s.outgoing → length c.written < length c.given) GaveUp (λ (e : GaveUp ≡ Running). cc) one n gave can
-    where
-      one : (n : ℕ) → (after s reads n).status ≡ Running → (after s reads (suc n)).status ≡ GaveUp → CanPass s (after s reads (suc n)) →
-          length (after s reads (suc n)).given < s.outgoing → length (after s reads (suc n)).written < length (after s reads (suc n)).given
-      one n on gave can few =
-          let c = after s reads n in
-          let stop = stops s.rounds s.chunk c on gave in
-          let starts : s.first < 2 ^ 64 = omega arith in
-          let d = feed s.chunk c in
-          let given = ap (λ x. length x.given) stop.is in
-          let wrote = ap (λ x. length x.written) stop.is in
-          let w = (fed_so_far known.stream s reads c (so_far known.stream s reads starts n)).writes in
-          let stays = fed_stays known s c (all_stays known s reads n) in
-          let stream = in_stream known.stream.queue s.first d.given d.link.receiver w.carries.way.receives in
-          lt_of_not-le (λ (l : length (after s reads (suc n)).given ≤ length (after s reads (suc n)).written).
-          let all : d.link.receiver.read ≡ length d.given = omega (arith, ap length w.written, length-take d.link.receiver.read d.given) in
-          asked s.chunk c stop.fed stop.on can.chunk (omega arith) (omega arith) (omega arith) (omega arith))
+  unfinished s reads n can gave = at_end s reads (λ c. CanPass s c → length c.given < s.outgoing → length c.written < length c.given) GaveUp
+      (λ (e : GaveUp ≡ Running). cc)
+      (λ n on gave can few.
+      let c = after s reads n in
+      let stop = stops s.rounds s.chunk c on gave in
+      let d = feed s.chunk c in
+      let given = ap (λ x. length x.given) stop.is in
+      let wrote = ap (λ x. length x.written) stop.is in
+      let w = (fed_so_far known.stream s reads c (so_far known.stream s reads (omega arith) n)).writes in
+      let stays = fed_stays known s c (all_stays known s reads n) in
+      let stream = in_stream known.stream.queue s.first d.given d.link.receiver w.carries.way.receives in
+      lt_of_not-le (λ l.
+      let all : d.link.receiver.read ≡ length d.given = omega (arith, ap length w.written, length-take d.link.receiver.read d.given) in
+      asked s.chunk c stop.fed stop.on can.chunk (omega arith) (omega arith) (omega arith) (omega arith))) n gave can
 
   -- ---- the fates of frames
   pub counts_each_fate : CountsEachFate
@@ -387,35 +330,28 @@ module _ (known : RoundFacts) where
     Lacks c = (min c.stalled (2 ^ 64 - 1) ≤ failures c.link.counts)
         × ((min c.stalled (2 ^ 64 - 1) ≤ losses c.link.counts) ⊎ ((min c.stalled (2 ^ 64 - 1) ≤ losses c.link.counts + 1) × IsDue c.link))
 
-    one_lacks : (c : CopyState) → Lacks c → (frames acks : ℕ) → (let e = feed s.chunk c in
-        (Still e (pass s.chunk e) → min s.chunk (length (round (waited e)).receiver.queue) ≡ 0 → IsStuck frames acks (waited e) (pass s.chunk e).link) →
-        Lacks (pass s.chunk e))
-    one_lacks c h frames acks stuck = elim (brought s.chunk (feed s.chunk c)) [
+    fed_lacks : (c : CopyState) → Lacks c → Lacks (feed s.chunk c)
+    fed_lacks c h =
+        let f = fed_leaves s.chunk c in
+        let failed = ap failures f.counts in
+        let lost = ap losses f.counts in
+        (omega arith, elim h.1 [ inl low ↦ inl (omega arith) | inr low ↦ inr (omega arith, due_fed s.chunk c low.1) ])
+
+    one_lacks : Rounding known s reads Lacks
+    one_lacks n can on h = elim (brought s.chunk (feed s.chunk (after s reads n))) [
       | Some none some ↦ (omega arith, inl (omega arith))
       | Nothing more still empty ↦ (
-          let f = fed_leaves s.chunk c in
-          let e = feed s.chunk c in
-          let one = stuck still empty in
-          let failed = ap failures f.counts in
-          let lost = ap losses f.counts in (
+          let stuck = stuck_turn known s reads n can on still empty in (
             omega arith,
             elim h.1 [
-              | inl low ↦ elim one.lost [ inl a ↦ inl (omega arith) | inr a ↦ inr (omega arith, a.0) ]
-              | inr low ↦ absurd (one.not_due (due_kept c.link (waited e) (ap (λ p. p.delayed) f.forward) (ap (λ p. p.delayed) f.reverse)
-                  (ap (λ r. r.first + r.read + length r.queue) f.receiver) f.first_unacknowledged f.end low.1))
+              | inl low ↦ elim stuck.lost [ inl a ↦ inl (omega arith) | inr a ↦ inr (omega arith, a.0) ]
+              | inr low ↦ absurd (stuck.not_due low.1)
             ],
           ))
     ]
 
-    lacks : (n : ℕ) → CanPass s (after s reads n) → (after s reads n).status ≡ Running → Lacks (after s reads n)
-    lacks zero can on = (omega arith, inl (omega arith))
-    lacks (suc n) can on =
-        let c = after s reads n in
-        let one = goes_on s.rounds s.chunk c on in
-        let starts : s.first < 2 ^ 64 = omega arith in
-        let old = waited (feed s.chunk c) in
-        subst Lacks (sym one.is) (one_lacks c (lacks n (passes_before known s reads n (suc n) (omega arith) can) one.before) (frames_sent old) (acks_sent old)
-        (stuck_turn known s reads c (so_far known.stream s reads starts n) (all_stays known s reads n) can one))
+    lacks : (n : ℕ) → CanPass s (after s reads n) → Lacks (after s reads n)
+    lacks = by_turns known s reads Lacks fed_lacks (λ c status h. h) one_lacks (omega arith, inl (omega arith))
 
   pub enough_failed : EnoughFailed
   enough_failed s reads n can few gave = at_end s reads
@@ -423,7 +359,7 @@ module _ (known : RoundFacts) where
       (λ m on gave can.
       let c = after s reads m in
       let stop = stops s.rounds s.chunk c on gave in
-      let h = lacks s reads m (passes_before known s reads m (suc m) (omega arith) can) on in
+      let h = lacks s reads m (passes_before known s reads m (suc m) (omega arith) can) in
       let counts = ap (λ x. x.link.counts) stop.is ∙ (fed_leaves s.chunk c).counts in
       let lost = ap (λ x. x.lost) counts in
       let delayed = ap (λ x. x.delayed) counts in
@@ -463,11 +399,10 @@ module _ (known : RoundFacts) where
   pub enough_rounds : EnoughRounds
   enough_rounds s reads n fits = at_end s reads (λ c. length c.given ≤ c.rounds * s.chunk) Done (λ (e : Done ≡ Running). cc)
       (λ m on done. (let last = done_none s.rounds s.chunk (after s reads m) on done in
-      subst (λ k. k ≤ (after s reads (suc m)).rounds * s.chunk) (sym last.0)
-      (subst (λ k. length (after s reads m).given ≤ k * s.chunk) (sym last.1) (taken_few s reads fits m on)))) n
+      omega (arith, last.0, ap (λ k. k * s.chunk) last.1, taken_few s reads fits m on))) n
 
   -- ---- if all arrive in their rounds
-  module _ (s : Setup) (reads : List (List ℕ)) (come : AllCome s.fates) (come_reverse : AllCome s.ack_fates) where
+  module _ (s : Setup) (reads : List (List ℕ)) (arrive : AllCome s.fates) (come_reverse : AllCome s.ack_fates) where
     -- the sender keeps what the receiver lacks, and each round wrote some
     abbrev AtOnce : CopyState → Type 0
     AtOnce c = (c.link.sender.first_unacknowledged ≡ next_position c.link.receiver) × (c.rounds ≤ c.link.receiver.read)
@@ -477,36 +412,32 @@ module _ (known : RoundFacts) where
         let f = fed_leaves s.chunk c in
         (f.first_unacknowledged ∙ h.0 ∙ sym (ap (λ r. r.first + r.read + length r.queue) f.receiver), omega (arith, ap (λ r. r.read) f.receiver))
 
-    one_at_once : (c : CopyState) → SoFar known.stream s reads c → Stays known s c.link →
-        CanPass s (turn s.rounds s.chunk c) → GoesOn s.rounds s.chunk c →
-        AtOnce (feed s.chunk c) → AtOnce (pass s.chunk (feed s.chunk c))
-    one_at_once c was stays can one h =
-        let e = feed s.chunk c in
+    one_at_once : Rounding known s reads AtOnce
+    one_at_once n can on h =
+        let e = feed s.chunk (after s reads n) in
         let old = waited e in
         let new = round old in
-        let p = (sends known s reads c was stays can one).passes in
-        let u = fed known s reads c was stays can one in
-        let w = (writes known s reads c was stays can one).carries in
-        let most = left known s reads c was stays can one in
+        let p = (sends known s reads n can on).passes in
+        let u = fed known s reads n can on in
+        let w = (writes known s reads n can on).carries in
+        let most = left known s reads n can on in
         let moves = round_moves old new p known u.sound (omega arith) in
         let one_more = round_at_once known s.first e.given old new s.chunk p
-        (leaves known s reads c was stays can one) moves (omega arith) w.way
+        (leaves known s reads n can on) moves (omega arith) w.way
         (round_keeps_invariant known.stream s.first e.given old (record { way = w.way; fits = w.fits })).way u.in_flight u.in_flight_reverse
-        (subst AllCome (sym u.met.left) (all_after u.met.frames s.fates come)) (subst AllCome (sym u.met.left_reverse) (all_after u.met.acks s.ack_fates come_reverse))
+        (subst AllCome (sym u.met.left) (all_after u.met.frames s.fates arrive)) (subst AllCome (sym u.met.left_reverse) (all_after u.met.acks s.ack_fates come_reverse))
         h.0 (omega arith) can.chunk
-        (λ none. pos_of_ne-zero (λ empty. kept known s reads c was stays can one empty none)) in
+        (λ none. pos_of_ne-zero (λ empty. kept known s reads n can on empty none)) in
         (one_more.0, omega arith)
 
     at_once : (n : ℕ) → CanPass s (after s reads n) → AtOnce (after s reads n)
     at_once = by_turns known s reads AtOnce fed_at_once (λ c status h. h) one_at_once (omega arith, omega arith)
 
   pub rounds_at_once : RoundsAtOnce
-  rounds_at_once s reads n can come come_reverse =
+  rounds_at_once s reads n can arrive come_reverse =
       let c = after s reads n in
-      let starts : s.first < 2 ^ 64 = omega arith in
-      let few = at_once s reads come come_reverse n can in
-      let w = (so_far known.stream s reads starts n).writes.carries in
+      let w = (so_far known.stream s reads (omega arith) n).writes.carries in
       let stream = in_stream known.stream.queue s.first c.given c.link.receiver w.way.receives in
-      omega arith
+      omega (arith, at_once s reads arrive come_reverse n can)
 
 pub ruleset laws_of_giving_up = (gives_up_counted, enough_failed, unfinished)

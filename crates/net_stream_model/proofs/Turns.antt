@@ -1,15 +1,12 @@
 -- The turns of a copy, and when it gives up.
-use Rattle.std.proofs.Common.{◌≡◌, ◌&&◌, ℕ, ◌<◌, ◌≤◌, nat_eq, nat_lt, nat_le, not, Bool, true, false, List, [], ◌∷◌}
-use Rattle.std.proofs.Common.{length, refl, arith, ◌⊎◌, ◌||◌, ◌+◌, ◌-◌, ◌^◌, min, cond, ◌++◌, take, sym, ap, subst, ◌∙◌}
-use Rattle.std.proofs.Common.{⊎_elim, inl, inr, length-append, length-take, zero, suc}
-use Rattle.std.proofs.lemmas.Bool.{and_parts, not-true, ltb-true, leb-true, leb-false, eqb-true, both_ways, ltb-false}
-use Rattle.std.proofs.lemmas.Bool.{eqb-false, cases_lt}
+use Rattle.std.proofs.Common.{◌≡◌, ◌&&◌, ℕ, ◌<◌, ◌≤◌, nat_eq, nat_lt, nat_le, not, Bool, true, false, List, [], ◌∷◌, length, refl, arith, ◌⊎◌, ◌||◌, ◌+◌, ◌-◌, ◌^◌, min, cond, ◌++◌, take, sym, ap, subst, ◌∙◌, inl, inr, length-append, length-take, zero, suc}
+use Rattle.std.proofs.lemmas.Bool.Decides.{nat_tests}
+use Rattle.std.proofs.lemmas.Bool.{and_parts, not-true, leb-true, leb-false, both_ways, cases_lt}
+use Rattle.net_assembler.proofs.Positions.{either}
 use Rattle.net_receiver.specs.ReceiverState.{next_position}
 use Rattle.net_stream_model.specs.SenderState.{end_of}
 use Rattle.net_stream_model.specs.LinkState.{LinkState, times, round}
-use Rattle.net_stream_model.specs.CopyState.{Setup, CopyState, Status, Running, Done, GaveUp, ReadFailed, begin}
-use Rattle.net_stream_model.specs.CopyState.{is_written, room_for, with_read, read_of, feed, decide, pass}
-use Rattle.net_stream_model.specs.CopyState.{while_running, turn, after, waited}
+use Rattle.net_stream_model.specs.CopyState.{Setup, CopyState, Status, Running, Done, GaveUp, ReadFailed, begin, is_written, room_for, with_read, read_of, feed, decide, pass, while_running, turn, after, waited}
 use Rattle.net_stream_model.proofs.Steps.{keeps, split}
 use Rattle.std.proofs.lemmas.List.{append-nil, nil_from_length}
 use Rattle.net_stream_model.specs.Promises.{MakesNoProgress, GivesUpAfter, NeverLater, NoMoreRounds}
@@ -138,8 +135,9 @@ fed_leaves chunk c = fed_by (FedLeaves c) chunk c (λ _ _. search arith) (λ res
 abbrev pub ends : CopyState → Bool
 ends c = not c.more && is_written c.link
 
-fed_status : (chunk : ℕ) (c : CopyState) → c.status ≡ Running → ((feed chunk c).status ≡ Running) ⊎ ((feed chunk c).status ≡ ReadFailed)
-fed_status chunk c on = fed_by (λ d. (d.status ≡ Running) ⊎ (d.status ≡ ReadFailed)) chunk c (λ _ _. inr refl) (λ _ _ _. inl on) (λ _ _ _ _ _. inl on) (λ _. inl on)
+fed_status : (chunk : ℕ) (c : CopyState) → c.status ≡ Running → ((feed chunk c).status ≡ Running → ⊥) → (feed chunk c).status ≡ ReadFailed
+fed_status chunk c on =
+    fed_by (λ d. (d.status ≡ Running → ⊥) → d.status ≡ ReadFailed) chunk c (λ _ _ _. refl) (λ _ _ _ over. absurd (over on)) (λ _ _ _ _ _ over. absurd (over on)) (λ _ over. absurd (over on))
 
 -- a read fails, all is done, the copy gives up, or it makes a round
 pub turns : (P : CopyState → Type 0) (rounds chunk : ℕ) (c : CopyState) → c.status ≡ Running → (let e = feed chunk c in
@@ -156,8 +154,7 @@ turns P rounds chunk c on failed finished stopped went =
     (λ more. split Q (nat_le rounds e.stalled) (record e { status = GaveUp }) e
     (λ many. stopped running more (leb-true rounds e.stalled many))
     (λ few. subst P (sym (runs (pass chunk) e running)) (went running more (leb-false rounds e.stalled few)))))
-    (λ over. subst P (sym (rests (pass chunk) e over))
-    (failed (⊎_elim {C = e.status ≡ ReadFailed} (λ running. absurd (over running)) (λ is. is) (fed_status chunk c on)))))
+    (λ over. subst P (sym (rests (pass chunk) e over)) (failed (fed_status chunk c on over))))
 
 -- one that goes on made a round
 pub record GoesOn (rounds chunk : ℕ) (c : CopyState) : Type 0 where
@@ -169,13 +166,11 @@ pub record GoesOn (rounds chunk : ℕ) (c : CopyState) : Type 0 where
 
 pub goes_on : (rounds chunk : ℕ) (c : CopyState) → (turn rounds chunk c).status ≡ Running → GoesOn rounds chunk c
 goes_on rounds chunk c running =
-    ⊎_elim {C = GoesOn rounds chunk c}
-    (λ (on : c.status ≡ Running).
-    turns (λ d. turn rounds chunk c ≡ d → d.status ≡ Running → GoesOn rounds chunk c) rounds chunk c on
+    either (running_or_not c.status)
+    (λ on. turns (λ d. turn rounds chunk c ≡ d → d.status ≡ Running → GoesOn rounds chunk c) rounds chunk c on
     (λ failed is r. cc) (λ done is r. cc) (λ fed more many is r. cc)
     (λ fed more few is r. record { before = on; fed = fed; on = more; few = few; is = is }) refl running)
-    (λ (over : c.status ≡ Running → ⊥). absurd (over (sym (ap (λ d. d.status) (ended rounds chunk c over)) ∙ running)))
-    (running_or_not c.status)
+    (λ over. absurd (over (sym (ap (λ d. d.status) (ended rounds chunk c over)) ∙ running)))
 
 -- the turn with which a copy gives up
 pub record Stops (rounds chunk : ℕ) (c : CopyState) : Type 0 where
@@ -218,22 +213,19 @@ pub data Brought (chunk : ℕ) (c : CopyState) : Type 0 where
   Nothing : (pass chunk c).stalled ≡ c.stalled + 1 → Still c (pass chunk c) →
       min chunk (length (round (waited c)).receiver.queue) ≡ 0 → Brought chunk c
 
-pub brought : (chunk : ℕ) (c : CopyState) → Brought chunk c
-brought chunk c = by (nat_eq m.sender.first_unacknowledged c.link.sender.first_unacknowledged) (nat_lt 0 (min chunk (length m.receiver.queue))) refl refl
-  where
-    m : LinkState
-    m = round (waited c)
+-- the test of progress, in numbers
+progress_is : (a b k t : ℕ) → (let stalled = cond (not (nat_eq a b) || nat_lt 0 k) 0 (t + 1) in
+    ((stalled ≡ 0) × (a ≡ b → 0 < k)) ⊎ ((stalled ≡ t + 1) × (a ≡ b) × (k ≡ 0)))
+progress_is a b k t = grind (arith, nat_tests)
 
-    by : (same some : Bool) → nat_eq m.sender.first_unacknowledged c.link.sender.first_unacknowledged ≡ same →
-        nat_lt 0 (min chunk (length m.receiver.queue)) ≡ some → Brought chunk c
-    by false some e k = Some (λ i. cond (not (e i) || k i) 0 (c.stalled + 1))
-        (λ still. eqb-false m.sender.first_unacknowledged c.link.sender.first_unacknowledged e still.0)
-    by true true e k = Some (λ i. cond (not (e i) || k i) 0 (c.stalled + 1))
-        (λ still. (let l = ltb-true 0 (min chunk (length m.receiver.queue)) k in
-        omega (arith, length-append c.written (take chunk m.receiver.queue), length-take chunk m.receiver.queue, ap length still.1)))
-    by true false e k =
-        let none : min chunk (length m.receiver.queue) ≡ 0 = (let l = ltb-false 0 (min chunk (length m.receiver.queue)) k in omega arith) in
-        Nothing (λ i. cond (not (e i) || k i) 0 (c.stalled + 1)) (still_from chunk c (eqb-true m.sender.first_unacknowledged c.link.sender.first_unacknowledged e) none) none
+pub brought : (chunk : ℕ) (c : CopyState) → Brought chunk c
+brought chunk c =
+    let m = round (waited c) in
+    let q = m.receiver.queue in
+    elim (progress_is m.sender.first_unacknowledged c.link.sender.first_unacknowledged (min chunk (length q)) c.stalled) [
+      | inl p ↦ Some p.0 (λ still. (let l = p.1 still.0 in omega (arith, length-append c.written (take chunk q), length-take chunk q, ap length still.1)))
+      | inr p ↦ Nothing p.0 (still_from chunk c p.1 p.2) p.2
+    ]
 
 -- a copy that goes on without a read has no room for one, or has bytes to write
 abbrev Busy : ℕ → CopyState → Type 0
@@ -273,20 +265,14 @@ module _ (s : Setup) (reads : List (List ℕ)) where
           few = omega arith;
           within = omega arith;
           still = λ k far below. absurd (omega arith);
-          all = λ j h few.
-              ⊎_elim {C = j ≤ (after s reads (suc n)).stalled}
-              (λ (l : 0 < j). absurd (some (still_round s.rounds s.chunk c one (h n (omega arith) (omega arith)))))
-              (λ (l : j ≤ 0). omega arith)
-              (cases_lt 0 j);
+          all = λ j h few. either (cases_lt 0 j)
+              (λ l. absurd (some (still_round s.rounds s.chunk c one (h n (omega arith) (omega arith))))) (λ l. omega arith);
         }
         | Nothing more none empty ↦ record {
           few = omega arith;
           within = omega arith;
-          still = λ k far below.
-              ⊎_elim {C = MakesNoProgress s reads k}
-              (λ (l : k < n). before.still k (omega arith) l)
-              (λ (l : n ≤ k). subst (MakesNoProgress s reads) (let is : n ≡ k = omega arith in is) (still_turn s.rounds s.chunk c one none))
-              (cases_lt k n);
+          still = λ k far below. either (cases_lt k n) (λ l. before.still k (omega arith) l)
+              (λ l. subst (MakesNoProgress s reads) (let is : n ≡ k = omega arith in is) (still_turn s.rounds s.chunk c one none));
           all = λ j h few. (let rest = before.all (j - 1) (λ k far below. h k (omega arith) (omega arith)) (omega arith) in omega arith);
         }
       ]
@@ -302,16 +288,9 @@ gives_up_after s reads n on gave =
     (omega arith, λ k far below. so_far.still k (omega arith) below)
 
 pub never_later : NeverLater
-never_later s reads n on many nothing =
-    let so_far = counted s reads n on in
-    let all = so_far.all (suc s.rounds) nothing (omega arith) in
-    omega arith
+never_later s reads n on many nothing = (let so_far = counted s reads n on in omega (arith, so_far.all (suc s.rounds) nothing (omega arith)))
 
 pub no_more_rounds : NoMoreRounds
 no_more_rounds s reads n many nothing on =
     let one = goes_on s.rounds s.chunk (after s reads n) on in
-    let so_far = counted s reads n one.before in
-    let all = so_far.all s.rounds nothing many in
-    let same = (fed_leaves s.chunk (after s reads n)).stalled in
-    let few = one.few in
-    omega arith
+    omega (arith, (counted s reads n one.before).all s.rounds nothing many, (fed_leaves s.chunk (after s reads n)).stalled)

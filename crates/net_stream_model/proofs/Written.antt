@@ -1,23 +1,16 @@
 -- Readers that fill each read, and what a copy wrote by its result.
-use Rattle.std.proofs.Common.{◌≡◌, ◌⊎◌, ◌&&◌, ℕ, zero, suc, ◌+◌, ◌≤◌, ◌<◌, nat_lt, nat_le, not, Bool, true, false, cond}
-use Rattle.std.proofs.Common.{List, [], ◌∷◌, ◌++◌, length, take, drop, refl, sym, ap, subst, ◌∙◌, arith, inl, inr}
-use Rattle.std.proofs.Common.{length-drop, ◌-◌, ◌^◌, min, Option, Result, Ok, Err, append_assoc, length-append, IfErr}
+use Rattle.std.proofs.Common.{◌≡◌, ◌⊎◌, ◌&&◌, ℕ, zero, suc, ◌+◌, ◌≤◌, ◌<◌, nat_lt, Bool, true, false, cond, List, [], ◌∷◌, ◌++◌, length, take, drop, refl, sym, ap, subst, ◌∙◌, arith, inl, inr, length-drop, ◌-◌, ◌^◌, min, Option, Result, Ok, Err, append_assoc, length-append, IfErr}
 use Rattle.std.proofs.lemmas.Bool.{both_ways, ltb-true, ltb-false}
 use Rattle.std.proofs.lemmas.List.{append-nil, take-append-le, take-append-drop, take_all}
 use Rattle.std.proofs.Math.Seq.{drop-append_seam}
 use Rattle.net_stream_model.specs.SenderState.{with_written}
-use Rattle.net_stream_model.specs.CopyState.{Setup, CopyState, Status, Running, Done, GaveUp, ReadFailed, begin}
-use Rattle.net_stream_model.specs.CopyState.{is_written, rest_of, room_for, read_of, with_read, feed, decide, pass}
-use Rattle.net_stream_model.specs.CopyState.{while_running, turn, after, outcome, most_turns, copied, setup_of, Outcome}
-use Rattle.net_stream_model.specs.CopyState.{final, concat}
+use Rattle.net_stream_model.specs.CopyState.{Setup, CopyState, Status, Running, Done, GaveUp, ReadFailed, begin, is_written, rest_of, room_for, read_of, with_read, feed, decide, pass, while_running, turn, after, outcome, most_turns, copied, setup_of, Outcome, final, concat}
 use Rattle.net_stream_model.specs.Facts.{StreamFacts}
 use Rattle.net_stream_model.specs.Streams.{Writes}
-use Rattle.net_stream_model.specs.Promises.{before_end, EndsIfAllCome, has_end, DoneIfAllCome, FillsAt, Fills}
-use Rattle.net_stream_model.specs.Promises.{SameBytes, AllAtOnce, StartsFits, EnoughFailed}
+use Rattle.net_stream_model.specs.Promises.{before_end, EndsIfAllCome, has_end, DoneIfAllCome, FillsAt, Fills, SameBytes, AllAtOnce, StartsFits, EnoughFailed}
 use Rattle.net_stream_model.proofs.Steps.{split}
 use Rattle.net_stream_model.proofs.Turns.{may_read, fed_by, decides, all_turned, after_turns, to_pass, decided_too}
-use Rattle.net_stream_model.proofs.Prefix.{before_more, before_rest, SoFar, so_far, fed_so_far, decided_so_far}
-use Rattle.net_stream_model.proofs.Prefix.{pass_writes, all_written, starts_with, ends, stays_so}
+use Rattle.net_stream_model.proofs.Prefix.{before_more, before_rest, SoFar, so_far, fed_so_far, decided_so_far, pass_writes, all_written, starts_with, ends, copied_is}
 use Rattle.std.specs.Io.KnownBytes.{Appends, Consumes, IsAtEnd}
 use Rattle.std.specs.Result.{is_ok}
 use Rattle.net_stream_model.specs.declared.counts.Counts.{Counts}
@@ -25,9 +18,7 @@ use Rattle.net_stream_model.specs.declared.error.CopyError.{CopyError}
 use Rattle.net_stream_model.specs.LinkState.{LinkState}
 use Rattle.net_stream_model.specs.declared.config.Config.{Config}
 use Rattle.net_stream_model.specs.Fates.{FatesState}
-use Rattle.net_stream_model.specs.CopyResult.{before_pass, EndsRound, Copied, CopiedPart}
-use Rattle.net_stream_model.specs.CopyResult.{HasCopied, HasNotBegun, HasCopiedIfBegun}
-use Rattle.net_stream_model.specs.CopyResult.{Copies, CountsFailures}
+use Rattle.net_stream_model.specs.CopyResult.{before_pass, EndsRound, Copied, CopiedPart, HasCopied, HasNotBegun, HasCopiedIfBegun, Copies, CountsFailures}
 use Rattle.net_stream_model.specs.InShort.{ResultsInShort}
 use Rattle.net_stream_model.specs.declared.counts.FrameCounts.{FrameCounts}
 use Rattle.net_stream_model.specs.declared.error.CopyError.TheVariants as errors
@@ -115,13 +106,9 @@ module _ (s : Setup) where
 
   decide_alike : (c : CopyState) (others : List (List ℕ)) → (c.more ≡ true → Alike c.reads others) →
       AreAlike (decide s.rounds c) (decide s.rounds (record c { reads = others }))
-  decide_alike c others coming = by (not c.more && is_written c.link) (nat_le s.rounds c.stalled)
-    where
-      by : (a b : Bool) → AreAlike (cond a (record c { status = Done }) (cond b (record c { status = GaveUp }) c))
-          (cond a (record c { reads = others; status = Done }) (cond b (record c { reads = others; status = GaveUp }) (record c { reads = others })))
-      by true b = record { reads = others; same = refl; coming = coming }
-      by false true = record { reads = others; same = refl; coming = coming }
-      by false false = record { reads = others; same = refl; coming = coming }
+  decide_alike c others coming =
+      let still = decides (λ d. d.more ≡ true → Alike d.reads others) s.rounds c (λ _ _. coming) (λ _. coming) (λ _. coming) in
+      record { reads = others; same = grind arith; coming = still }
 
   -- a step that both make or neither
   both_step : (f : CopyState → CopyState) (c d : CopyState) → AreAlike c d →
@@ -154,11 +141,9 @@ module _ (s : Setup) where
 pub same_bytes : StreamFacts → SameBytes
 same_bytes known s reads others fits fills fills_too end bytes =
     let m = most_turns s reads in
-    let k = most_turns s others in
-    let over = ends known s reads fits in
-    let over_too = ends known s others fits in
-    ap outcome (sym (stays_so s reads m k over)) ∙ sym (ap outcome (alike s reads others fills fills_too (record { end = end; bytes = bytes }) (m + k)).same)
-    ∙ ap (λ n. outcome (after s others n)) (let e : m + k ≡ k + m = omega arith in e) ∙ ap outcome (stays_so s others k m over_too)
+    let both = alike s reads others fills fills_too (record { end = end; bytes = bytes }) m in
+    let over = λ (r : (after s others m).status ≡ Running). ends known s reads fits (sym (ap (λ c. c.status) both.same) ∙ r) in
+    sym (ap outcome both.same) ∙ sym (copied_is known s others m fits over)
 
 -- ---- all bytes at once
 -- each read is the last before the end
@@ -205,12 +190,12 @@ end_comes s reads n e =
     (λ c on h. h) n (begin s reads) (λ _. e, λ f. absurd (cc))
 
 pub done_if_all_come : StreamFacts → EndsIfAllCome → DoneIfAllCome
-done_if_all_come known never s reads can come come_reverse some e = by (copied s reads).status refl
+done_if_all_come known never s reads can arrive come_reverse some e = by (copied s reads).status refl
   where
     by : (st : Status) → (copied s reads).status ≡ st → (copied s reads).status ≡ Done
     by Running is = absurd (let p = can.positions in ends known s reads (omega arith) is)
     by Done is = is
-    by GaveUp is = absurd (never s reads (most_turns s reads) can come come_reverse some is)
+    by GaveUp is = absurd (never s reads (most_turns s reads) can arrive come_reverse some is)
     by ReadFailed is = absurd ((end_comes s reads (most_turns s reads) e).1 is)
 
 -- ======== What a copy has written is a prefix of what it has read
@@ -335,21 +320,15 @@ unbegun r reads told reader reader' writer writer' counts p = record {
 }
 
 module _ (law : EnoughFailed) (config : Config) (fates ack_fates : FatesState) (word : config.max_stalled_rounds < 2 ^ 64) where
-  enough_of : {T : Type 0} (r : Result T CopyError) (reads : List (List ℕ)) (told : List Counts) (reader reader' writer writer' : Option (List ℕ)) (counts : Counts) →
-      HasCopied (setup_of config fates ack_fates) r reads told reader reader' writer writer' counts → IfErr r (CountsFailures config counts)
-  enough_of (Ok t) reads told reader reader' writer writer' counts p = tt
-  enough_of (Err errors.GaveUp) reads told reader reader' writer writer' counts p = λ _ left some.
-      let s = setup_of config fates ack_fates in
-      let c = final s reads in
-      let bytes_read : min (length c.given) (2 ^ 64 - 1) ≡ counts.bytes_read = ap (λ (o : Outcome). o.counts.bytes_read) p.ends in
-      subst (λ (f : FrameCounts). (config.max_stalled_rounds ≤ f.lost + f.delayed) × (config.max_stalled_rounds ≤ f.lost + 1)) (ap (λ (o : Outcome). o.counts.frames) p.ends)
-      (law s reads (most_turns s reads) (record { outgoing = some; incoming = some; chunk = some; positions = omega (arith, bytes_read, left) }) word
-      (ap (λ (o : Outcome). o.status) p.ends))
-  enough_of (Err error) reads told reader reader' writer writer' counts p = λ e. absurd (both_ways false refl e)
-
   pub enough : {T : Type 0} (r : Result T CopyError) (reads : List (List ℕ)) (told : List Counts) (reader reader' writer writer' : Option (List ℕ)) (counts : Counts) →
       HasCopiedIfBegun (setup_of config fates ack_fates) r reads told reader reader' writer writer' counts →
       IfErr r (CountsFailures config counts)
-  enough r reads told reader reader' writer writer' counts (inl p) = enough_of r reads told reader reader' writer writer' counts p
-  enough r reads told reader reader' writer writer' counts (inr p) = subst (λ k. IfErr k (CountsFailures config counts)) (sym p.0)
-      (λ e. absurd (both_ways false refl e))
+  enough (Ok t) reads told reader reader' writer writer' counts h = tt
+  enough (Err errors.GaveUp) reads told reader reader' writer writer' counts (inr p) = absurd (let e = p.0 in cc)
+  enough (Err errors.GaveUp) reads told reader reader' writer writer' counts (inl p) = λ _ left some.
+      let s = setup_of config fates ack_fates in
+      let bytes_read : min (length (final s reads).given) (2 ^ 64 - 1) ≡ counts.bytes_read = ap (λ (o : Outcome). o.counts.bytes_read) p.ends in
+      subst (λ (f : FrameCounts). (config.max_stalled_rounds ≤ f.lost + f.delayed) × (config.max_stalled_rounds ≤ f.lost + 1)) (ap (λ (o : Outcome). o.counts.frames) p.ends)
+      (law s reads (most_turns s reads) (record { outgoing = some; incoming = some; chunk = some; positions = omega (arith, bytes_read, left) }) word
+      (ap (λ (o : Outcome). o.status) p.ends))
+  enough (Err error) reads told reader reader' writer writer' counts h = λ e. absurd (both_ways false refl e)

@@ -9,7 +9,7 @@ use Rattle.std.specs.Prelude.{ℕ, ◌+◌, ◌^◌, nat_lt, Bool, if◌then◌e
 use Rattle.std.specs.Prelude.{List, [], ◌∷◌, ◌++◌, length, Option, Some, None}
 use Rattle.net_receiver.specs.ReceiverState.{ReceiverState}
 use Rattle.net_stream_model.specs.Frames.{segment_of}
-use Rattle.net_stream_model.specs.Fates.{FatesState, next_fate, after_fate, fates_after, comes, comes_delayed}
+use Rattle.net_stream_model.specs.Fates.{FatesState, next_fate, after_fate, fates_after, arrives, arrives_later}
 use Rattle.net_stream_model.specs.PathState.{PathState, ack_of, receiver_after}
 use Rattle.net_stream_model.specs.declared.fate.Fate.{Fate}
 
@@ -22,11 +22,11 @@ passing test v (frame ∷ frames) =
 
 -- those that arrive in their round
 abbrev pub coming_of : FatesState → List (List ℕ) → List (List ℕ)
-coming_of v frames = passing comes v frames
+coming_of v frames = passing arrives v frames
 
 -- those that arrive in the next round, for the first time or once more
 abbrev pub delayed_of : FatesState → List (List ℕ) → List (List ℕ)
-delayed_of v frames = passing comes_delayed v frames
+delayed_of v frames = passing arrives_later v frames
 
 -- what a receiver stores once frames have arrived, one after another
 abbrev pub receiver_after_all : ℕ → ReceiverState → List (List ℕ) → ReceiverState

@@ -23,18 +23,18 @@ fate_of rates random_word =
     else Delivered
 
 -- whether a frame arrives in its round
-abbrev pub comes : Fate → Bool
-comes Delivered = true
-comes Lost = false
-comes Duplicated = true
-comes Delayed = false
+abbrev pub arrives : Fate → Bool
+arrives Delivered = true
+arrives Lost = false
+arrives Duplicated = true
+arrives Delayed = false
 
 -- whether a frame arrives in the next round, for the first time or once more
-abbrev pub comes_delayed : Fate → Bool
-comes_delayed Delivered = false
-comes_delayed Lost = false
-comes_delayed Duplicated = true
-comes_delayed Delayed = true
+abbrev pub arrives_later : Fate → Bool
+arrives_later Delivered = false
+arrives_later Lost = false
+arrives_later Duplicated = true
+arrives_later Delayed = true
 
 -- the fates of a list, and after it those of the random words that follow a generator's state
 pub record FatesState : Type 0 where
@@ -66,11 +66,11 @@ fates_after (suc n) v = fates_after n (after_fate v)
 -- each of the next n frames arrives in its round
 abbrev pub NextCome : ℕ → FatesState → Type 0
 NextCome zero v = Unit {0}
-NextCome (suc n) v = (comes (next_fate v) ≡ true) × NextCome n (after_fate v)
+NextCome (suc n) v = (arrives (next_fate v) ≡ true) × NextCome n (after_fate v)
 
 -- every frame arrives in its round: each fate of the list says so, and no drawn fate is `Lost` or `Delayed`
 pub record AllCome (v : FatesState) : Type 0 where
-  pub listed : All (λ fate. comes fate ≡ true) v.listed
+  pub listed : All (λ fate. arrives fate ≡ true) v.listed
   pub lost : v.rates.lost ≡ 0
   pub delayed : v.rates.delayed ≡ 0
 

@@ -17,7 +17,7 @@ use Rattle.net_receiver.specs.ReceiverState.{ReceiverState, fresh_receiver}
 use Rattle.net_stream_model.specs.SenderState.{SenderState, sender_state, contiguous_end}
 use Rattle.net_stream_model.specs.Frames.{frame_of, segment_of}
 use Rattle.net_stream_model.specs.SackBlocks.{most_sack_blocks, is_full}
-use Rattle.net_stream_model.specs.Fates.{FatesState, next_fate, after_fate, comes, comes_delayed}
+use Rattle.net_stream_model.specs.Fates.{FatesState, next_fate, after_fate, arrives, arrives_later}
 use Rattle.net_stream_model.specs.Counts.{no_frames, with_fate, with_payload, with_refusal}
 use Rattle.net_stream_model.specs.PathState.{PathState, ack_of, receiver_after, with_ack}
 use Rattle.net_stream_model.specs.SenderState.{at_least_one, spared_from, next_block, stop_of}
@@ -113,27 +113,27 @@ take_in s frame = record s {
 }
 
 -- a frame arrives, and the receiver acknowledges what it then has
-abbrev pub come : LinkState → List ℕ → LinkState
-come s frame = record (take_in s frame) {
+abbrev pub arrive : LinkState → List ℕ → LinkState
+arrive s frame = record (take_in s frame) {
   reverse = with_ack (receiver_after most_sack_blocks s.receiver (segment_of frame)) (segment_of frame) s.reverse;
 }
 
 -- the first of some delayed frames arrives
 abbrev pub delayed_frame_of : LinkState → List (List ℕ) → LinkState
 delayed_frame_of s [] = s
-delayed_frame_of s (frame ∷ rest) = come (record s { forward = record s.forward { delayed = rest } }) frame
+delayed_frame_of s (frame ∷ rest) = arrive (record s { forward = record s.forward { delayed = rest } }) frame
 
 abbrev pub delayed_frame : LinkState → LinkState
 delayed_frame s = delayed_frame_of s s.forward.delayed
 
 -- a frame that was taken off its path arrives, if that is its fate
-abbrev pub came : Fate → LinkState → List ℕ → LinkState
-came fate s frame = if comes fate then come s frame else s
+abbrev pub arrived : Fate → LinkState → List ℕ → LinkState
+arrived fate s frame = if arrives fate then arrive s frame else s
 
 -- and is put among the delayed ones, if that is its fate
-abbrev pub meet : Fate → LinkState → List ℕ → LinkState
-meet fate s frame =
-    record (came fate s frame) { forward = with_delayed fate frame (came fate s frame).forward }
+abbrev pub apply_fate : Fate → LinkState → List ℕ → LinkState
+apply_fate fate s frame =
+    record (arrived fate s frame) { forward = with_delayed fate frame (arrived fate s frame).forward }
 
 -- a path whose first frame was taken off, and has drawn its fate
 abbrev pub drawn : PathState → List (List ℕ) → PathState
@@ -147,7 +147,7 @@ take_frame s rest =
 -- the first of some frames in flight meets its fate
 abbrev pub pass_frame_of : LinkState → List (List ℕ) → LinkState
 pass_frame_of s [] = s
-pass_frame_of s (frame ∷ rest) = meet (next_fate s.forward.fates) (take_frame s rest) frame
+pass_frame_of s (frame ∷ rest) = apply_fate (next_fate s.forward.fates) (take_frame s rest) frame
 
 abbrev pub pass_frame : LinkState → LinkState
 pass_frame s = pass_frame_of s s.forward.in_flight
@@ -168,12 +168,12 @@ delayed_ack_of s (frame ∷ rest) = acknowledge (record s { reverse = record s.r
 abbrev pub delayed_ack : LinkState → LinkState
 delayed_ack s = delayed_ack_of s s.reverse.delayed
 
-abbrev pub came_ack : Fate → LinkState → List ℕ → LinkState
-came_ack fate s frame = if comes fate then acknowledge s frame else s
+abbrev pub arrived_ack : Fate → LinkState → List ℕ → LinkState
+arrived_ack fate s frame = if arrives fate then acknowledge s frame else s
 
-abbrev pub meet_ack : Fate → LinkState → List ℕ → LinkState
-meet_ack fate s frame =
-    record (came_ack fate s frame) { reverse = with_delayed fate frame (came_ack fate s frame).reverse }
+abbrev pub apply_ack_fate : Fate → LinkState → List ℕ → LinkState
+apply_ack_fate fate s frame =
+    record (arrived_ack fate s frame) { reverse = with_delayed fate frame (arrived_ack fate s frame).reverse }
 
 abbrev pub take_ack : LinkState → List (List ℕ) → LinkState
 take_ack s rest =
@@ -181,7 +181,7 @@ take_ack s rest =
 
 abbrev pub pass_ack_of : LinkState → List (List ℕ) → LinkState
 pass_ack_of s [] = s
-pass_ack_of s (frame ∷ rest) = meet_ack (next_fate s.reverse.fates) (take_ack s rest) frame
+pass_ack_of s (frame ∷ rest) = apply_ack_fate (next_fate s.reverse.fates) (take_ack s rest) frame
 
 abbrev pub pass_ack : LinkState → LinkState
 pass_ack s = pass_ack_of s s.reverse.in_flight
@@ -225,16 +225,16 @@ StopsDelayed s (frame ∷ rest) v =
 abbrev pub StopsFrame : LinkState → List (List ℕ) → LinkState → Type 0
 StopsFrame s [] v = ⊥
 StopsFrame s (frame ∷ rest) v =
-    ((comes (next_fate s.forward.fates) ≡ true) × (v ≡ take_in (take_frame s rest) frame))
-    ⊎ ((comes_delayed (next_fate s.forward.fates) ≡ true)
-    × (v ≡ came (next_fate s.forward.fates) (take_frame s rest) frame))
+    ((arrives (next_fate s.forward.fates) ≡ true) × (v ≡ take_in (take_frame s rest) frame))
+    ⊎ ((arrives_later (next_fate s.forward.fates) ≡ true)
+    × (v ≡ arrived (next_fate s.forward.fates) (take_frame s rest) frame))
 
 -- an acknowledgement that arrives in the next round met its fate, and isn't among the delayed ones
 abbrev pub StopsAck : LinkState → List (List ℕ) → LinkState → Type 0
 StopsAck s [] v = ⊥
 StopsAck s (frame ∷ rest) v =
-    (comes_delayed (next_fate s.reverse.fates) ≡ true)
-    × (v ≡ came_ack (next_fate s.reverse.fates) (take_ack s rest) frame)
+    (arrives_later (next_fate s.reverse.fates) ≡ true)
+    × (v ≡ arrived_ack (next_fate s.reverse.fates) (take_ack s rest) frame)
 
 -- a frame begins here, which is not sent
 abbrev pub StopsSending : Cursor → LinkState → Type 0

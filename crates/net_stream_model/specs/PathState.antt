@@ -11,7 +11,7 @@ use Rattle.net_receiver.specs.Rules.{Segment}
 use Rattle.net_receiver.specs.ReceiverState.{ReceiverState, next_position, receiver_after_command, domain}
 use Rattle.net_stream_model.specs.Frames.{frame_of}
 use Rattle.net_stream_model.specs.SackBlocks.{most_sack_blocks, block_bytes}
-use Rattle.net_stream_model.specs.Fates.{FatesState, comes_delayed}
+use Rattle.net_stream_model.specs.Fates.{FatesState, arrives_later}
 use Rattle.net_stream_model.specs.declared.fate.Fate.{Fate}
 
 -- a path of a link
@@ -23,7 +23,7 @@ pub record PathState : Type 0 where
 -- the path once a frame, which was taken off it, met its fate
 abbrev pub with_delayed : Fate → List ℕ → PathState → PathState
 with_delayed fate frame path =
-    if comes_delayed fate then record path { delayed = path.delayed ++ frame ∷ [] } else path
+    if arrives_later fate then record path { delayed = path.delayed ++ frame ∷ [] } else path
 
 -- an acknowledgement of what a receiver has: the first missing position, and the first held runs
 abbrev pub ack_of : ReceiverState → List ℕ

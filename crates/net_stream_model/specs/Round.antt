@@ -28,12 +28,12 @@ pub record Passes (old new : LinkState) : Type 0 where
   pub sent : PathState
   pub n : ℕ
   pub all : SendsRound old.sender (at_least_one old.payload) (at_least_one old.burst) n old.forward sent
-  pub came : List (List ℕ)
-  pub coming : came ≡ old.forward.delayed ++ coming_of old.forward.fates sent.in_flight
-  pub received : new.receiver ≡ receiver_after_all most_sack_blocks old.receiver came
+  pub arrived : List (List ℕ)
+  pub coming : arrived ≡ old.forward.delayed ++ coming_of old.forward.fates sent.in_flight
+  pub received : new.receiver ≡ receiver_after_all most_sack_blocks old.receiver arrived
   pub acks : List (List ℕ)
   pub acks_are : acks
-      ≡ old.reverse.in_flight ++ acks_of most_sack_blocks old.receiver came
+      ≡ old.reverse.in_flight ++ acks_of most_sack_blocks old.receiver arrived
       ++ ack_of new.receiver ∷ []
   pub acked : new.sender
       ≡ after_ack_frames old.sender (old.reverse.delayed ++ coming_of old.reverse.fates acks)

@@ -15,7 +15,7 @@ use Rattle.net_stream_model.specs.LinkState.{LinkState}
 use Rattle.net_stream_model.specs.declared.fate.Fate.{Fate}
 use Rattle.net_stream_model.specs.SenderState.{end_of}
 use Rattle.net_stream_model.specs.Frames.{segment_of}
-use Rattle.net_stream_model.specs.Fates.{FatesState, next_fate, after_fate, fates_after, comes, comes_delayed}
+use Rattle.net_stream_model.specs.Fates.{FatesState, next_fate, after_fate, fates_after, arrives, arrives_later}
 use Rattle.net_receiver.specs.ReceiverState.{limit_of}
 use Rattle.net_stream_model.specs.LinkInvariant.{LinkInvariant}
 
@@ -42,7 +42,7 @@ pub record RoundLeaves (old new : LinkState) : Type 0 where
 -- the fate of a frame in a stuck round that so many stuck rounds follow: it doesn't arrive in its round, and if
 -- any stuck round follows it isn't delayed either, so it is lost
 abbrev pub HasFailed : ℕ → Fate → Type 0
-HasFailed follow fate = (comes fate ≡ false) × (0 < follow → comes_delayed fate ≡ false)
+HasFailed follow fate = (arrives fate ≡ false) × (0 < follow → arrives_later fate ≡ false)
 
 -- each of the next n frames fails like this
 abbrev pub AllFail : ℕ → ℕ → FatesState → Type 0

@@ -37,7 +37,7 @@ impl FrameCounts {
     }
 
     /// Counts a frame that was sent, and its fate.
-    pub fn meet(&mut self, fate: Fate)
+    pub fn count(&mut self, fate: Fate)
         ensures { self.new ≡ with_fate fate self.old }
     {
         self.sent = self.sent.saturating_add(1);

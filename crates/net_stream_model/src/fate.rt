@@ -1,6 +1,6 @@
 //! The fate of a frame, and the rates of fates.
 ghost use Rattle.std.specs.Prelude.{◌≡◌};
-ghost use Rattle.net_stream_model.specs.Fates.{fate_of, comes, comes_delayed};
+ghost use Rattle.net_stream_model.specs.Fates.{fate_of, arrives, arrives_later};
 
 /// The fate of a frame.
 #[derive(Debug, Clone, Copy, PartialEq, Eq, Drop)]
@@ -46,8 +46,8 @@ impl Fate {
     }
 
     /// Returns whether a frame of this fate arrives in its round.
-    pub fn comes(self) -> bool
-        ensures { result ≡ comes self }
+    pub fn arrives(self) -> bool
+        ensures { result ≡ arrives self }
     {
         match self {
             Fate::Delivered | Fate::Duplicated => true,
@@ -56,8 +56,8 @@ impl Fate {
     }
 
     /// Returns whether a frame of this fate arrives in the next round, for the first time or once more.
-    pub fn comes_delayed(self) -> bool
-        ensures { result ≡ comes_delayed self }
+    pub fn arrives_later(self) -> bool
+        ensures { result ≡ arrives_later self }
     {
         match self {
             Fate::Duplicated | Fate::Delayed => true,
