@@ -23,5 +23,6 @@ pub use Rattle.net_stream_model.specs.WorkedCopy
 pub use Rattle.net_stream_model.specs.Values
 pub mod Copying
 pub mod Each
+pub mod Known
 pub mod SenderHeads
 pub mod Turns

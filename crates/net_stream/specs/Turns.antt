@@ -3,11 +3,11 @@
 --         so far, and the bytes written
 --     counts_of c      its counts
 --     Begins s rounds chunk c, IsFresh c      a copy before its first turn
---     Feeds chunk old new reads reader reader' ended      a read, or none, and what it gave
+--     Feeds chunk old new reads reader reader' comes comes' ended      a read, or none, and what it gave
 --     Passes chunk old new writer writer'      a round, and what was written
 --     Breaks chunk error old new writer writer'      a round that the error ended
---     CopiedSoFar rounds chunk old new reads told reader reader' writer writer'      turns of a copy that
---         goes on
+--     CopiedSoFar rounds chunk old new reads told reader reader' writer writer' comes comes'      turns of a
+--         copy that goes on
 use Rattle.std.specs.Prelude.{◌≡◌, ℕ, ◌+◌, ◌-◌, ◌^◌, min, true, false, List, [], ◌++◌, length, Option}
 use Rattle.std.specs.Io.KnownBytes.{Appends, Consumes, IsAtEnd}
 use Rattle.net_stream_model.specs.Counts.{more}
@@ -55,9 +55,9 @@ pub record IsFresh {A : Type 0} (c : Copier A) : Type 0 where
   pub bytes_written : c.bytes_written ≡ 0
   pub more : c.more ≡ true
 
--- a read, or none: whatever the later reads give, this is what `feed` says
+-- a read, or none: whatever the later reads give, this is what `feed` says, also where it is known which reads come
 pub record Feeds {A : Type 0} (chunk : ℕ) (old new : Copier A) (reads : List (List ℕ))
-    (reader reader' : Option (List ℕ)) (ended : Status) : Type 0 where
+    (reader reader' : Option (List ℕ)) (comes comes' : List (List ℕ) → Type 0) (ended : Status) : Type 0 where
   pub consumed : Consumes reader reader' (concat reads)
   pub bytes_read : (n : ℕ) → old.bytes_read ≡ min n (2 ^ 64 - 1)
       → new.bytes_read ≡ min (n + length (concat reads)) (2 ^ 64 - 1)
@@ -65,6 +65,10 @@ pub record Feeds {A : Type 0} (chunk : ℕ) (old new : Copier A) (reads : List (
   pub step : (later : List (List ℕ)) (given written : List ℕ) → (ended ≡ ReadFailed → later ≡ [])
       → feed chunk (copy_state_of old (reads ++ later) given written Running)
       ≡ copy_state_of new later (given ++ concat reads) written ended
+  pub known : (coming : List (List ℕ)) → (old.more ≡ true → comes coming) → (rest : List (List ℕ))
+      × ((given written : List ℕ) → feed chunk (copy_state_of old coming given written Running)
+      ≡ copy_state_of new rest (given ++ concat reads) written ended)
+      × (new.more ≡ true → comes' rest)
   pub end : (old.more ≡ false → IsAtEnd reader) → new.more ≡ false → IsAtEnd reader'
 
 -- a round, and what was written
@@ -84,8 +88,8 @@ pub record Breaks {A : Type 0} (chunk : ℕ) (error : CopyError) (old new : Copi
     : Type 0 where
   pub link : LinkState
   pub written : List ℕ
-  pub part : (given before : List ℕ)
-      → EndsRound error chunk (copy_state_of old [] given before Running) link written
+  pub part : (later : List (List ℕ)) (given before : List ℕ)
+      → EndsRound error chunk (copy_state_of old later given before Running) link written
   pub appended : Appends writer writer' written
   pub bytes_written : (n : ℕ) → old.bytes_written ≡ min n (2 ^ 64 - 1)
       → new.bytes_written ≡ min (n + length written) (2 ^ 64 - 1)
@@ -97,7 +101,7 @@ pub record Breaks {A : Type 0} (chunk : ℕ) (error : CopyError) (old new : Copi
 -- turns so far, in which the reads gave these bytes, and after which these counts were told, whatever the later
 -- reads give
 pub record CopiedSoFar {A : Type 0} (rounds chunk : ℕ) (old new : Copier A) (reads : List (List ℕ)) (told : List Counts)
-    (reader reader' writer writer' : Option (List ℕ)) : Type 0 where
+    (reader reader' writer writer' : Option (List ℕ)) (comes comes' : List (List ℕ) → Type 0) : Type 0 where
   pub turns : ℕ
   pub written : List ℕ
   pub consumed : Consumes reader reader' (concat reads)
@@ -107,6 +111,10 @@ pub record CopiedSoFar {A : Type 0} (rounds chunk : ℕ) (old new : Copier A) (r
   pub state : (later : List (List ℕ))
       → times turns (turn rounds chunk) (copy_state_of old (reads ++ later) [] [] Running)
       ≡ copy_state_of new later (concat reads) written Running
+  pub known : (coming : List (List ℕ)) → comes coming → (rest : List (List ℕ))
+      × (times turns (turn rounds chunk) (copy_state_of old coming [] [] Running)
+      ≡ copy_state_of new rest (concat reads) written Running)
+      × (new.more ≡ true → comes' rest)
   pub each : (later : List (List ℕ))
       → told ≡ counts_after (turn rounds chunk) (copy_state_of old (reads ++ later) [] [] Running) turns
   pub end : new.more ≡ false → IsAtEnd reader'

@@ -6,10 +6,11 @@ ghost use Rattle.net_ring.specs.Managed.{elements};
 ghost use Rattle.net_receiver.specs.ReceiverState.{next_position};
 ghost use Rattle.net_stream_model.specs.SenderState.{end_of};
 ghost use Rattle.net_stream_model.specs.declared.error.CopyError.TheVariants as errors;
-ghost use Rattle.net_stream_model.specs.CopyState.{Setup, setup_over, Running, ReadFailed, is_written};
+ghost use Rattle.net_stream_model.specs.CopyState.{Setup, setup_over, Running, ReadFailed, is_written, room_for};
 ghost use Rattle.net_stream_model.specs.CopyResult.{HasCopied};
 ghost use Rattle.net_stream_model.specs.declared.counts.Counts.{Counts};
 ghost use Rattle.net_stream.specs.Each.{Each, GivesReads};
+ghost use Rattle.net_stream.specs.Known.{Foretells, HasOutcome};
 ghost use Rattle.net_stream.specs.Turns.{Feeds, Passes, Breaks, Begins, IsFresh, counts_of};
 
 use crate::backoff::{first_wait, next_wait};
@@ -115,6 +116,13 @@ impl<'a, 'f, A: Allocator + Copy> Copier<'a, 'f, A> {
         self.first_unacknowledged() != before || count > 0
     }
 
+    /// Returns how many bytes a read into a chunk of this length has room for.
+    fn room(&self, chunk: usize) -> usize
+        ensures { result ≡ room_for chunk self.now.link }
+    {
+        self.link.sender.room().min(chunk)
+    }
+
     /// Returns whether to read now, into so much room.
     fn may_read(&self, room: usize) -> bool
         ensures { result ≡ (self.now.more && nat_lt 0 room && is_written self.now.link) }
@@ -125,15 +133,15 @@ impl<'a, 'f, A: Allocator + Copy> Copier<'a, 'f, A> {
     /// Reads once, if everything read so far is written: no more than the sender has room for.
     fn feed<R, M: Reading<R>>(&mut self, chunk: &mut [u8], reader: &mut R) -> Result<(), CopyError>
         ensures ok { OnOk result ((reads : List (List ℕ)) × Each M.gives reader.old reads reader.new
-            × Feeds (length chunk.old) self.old self.new reads
-            (M.remaining reader.old) (M.remaining reader.new) Running) }
+            × Feeds (length chunk.old) self.old self.new reads (M.remaining reader.old) (M.remaining reader.new)
+            (M.comes reader.old) (M.comes reader.new) Running) }
         ensures err { OnErr result (M.fails reader.old reader.new
-            × Feeds (length chunk.old) self.old self.new []
-            (M.remaining reader.old) (M.remaining reader.new) ReadFailed) }
+            × Feeds (length chunk.old) self.old self.new [] (M.remaining reader.old) (M.remaining reader.new)
+            (M.comes reader.old) (M.comes reader.new) ReadFailed) }
         ensures kind { IfErr result (λ e. e ≡ errors.ReadFailed) }
         ensures chunk { length chunk.new ≡ length chunk.old }
     {
-        let room = self.link.sender.room().min(chunk.len());
+        let room = self.room(chunk.len());
         if !self.may_read(room) {
             return Ok(());
         }
@@ -164,9 +172,9 @@ impl<'a, 'f, A: Allocator + Copy> Copier<'a, 'f, A> {
         let before = self.first_unacknowledged();
         self.rounds = self.rounds.saturating_add(1);
         self.link.advance_clock(self.wait);
-        if self.link.pass_round().is_err() {
+        let Ok(()) = self.link.pass_round() else {
             return Err(CopyError::OutOfMemory);
-        }
+        };
         let count = self.link.read(chunk);
         match write_text(writer, &chunk[..count]) {
             Ok(()) => self.bytes_written = self.bytes_written.saturating_add(count as u64),
@@ -205,7 +213,9 @@ impl<'a, 'f, A: Allocator + Copy> Copier<'a, 'f, A> {
             (reads : List (List ℕ)) × (told : List Counts) × Each T.tells watch.old told watch.new
             × GivesReads M.gives M.fails result reader.old reads reader.new
             × HasCopied s result reads told (M.remaining reader.old) (M.remaining reader.new)
-            (W.contents writer.old) (W.contents writer.new) (counts_of self.new) }
+            (W.contents writer.old) (W.contents writer.new) (counts_of self.new)
+            × Foretells (M.comes reader.old) (W.contents writer.old) (W.contents writer.new)
+            (λ coming written. HasOutcome s result coming written (counts_of self.new)) }
     {
         numbers();
         laws::ended();

@@ -1,13 +1,14 @@
 //! `copy`, from a reader over a link to a writer, and its buffers.
-ghost use Rattle.std.specs.Prelude.{◌≡◌, length, IfOk, IfErr};
+ghost use Rattle.std.specs.Prelude.{◌≡◌, ℕ, List, [], ◌∷◌, length, Some, IfOk, IfErr};
 ghost use Rattle.net_stream_model.specs.CopyState.{setup_over, setup_of};
 ghost use Rattle.net_stream_model.specs.CopyResult.{CountsFailures};
 ghost use Rattle.net_stream.specs.Copying.{CopiesExactly, CopiesIfBegun, CopiesInShort};
 ghost use Rattle.net_stream.specs.Each.{Each, GivesReads};
+ghost use Rattle.net_stream.specs.Known.{Foretells, HasOutcome, HasOutcomeIfBegun};
 
 use crate::copier::Copier;
 use crate::fates::LinkFates;
-use crate::reading::{Reading, Stated, StatedRead, Unstated};
+use crate::reading::{Filling, Reading, Stated, StatedRead, Unstated};
 use crate::watch::{NoWatch, Watch};
 use net_io::flush_after;
 use net_ring::ManagedSlice;
@@ -41,6 +42,10 @@ fn run_copy<'a, 'f, A: Allocator + Copy, T: Watch, R, M: Reading<R>, W: Write>(
         (λ reads told. Each T.tells watch.old told watch.new
         × GivesReads M.gives M.fails result.0 reader.old reads reader.new)
         (M.remaining reader.old) (M.remaining reader.new) (W.contents writer.old) (W.contents writer.new) result }
+    ensures outcome { Foretells (M.comes reader.old) (W.contents writer.old) (W.contents writer.new)
+        (λ reads written. HasOutcome (setup_over config (length buffers.entry.outgoing.now)
+        (length buffers.entry.incoming.now) (length buffers.entry.chunk.now) fates.entry.frames fates.entry.acks)
+        result.0 reads written result.1) }
     ensures copied { CopiesInShort (M.remaining reader.old) (M.remaining reader.new)
         (W.contents writer.old) (W.contents writer.new) result }
 {
@@ -124,6 +129,9 @@ fn copy_by<'f, A: Allocator + Copy, T: Watch, R, M: Reading<R>, W: Write>(
         (λ reads told. Each T.tells watch.old told watch.new
         × GivesReads M.gives M.fails result.0 reader.old reads reader.new)
         (M.remaining reader.old) (M.remaining reader.new) (W.contents writer.old) (W.contents writer.new) result }
+    ensures outcome { (reads : List (List ℕ)) → M.comes reader.old reads → HasOutcomeIfBegun
+        (setup_of config fates.entry.frames fates.entry.acks) reads
+        (W.contents writer.old) (W.contents writer.new) result }
     ensures copied { CopiesInShort (M.remaining reader.old) (M.remaining reader.new)
         (W.contents writer.old) (W.contents writer.new) result }
     ensures gave_up { IfErr result.0 (CountsFailures config result.1) }
@@ -217,4 +225,28 @@ pub fn copy_stated<'f, A: Allocator + Copy, T: Watch, R: StatedRead, W: Write>(
     ensures gave_up { IfErr result.0 (CountsFailures config result.1) }
 {
     copy_by::<A, T, R, Stated, W>(alloc, config, fates, watch, reader, writer)
+}
+
+/// Copies the bytes of a slice, as `copy` does.
+///
+/// A read takes as many of them as it has room for. So the outcome depends only on the config, the
+/// fates and the bytes, unless memory is refused, or a write or the flush fails: in clause `outcome`
+/// it is that of a copy whose reader has all of these bytes to give, and then its end.
+pub fn copy_slice<'f, A: Allocator + Copy, W: Write>(
+    alloc: A,
+    config: Config,
+    fates: LinkFates<'f>,
+    reader: &mut &[u8],
+    writer: &mut W,
+) -> (Result<(), CopyError>, Counts)
+    ensures outcome { HasOutcomeIfBegun (setup_of config fates.entry.frames fates.entry.acks)
+        (reader.old.now ∷ [] ∷ []) (W.contents writer.old) (W.contents writer.new) result }
+    ensures exact { CopiesIfBegun (setup_of config fates.entry.frames fates.entry.acks)
+        (λ _ _. Unit {0})
+        (Some reader.old.now) (Some reader.new.now) (W.contents writer.old) (W.contents writer.new) result }
+    ensures copied { CopiesInShort (Some reader.old.now) (Some reader.new.now)
+        (W.contents writer.old) (W.contents writer.new) result }
+    ensures gave_up { IfErr result.0 (CountsFailures config result.1) }
+{
+    copy_by::<A, NoWatch, &[u8], Filling, W>(alloc, config, fates, &mut NoWatch, reader, writer)
 }

@@ -16,7 +16,9 @@ mod sack_blocks;
 mod sender;
 mod watch;
 
-pub use copy_stream::{CopyBuffers, copy, copy_stated, copy_watched, copy_with_buffers};
+pub use copy_stream::{
+    CopyBuffers, copy, copy_slice, copy_stated, copy_watched, copy_with_buffers,
+};
 pub use fates::{Fates, LinkFates};
 pub use frame::{decode_frame, requeue_frame, send_frame};
 pub use link::StreamLink;

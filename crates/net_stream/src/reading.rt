@@ -1,7 +1,8 @@
 //! `StatedRead`, a reader that states what its calls give, and how a copy reads.
-ghost use Rattle.std.specs.Prelude.{ℕ, List, Option, take, IfOk, OnErr};
+ghost use Rattle.std.specs.Prelude.{◌≡◌, ℕ, ◌<◌, List, [], ◌∷◌, length, Option, Some, take, IfOk, OnErr};
 ghost use Rattle.std.specs.Io.{ReadsAtMost};
 ghost use Rattle.std.specs.Io.KnownBytes.{ReadConsumes};
+ghost use Rattle.net_stream.specs.Known.{GivesNext};
 
 use std::io;
 use std::io::Read;
@@ -33,12 +34,17 @@ pub(crate) trait Reading<R> {
     /// Holds of a reader before a call that returned an error, and after it.
     ghost fails: { R → R → Type 0 };
 
+    /// Holds of a reader and the reads that its calls to come give, if these are known.
+    ghost comes: { R → List (List ℕ) → Type 0 };
+
     /// Reads once.
     fn read(reader: &mut R, buf: &mut [u8]) -> io::Result<usize>
         ensures bound { ReadsAtMost result buf.new }
         ensures bytes { ReadConsumes (remaining reader.old) (remaining reader.new) result buf.new }
         ensures gives { IfOk result (λ count. gives reader.old (take count buf.new) reader.new) }
-        ensures fails { OnErr result (fails reader.old reader.new) };
+        ensures fails { OnErr result (fails reader.old reader.new) }
+        ensures comes { (reads : List (List ℕ)) → comes reader.old reads → 0 < length buf.new →
+            GivesNext (comes reader.new) (length buf.new) reads result buf.new };
 }
 
 /// From any reader, which states no more than the bytes that it still has.
@@ -50,6 +56,8 @@ impl<R: Read> Reading<R> for Unstated {
     ghost gives = { λ _ _ _. Unit {0} };
 
     ghost fails = { λ _ _. Unit {0} };
+
+    ghost comes = { λ _ _. ⊥ };
 
     fn read(reader: &mut R, buf: &mut [u8]) -> io::Result<usize> {
         reader.read(buf)
@@ -66,7 +74,27 @@ impl<R: StatedRead> Reading<R> for Stated {
 
     ghost fails = { R.fails };
 
+    ghost comes = { λ _ _. ⊥ };
+
     fn read(reader: &mut R, buf: &mut [u8]) -> io::Result<usize> {
         reader.read_stated(buf)
+    }
+}
+
+/// From a slice, of which a call gives as many bytes as there is room for.
+pub(crate) struct Filling;
+
+impl<'b> Reading<&'b [u8]> for Filling {
+    ghost remaining = { λ s. Some s.now };
+
+    ghost gives = { λ _ _ _. Unit {0} };
+
+    ghost fails = { λ _ _. Unit {0} };
+
+    ghost comes = { λ s reads. (rest : List (List ℕ)) × (reads ≡ s.now ∷ rest)
+        × (0 < length s.now → rest ≡ [] ∷ []) };
+
+    fn read(reader: &mut &'b [u8], buf: &mut [u8]) -> io::Result<usize> {
+        reader.read(buf)
     }
 }

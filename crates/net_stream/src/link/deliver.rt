@@ -1,9 +1,9 @@
 //! Steps 2 and 3 of a round: frames arrive at the receiver, which acknowledges what it has.
 ghost use Rattle.std.specs.Prelude.{◌≡◌, ◌+◌, ℕ, length, true, false, OnOk, OnErr, IfOk, ◌⊎◌};
-ghost use Rattle.net_stream_model.specs.LinkState.{times, take_in, come, came, meet, acknowledge_all};
+ghost use Rattle.net_stream_model.specs.LinkState.{times, take_in, arrive, arrived, apply_fate, acknowledge_all};
 ghost use Rattle.net_stream_model.specs.LinkState.{delayed_frame, delayed_frames, pass_frame, pass_frames};
 ghost use Rattle.net_stream_model.specs.LinkState.{StopsDelayed, StopsFrame};
-ghost use Rattle.net_stream_model.specs.Fates.{comes, comes_delayed};
+ghost use Rattle.net_stream_model.specs.Fates.{arrives, arrives_later};
 
 use super::StreamLink;
 use crate::frame::decode_frame;
@@ -28,8 +28,8 @@ impl<'a, 'f, A: Allocator + Copy> StreamLink<'a, 'f, A> {
 
     /// Delivers a frame, and acknowledges. A frame that is too short for a position, or whose positions
     /// go past 64 bits, changes nothing.
-    fn come(&mut self, frame: &[u8]) -> Result<(), AllocError>
-        ensures ok { OnOk result (self.new ≡ come self.old frame.now) }
+    fn arrive(&mut self, frame: &[u8]) -> Result<(), AllocError>
+        ensures ok { OnOk result (self.new ≡ arrive self.old frame.now) }
         ensures err { OnErr result (self.new ≡ take_in self.old frame.now) }
     {
         let Some((pos, payload)) = decode_frame(frame) else {
@@ -44,16 +44,16 @@ impl<'a, 'f, A: Allocator + Copy> StreamLink<'a, 'f, A> {
     }
 
     /// Applies a fate to a frame that was taken off its path.
-    fn meet(&mut self, frame: &[u8], fate: Fate) -> Result<(), AllocError>
-        ensures ok { OnOk result (self.new ≡ meet fate self.old frame.now) }
-        ensures err { OnErr result (((comes fate ≡ true) × (self.new ≡ take_in self.old frame.now))
-            ⊎ ((comes_delayed fate ≡ true) × (self.new ≡ came fate self.old frame.now))) }
+    fn apply_fate(&mut self, frame: &[u8], fate: Fate) -> Result<(), AllocError>
+        ensures ok { OnOk result (self.new ≡ apply_fate fate self.old frame.now) }
+        ensures err { OnErr result (((arrives fate ≡ true) × (self.new ≡ take_in self.old frame.now))
+            ⊎ ((arrives_later fate ≡ true) × (self.new ≡ arrived fate self.old frame.now))) }
     {
         let now = self.now();
-        if fate.comes() {
-            self.come(frame)?;
+        if fate.arrives() {
+            self.arrive(frame)?;
         }
-        if fate.comes_delayed() {
+        if fate.arrives_later() {
             self.forward.put_delayed(now, frame)?;
         }
         Ok(())
@@ -74,8 +74,8 @@ impl<'a, 'f, A: Allocator + Copy> StreamLink<'a, 'f, A> {
         };
         let frame = token.frame();
         let fate = self.forward.draw();
-        self.counts.meet(fate);
-        self.meet(frame, fate)?;
+        self.counts.count(fate);
+        self.apply_fate(frame, fate)?;
         Ok(true)
     }
 
@@ -105,7 +105,7 @@ impl<'a, 'f, A: Allocator + Copy> StreamLink<'a, 'f, A> {
         let Some(token) = self.forward.take_delayed(now) else {
             return Ok(false);
         };
-        self.come(token.frame())?;
+        self.arrive(token.frame())?;
         Ok(true)
     }
 

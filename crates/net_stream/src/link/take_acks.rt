@@ -1,8 +1,8 @@
 //! Step 5 of a round: acknowledgements arrive at the sender.
 ghost use Rattle.std.specs.Prelude.{◌≡◌, ◌+◌, ℕ, length, true, false, OnOk, OnErr, IfOk};
-ghost use Rattle.net_stream_model.specs.LinkState.{times, acknowledge, came_ack, meet_ack};
+ghost use Rattle.net_stream_model.specs.LinkState.{times, acknowledge, arrived_ack, apply_ack_fate};
 ghost use Rattle.net_stream_model.specs.LinkState.{delayed_ack, delayed_acks, pass_ack, pass_acks, StopsAck};
-ghost use Rattle.net_stream_model.specs.Fates.{comes_delayed};
+ghost use Rattle.net_stream_model.specs.Fates.{arrives_later};
 
 use super::StreamLink;
 use crate::frame::decode_frame;
@@ -26,16 +26,16 @@ impl<'a, 'f, A: Allocator + Copy> StreamLink<'a, 'f, A> {
     }
 
     /// Applies a fate to an acknowledgement that was taken off its path.
-    fn meet_ack(&mut self, frame: &[u8], fate: Fate) -> Result<(), AllocError>
-        ensures ok { OnOk result (self.new ≡ meet_ack fate self.old frame.now) }
-        ensures err { OnErr result ((comes_delayed fate ≡ true)
-            × (self.new ≡ came_ack fate self.old frame.now)) }
+    fn apply_ack_fate(&mut self, frame: &[u8], fate: Fate) -> Result<(), AllocError>
+        ensures ok { OnOk result (self.new ≡ apply_ack_fate fate self.old frame.now) }
+        ensures err { OnErr result ((arrives_later fate ≡ true)
+            × (self.new ≡ arrived_ack fate self.old frame.now)) }
     {
         let now = self.now();
-        if fate.comes() {
+        if fate.arrives() {
             self.acknowledge(frame);
         }
-        if fate.comes_delayed() {
+        if fate.arrives_later() {
             self.reverse.put_delayed(now, frame)?;
         }
         Ok(())
@@ -56,8 +56,8 @@ impl<'a, 'f, A: Allocator + Copy> StreamLink<'a, 'f, A> {
         };
         let frame = token.frame();
         let fate = self.reverse.draw();
-        self.counts.meet(fate);
-        self.meet_ack(frame, fate)?;
+        self.counts.count(fate);
+        self.apply_ack_fate(frame, fate)?;
         Ok(true)
     }
 

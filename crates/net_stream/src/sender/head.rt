@@ -1,7 +1,7 @@
 //! A sender in parts: a head of numbers, and a storage that is kept elsewhere.
 ghost use Rattle.std.specs.Prelude.{◌≡◌, ◌↔◌, ◌+◌, ◌-◌, ◌<◌, ◌≤◌, ◌^◌, ◌&&◌, ℕ, List, [], length};
 ghost use Rattle.std.specs.Prelude.{take, drop, min, nat_le, IsTrue, IsFalse};
-ghost use Rattle.net_ring.specs.Ring.{queue, from_start_if_empty, with_enqueued, write_at};
+ghost use Rattle.net_ring.specs.Ring.{queue, rewind_if_empty, with_enqueued, write_at};
 ghost use Rattle.net_ring.specs.Ring.{with_elements_wrapping};
 ghost use Rattle.net_ring.specs.Place.{ring_at, queued_index, dequeued_place};
 ghost use Rattle.net_stream_model.specs.SenderState.{sender_state, room_of, contiguous_end};
@@ -101,7 +101,7 @@ impl SenderHead {
             ≡ min (length bytes.now) (room_of (sender_of self.old storage.old blocks)) }
         ensures state { (blocks : List (ℕ × ℕ)) → sender_of self.new storage.new blocks
             ≡ with_written (sender_of self.old storage.old blocks) (take result bytes.now) }
-        ensures ring { let g = from_start_if_empty (ring_at storage.old self.old.place) in
+        ensures ring { let g = rewind_if_empty (ring_at storage.old self.old.place) in
             ring_at storage.new self.new.place
             ≡ with_enqueued result (with_elements_wrapping g (write_at g) (take result bytes.now)) }
     {

@@ -7,17 +7,12 @@ use Rattle.net_stream_model.specs.SackBlocks.{most_sack_blocks, block_bytes}
 use Rattle.net_stream_model.proofs.Kept.{IsWords, listed_push, take_same, rest_is, take_next}
 use Rattle.net_stream.proofs.sack_blocks.encode_sack_blocks.Goals as goal
 
-pub returns-in_default-clause-listed : goal.returns-in_default-clause-listed
-returns-in_default-clause-listed g c =
+pub returns-in_default : goal.returns-in_default
+returns-in_default g c =
+    let i = c.loop-i.invariant in
     let all = maximal_runs (domain c.args.receiver.now.held) in
-    let none = sym c.loop-i.invariant.left ∙ c.in_default.ensures.steps.0 in
-    c.loop-i.invariant.listed ∙ ap block_bytes (take_same c.loop-i.i most_sack_blocks all none (omega arith))
-
-pub returns-in_default-clause-fit : goal.returns-in_default-clause-fit
-returns-in_default-clause-fit g c =
-    let all = maximal_runs (domain c.args.receiver.now.held) in
-    let none = sym c.loop-i.invariant.left ∙ c.in_default.ensures.steps.0 in
-    subst (All IsWords) (take_same c.loop-i.i most_sack_blocks all none (omega arith)) c.loop-i.invariant.words
+    let same = take_same c.loop-i.i most_sack_blocks all (sym i.left ∙ c.in_default.ensures.steps.0) (omega arith) in
+    record { len = i.len; bound = omega arith; listed = i.listed ∙ ap block_bytes same; fit = subst (All IsWords) same i.words }
 
 pub loop-i-preserved : goal.loop-i-preserved
 loop-i-preserved g c =

@@ -1,6 +1,5 @@
 use Rattle.std.proofs.Common.{◌≡◌, suc, length, sym, ap, ◌∙◌, arith, inl, inr}
-use Rattle.net_stream_model.specs.SenderState.{end_of}
-use Rattle.net_stream_model.specs.SenderState.{stop_of}
+use Rattle.net_stream_model.specs.SenderState.{end_of, stop_of}
 use Rattle.net_stream_model.specs.LinkState.{LinkState, Cursor, part}
 use Rattle.net_stream_model.proofs.Steps.{goes_on, stops, all_sent}
 use Rattle.net_stream.proofs.link.StreamLink.transmit.Goals as goal
@@ -26,13 +25,11 @@ pub returns-else-left-gt0-clause-ok : goal.returns-else-left-gt0-clause-ok
 returns-else-left-gt0-clause-ok g c =
     let i = c.parts.invariant in
     let size = ap (λ v. length v.queue) i.sender in
-    let here : Cursor = record { pos = c.parts.pos; left = c.parts.left; link = c.parts.self } in
-    all_sent c.args.self.now here i.so_far.0 i.so_far.1 (omega arith) (stops here (inr (omega arith)))
+    all_sent c.args.self.now _ i.so_far.0 i.so_far.1 (omega arith) (stops _ (inr (omega arith)))
 
 pub returns-after-parts-clause-ok : goal.returns-after-parts-clause-ok
 returns-after-parts-clause-ok g c =
     let i = c.parts.invariant in
     let size = ap (λ v. length v.queue) i.sender in
     let limit : c.send_limit-limit.result ≡ stop_of c.parts.self.sender = c.send_limit-limit.ensures ∙ ap (λ (l : LinkState). stop_of l.sender) c.self.view_is ∙ ap stop_of (sym i.sender) in
-    let here : Cursor = record { pos = c.parts.pos; left = c.parts.left; link = c.parts.self } in
-    all_sent c.args.self.now here i.so_far.0 i.so_far.1 (omega arith) (stops here (inl (omega arith)))
+    all_sent c.args.self.now _ i.so_far.0 i.so_far.1 (omega arith) (stops _ (inl (omega arith)))

@@ -1,6 +1,5 @@
 use Rattle.std.proofs.Common.{◌++◌, take, ap, sym, subst, ◌∙◌, take-add}
-use Rattle.net_stream_model.specs.LinkInvariant.{PartsInvariant}
-use Rattle.net_stream_model.specs.LinkInvariant.{LinkInvariant}
+use Rattle.net_stream_model.specs.LinkInvariant.{PartsInvariant, LinkInvariant}
 use Rattle.net_stream_model.proofs.Kept.{written}
 use Rattle.net_stream.proofs.link.StreamLink.write.Goals as goal
 

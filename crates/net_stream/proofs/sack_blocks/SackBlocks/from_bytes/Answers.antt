@@ -5,10 +5,7 @@ use Rattle.net_stream_model.proofs.Kept.{ranges_stop, ranges_none, ranges_more}
 use Rattle.net_stream.proofs.sack_blocks.SackBlocks.from_bytes.Goals as goal
 
 pub returns-in_default : goal.returns-in_default
-returns-in_default c =
-    let so_far = c.loop-turn.sack_blocks in
-    sym (append-nil so_far) ∙ ap (λ l. so_far ++ l)
-    (sym (ranges_stop (most_sack_blocks - c.loop-turn._turn) c.loop-turn.rest.now c.in_default.ensures)) ∙ c.loop-turn.invariant.all
+returns-in_default c = grind (arith, append-nil, ranges_stop (most_sack_blocks - c.loop-turn._turn) c.loop-turn.rest.now c.in_default.ensures)
 
 pub loop-turn-preserved : goal.loop-turn-preserved
 loop-turn-preserved c =
@@ -27,7 +24,4 @@ loop-turn-preserved c =
     }
 
 pub returns : goal.returns
-returns c =
-    let so_far = c.loop-turn.sack_blocks in
-    sym (append-nil so_far) ∙ ap (λ l. so_far ++ l)
-    (sym (ranges_none (most_sack_blocks - c.loop-turn._turn) c.loop-turn.rest.now (omega arith))) ∙ c.loop-turn.invariant.all
+returns c = grind (arith, append-nil, ranges_none (most_sack_blocks - c.loop-turn._turn) c.loop-turn.rest.now (omega arith))

@@ -5,9 +5,7 @@ use Rattle.net_stream.proofs.sack_blocks.SackBlocks.greatest_end.Goals as goal
 
 pub loop-i-preserved : goal.loop-i-preserved
 loop-i-preserved c =
-    let i = c.loop-i.i in
-    let ranges = take c.self.inside.count c.self.inside.ranges in
-    let rest = rest_of_first c.self.inside.count i c.self.inside.ranges (0, 0) (omega arith) (omega arith) in
-    ap (greatest_end (drop (i + 1) ranges)) c.max-last.ensures
+    let rest = rest_of_first c.self.inside.count c.loop-i.i c.self.inside.ranges (0, 0) (omega arith) (omega arith) in
+    ap (greatest_end (drop (c.loop-i.i + 1) (take c.self.inside.count c.self.inside.ranges))) c.max-last.ensures
     ∙ sym (ap (λ l. greatest_end l c.loop-i.last) rest)
     ∙ c.loop-i.invariant

@@ -1,6 +1,5 @@
 use Rattle.std.proofs.Common.{◌≡◌, ◌∙◌, ap, arith}
-use Rattle.net_stream_model.specs.SenderState.{end_of}
-use Rattle.net_stream_model.specs.SenderState.{next_block}
+use Rattle.net_stream_model.specs.SenderState.{end_of, next_block}
 use Rattle.net_stream_model.specs.SackBlocks.{next_start}
 use Rattle.net_stream_model.proofs.Sent.{next_above}
 use Rattle.net_stream.proofs.sender.SenderOver.next_block.Goals as goal
