@@ -18,6 +18,7 @@ pub fn push_newest(queue: &mut PacketBuffer<'_, u16>, header: u16, bytes: &[u8])
     if bytes.len() > queue.payload_capacity() || queue.packet_capacity() == 0 {
         return None;
     }
+    laws::drops::<u16>();
     let count = queue.len();
     for dropped in 0..count {
         if push_or_drop(queue, header, bytes) {

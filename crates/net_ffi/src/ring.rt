@@ -7,7 +7,7 @@ ghost use Rattle.std.specs.Prelude.{◌≡◌, ◌↔◌, ◌≤◌, ◌<◌, �
 ghost use Rattle.std.specs.Prelude.{min, length, take, drop, IsTrue, IsFalse};
 ghost use Rattle.net_ring.specs.Ring.{queue, window, write_at, spare_index, index_after};
 ghost use Rattle.net_ring.specs.Ring.{with_enqueued, with_dequeued, with_elements_wrapping};
-ghost use Rattle.net_ring.specs.Ring.{from_start_if_empty};
+ghost use Rattle.net_ring.specs.Ring.{rewind_if_empty};
 ghost use Rattle.net_ring.specs.Place.{IsSound, ring_at, free_index, queued_index, rewound};
 ghost use Rattle.net_ring.specs.Place.{enqueued_place, dequeued_place};
 ghost use Rattle.net_ffi.specs.Refusals.{nowhere};
@@ -358,7 +358,7 @@ pub extern "C" fn net_ring_enqueue_slice(
     ensures count { IsSound (length storage.old) place.old → result
         ≡ min (length «data».now) (window (ring_at storage.old place.old)) }
     ensures ring { IsSound (length storage.old) place.old →
-        let g = from_start_if_empty (ring_at storage.old place.old) in
+        let g = rewind_if_empty (ring_at storage.old place.old) in
         ring_at storage.new place.new
         ≡ with_enqueued result (with_elements_wrapping g (write_at g) (take result «data».now)) }
     ensures refused { (IsSound (length storage.old) place.old → ⊥) →

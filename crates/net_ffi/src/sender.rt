@@ -5,7 +5,7 @@
 //! of `place`.
 ghost use Rattle.std.specs.Prelude.{◌≡◌, ◌↔◌, ◌+◌, ◌-◌, ◌<◌, ◌≤◌, ◌^◌, ℕ, List, min, length, take, drop};
 ghost use Rattle.std.specs.Prelude.{IsTrue, IsFalse};
-ghost use Rattle.net_ring.specs.Ring.{queue, from_start_if_empty, with_enqueued, write_at};
+ghost use Rattle.net_ring.specs.Ring.{queue, rewind_if_empty, with_enqueued, write_at};
 ghost use Rattle.net_ring.specs.Ring.{with_elements_wrapping};
 ghost use Rattle.net_ring.specs.Place.{ring_at, queued_index, dequeued_place};
 ghost use Rattle.net_stream_model.specs.SenderState.{room_of, with_written, contiguous_end};
@@ -77,7 +77,7 @@ pub extern "C" fn net_sender_write(
         sender_of sender.new storage.new blocks
         ≡ with_written (sender_of sender.old storage.old blocks) (take result bytes.now) }
     ensures ring { IsSoundHead (length storage.old) sender.old →
-        let g = from_start_if_empty (ring_at storage.old sender.old.place) in
+        let g = rewind_if_empty (ring_at storage.old sender.old.place) in
         ring_at storage.new sender.new.place
         ≡ with_enqueued result (with_elements_wrapping g (write_at g) (take result bytes.now)) }
     ensures sound { IsSoundHead (length storage.old) sender.old →
