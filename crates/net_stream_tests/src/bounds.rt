@@ -2,10 +2,10 @@
 //! rounds a byte in place of 2, doesn't prove them. Rows of `CASES` are near: 13 frames and acknowledgements a
 //! round less 4 in the first, 2 losses of 3 rounds, 9 acknowledgements that are delayed, and one round a byte.
 //! Whether a copy ever needs two rounds a byte is not known.
-ghost use Rattle.std.specs.Prelude.{◌≡◌, ℕ, List, ◌+◌, ◌*◌, ◌≤◌, length};
+ghost use Rattle.std.specs.Prelude.{◌≡◌, ℕ, List, [], ◌∷◌, ◌+◌, ◌*◌, ◌≤◌, length};
 ghost use Rattle.net_stream.specs.CopyState.{Setup, Done, GaveUp, after};
 ghost use Rattle.net_stream.specs.Fates.{AllCome};
-ghost use Rattle.net_stream.specs.Promises.{CanPass, StartsFits};
+ghost use Rattle.net_stream.specs.Promises.{CanPass, StartsFits, NoneLost, HasRoomAtOnce, most_read};
 
 use net_stream::laws;
 
@@ -78,4 +78,29 @@ pub fn delayed_of_a_burst_of_four()
         × (length (after s reads n).link.reverse.delayed ≤ 9) }
 {
     laws::delayed_frames();
+}
+
+/// Over a link that loses nothing a copy doesn't give up after two rounds without progress.
+pub fn two_rounds_are_enough_if_nothing_is_lost()
+    ensures { (s : Setup) (reads : List (List ℕ)) (n : ℕ) → CanPass s (after s reads n)
+        → NoneLost s.fates → NoneLost s.ack_fates → s.rounds ≡ 2 → (after s reads n).status ≡ GaveUp → ⊥ }
+{
+    laws::delays();
+}
+
+/// Over a link that loses and delays nothing it doesn't give up after one.
+pub fn one_round_is_enough_if_all_come()
+    ensures { (s : Setup) (reads : List (List ℕ)) (n : ℕ) → CanPass s (after s reads n)
+        → AllCome s.fates → AllCome s.ack_fates → s.rounds ≡ 1 → (after s reads n).status ≡ GaveUp → ⊥ }
+{
+    laws::all_come();
+}
+
+/// Over such a link a copy of ten bytes, with reads of four, makes three rounds.
+pub fn exact_rounds_of_ten_bytes()
+    ensures { (s : Setup) (bytes : List ℕ) (n : ℕ) → HasRoomAtOnce s → most_read s ≡ 4
+        → s.first ≡ 0 → length bytes ≡ 10 → AllCome s.fates → AllCome s.ack_fates
+        → (after s (bytes ∷ [] ∷ []) n).status ≡ Done → (after s (bytes ∷ [] ∷ []) n).rounds ≡ 3 }
+{
+    laws::enough_rounds();
 }

@@ -6,7 +6,7 @@ use net_base::time::Instant;
 use net_ring::ManagedSlice;
 use net_stream::{
     Config, CopyBuffers, CopyError, Counts, Fate, Fates, LinkFates, Rates, StatedRead, StreamLink,
-    Watch, copy, copy_stated, copy_watched, copy_with_buffers,
+    Watch, copy, copy_slice, copy_stated, copy_watched, copy_with_buffers,
 };
 use std::alloc::{AllocError, Allocator};
 use std::io::{Read, Write};
@@ -135,6 +135,18 @@ pub fn copy_stated_by<A: Allocator + Copy, T: Watch, R: StatedRead, W: Write>(
         reader,
         writer,
     );
+    ending_and(made, counts)
+}
+
+/// Copies a slice, and returns the name of how it ended.
+pub fn copy_slice_by<A: Allocator + Copy, W: Write>(
+    alloc: A,
+    setup: &Setup,
+    reader: &mut &[u8],
+    writer: &mut W,
+    counts: &mut Counts,
+) -> &'static str {
+    let made = copy_slice(alloc, setup.config, link_fates(setup), reader, writer);
     ending_and(made, counts)
 }
 

@@ -42,7 +42,7 @@ fn drawn(seed: u64, rates: &Rates) -> Way {
 }
 
 /// Returns whether a text arrives over a link that draws its fates.
-fn comes(alloc: Global, rates: &Rates, capacity: usize, seed: u64) -> bool {
+fn arrives(alloc: Global, rates: &Rates, capacity: usize, seed: u64) -> bool {
     let setup = setup(drawn(seed, rates), drawn(!seed, rates), 7, capacity, 5);
     let Ok(mut sink) = Sink::new(alloc) else {
         return false;
@@ -81,7 +81,7 @@ static LINKS: [Rates; 5] = [
 fn comes_at_any_capacity(alloc: Global, rates: &Rates, seeds: u64) -> bool {
     for seed in 0..seeds {
         for capacity in [1usize, 7, 4096] {
-            if !comes(alloc, rates, capacity, seed) {
+            if !arrives(alloc, rates, capacity, seed) {
                 return false;
             }
         }
@@ -257,7 +257,7 @@ fn each_refused_request_leaves_a_prefix(rt: HostRuntime) {
 }
 
 /// Returns whether a copy of so many bytes, with so much capacity, asks for at most so many bytes
-/// of memory, and has at most so many at once.
+/// of memory, has at most so many at once, and flushes once.
 fn asks_for(alloc: Global, len: usize, capacity: usize, asked: usize, most: usize) -> bool {
     let heap = Refusing::new(alloc, NEVER);
     let (Ok(text), Ok(mut sink)) = (pattern(alloc, len), Sink::new(alloc)) else {
@@ -272,7 +272,8 @@ fn asks_for(alloc: Global, len: usize, capacity: usize, asked: usize, most: usiz
         &mut sink,
         &mut counts,
     );
-    end == "Ok" && heap.bytes() <= asked && heap.most() <= most && heap.live() == 0
+    let is_little = heap.bytes() <= asked && heap.most() <= most && heap.live() == 0;
+    end == "Ok" && sink.flushes == 1 && is_little
 }
 
 /// A copy asks for its three storages, for its frames, each with a header of 8 bytes, for its acknowledgements,

@@ -199,7 +199,7 @@ fn pairs_of_digits_decide_a_fate(rt: HostRuntime) {
         let (fate, at_once, delayed) = COMINGS[i];
         assert_holds(
             &rt,
-            fate.comes() == at_once && fate.comes_delayed() == delayed,
+            fate.arrives() == at_once && fate.arrives_later() == delayed,
             i,
         );
     }
@@ -283,8 +283,8 @@ fn a_path_keeps_its_two_lists_apart(rt: HostRuntime) -> Result<(), AllocError> {
 #[test]
 fn fates_and_refusals_are_counted(rt: HostRuntime) {
     let mut frames = FrameCounts::new();
-    frames.meet(Fate::Delayed);
-    frames.meet(Fate::Delivered);
+    frames.count(Fate::Delayed);
+    frames.count(Fate::Delivered);
     frames.refuse_if(true);
     frames.refuse_if(false);
     assert_holds(

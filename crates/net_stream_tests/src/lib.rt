@@ -24,6 +24,8 @@ mod order;
 #[cfg(test)]
 mod sender;
 #[cfg(test)]
+mod slices;
+#[cfg(test)]
 mod stated;
 #[cfg(test)]
 mod watched;

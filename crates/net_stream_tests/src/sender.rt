@@ -154,6 +154,28 @@ fn storage_is_written_only_where_bytes_are_queued(rt: HostRuntime) {
     assert_holds(&rt, done == AT_THE_END.len() && is_kept, done);
 }
 
+/// Returns how many of these bytes a sender over this storage takes.
+fn taken_by(storage: &mut [u8], bytes: &[u8]) -> usize {
+    let mut sender = Sender::new(ManagedSlice::Borrowed(storage));
+    sender.write(bytes)
+}
+
+/// Returns whether a sender over this storage, which has `.` everywhere, takes all of these bytes, and writes
+/// nothing after them.
+fn writes_no_more(storage: &mut [u8], bytes: &[u8]) -> bool {
+    let count = taken_by(storage, bytes);
+    let rest = part(storage, bytes.len(), storage.len());
+    count == bytes.len() && storage.starts_with(bytes) && rest.iter().all(|byte| *byte == b'.')
+}
+
+#[test]
+fn a_long_write_leaves_the_rest_of_the_storage(rt: HostRuntime) -> Result<(), AllocError> {
+    let bytes = pattern(rt.alloc(), 400_000)?;
+    let mut storage = vec![in rt.alloc(); b'.'; 1_000_000]?;
+    assert_holds(&rt, writes_no_more(&mut storage, &bytes), 0);
+    Ok(())
+}
+
 /// Returns how many bytes a sender in parts takes, and how many are then queued.
 fn takes_four(storage: &mut [u8]) -> (usize, usize) {
     let mut head = SenderHead::new(100);

@@ -10,22 +10,37 @@ use std::test::Fail;
 /// Ten bytes.
 const TEXT: &[u8] = b"0123456789";
 
-/// Writes the text to a writer that takes at most so many bytes a call, and one of whose calls
+/// Writes a text to a writer that takes at most so many bytes a call, and one of whose calls
 /// fails, with an error of this kind or by taking nothing. So many bytes are written in so many
 /// calls, and if these are not all bytes, the error says how many.
-fn check(
+fn check_text(
     rt: &impl Abort,
     alloc: Global,
+    text: &[u8],
     (bytes_per_call, failing_call, kind): (usize, usize, Option<ErrorKind>),
     (written, calls): (usize, usize),
 ) -> Result<(), Fail> {
     let mut sink = Sink::failing(alloc, bytes_per_call, failing_call, kind)?;
-    let found = write_text(&mut sink, TEXT);
-    let wanted = if written == 10 { Ok(()) } else { Err(written) };
+    let found = write_text(&mut sink, text);
+    let wanted = if written == text.len() {
+        Ok(())
+    } else {
+        Err(written)
+    };
     assert!(rt; found == wanted);
-    assert!(rt; sink.bytes.as_slice() == &TEXT[..written.min(10)]);
+    assert!(rt; sink.bytes.as_slice() == &text[..written.min(text.len())]);
     assert!(rt; sink.calls == calls && sink.flushes == 0);
     Ok(())
+}
+
+/// Writes the ten bytes.
+fn check(
+    rt: &impl Abort,
+    alloc: Global,
+    how: (usize, usize, Option<ErrorKind>),
+    wanted: (usize, usize),
+) -> Result<(), Fail> {
+    check_text(rt, alloc, TEXT, how, wanted)
 }
 
 #[test]
@@ -42,13 +57,15 @@ fn texts_are_written_whole_or_up_to_an_error(rt: HostRuntime) -> Result<(), Fail
     check(&rt, rt.alloc(), (10, 1, other), (10, 1))
 }
 
+/// All of a text of 2,000,000 bytes is written at once. If a write takes a part, one more write is for the
+/// rest, and is the last one if it takes nothing.
 #[test]
 fn a_long_text_needs_one_write(rt: HostRuntime) -> Result<(), Fail> {
-    let text = vec![in rt.alloc(); 7u8; 200_000]?;
-    let mut sink = Sink::new(rt.alloc())?;
-    assert!(rt; write_text(&mut sink, &text).is_ok() && sink.calls == 1);
-    assert!(rt; sink.bytes.len() == 200_000);
-    Ok(())
+    let text = vec![in rt.alloc(); 7u8; 2_000_000]?;
+    let all = (usize::MAX, NEVER, None);
+    check_text(&rt, rt.alloc(), &text, all, (2_000_000, 1))?;
+    let none_of_the_rest = (1_500_000, 1, None);
+    check_text(&rt, rt.alloc(), &text, none_of_the_rest, (1_500_000, 2))
 }
 
 #[test]

@@ -2,8 +2,8 @@
 ghost use Rattle.std.specs.Prelude.{◌≡◌, ◌≢◌, ◌<◌, ◌↔◌, ◌++◌, [], ◌∷◌, length, take, drop, min, ℕ};
 ghost use Rattle.std.specs.Prelude.{List, IsErr, OnOk, OnErr, IfOk, vec_len};
 ghost use Rattle.net_ring.specs.Ring.{window, queue, spare, contiguous_window};
-ghost use Rattle.net_ring.specs.Ring.{contiguous_queued, contiguous_window_from};
-ghost use Rattle.net_ring.specs.Ring.{contiguous_queued_from, from_start_if_empty};
+ghost use Rattle.net_ring.specs.Ring.{contiguous_queued, contiguous_unallocated};
+ghost use Rattle.net_ring.specs.Ring.{contiguous_allocated, rewind_if_empty};
 ghost use Rattle.net_ring.specs.Ring.{Enqueues, Dequeues};
 ghost use Rattle.net_ring.specs.Ring.{WritesSpare, WritesQueue};
 
@@ -12,9 +12,9 @@ use std::marker::Model;
 
 /// Writes a byte to the part that `enqueue_many` lends.
 pub fn enqueue_byte(ring: &mut RingBuffer<'_, u8>, byte: u8)
-    requires { 0 < contiguous_window (from_start_if_empty ring.old) }
-    ensures parts { Enqueues (from_start_if_empty ring.old) (byte ∷ []) ring.new }
-    ensures queue { queue ring.new ≡ queue (from_start_if_empty ring.old) ++ (byte ∷ []) }
+    requires { 0 < contiguous_window (rewind_if_empty ring.old) }
+    ensures parts { Enqueues (rewind_if_empty ring.old) (byte ∷ []) ring.new }
+    ensures queue { queue ring.new ≡ queue (rewind_if_empty ring.old) ++ (byte ∷ []) }
 {
     ring.enqueue_many(1)[0] = byte;
 }
@@ -31,7 +31,7 @@ pub fn enqueue_one_byte(ring: &mut RingBuffer<'_, u8>, byte: u8) -> Result<(), F
 
 /// Writes a byte to a free element, which stays free.
 pub fn stage(ring: &mut RingBuffer<'_, u8>, offset: usize, byte: u8)
-    requires { 0 < contiguous_window_from ring.old offset 1 }
+    requires { 0 < contiguous_unallocated ring.old offset 1 }
     ensures { WritesSpare ring.old offset (byte ∷ []) ring.new }
 {
     ring.get_unallocated(offset, 1)[0] = byte;
@@ -39,7 +39,7 @@ pub fn stage(ring: &mut RingBuffer<'_, u8>, offset: usize, byte: u8)
 
 /// Writes over a byte of the queue.
 pub fn patch(ring: &mut RingBuffer<'_, u8>, offset: usize, byte: u8)
-    requires { 0 < contiguous_queued_from ring.old offset 1 }
+    requires { 0 < contiguous_allocated ring.old offset 1 }
     ensures { WritesQueue ring.old offset (byte ∷ []) ring.new }
 {
     ring.get_allocated_mut(offset, 1)[0] = byte;
@@ -95,8 +95,8 @@ pub fn write_and_refuse(ring: &mut RingBuffer<'_, u8>, byte: u8)
 
 /// Enqueues by a closure that may be called only on a slice that has an element.
 pub fn enqueue_first(ring: &mut RingBuffer<'_, u8>, byte: u8)
-    requires { 0 < contiguous_window (from_start_if_empty ring.old) }
-    ensures { queue ring.new ≡ queue (from_start_if_empty ring.old) ++ (byte ∷ []) }
+    requires { 0 < contiguous_window (rewind_if_empty ring.old) }
+    ensures { queue ring.new ≡ queue (rewind_if_empty ring.old) ++ (byte ∷ []) }
 {
     ring.enqueue_many_with(|part| {
         part[0] = byte;
