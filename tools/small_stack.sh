@@ -1,10 +1,10 @@
 #!/bin/sh
-# Runs the programs with little stack: sh tools/small_stack.sh [KIB]
+# Runs the programs and the tests with little stack: sh tools/small_stack.sh [KIB]
 #
 # It runs net_bench, net_link and net_cases, as `rt ci` or `rt run` built them, each on the words and the input that are
 # stored beside its sources, under `ulimit -s KIB`, 256 if it is left out. A program that takes more stack than that is
 # ended by a signal. What it writes must be what is stored. The rows of net_cases run each mode of net_bench and make
-# copies as net_link does.
+# copies as net_link does. Then it runs each test of the crates of tests, as `rt ci` or `rt test` built them.
 set -eu
 
 root=$(cd "$(dirname "$0")/.." && pwd)
@@ -35,4 +35,18 @@ for name in net_bench net_link net_cases; do
     [ "$status" = 0 ] || fail "$name ended with status $status with $kib KiB of stack"
     cmp "$crate/stdout" "$out/$name" || fail "$name writes something else with $kib KiB of stack"
 done
-echo "small stack: 3 programs, $kib KiB"
+
+count=0
+for tests in "$root"/crates/*_tests/out/*_tests_tests; do
+    [ -x "$tests" ] || fail "there is no $tests: rt ci, or rt test in each crate of tests"
+    for name in $("$tests" --list | sed -n 's/: test$//p'); do
+        (
+            ulimit -c 0
+            ulimit -s "$kib"
+            cd "$out"
+            exec "$tests" "$name"
+        ) > "$out/said" 2>&1 || fail "$name of $(basename "$tests") failed with $kib KiB of stack"
+        count=$((count + 1))
+    done
+done
+echo "small stack: 3 programs, $count tests, $kib KiB"
