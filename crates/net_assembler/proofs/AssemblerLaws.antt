@@ -14,7 +14,7 @@ use Rattle.net_assembler.specs.Positions.{Positions, contains, with_range, front
 use Rattle.net_assembler.specs.Turns.{TurnsWithin, binary_digits}
 use Rattle.net_assembler.specs.Assembler.{MakesTooManyRuns}
 use Rattle.net_assembler.specs.AssemblerLaws.{CallsNext, results_of_next, EqualSets, MembersOfList, FirstMissingIsLeast, FrontIsLeastMissing, EqualMaximalRuns, MaximalRunsByNumber, EnoughBinaryDigits, EqualAssemblers, RangeAgain, AddingAgain, AddingInBothOrders, IteratesMaximalRuns}
-use Rattle.net_assembler.proofs.Positions.{has, either, same_positions, contains-set_of_list, contains-with_range, first_missing-misses, first_missing-has, first_missing-le}
+use Rattle.net_assembler.proofs.Positions.{has, either, same_positions, contains-set_of_list, contains-with_range, first_missing-misses, first_missing-has, first_missing-le, too_many}
 use Rattle.net_assembler.proofs.MaximalRuns.{are_maximal_runs, equal_maximal_runs, run_by_number, no_run_by_number}
 
 pub equal_sets : EqualSets
@@ -85,7 +85,7 @@ range_again s o n =
 again_runs : (most_runs o n : ℕ) (s once : Positions) → once ≡ with_range s o n → runs once ≤ most_runs → MakesTooManyRuns most_runs once o n → ⊥
 again_runs most_runs o n s once e l over =
     let same : runs (with_range once o n) ≡ runs once = ap (λ (t : Positions). runs (with_range t o n)) e ∙ ap runs (range_again s o n) ∙ ap runs (sym e) in
-    let more = over.1 in
+    let more = ((too_many most_runs once o n).0 over).1 in
     omega arith
 
 pub adding_again : AddingAgain

@@ -5,14 +5,15 @@ use Rattle.std.proofs.lemmas.List.{length-set, take_more_set, length-map, length
 use Rattle.net_assembler.specs.declared.assembler.error.TooManyHolesError.{TooManyHolesError}
 use Rattle.net_assembler.specs.declared.assembler.head.AssemblerHead.{AssemblerHead}
 use Rattle.net_assembler.specs.AssemblerLaws.{Adds, AddsThenRemovesFront}
-use Rattle.net_assembler.specs.Positions.{Positions, front, runs, runs_shifted_up, with_range, maximal_runs, shift_down}
+use Rattle.net_assembler.specs.Positions.{Positions, front, holes, holes_before, runs, runs_shifted_up, with_range, maximal_runs, shift_down}
 use Rattle.net_assembler.specs.RunLists.{start_at, end_at, AreRuns, HasSoundRuns, StartsAtZero, FitsFrom, used_runs, runs_of, set_of, set_of_runs, runs_with_range, runs_shifted_down}
 use Rattle.std.proofs.lemmas.Bool.{cases_lt}
+use Rattle.std.proofs.Math.Seq.{take-set-lt}
 use Rattle.net_assembler.proofs.MaximalRuns.{one_run_more}
-use Rattle.net_assembler.proofs.Positions.{either}
-use Rattle.net_assembler.proofs.Runs.{rising-runs_with_range, front_of_runs, front-set_of_runs, runs-set_of_runs, maximal_runs-set_of_runs, set_of_runs_injective, set-runs_with_range, runs-runs_with_range}
+use Rattle.net_assembler.proofs.Positions.{either, too_many}
+use Rattle.net_assembler.proofs.Runs.{rising-runs_with_range, set-shifted_down, front_of_runs, front-set_of_runs, runs-set_of_runs, maximal_runs-set_of_runs, set_of_runs_injective, set-runs_with_range, runs-runs_with_range}
 use Rattle.net_assembler.proofs.RunLists.{front_none, shift_down-zero, Completed, completed_at, at_run, apart, front_of_first, with_range-none, top_of}
-use Rattle.net_assembler.proofs.ShiftedRuns.{end_at-up, top_before, down-zero, start_at-up, alone-runs_with_range, first-runs_with_range, fits-runs_with_range, fits-up, up-runs_with_range, up-up, zero-runs_with_range, length-up, drop-up, runs-up, down-up, fits-at, start-up, first_at, get_or-up, up-injective}
+use Rattle.net_assembler.proofs.ShiftedRuns.{end_at-up, top_before, down-zero, start_at-up, alone-runs_with_range, first-runs_with_range, fits-runs_with_range, fits-up, up-runs_with_range, up-up, zero-runs_with_range, length-up, drop-up, runs-up, down-up, fits-at, start-up, first_at, get_or-up, up-injective, fits-less, rising-cut, fits-cut, down-cut}
 
 module _ (h : AssemblerHead) (xs : List (ℕ × ℕ)) (s : HasSoundRuns h xs) where
   pub length-used_runs : length (used_runs h xs) ≡ h.used
@@ -56,6 +57,11 @@ module _ (h : AssemblerHead) (xs : List (ℕ × ℕ)) (s : HasSoundRuns h xs) wh
       let p = apart 0 (used_runs h xs) i k s.runs l (omega (arith, length-used_runs)) in
       omega (arith, p, start_of k m, end_of i (omega arith))
 
+  pub ends_rise : (i k : ℕ) → i ≤ k → k < h.used → end_at xs i ≤ end_at xs k
+  ends_rise i k l m =
+      either (cases_lt i k) (λ b. omega (arith, pairs_apart i k b m, pair_rises k m))
+      (λ b. let e : i ≡ k = omega arith in let same = ap (end_at xs) e in omega arith)
+
   pub pair_fits : (k : ℕ) → k < h.used → h.first_start + end_at xs k < 2 ^ 64
   pair_fits k l =
       let p = fits-at h.first_start (used_runs h xs) k s.fits (omega (arith, length-used_runs)) in
@@ -91,6 +97,53 @@ module _ (h : AssemblerHead) (xs : List (ℕ × ℕ)) (s : HasSoundRuns h xs) wh
       sym (down-up h.first_start m (drop k (used_runs h xs)))
       ∙ (λ i. runs_shifted_down (sym e i) (sym (drop-up h.first_start k (used_runs h xs)) i))
 
+  -- the last of n runs, of which all but the first start by m
+  pub starts_by : (n m : ℕ) → 0 < n → n ≤ h.used → ((k : ℕ) → 1 ≤ k → k < n → start_at (used_runs h xs) k ≤ m) →
+      start_at xs (n - 1) ≤ m
+  starts_by n m some few before =
+      either (cases_lt 0 (n - 1)) (λ b. omega (arith, before (n - 1) b (omega arith), start_of (n - 1) (omega arith)))
+      (λ b. let zeroth : n - 1 ≡ 0 = omega arith in omega (arith, ap (start_at xs) zeroth, first_pair (omega arith)))
+
+  -- where only `first_start` changes
+  pub lowered : (m : ℕ) → HasSoundRuns (record { used = h.used; first_start = h.first_start - m }) xs
+  lowered m = record {
+    room = s.room;
+    runs = s.runs;
+    first = s.first;
+    fits = fits-less (h.first_start - m) h.first_start (used_runs h xs) (omega arith) s.fits;
+  }
+
+  -- what is left of the set where all is counted from m on, and the first n runs end by then
+  pub left_set : (n m : ℕ) (g : AssemblerHead) (ys : List (ℕ × ℕ)) → n ≤ h.used →
+      ((k : ℕ) → k < n → end_at xs k ≤ m) → runs_of g ys ≡ runs_shifted_down m (drop n (used_runs h xs)) →
+      set_of g ys ≡ shift_down (set_of h xs) (h.first_start + m)
+  left_set n m g ys few ends e =
+      ap set_of_runs (e ∙ dropped n m (h.first_start + m) refl)
+      ∙ set-shifted_down (runs_of h xs) n (h.first_start + m)
+      (λ k l. let at = ap (λ (r : ℕ × ℕ). r.1) (run_at k (omega arith)) in let by = ends k l in omega arith)
+
+  -- the run n begins at m instead
+  module _ (n m e : ℕ) (l : n < h.used) (is : e ≡ end_at xs n) (a : start_at xs n ≤ m) (b : m < e) where
+    cut_used : used_runs h (set xs n (m, e)) ≡ set (used_runs h xs) n (m, end_at (used_runs h xs) n)
+    cut_used = take-set-lt h.used xs n (m, e) l ∙ ap (λ t. set (used_runs h xs) n (m, t)) (is ∙ sym (end_of n l))
+
+    pub cut_rises : AreRuns (used_runs h (set xs n (m, e)))
+    cut_rises =
+        subst AreRuns (sym cut_used)
+        (rising-cut 0 (used_runs h xs) n m s.runs (omega (arith, a, start_of n l)) (omega (arith, b, is, end_of n l)))
+
+    pub cut_fits : FitsFrom h.first_start (used_runs h (set xs n (m, e)))
+    cut_fits = subst (FitsFrom h.first_start) (sym cut_used) (fits-cut h.first_start (used_runs h xs) n m s.fits)
+
+    pub cut_left : runs_shifted_down m (drop n (used_runs h (set xs n (m, e)))) ≡ runs_shifted_down m (drop n (used_runs h xs))
+    cut_left =
+        ap (λ rs. runs_shifted_down m (drop n rs)) cut_used
+        ∙ down-cut (used_runs h xs) n m (omega (arith, a, start_of n l))
+
+pub holes-set_of : (h : AssemblerHead) (xs : List (ℕ × ℕ)) → HasSoundRuns h xs → holes (set_of h xs) ≡ holes_before 0 (runs_of h xs)
+unfolding holes
+holes-set_of h xs s = ap (holes_before 0) (maximal_runs-set_of h xs s)
+
 -- equal sets are held alike
 module _ (h : AssemblerHead) (xs : List (ℕ × ℕ)) (g : AssemblerHead) (ys : List (ℕ × ℕ)) (s : HasSoundRuns h xs)
     (t : HasSoundRuns g ys) where
@@ -122,7 +175,7 @@ module _ (h : AssemblerHead) (xs : List (ℕ × ℕ)) (g : AssemblerHead) (ys : 
       record {
         ok = joined_set e;
         unchanged = tt;
-        refused = (λ f. absurd (cc), λ over. absurd (omega (arith, over.1)));
+        refused = (λ f. absurd (cc), λ over. absurd (omega (arith, (too_many _ _ o k).0 over)));
         bound = omega arith;
       }
 
@@ -137,7 +190,7 @@ module _ (h : AssemblerHead) (xs : List (ℕ × ℕ)) (g : AssemblerHead) (ys : 
       record {
         ok = tt;
         unchanged = same;
-        refused = (λ _. (l, omega arith), λ _. refl);
+        refused = (λ _. (too_many _ _ o k).1 (l, omega arith), λ _. refl);
         bound = omega arith;
       }
 
@@ -156,7 +209,7 @@ pub none_added : (h : AssemblerHead) (xs : List (ℕ × ℕ)) → HasSoundRuns h
 none_added h xs s o k e = record {
   ok = sym (with_range-none (set_of h xs) o k e);
   unchanged = tt;
-  refused = (λ f. absurd (cc), λ over. absurd (omega (arith, over.0)));
+  refused = (λ f. absurd (cc), λ over. absurd (omega (arith, (too_many _ _ o k).0 over)));
   bound = few_held h xs s;
 }
 
@@ -297,7 +350,7 @@ pub added_accepted : (n : ℕ) (s : Positions) (o k : ℕ) (r : Result (Unit {0}
     (t : Positions) → Adds n s o k r t → runs s < n → IsOk r
 added_accepted n s o k (Ok u) t a few = refl
 added_accepted n s o k (Err e) t a few =
-    let over = a.refused.0 refl in
+    let over = (too_many n s o k).0 (a.refused.0 refl) in
     let more = one_run_more s o k in
     absurd (omega (arith, over.1))
 
@@ -310,6 +363,6 @@ pub both_accepted : (n : ℕ) (s : Positions) (o k : ℕ) (r : Result ℕ TooMan
     (t : Positions) → AddsThenRemovesFront n s o k r t → runs s < n → IsOk r
 both_accepted n s o k (Ok u) t a few = refl
 both_accepted n s o k (Err e) t a few =
-    let over = (a.refused.0 refl).1 in
+    let over = (too_many n s o k).0 (a.refused.0 refl).1 in
     let more = one_run_more s o k in
     absurd (omega (arith, over.1))

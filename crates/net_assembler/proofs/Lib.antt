@@ -3,6 +3,7 @@ pub mod Runs
 pub mod RunLists
 pub mod ShiftedRuns
 pub mod Heads
+pub mod Holes
 pub mod Moves
 pub mod AssemblerText
 pub mod MaximalRuns

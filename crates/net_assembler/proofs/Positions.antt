@@ -8,7 +8,8 @@ use Rattle.std.specs.Ordering.{nat_cmp, eq_by_cmp, is_lt}
 use Rattle.std.specs.Cmp.{nat_cmp_total, unsigned_tied}
 use Rattle.std.specs.FinMap.{entries, contains_key-keys, get-from_entries, get-empty, same_map, nat_cmp-IsAntisymmetric, entries_sorted}
 use Rattle.std.specs.FinMap.Entries.{is_sorted, below_all, is_some-find}
-use Rattle.std.proofs.lemmas.Bool.Decides.{nat_tests}
+use Rattle.std.proofs.lemmas.Bool.Decides.{nat_tests, Decides-and, Decides-ltb}
+use Rattle.net_assembler.specs.Assembler.{MakesTooManyRuns, makes_too_many_runs}
 use Rattle.net_assembler.specs.Positions.{Positions, contains, positions, set_of_list, nothing, with_range, begins_run, run_starts, runs, maximal_runs, runs_shifted_up, shift_down, shift_up, bound_of, missing_within, first_missing, are_same}
 use Rattle.std.specs.Cmp.Lexicographic.{bytes_decides}
 
@@ -292,3 +293,17 @@ are_same_decides s t =
           (contains-positions t q)),
       λ e. d.1 (ap positions e),
     )
+
+-- what a refused range is
+pub too_many : (most_runs : ℕ) (s : Positions) (o n : ℕ) →
+    (MakesTooManyRuns most_runs s o n → (0 < n) × (most_runs < runs (with_range s o n)))
+    × ((0 < n) × (most_runs < runs (with_range s o n)) → MakesTooManyRuns most_runs s o n)
+too_many most_runs s o n =
+    Decides-and (nat_lt 0 n) (nat_lt most_runs (runs (with_range s o n))) (Decides-ltb 0 n)
+    (Decides-ltb most_runs (runs (with_range s o n)))
+
+pub few_enough : (most_runs : ℕ) (s : Positions) (o n : ℕ) → 0 < n → makes_too_many_runs most_runs s o n ≡ false →
+    runs (with_range s o n) ≤ most_runs
+few_enough most_runs s o n some within =
+    either (cases_lt most_runs (runs (with_range s o n)))
+    (λ over. absurd (false≢true (sym within ∙ (too_many most_runs s o n).1 (some, over)))) (λ few. few)

@@ -1,5 +1,5 @@
 -- Rising lists of runs, and the sets of positions that they represent.
-use Rattle.std.proofs.Common.{◌≡◌, ℕ, zero, suc, ◌+◌, ◌-◌, ◌<◌, ◌≤◌, max, min, Bool, true, false, cond, ◌&&◌, ◌||◌, List, [], ◌∷◌, ◌++◌, map, filter, length, nat_le, nat_lt, nat_eq, refl, sym, ap, subst, ◌∙◌, arith}
+use Rattle.std.proofs.Common.{◌≡◌, ℕ, zero, suc, ◌+◌, ◌-◌, ◌<◌, ◌≤◌, max, min, Bool, true, false, cond, ◌&&◌, ◌||◌, List, [], ◌∷◌, ◌++◌, map, filter, length, get_or, drop, nat_le, nat_lt, nat_eq, refl, sym, ap, subst, ◌∙◌, arith}
 use Rattle.std.proofs.Math.Bool.{or_assoc, or_comm, or-false}
 use Rattle.std.proofs.lemmas.Bool.{false≢true, eq-eqb, cases_lt, cases_eq, lt-ltb, le-ltb, ne_eqb, or_cases, cond-true, cond-false, false_from_ne_true}
 use Rattle.std.specs.List.{range_with_len}
@@ -194,19 +194,16 @@ rising-runs_shifted_down m low high (r ∷ rs) l h = (
       (omega (arith, h.0, h.1)) h.2,
 )
 
-shifted_down_test : (m a e q : ℕ) → m ≤ a → a < e → (nat_le (a - m) q && nat_lt q (e - m)) ≡ (nat_le a (q + m) && nat_lt (q + m) e)
-shifted_down_test m a e q l k = grind (arith, nat_tests)
-
-pub in_runs-runs_shifted_down : (m low : ℕ) (rs : List (ℕ × ℕ)) (q : ℕ) → m ≤ low → IsRising low rs → in_runs (runs_shifted_down m rs) q ≡ in_runs rs (q + m)
-in_runs-runs_shifted_down m low [] q l h = refl
-in_runs-runs_shifted_down m low (r ∷ rs) q l h = λ i. shifted_down_test m r.0 r.1 q
-    (omega (arith, h.0)) h.1 i || in_runs-runs_shifted_down m (r.1 + 1) rs q (omega (arith, h.0, h.1)) h.2 i
+-- runs that are counted m lower: one that m cuts starts at 0 then, and one that ends by m is empty
+pub in_runs-down : (rs : List (ℕ × ℕ)) (m q : ℕ) → in_runs (runs_shifted_down m rs) q ≡ in_runs rs (q + m)
+in_runs-down [] m q = refl
+in_runs-down (r ∷ rs) m q = let rest = in_runs-down rs m q in grind (arith, nat_tests)
 
 in_runs-without_front : (rs : List (ℕ × ℕ)) (q : ℕ) → IsRising 0 rs → in_runs (without_front rs) q ≡ in_runs rs (q + front_of_runs rs)
 in_runs-without_front [] q h = refl
 in_runs-without_front (r ∷ rs) q h =
     elim (nat_eq r.0 0) as (λ b. in_runs (cond b (runs_shifted_down r.1 rs) (r ∷ rs)) q ≡ in_runs (r ∷ rs) (q + cond b r.1 0)) [
-      | true ↦ in_runs-runs_shifted_down r.1 (r.1 + 1) rs q (omega arith) h.2 ∙ sym (past_first r.0 r.1 (q + r.1) rs (omega arith))
+      | true ↦ in_runs-down rs r.1 q ∙ sym (past_first r.0 r.1 (q + r.1) rs (omega arith))
       | false ↦ ap (in_runs (r ∷ rs)) (omega arith)
     ]
 
@@ -216,3 +213,18 @@ set-without_front rs h =
     ∙ sym (contains-set_of_runs rs (q + front_of_runs rs))
     ∙ sym (contains-shift_down (set_of_runs rs) (front_of_runs rs) q))
     ∙ ap (shift_down (set_of_runs rs)) (sym (front-set_of_runs rs h))
+
+-- without the first j, which end at or before q
+in_runs-drop : (rs : List (ℕ × ℕ)) (j q : ℕ) → ((k : ℕ) → k < j → (get_or rs k (0, 0)).1 ≤ q) → in_runs (drop j rs) q ≡ in_runs rs q
+in_runs-drop rs zero q ends = refl
+in_runs-drop [] (suc j) q ends = refl
+in_runs-drop (r ∷ rs) (suc j) q ends =
+    in_runs-drop rs j q (λ k l. ends (suc k) (omega arith)) ∙ sym (past_first r.0 r.1 q rs (ends 0 (omega arith)))
+
+-- the set counted from m on
+pub set-shifted_down : (rs : List (ℕ × ℕ)) (j m : ℕ) → ((k : ℕ) → k < j → (get_or rs k (0, 0)).1 ≤ m) →
+    set_of_runs (runs_shifted_down m (drop j rs)) ≡ shift_down (set_of_runs rs) m
+set-shifted_down rs j m ends =
+    same_positions _ _ (λ q. contains-set_of_runs _ q ∙ in_runs-down (drop j rs) m q
+    ∙ in_runs-drop rs j (q + m) (λ k l. let e = ends k l in omega arith) ∙ sym (contains-set_of_runs rs (q + m))
+    ∙ sym (contains-shift_down (set_of_runs rs) m q))

@@ -1,7 +1,7 @@
 -- Runs that are counted from where the first of them starts, and the sets that they represent.
 use Rattle.std.proofs.Common.{◌≡◌, ℕ, zero, suc, ◌+◌, ◌-◌, ◌<◌, ◌≤◌, ◌^◌, max, min, false, ◌&&◌, ◌||◌, List, [], ◌∷◌, ◌++◌, length, map, take, drop, set, get_or, nat_le, nat_lt, refl, sym, ap, subst, ◌∙◌, arith}
-use Rattle.std.proofs.lemmas.List.{drop-map, length-map, length-take-le, get_or-take, get_or-map, map-id, nil_from_length}
-use Rattle.std.proofs.lemmas.Bool.{cases_lt}
+use Rattle.std.proofs.lemmas.List.{drop-map, length-map, length-take, length-take-le, get_or-take, get_or-map, map-id, nil_from_length}
+use Rattle.std.proofs.lemmas.Bool.{cases_lt, cond_both}
 use Rattle.std.proofs.lemmas.Bool.Decides.{nat_tests}
 use Rattle.net_assembler.specs.Positions.{runs_shifted_up}
 use Rattle.net_assembler.specs.RunLists.{start_at, end_at, IsRising, AreRuns, StartsAtZero, FitsFrom, runs_with_range, runs_shifted_down}
@@ -270,3 +270,32 @@ alone-runs_with_range rs lo hi e = ap (λ ts. runs_with_range ts lo hi) (nil_fro
 
 pub down-zero : (n : ℕ) (rs : List (ℕ × ℕ)) → n ≡ 0 → runs_shifted_down n rs ≡ rs
 down-zero n rs e = ap (runs_shifted_down n) (sym (map-id rs)) ∙ moved_twice (λ x. x - n) (λ x. x) (λ x. x) (λ x. omega arith) rs ∙ map-id rs
+
+some-runs_with_range : (rs : List (ℕ × ℕ)) (lo hi : ℕ) → 0 < length (runs_with_range rs lo hi)
+some-runs_with_range [] lo hi = omega arith
+some-runs_with_range (r ∷ rs) lo hi =
+    cond_both (nat_lt r.1 lo) _ _ (λ l. 0 < length l) (λ _. omega arith) (λ _.
+    cond_both (nat_lt hi r.0) _ _ (λ l. 0 < length l) (λ _. omega arith) (λ _. some-runs_with_range rs (min r.0 lo) (max r.1 hi)))
+
+-- runs with a range are some
+pub some_joined : (n : ℕ) (ys rs : List (ℕ × ℕ)) (lo hi : ℕ) → take n ys ≡ runs_with_range rs lo hi → 0 < n
+some_joined n ys rs lo hi e = omega (arith, some-runs_with_range rs lo hi, ap length e, length-take n ys)
+
+-- rising runs of which the run k begins later
+pub rising-cut : (low : ℕ) (rs : List (ℕ × ℕ)) (k m : ℕ) → IsRising low rs → start_at rs k ≤ m → m < end_at rs k →
+    IsRising low (set rs k (m, end_at rs k))
+rising-cut low [] k m h a b = tt
+rising-cut low (r ∷ rs) zero m h a b = (omega (arith, h.0), b, h.2)
+rising-cut low (r ∷ rs) (suc k) m h a b = (h.0, h.1, rising-cut (r.1 + 1) rs k m h.2 a b)
+
+pub fits-cut : (n : ℕ) (rs : List (ℕ × ℕ)) (k m : ℕ) → FitsFrom n rs → FitsFrom n (set rs k (m, end_at rs k))
+fits-cut n [] k m f = tt
+fits-cut n (r ∷ rs) zero m f = f
+fits-cut n (r ∷ rs) (suc k) m f = (f.0, fits-cut n rs k m f.1)
+
+pub down-cut : (rs : List (ℕ × ℕ)) (k m : ℕ) → start_at rs k ≤ m →
+    runs_shifted_down m (drop k (set rs k (m, end_at rs k))) ≡ runs_shifted_down m (drop k rs)
+down-cut [] zero m a = refl
+down-cut [] (suc k) m a = refl
+down-cut (r ∷ rs) zero m a = let zeroth : m - m ≡ r.0 - m = omega arith in λ i. (zeroth i, r.1 - m) ∷ runs_shifted_down m rs
+down-cut (r ∷ rs) (suc k) m a = down-cut rs k m a

@@ -1,8 +1,8 @@
 -- The ranges that an assembler refuses, its text, and a set with its bound.
 --     BoundedSet      a set and how many runs it may have
---     MakesTooManyRuns most_runs s o n      when a range is refused
+--     makes_too_many_runs most_runs s o n, MakesTooManyRuns most_runs s o n      when a range is refused
 --     display_text s, text_from at runs, hole_text n      the text of a set, of runs, and of a hole
-use Rattle.std.specs.Prelude.{ℕ, ◌-◌, ◌<◌, cond, nat_eq, List, [], ◌∷◌, ◌++◌, codes, refl}
+use Rattle.std.specs.Prelude.{ℕ, ◌-◌, Bool, ◌&&◌, IsTrue, cond, nat_eq, nat_lt, List, [], ◌∷◌, ◌++◌, codes, refl}
 use Rattle.std.specs.Coded.{Coded, code_by, coded×, coded_ℕ}
 use Rattle.std.specs.FinSet as finite
 use Rattle.std.specs.Fmt.{decimal}
@@ -18,9 +18,13 @@ bounded_set_code =
     code_by (Positions × ℕ) (coded× (finite.code coded_ℕ) coded_ℕ) (λ b. (b.present, b.most_runs))
     (λ p. record { present = p.0; most_runs = p.1 }) (λ _. refl)
 
--- the range (o, n) isn't empty, and s with it has more maximal runs than it may have
+-- whether the range (o, n) isn't empty, and s with it has more maximal runs than it may have
+abbrev pub makes_too_many_runs : ℕ → Positions → ℕ → ℕ → Bool
+makes_too_many_runs most_runs s o n = nat_lt 0 n && nat_lt most_runs (runs (with_range s o n))
+
+-- that it is so
 abbrev pub MakesTooManyRuns : ℕ → Positions → ℕ → ℕ → Type 0
-MakesTooManyRuns most_runs s o n = (0 < n) × (most_runs < runs (with_range s o n))
+MakesTooManyRuns most_runs s o n = IsTrue (makes_too_many_runs most_runs s o n)
 
 -- a hole in parentheses and a space; nothing for a hole of 0
 abbrev pub hole_text : ℕ → List ℕ

@@ -3,6 +3,7 @@
 --     RangeFits o n, with_range s o n      a range, and a set with one
 --     runs s, maximal_runs s, IsMaximalRun s run, AreMaximalRuns s list      how many maximal runs there
 --         are, and which
+--     holes s      the missing ranges below the end of the last run
 --     lies_in p run      whether p is in a run
 --     first_missing s p, front s, IsFirstMissing s p n      the first missing position, and the front
 --     shift_down s m, shift_up s n, runs_shifted_up n rs      sets and runs, counted from elsewhere
@@ -77,6 +78,16 @@ front s = first_missing s 0
 -- the maximal runs (start, end), end not included, rising
 unfoldable pub maximal_runs : Positions → List (ℕ × ℕ)
 maximal_runs s = map (λ p. (p, first_missing s p)) (run_starts s)
+
+-- the missing ranges (start, end) before runs, from where the run before ended
+abbrev pub holes_before : ℕ → List (ℕ × ℕ) → List (ℕ × ℕ)
+holes_before from [] = []
+holes_before from (r ∷ rs) =
+    cond (from == r.0) (holes_before r.1 rs) ((from, r.0) ∷ holes_before r.1 rs)
+
+-- the missing ranges (start, end) below the end of the last maximal run, end not included, rising
+unfoldable pub holes : Positions → List (ℕ × ℕ)
+holes s = holes_before 0 (maximal_runs s)
 
 -- (a, b) is a maximal run of s: all from a to b - 1 are in s, b is not, and a is 0 or a - 1 is not
 -- in s

@@ -5,6 +5,7 @@
 --     runs_shifted_down m rs, StartsAtZero rs, FitsFrom n rs      how runs are counted
 --     used_runs head rs, runs_of head rs, set_of head rs      what a head and runs represent
 --     HasSoundRuns head rs      that they are those of an assembler
+--     IsCanonical head      that a head without runs is 0 in both numbers
 --     contig_text c      a hole and the data after it, as text
 use Rattle.std.specs.Prelude.{◌≡◌, ℕ, ◌+◌, ◌-◌, ◌<◌, ◌≤◌, ◌^◌, List, [], ◌∷◌, ◌++◌, length, take, map}
 use Rattle.std.specs.Prelude.{flat_map, get_or, cond, nat_lt, min, max, Result, MatchResult}
@@ -90,6 +91,10 @@ pub record HasSoundRuns (head : AssemblerHead) (rs : List (ℕ × ℕ)) : Type 0
   pub runs : AreRuns (used_runs head rs)
   pub first : StartsAtZero (used_runs head rs)
   pub fits : FitsFrom head.first_start (used_runs head rs)
+
+-- where there is no run, both numbers of a head are 0
+abbrev pub IsCanonical : AssemblerHead → Type 0
+IsCanonical head = head.used ≡ 0 → head.first_start ≡ 0
 
 -- a hole in parentheses, if there is one, and the data after it
 abbrev pub contig_text : Contig → List ℕ

@@ -3,7 +3,7 @@ ghost use Rattle.std.specs.Prelude.{◌≡◌, ◌+◌, ◌<◌, ◌≤◌, ◌*
 ghost use Rattle.std.specs.Prelude.{IfSome, OnOk, OnErr, MatchResult};
 ghost use Rattle.std.specs.List.{slice_get};
 ghost use Rattle.net_assembler.specs.Assembler.{MakesTooManyRuns};
-ghost use Rattle.net_assembler.specs.Positions.{RangeFits, contains, nothing, front, runs};
+ghost use Rattle.net_assembler.specs.Positions.{RangeFits, contains, holes, nothing, front, runs};
 ghost use Rattle.net_assembler.specs.Positions.{with_range, shift_down, maximal_runs};
 ghost use Rattle.net_assembler.specs.Positions.{runs as run_count};
 ghost use Rattle.net_assembler.specs.RunLists.{set_of, HasSoundRuns};
@@ -12,6 +12,7 @@ ghost use Rattle.net_assembler.specs.Turns.{TurnsWithin, binary_digits};
 mod display;
 mod error;
 mod head;
+mod holes;
 mod iter;
 mod joins;
 pub mod laws;
@@ -23,6 +24,7 @@ mod turns;
 
 pub use error::TooManyHolesError;
 pub use head::AssemblerHead;
+pub use holes::HoleIter;
 pub use iter::{IterData, RunIter};
 pub use run::Run;
 pub use slice::SliceAssembler;
@@ -149,7 +151,7 @@ impl<const N: usize> Assembler<N> {
     pub fn fits(offset: usize, size: usize) -> bool
         ensures { IsTrue result ↔ RangeFits offset size }
     {
-        size <= usize::MAX - offset
+        AssemblerHead::fits(offset, size)
     }
 
     /// Adds the positions from `offset` to `offset + size - 1`; none if `size` is 0.
@@ -208,7 +210,7 @@ impl<const N: usize> Assembler<N> {
         ensures no_look_lost { turns.old.0 ≤ turns.new.0 }
         ensures no_move_lost { turns.old.1 ≤ turns.new.1 }
     {
-        self.head.add(&mut self.runs, offset, size, turns)
+        self.head.add_counted(&mut self.runs, offset, size, turns)
     }
 
     /// Removes the run at position 0, counts all later positions from its end, and returns its
@@ -243,7 +245,20 @@ impl<const N: usize> Assembler<N> {
         ensures turns { TurnsWithin 0 N turns.old turns.new }
         ensures waiting { runs self.new ≡ runs self.old → turns.new ≡ turns.old }
     {
-        self.head.remove_front(&mut self.runs, turns)
+        self.head.remove_front_counted(&mut self.runs, turns)
+    }
+
+    /// Removes the positions below `count`, and counts the others from there, so that position
+    /// `count` is position 0 then. A run that `count` cuts keeps what is at or after it. smoltcp has
+    /// no such call.
+    ///
+    /// It serves a sender whose peer acknowledged `count` positions more, and holds some beyond.
+    pub fn shift(&mut self, count: usize)
+        ensures set { self.new ≡ shift_down self.old count }
+        ensures fewer { runs self.new ≤ runs self.old }
+        ensures bound { runs self.new ≤ N }
+    {
+        self.head.shift(&mut self.runs, count);
     }
 
     /// Adds a range as `add` does, and then removes the front as `remove_front` does.
@@ -305,7 +320,8 @@ impl<const N: usize> Assembler<N> {
         ensures waiting { offset ≡ 0 → runs self.new ≡ runs self.old → turns.new ≡ turns.old }
     {
         let runs = &mut self.runs;
-        self.head.add_then_remove_front(runs, offset, size, turns)
+        self.head
+            .add_then_remove_front_counted(runs, offset, size, turns)
     }
 
     /// Returns the maximal run with number `k`, counted from 0 in rising order, as (start, end),
@@ -335,6 +351,25 @@ impl<const N: usize> Assembler<N> {
         ensures bound { length result ≤ N }
     {
         self.head.iter_data(&self.runs)
+    }
+
+    /// Returns the hole with number `k`, counted from 0 in rising order, as (start, end), the end not
+    /// included; `None` exactly if there are no more than `k`. Holes are the missing ranges below
+    /// the end of the last run, such as those that a sender sends again. smoltcp has no such call.
+    pub fn hole_at(&self, k: usize) -> Option<(usize, usize)>
+        ensures hole { result ≡ slice_get (holes self.now) k }
+        ensures some { IfSome result (λ h. h.0 < h.1) }
+    {
+        self.head.hole_at(&self.runs, k)
+    }
+
+    /// Returns the holes as (start, end), the end not included, in rising order. smoltcp has no such
+    /// call.
+    pub fn holes(&self) -> HoleIter<'_>
+        ensures holes { result ≡ holes self.now }
+        ensures bound { length result ≤ N }
+    {
+        self.head.holes(&self.runs)
     }
 }
 

@@ -5,5 +5,6 @@ pub mod assembler;
 pub mod laws;
 
 pub use assembler::{
-    Assembler, AssemblerHead, IterData, Run, RunIter, SliceAssembler, TooManyHolesError, Turns,
+    Assembler, AssemblerHead, HoleIter, IterData, Run, RunIter, SliceAssembler, TooManyHolesError,
+    Turns,
 };

@@ -1,8 +1,7 @@
-//! Time, network devices and random words: what a small TCP/IP stack needs besides its buffers.
+//! Storage, time, network devices and random words: what a small TCP/IP stack needs.
 #![tactic(auto)]
 
 pub mod phy;
 pub mod rand;
+pub mod storage;
 pub mod time;
-
-pub use net_storage as storage;

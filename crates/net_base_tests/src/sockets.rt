@@ -3,6 +3,7 @@
 mod bridge;
 mod endpoint;
 mod fragment_buffer;
+mod fragments_head;
 mod inbox;
 mod locals;
 mod udp_socket;

@@ -1,6 +1,7 @@
 pub mod PacketFacts
 mod HeadFacts
 pub mod PacketSteps
+mod HeadQueue
 pub mod PacketOrder
 pub mod PacketRuns
 mod EmptyQueue

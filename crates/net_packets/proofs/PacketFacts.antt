@@ -11,6 +11,14 @@ use Rattle.net_packets.specs.PacketSlots.{slot, gap_slot, packet_slots, packets_
 use Rattle.net_packets.specs.declared.packet_metadata.PacketMetadata.{PacketMetadata}
 use Rattle.net_ring.proofs.Rotations.{length-queue, length-overwrite}
 
+-- a list that is not empty ends in an element
+pub ends_in : {X : Type 0} (xs : List X) → xs ≢ [] → (ys : List X) × (y : X) × (xs ≡ ys ++ (y ∷ []))
+ends_in [] some = absurd (some refl)
+ends_in (x ∷ []) some = ([], x, refl)
+ends_in (x ∷ (o ∷ xs)) some =
+    let rest = ends_in (o ∷ xs) (λ e. let n = ap length e in absurd (omega (arith, n))) in
+    (x ∷ rest.0, rest.1, ap (λ l. x ∷ l) rest.2)
+
 -- ---- places of a ring of c elements that is read from r on
 pub place_cases : (c r i : ℕ) → ((i < c - r) × (index_after c r i ≡ r + i)) ⊎ ((c - r ≤ i) × (index_after c r i ≡ i - (c - r)))
 place_cases c r i = elim (cases_lt i (c - r)) [

@@ -14,7 +14,7 @@ use Rattle.net_packets.specs.PacketHistory.{contents_of, contents, QueueCall, Re
 use Rattle.net_ring.proofs.Overwrites.{overwrite-same}
 use Rattle.net_ring.proofs.Rotations.{IsStorageIndex, length-queue, cut, overwrite_at, storage_index_is}
 use Rattle.net_ring.proofs.RingFacts.{queue_law, spare_law}
-use Rattle.net_packets.proofs.PacketFacts.{bytes_append, place_cases, place_place}
+use Rattle.net_packets.proofs.PacketFacts.{ends_in, bytes_append, place_cases, place_place}
 use Rattle.net_packets.proofs.PacketSteps.{mk, last_append, last_ends, head_fits, push_well, pushed_is, cut_is, with_bytes_well, skipped_well, headed, headed_well, popped_well, close_gap}
 use Rattle.net_packets.proofs.PacketOrder.{some_of, contents_append, close_size}
 use Rattle.net_packets.proofs.PacketOrder as order
@@ -28,14 +28,6 @@ if_both (Err e) both p q = tt
 pub copied_whole : (bs xs ys : List ℕ) (k : ℕ) → k ≡ min (length bs) (length xs) → ys ≡ take k bs ++ drop k xs → length bs ≡ length xs → ys ≡ bs
 copied_whole bs xs ys k count is long =
     is ∙ ap₂ (λ (a b : List ℕ). a ++ b) (take_all k bs (omega (arith, count, long))) (drop_all k xs (omega (arith, count, long))) ∙ append-nil bs
-
--- a list that is not empty ends in an element
-ends_in : {X : Type 0} (xs : List X) → xs ≢ [] → (ys : List X) × (y : X) × (xs ≡ ys ++ (y ∷ []))
-ends_in [] some = absurd (some refl)
-ends_in (x ∷ []) some = ([], x, refl)
-ends_in (x ∷ (o ∷ xs)) some =
-    let rest = ends_in (o ∷ xs) (λ e. let n = ap length e in absurd (omega (arith, n))) in
-    (x ∷ rest.0, rest.1, ap (λ l. x ∷ l) rest.2)
 
 module _ {H : Type 0} where
   -- ---- each step leaves the packets well placed

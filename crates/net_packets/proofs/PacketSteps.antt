@@ -1,6 +1,7 @@
 -- What a queue of packets is after a step on its two rings.
 use Rattle.std.proofs.Common.{◌≢◌, ◌≡◌, ℕ, suc, zero, ◌+◌, ◌-◌, ◌<◌, ◌≤◌, List, [], ◌∷◌, ◌++◌, length, take, drop, min, refl, sym, ap, ap₂, ◌∙◌, subst, inl, inr, arith, ◌⊎◌, length-append, append_assoc, get_or, set}
 use Rattle.std.proofs.lemmas.List.{take_at, drop_at, take_all}
+use Rattle.std.proofs.lemmas.Bool.{cases_lt}
 use Rattle.std.proofs.lemmas.Option.{none-some, cond_some}
 use Rattle.std.specs.Prelude.{true, Option}
 use Rattle.std.specs.List.{slice_get}
@@ -295,16 +296,20 @@ module _ {H : Type 0} where
   skipped_ring q = ap (ring q.storage (without_gap q).read_at) (skipped_bytes q.packets)
 
   -- by what the two steps left
-  pub skip_keeps : (m : RingState (PacketMetadata H)) (b : RingState ℕ) → Represents m b (packets_in 0 (queue m)) → (gap : ℕ) (q : PacketsState H)
-      (m2 : RingState (PacketMetadata H)) (b2 : RingState ℕ) → packets_state m b ≡ q → gap ≡ first_gap q.packets → 0 < gap
-      → m2 ≡ with_dequeued 1 m → b2 ≡ with_dequeued gap b → Represents m2 b2 (packets_in 0 (queue m2))
-  skip_keeps m b h gap q m2 b2 is size some off dequeued =
-      let all = slots_are m b h q is ∙ skipped_slots q.packets (omega (arith, size, some)) in
-      let many : 1 ≤ m.count = omega (arith, length-queue m h.0, ap length all) in
-      let slots = ap queue off ∙ (with_dequeued_parts m h.0 1 many).0 ∙ ap (drop 1) all in
-      let wfm = subst IsWellFormed (sym off) (off_wf m _ _ h.0 all) in
-      (held (without_gap q) (skipped_well q (well_placed m b h q is)) m2 wfm slots b2
-      (dequeued ∙ ap₂ with_dequeued size (bytes_are m b h q is) ∙ skipped_ring q)).0
+  module _ (m : RingState (PacketMetadata H)) (b : RingState ℕ) (h : Represents m b (packets_in 0 (queue m))) (gap : ℕ) (q : PacketsState H)
+      (m2 : RingState (PacketMetadata H)) (b2 : RingState ℕ) (is : packets_state m b ≡ q) (size : gap ≡ first_gap q.packets) (some : 0 < gap)
+      (off : m2 ≡ with_dequeued 1 m) (dequeued : b2 ≡ with_dequeued gap b) where
+    pub skip_left : Represents m2 b2 (packets_in 0 (queue m2)) × (capacity m2 ≡ q.slot_count → packets_state m2 b2 ≡ without_gap q)
+    skip_left =
+        let all = slots_are m b h q is ∙ skipped_slots q.packets (omega (arith, size, some)) in
+        let many : 1 ≤ m.count = omega (arith, length-queue m h.0, ap length all) in
+        let slots = ap queue off ∙ (with_dequeued_parts m h.0 1 many).0 ∙ ap (drop 1) all in
+        let wfm = subst IsWellFormed (sym off) (off_wf m _ _ h.0 all) in
+        held (without_gap q) (skipped_well q (well_placed m b h q is)) m2 wfm slots b2
+        (dequeued ∙ ap₂ with_dequeued size (bytes_are m b h q is) ∙ skipped_ring q)
+
+    pub skip_keeps : Represents m2 b2 (packets_in 0 (queue m2))
+    skip_keeps = skip_left.0
 
   -- ---- the first packet, whose gap is gone
   head_slots : (ps : List (Packet H)) (p : Packet H) → p.gap ≡ 0 → packet_slots (p ∷ ps) ≡ slot p.size (Some p.header) ∷ packet_slots ps
@@ -321,6 +326,19 @@ module _ {H : Type 0} where
         ap (drop 1) all,
       )
 
+  -- the first slot is that of a gap
+  pub gap_of : (ps : List (Packet H)) (s : ℕ) (ms : List (PacketMetadata H)) → slot s None ∷ ms ≡ packet_slots ps → (first_gap ps ≡ s) × (0 < s)
+  gap_of [] s ms e = absurd (let n = ap length e in omega (arith, n))
+  gap_of (p ∷ ps) s ms e = elim (cases_lt 0 p.gap) [
+    | inl pos ↦
+        let all = e ∙ skipped_slots (p ∷ ps) pos in
+        let size : s ≡ p.gap = ap (λ x. x.size) (ap (head_or (slot s None)) all) in
+        (sym size, omega (arith, size, pos))
+    | inr z ↦
+        let all = e ∙ head_slots ps p (omega (arith, z)) in
+        absurd (none-some p.header (ap (λ x. x.header) (ap (head_or (slot s None)) all)))
+  ]
+
   -- where the first packet is
   pub head_fits : (c r : ℕ) (ps : List (Packet H)) → (r ≡ 0) ⊎ (r < c) → bytes_used ps ≤ c → ArePlaced c r 0 ps
       → first_gap ps ≡ 0 → (first_size ps ≤ bytes_used ps) × (r + first_size ps ≤ c)
@@ -330,6 +348,12 @@ module _ {H : Type 0} where
       let is = ap (index_after c r) n in
       let at = place_zero c r wf in
       (omega arith, omega (arith, is, at, a.0.0))
+
+  -- where the gap before it is
+  pub gap_fits : (c r o : ℕ) (ps : List (Packet H)) → ArePlaced c r o ps → 0 < first_gap ps
+      → (first_gap ps ≤ bytes_used ps) × (index_after c r o + first_gap ps ≡ c)
+  gap_fits c r o [] a some = absurd (omega (arith, some))
+  gap_fits c r o (p ∷ ps) a some = (omega arith, a.0.1 (λ z. omega (arith, z, some)))
 
   -- its header is written over
   pub headed : (hd : H) (ps : List (Packet H)) → (first_gap (with_first_header hd ps) ≡ first_gap ps) × (first_size (with_first_header hd ps) ≡ first_size ps)
@@ -446,7 +470,7 @@ module _ {X : Type 0} where
       (i ∙ ap (head_or w) whole, en ∙ ap (λ l. overwrite l 0 (y ∷ [])) f ∙ all)
 
   -- the element at the end
-  slice_get_end : (ms : List X) (y : X) → slice_get (ms ++ (y ∷ [])) (length ms) ≡ Some y
+  pub slice_get_end : (ms : List X) (y : X) → slice_get (ms ++ (y ∷ [])) (length ms) ≡ Some y
   slice_get_end [] y = refl
   slice_get_end (x ∷ ms) y = slice_get_end ms y
 

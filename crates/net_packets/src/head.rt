@@ -6,12 +6,14 @@
 ghost use Rattle.std.specs.Prelude.{◌≡◌, ◌↔◌, ◌≤◌, ◌<◌, ◌-◌, ◌+◌, IsTrue, IsNone, IfSome, ℕ};
 ghost use Rattle.std.specs.declared.option.Option.TheVariants.{Some, None};
 ghost use Rattle.net_ring.specs.Ring.{index_after};
-ghost use Rattle.net_ring.specs.Place.{place, IsSound, rewound, contiguous_free};
+ghost use Rattle.net_ring.specs.RingHead.{place, IsSound, rewound, contiguous_free};
 ghost use Rattle.net_packets.specs.Packets.{gap_for, slots_for, if_slots};
 ghost use Rattle.net_packets.specs.PacketsHead.{IsSoundHead, placement_in, with_packet_placed};
 ghost use Rattle.net_packets.specs.PacketsHead.{packets_head, with_slot_taken};
 
-use net_ring::Place;
+use net_ring::RingHead;
+
+mod slots;
 
 /// The numbers of a packet queue apart from its storages.
 ///
@@ -23,9 +25,9 @@ use net_ring::Place;
 #[derive(Debug, Clone, Copy)]
 pub struct PacketsHead {
     /// The numbers of the ring of slots.
-    pub slots: Place,
+    pub slots: RingHead,
     /// The numbers of the ring of bytes.
-    pub bytes: Place,
+    pub bytes: RingHead,
 }
 
 /// Where a packet was placed.
@@ -40,6 +42,20 @@ pub struct PacketPlace {
     pub slot: usize,
     /// The index of the packet's first byte.
     pub from: usize,
+}
+
+/// Where the first packet is.
+#[repr(C)]
+#[derive(Debug, Clone, Copy)]
+pub struct FirstPacket {
+    /// How many bytes are skipped before the packet.
+    pub gap: usize,
+    /// The index of the packet's slot.
+    pub slot: usize,
+    /// The index of the packet's first byte.
+    pub from: usize,
+    /// How many bytes the packet has.
+    pub size: usize,
 }
 
 impl PacketsHead {
@@ -89,6 +105,7 @@ impl PacketsHead {
             × (p.slot ≡ index_after slot_count m.read_at (m.length + (slots_for p.gap - 1)))) }
         ensures from { IfSome result (λ p. let b = rewound self.old.bytes in
             p.from ≡ index_after capacity b.read_at (b.length + p.gap)) }
+        ensures within { IfSome result (λ p. (p.gap_slot < slot_count) × (p.slot < slot_count)) }
         ensures contiguous { IfSome result (λ p. p.from + size ≤ capacity) }
         ensures placed { IfSome result (λ p. self.new ≡ with_packet_placed p.gap size self.old) }
         ensures sound { IsSoundHead slot_count capacity self.new }
@@ -160,7 +177,7 @@ impl PacketsHead {
 /// Returns how many free bytes are contiguous for a packet that is placed. In an empty ring all are
 /// contiguous, since it is then read from the storage's beginning.
 #[inline]
-fn contiguous_if_placed(bytes: Place, capacity: usize) -> usize
+fn contiguous_if_placed(bytes: RingHead, capacity: usize) -> usize
     requires { IsSound capacity bytes }
     ensures count { result ≡ contiguous_free capacity (rewound bytes) }
     ensures within { result ≤ capacity - bytes.length }

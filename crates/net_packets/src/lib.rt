@@ -4,7 +4,9 @@
 pub mod head;
 pub mod packet_buffer;
 mod packet_metadata;
+pub mod packet_slot;
 
-pub use head::{PacketPlace, PacketsHead};
+pub use head::{FirstPacket, PacketPlace, PacketsHead};
 pub use packet_buffer::{PacketBuffer, PacketsOver};
 pub use packet_metadata::PacketMetadata;
+pub use packet_slot::PacketSlot;

@@ -3,7 +3,7 @@ pub mod Overwrites
 pub mod Relend
 pub mod RingFacts
 pub mod RingParts
-pub mod PlaceFacts
+pub mod HeadFacts
 pub mod RingOrder
 pub mod ResetFacts
 pub mod Walks

@@ -8,8 +8,8 @@ use Rattle.std.proofs.lemmas.Option.{gets}
 use Rattle.std.specs.declared.result.Result.TheVariants.{Ok, Err}
 use Rattle.net_ring.specs.Overwrite.{overwrite}
 use Rattle.net_ring.specs.Ring.{RingState, last_dequeued_index, rotation, ring, capacity, window, queue, index_after, spare, storage_index, write_at, IsWellFormed, with_elements, with_elements_wrapping, with_enqueued, with_dequeued, rewind_if_empty, contiguous_window, contiguous_queued, spare_index, contiguous_unallocated, queue_index, contiguous_allocated, Enqueues, Dequeues, WritesSpare, WritesQueue, EnqueuesFrom, DequeuesFrom}
-use Rattle.net_ring.specs.Place.{ring_at, rewound}
-use Rattle.net_ring.specs.declared.place.Place.{Place}
+use Rattle.net_ring.specs.RingHead.{ring_at, rewound}
+use Rattle.net_ring.specs.declared.head.RingHead.{RingHead}
 use Rattle.net_ring.proofs.Rotations.{IsStorageIndex, length-rotation, length-overwrite, storage_index_is, read_at_le, whole, length-queue, length-spare, spare-written, queue-written, with_enqueued_parts, with_dequeued_parts, take_sum}
 
 module _ {T : Type 0} where
@@ -504,7 +504,7 @@ pub rewind_wf : {T : Type 0} (b : RingState T) → IsWellFormed b → IsWellForm
 rewind_wf b wf = elim (rewind_cases b) [ inl h ↦ subst IsWellFormed (sym h.1) (inl refl, omega arith) | inr h ↦ subst IsWellFormed (sym h.1) wf ]
 
 -- the same of the numbers of a ring
-pub rewound_ring : {T : Type 0} (xs : List T) (p : Place) → ring_at xs (rewound p) ≡ rewind_if_empty (ring_at xs p)
+pub rewound_ring : {T : Type 0} (xs : List T) (p : RingHead) → ring_at xs (rewound p) ≡ rewind_if_empty (ring_at xs p)
 rewound_ring xs p = grind (arith, nat_tests)
 
 -- the index of an element that a ring can hold is below the storage's end

@@ -8,5 +8,5 @@ pub mod RingView
 pub mod RingLends
 pub mod RingCalls
 pub mod Log
-pub mod Place
+pub mod RingHead
 pub mod RingHistory

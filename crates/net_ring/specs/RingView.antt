@@ -1,7 +1,7 @@
 -- The fields of a ring buffer, as a ring.
 use Rattle.std.specs.Prelude.{List}
 use Rattle.net_ring.specs.Ring.{RingState}
-use Rattle.net_ring.specs.Place.{ring_at}
+use Rattle.net_ring.specs.RingHead.{ring_at}
 use Rattle.net_ring.specs.declared.ring_buffer.RingOver.TheInside.{Inside}
 
 module _ {T S : Type 0} where

@@ -2,14 +2,14 @@
 #![tactic(auto)]
 
 mod error;
+pub mod head;
 pub mod laws;
 mod managed;
-pub mod place;
 mod resettable;
 pub mod ring_buffer;
 
 pub use error::{Empty, Full};
+pub use head::{RingHead, Span};
 pub use managed::{ManagedSlice, Storage};
-pub use place::{Place, Span};
 pub use resettable::Resettable;
 pub use ring_buffer::{RingBuffer, RingOver};

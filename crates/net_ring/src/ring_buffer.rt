@@ -6,10 +6,10 @@ ghost use Rattle.net_ring.specs.Ring.{ring, capacity, window, queue, spare};
 ghost use Rattle.net_ring.specs.Ring.{write_at, contiguous_window, rewind_if_empty};
 ghost use Rattle.net_ring.specs.Ring.{IsWellFormed};
 ghost use Rattle.net_ring.specs.RingHistory.{Makes, Clear, Reset, RewindIfEmpty};
-ghost use Rattle.net_ring.specs.Place.{place, IsSound, ring_at};
+ghost use Rattle.net_ring.specs.RingHead.{place, IsSound, ring_at};
 
+use crate::head::RingHead;
 use crate::managed::{ManagedSlice, Storage};
-use crate::place::Place;
 use crate::resettable::Resettable;
 pub use iter::Iter;
 use std::marker::{Model, PhantomData};
@@ -33,7 +33,7 @@ mod unallocated;
 #[derive(Debug)]
 pub struct RingOver<T, S: Storage<T>> {
     storage: S,
-    place: Place,
+    place: RingHead,
     elements: PhantomData<T>,
 }
 
@@ -121,7 +121,7 @@ impl<T, S: Storage<T>> RingOver<T, S> {
     {
         RingOver {
             storage,
-            place: Place {
+            place: RingHead {
                 read_at: 0,
                 length: 0,
             },
@@ -131,14 +131,14 @@ impl<T, S: Storage<T>> RingOver<T, S> {
 
     /// Returns the ring of a storage and of the numbers of a ring, as [`into_parts`] returns them.
     ///
-    /// smoltcp has no such call. [`Place::is_sound`] tells whether it may be made.
+    /// smoltcp has no such call. [`RingHead::is_sound`] tells whether it may be made.
     ///
     /// # Requires
     ///
     /// The numbers are those of a ring of as many elements as the storage has.
     ///
     /// [`into_parts`]: RingOver::into_parts
-    pub fn from_parts(storage: S, place: Place) -> Self
+    pub fn from_parts(storage: S, place: RingHead) -> Self
         requires sound { IsSound (length (S.elements storage)) place }
         ensures ring { result ≡ ring_at (S.elements storage) place }
     {
@@ -154,7 +154,7 @@ impl<T, S: Storage<T>> RingOver<T, S> {
     /// smoltcp has no such call.
     ///
     /// [`from_parts`]: RingOver::from_parts
-    pub fn into_parts(self) -> (S, Place)
+    pub fn into_parts(self) -> (S, RingHead)
         ensures ring { ring_at (S.elements result.0) result.1 ≡ self }
         ensures sound { IsSound (length (S.elements result.0)) result.1 }
     {
@@ -170,7 +170,7 @@ impl<T, S: Storage<T>> RingOver<T, S> {
     ///
     /// smoltcp has no such call.
     #[inline]
-    pub fn place(&self) -> Place
+    pub fn place(&self) -> RingHead
         ensures place { result ≡ place self.now.read_at self.now.count }
         ensures sound { IsSound (capacity self.now) result }
     {

@@ -6,7 +6,7 @@ use Rattle.std.proofs.lemmas.List.{get_or_default}
 use Rattle.net_ring.specs.Overwrite.{OverwritesAt}
 use Rattle.net_assembler.specs.Positions.{contains, with_range}
 use Rattle.net_assembler.specs.AssemblerLaws.{MembersOfNothing, MembersWithRange}
-use Rattle.net_sockets.specs.Fragments.{FragmentsState, with_fragment}
+use Rattle.net_base.specs.Fragments.{FragmentsState, with_fragment}
 use Rattle.net_sockets.specs.FragmentHistory.{after_fragments, covers, last_byte, LastFragmentStands, OldBytesAreGone}
 use Rattle.net_sockets.proofs.SocketFacts.{LengthStays}
 

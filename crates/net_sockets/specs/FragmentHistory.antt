@@ -5,7 +5,7 @@
 use Rattle.std.specs.Prelude.{◌≡◌, Bool, ◌+◌, ◌-◌, ◌<◌, ◌&&◌, ℕ, List, [], ◌∷◌, length}
 use Rattle.std.specs.Prelude.{if◌then◌else◌, nat_le, nat_lt, slice_index_or, IsTrue}
 use Rattle.net_assembler.specs.Positions.{contains, nothing}
-use Rattle.net_sockets.specs.Fragments.{FragmentsState, with_fragment}
+use Rattle.net_base.specs.Fragments.{FragmentsState, with_fragment}
 
 -- the buffer after fragments (offset, bytes), the first one first
 abbrev pub after_fragments : FragmentsState → List (ℕ × List ℕ) → FragmentsState

@@ -4,23 +4,15 @@ ghost use Rattle.std.specs.Prelude.{OnOk, OnErr, ◌<ℤ◌, Err, length, take};
 ghost use Rattle.std.specs.declared.option.Option.TheVariants.{Some, None};
 ghost use Rattle.net_assembler.specs.Positions.{nothing};
 ghost use Rattle.net_assembler.specs.Assembler.{MakesTooManyRuns};
-ghost use Rattle.net_sockets.specs.Fragments.{with_fragment, IsComplete};
+ghost use Rattle.net_base.specs.Fragments.{with_fragment, IsComplete};
 
 use net_assembler::{Assembler, assembler};
+pub use net_base::storage::FragmentError;
 use net_base::time::Instant;
 use net_ring::{ManagedSlice, Storage};
 use std::marker::Model;
 
 pub mod laws;
-
-/// Why a fragment or a size is refused.
-#[derive(Debug, Clone, Copy, PartialEq, Eq, Drop)]
-pub enum FragmentError {
-    /// It reaches past the end of the buffer.
-    TooLong,
-    /// It would leave more maximal runs of bytes, with holes between them, than there is room for.
-    TooManyHoles,
-}
 
 /// A packet that arrives in fragments, in any order, as those of IPv4 do, over any storage.
 /// [`FragmentBuffer`] is its usual form. `N` is how many maximal runs of bytes it has room for.
@@ -53,7 +45,7 @@ impl<B: Storage<u8> + Drop, const N: usize> Drop for FragmentsOver<B, N> {
 pub type FragmentBuffer<'a, const N: usize> = FragmentsOver<ManagedSlice<'a, u8>, N>;
 
 impl<B: Storage<u8>, const N: usize> Model for FragmentsOver<B, N> {
-    ghost use Rattle.net_sockets.specs.Fragments.{FragmentsState, state_code, Fits};
+    ghost use Rattle.net_base.specs.Fragments.{FragmentsState, state_code, Fits};
 
     ghost Value = { FragmentsState };
 

@@ -1,7 +1,7 @@
-//! Users of `net_storage` and `net_base`: a UDP socket, a buffer of fragments, a bridge, and an
-//! inbox that shows its first datagram in place.
+//! Users of `net_base`: a UDP socket, a buffer of fragments, a bridge, and an inbox that shows its
+//! first datagram in place.
 //!
-//! Each is small, and is proved only from the public contracts of those crates, as a user's code
+//! Each is small, and is proved only from the public contracts of that crate, as a user's code
 //! would be.
 #![tactic(auto)]
 

@@ -3,5 +3,6 @@
 mod clones;
 mod drops;
 mod head;
+mod head_slots;
 mod lengths;
 mod packet_buffer;

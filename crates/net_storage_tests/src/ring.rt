@@ -2,7 +2,7 @@
 
 mod drops;
 mod ends;
+mod head;
 mod managed;
-mod place;
 mod resets;
 mod ring_buffer;

@@ -3,14 +3,17 @@ ghost use Rattle.std.specs.Prelude.{◌≡◌, ℕ, List, ◌+◌, ◌*◌, ◌<
 ghost use Rattle.std.specs.Prelude.{IsTrue, IfSome, OnErr};
 ghost use Rattle.std.specs.List.{slice_get};
 ghost use Rattle.net_assembler.specs.AssemblerLaws.{Adds, AddsThenRemovesFront, RemovesFront};
-ghost use Rattle.net_assembler.specs.Positions.{RangeFits, are_same, contains, front, nothing};
+ghost use Rattle.net_assembler.specs.Positions.{RangeFits, are_same, contains, front, holes};
+ghost use Rattle.net_assembler.specs.Positions.{holes_before, nothing};
 ghost use Rattle.net_assembler.specs.Positions.{maximal_runs, runs as run_count, shift_down};
 ghost use Rattle.net_assembler.specs.Positions.{with_range};
-ghost use Rattle.net_assembler.specs.RunLists.{FitsFrom, HasSoundRuns, IsRising, runs_of};
-ghost use Rattle.net_assembler.specs.RunLists.{runs_shifted_down, set_of, start_at, used_runs};
+ghost use Rattle.net_assembler.specs.RunLists.{AreRuns, FitsFrom, HasSoundRuns, IsCanonical};
+ghost use Rattle.net_assembler.specs.RunLists.{IsRising, runs_of, runs_shifted_down, set_of};
+ghost use Rattle.net_assembler.specs.RunLists.{end_at, start_at, used_runs};
 ghost use Rattle.net_assembler.specs.Turns.{TurnsWithin, binary_digits};
 
 use super::TooManyHolesError;
+use super::holes::HoleIter;
 use super::iter::RunIter;
 use super::joins::{join_before, join_range};
 use super::moves::shift_runs_down;
@@ -25,7 +28,10 @@ use super::turns::Turns;
 /// The first `used` elements are its runs: they rise, with a hole between neighbours, and the
 /// others aren't read. They are counted from where the first of them starts, so that one starts at
 /// 0; `first_start` is that position, and so how many are missing before it. If positions below it
-/// are removed, only `first_start` changes. If there is no run, it means nothing.
+/// are removed, only `first_start` changes. If there is no run, it isn't read.
+///
+/// A head is canonical (`IsCanonical`) if both numbers are 0 where there is no run. `new` and `clear`
+/// make it so, and each call leaves it so.
 ///
 /// A head is sound with runs if they are so, and each end is a number of 64 bits also where it is
 /// counted from position 0. In contracts that is `HasSoundRuns`, and `set_of` is the set of present
@@ -41,6 +47,7 @@ impl AssemblerHead {
     /// Returns the head of an assembler with no position, whatever its runs.
     pub fn new() -> Self
         ensures no_run { result.used ≡ 0 }
+        ensures no_start { result.first_start ≡ 0 }
         ensures sound { (runs : List (ℕ × ℕ)) → HasSoundRuns result runs }
         ensures empty { (runs : List (ℕ × ℕ)) → set_of result runs ≡ nothing }
     {
@@ -68,13 +75,14 @@ impl AssemblerHead {
             && rise_after(&runs[1..self.used], first_end, self.first_start)
     }
 
-    /// Removes every position. The head need not be sound before.
+    /// Removes every position, so that the head is that of `new`. It need not be sound before.
     pub fn clear(&mut self)
         ensures no_run { self.new.used ≡ 0 }
+        ensures no_start { self.new.first_start ≡ 0 }
         ensures sound { (runs : List (ℕ × ℕ)) → HasSoundRuns self.new runs }
         ensures empty { (runs : List (ℕ × ℕ)) → set_of self.new runs ≡ nothing }
     {
-        self.used = 0;
+        *self = AssemblerHead::new();
     }
 
     /// Returns whether no position is present.
@@ -166,17 +174,111 @@ impl AssemblerHead {
         RunIter::over(&runs[..self.used], self.first_start)
     }
 
-    /// Adds a range as `Assembler::add` does, with the slice's length in place of `N`, and counts
-    /// each iteration of a loop as `Assembler::add_counted` does.
+    /// Returns the hole with number `k`, counted from 0 in rising order, as (start, end), the end not
+    /// included; `None` exactly if there are no more than `k`. Holes are the missing ranges below
+    /// the end of the last run.
+    ///
+    /// # Requires
+    ///
+    /// The head is sound with the runs, as `is_sound` tests.
+    pub fn hole_at(&self, runs: &[Run], k: usize) -> Option<(usize, usize)>
+        requires { HasSoundRuns self.now runs.now }
+        ensures hole { result ≡ slice_get (holes (set_of self.now runs.now)) k }
+        ensures some { IfSome result (λ h. h.0 < h.1) }
+    {
+        if self.first_start == 0 {
+            return self.hole_after(runs, k);
+        }
+        if k > 0 {
+            return self.hole_after(runs, k - 1);
+        }
+        if self.used > 0 {
+            Some((0, self.first_start))
+        } else {
+            None
+        }
+    }
+
+    /// Returns the hole after the run `k`, if there is a run after it.
+    #[inline(always)]
+    fn hole_after(&self, runs: &[Run], k: usize) -> Option<(usize, usize)>
+        requires { HasSoundRuns self.now runs.now }
+        ensures hole { let rs = runs_of self.now runs.now in
+            result ≡ slice_get (holes_before (end_at rs 0) (drop 1 rs)) k }
+        ensures some { IfSome result (λ h. h.0 < h.1) }
+    {
+        if self.used.saturating_sub(k) < 2 {
+            return None;
+        }
+        let start = self.first_start + end_of(runs, k);
+        let end = self.first_start + start_of(runs, k + 1);
+        Some((start, end))
+    }
+
+    /// Returns the holes as (start, end), the end not included, in rising order.
+    ///
+    /// # Requires
+    ///
+    /// The head is sound with the runs, as `is_sound` tests.
+    pub fn holes<'a>(&self, runs: &'a [Run]) -> HoleIter<'a>
+        requires { HasSoundRuns self.now runs.now }
+        ensures holes { result ≡ holes (set_of self.now runs.now) }
+        ensures bound { length result ≤ length runs.now }
+    {
+        let mut rest = self.iter_data(runs);
+        if self.first_start > 0 {
+            return HoleIter::before(rest, 0);
+        }
+        // No hole is before a run at 0.
+        match rest.next() {
+            Some((_, end)) => HoleIter::before(rest, end),
+            None => HoleIter::before(rest, 0),
+        }
+    }
+
+    /// Returns whether `offset + size` fits `usize`, which all calls that add a range require.
+    #[inline]
+    pub fn fits(offset: usize, size: usize) -> bool
+        ensures { IsTrue result ↔ RangeFits offset size }
+    {
+        size <= usize::MAX - offset
+    }
+
+    /// Adds a range as `Assembler::add` does, with the slice's length in place of `N`.
     ///
     /// If it is refused, head and runs stay as they were.
     ///
     /// # Requires
     ///
     /// The head is sound with the runs, as `is_sound` tests, and the range ends within 64 bits, as
-    /// `Assembler::fits` tests.
+    /// `fits` tests.
     #[inline(always)]
     pub fn add(
+        &mut self,
+        runs: &mut [Run],
+        offset: usize,
+        size: usize,
+    ) -> Result<(), TooManyHolesError>
+        requires sound { HasSoundRuns self.old runs.old }
+        requires range { RangeFits offset size }
+        ensures sound { HasSoundRuns self.new runs.new }
+        ensures added { Adds (length runs.old) (set_of self.old runs.old) offset size
+            result (set_of self.new runs.new) }
+        ensures unchanged { OnErr result ((self.new ≡ self.old) × (runs.new ≡ runs.old)) }
+        ensures canonical { IsCanonical self.old → IsCanonical self.new }
+    {
+        self.add_counted(runs, offset, size, &mut Turns::new())
+    }
+
+    /// Adds a range as `add` does, and counts each iteration of a loop as `Assembler::add_counted`
+    /// does.
+    ///
+    /// # Requires
+    ///
+    /// The head is sound with the runs, as `is_sound` tests, and the range ends within 64 bits, as
+    /// `fits` tests.
+    #[inline(always)]
+    pub fn add_counted(
         &mut self,
         runs: &mut [Run],
         offset: usize,
@@ -189,6 +291,7 @@ impl AssemblerHead {
         ensures added { Adds (length runs.old) (set_of self.old runs.old) offset size
             result (set_of self.new runs.new) }
         ensures unchanged { OnErr result ((self.new ≡ self.old) × (runs.new ≡ runs.old)) }
+        ensures canonical { IsCanonical self.old → IsCanonical self.new }
         ensures turns { let n = length runs.old in
             TurnsWithin (2 * binary_digits n) n turns.old turns.new }
     {
@@ -220,8 +323,7 @@ impl AssemblerHead {
     }
 
     /// Removes the run at position 0, counts all later positions from its end, and returns its
-    /// length. It counts each iteration of a loop as `Assembler::add_counted` does; there are no
-    /// looks.
+    /// length.
     ///
     /// If position 0 is missing it returns 0, and head and runs stay as they were.
     ///
@@ -229,7 +331,7 @@ impl AssemblerHead {
     ///
     /// The head is sound with the runs, as `is_sound` tests.
     #[inline(always)]
-    pub fn remove_front(&mut self, runs: &mut [Run], turns: &mut Turns) -> usize
+    pub fn remove_front(&mut self, runs: &mut [Run]) -> usize
         requires { HasSoundRuns self.old runs.old }
         ensures sound { HasSoundRuns self.new runs.new }
         ensures removed { RemovesFront (length runs.old) (set_of self.old runs.old)
@@ -238,6 +340,24 @@ impl AssemblerHead {
         ensures fewer { 0 < result → run_count (set_of self.new runs.new) + 1
             ≡ run_count (set_of self.old runs.old) }
         ensures room { 0 < result → run_count (set_of self.new runs.new) < length runs.old }
+        ensures canonical { IsCanonical self.old → IsCanonical self.new }
+    {
+        self.remove_front_counted(runs, &mut Turns::new())
+    }
+
+    /// Removes the front as `remove_front` does, and counts each iteration of a loop as
+    /// `add_counted` does. There are no looks.
+    #[inline(always)]
+    pub(crate) fn remove_front_counted(&mut self, runs: &mut [Run], turns: &mut Turns) -> usize
+        requires { HasSoundRuns self.old runs.old }
+        ensures sound { HasSoundRuns self.new runs.new }
+        ensures removed { RemovesFront (length runs.old) (set_of self.old runs.old)
+            result (set_of self.new runs.new) }
+        ensures unchanged { result ≡ 0 → (self.new ≡ self.old) × (runs.new ≡ runs.old) }
+        ensures fewer { 0 < result → run_count (set_of self.new runs.new) + 1
+            ≡ run_count (set_of self.old runs.old) }
+        ensures room { 0 < result → run_count (set_of self.new runs.new) < length runs.old }
+        ensures canonical { IsCanonical self.old → IsCanonical self.new }
         ensures turns { TurnsWithin 0 (length runs.old) turns.old turns.new }
         ensures waiting { run_count (set_of self.new runs.new)
             ≡ run_count (set_of self.old runs.old) → turns.new ≡ turns.old }
@@ -250,20 +370,77 @@ impl AssemblerHead {
         size
     }
 
+    /// Removes the positions below `count`, and counts the others from there, so that position
+    /// `count` is position 0 then. A run that `count` cuts keeps what is at or after it.
+    ///
+    /// # Requires
+    ///
+    /// The head is sound with the runs, as `is_sound` tests.
+    pub fn shift(&mut self, runs: &mut [Run], count: usize)
+        requires { HasSoundRuns self.old runs.old }
+        ensures sound { HasSoundRuns self.new runs.new }
+        ensures set { set_of self.new runs.new ≡ shift_down (set_of self.old runs.old) count }
+        ensures fewer { run_count (set_of self.new runs.new)
+            ≤ run_count (set_of self.old runs.old) }
+        ensures canonical { IsCanonical self.old → IsCanonical self.new }
+    {
+        // All runs are at or after `count`.
+        if count <= self.first_start {
+            self.first_start -= count;
+            return;
+        }
+        if self.used == 0 {
+            return;
+        }
+        // The last run that starts by then is cut, or ends by then; those before it end by then.
+        let by = count - self.first_start;
+        let turns = &mut Turns::new();
+        let met = runs_starting_by(&runs[..self.used], 1, by, turns);
+        let last = met - 1;
+        let end = end_of(runs, last);
+        if end <= by {
+            self.drop_front(runs, met, by, turns);
+            return;
+        }
+        runs[last] = Run { start: by, end };
+        self.drop_front(runs, last, by, turns);
+    }
+
     /// Adds a range and then removes the front, as `Assembler::add_then_remove_front` does with the
-    /// slice's length in place of `N`, and counts each iteration of a loop as
-    /// `Assembler::add_counted` does.
+    /// slice's length in place of `N`.
     ///
     /// A range at 0 is never refused. If one is refused, head and runs stay as they were. Data that
-    /// is next in order takes no iteration, however many runs there are, unless one of them is
-    /// removed.
+    /// is next in order takes no iteration of a loop, however many runs there are, unless one of
+    /// them is removed.
     ///
     /// # Requires
     ///
     /// The head is sound with the runs, as `is_sound` tests, and the range ends within 64 bits, as
-    /// `Assembler::fits` tests.
+    /// `fits` tests.
     #[inline(always)]
     pub fn add_then_remove_front(
+        &mut self,
+        runs: &mut [Run],
+        offset: usize,
+        size: usize,
+    ) -> Result<usize, TooManyHolesError>
+        requires sound { HasSoundRuns self.old runs.old }
+        requires range { RangeFits offset size }
+        ensures sound { HasSoundRuns self.new runs.new }
+        ensures both { AddsThenRemovesFront (length runs.old) (set_of self.old runs.old)
+            offset size result (set_of self.new runs.new) }
+        ensures unchanged { OnErr result ((self.new ≡ self.old) × (runs.new ≡ runs.old)) }
+        ensures more { run_count (set_of self.new runs.new)
+            ≤ run_count (set_of self.old runs.old) + 1 }
+        ensures canonical { IsCanonical self.old → IsCanonical self.new }
+    {
+        self.add_then_remove_front_counted(runs, offset, size, &mut Turns::new())
+    }
+
+    /// Adds a range and removes the front as `add_then_remove_front` does, and counts each iteration
+    /// of a loop as `add_counted` does.
+    #[inline(always)]
+    pub(crate) fn add_then_remove_front_counted(
         &mut self,
         runs: &mut [Run],
         offset: usize,
@@ -278,6 +455,7 @@ impl AssemblerHead {
         ensures unchanged { OnErr result ((self.new ≡ self.old) × (runs.new ≡ runs.old)) }
         ensures more { run_count (set_of self.new runs.new)
             ≤ run_count (set_of self.old runs.old) + 1 }
+        ensures canonical { IsCanonical self.old → IsCanonical self.new }
         ensures turns { let n = length runs.old in
             TurnsWithin (2 * binary_digits n) (2 * n) turns.old turns.new }
         ensures waiting { offset ≡ 0 → run_count (set_of self.new runs.new)
@@ -290,11 +468,11 @@ impl AssemblerHead {
         // data that arrives too early; one comparison tells it, and that the range doesn't begin
         // before the runs.
         if self.waits_before(offset) {
-            self.add(runs, offset, size, turns)?;
+            self.add_counted(runs, offset, size, turns)?;
             return Ok(0);
         }
-        self.add(runs, offset, size, turns)?;
-        Ok(self.remove_front(runs, turns))
+        self.add_counted(runs, offset, size, turns)?;
+        Ok(self.remove_front_counted(runs, turns))
     }
 
     /// Returns whether there is a run, and the first one starts after 0, but not after `offset`. If
@@ -324,6 +502,7 @@ impl AssemblerHead {
         ensures fewer { run_count (set_of self.new runs.new)
             ≤ run_count (set_of self.old runs.old) }
         ensures bound { run_count (set_of self.new runs.new) ≤ length runs.old }
+        ensures canonical { IsCanonical self.old → IsCanonical self.new }
         ensures turns { let n = length runs.old in
             TurnsWithin (binary_digits n) n turns.old turns.new }
         ensures waiting { run_count (set_of self.new runs.new)
@@ -340,7 +519,7 @@ impl AssemblerHead {
         }
         // Nothing is added: the run at 0 is removed.
         if size == 0 {
-            return self.remove_front(runs, turns);
+            return self.remove_front_counted(runs, turns);
         }
         // The range reaches the first run, or more. The front ends where the last of these does, or
         // where the range does, and these are removed with it.
@@ -356,18 +535,21 @@ impl AssemblerHead {
     /// there. `end` is counted as the runs are.
     #[inline(always)]
     fn drop_front(&mut self, runs: &mut [Run], count: usize, end: usize, turns: &mut Turns)
-        requires sound { HasSoundRuns self.old runs.old }
-        requires some { 0 < count }
+        requires room { self.old.used ≤ length runs.old }
+        requires runs { AreRuns (used_runs self.old runs.old) }
+        requires fits { FitsFrom self.old.first_start (used_runs self.old runs.old) }
         requires count { count ≤ self.old.used }
-        requires behind { (k : ℕ) → count ≤ k → k < self.old.used → end < start_at runs.old k }
+        requires behind { count < self.old.used → end ≤ start_at runs.old count }
         ensures sound { HasSoundRuns self.new runs.new }
         ensures runs { runs_of self.new runs.new
             ≡ runs_shifted_down end (drop count (used_runs self.old runs.old)) }
+        ensures canonical { IsCanonical self.new }
         ensures turns { TurnsWithin 0 (length runs.old) turns.old turns.new }
     {
         let used = self.used;
         self.used = used - count;
         if count == used {
+            self.first_start = 0;
             return;
         }
         self.first_start = start_of(runs, count) - end;

@@ -3,15 +3,16 @@ ghost use Rattle.std.specs.Prelude.{◌≡◌, ◌+◌, ◌<◌, ◌≤◌, ◌�
 ghost use Rattle.std.specs.Prelude.{IfSome, OnOk, OnErr, MatchResult};
 ghost use Rattle.std.specs.List.{slice_get};
 ghost use Rattle.net_assembler.specs.Assembler.{MakesTooManyRuns};
-ghost use Rattle.net_assembler.specs.Positions.{RangeFits, contains, nothing, front};
+ghost use Rattle.net_assembler.specs.Positions.{RangeFits, contains, holes, nothing, front};
 ghost use Rattle.net_assembler.specs.Positions.{maximal_runs, runs as run_count, shift_down};
 ghost use Rattle.net_assembler.specs.Positions.{with_range};
 ghost use Rattle.net_assembler.specs.RunLists.{set_of, HasSoundRuns};
 
+use super::TooManyHolesError;
 use super::head::AssemblerHead;
+use super::holes::HoleIter;
 use super::iter::RunIter;
 use super::run::Run;
-use super::{TooManyHolesError, Turns};
 use std::marker::Model;
 
 /// A finite set of present positions in at most as many maximal runs as a slice has elements, which
@@ -123,7 +124,7 @@ impl<'a> SliceAssembler<'a> {
     pub fn fits(offset: usize, size: usize) -> bool
         ensures { IsTrue result ↔ RangeFits offset size }
     {
-        size <= usize::MAX - offset
+        AssemblerHead::fits(offset, size)
     }
 
     /// Adds the positions from `offset` to `offset + size - 1`; none if `size` is 0.
@@ -145,7 +146,7 @@ impl<'a> SliceAssembler<'a> {
         ensures bound { run_count self.new.present ≤ self.new.most_runs }
         ensures most_runs { self.new.most_runs ≡ self.old.most_runs }
     {
-        self.head.add(self.runs, offset, size, &mut Turns::new())
+        self.head.add(self.runs, offset, size)
     }
 
     /// Removes the run at position 0, counts all later positions from its end, and returns its
@@ -163,7 +164,18 @@ impl<'a> SliceAssembler<'a> {
         ensures bound { run_count self.new.present ≤ self.new.most_runs }
         ensures most_runs { self.new.most_runs ≡ self.old.most_runs }
     {
-        self.head.remove_front(self.runs, &mut Turns::new())
+        self.head.remove_front(self.runs)
+    }
+
+    /// Removes the positions below `count`, and counts the others from there. A run that `count`
+    /// cuts keeps what is at or after it.
+    pub fn shift(&mut self, count: usize)
+        ensures set { self.new.present ≡ shift_down self.old.present count }
+        ensures fewer { run_count self.new.present ≤ run_count self.old.present }
+        ensures bound { run_count self.new.present ≤ self.new.most_runs }
+        ensures most_runs { self.new.most_runs ≡ self.old.most_runs }
+    {
+        self.head.shift(self.runs, count);
     }
 
     /// Adds a range as `add` does, and then removes the front as `remove_front` does.
@@ -192,9 +204,7 @@ impl<'a> SliceAssembler<'a> {
         ensures bound { run_count self.new.present ≤ self.new.most_runs }
         ensures most_runs { self.new.most_runs ≡ self.old.most_runs }
     {
-        let turns = &mut Turns::new();
-        self.head
-            .add_then_remove_front(self.runs, offset, size, turns)
+        self.head.add_then_remove_front(self.runs, offset, size)
     }
 
     /// Returns the maximal run with number `k`, counted from 0 in rising order, as (start, end),
@@ -219,5 +229,22 @@ impl<'a> SliceAssembler<'a> {
         ensures bound { length result ≤ self.now.most_runs }
     {
         self.head.iter_data(self.runs)
+    }
+
+    /// Returns the hole with number `k`, counted from 0 in rising order, as (start, end), the end not
+    /// included; `None` exactly if there are no more than `k`.
+    pub fn hole_at(&self, k: usize) -> Option<(usize, usize)>
+        ensures hole { result ≡ slice_get (holes self.now.present) k }
+        ensures some { IfSome result (λ h. h.0 < h.1) }
+    {
+        self.head.hole_at(self.runs, k)
+    }
+
+    /// Returns the holes as (start, end), the end not included, in rising order.
+    pub fn holes(&self) -> HoleIter<'_>
+        ensures holes { result ≡ holes self.now.present }
+        ensures bound { length result ≤ self.now.most_runs }
+    {
+        self.head.holes(self.runs)
     }
 }

@@ -23,7 +23,9 @@ impl<T, S: Storage<T>> RingOver<T, S> {
         ensures within { (result ≤ size) × (result ≤ self.now.count - offset) }
         ensures not_empty { offset < self.now.count → 0 < size → 0 < result }
     {
-        self.place.queued(self.capacity(), offset, size).contiguous
+        self.place
+            .allocated(self.capacity(), offset, size)
+            .contiguous
     }
 
     /// Shows at most `size` elements of the queue from the one at `offset` on: as many as are
@@ -46,7 +48,7 @@ impl<T, S: Storage<T>> RingOver<T, S> {
         ensures stored { result.now
             ≡ take (length result.now) (drop (queue_index self.now offset) self.now.storage) }
     {
-        let span = self.place.queued(self.capacity(), offset, size);
+        let span = self.place.allocated(self.capacity(), offset, size);
         self.storage.part(span.from, span.from + span.contiguous)
     }
 
@@ -108,7 +110,7 @@ impl<T, S: Storage<T>> RingOver<T, S> {
             Makes (GetAllocatedMut offset ws) self.old
             (with_elements self.old (queue_index self.old offset) ws) }
     {
-        let span = self.place.queued(self.capacity(), offset, size);
+        let span = self.place.allocated(self.capacity(), offset, size);
         self.storage
             .part_mut(span.from, span.from + span.contiguous)
     }

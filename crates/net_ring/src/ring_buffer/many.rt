@@ -69,7 +69,7 @@ impl<T, S: Storage<T>> RingOver<T, S> {
             (ws : List T) → capacity (with_elements (with_enqueued k g) (write_at g) ws)
             ≡ capacity self.old }
     {
-        let span = self.place.put_contiguous(self.storage.count(), size);
+        let span = self.place.enqueue_many(self.storage.count(), size);
         self.storage.part_mut(span.from, span.from + span.count)
     }
 
@@ -122,7 +122,7 @@ impl<T, S: Storage<T>> RingOver<T, S> {
             (ws : List T) → capacity (with_elements (with_dequeued k self.old) self.old.read_at ws)
             ≡ capacity self.old }
     {
-        let span = self.place.take_contiguous(self.storage.count(), size);
+        let span = self.place.dequeue_many(self.storage.count(), size);
         self.storage.part_mut(span.from, span.from + span.count)
     }
 }

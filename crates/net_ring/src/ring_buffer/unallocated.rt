@@ -24,7 +24,9 @@ impl<T, S: Storage<T>> RingOver<T, S> {
         ensures within { (result ≤ size) × (result ≤ window self.now - offset) }
         ensures not_empty { offset < window self.now → 0 < size → 0 < result }
     {
-        self.place.free(self.capacity(), offset, size).contiguous
+        self.place
+            .unallocated(self.capacity(), offset, size)
+            .contiguous
     }
 
     /// Lends at most `size` free elements from the one at `offset` on: as many as are contiguous.
@@ -57,7 +59,7 @@ impl<T, S: Storage<T>> RingOver<T, S> {
             Makes (GetUnallocated offset ws) self.old
             (with_elements self.old (spare_index self.old offset) ws) }
     {
-        let span = self.place.free(self.capacity(), offset, size);
+        let span = self.place.unallocated(self.capacity(), offset, size);
         self.storage
             .part_mut(span.from, span.from + span.contiguous)
     }

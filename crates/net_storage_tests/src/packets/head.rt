@@ -1,10 +1,10 @@
 //! The numbers of a packet queue by themselves.
 ghost use Rattle.std.specs.Prelude.{◌≡◌};
-ghost use Rattle.net_ring.specs.Place.{place};
+ghost use Rattle.net_ring.specs.RingHead.{place};
 ghost use Rattle.net_packets.specs.PacketsHead.{packets_head, IsSoundHead};
 
 use net_packets::{PacketPlace, PacketsHead};
-use net_ring::Place;
+use net_ring::RingHead;
 
 /// Returns gap, slot of the gap, slot and first byte of a packet that was placed.
 fn numbers(placed: Option<PacketPlace>) -> Option<(usize, usize, usize, usize)> {
@@ -12,10 +12,10 @@ fn numbers(placed: Option<PacketPlace>) -> Option<(usize, usize, usize, usize)> 
 }
 
 /// Returns the numbers of a queue with no packets.
-fn empty() -> PacketsHead
+pub(super) fn empty() -> PacketsHead
     ensures { result ≡ packets_head (place 0 0) (place 0 0) }
 {
-    let start = Place {
+    let start = RingHead {
         read_at: 0,
         length: 0,
     };

@@ -9,17 +9,17 @@ pub returns-clause-accepted : goal.returns-clause-accepted
 returns-clause-accepted g c = λ few.
     let same = ap runs c.self.view_is in
     let xs = c.self.inside.runs in
-    added_accepted (length xs) (set_of c.self.inside.head xs) c.args.offset c.args.size c.add.result _ c.add.ensures.added
+    added_accepted (length xs) (set_of c.self.inside.head xs) c.args.offset c.args.size c.add_counted.result _ c.add_counted.ensures.added
     (omega (arith, c.self.invariant.1))
 
 pub returns-clause-more : goal.returns-clause-more
 returns-clause-more g c =
     let same = ap runs c.self.view_is in
     let xs = c.self.inside.runs in
-    let more = added_more (length xs) (set_of c.self.inside.head xs) c.args.offset c.args.size c.add.result _ c.add.ensures.added in
+    let more = added_more (length xs) (set_of c.self.inside.head xs) c.args.offset c.args.size c.add_counted.result _ c.add_counted.ensures.added in
     omega arith
 
 pub returns-clause-turns : goal.returns-clause-turns
 returns-clause-turns g c =
-    let counts = c.add.ensures.turns in
+    let counts = c.add_counted.ensures.turns in
     omega (arith, few_binary_digits (length c.self.inside.runs), counts.looks_few, counts.moves_few, c.self.invariant.1)

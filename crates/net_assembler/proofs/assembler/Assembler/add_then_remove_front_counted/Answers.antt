@@ -8,5 +8,5 @@ pub returns-clause-accepted : goal.returns-clause-accepted
 returns-clause-accepted g c = λ few.
     let same = ap runs c.self.view_is in
     let xs = c.self.inside.runs in
-    both_accepted (length xs) (set_of c.self.inside.head xs) c.args.offset c.args.size c.add_then_remove_front.result _
-    c.add_then_remove_front.ensures.both (omega (arith, c.self.invariant.1))
+    both_accepted (length xs) (set_of c.self.inside.head xs) c.args.offset c.args.size c.add_then_remove_front_counted.result _
+    c.add_then_remove_front_counted.ensures.both (omega (arith, c.self.invariant.1))

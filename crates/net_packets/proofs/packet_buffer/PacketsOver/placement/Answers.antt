@@ -1,5 +1,5 @@
 use Rattle.std.proofs.Common.{length, ap, ◌∙◌}
-use Rattle.net_ring.specs.Place.{place}
+use Rattle.net_ring.specs.RingHead.{place}
 use Rattle.net_packets.specs.Packets.{bytes_used, slots_used}
 use Rattle.net_packets.proofs.HeadFacts.{placed_alike}
 use Rattle.net_packets.proofs.PacketFacts.{count_is}

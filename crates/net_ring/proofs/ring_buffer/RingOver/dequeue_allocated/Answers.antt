@@ -1,6 +1,6 @@
 use Rattle.std.proofs.Common.{◌≡◌, ◌∙◌, refl, ap, sym, subst, take, length, length-take, arith}
 use Rattle.net_ring.specs.Ring.{capacity, queue, Dequeues, with_dequeued}
-use Rattle.net_ring.specs.Place.{ring_at}
+use Rattle.net_ring.specs.RingHead.{ring_at}
 use Rattle.net_ring.proofs.Rotations.{length-queue}
 use Rattle.net_ring.proofs.RingFacts.{well, found, with_dequeued_is, with_dequeued_law}
 use Rattle.net_ring.specs.RingHistory.{Makes}

@@ -1,7 +1,7 @@
 use Rattle.std.proofs.Common.{List, ◌≡◌, ◌∙◌, refl, sym, ap, min, arith}
 use Rattle.net_ring.specs.Overwrite.{overwrite}
 use Rattle.net_ring.specs.Ring.{capacity, contiguous_queued, with_elements, with_dequeued}
-use Rattle.net_ring.specs.Place.{ring_at}
+use Rattle.net_ring.specs.RingHead.{ring_at}
 use Rattle.net_ring.proofs.RingFacts.{well, found, left_off, shown_head, dequeued_law, contiguous_head_some}
 use Rattle.net_ring.proofs.Rotations.{length-overwrite}
 use Rattle.net_ring.specs.RingHistory.{Makes}
@@ -12,9 +12,9 @@ unfolding Makes
 returns g c =
     let old = c.args.self.now in
     let is = c.self.view_is in
-    let span = c.take_contiguous-span.ensures in
-    let p = c.take_contiguous-span.result.from in
-    let k = c.take_contiguous-span.result.count in
+    let span = c.dequeue_many-span.ensures in
+    let p = c.dequeue_many-span.result.from in
+    let k = c.dequeue_many-span.result.count in
     let size = c.count.ensures ∙ ap capacity is in
     let counts = ap (λ o. o.count) is in
     let read = ap (λ o. o.read_at) is in

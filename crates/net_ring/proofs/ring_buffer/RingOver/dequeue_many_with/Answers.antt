@@ -2,7 +2,7 @@ use Rattle.std.proofs.Common.{take, refl, sym, ap, subst, ◌∙◌, arith}
 use Rattle.std.specs.Fn.{FnOnceReturnsAtMut}
 use denote.MutBor.{at_last}
 use Rattle.net_ring.specs.Ring.{IsWellFormed, DequeuesFrom, queue, contiguous_queued}
-use Rattle.net_ring.specs.Place.{ring_at}
+use Rattle.net_ring.specs.RingHead.{ring_at}
 use Rattle.net_ring.proofs.Rotations.{read_at_le}
 use Rattle.net_ring.proofs.RingFacts.{well, found, off_wf, lent_head, left_off_from}
 use Rattle.net_ring.specs.RingHistory.{Makes}

@@ -1,6 +1,6 @@
 use Rattle.std.proofs.Common.{List, ◌≡◌, ◌∙◌, refl, sym, subst, ap, length, min, arith}
 use Rattle.net_ring.specs.Ring.{IsWellFormed, index_after, capacity, rewind_if_empty, contiguous_window, write_at, with_enqueued, with_elements}
-use Rattle.net_ring.specs.Place.{ring_at, rewound}
+use Rattle.net_ring.specs.RingHead.{ring_at, rewound}
 use Rattle.net_ring.proofs.RingFacts.{well, found_next, rewind_wf, rewound_ring, left_in, shown_next, enqueued_law, contiguous_rewound_some, rewound_is}
 use Rattle.net_ring.proofs.Rotations.{length-overwrite}
 use Rattle.net_ring.specs.RingHistory.{Makes}
@@ -15,9 +15,9 @@ returns g c =
     let moved = rewound_ring xs c.self.inside.place in
     let is = moved ∙ ap rewind_if_empty c.self.view_is in
     let wf = subst IsWellFormed (sym moved) (rewind_wf (ring_at xs c.self.inside.place) c.self.invariant) in
-    let span = c.put_contiguous-span.ensures in
-    let p = c.put_contiguous-span.result.from in
-    let k = c.put_contiguous-span.result.count in
+    let span = c.enqueue_many-span.ensures in
+    let p = c.enqueue_many-span.result.from in
+    let k = c.enqueue_many-span.result.count in
     let size = c.count.ensures ∙ ap capacity is in
     let counts = ap (λ o. o.count) c.self.view_is in
     let at : p ≡ write_at old = found_next _ _ is wf c.count.result p size

@@ -2,7 +2,7 @@ use Rattle.std.proofs.Common.{take, refl, sym, ap, subst, ◌∙◌, arith}
 use Rattle.std.specs.Fn.{FnOnceReturnsAtMut}
 use denote.MutBor.{at_last}
 use Rattle.net_ring.specs.Ring.{IsWellFormed, EnqueuesFrom, rewind_if_empty, capacity, spare, contiguous_window}
-use Rattle.net_ring.specs.Place.{ring_at}
+use Rattle.net_ring.specs.RingHead.{ring_at}
 use Rattle.net_ring.proofs.RingFacts.{found_next, in_wf, lent_next, left_in_from}
 use Rattle.net_ring.specs.RingHistory.{Makes}
 use Rattle.net_ring.proofs.ring_buffer.RingOver.enqueue_many_with.Goals as goal

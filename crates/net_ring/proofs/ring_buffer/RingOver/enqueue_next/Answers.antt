@@ -1,6 +1,6 @@
 use Rattle.std.proofs.Common.{List, ◌∷◌, [], ◌∙◌, refl, ap, slice_index_or, arith}
 use Rattle.net_ring.specs.Ring.{capacity, write_at}
-use Rattle.net_ring.specs.Place.{ring_at}
+use Rattle.net_ring.specs.RingHead.{ring_at}
 use Rattle.net_ring.proofs.RingFacts.{well, found_next, left_in, spare_head, enqueued_one}
 use Rattle.net_ring.proofs.Rotations.{length-overwrite}
 use Rattle.net_ring.specs.RingHistory.{Makes}

@@ -10,15 +10,15 @@ unfolding Makes
 returns g c =
     let old = c.args.self.now in
     let is = c.self.view_is in
-    let span = c.queued-span.ensures in
+    let span = c.allocated-span.ensures in
     let counts = ap (λ o. o.count) is in
-    let at : c.queued-span.result.from ≡ queue_index old c.args.offset = found_queued _ _ is c.self.invariant c.capacity.result c.args.offset _ (c.capacity.ensures.capacity ∙ ap capacity is) span.from in
-    let count : c.queued-span.result.contiguous ≡ contiguous_allocated old c.args.offset c.args.size =
+    let at : c.allocated-span.result.from ≡ queue_index old c.args.offset = found_queued _ _ is c.self.invariant c.capacity.result c.args.offset _ (c.capacity.ensures.capacity ∙ ap capacity is) span.from in
+    let count : c.allocated-span.result.contiguous ≡ contiguous_allocated old c.args.offset c.args.size =
     omega (arith, span.count, span.contiguous, at, counts, c.capacity.ensures.capacity, ap capacity is) in
     let lent = shown_in_queue _ _ is c.self.invariant c.args.offset c.args.size _ _ at (omega (arith, count)) _ c.part_mut.ensures.value in
     let wf = well _ _ is c.self.invariant in
     let head_is = first_in_queue old wf c.args.offset c.args.size _ lent.0 lent.1 in (
-      (refl, λ w. left_at _ _ is c.self.invariant _ _ at _ w (g.met.S.Storage.part_written c.self.inside.storage c.queued-span.result.from w)),
+      (refl, λ w. left_at _ _ is c.self.invariant _ _ at _ w (g.met.S.Storage.part_written c.self.inside.storage c.allocated-span.result.from w)),
       record {
         writes_back = tt;
         count = lent.0;

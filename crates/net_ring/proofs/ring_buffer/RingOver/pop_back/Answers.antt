@@ -1,6 +1,6 @@
 use Rattle.std.proofs.Common.{rules, ◌≡◌, ◌-◌, ◌++◌, ◌∷◌, [], length, slice_get, Some, sym, ap, ◌∙◌}
 use Rattle.net_ring.specs.Ring.{queue, spare}
-use Rattle.net_ring.specs.Place.{ring_at}
+use Rattle.net_ring.specs.RingHead.{ring_at}
 use Rattle.net_ring.proofs.RingFacts.{well}
 use Rattle.net_ring.proofs.LastElement.{off_back}
 use Rattle.net_ring.specs.RingHistory.{Makes}

@@ -1,10 +1,10 @@
 use Rattle.std.proofs.Common.{◌≡◌, ◌∙◌, ap, ◌-◌, take, drop, ℕ, List, length, min, length-take, arith}
 use Rattle.net_ring.specs.Ring.{RingState, capacity, window, spare_index, with_elements_wrapping}
-use Rattle.net_ring.specs.Place.{ring_at}
+use Rattle.net_ring.specs.RingHead.{ring_at}
 use Rattle.net_ring.specs.Overwrite.{overwrite}
 use Rattle.net_ring.proofs.Rotations.{length-overwrite}
 use Rattle.net_ring.proofs.RingFacts.{ahead_clause, once_wf}
-use Rattle.net_ring.proofs.PlaceFacts.{lent_whole}
+use Rattle.net_ring.proofs.HeadFacts.{lent_whole}
 use Rattle.net_ring.specs.RingHistory.{Makes}
 use Rattle.net_ring.proofs.ring_buffer.RingOver.write_unallocated.Goals as goal
 

@@ -1,24 +1,23 @@
-use Rattle.std.proofs.Common.{◌≡◌, ◌∙◌, ◌+◌, ◌-◌, ◌<◌, ◌≤◌, ℕ, List, length, max, ap, sym, refl, arith}
+use Rattle.std.proofs.Common.{◌≡◌, ◌∙◌, ◌+◌, ◌-◌, length, max, ap, sym, refl, arith}
 use Rattle.std.proofs.lemmas.Bool.{cases_lt}
-use Rattle.net_assembler.specs.declared.assembler.head.AssemblerHead.{AssemblerHead}
 use Rattle.net_assembler.specs.Positions.{front, runs, shift_down}
-use Rattle.net_assembler.specs.RunLists.{HasSoundRuns, used_runs, runs_of, set_of, set_of_runs, start_at}
+use Rattle.net_assembler.specs.RunLists.{used_runs, runs_of, set_of, set_of_runs}
 use Rattle.net_assembler.specs.Turns.{binary_digits}
 use Rattle.net_assembler.proofs.AssemblerLaws.{below_binary_digits}
 use Rattle.net_assembler.proofs.Positions.{either}
 use Rattle.net_assembler.proofs.RunLists.{with_range-none}
-use Rattle.net_assembler.proofs.ShiftedRuns.{down-less, down-none, fits-less}
-use Rattle.net_assembler.proofs.Heads.{few_held, next_alone, dropped, dropped_number, reached, length-used_runs, length-runs_of, pair_fits, pairs_apart, runs-set_of, start_of}
+use Rattle.net_assembler.proofs.ShiftedRuns.{down-less, down-none}
+use Rattle.net_assembler.proofs.Heads.{few_held, lowered, next_alone, dropped, dropped_number, reached, length-used_runs, length-runs_of, pair_fits, pairs_apart, runs-set_of, start_of}
 use Rattle.net_assembler.proofs.assembler.head.AssemblerHead.complete_front.Goals as goal
 
 pub returns-then-size-eq0-clause-size : goal.returns-then-size-eq0-clause-size
 returns-then-size-eq0-clause-size c =
-    c.remove_front.ensures.removed.length ∙ ap front (sym (with_range-none _ 0 c.args.size (omega arith)))
+    c.remove_front_counted.ensures.removed.length ∙ ap front (sym (with_range-none _ 0 c.args.size (omega arith)))
 
 pub returns-then-size-eq0-clause-rest : goal.returns-then-size-eq0-clause-rest
 returns-then-size-eq0-clause-rest c =
-    c.remove_front.ensures.removed.rest ∙ ap (shift_down (set_of c.args.self.now c.args.runs.now)) (sym c.remove_front.ensures.removed.length)
-    ∙ ap (λ s. shift_down s c.remove_front.result) (sym (with_range-none _ 0 c.args.size (omega arith)))
+    c.remove_front_counted.ensures.removed.rest ∙ ap (shift_down (set_of c.args.self.now c.args.runs.now)) (sym c.remove_front_counted.ensures.removed.length)
+    ∙ ap (λ s. shift_down s c.remove_front_counted.result) (sym (with_range-none _ 0 c.args.size (omega arith)))
 
 pub returns-then-self-eq0-clause-size : goal.returns-then-self-eq0-clause-size
 returns-then-self-eq0-clause-size c = (next_alone c.args.self.now c.args.runs.now c.requires c.args.size (λ l. absurd (omega arith))).0
@@ -29,16 +28,6 @@ returns-then-self-eq0-clause-rest c =
     let xs = c.args.runs.now in
     ap set_of_runs (sym (down-none c.args.size (runs_of h xs) (length-runs_of h xs c.requires ∙ omega arith)))
     ∙ (next_alone c.args.self.now c.args.runs.now c.requires c.args.size (λ l. absurd (omega arith))).1
-
--- what is held where only `first_start` changes
-lowered : (h : AssemblerHead) (xs : List (ℕ × ℕ)) → HasSoundRuns h xs → (m : ℕ) →
-    HasSoundRuns (record { used = h.used; first_start = h.first_start - m }) xs
-lowered h xs s m = record {
-  room = s.room;
-  runs = s.runs;
-  first = s.first;
-  fits = fits-less (h.first_start - m) h.first_start (used_runs h xs) (omega arith) s.fits;
-}
 
 pub returns-then-size-self-clause-sound : goal.returns-then-size-self-clause-sound
 returns-then-size-self-clause-sound c = lowered c.args.self.now c.args.runs.now c.requires c.args.size
@@ -67,12 +56,17 @@ drop_front-requires c =
     let xs = c.args.runs.now in
     let s = c.requires in
     let met = c.runs_starting_by-met.ensures in
+    let n = c.runs_starting_by-met.result in
     let pairs = length-used_runs h xs s in
-    let behind : (k : ℕ) → c.runs_starting_by-met.result ≤ k → k < h.used → c.max-end.result < start_at xs k =
-    λ k a b.
-    let apart = pairs_apart h xs s (c.runs_starting_by-met.result - 1) k (omega (arith, met.from)) b in
-    omega (arith, c.max-end.ensures, apart, met.behind k a (omega arith), start_of h xs s k b) in
-    record { sound = s; some = omega (arith, met.from); count = omega (arith, met.within); behind = behind }
+    record {
+      room = s.room;
+      runs = s.runs;
+      fits = s.fits;
+      count = omega (arith, met.within);
+      behind = (λ l.
+          let apart = pairs_apart h xs s (n - 1) n (omega (arith, met.from)) l in
+          omega (arith, c.max-end.ensures, apart, met.behind n (omega arith) (omega arith), start_of h xs s n l));
+    }
 
 pub returns-clause-size : goal.returns-clause-size
 returns-clause-size c =
@@ -135,9 +129,9 @@ returns-then-size-self-clause-fewer c =
 
 pub returns-then-size-eq0-clause-fewer : goal.returns-then-size-eq0-clause-fewer
 returns-then-size-eq0-clause-fewer c =
-    let met = c.remove_front.ensures in
-    either (cases_lt 0 c.remove_front.result) (λ some. omega (arith, met.fewer some))
-    (λ none. let same = met.unchanged (omega (arith, none)) in let all : runs (set_of c.remove_front.new.self c.remove_front.new.runs) ≡ runs (set_of c.args.self.now c.args.runs.now) =
+    let met = c.remove_front_counted.ensures in
+    either (cases_lt 0 c.remove_front_counted.result) (λ some. omega (arith, met.fewer some))
+    (λ none. let same = met.unchanged (omega (arith, none)) in let all : runs (set_of c.remove_front_counted.new.self c.remove_front_counted.new.runs) ≡ runs (set_of c.args.self.now c.args.runs.now) =
     λ i. runs (set_of (same.0 i) (same.1 i)) in omega arith)
 
 pub returns-clause-fewer : goal.returns-clause-fewer

@@ -4,20 +4,20 @@ use Rattle.net_assembler.specs.RunLists.{AreRuns, FitsFrom, StartsAtZero, used_r
 use Rattle.net_assembler.proofs.Runs.{rising-runs_shifted_down}
 use Rattle.net_assembler.proofs.RunLists.{rising_behind}
 use Rattle.net_assembler.proofs.ShiftedRuns.{first-down, fits-down, fits-drop, start-drop, up-down}
-use Rattle.net_assembler.proofs.Heads.{start_of}
+use Rattle.std.proofs.lemmas.List.{get_or-take}
 use Rattle.net_assembler.proofs.assembler.head.AssemblerHead.drop_front.Goals as goal
 
 pub returns-clause-sound : goal.returns-clause-sound
 returns-clause-sound c =
     let h = c.args.self.now in
     let xs = c.args.runs.now in
-    let s = c.requires.sound in
+    let s = c.requires in
     let m = c.args.count in
     let f = start_at xs m in
     let behind = drop m (used_runs h xs) in
     let rises = rising_behind xs h.used s.runs s.room m (omega arith) in
     let is = c.shift_runs_down.ensures.runs in
-    let first = start-drop (used_runs h xs) m ∙ start_of h xs s m (omega arith) in
+    let first = start-drop (used_runs h xs) m ∙ ap (λ (r : ℕ × ℕ). r.0) (get_or-take h.used xs m (0, 0) (omega arith)) in
     record {
       room = omega (arith, s.room, c.shift_runs_down.auto.runs);
       runs = subst AreRuns (sym is) (rising-runs_shifted_down f 0 f behind (omega arith) rises);
@@ -31,10 +31,10 @@ pub returns-clause-runs : goal.returns-clause-runs
 returns-clause-runs c =
     let h = c.args.self.now in
     let xs = c.args.runs.now in
-    let s = c.requires.sound in
+    let s = c.requires in
     let m = c.args.count in
     let f = start_at xs m in
-    let l = c.requires.behind m (omega arith) (omega arith) in
+    let l = s.behind (omega arith) in
     (λ i. runs_shifted_up (c.start_of.ensures i - c.args.end) (take (h.used - m) c.shift_runs_down.new.runs))
     ∙ ap (runs_shifted_up (f - c.args.end)) c.shift_runs_down.ensures.runs
     ∙ up-down f c.args.end (drop m (used_runs h xs)) (omega arith) (rising_behind xs h.used s.runs s.room m (omega arith))

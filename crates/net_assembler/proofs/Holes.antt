@@ -1,0 +1,54 @@
+-- The holes before rising runs.
+use Rattle.std.proofs.Common.{◌≡◌, ℕ, zero, suc, ◌+◌, ◌<◌, ◌≤◌, ◌==◌, List, [], ◌∷◌, length, drop, Some, None, refl, sym, ap, ◌∙◌, arith}
+use Rattle.std.specs.List.{slice_get}
+use Rattle.std.proofs.lemmas.Bool.{cond_both, cond-true, cond-false, eq-eqb, ne_eqb}
+use Rattle.std.proofs.lemmas.List.{length-drop}
+use Rattle.std.proofs.lemmas.Option.{slice_get_past}
+use Rattle.net_assembler.specs.Positions.{holes_before}
+use Rattle.net_assembler.specs.RunLists.{start_at, end_at, IsRising, AreRuns}
+
+pub few_holes : (from : ℕ) (rs : List (ℕ × ℕ)) → length (holes_before from rs) ≤ length rs
+few_holes from [] = omega arith
+few_holes from (r ∷ rs) =
+    let rest = few_holes r.1 rs in
+    cond_both (from == r.0) _ _ (λ hs. length hs ≤ length (r ∷ rs)) (λ _. omega arith) (λ _. omega arith)
+
+pub first_hole : (from : ℕ) (r : ℕ × ℕ) (rs : List (ℕ × ℕ)) → from < r.0 →
+    holes_before from (r ∷ rs) ≡ (from, r.0) ∷ holes_before r.1 rs
+first_hole from r rs l = cond-false _ _ _ (ne_eqb from r.0 (λ e. absurd (omega arith)))
+
+-- the hole before the run k + 1
+pub hole_between : (low : ℕ) (rs : List (ℕ × ℕ)) (k : ℕ) → IsRising low rs → suc k < length rs →
+    slice_get (holes_before (end_at rs 0) (drop 1 rs)) k ≡ Some (end_at rs k, start_at rs (suc k))
+hole_between low [] k h l = absurd (omega arith)
+hole_between low (r ∷ []) k h l = absurd (omega arith)
+hole_between low (r ∷ t ∷ rs) zero h l = ap (λ hs. slice_get hs 0) (first_hole r.1 t rs (omega (arith, h.2.0)))
+hole_between low (r ∷ t ∷ rs) (suc k) h l =
+    ap (λ hs. slice_get hs (suc k)) (first_hole r.1 t rs (omega (arith, h.2.0)))
+    ∙ hole_between (r.1 + 1) (t ∷ rs) k h.2 (omega arith)
+
+pub no_hole : (rs : List (ℕ × ℕ)) (k : ℕ) → length rs ≤ k + 1 →
+    slice_get (holes_before (end_at rs 0) (drop 1 rs)) k ≡ None
+no_hole rs k l =
+    slice_get_past (holes_before (end_at rs 0) (drop 1 rs)) k
+    (omega (arith, few_holes (end_at rs 0) (drop 1 rs), length-drop 1 rs))
+
+-- where the first run is at 0, or there is none
+pub none_first : (rs : List (ℕ × ℕ)) → (0 < length rs → start_at rs 0 ≡ 0) →
+    holes_before 0 rs ≡ holes_before (end_at rs 0) (drop 1 rs)
+none_first [] first = refl
+none_first (r ∷ rs) first = cond-true _ _ _ (eq-eqb 0 r.0 (sym (first (omega arith))))
+
+-- where a hole is before the first run
+pub hole_first : (rs : List (ℕ × ℕ)) → 0 < length rs → 0 < start_at rs 0 → slice_get (holes_before 0 rs) 0 ≡ Some (0, start_at rs 0)
+hole_first [] some first = absurd (omega arith)
+hole_first (r ∷ rs) some first = ap (λ hs. slice_get hs 0) (first_hole 0 r rs first)
+
+pub later_hole : (rs : List (ℕ × ℕ)) (k : ℕ) → (0 < length rs → 0 < start_at rs 0) →
+    slice_get (holes_before 0 rs) (suc k) ≡ slice_get (holes_before (end_at rs 0) (drop 1 rs)) k
+later_hole [] k first = refl
+later_hole (r ∷ rs) k first = ap (λ hs. slice_get hs (suc k)) (first_hole 0 r rs (first (omega arith)))
+
+pub rises_after : (rs : List (ℕ × ℕ)) → AreRuns rs → (0 < length rs → 0 < start_at rs 0) → IsRising 1 rs
+rises_after [] h first = tt
+rises_after (r ∷ rs) h first = (omega (arith, first (omega arith)), h.1, h.2)

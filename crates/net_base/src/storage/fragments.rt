@@ -1,0 +1,154 @@
+//! A packet that arrives in fragments, in parts: a head, and bytes and runs that are kept elsewhere.
+ghost use Rattle.std.specs.Prelude.{◌≡◌, ◌↔◌, ◌+◌, ◌<◌, ◌≤◌, ◌⊎◌, ◌<ℤ◌, ℕ, List, Err, length};
+ghost use Rattle.std.specs.Prelude.{IsTrue, IsSome, IsErr, IfSome, OnOk, OnErr};
+ghost use Rattle.std.specs.declared.option.Option.TheVariants.{Some, None};
+ghost use Rattle.net_assembler.specs.Assembler.{MakesTooManyRuns};
+ghost use Rattle.net_assembler.specs.Positions.{nothing};
+ghost use Rattle.net_assembler.specs.RunLists.{set_of, HasSoundRuns};
+ghost use Rattle.net_base.specs.Fragments.{with_fragment, IsComplete};
+ghost use Rattle.net_base.specs.FragmentParts.{total_of, fragments_of, HasSoundParts};
+
+use net_assembler::{AssemblerHead, Run, assembler};
+
+/// Why a fragment or a size is refused.
+#[derive(Debug, Clone, Copy, PartialEq, Eq, Drop)]
+pub enum FragmentError {
+    /// It reaches past the end of the buffer.
+    TooLong,
+    /// It would leave more maximal runs of bytes, with holes between them, than there is room for.
+    TooManyHoles,
+}
+
+/// What a buffer of fragments has besides its bytes and runs.
+///
+/// It serves callers who keep these elsewhere, as a program in C. Each call takes them as slices:
+/// the longest packet has as many bytes as the one, and at most as many maximal runs of bytes are
+/// kept as the other has elements. A head of zeros, but for `expires_at`, is that of an empty
+/// buffer. smoltcp has no such type: its buffer is one value.
+#[repr(C)]
+#[derive(Debug, Clone, Copy)]
+pub struct FragmentsHead {
+    /// The positions that arrived: the head of an assembler.
+    pub present: AssemblerHead,
+    /// Not 0 once the packet's size is known.
+    pub has_total: u64,
+    /// The packet's size in bytes, once it is known.
+    pub total: usize,
+    /// The last moment at which the packet is waited for, in microseconds.
+    pub expires_at: i64,
+}
+
+impl FragmentsHead {
+    /// Returns the head of an empty buffer, of which a packet is waited for up to `expires_at`.
+    pub fn new(expires_at: i64) -> Self
+        ensures sound { (bytes : List ℕ) (runs : List (ℕ × ℕ)) → HasSoundParts result bytes runs }
+        ensures nothing { (runs : List (ℕ × ℕ)) → set_of result.present runs ≡ nothing }
+        ensures total { total_of result ≡ None }
+        ensures expires { result.expires_at ≡ expires_at }
+    {
+        FragmentsHead {
+            present: AssemblerHead::new(),
+            has_total: 0,
+            total: 0,
+            expires_at,
+        }
+    }
+
+    /// Starts over for another packet, which is waited for up to `expires_at`.
+    pub fn reset(&mut self, expires_at: i64)
+        ensures sound { (bytes : List ℕ) (runs : List (ℕ × ℕ)) →
+            HasSoundParts self.new bytes runs }
+        ensures nothing { (runs : List (ℕ × ℕ)) → set_of self.new.present runs ≡ nothing }
+        ensures total { total_of self.new ≡ None }
+        ensures expires { self.new.expires_at ≡ expires_at }
+    {
+        *self = FragmentsHead::new(expires_at);
+    }
+
+    /// Adds a fragment, whose first byte is that of the packet at `offset`.
+    ///
+    /// It is refused, and nothing changes, exactly if it reaches past the buffer's end, which is
+    /// `TooLong`, or would leave more maximal runs than there is room for.
+    ///
+    /// # Requires
+    ///
+    /// Head, bytes and runs are those of a buffer.
+    pub fn add(
+        &mut self,
+        bytes: &mut [u8],
+        runs: &mut [Run],
+        offset: usize,
+        data: &[u8],
+    ) -> Result<(), FragmentError>
+        requires sound { HasSoundParts self.old bytes.old runs.old }
+        ensures sound { HasSoundParts self.new bytes.new runs.new }
+        ensures ok { OnOk result (fragments_of self.new bytes.new runs.new
+            ≡ with_fragment (fragments_of self.old bytes.old runs.old) offset «data».now) }
+        ensures unchanged { OnErr result
+            ((self.new ≡ self.old) × (bytes.new ≡ bytes.old) × (runs.new ≡ runs.old)) }
+        ensures too_long { (result ≡ Err FragmentError.TooLong)
+            ↔ (length bytes.old < offset + length «data».now) }
+        ensures refused { IsErr result ↔ ((length bytes.old < offset + length «data».now)
+            ⊎ MakesTooManyRuns (length runs.old) (set_of self.old.present runs.old)
+            offset (length «data».now)) }
+    {
+        let limit = bytes.len();
+        if offset > limit || data.len() > limit - offset {
+            return Err(FragmentError::TooLong);
+        }
+        let Ok(()) = self.present.add(runs, offset, data.len()) else {
+            return Err(FragmentError::TooManyHoles);
+        };
+        bytes[offset..offset + data.len()].copy_from_slice(data);
+        Ok(())
+    }
+
+    /// Sets the packet's size to `size` bytes, of a buffer of `capacity` bytes. A size that was set
+    /// before is replaced; smoltcp refuses a second size that differs.
+    ///
+    /// It is refused as `TooLong`, and nothing changes, exactly if the buffer has fewer bytes.
+    pub fn set_total_size(&mut self, capacity: usize, size: usize) -> Result<(), FragmentError>
+        ensures ok { OnOk result ((total_of self.new ≡ Some size)
+            × (self.new.present ≡ self.old.present) × (self.new.expires_at ≡ self.old.expires_at)) }
+        ensures sound { OnOk result ((bytes : List ℕ) (runs : List (ℕ × ℕ)) →
+            length bytes ≡ capacity → HasSoundParts self.old bytes runs →
+            HasSoundParts self.new bytes runs) }
+        ensures unchanged { OnErr result (self.new ≡ self.old) }
+        ensures too_long { (result ≡ Err FragmentError.TooLong) ↔ (capacity < size) }
+        ensures refused { IsErr result ↔ (capacity < size) }
+    {
+        if size > capacity {
+            return Err(FragmentError::TooLong);
+        }
+        self.has_total = 1;
+        self.total = size;
+        Ok(())
+    }
+
+    /// Returns the packet's size, if it is known and all its bytes have arrived: they are the first
+    /// ones of the buffer.
+    ///
+    /// # Requires
+    ///
+    /// The runs are sound.
+    pub fn complete(&self, runs: &[Run]) -> Option<usize>
+        requires sound { HasSoundRuns self.now.present runs.now }
+        ensures complete { (bytes : List ℕ) → (IsSome result
+            ↔ ((size : ℕ) × IsComplete (fragments_of self.now bytes runs.now) size)) }
+        ensures size { IfSome result (λ size. (bytes : List ℕ) →
+            IsComplete (fragments_of self.now bytes runs.now) size) }
+    {
+        assembler::laws::front();
+        if self.has_total == 0 || self.present.peek_front(runs) < self.total {
+            return None;
+        }
+        Some(self.total)
+    }
+
+    /// Returns whether `now` is after the last moment at which the packet is waited for.
+    pub fn is_expired(&self, now: i64) -> bool
+        ensures { IsTrue result ↔ (self.now.expires_at <ℤ now) }
+    {
+        self.expires_at < now
+    }
+}
