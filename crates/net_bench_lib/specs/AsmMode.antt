@@ -1,13 +1,12 @@
 -- Mode asm: a set of positions in at most so many maximal runs.
 --     asm_line words      what a line says, if its words are a line of the mode
---     makes_too_many_runs most_runs set offset size      whether the set with this range has too many
 --     asm_does most_runs set line      what a line does to the set, and its reply
 --     asm_rules most_runs      the rules of the mode
 use Rattle.std.specs.Prelude.{ℕ, ◌+◌, ◌^◌, ◌&&◌, nat_lt, List, [], ◌∷◌, ◌++◌, codes, bytes_eq}
 use Rattle.std.specs.Prelude.{decimal, if◌then◌else◌, Bool, Option, Some, None, Result, Ok, Err}
 use Rattle.std.specs.Prelude.{option_map}
-use Rattle.net_assembler.specs.Positions.{Positions, runs, with_range, front, shift_down}
-use Rattle.net_assembler.specs.Assembler.{display_text}
+use Rattle.net_assembler.specs.Positions.{Positions, with_range, front, shift_down}
+use Rattle.net_assembler.specs.Assembler.{display_text, makes_too_many_runs}
 use Rattle.net_io.specs.Numeral.{number_of}
 use Rattle.net_bench_lib.specs.Transcript.{Rules}
 use Rattle.net_bench_lib.specs.declared.asm.AsmLine.{AsmLine}
@@ -35,11 +34,6 @@ asm_line (verb ∷ offset ∷ size ∷ []) =
     (range_of (number_of offset) (number_of size))
     else None
 asm_line _ = None
-
--- whether the range isn't empty, and the set with it has more than the most maximal runs
-abbrev pub makes_too_many_runs : ℕ → Positions → ℕ → ℕ → Bool
-makes_too_many_runs most_runs set offset size =
-    nat_lt 0 size && nat_lt most_runs (runs (with_range set offset size))
 
 -- the reply of a refusal
 abbrev pub refused_text : List ℕ

@@ -1,12 +1,9 @@
 //! What the definitions say of some inputs, so that a wrong definition is noticed.
 //!
 //! Each function does nothing: its contract is the law.
-ghost use Rattle.std.specs.Prelude.{◌≡◌, ◌↔◌, ℕ, IsTrue, [], ◌∷◌, codes, Some, None, Ok};
-ghost use Rattle.net_assembler.specs.Positions.{Positions};
-ghost use Rattle.net_assembler.specs.Assembler.{MakesTooManyRuns};
+ghost use Rattle.std.specs.Prelude.{◌≡◌, [], ◌∷◌, codes, Some, None, Ok};
 ghost use Rattle.net_receiver.specs.Rules.{Segment, SegmentReply, ShowReply};
 ghost use Rattle.net_bench_lib.specs.Text.{words_of};
-ghost use Rattle.net_bench_lib.specs.AsmMode.{makes_too_many_runs};
 ghost use Rattle.net_bench_lib.specs.StreamMode.{ToReceiver, stream_command, reply_text, comparison};
 ghost use Rattle.net_bench_lib.specs.Modes.{Ring, Asm, Stream, mode_of, output, fault};
 ghost use Rattle.net_bench_lib.specs.declared.error.BenchError.{BenchError};
@@ -18,12 +15,8 @@ pub fn ring_lines()
     ensures fault { fault (Ring 4) (codes "w 61\nx 1\nw 62\n") ≡ Some (BenchError.BadCommand 2) }
 {}
 
-/// States which fault an assembler's lines have, and that mode `asm` refuses a range exactly if an
-/// `Assembler` does.
+/// States which fault an assembler's lines have.
 pub fn asm_lines()
-    ensures refused { (most offset size : ℕ) (set : Positions)
-        → IsTrue (makes_too_many_runs most set offset size)
-        ↔ MakesTooManyRuns most set offset size }
     ensures range { fault (Asm 4) (codes "p\na 18446744073709551615 1\n")
         ≡ Some (BenchError.RangeTooLong 2) }
     ensures command { fault (Asm 4) (codes "a 18446744073709551615 x\n")

@@ -2,9 +2,9 @@
 use Rattle.std.proofs.Common.{◌++◌, length-take, length-drop, ◌≡◌, ℕ, ◌+◌, ◌-◌, ◌<◌, ◌≤◌, ◌^◌, min, List, length, take, drop, ◌⊎◌, Ok, Err, refl, sym, ap, subst, ◌∙◌, arith, take_all}
 use Rattle.std.proofs.lemmas.List.{length-take-le}
 use Rattle.net_ring.specs.Ring.{RingState, queue, spare, with_enqueued, with_dequeued, WritesSpare, spare_index, with_elements_wrapping}
-use Rattle.net_ring.specs.declared.place.Place.{Place}
+use Rattle.net_ring.specs.declared.head.RingHead.{RingHead}
 use Rattle.net_ring.specs.Overwrite.{overwrite}
-use Rattle.net_ring.specs.Place.{IsSound as IsSoundPlace, ring_at, enqueued_place, dequeued_place}
+use Rattle.net_ring.specs.RingHead.{IsSound as IsSoundPlace, ring_at, enqueued_place, dequeued_place}
 use Rattle.net_ring.proofs.Rotations.{length-queue, length-spare, length-overwrite}
 use Rattle.net_ring.proofs.RingFacts.{with_enqueued_law, with_dequeued_law, overwrite_whole}
 use Rattle.net_assembler.specs.Positions.{with_range, runs, maximal_runs, runs_shifted_up}
@@ -135,10 +135,10 @@ module _ {h : ReceiverHead} {xs : List ℕ} {rs : List (ℕ × ℕ)} (s : HasSou
         pub joined_fits : m ≤ length xs - h.place.length
         joined_fits = omega (arith, m_fits whole cut word removed, spare_size)
 
-        abbrev left : Place → ReceiverHead
+        abbrev left : RingHead → ReceiverHead
         left to = record { first = h.first; count_read = h.count_read; place = to; held = held }
 
-        abbrev IsKept : List ℕ → Place → Type 0
+        abbrev IsKept : List ℕ → RingHead → Type 0
         IsKept ys to =
             (receiver_of (left to) ys rs' ≡ state_after receiver_ops v (verdict receiver_ops (length rs) v (piece pos bytes)))
             × (Ok (kept, m) ≡ numbers receiver_ops v (verdict receiver_ops (length rs) v (piece pos bytes))) × HasSoundParts (left to) ys rs'
@@ -147,7 +147,7 @@ module _ {h : ReceiverHead} {xs : List ℕ} {rs : List (ℕ × ℕ)} (s : HasSou
             (ahead ≡ 0) ⊎ (runs (with_range (set_of h.held rs) ahead kept) ≤ length rs) → (ys arg : List ℕ) (wrote : ℕ) →
             WritesSpare g ahead (take wrote arg) (ring_at ys h.place) → length ys ≡ length xs →
             arg ≡ take kept (drop late bytes) → wrote ≡ min (length arg) (length xs - h.place.length - ahead) →
-            (to : Place) → to ≡ enqueued_place m h.place → IsSoundPlace (length ys) to → IsKept ys to
+            (to : RingHead) → to ≡ enqueued_place m h.place → IsSoundPlace (length ys) to → IsKept ys to
         kept_is sound bound most which ys arg wrote written size arg_is wrote_is to to_is place =
             let g1 : RingState ℕ = ring_at ys h.place in
             let spare_is = written.1 ∙ ap (overwrite (spare g) ahead) (wrote_all whole cut word arg wrote _ arg_is wrote_is (sym spare_size)) in

@@ -24,3 +24,8 @@ pub mod Contiguous
 pub mod Heads
 pub mod Resumed
 pub mod WorkedExample
+pub mod Senders
+pub mod Represents
+pub mod Scoreboards
+pub mod NewestRuns
+pub mod NewBytes

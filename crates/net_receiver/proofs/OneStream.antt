@@ -6,9 +6,9 @@ use Rattle.std.proofs.lemmas.List.Elements.{All-nil, All-cons, All-head, All-tai
 use Rattle.net_receiver.specs.KeptList.{Piece, piece, piece_within, byte_at, next, bytes, held_positions}
 use Rattle.net_receiver.specs.Rules.{CommandValue, ReplyValue, Segment, Read, Show, state_after}
 use Rattle.net_receiver.specs.Schedule.{Setting, KeptState, fresh_kept, kept_after_command, kept_after_commands, bytes_read, PieceAgrees, Agrees, kept_ops}
-use Rattle.net_receiver.specs.ReceiverState.{ReceiverState, receiver_ops, fresh_receiver, next_position, receiver_after_command, receiver_after_commands, setting}
+use Rattle.net_receiver.specs.ReceiverState.{ReceiverState, receiver_ops, fresh_receiver, next_position, limit_of, receiver_after_command, receiver_after_commands, setting}
 use Rattle.net_receiver.specs.Execution.{Executes}
-use Rattle.net_receiver.specs.OneStream.{IsTruthful, Receives, QueueIsOf, FirstStays, NextGrows, SegmentReadsNothing}
+use Rattle.net_receiver.specs.OneStream.{IsTruthful, Receives, QueueIsOf, FirstStays, NextGrows, LimitGrows, SegmentReadsNothing}
 use Rattle.net_receiver.proofs.Covering.{clip_at, next_is}
 use Rattle.net_receiver.proofs.Step.{any_verdict, segment_cases, same_next, queue_length}
 use Rattle.net_receiver.proofs.Run.{schedule, setting_kept, settings_kept}
@@ -128,6 +128,12 @@ next_position_grows most v (Segment pos xs) =
     segment_cases receiver_ops (λ u. next_position v ≤ next_position u) most v pos xs (omega arith) (λ part. omega (arith, length-append {A = ℕ}))
 next_position_grows most v (Read count) = omega (arith, length-drop count v.queue)
 next_position_grows most v Show = omega arith
+
+pub limit_grows : LimitGrows
+limit_grows most v (Segment pos xs) =
+    segment_cases receiver_ops (λ u. limit_of v ≤ limit_of u) most v pos xs (omega arith) (λ part. omega arith)
+limit_grows most v (Read count) = omega arith
+limit_grows most v Show = omega arith
 
 pub segment_reads_nothing : SegmentReadsNothing
 segment_reads_nothing most v pos xs = segment_cases receiver_ops (λ u. u.read ≡ v.read) most v pos xs refl (λ part. refl)

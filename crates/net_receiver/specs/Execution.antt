@@ -6,6 +6,7 @@
 --     AreAlike f s g t      what `same_state` compares of two states
 --     Converges v u same, TellsStates v u same      when `same_state` finds two receivers the same
 --     FreshRefines, EverySchedule, TellsNext, TellsHeld, TellsFresh      laws on what a receiver represents
+--     SoundRepresents, PartsRepresent      every receiver represents some state
 use Rattle.std.specs.Prelude.{◌≡◌, ◌↔◌, ℕ, ◌-◌, ◌≤◌, Bool, true, List, ◌++◌, length, take}
 use Rattle.std.specs.Prelude.{drop, All, slice_range}
 use Rattle.net_assembler.specs.Positions.{maximal_runs}
@@ -15,7 +16,9 @@ use Rattle.net_receiver.specs.Schedule.{KeptState, fresh_kept, kept_after_comman
 use Rattle.net_receiver.specs.Schedule.{queue_bytes}
 use Rattle.net_receiver.specs.Schedule.{Agrees, Follows, EndsBy, IsAccepted}
 use Rattle.net_receiver.specs.ReceiverState.{ReceiverState, domain, next_position, fresh_receiver, setting}
-use Rattle.net_receiver.specs.ReceiverState.{receiver_after_commands, receiver_replies, Refines}
+use Rattle.net_receiver.specs.ReceiverState.{receiver_after_commands, receiver_replies, Refines, IsSound}
+use Rattle.net_receiver.specs.declared.receiver.head.ReceiverHead.{ReceiverHead}
+use Rattle.net_receiver.specs.Head.{receiver_of, HasSoundParts}
 
 -- what was pushed after old
 abbrev pub items_after : {A : Type 0} → List A → List A → List A
@@ -93,3 +96,16 @@ TellsHeld = (v : ReceiverState) (s : KeptState) → Refines v s → domain v.hel
 -- what a fresh receiver stores represents the fresh state
 abbrev pub TellsFresh : Type 0
 TellsFresh = (first : ℕ) (v : ReceiverState) → v ≡ fresh_receiver first v.capacity → Refines v fresh_kept
+
+-- some kept list and count of bytes read are represented by what is stored
+abbrev pub RepresentsSome : ReceiverState → Type 0
+RepresentsSome v = (s : KeptState) × Refines v s
+
+-- every receiver represents some, whether it was made by commands or from parts
+abbrev pub SoundRepresents : Type 0
+SoundRepresents = (most_runs : ℕ) (v : ReceiverState) → IsSound most_runs v → RepresentsSome v
+
+-- and so do every head, storage and runs that are sound
+abbrev pub PartsRepresent : Type 0
+PartsRepresent = (h : ReceiverHead) (xs : List ℕ) (rs : List (ℕ × ℕ)) →
+    HasSoundParts h xs rs → RepresentsSome (receiver_of h xs rs)

@@ -132,6 +132,11 @@ abbrev pub NextGrows : Type 0
 NextGrows = (most_runs : ℕ) (v : ReceiverState) (c : CommandValue) →
     next_position v ≤ next_position (receiver_after_command most_runs v c)
 
+-- and neither does the end of the free window
+abbrev pub LimitGrows : Type 0
+LimitGrows = (most_runs : ℕ) (v : ReceiverState) (c : CommandValue) →
+    limit_of v ≤ limit_of (receiver_after_command most_runs v c)
+
 -- a segment reads nothing
 abbrev pub SegmentReadsNothing : Type 0
 SegmentReadsNothing = (most_runs : ℕ) (v : ReceiverState) (pos : ℕ) (xs : List ℕ) →

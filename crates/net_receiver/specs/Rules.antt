@@ -8,9 +8,10 @@
 --     after_all ops N s cs, replies ops N s cs      the same of a list of commands
 -- `Schedule.antt` fills them with kept lists, `ReceiverState.antt` with what a receiver stores.
 use Rattle.std.specs.Prelude.{ℕ, ◌+◌, ◌-◌, if◌then◌else◌, not, ◌&&◌, List, [], ◌∷◌, length, take}
-use Rattle.std.specs.Prelude.{nat_lt, nat_eq, slice_get, Option, is_some, Result, Ok, Err}
+use Rattle.std.specs.Prelude.{nat_eq, slice_get, Option, is_some, Result, Ok, Err}
 use Rattle.net_assembler.specs.declared.assembler.error.TooManyHolesError.{TooManyHolesError}
-use Rattle.net_assembler.specs.Positions.{Positions, with_range, runs, maximal_runs}
+use Rattle.net_assembler.specs.Assembler.{makes_too_many_runs}
+use Rattle.net_assembler.specs.Positions.{Positions, maximal_runs}
 use Rattle.net_receiver.specs.declared.receiver.kept.Kept.{Kept}
 use Rattle.net_receiver.specs.KeptList.{Piece, piece, piece_byte_at, piece_within}
 
@@ -37,7 +38,7 @@ abbrev pub verdict_of_piece : ℕ → ℕ → Positions → Piece → Verdict
 verdict_of_piece n most_runs held part =
     if nat_eq (length part.bytes) 0 then KeepsNone
     else if not (is_some (piece_byte_at part n))
-    && nat_lt most_runs (runs (with_range held part.start (length part.bytes))) then Refuses
+    && makes_too_many_runs most_runs held part.start (length part.bytes) then Refuses
     else Keeps part
 
 -- the first three of a list of runs, filled from the first on

@@ -1,10 +1,14 @@
 -- What happens to one segment, whose bytes in the free window are xs.
 --     KeepsOrRefuses v xs u r      xs is kept, or nothing changes
 --     JoinsQueue v xs u r      xs is kept and joins the queue
-use Rattle.std.specs.Prelude.{◌≡◌, ℕ, ◌+◌, ◌≤◌, List, ◌++◌, length, drop, Result, IsOk, IfOk, OnErr}
+--     new_count v p n      how many bytes of a segment of n bytes at p would be new
+use Rattle.std.specs.Prelude.{◌≡◌, ℕ, ◌+◌, ◌≤◌, ◌&&◌, not, List, ◌++◌, length, drop, Result, IsOk, IfOk}
+use Rattle.std.specs.Prelude.{OnErr, nat_le, nat_lt, count_by}
+use Rattle.std.specs.List.{range_with_len}
+use Rattle.net_assembler.specs.Positions.{contains}
 use Rattle.net_assembler.specs.declared.assembler.error.TooManyHolesError.{TooManyHolesError}
 use Rattle.net_receiver.specs.declared.receiver.kept.Kept.{Kept}
-use Rattle.net_receiver.specs.ReceiverState.{ReceiverState, next_position}
+use Rattle.net_receiver.specs.ReceiverState.{ReceiverState, domain, next_position, limit_of}
 
 -- any segment: a refused one changes nothing, of any other xs is kept; the first missing position
 -- moves up by as many positions as bytes join the queue, and nothing is read
@@ -23,3 +27,9 @@ pub record JoinsQueue (v : ReceiverState) (xs : List ℕ) (u : ReceiverState)
   pub accepted : IsOk r
   pub joins : IfOk r (λ k. k.kept ≤ k.queued)
   pub appends : u.queue ≡ v.queue ++ xs ++ drop (length v.queue + length xs) u.queue
+
+-- of the positions of a segment of n bytes at p, those in the free window whose bytes are not held
+abbrev pub new_count : ReceiverState → ℕ → ℕ → ℕ
+new_count v p n =
+    count_by (λ q. nat_le (next_position v) q && nat_lt q (limit_of v) && not (contains (domain v.held) q))
+    (range_with_len p n)

@@ -7,8 +7,14 @@
 #[cfg(test)]
 mod assertions;
 #[cfg(test)]
+mod newest;
+#[cfg(test)]
 mod parts;
 #[cfg(test)]
 mod receiver;
 #[cfg(test)]
 mod schedule;
+#[cfg(test)]
+mod scoreboard;
+#[cfg(test)]
+mod sender;

@@ -1,7 +1,8 @@
 -- The definitions that the contracts cite.
-pub use Rattle.net_stream_model.specs.SenderState
+pub use Rattle.net_receiver.specs.SenderState
+pub use Rattle.net_receiver.specs.SackBlocks
 pub use Rattle.net_stream_model.specs.Frames
-pub use Rattle.net_stream_model.specs.SackBlocks
+pub use Rattle.net_stream_model.specs.SackBytes
 pub use Rattle.net_stream_model.specs.Fates
 pub use Rattle.net_stream_model.specs.Counts
 pub use Rattle.net_stream_model.specs.PathState
@@ -24,5 +25,4 @@ pub use Rattle.net_stream_model.specs.Values
 pub mod Copying
 pub mod Each
 pub mod Known
-pub mod SenderHeads
 pub mod Turns

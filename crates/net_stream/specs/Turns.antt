@@ -45,7 +45,7 @@ counts_of c = record {
 -- a copy of this setup before its first turn
 pub record Begins {A : Type 0} (s : Setup) (rounds chunk : ℕ) (c : Copier A) : Type 0 where
   pub first_fits : StartsFits s
-  pub rounds_are : s.rounds ≡ rounds
+  pub rounds_are : s.max_stalled_rounds ≡ rounds
   pub chunk_is : s.chunk ≡ chunk
   pub state : (reads : List (List ℕ)) → begin s reads ≡ copy_state_of c reads [] [] Running
 

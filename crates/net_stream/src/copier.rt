@@ -4,7 +4,7 @@ ghost use Rattle.std.specs.Prelude.{◌≡◌, ℕ, ◌+◌, ◌&&◌, ◌||◌,
 ghost use Rattle.std.specs.Prelude.{List, [], length, OnOk, OnErr, IfErr, if◌then◌else◌};
 ghost use Rattle.net_ring.specs.Managed.{elements};
 ghost use Rattle.net_receiver.specs.ReceiverState.{next_position};
-ghost use Rattle.net_stream_model.specs.SenderState.{end_of};
+ghost use Rattle.net_receiver.specs.SenderState.{end_of};
 ghost use Rattle.net_stream_model.specs.declared.error.CopyError.TheVariants as errors;
 ghost use Rattle.net_stream_model.specs.CopyState.{Setup, setup_over, Running, ReadFailed, is_written, room_for};
 ghost use Rattle.net_stream_model.specs.CopyResult.{HasCopied};
@@ -127,7 +127,7 @@ impl<'a, 'f, A: Allocator + Copy> Copier<'a, 'f, A> {
     fn may_read(&self, room: usize) -> bool
         ensures { result ≡ (self.now.more && nat_lt 0 room && is_written self.now.link) }
     {
-        self.more && room > 0 && self.link.is_drained()
+        self.more && room > 0 && self.link.is_written()
     }
 
     /// Reads once, if everything read so far is written: no more than the sender has room for.
@@ -195,7 +195,7 @@ impl<'a, 'f, A: Allocator + Copy> Copier<'a, 'f, A> {
         ensures fits { (end_of self.now.link.sender < 2 ^ 64)
             × (next_position self.now.link.receiver < 2 ^ 64) }
     {
-        let written = self.link.is_drained();
+        let written = self.link.is_written();
         !self.more && written
     }
 

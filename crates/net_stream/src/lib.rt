@@ -13,7 +13,6 @@ mod link;
 mod path;
 mod reading;
 mod sack_blocks;
-mod sender;
 mod watch;
 
 pub use copy_stream::{
@@ -22,10 +21,11 @@ pub use copy_stream::{
 pub use fates::{Fates, LinkFates};
 pub use frame::{decode_frame, requeue_frame, send_frame};
 pub use link::StreamLink;
-pub use net_stream_model::laws::{distinct_frames, frames_decode, queue_from_greatest};
+pub use net_receiver::laws::queue_from_greatest;
+pub use net_receiver::{SackBlocks, Sender, SenderHead, SenderOver};
+pub use net_stream_model::laws::{distinct_frames, frames_decode};
 pub use net_stream_model::{Config, CopyError, Counts, Fate, FrameCounts, Rates, laws};
 pub use path::FaultyPath;
 pub use reading::StatedRead;
-pub use sack_blocks::SackBlocks;
-pub use sender::{Sender, SenderHead, SenderOver};
+pub use sack_blocks::decode_sack_blocks;
 pub use watch::Watch;

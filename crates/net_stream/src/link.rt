@@ -4,7 +4,7 @@ ghost use Rattle.std.specs.Prelude.{take, drop, slice_index, slice_range};
 ghost use Rattle.net_ring.specs.Managed.{elements};
 ghost use Rattle.net_receiver.specs.ReceiverState.{next_position};
 ghost use Rattle.net_receiver.specs.ReceiverState.{receiver_after_read};
-ghost use Rattle.net_stream_model.specs.SenderState.{end_of, room_of, with_written};
+ghost use Rattle.net_receiver.specs.SenderState.{end_of, room_of, with_written};
 ghost use Rattle.net_stream_model.specs.LinkState.{fresh_link};
 ghost use Rattle.net_stream_model.specs.LinkInvariant.{LinkInvariant};
 ghost use Rattle.net_stream_model.specs.CopyState.{is_written};
@@ -16,10 +16,8 @@ mod transmit;
 
 use crate::fates::LinkFates;
 use crate::path::FaultyPath;
-use crate::sack_blocks::MOST_SACK_BLOCKS;
-use crate::sender::Sender;
 use net_base::time::{Duration, Instant};
-use net_receiver::{Receiver, laws};
+use net_receiver::{MOST_SACK_BLOCKS, Receiver, Sender, laws};
 use net_ring::ManagedSlice;
 use net_stream_model::FrameCounts;
 use std::alloc::Allocator;
@@ -114,7 +112,7 @@ impl<'a, 'f, A: Allocator + Copy> StreamLink<'a, 'f, A> {
     }
 
     /// Returns whether all bytes that were written to the sender were read from the receiver.
-    pub(crate) fn is_drained(&self) -> bool
+    pub(crate) fn is_written(&self) -> bool
         ensures value { result ≡ is_written self.now }
         ensures fits { (end_of self.now.sender < 2 ^ 64)
             × (next_position self.now.receiver < 2 ^ 64) }

@@ -1,135 +1,33 @@
-//! SACK blocks: the held runs that a receiver lists for a sender.
-ghost use Rattle.std.specs.Prelude.{◌≡◌, ◌+◌, ◌^◌, ◌<◌, ◌≤◌, ◌++◌, ◌∷◌, [], length, take};
-ghost use Rattle.std.specs.Prelude.{All, MatchOption, None, Some, min, nat_lt, if◌then◌else◌};
+//! SACK blocks as bytes: each start and each end in 8 bytes, the most significant first.
+ghost use Rattle.std.specs.Prelude.{◌≡◌, ◌+◌, ◌^◌, ◌<◌, ◌≤◌, ◌++◌, length, take};
+ghost use Rattle.std.specs.Prelude.{All, MatchOption, None, Some};
 ghost use Rattle.std.specs.Int.{w64, to_be_bytes};
 ghost use Rattle.net_assembler.specs.Positions.{maximal_runs};
 ghost use Rattle.net_receiver.specs.ReceiverState.{domain};
-ghost use Rattle.net_stream_model.specs.SackBlocks.{count_from, next_start, greatest_end, is_full};
-ghost use Rattle.net_stream_model.specs.SackBlocks.{most_sack_blocks, block_bytes, first_block, blocks_of};
+ghost use Rattle.net_receiver.specs.SackBlocks.{most_sack_blocks};
+ghost use Rattle.net_stream_model.specs.SackBytes.{block_bytes, first_block, blocks_of};
 
 use crate::frame::decode_frame;
-use net_receiver::Receiver;
-use std::marker::Model;
+use net_receiver::{MOST_SACK_BLOCKS, Receiver, SackBlocks};
 
-/// The most SACK blocks of an acknowledgement; in contracts, `most_sack_blocks`.
-pub(crate) const MOST_SACK_BLOCKS: usize = 32;
-
-/// How many bytes they take.
+/// How many bytes as many SACK blocks take as an acknowledgement has room for.
 pub(crate) const SACK_BLOCKS_LEN: usize = 16 * MOST_SACK_BLOCKS;
 
-/// SACK blocks: ranges of positions that a receiver has, each a start and an end, the end not
-/// included.
-///
-/// Contracts see the list of the ranges, of which there are at most 32. In TCP they are the blocks
-/// of a selective acknowledgement, of which a segment's header has room for three or four.
-#[derive(Drop)]
-pub struct SackBlocks {
-    ranges: [(u64, u64); MOST_SACK_BLOCKS],
-    count: usize,
-}
-
-impl Model for SackBlocks {
-    ghost use Rattle.std.specs.Prelude.{ℕ, List, length, take, ◌≡◌, ◌≤◌};
-
-    ghost Value = { List (ℕ × ℕ) };
-
-    ghost view = { λ r. take r.count r.ranges };
-
-    ghost invariant = { λ r. (r.count ≤ 32) × (length r.ranges ≡ 32) };
-}
-
-impl SackBlocks {
-    /// Returns an empty list of blocks.
-    pub fn new() -> SackBlocks
-        ensures { result ≡ [] }
-    {
-        SackBlocks {
-            ranges: [(0, 0); MOST_SACK_BLOCKS],
-            count: 0,
-        }
-    }
-
-    /// Returns the first 32 of the blocks that bytes list: each start and each end in 8 bytes, the
-    /// most significant first. Fewer than 16 bytes list no block.
-    pub fn from_bytes(bytes: &[u8]) -> SackBlocks
-        ensures { result ≡ blocks_of most_sack_blocks bytes.now }
-    {
-        let mut sack_blocks = SackBlocks::new();
-        let mut rest = bytes;
-        for _turn in 0..MOST_SACK_BLOCKS {
-            let Some((start, end, behind)) = decode_block(rest) else {
-                return sack_blocks;
-            };
-            sack_blocks.push(start, end);
-            rest = behind;
-        }
-        sack_blocks
-    }
-
-    /// Appends a block to the others.
-    fn push(&mut self, start: u64, end: u64)
-        requires { length self.old < most_sack_blocks }
-        ensures { self.new ≡ self.old ++ (start, end) ∷ [] }
-    {
-        self.ranges[self.count] = (start, end);
-        self.count += 1;
-    }
-
-    /// Returns whether there are 32 blocks.
-    pub(crate) fn is_full(&self) -> bool
-        ensures { result ≡ is_full self.now }
-    {
-        self.count == MOST_SACK_BLOCKS
-    }
-
-    /// Returns how many positions from `pos` on are in the first block that has `pos`, or 0 if none
-    /// has it.
-    pub(crate) fn count_from(&self, pos: u64) -> u64
-        ensures { result ≡ count_from self.now pos }
-    {
-        for i in 0..self.count {
-            let (start, end) = self.ranges[i];
-            if start <= pos && pos < end {
-                return end - pos;
-            }
-        }
-        0
-    }
-
-    /// Returns the first start of a block above `pos` and below `limit`, or `limit` if there is
-    /// none.
-    pub(crate) fn next_start(&self, pos: u64, limit: u64) -> u64
-        ensures { result ≡ next_start self.now pos limit }
-    {
-        let mut nearest = limit;
-        for i in 0..self.count {
-            let (start, _end) = self.ranges[i];
-            nearest = nearer(pos, start, nearest);
-        }
-        nearest
-    }
-
-    /// Returns the greatest end of a block, or `pos` if no end is greater.
-    pub(crate) fn greatest_end(&self, pos: u64) -> u64
-        ensures { result ≡ greatest_end self.now pos }
-    {
-        let mut last = pos;
-        for i in 0..self.count {
-            let (_start, end) = self.ranges[i];
-            last = last.max(end);
-        }
-        last
-    }
-}
-
-/// Returns the lesser of two positions if the first is above `pos`, and otherwise the second.
-fn nearer(pos: u64, start: u64, nearest: u64) -> u64
-    ensures { result ≡ (if nat_lt pos start then min start nearest else nearest) }
+/// Returns the first 32 of the blocks that bytes list: each start and each end in 8 bytes, the most
+/// significant first. Fewer than 16 bytes list no block.
+pub fn decode_sack_blocks(bytes: &[u8]) -> SackBlocks
+    ensures { result ≡ blocks_of most_sack_blocks bytes.now }
 {
-    if start <= pos {
-        return nearest;
+    let mut sack_blocks = SackBlocks::new();
+    let mut rest = bytes;
+    for _turn in 0..MOST_SACK_BLOCKS {
+        let Some((start, end, behind)) = decode_block(rest) else {
+            return sack_blocks;
+        };
+        sack_blocks.push(start, end);
+        rest = behind;
     }
-    start.min(nearest)
+    sack_blocks
 }
 
 /// Reads the first block that bytes list. Returns it with the bytes after it, or `None` if there

@@ -8,9 +8,11 @@ use Rattle.net_receiver.specs.Rules.{Segment}
 use Rattle.net_receiver.specs.ReceiverState.{ReceiverState, IsSound, next_position, receiver_after_command, domain, limit_of}
 use Rattle.net_receiver.specs.OneStream.{MatchesStream, ReceivesFrom}
 use Rattle.net_receiver.specs.Retransmission.{HasByteAt}
-use Rattle.net_stream_model.specs.SenderState.{end_of, at_least_one, SenderState, contiguous_end, stop_of}
+use Rattle.net_receiver.specs.SenderState.{end_of, SenderState, contiguous_end, send_limit}
+use Rattle.net_stream_model.specs.Transmission.{at_least_one}
 use Rattle.net_stream_model.specs.Frames.{Part, frame_of, frames_from, part_bytes, segment_of, FrameMatches}
-use Rattle.net_stream_model.specs.SackBlocks.{most_sack_blocks, is_sacked, count_from, next_start, greatest_end, is_full, block_bytes, blocks_of}
+use Rattle.net_receiver.specs.SackBlocks.{most_sack_blocks, is_sacked, count_from, next_start, greatest_end, is_full}
+use Rattle.net_stream_model.specs.SackBytes.{block_bytes, blocks_of}
 use Rattle.net_stream_model.specs.Fates.{NextCome, AllCome}
 use Rattle.net_stream_model.specs.PathState.{receiver_after, PathState}
 use Rattle.net_stream_model.specs.LinkInvariant.{HasAllOf, LinkInvariant}
@@ -142,7 +144,7 @@ module _ (v : SenderState) (most : ℕ) (none : v.sack_blocks ≡ []) (far : end
   all_parts burst n old new sent few =
       either sent.stop
       (λ l.
-      let stop : stop_of v ≡ end_of v = (λ i. cond (is_full (none i)) (min (end_of v) (greatest_end (none i) v.first_unacknowledged + 1)) (end_of v)) in
+      let stop : send_limit v ≡ end_of v = (λ i. cond (is_full (none i)) (min (end_of v) (greatest_end (none i) v.first_unacknowledged + 1)) (end_of v)) in
       omega arith)
       (λ l.
       let reach = parts_far v.first_unacknowledged sent.prefix.parts sent.prefix.sizes sent.prefix.marked sent.prefix.ends in
@@ -274,7 +276,7 @@ module _ (known : RoundFacts) (s : Setup) (bytes : List ℕ) (has : HasRoomAtOnc
       }
 
   one_ready : (c : CopyState) → SoFar known.stream s reads c → Stays known s c.link → Ready c →
-      GoesOn s.rounds s.chunk c → Ready (turn s.rounds s.chunk c)
+      GoesOn s.max_stalled_rounds s.chunk c → Ready (turn s.max_stalled_rounds s.chunk c)
   one_ready c was stays h one =
       let all : is_written c.link ≡ true = written_from c.link (omega arith) h.empty in
       let P : CopyState → Type 0 = λ d. Writes s.first d.given d → Stays known s d.link → ends d ≡ false → Ready (pass s.chunk d) in
@@ -294,7 +296,7 @@ module _ (known : RoundFacts) (s : Setup) (bytes : List ℕ) (has : HasRoomAtOnc
       search arith
   ready (suc n) on =
       let c = after s reads n in
-      let one = goes_on s.rounds s.chunk c on in
+      let one = goes_on s.max_stalled_rounds s.chunk c on in
       one_ready c (so_far known.stream s reads (omega arith) n) (all_stays known s reads n) (ready n one.before) one
 
 pub exact_rounds : RoundFacts → ExactRounds
@@ -302,7 +304,7 @@ exact_rounds known s bytes n has fits arrive come_reverse done =
     at_end s (bytes ∷ [] ∷ []) (λ c. (length bytes ≤ c.rounds * most_read s) × (c.rounds * most_read s < length bytes + most_read s)) Done (λ (e : Done ≡ Running). cc)
     (λ m on is.
     let h = ready known s bytes has fits arrive come_reverse m on in
-    let same = done_none s.rounds s.chunk (after s (bytes ∷ [] ∷ []) m) on is in
+    let same = done_none s.max_stalled_rounds s.chunk (after s (bytes ∷ [] ∷ []) m) on is in
     let was = so_far known.stream s (bytes ∷ [] ∷ []) (omega arith) (suc m) in
     omega (arith, ap length (was.over (was.done is).0), ap length (one_end bytes).1, ap (λ r. r * most_read s) same.1, same.0, h.low, h.high)) n done
 

@@ -21,12 +21,12 @@ module _ (known : RoundFacts) where
   rounds_fail s reads told reader reader' writer writer' counts c left outgoing incoming chunk =
       let n = c.rounds in
       let x = after s reads n in
-      let made : length told ≡ n = ap length c.each ∙ counts_told (turn s.rounds s.chunk) (begin s reads) n in
+      let made : length told ≡ n = ap length c.each ∙ counts_told (turn s.max_stalled_rounds s.chunk) (begin s reads) n in
       let fits : s.first < 2 ^ 64 = omega arith in
       let is = ap outcome (sym (final_is known.stream s reads (suc n) fits (λ r. (let e = sym c.last ∙ r in cc)))) ∙ c.ends in
       let read = ap (λ o. o.counts.bytes_read) is in
       let counted = ap (λ o. o.counts.rounds) is in
-      let stop = ap (λ d. d.rounds) (stops s.rounds s.chunk x c.runs c.last).is ∙ (fed_leaves s.chunk x).rounds in
+      let stop = ap (λ d. d.rounds) (stops s.max_stalled_rounds s.chunk x c.runs c.last).is ∙ (fed_leaves s.chunk x).rounds in
       subst (λ m. LastRoundsFail s reads m × (counts.rounds ≡ min m (2 ^ 64 - 1))) (sym made) (
         record {
           enough = (gives_up_after s reads n c.runs c.last).0;

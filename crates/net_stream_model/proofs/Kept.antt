@@ -5,7 +5,7 @@ use Rattle.net_receiver.specs.OneStream.{ReceivesFrom, QueueIsOf, QueueIsOfStrea
 use Rattle.std.proofs.lemmas.Bool.{both_ways, false≢true}
 use Rattle.std.proofs.lemmas.List.Elements.{All-nil, All-same, All-weaker, All-head, All-tail, All-push, All-take}
 use Rattle.net_receiver.specs.Retransmission.{HasByteAt}
-use Rattle.net_stream_model.specs.SenderState.{SenderState, Sends, end_of, sender_from}
+use Rattle.net_receiver.specs.SenderState.{SenderState, Sends, end_of}
 use Rattle.net_stream_model.specs.Frames.{FrameMatches, frame_of, FramesDecode, segment_of}
 use Rattle.net_stream_model.specs.PathState.{PathState, ack_of, with_ack, with_delayed}
 use Rattle.net_stream_model.specs.LinkInvariant.{PartsInvariant, HasAllOf, AckMatches}
@@ -18,7 +18,8 @@ use Rattle.std.proofs.lemmas.List.{append-nil, take_all, drop-drop, take-take}
 use Rattle.std.proofs.lemmas.List.Sums.{sum_by-append}
 use Rattle.net_assembler.specs.Positions.{Positions, contains, lies_in, IsMaximalRun, maximal_runs}
 use Rattle.net_assembler.specs.AssemblerLaws.{MembersOfList}
-use Rattle.net_stream_model.specs.SackBlocks.{is_sacked, count_outside, most_sack_blocks, block_bytes, block_to, block_from, first_block, with_more, blocks_of}
+use Rattle.net_receiver.specs.SackBlocks.{is_sacked, most_sack_blocks}
+use Rattle.net_stream_model.specs.SackBytes.{count_outside, block_bytes, block_to, block_from, first_block, with_more, blocks_of}
 use Rattle.net_stream_model.specs.Transmission.{IsSackedIf}
 use Rattle.net_stream_model.specs.Counts.{with_payload}
 use Rattle.net_stream_model.specs.declared.counts.FrameCounts.{FrameCounts}
@@ -30,7 +31,8 @@ use Rattle.net_stream_model.specs.Fates.{next_fate, arrives, arrives_later}
 use Rattle.net_stream_model.specs.LinkState.{LinkState, times, Cursor, start, frame_len, send, part, take_in, arrive, arrived, apply_fate, take_frame, acknowledge_all, acknowledge, arrived_ack, apply_ack_fate, take_ack, round, StopsRound}
 use Rattle.net_stream_model.specs.Facts.{StreamFacts}
 use Rattle.net_stream_model.specs.Streams.{LinkInvariantFits}
-use Rattle.net_stream_model.proofs.Sent.{lent_says, stop_within}
+use Rattle.net_receiver.proofs.Senders.{lent_says, sends_from}
+use Rattle.net_stream_model.proofs.Sent.{stop_within}
 use Rattle.net_stream_model.proofs.Steps.{by_keeps_end, taken_in, heard, keeps, split, by_part, StepsKeep, round_kept, stop_kept}
 use Rattle.std.specs.FinMap as fin
 
@@ -284,21 +286,11 @@ module _ (known : StreamFacts) (f : ℕ) (w : List ℕ) where
       )
 
   -- ---- step 5
-  still_sends : (v : SenderState) (n : ℕ) (ranges : List (ℕ × ℕ)) → v.first_unacknowledged ≤ n → n ≤ end_of v →
-      Sends f w v → Sends f w (sender_from v n ranges)
-  still_sends v n ranges low high h =
-      let place : (v.first_unacknowledged - f) + (n - v.first_unacknowledged) ≡ n - f = omega arith in
-      record {
-        from = omega arith;
-        end = omega (arith, length-drop (n - v.first_unacknowledged) v.queue);
-        queue = ap (drop (n - v.first_unacknowledged)) h.queue ∙ drop-drop (n - v.first_unacknowledged) (v.first_unacknowledged - f) w ∙ ap (λ k. drop k w) place;
-      }
-
   acknowledged : (s : LinkState) (frame : List ℕ) → AckMatches s.receiver frame → LinkInvariantFits f w s →
       LinkInvariantFits f w (acknowledge s frame)
   acknowledged s frame says h = record {
     way = heard (λ v. PartsInvariant f w v s.receiver s.forward s.reverse) s.sender (segment_of frame)
-        (λ n xs at low high. assumption (says n xs at, still_sends s.sender n (blocks_of most_sack_blocks xs) low high h.way.sends)) h.way;
+        (λ n xs at low high. assumption (says n xs at, sends_from f w s.sender n (blocks_of most_sack_blocks xs) low high h.way.sends)) h.way;
     fits = omega (arith, by_keeps_end s.sender (segment_of frame));
   }
 

@@ -9,18 +9,21 @@ use Rattle.net_stream_model.proofs.Steps.{times_front, keeps, by_part, brought_a
 use Rattle.net_stream_model.specs.Counts.{with_fate, with_fates, SameButRefused, with_refusal, with_payload, no_frames}
 use Rattle.std.proofs.lemmas.List.{append-nil}
 use Rattle.net_stream_model.specs.Frames.{segment_of}
-use Rattle.net_stream_model.specs.SackBlocks.{most_sack_blocks, count_outside, is_sacked}
+use Rattle.net_receiver.specs.SackBlocks.{most_sack_blocks, is_sacked}
+use Rattle.net_stream_model.specs.SackBytes.{count_outside}
 use Rattle.net_stream_model.specs.PathState.{PathState, ack_of, with_ack}
 use Rattle.net_stream_model.specs.Arrivals.{coming_of, delayed_of, receiver_after_all, ack_to, acks_of}
-use Rattle.net_stream_model.specs.Reach.{after_ack_frames}
+use Rattle.net_stream_model.specs.Reach.{acknowledge_frames}
 use Rattle.net_stream_model.specs.LinkState.{LinkState, times, arrive, apply_fate, take_frame, pass_frame_of, pass_frame, delayed_frame_of, delayed_frame, acknowledge, delayed_ack_of, delayed_ack, apply_ack_fate, take_ack, pass_ack_of, pass_ack, Cursor, start, frame_len, send, part, transmit, delayed_frames, pass_frames, acknowledge_all, delayed_acks, pass_acks, with_burst, round}
 use Rattle.net_stream_model.specs.Round.{Passes, RoundPasses}
 use Rattle.net_stream_model.specs.FateCounts.{fates_only, CountsFates}
 use Rattle.std.proofs.lemmas.Bool.{cond-true, cond-false}
 use Rattle.net_assembler.proofs.Positions.{either}
-use Rattle.net_stream_model.specs.SenderState.{end_of, contiguous_end, at_least_one, stop_of, spared_from, next_block}
+use Rattle.net_receiver.specs.SenderState.{end_of, contiguous_end, send_limit, spared_from, next_block}
+use Rattle.net_stream_model.specs.Transmission.{at_least_one}
 use Rattle.net_stream_model.specs.Transmission.{IsSackedIf, SendsPart, SendsRound}
-use Rattle.net_stream_model.proofs.Sent.{count_inside, count_none, next_above, next_between, SentSoFar, none_sent, sent_more, round_sent, stop_within, row_above, row_within}
+use Rattle.net_receiver.proofs.Senders.{count_inside, count_none, next_above, next_between}
+use Rattle.net_stream_model.proofs.Sent.{SentSoFar, none_sent, sent_more, round_sent, stop_within, row_above, row_within}
 use Rattle.net_stream_model.proofs.Kept.{count_marked, counted_more, counted_none}
 use Rattle.net_stream_model.specs.Promises.{acks_sent}
 
@@ -147,7 +150,7 @@ delayed_came (frame ∷ rest) s is =
 -- ---- acknowledgements
 -- the link, where these delayed ones came
 abbrev pub acked_delayed : LinkState → List (List ℕ) → LinkState
-acked_delayed s frames = record s { sender = after_ack_frames s.sender frames; reverse = record s.reverse { delayed = [] } }
+acked_delayed s frames = record s { sender = acknowledge_frames s.sender frames; reverse = record s.reverse { delayed = [] } }
 
 pub delayed_acked : (frames : List (List ℕ)) (s : LinkState) → s.reverse.delayed ≡ frames →
     times (length frames) delayed_ack s ≡ acked_delayed s frames
@@ -159,7 +162,7 @@ delayed_acked (frame ∷ rest) s is =
 -- the link, where these came, these are delayed, and so many drew their fates
 abbrev pub acked : LinkState → List (List ℕ) → List (List ℕ) → FatesState → FrameCounts → LinkState
 acked s arrived delayed fates counts = record s {
-  sender = after_ack_frames s.sender arrived;
+  sender = acknowledge_frames s.sender arrived;
   reverse = record { in_flight = []; delayed = s.reverse.delayed ++ delayed; fates = fates };
   counts = counts;
 }
@@ -289,7 +292,7 @@ module _ (s : LinkState) (fits : s.counts.payload < 2 ^ 64) where
 
   -- after n parts nothing more can be sent, or n bytes are sent or spared at least
   abbrev Reaches : ℕ → Cursor → Type 0
-  Reaches n c = SentAt c × (((stop_of s.sender ≤ c.pos) ⊎ (c.left ≡ 0)) ⊎ (s.sender.first_unacknowledged + n ≤ c.pos))
+  Reaches n c = SentAt c × (((send_limit s.sender ≤ c.pos) ⊎ (c.left ≡ 0)) ⊎ (s.sender.first_unacknowledged + n ≤ c.pos))
 
   step : (k : ℕ) (c : Cursor) → Reaches k c → Reaches (suc k) (part c)
   step k c g =
@@ -387,12 +390,12 @@ module _ (s : LinkState) (in_flight : List (List ℕ)) (c0 c1 c2 : FrameCounts) 
   abbrev pub acks : List (List ℕ)
   acks = after_delayed_acks.reverse.in_flight
 
-  abbrev pub after_acks : LinkState
-  after_acks = all_acked after_delayed_acks acks
+  abbrev pub acknowledge_each : LinkState
+  acknowledge_each = all_acked after_delayed_acks acks
 
   passes_by : (n : ℕ) → SendsRound s.sender (at_least_one s.payload) (at_least_one s.burst) n s.forward sent →
       c0 ≡ with_payload (count_outside s.sender.sack_blocks s.sender.first_unacknowledged n) s.counts → SameButRefused c1 c0 →
-      SameButRefused c2 (with_fates (length in_flight) s.forward.fates c1) → Passes s (with_burst after_acks)
+      SameButRefused c2 (with_fates (length in_flight) s.forward.fates c1) → Passes s (with_burst acknowledge_each)
   passes_by n all counted0 counted1 counted2 = record {
     sent = sent;
     n = n;
@@ -425,7 +428,7 @@ pub record RoundSends (s z : LinkState) : Type 0 where
 -- a round as a function of the frames that it sends, and of the counts after its first three steps
 pub record RoundIs (s : LinkState) (c1 c2 : FrameCounts) : Type 0 where
   pub frames : pass_frames (delayed_frames (transmit s)) ≡ after_frames s (transmit s).forward.in_flight (transmit s).counts c1 c2
-  pub same : round s ≡ with_burst (after_acks s (transmit s).forward.in_flight (transmit s).counts c1 c2)
+  pub same : round s ≡ with_burst (acknowledge_each s (transmit s).forward.in_flight (transmit s).counts c1 c2)
   pub delayed : SameButRefused c1 (transmit s).counts
   pub passed : SameButRefused c2 (with_fates (length (transmit s).forward.in_flight) s.forward.fates c1)
 

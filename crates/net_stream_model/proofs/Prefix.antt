@@ -1,17 +1,19 @@
 -- What rounds and turns keep of what a copy read and wrote, and how many turns it makes.
 use Rattle.std.proofs.Common.{◌≡◌, ℕ, ◌≤◌, List, Option, ◌∙◌, le_trans, arith, ◌+◌, ◌-◌, ◌<◌, min, nat_lt, true, false, [], ◌∷◌, ◌++◌, length, take, drop, refl, sym, ap, subst, length-append, length-take, length-drop, take-add, append_assoc, ◌⊎◌, zero, suc, ◌*◌, inl, inr, mul-le-mul_right, lt_of_not-le}
 use Rattle.net_assembler.proofs.Positions.{either}
+use Rattle.net_receiver.proofs.Senders.{sends_written}
 use Rattle.net_receiver.specs.ReceiverState.{ReceiverState, fresh_receiver, receiver_after_read}
 use Rattle.net_receiver.specs.OneStream.{SegmentReadsNothing, QueueIsOf}
-use Rattle.net_stream_model.specs.SenderState.{SenderState, after_ack_frame, with_written, Sends}
+use Rattle.net_receiver.specs.SenderState.{SenderState, with_written}
+use Rattle.net_stream_model.specs.SackBytes.{acknowledge_frame}
 use Rattle.net_stream_model.specs.Frames.{segment_of}
-use Rattle.net_stream_model.specs.SackBlocks.{most_sack_blocks}
+use Rattle.net_receiver.specs.SackBlocks.{most_sack_blocks}
 use Rattle.net_stream_model.specs.Fates.{next_fate, arrives}
 use Rattle.net_stream_model.specs.LinkState.{LinkState, Cursor, start, part, take_in, arrive, take_frame, acknowledge, take_ack, round, StopsRound}
 use Rattle.net_stream_model.proofs.Steps.{taken_in, heard, keeps, split, by_part, StepsKeep, round_kept, stop_kept, enough, first_is}
 use Rattle.std.specs.Io.{StartsWith}
 use Rattle.std.proofs.lemmas.Bool.{both_ways, cases_Bool, ltb-true, ltb-false, cases_lt}
-use Rattle.std.proofs.lemmas.List.{take_all, take_min, take-take, take-append-le, take-append-drop, append-nil, drop-append-le}
+use Rattle.std.proofs.lemmas.List.{take_all, take_min, take-take, take-append-le, take-append-drop, append-nil}
 use Rattle.std.proofs.Math.Seq.{take-append_seam}
 use Rattle.net_stream_model.specs.CopyState.{Setup, CopyState, Running, Done, begin, is_written, rest_of, room_for, feed, decide, waited, pass, after, turn, outcome, concat, most_turns}
 use Rattle.net_stream_model.specs.Facts.{StreamFacts}
@@ -22,7 +24,7 @@ use Rattle.net_stream_model.proofs.Turns.{Some, Nothing, brought, still_from, wr
 use Rattle.std.proofs.Math.Nat.{add-mul}
 
 -- a sender never goes back
-pub head_grows : (v : SenderState) (o : Option (ℕ × List ℕ)) → v.first_unacknowledged ≤ (after_ack_frame v o).first_unacknowledged
+pub head_grows : (v : SenderState) (o : Option (ℕ × List ℕ)) → v.first_unacknowledged ≤ (acknowledge_frame v o).first_unacknowledged
 head_grows v o = heard (λ (u : SenderState). v.first_unacknowledged ≤ u.first_unacknowledged) v o (λ n xs _ low _. low) (omega arith)
 
 module _ (reads_nothing : SegmentReadsNothing) (from been : ℕ) where
@@ -89,14 +91,6 @@ before_rest room xs reads some =
     ∙ sym (before_more xs reads some))
     (λ e. (let all = ltb-false room (length xs) e in ap (λ l. l ++ before_end reads) (take_all room xs all) ∙ sym (before_more xs reads some)))
 
--- what was written is the rest of the stream
-more_sent : (f : ℕ) (w : List ℕ) (v : SenderState) (xs : List ℕ) → Sends f w v → Sends f (w ++ xs) (with_written v xs)
-more_sent f w v xs s = record {
-  from = s.from;
-  end = omega (arith, length-append {A = ℕ});
-  queue = ap (λ q. q ++ xs) s.queue ∙ sym (drop-append-le (v.first_unacknowledged - f) w xs (omega arith));
-}
-
 module _ (known : StreamFacts) where
   pub queue_of : (f : ℕ) (g : List ℕ) (l : LinkState) → LinkInvariantFits f g l → QueueIsOf g l.receiver
   queue_of f g l h = known.queue f g l.receiver h.way.receives
@@ -111,7 +105,7 @@ module _ (known : StreamFacts) where
       let q = queue_of f g c.link h.carries in
       record {
         carries = record {
-          way = written known.says_longer known.longer f g ys s (with_written s ys) c.link.receiver c.link.forward c.link.reverse refl refl (more_sent f g s ys) h.carries.way;
+          way = written known.says_longer known.longer f g ys s (with_written s ys) c.link.receiver c.link.forward c.link.reverse refl refl (sends_written f g s ys) h.carries.way;
           fits = omega (arith, length-append s.queue ys, length-take room xs);
         };
         written = h.written ∙ sym (take-append-le c.link.receiver.read g ys (omega arith));
@@ -169,8 +163,8 @@ module _ (known : StreamFacts) (s : Setup) (reads : List (List ℕ)) where
       })
       (λ _. h)
 
-  pub decided_so_far : (c : CopyState) → SoFar c → SoFar (decide s.rounds c)
-  decided_so_far c h = decides SoFar s.rounds c
+  pub decided_so_far : (c : CopyState) → SoFar c → SoFar (decide s.max_stalled_rounds c)
+  decided_so_far c h = decides SoFar s.max_stalled_rounds c
       (λ none all. record { writes = search; coming = h.coming; over = h.over; done = λ d. (none, all) })
       (λ many. record { writes = search; coming = h.coming; over = h.over; done = λ d. absurd (cc) }) (λ few. h)
 
@@ -193,7 +187,7 @@ module _ (known : StreamFacts) (s : Setup) (reads : List (List ℕ)) where
   }
 
   pub so_far : StartsFits s → (n : ℕ) → SoFar (after s reads n)
-  so_far fits n = all_turned SoFar s.rounds s.chunk (λ c _. fed_so_far c) (λ c _. decided_so_far c) passed_so_far n (begin s reads) (begun_so_far fits)
+  so_far fits n = all_turned SoFar s.max_stalled_rounds s.chunk (λ c _. fed_so_far c) (λ c _. decided_so_far c) passed_so_far n (begin s reads) (begun_so_far fits)
 
 -- so many first bytes
 pub starts_with : (xs ys zs : List ℕ) → ys ++ zs ≡ xs → StartsWith xs ys
@@ -252,8 +246,8 @@ module _ (reads_nothing : SegmentReadsNothing) (s : Setup) where
   -- no more rounds were made, and no more turns, than bytes were acknowledged or written, `rounds` times, and rounds
   -- in a row without progress
   abbrev pub Counted : ℕ → CopyState → Type 0
-  Counted n c = (s.first ≤ c.link.sender.first_unacknowledged) × (c.rounds ≤ gone c * s.rounds + c.stalled) × (c.stalled ≤ s.rounds)
-      × (c.status ≡ Running → n ≤ gone c * s.rounds + c.stalled)
+  Counted n c = (s.first ≤ c.link.sender.first_unacknowledged) × (c.rounds ≤ gone c * s.max_stalled_rounds + c.stalled) × (c.stalled ≤ s.max_stalled_rounds)
+      × (c.status ≡ Running → n ≤ gone c * s.max_stalled_rounds + c.stalled)
 
   pub counted : (reads : List (List ℕ)) (n : ℕ) → Counted n (after s reads n)
   counted reads zero = (omega arith, omega arith, omega arith, λ r. omega arith)
@@ -262,20 +256,20 @@ module _ (reads_nothing : SegmentReadsNothing) (s : Setup) where
       let h = counted reads n in
       let e = feed s.chunk c in
       let f = fed_leaves s.chunk c in
-      let all : gone e * s.rounds ≡ gone c * s.rounds = λ i. (f.first_unacknowledged i + (f.receiver i).read - s.first) * s.rounds in
+      let all : gone e * s.max_stalled_rounds ≡ gone c * s.max_stalled_rounds = λ i. (f.first_unacknowledged i + (f.receiver i).read - s.first) * s.max_stalled_rounds in
       let low : s.first ≤ e.link.sender.first_unacknowledged = omega arith in
-      let rounds : e.rounds ≤ gone e * s.rounds + e.stalled = omega arith in
-      let few : e.stalled ≤ s.rounds = omega arith in
+      let rounds : e.rounds ≤ gone e * s.max_stalled_rounds + e.stalled = omega arith in
+      let few : e.stalled ≤ s.max_stalled_rounds = omega arith in
       either (running_or_not c.status)
       (λ on.
       let turns_few = h.3 on in
-      turns (Counted (suc n)) s.rounds s.chunk c on (λ failed. (low, rounds, few, λ r. absurd (cc))) (λ done. (low, rounds, few, λ r. absurd (cc)))
+      turns (Counted (suc n)) s.max_stalled_rounds s.chunk c on (λ failed. (low, rounds, few, λ r. absurd (cc))) (λ done. (low, rounds, few, λ r. absurd (cc)))
       (λ _ _ many. (low, rounds, few, λ r. absurd (cc)))
       (λ _ _ less.
       let step = progresses reads_nothing s.chunk e in
-      let grows = one_more s.rounds s.first (far e.link) (far (pass s.chunk e).link) e.stalled (pass s.chunk e).stalled (omega arith) less step.1 in
+      let grows = one_more s.max_stalled_rounds s.first (far e.link) (far (pass s.chunk e).link) e.stalled (pass s.chunk e).stalled (omega arith) less step.1 in
       (omega arith, omega arith, omega arith, λ r. omega arith)))
-      (λ over. subst (Counted (suc n)) (sym (ended s.rounds s.chunk c over)) (h.0, h.1, h.2, λ r. absurd (over r)))
+      (λ over. subst (Counted (suc n)) (sym (ended s.max_stalled_rounds s.chunk c over)) (h.0, h.1, h.2, λ r. absurd (over r)))
 
 -- so many at most, of r each
 few_of : (r x t m : ℕ) → x ≤ 2 * m → t ≤ r → x * r + t ≤ (2 * m + 1) * r
@@ -300,7 +294,7 @@ pub few_rounds_anyway : StreamFacts → FewRoundsAnyway
 few_rounds_anyway known s reads n fits =
     let c = after s reads n in
     let h = counted known.reads_nothing s reads n in
-    omega (arith, few_of s.rounds (gone known.reads_nothing s c) c.stalled (length c.given) (few_gone known s reads fits n) h.2, h.1)
+    omega (arith, few_of s.max_stalled_rounds (gone known.reads_nothing s c) c.stalled (length c.given) (few_gone known s reads fits n) h.2, h.1)
 
 pub ends : StreamFacts → Ends
 ends known s reads fits on =
@@ -309,18 +303,18 @@ ends known s reads fits on =
     let h = counted known.reads_nothing s reads n in
     let gone_few = few_gone known s reads fits n in
     let given = few_given known s reads fits n in
-    omega (arith, few_of s.rounds (gone known.reads_nothing s c) c.stalled (length (concat reads)) (omega arith) h.2, h.3 on)
+    omega (arith, few_of s.max_stalled_rounds (gone known.reads_nothing s c) c.stalled (length (concat reads)) (omega arith) h.2, h.3 on)
 
 -- ---- an ended copy
 pub stays_so : Stays
-stays_so s reads n k over = enough (turn s.rounds s.chunk) (begin s reads) n (n + k) (omega arith) (ended s.rounds s.chunk (after s reads n) over)
+stays_so s reads n k over = enough (turn s.max_stalled_rounds s.chunk) (begin s reads) n (n + k) (omega arith) (ended s.max_stalled_rounds s.chunk (after s reads n) over)
 
 pub final_is : StreamFacts → FinalIs
 final_is known s reads n fits over =
-    let f = turn s.rounds s.chunk in
+    let f = turn s.max_stalled_rounds s.chunk in
     let m = most_turns s reads in
-    either (cases_lt m n) (λ l. sym (enough f (begin s reads) m n (omega arith) (ended s.rounds s.chunk (after s reads m) (ends known s reads fits))))
-    (λ l. enough f (begin s reads) n m l (ended s.rounds s.chunk (after s reads n) over))
+    either (cases_lt m n) (λ l. sym (enough f (begin s reads) m n (omega arith) (ended s.max_stalled_rounds s.chunk (after s reads m) (ends known s reads fits))))
+    (λ l. enough f (begin s reads) n m l (ended s.max_stalled_rounds s.chunk (after s reads n) over))
 
 pub copied_is : StreamFacts → CopiedIs
 copied_is known s reads n fits over = ap outcome (final_is known s reads n fits over)
@@ -331,7 +325,7 @@ ends_in_one_turn s reads (suc n) over = elim (running_or_not (after s reads n).s
   | inl on ↦ (n, omega arith, on, refl)
   | inr stays ↦ (
       let h = ends_in_one_turn s reads n stays in
-      (h.0, omega arith, h.2, h.3 ∙ sym (ended s.rounds s.chunk (after s reads n) stays)))
+      (h.0, omega arith, h.2, h.3 ∙ sym (ended s.max_stalled_rounds s.chunk (after s reads n) stays)))
 ]
 
 pub ruleset laws_of_ends = (stays_so, final_is, copied_is, ends_in_one_turn)

@@ -1,10 +1,9 @@
--- Which positions are spared, and what a sender lends and sends of what it keeps.
-use Rattle.std.proofs.Common.{cond, min, max, ◌≡◌, ℕ, suc, ◌+◌, ◌-◌, ◌<◌, ◌≤◌, nat_lt, true, false, List, [], ◌∷◌, length, take, drop, get_or, drop-cons, length-take, refl, ◌∙◌, arith, sym, ap, ◌⊎◌, Bool, ◌++◌, All, subst, length-append, length-drop, append_assoc, take-add}
+-- Which positions are spared, and what a sender sends of what it keeps.
+use Rattle.std.proofs.Common.{cond, max, ◌≡◌, ℕ, ◌+◌, ◌-◌, ◌<◌, ◌≤◌, true, false, List, [], ◌∷◌, length, take, drop, length-take, refl, ◌∙◌, arith, sym, ap, ◌⊎◌, Bool, ◌++◌, All, subst, length-append, length-drop, append_assoc, take-add}
 use Rattle.std.proofs.lemmas.Bool.Decides.{nat_tests}
-use Rattle.std.proofs.lemmas.List.{get_or-take, drop-drop, get_or-drop, append-nil, take-take}
-use Rattle.net_stream_model.specs.SackBlocks.{is_sacked, count_from, next_start, greatest_end, is_full}
-use Rattle.net_receiver.specs.OneStream.{MatchesStream, MatchesWhatIsThere}
-use Rattle.net_stream_model.specs.SenderState.{SenderState, Sends, end_of, contiguous_end, stop_of}
+use Rattle.std.proofs.lemmas.List.{append-nil, take-take}
+use Rattle.net_receiver.specs.SackBlocks.{is_sacked, greatest_end, is_full}
+use Rattle.net_receiver.specs.SenderState.{SenderState, end_of, contiguous_end, send_limit}
 use Rattle.std.proofs.lemmas.Bool.{both_ways}
 use Rattle.std.proofs.Math.Seq.{take-append_seam}
 use Rattle.std.proofs.lemmas.List.Elements.{All-nil, All-head, All-push}
@@ -12,69 +11,10 @@ use Rattle.net_stream_model.specs.Frames.{Part, frames_from, part_bytes}
 use Rattle.net_stream_model.specs.PathState.{PathState}
 use Rattle.net_stream_model.specs.Transmission.{IsSackedIf, AreSparedIfSacked, HasSize, part_end, HaveEnds, SendsPart, SendsPrefix, SendsRound}
 
--- of the first n elements, those from one on are it and those after it
-pub rest_of_first : {X : Type 0} (n i : ℕ) (xs : List X) (d : X) → i < n → n ≤ length xs →
-    drop i (take n xs) ≡ get_or xs i d ∷ drop (i + 1) (take n xs)
-rest_of_first n i xs d below within =
-    let next : suc i ≡ i + 1 = omega arith in
-    drop-cons (take n xs) i d (omega (arith, length-take n xs)) ∙ (λ j. get_or-take n xs i d below j ∷ drop (next j) (take n xs))
-
--- each position that is spared is in a range
-pub count_inside : (ranges : List (ℕ × ℕ)) (p q : ℕ) → p ≤ q → q < p + count_from ranges p → is_sacked ranges q ≡ true
-count_inside [] p q from to = absurd (omega arith)
-count_inside (range ∷ ranges) p q from to = let others = count_inside ranges p q in grind (arith, nat_tests)
-
--- if none is, the first position is in no range
-pub count_none : (ranges : List (ℕ × ℕ)) (p : ℕ) → count_from ranges p ≡ 0 → is_sacked ranges p ≡ false
-count_none [] p none = refl
-count_none (range ∷ ranges) p none = let others = count_none ranges p in grind (arith, nat_tests)
-
--- the next range begins no higher than the limit
-next_within : (ranges : List (ℕ × ℕ)) (p limit : ℕ) → next_start ranges p limit ≤ limit
-next_within [] p limit = omega arith
-next_within (range ∷ ranges) p limit =
-    let others = next_within ranges p (cond (nat_lt p range.0) (min range.0 limit) limit) in grind (arith, nat_tests)
-
--- and above p, if the limit is
-pub next_above : (ranges : List (ℕ × ℕ)) (p limit : ℕ) → p < limit → p < next_start ranges p limit
-next_above [] p limit h = h
-next_above (range ∷ ranges) p limit h = next_above ranges p (cond (nat_lt p range.0) (min range.0 limit) limit) (grind (arith, nat_tests))
-
--- between p and it no position is in a range, if p isn't
-pub next_between : (ranges : List (ℕ × ℕ)) (p limit q : ℕ) → is_sacked ranges p ≡ false → p ≤ q →
-    q < next_start ranges p limit → is_sacked ranges q ≡ false
-next_between [] p limit q none from to = refl
-next_between (range ∷ ranges) p limit q none from to =
-    let next = cond (nat_lt p range.0) (min range.0 limit) limit in
-    let below = next_within ranges p next in
-    let others = next_between ranges p next q in
-    grind (arith, nat_tests)
-
 -- no position in a range is above the last end
 pub end_from : (ranges : List (ℕ × ℕ)) (p : ℕ) → p ≤ greatest_end ranges p
 end_from [] p = omega arith
 end_from (range ∷ ranges) p = let others = end_from ranges (max p range.1) in omega arith
-
--- ======== What a sender lends
--- what a sender lends matches the stream
-pub lent_says : MatchesWhatIsThere → (f : ℕ) (w : List ℕ) (v : SenderState) (pos : ℕ) (xs : List ℕ) → Sends f w v →
-    v.first_unacknowledged ≤ pos →
-    xs ≡ take (length xs) (drop (pos - v.first_unacknowledged) v.queue) → MatchesStream f w pos xs
-lent_says says f w v pos xs s h is =
-    let place : (v.first_unacknowledged - f) + (pos - v.first_unacknowledged) ≡ pos - f = omega arith in
-    says f pos w xs (omega arith)
-    (is ∙ ap (λ q. take (length xs) (drop (pos - v.first_unacknowledged) q)) s.queue
-    ∙ ap (take (length xs)) (drop-drop (pos - v.first_unacknowledged) (v.first_unacknowledged - f) w ∙ ap (λ n. drop n w) place))
-
--- and each of its bytes is kept there
-pub lent_at : (head pos : ℕ) (queue xs : List ℕ) → head ≤ pos → xs ≡ take (length xs) (drop (pos - head) queue) → (q d : ℕ) →
-    pos ≤ q → q < pos + length xs → get_or queue (q - head) d ≡ get_or xs (q - pos) d
-lent_at head pos queue xs h is = λ q d from to.
-    let place : (pos - head) + (q - pos) ≡ q - head = omega arith in
-    sym (ap (λ ys. get_or ys (q - pos) d) is
-    ∙ get_or-take (length xs) (drop (pos - head) queue) (q - pos) d (omega arith)
-    ∙ get_or-drop (pos - head) queue (q - pos) d
-    ∙ ap (λ k. get_or queue k d) place)
 
 -- ======== What was sent of what a sender keeps
 -- ---- where parts end
@@ -84,10 +24,10 @@ row_above s p kept = grind (arith, nat_tests)
 pub row_within : (s : SenderState) (p : ℕ) → contiguous_end s p ≤ end_of s
 row_within s p = grind (arith, nat_tests)
 
-pub stop_within : (s : SenderState) → stop_of s ≤ end_of s
+pub stop_within : (s : SenderState) → send_limit s ≤ end_of s
 stop_within s = grind (arith, nat_tests)
 
-stop_above : (s : SenderState) → 0 < length s.queue → s.first_unacknowledged < stop_of s
+stop_above : (s : SenderState) → 0 < length s.queue → s.first_unacknowledged < send_limit s
 stop_above s some = let from = end_from s.sack_blocks s.first_unacknowledged in grind (arith, nat_tests)
 
 -- ---- one part more
@@ -99,7 +39,7 @@ frame_count p k false xs e = omega arith
 -- parts that are marked and end as they have to, and one more
 pushed : (s : SenderState) (most b p : ℕ) (parts : List Part) (spared : Bool) (xs : List ℕ) → p ≡ b + length (part_bytes parts) →
     AreSparedIfSacked s.sack_blocks b parts → HaveEnds s most b parts →
-    IsSackedIf s.sack_blocks p (length xs) spared → p < stop_of s → p + length xs ≡ part_end s most p →
+    IsSackedIf s.sack_blocks p (length xs) spared → p < send_limit s → p + length xs ≡ part_end s most p →
     let all = parts ++ (spared, xs) ∷ [] in
     (part_bytes all ≡ part_bytes parts ++ xs) × (frames_from b all ≡ frames_from b parts ++ frames_from p ((spared, xs) ∷ []))
     × AreSparedIfSacked s.sack_blocks b all × HaveEnds s most b all
@@ -108,7 +48,7 @@ pushed s most b p [] spared xs e marked ends one below end =
       append-nil xs,
       ap (λ n. frames_from n ((spared, xs) ∷ [])) (sym here),
       (subst (λ n. IsSackedIf s.sack_blocks n (length xs) spared) here one, tt),
-      subst (λ n. (n < stop_of s) × (n + length xs ≡ part_end s most n) × Unit {0}) here (below, end, tt),
+      subst (λ n. (n < send_limit s) × (n + length xs ≡ part_end s most n) × Unit {0}) here (below, end, tt),
     )
 pushed s most b p ((t, y) ∷ parts) spared xs e marked ends one below end =
     let others = pushed s most (b + length y) p parts spared xs (omega (arith, length-append y (part_bytes parts))) marked.1 ends.2 one below end in (
@@ -144,7 +84,7 @@ none_sent s most burst pos t e = record {
 -- what was sent of a part is sent of the first bytes too
 pub sent_more : (s : SenderState) (most burst left pos n k left' : ℕ) (t0 t1 t2 : PathState) →
     SentSoFar s most burst left (pos - s.first_unacknowledged) t0 t1 → SendsPart s most pos n k t1 t2 →
-    s.first_unacknowledged ≤ pos → pos < stop_of s → 0 < left → left' ≡ left - k → SentSoFar s most burst left' (pos + n - s.first_unacknowledged) t0 t2
+    s.first_unacknowledged ≤ pos → pos < send_limit s → 0 < left → left' ≡ left - k → SentSoFar s most burst left' (pos + n - s.first_unacknowledged) t0 t2
 sent_more s most burst left pos n k left' t0 t1 t2 so_far part from below some_left left_is =
     let prefix = so_far.prefix in
     let b = s.first_unacknowledged in
@@ -177,7 +117,7 @@ sent_more s most burst left pos n k left' t0 t1 t2 so_far part from below some_l
 
 -- nothing more could be sent
 pub round_sent : (s : SenderState) (most burst left pos : ℕ) (t0 t1 : PathState) →
-    SentSoFar s most burst left (pos - s.first_unacknowledged) t0 t1 → s.first_unacknowledged ≤ pos → (stop_of s ≤ pos) ⊎ (left ≡ 0) → SendsRound s most burst (pos - s.first_unacknowledged) t0 t1
+    SentSoFar s most burst left (pos - s.first_unacknowledged) t0 t1 → s.first_unacknowledged ≤ pos → (send_limit s ≤ pos) ⊎ (left ≡ 0) → SendsRound s most burst (pos - s.first_unacknowledged) t0 t1
 round_sent s most burst left pos t0 t1 so_far from stopped =
     record { prefix = so_far.prefix; stop = grind arith }
 
@@ -200,7 +140,7 @@ first_sent s most burst n old new round left some none =
   where
     first_of : (parts : List Part) → part_bytes parts ≡ take n s.queue → All (HasSize most) parts →
         AreSparedIfSacked s.sack_blocks s.first_unacknowledged parts →
-        (stop_of s ≤ s.first_unacknowledged + n) ⊎ (length (frames_from s.first_unacknowledged parts) ≡ burst) → FirstSent s most parts
+        (send_limit s ≤ s.first_unacknowledged + n) ⊎ (length (frames_from s.first_unacknowledged parts) ≡ burst) → FirstSent s most parts
     first_of [] all sizes marked stop =
         absurd (omega (arith, stop_above s some, ap length all, length-take n s.queue))
     first_of ((true, xs) ∷ parts) all sizes marked stop =

@@ -4,13 +4,14 @@ use Rattle.net_receiver.specs.ReceiverState.{ReceiverState}
 use Rattle.net_stream_model.specs.declared.counts.FrameCounts.{FrameCounts}
 use Rattle.net_stream_model.specs.declared.fate.Fate.{Fate}
 use Rattle.net_stream_model.specs.Frames.{segment_of}
-use Rattle.net_stream_model.specs.SackBlocks.{most_sack_blocks}
+use Rattle.net_receiver.specs.SackBlocks.{most_sack_blocks}
 use Rattle.net_stream_model.specs.Fates.{FatesState, next_fate, after_fate}
 use Rattle.net_stream_model.specs.Counts.{more, with_fate, with_fates}
 use Rattle.net_stream_model.specs.PathState.{receiver_after}
 use Rattle.net_stream_model.specs.Arrivals.{ack_to, acks_of}
 use Rattle.net_stream_model.specs.LinkState.{LinkState, transmit, round}
-use Rattle.net_stream_model.specs.SenderState.{SenderState, at_least_one, with_written}
+use Rattle.net_receiver.specs.SenderState.{SenderState, with_written}
+use Rattle.net_stream_model.specs.Transmission.{at_least_one}
 use Rattle.net_stream_model.specs.CopyState.{Setup, CopyState, room_for, waited, pass, after}
 use Rattle.net_stream_model.specs.Promises.{FewDelayed, RoundDelaysFew, CopyDelaysFew, FewFrames}
 use Rattle.net_stream_model.proofs.Steps.{passing_few}

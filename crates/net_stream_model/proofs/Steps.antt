@@ -2,14 +2,16 @@
 use Rattle.std.proofs.Common.{◌≡◌, ◌⊎◌, ◌&&◌, ℕ, zero, suc, ◌+◌, ◌-◌, ◌≤◌, ◌<◌, nat_lt, Bool, true, false, cond, List, [], ◌∷◌, length, refl, sym, ap, subst, ◌∙◌, arith, inl, inr, ◌^◌, nat_le, Option, Some, None, All, ◌++◌, append_assoc, max, get_or, slice_get, le_of_suc-le-suc, lt_of_not-le, length-drop}
 use Rattle.std.proofs.lemmas.Bool.{cond-true, cond-false, and_parts, ltb-true, ltb-false, leb-true, cases_lt, le-leb}
 use Rattle.std.proofs.lemmas.Bool.Decides.{nat_tests}
-use Rattle.net_stream_model.specs.SenderState.{stop_of, spared_from, SenderState, end_of, sender_from, after_ack_frame}
+use Rattle.net_receiver.specs.SenderState.{send_limit, spared_from, SenderState, end_of, sender_from}
+use Rattle.net_stream_model.specs.SackBytes.{acknowledge_frame}
 use Rattle.net_stream_model.specs.Fates.{next_fate, FatesState, after_fate, next_of, after_of, arrives, AllCome, NextCome}
-use Rattle.net_stream_model.specs.LinkState.{LinkState, times, Cursor, start, frame_len, send, part, part_at, transmit, take_in, arrive, delayed_frame_of, delayed_frame, delayed_frames, arrived, apply_fate, take_frame, pass_frame_of, pass_frame, pass_frames, acknowledge_all, acknowledge, delayed_ack_of, delayed_ack, delayed_acks, arrived_ack, apply_ack_fate, take_ack, pass_ack_of, pass_ack, pass_acks, with_burst, round, StopsDelayed, StopsFrame, StopsAck, StopsRound}
+use Rattle.net_stream_model.specs.LinkState.{LinkState, times, Cursor, start, frame_len, send, part, transmit_part, transmit, take_in, arrive, delayed_frame_of, delayed_frame, delayed_frames, arrived, apply_fate, take_frame, pass_frame_of, pass_frame, pass_frames, acknowledge_all, acknowledge, delayed_ack_of, delayed_ack, delayed_acks, arrived_ack, apply_ack_fate, take_ack, pass_ack_of, pass_ack, pass_acks, with_burst, round, StopsDelayed, StopsFrame, StopsAck, StopsRound}
 use Rattle.std.proofs.lemmas.List.Elements.{All-cons, All-head, All-tail}
 use Rattle.net_receiver.specs.Rules.{Segment}
 use Rattle.net_receiver.specs.ReceiverState.{ReceiverState, receiver_after_command, next_position, IsSound}
-use Rattle.net_stream_model.specs.SackBlocks.{most_sack_blocks, blocks_of}
-use Rattle.net_stream_model.specs.Reach.{after_ack_frames}
+use Rattle.net_receiver.specs.SackBlocks.{most_sack_blocks}
+use Rattle.net_stream_model.specs.SackBytes.{blocks_of}
+use Rattle.net_stream_model.specs.Reach.{acknowledge_frames}
 use Rattle.net_stream_model.specs.Frames.{segment_of}
 use Rattle.net_stream_model.specs.PathState.{receiver_after}
 use Rattle.net_stream_model.specs.Arrivals.{passing, receiver_after_all, ack_to, acks_of}
@@ -36,11 +38,11 @@ keeps P f step zero s h = h
 keeps P f step (suc n) s h = step (times n f s) (keeps P f step n s h)
 
 -- ---- parts of the sender's queue
-pub goes_on : (c : Cursor) → c.pos < stop_of c.link.sender → 0 < c.left → part c ≡ part_at c
-goes_on c below some = cond-true _ (part_at c) c (grind (arith, nat_tests))
+pub goes_on : (c : Cursor) → c.pos < send_limit c.link.sender → 0 < c.left → part c ≡ transmit_part c
+goes_on c below some = cond-true _ (transmit_part c) c (grind (arith, nat_tests))
 
-pub stops : (c : Cursor) → (stop_of c.link.sender ≤ c.pos) ⊎ (c.left ≡ 0) → part c ≡ c
-stops c end = cond-false _ (part_at c) c (grind (arith, nat_tests))
+pub stops : (c : Cursor) → (send_limit c.link.sender ≤ c.pos) ⊎ (c.left ≡ 0) → part c ≡ c
+stops c end = cond-false _ (transmit_part c) c (grind (arith, nat_tests))
 
 -- where nothing more is sent, all is sent
 pub all_sent : (s : LinkState) (c : Cursor) (n : ℕ) → c ≡ times n part (start s) → n ≤ length s.sender.queue →
@@ -67,12 +69,12 @@ by_first P (frame ∷ rest) none some = some frame rest refl
 
 -- ---- a part of the queue
 -- what is true where no frame may begin, where bytes are spared and where a frame is sent
-pub by_part : (P : Cursor → Type 0) (c : Cursor) → ((stop_of c.link.sender ≤ c.pos) ⊎ (c.left ≡ 0) → P c) →
-    (c.pos < stop_of c.link.sender → 0 < c.left → 0 < spared_from c.link.sender c.pos → P (record c { pos = c.pos + spared_from c.link.sender c.pos })) →
-    (c.pos < stop_of c.link.sender → 0 < c.left → spared_from c.link.sender c.pos ≡ 0 →
+pub by_part : (P : Cursor → Type 0) (c : Cursor) → ((send_limit c.link.sender ≤ c.pos) ⊎ (c.left ≡ 0) → P c) →
+    (c.pos < send_limit c.link.sender → 0 < c.left → 0 < spared_from c.link.sender c.pos → P (record c { pos = c.pos + spared_from c.link.sender c.pos })) →
+    (c.pos < send_limit c.link.sender → 0 < c.left → spared_from c.link.sender c.pos ≡ 0 →
     P (record { pos = c.pos + frame_len c.link c.pos; left = c.left - 1; link = send c.link c.pos (frame_len c.link c.pos) })) → P (part c)
 by_part P c same spared sent =
-    either (cases_lt c.pos (stop_of c.link.sender))
+    either (cases_lt c.pos (send_limit c.link.sender))
     (λ below. either (cases_lt 0 c.left)
     (λ some. subst P (sym (goes_on c below some)) (split P (nat_lt 0 (spared_from c.link.sender c.pos)) _ _
     (λ more. spared below some (ltb-true 0 (spared_from c.link.sender c.pos) more))
@@ -165,7 +167,7 @@ all_arrive P N took r (x ∷ xs) h = all_arrive P N took (receiver_after N r (se
 -- what is true where it keeps the rest of its queue, and where an acknowledgement changes nothing
 pub heard : (P : SenderState → Type 0) (s : SenderState) (o : Option (ℕ × List ℕ)) →
     ((n : ℕ) (xs : List ℕ) → o ≡ Some (n, xs) → s.first_unacknowledged ≤ n → n ≤ end_of s → P (sender_from s n (blocks_of most_sack_blocks xs))) →
-    P s → P (after_ack_frame s o)
+    P s → P (acknowledge_frame s o)
 heard P s None took same = same
 heard P s (Some (n, xs)) took same =
     split P (nat_le s.first_unacknowledged n && nat_le n (end_of s)) (sender_from s n (blocks_of most_sack_blocks xs)) s
@@ -176,9 +178,9 @@ heard P s (Some (n, xs)) took same =
 
 pub all_heard : (P : SenderState → Type 0) →
     ((s : SenderState) (n : ℕ) (xs : List ℕ) → s.first_unacknowledged ≤ n → n ≤ end_of s → P s → P (sender_from s n (blocks_of most_sack_blocks xs))) →
-    (s : SenderState) (frames : List (List ℕ)) → P s → P (after_ack_frames s frames)
+    (s : SenderState) (frames : List (List ℕ)) → P s → P (acknowledge_frames s frames)
 all_heard P took s [] h = h
-all_heard P took s (x ∷ xs) h = all_heard P took (after_ack_frame s (segment_of x)) xs (heard P s (segment_of x) (λ n ys _ low high. took s n ys low high h) h)
+all_heard P took s (x ∷ xs) h = all_heard P took (acknowledge_frame s (segment_of x)) xs (heard P s (segment_of x) (λ n ys _ low high. took s n ys low high h) h)
 
 -- ---- some frames, and then others
 pub brought_append : (N : ℕ) (r : ReceiverState) (xs ys : List (List ℕ)) →
@@ -259,15 +261,15 @@ next_come zero v all = tt
 next_come (suc n) v all = (let both = come_next v all in (both.0, next_come n (after_fate v) both.1))
 
 -- ---- acknowledgements
-pub by_keeps_end : (s : SenderState) (o : Option (ℕ × List ℕ)) → end_of (after_ack_frame s o) ≡ end_of s
+pub by_keeps_end : (s : SenderState) (o : Option (ℕ × List ℕ)) → end_of (acknowledge_frame s o) ≡ end_of s
 by_keeps_end s o = heard (λ u. end_of u ≡ end_of s) s o (λ n xs _ low high. omega (arith, length-drop (n - s.first_unacknowledged) s.queue)) refl
 
-pub all_keep_end : (s : SenderState) (frames : List (List ℕ)) → end_of (after_ack_frames s frames) ≡ end_of s
+pub all_keep_end : (s : SenderState) (frames : List (List ℕ)) → end_of (acknowledge_frames s frames) ≡ end_of s
 all_keep_end s frames = all_heard (λ u. end_of u ≡ end_of s) (λ u n xs low high h. omega (arith, length-drop (n - u.first_unacknowledged) u.queue)) s frames refl
 
-pub acked_append : (s : SenderState) (xs ys : List (List ℕ)) → after_ack_frames s (xs ++ ys) ≡ after_ack_frames (after_ack_frames s xs) ys
+pub acked_append : (s : SenderState) (xs ys : List (List ℕ)) → acknowledge_frames s (xs ++ ys) ≡ acknowledge_frames (acknowledge_frames s xs) ys
 acked_append s [] ys = refl
-acked_append s (x ∷ xs) ys = acked_append (after_ack_frame s (segment_of x)) xs ys
+acked_append s (x ∷ xs) ys = acked_append (acknowledge_frame s (segment_of x)) xs ys
 
 pub first_is : (f : ℕ) (w : List ℕ) (r : ReceiverState) → ReceivesFrom f w r → r.first ≡ f
 unfolding ReceivesFrom

@@ -7,9 +7,12 @@ use Rattle.net_assembler.proofs.Positions.{either}
 use Rattle.net_receiver.specs.Rules.{Segment}
 use Rattle.net_receiver.specs.ReceiverState.{ReceiverState, IsSound, next_position, receiver_after_command, receiver_after_read, domain, limit_of}
 use Rattle.net_receiver.specs.Retransmission.{HasByteAt}
-use Rattle.net_stream_model.specs.SenderState.{SenderState, sender_from, end_of, at_least_one, after_ack_frame}
+use Rattle.net_receiver.specs.SenderState.{SenderState, sender_from, end_of}
+use Rattle.net_stream_model.specs.Transmission.{at_least_one}
+use Rattle.net_stream_model.specs.SackBytes.{acknowledge_frame}
 use Rattle.net_stream_model.specs.Frames.{frame_of, frames_from, segment_of, FramesDecode}
-use Rattle.net_stream_model.specs.SackBlocks.{count_outside, is_sacked, most_sack_blocks, block_bytes, blocks_of}
+use Rattle.net_stream_model.specs.SackBytes.{count_outside, block_bytes, blocks_of}
+use Rattle.net_receiver.specs.SackBlocks.{is_sacked, most_sack_blocks}
 use Rattle.net_stream_model.specs.declared.counts.FrameCounts.{FrameCounts}
 use Rattle.net_stream_model.specs.LinkState.{LinkState}
 use Rattle.net_stream_model.specs.declared.fate.Fate.{Fate}
@@ -17,7 +20,7 @@ use Rattle.net_stream_model.specs.declared.fate.Fate.TheVariants.{Lost}
 use Rattle.net_stream_model.specs.Counts.{with_fate, with_fates, with_payload}
 use Rattle.net_stream_model.specs.Fates.{FatesState, next_fate, after_fate, fates_after, arrives, arrives_later, AllCome, NextCome}
 use Rattle.net_stream_model.specs.PathState.{ack_of, receiver_after}
-use Rattle.net_stream_model.specs.Reach.{after_ack_frames}
+use Rattle.net_stream_model.specs.Reach.{acknowledge_frames}
 use Rattle.net_stream_model.specs.Arrivals.{coming_of, delayed_of, receiver_after_all, ack_to, acks_of}
 use Rattle.net_stream_model.specs.Round.{Passes}
 use Rattle.net_stream_model.specs.LinkInvariant.{LinkInvariant}
@@ -91,24 +94,24 @@ module _ (known : RoundFacts) where
       (omega (arith, far, room, brought_limit N r delayed, reach, brought_grows N r2 rest))
 
 -- ---- a sender never goes back
-all_heads_grow : (s : SenderState) (frames : List (List ℕ)) → s.first_unacknowledged ≤ (after_ack_frames s frames).first_unacknowledged
+all_heads_grow : (s : SenderState) (frames : List (List ℕ)) → s.first_unacknowledged ≤ (acknowledge_frames s frames).first_unacknowledged
 all_heads_grow s frames = all_heard (λ (u : SenderState). s.first_unacknowledged ≤ u.first_unacknowledged) (λ u n xs low _ h. le_trans h low) s frames (omega arith)
 
 -- an acknowledgement past b takes the sender past b
 one_moves : (s : SenderState) (b k : ℕ) (xs : List ℕ) (o : Option (ℕ × List ℕ)) → o ≡ Some (k, xs) → b < k →
-    k ≤ end_of s → b < (after_ack_frame s o).first_unacknowledged
-one_moves s b k xs o at above within = subst (λ p. b < (after_ack_frame s p).first_unacknowledged) (sym at) (grind arith)
+    k ≤ end_of s → b < (acknowledge_frame s o).first_unacknowledged
+one_moves s b k xs o at above within = subst (λ p. b < (acknowledge_frame s p).first_unacknowledged) (sym at) (grind arith)
 
 -- if the first unacknowledged position stays, none of these came
-none_come : (s s' : SenderState) (delayed c : List (List ℕ)) (n m : ℕ) → s' ≡ after_ack_frames s (delayed ++ c) →
+none_come : (s s' : SenderState) (delayed c : List (List ℕ)) (n m : ℕ) → s' ≡ acknowledge_frames s (delayed ++ c) →
     s'.first_unacknowledged ≡ s.first_unacknowledged → s.first_unacknowledged < n → m ≤ end_of s →
     All (Acks n m) c → c ≡ []
 none_come s s' delayed [] n m is same above within all = refl
 none_come s s' delayed (a ∷ rest) n m is same above within all =
-    let t = after_ack_frames s delayed in
+    let t = acknowledge_frames s delayed in
     let ack = All-head (Acks n m) a rest all in
     let e : end_of t ≡ end_of s = all_keep_end s delayed in
-    let u = after_ack_frame t (segment_of a) in
+    let u = acknowledge_frame t (segment_of a) in
     let one = one_moves t s.first_unacknowledged ack.0 ack.1 (segment_of a) ack.2 (omega arith) (omega arith) in
     absurd (omega (arith, one, all_heads_grow u rest, ap (λ v. v.first_unacknowledged) (is ∙ acked_append s delayed (a ∷ rest))))
 
@@ -256,9 +259,9 @@ module _ (old new : LinkState) (p : Passes old new) where
   not_due known room still still_reverse (inr h) =
       let s = old.sender in
       let d = coming_of old.reverse.fates p.acks in
-      let t = after_ack_frame s (segment_of h.0) in
+      let t = acknowledge_frame s (segment_of h.0) in
       let one = one_moves s s.first_unacknowledged h.2 h.3 (segment_of h.0) h.5 h.6.0 h.6.1 in
-      omega (arith, one, all_heads_grow t (h.1 ++ d), still_reverse, ap (λ v. v.first_unacknowledged) (p.acked ∙ ap (λ x. after_ack_frames s (x ++ d)) h.4))
+      omega (arith, one, all_heads_grow t (h.1 ++ d), still_reverse, ap (λ v. v.first_unacknowledged) (p.acked ∙ ap (λ x. acknowledge_frames s (x ++ d)) h.4))
 
   -- a frame or each acknowledgement was lost, or what was delayed makes for progress in the next round
   abbrev HasLost : Type 0
@@ -406,12 +409,12 @@ head_meets known old new p arrive behind within word =
     let xs = block_bytes (take most_sack_blocks (maximal_runs (domain new.receiver.held))) in
     let others = old.reverse.in_flight ++ acks_of most_sack_blocks old.receiver p.arrived in
     let earlier = old.reverse.delayed ++ others in
-    let t = after_ack_frames old.sender earlier in
+    let t = acknowledge_frames old.sender earlier in
     let end : end_of t ≡ end_of old.sender = all_keep_end old.sender earlier in
-    let is : new.sender ≡ after_ack_frame t (Some (n, xs)) =
-    p.acked ∙ ap (λ a. after_ack_frames old.sender (old.reverse.delayed ++ a)) (coming_all old.reverse.fates p.acks arrive ∙ p.acks_are)
-    ∙ ap (after_ack_frames old.sender) (sym (append_assoc old.reverse.delayed others (frame_of n xs ∷ [])))
-    ∙ acked_append old.sender earlier (frame_of n xs ∷ []) ∙ ap (after_ack_frame t) (known.stream.decode n xs (omega arith)) in
+    let is : new.sender ≡ acknowledge_frame t (Some (n, xs)) =
+    p.acked ∙ ap (λ a. acknowledge_frames old.sender (old.reverse.delayed ++ a)) (coming_all old.reverse.fates p.acks arrive ∙ p.acks_are)
+    ∙ ap (acknowledge_frames old.sender) (sym (append_assoc old.reverse.delayed others (frame_of n xs ∷ [])))
+    ∙ acked_append old.sender earlier (frame_of n xs ∷ []) ∙ ap (acknowledge_frame t) (known.stream.decode n xs (omega arith)) in
     let low : t.first_unacknowledged ≤ n = omega (arith, head_grows t (Some (n, xs)), ap (λ v. v.first_unacknowledged) is) in
     (t, is ∙ cond-true _ (sender_from t n (blocks_of most_sack_blocks xs)) t (and_from _ _ (le-leb t.first_unacknowledged n low) (le-leb n (end_of t) (omega arith))))
 

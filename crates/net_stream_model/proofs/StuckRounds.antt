@@ -7,7 +7,7 @@ use Rattle.net_receiver.specs.ReceiverState.{ReceiverState, IsSound, next_positi
 use Rattle.net_receiver.specs.Soundness.{SoundStays}
 use Rattle.net_stream_model.specs.declared.counts.FrameCounts.{FrameCounts}
 use Rattle.net_stream_model.specs.declared.fate.Fate.{Fate}
-use Rattle.net_stream_model.specs.SackBlocks.{most_sack_blocks}
+use Rattle.net_receiver.specs.SackBlocks.{most_sack_blocks}
 use Rattle.net_stream_model.specs.Fates.{FatesState, next_fate, after_fate, AllCome}
 use Rattle.net_stream_model.specs.Counts.{with_fate, with_fates}
 use Rattle.net_stream_model.specs.PathState.{PathState}
@@ -88,16 +88,16 @@ module _ (known : RoundFacts) where
       passes_before = back (λ n. CanPass s (after s reads n)) (λ n can.
           let c = after s reads n in
           let P : CopyState → Type 0 = λ d. length c.given ≤ length d.given in
-          let more = turned P s.rounds s.chunk (λ d _ h. (let f = fed_leaves s.chunk d in omega arith)) (λ d _. decided_too P (λ _ _ h. h) s.rounds d) (λ _ _ h. h) c (omega arith) in
+          let more = turned P s.max_stalled_rounds s.chunk (λ d _ h. (let f = fed_leaves s.chunk d in omega arith)) (λ d _. decided_too P (λ _ _ h. h) s.max_stalled_rounds d) (λ _ _ h. h) c (omega arith) in
           record { outgoing = can.outgoing; incoming = can.incoming; chunk = can.chunk; positions = omega arith })
 
       pub runs_before : (j n : ℕ) → j ≤ n → (after s reads n).status ≡ Running → (after s reads j).status ≡ Running
-      runs_before = back (λ n. (after s reads n).status ≡ Running) (λ n on. (goes_on s.rounds s.chunk (after s reads n) on).before)
+      runs_before = back (λ n. (after s reads n).status ≡ Running) (λ n on. (goes_on s.max_stalled_rounds s.chunk (after s reads n) on).before)
 
       -- ---- a round that makes no progress
       module _ (n : ℕ) (can : CanPass s (after s reads (suc n))) (on : (after s reads (suc n)).status ≡ Running) where
-        pub one : GoesOn s.rounds s.chunk (after s reads n)
-        one = goes_on s.rounds s.chunk (after s reads n) on
+        pub one : GoesOn s.max_stalled_rounds s.chunk (after s reads n)
+        one = goes_on s.max_stalled_rounds s.chunk (after s reads n) on
 
         abbrev e : CopyState
         e = feed s.chunk (after s reads n)
@@ -151,7 +151,7 @@ module _ (known : RoundFacts) where
             IsStuck (frames_sent (before_round s reads n)) (acks_sent (before_round s reads n)) (before_round s reads n) (after s reads (suc n)).link
         stuck_round nothing =
             let stuck = elim (brought s.chunk e) as (λ _. IsStuck (frames_sent old) (acks_sent old) old (pass s.chunk e).link) [
-              | Moved none some ↦ absurd (some (still_round s.rounds s.chunk (after s reads n) one nothing))
+              | Moved none some ↦ absurd (some (still_round s.max_stalled_rounds s.chunk (after s reads n) one nothing))
               | Nothing more still empty ↦ stuck_turn still empty
             ] in
             subst (λ x. IsStuck (frames_sent (waited x)) (acks_sent (waited x)) (waited x) (after s reads (suc n)).link) (sym (runs (feed s.chunk) (after s reads n) one.before))
@@ -173,9 +173,9 @@ module _ (known : RoundFacts) where
             let before = by_turns first n (passes_before n (suc n) (omega arith) can) in
             let read = reading c before in
             either (running_or_not c.status)
-            (λ on. turns (λ d. after s reads (suc n) ≡ d → P d) s.rounds s.chunk c on (λ _ _. read) (λ _ _. ending e Done read) (λ _ _ _ _. ending e GaveUp read)
+            (λ on. turns (λ d. after s reads (suc n) ≡ d → P d) s.max_stalled_rounds s.chunk c on (λ _ _. read) (λ _ _. ending e Done read) (λ _ _ _ _. ending e GaveUp read)
             (λ fed _ _ is. rounding n can (ap (λ d. d.status) is ∙ fed) read) refl)
-            (λ over. subst P (sym (ended s.rounds s.chunk c over)) before)
+            (λ over. subst P (sym (ended s.max_stalled_rounds s.chunk c over)) before)
 
       -- the fates that a round of it begins with
       pub drawn_before : (n : ℕ) → (after s reads n).status ≡ Running →
@@ -203,7 +203,7 @@ module _ (known : RoundFacts) where
       l : LinkState
       l = before_round s reads k
 
-      stuck : (j : ℕ) → n ≤ j + s.rounds → j < n →
+      stuck : (j : ℕ) → n ≤ j + s.max_stalled_rounds → j < n →
           IsStuck (frames_sent (before_round s reads j)) (acks_sent (before_round s reads j)) (before_round s reads j) (after s reads (suc j)).link
       stuck j far few = stuck_round known s reads j (passes_before known s reads (suc j) (suc n) (omega arith) can)
           (runs_before known s reads (suc j) n (omega arith) on) ((gives_up_after s reads n on gave).1 j far few)
@@ -213,7 +213,7 @@ module _ (known : RoundFacts) where
           subst (λ d. IsDue (waited d)) (sym (runs (feed s.chunk) (after s reads j) (runs_before known s reads j n few on))) (due_fed s.chunk (after s reads j) due)
 
   -- one of the last rounds of a copy that gave up, after which so many others failed
-  last_failed : (s : Setup) (reads : List (List ℕ)) (n follow : ℕ) → CanPass s (after s reads n) → (after s reads n).status ≡ GaveUp → follow < s.rounds →
+  last_failed : (s : Setup) (reads : List (List ℕ)) (n follow : ℕ) → CanPass s (after s reads n) → (after s reads n).status ≡ GaveUp → follow < s.max_stalled_rounds →
       (k : ℕ) × (let l = before_round s reads k in Fails follow l × CountsFates s.fates s.ack_fates l.forward.fates l.reverse.fates l.counts)
   last_failed s reads n follow can gave few =
       let h = ends_in_one_turn s reads n (λ r. (let j : GaveUp ≡ Running = sym gave ∙ r in cc)) in
@@ -290,15 +290,15 @@ pub counts_rounds : CountsRounds
 counts_rounds s reads zero on = omega arith
 counts_rounds s reads (suc n) on =
     let c = after s reads n in
-    let one = goes_on s.rounds s.chunk c on in
+    let one = goes_on s.max_stalled_rounds s.chunk c on in
     let fed = fed_leaves s.chunk c in
     omega (arith, counts_rounds s reads n one.before, ap (λ d. d.rounds) one.is)
 
 pub gives_up_counted : GivesUpCounted
-gives_up_counted s reads n few = at_end s reads (λ c. s.rounds ≤ c.rounds) GaveUp (λ (e : GaveUp ≡ Running). cc)
+gives_up_counted s reads n few = at_end s reads (λ c. s.max_stalled_rounds ≤ c.rounds) GaveUp (λ (e : GaveUp ≡ Running). cc)
     (λ m on gave. (let c = after s reads m in
     let fed = fed_leaves s.chunk c in
-    omega (arith, counts_rounds s reads m on, (gives_up_after s reads m on gave).0, ap (λ d. d.rounds) (stops s.rounds s.chunk c on gave).is))) n
+    omega (arith, counts_rounds s reads m on, (gives_up_after s reads m on gave).0, ap (λ d. d.rounds) (stops s.max_stalled_rounds s.chunk c on gave).is))) n
 
 -- ---- a copy that gives up hasn't written all
 module _ (known : RoundFacts) where
@@ -307,7 +307,7 @@ module _ (known : RoundFacts) where
       (λ (e : GaveUp ≡ Running). cc)
       (λ n on gave can few.
       let c = after s reads n in
-      let stop = stops s.rounds s.chunk c on gave in
+      let stop = stops s.max_stalled_rounds s.chunk c on gave in
       let d = feed s.chunk c in
       let given = ap (λ x. length x.given) stop.is in
       let wrote = ap (λ x. length x.written) stop.is in
@@ -355,10 +355,10 @@ module _ (known : RoundFacts) where
 
   pub enough_failed : EnoughFailed
   enough_failed s reads n can few gave = at_end s reads
-      (λ c. CanPass s c → (s.rounds ≤ c.link.counts.lost + c.link.counts.delayed) × (s.rounds ≤ c.link.counts.lost + 1)) GaveUp (λ (e : GaveUp ≡ Running). cc)
+      (λ c. CanPass s c → (s.max_stalled_rounds ≤ c.link.counts.lost + c.link.counts.delayed) × (s.max_stalled_rounds ≤ c.link.counts.lost + 1)) GaveUp (λ (e : GaveUp ≡ Running). cc)
       (λ m on gave can.
       let c = after s reads m in
-      let stop = stops s.rounds s.chunk c on gave in
+      let stop = stops s.max_stalled_rounds s.chunk c on gave in
       let h = lacks s reads m (passes_before known s reads m (suc m) (omega arith) can) in
       let counts = ap (λ x. x.link.counts) stop.is ∙ (fed_leaves s.chunk c).counts in
       let lost = ap (λ x. x.lost) counts in
@@ -389,7 +389,7 @@ module _ (known : RoundFacts) where
   taken_few s reads fits zero on = omega arith
   taken_few s reads fits (suc n) on =
       let c = after s reads n in
-      let one = goes_on s.rounds s.chunk c on in
+      let one = goes_on s.max_stalled_rounds s.chunk c on in
       let w = (so_far known.stream s reads fits (suc n)).writes.carries in
       let given = ap (λ d. length d.given) one.is in
       let more = fed_few s.chunk c in
@@ -398,7 +398,7 @@ module _ (known : RoundFacts) where
 
   pub enough_rounds : EnoughRounds
   enough_rounds s reads n fits = at_end s reads (λ c. length c.given ≤ c.rounds * s.chunk) Done (λ (e : Done ≡ Running). cc)
-      (λ m on done. (let last = done_none s.rounds s.chunk (after s reads m) on done in
+      (λ m on done. (let last = done_none s.max_stalled_rounds s.chunk (after s reads m) on done in
       omega (arith, last.0, ap (λ k. k * s.chunk) last.1, taken_few s reads fits m on))) n
 
   -- ---- if all arrive in their rounds

@@ -4,7 +4,7 @@ use Rattle.std.proofs.lemmas.Bool.Decides.{nat_tests}
 use Rattle.std.proofs.lemmas.Bool.{and_parts, not-true, leb-true, leb-false, both_ways, cases_lt}
 use Rattle.net_assembler.proofs.Positions.{either}
 use Rattle.net_receiver.specs.ReceiverState.{next_position}
-use Rattle.net_stream_model.specs.SenderState.{end_of}
+use Rattle.net_receiver.specs.SenderState.{end_of}
 use Rattle.net_stream_model.specs.LinkState.{LinkState, times, round}
 use Rattle.net_stream_model.specs.CopyState.{Setup, CopyState, Status, Running, Done, GaveUp, ReadFailed, begin, is_written, room_for, with_read, read_of, feed, decide, pass, while_running, turn, after, waited}
 use Rattle.net_stream_model.proofs.Steps.{keeps, split}
@@ -90,7 +90,7 @@ module _ (P : CopyState → Type 0) (ending : (c : CopyState) (status : Status) 
       ((c : CopyState) → P c → P (pass s.chunk c)) →
       P (begin s reads) → (n : ℕ) → P (after s reads n)
   after_turns s reads fed passed first n =
-      all_turned P s.rounds s.chunk (λ c _. fed c) (λ c _. decided_too s.rounds c) (λ c _. passed c) n (begin s reads) first
+      all_turned P s.max_stalled_rounds s.chunk (λ c _. fed c) (λ c _. decided_too s.max_stalled_rounds c) (λ c _. passed c) n (begin s reads) first
 
 -- a copy that has ended stays as it is
 pub ended : (rounds chunk : ℕ) (c : CopyState) → (c.status ≡ Running → ⊥) → turn rounds chunk c ≡ c
@@ -251,11 +251,11 @@ module _ (s : Setup) (reads : List (List ℕ)) where
   -- after n turns of a copy that goes on, `stalled` is how many of the last rounds made no progress
   record Counted (n : ℕ) : Type 0 where
     few : (after s reads n).stalled ≤ n
-    within : (after s reads n).stalled ≤ s.rounds
+    within : (after s reads n).stalled ≤ s.max_stalled_rounds
     still : (k : ℕ) → n ≤ k + (after s reads n).stalled → k < n → MakesNoProgress s reads k
     all : (j : ℕ) → ((k : ℕ) → n ≤ k + j → k < n → MakesNoProgress s reads k) → j ≤ n → j ≤ (after s reads n).stalled
 
-  one_more : (n : ℕ) → GoesOn s.rounds s.chunk (after s reads n) → Counted n → Counted (suc n)
+  one_more : (n : ℕ) → GoesOn s.max_stalled_rounds s.chunk (after s reads n) → Counted n → Counted (suc n)
   one_more n one before =
       let c = after s reads n in
       let fed = fed_leaves s.chunk c in
@@ -266,31 +266,31 @@ module _ (s : Setup) (reads : List (List ℕ)) where
           within = omega arith;
           still = λ k far below. absurd (omega arith);
           all = λ j h few. either (cases_lt 0 j)
-              (λ l. absurd (some (still_round s.rounds s.chunk c one (h n (omega arith) (omega arith))))) (λ l. omega arith);
+              (λ l. absurd (some (still_round s.max_stalled_rounds s.chunk c one (h n (omega arith) (omega arith))))) (λ l. omega arith);
         }
         | Nothing more none empty ↦ record {
           few = omega arith;
           within = omega arith;
           still = λ k far below. either (cases_lt k n) (λ l. before.still k (omega arith) l)
-              (λ l. subst (MakesNoProgress s reads) (let is : n ≡ k = omega arith in is) (still_turn s.rounds s.chunk c one none));
+              (λ l. subst (MakesNoProgress s reads) (let is : n ≡ k = omega arith in is) (still_turn s.max_stalled_rounds s.chunk c one none));
           all = λ j h few. (let rest = before.all (j - 1) (λ k far below. h k (omega arith) (omega arith)) (omega arith) in omega arith);
         }
       ]
 
   counted : (n : ℕ) → (after s reads n).status ≡ Running → Counted n
   counted zero on = record { few = omega arith; within = omega arith; still = λ k far below. absurd (omega arith); all = λ j h few. omega arith }
-  counted (suc n) on = (let one = goes_on s.rounds s.chunk (after s reads n) on in one_more n one (counted n one.before))
+  counted (suc n) on = (let one = goes_on s.max_stalled_rounds s.chunk (after s reads n) on in one_more n one (counted n one.before))
 
 pub gives_up_after : GivesUpAfter
 gives_up_after s reads n on gave =
     let so_far = counted s reads n on in
-    let stop = stops s.rounds s.chunk (after s reads n) on gave in
+    let stop = stops s.max_stalled_rounds s.chunk (after s reads n) on gave in
     (omega arith, λ k far below. so_far.still k (omega arith) below)
 
 pub never_later : NeverLater
-never_later s reads n on many nothing = (let so_far = counted s reads n on in omega (arith, so_far.all (suc s.rounds) nothing (omega arith)))
+never_later s reads n on many nothing = (let so_far = counted s reads n on in omega (arith, so_far.all (suc s.max_stalled_rounds) nothing (omega arith)))
 
 pub no_more_rounds : NoMoreRounds
 no_more_rounds s reads n many nothing on =
-    let one = goes_on s.rounds s.chunk (after s reads n) on in
-    omega (arith, (counted s reads n one.before).all s.rounds nothing many, (fed_leaves s.chunk (after s reads n)).stalled)
+    let one = goes_on s.max_stalled_rounds s.chunk (after s reads n) on in
+    omega (arith, (counted s reads n one.before).all s.max_stalled_rounds nothing many, (fed_leaves s.chunk (after s reads n)).stalled)

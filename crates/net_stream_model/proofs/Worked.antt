@@ -10,9 +10,9 @@ use Rattle.net_receiver.specs.WorkedExample.{NextComputed, HeldComputed, RunsCom
 use Rattle.net_stream_model.specs.declared.counts.FrameCounts.{FrameCounts}
 use Rattle.net_stream_model.specs.declared.fate.Fate.{Fate}
 use Rattle.net_stream_model.specs.declared.fate.Fate.TheVariants.{Delivered, Lost}
-use Rattle.net_stream_model.specs.SenderState.{SenderState, sender_state}
+use Rattle.net_receiver.specs.SenderState.{SenderState, sender_state}
 use Rattle.net_stream_model.specs.Frames.{frame_of}
-use Rattle.net_stream_model.specs.SackBlocks.{block_bytes, blocks_of}
+use Rattle.net_stream_model.specs.SackBytes.{block_bytes, blocks_of}
 use Rattle.net_stream_model.specs.Counts.{is_refused, with_refusal}
 use Rattle.net_stream_model.specs.PathState.{PathState, ack_of}
 use Rattle.net_stream_model.specs.LinkState.{LinkState, times, acknowledge_all, delayed_acks, pass_acks, with_burst, round}

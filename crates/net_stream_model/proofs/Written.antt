@@ -3,7 +3,7 @@ use Rattle.std.proofs.Common.{◌≡◌, ◌⊎◌, ◌&&◌, ℕ, zero, suc, �
 use Rattle.std.proofs.lemmas.Bool.{both_ways, ltb-true, ltb-false}
 use Rattle.std.proofs.lemmas.List.{append-nil, take-append-le, take-append-drop, take_all}
 use Rattle.std.proofs.Math.Seq.{drop-append_seam}
-use Rattle.net_stream_model.specs.SenderState.{with_written}
+use Rattle.net_receiver.specs.SenderState.{with_written}
 use Rattle.net_stream_model.specs.CopyState.{Setup, CopyState, Status, Running, Done, GaveUp, ReadFailed, begin, is_written, rest_of, room_for, read_of, with_read, feed, decide, pass, while_running, turn, after, outcome, most_turns, copied, setup_of, Outcome, final, concat}
 use Rattle.net_stream_model.specs.Facts.{StreamFacts}
 use Rattle.net_stream_model.specs.Streams.{Writes}
@@ -105,9 +105,9 @@ module _ (s : Setup) where
       by false e = record { reads = others; same = refl; coming = coming }
 
   decide_alike : (c : CopyState) (others : List (List ℕ)) → (c.more ≡ true → Alike c.reads others) →
-      AreAlike (decide s.rounds c) (decide s.rounds (record c { reads = others }))
+      AreAlike (decide s.max_stalled_rounds c) (decide s.max_stalled_rounds (record c { reads = others }))
   decide_alike c others coming =
-      let still = decides (λ d. d.more ≡ true → Alike d.reads others) s.rounds c (λ _ _. coming) (λ _. coming) (λ _. coming) in
+      let still = decides (λ d. d.more ≡ true → Alike d.reads others) s.max_stalled_rounds c (λ _ _. coming) (λ _. coming) (λ _. coming) in
       record { reads = others; same = grind arith; coming = still }
 
   -- a step that both make or neither
@@ -135,8 +135,8 @@ module _ (s : Setup) where
       (λ on rs coming same. feed_alike c rs on coming (fills n) (subst (FillsAt s.chunk) same (fills_too n))) in
       let c1 = while_running (feed s.chunk) c in
       let d1 = while_running (feed s.chunk) d in
-      let two = both_step (decide s.rounds) c1 d1 one (λ on rs coming same. decide_alike c1 rs coming) in
-      both_step (pass s.chunk) (while_running (decide s.rounds) c1) (while_running (decide s.rounds) d1) two (λ on rs coming same. record { reads = rs; same = refl; coming = coming })
+      let two = both_step (decide s.max_stalled_rounds) c1 d1 one (λ on rs coming same. decide_alike c1 rs coming) in
+      both_step (pass s.chunk) (while_running (decide s.max_stalled_rounds) c1) (while_running (decide s.max_stalled_rounds) d1) two (λ on rs coming same. record { reads = rs; same = refl; coming = coming })
 
 pub same_bytes : StreamFacts → SameBytes
 same_bytes known s reads others fits fills fills_too end bytes =
@@ -185,8 +185,8 @@ end_read chunk c h = fed_by EndComes chunk c (λ may is. absurd (both_ways (has_
 
 end_comes : (s : Setup) (reads : List (List ℕ)) (n : ℕ) → has_end reads ≡ true → EndComes (after s reads n)
 end_comes s reads n e =
-    all_turned EndComes s.rounds s.chunk (λ c on h. end_read s.chunk c h)
-    (λ c on h. decides EndComes s.rounds c (λ none all. (h.0, λ f. absurd (cc))) (λ many. (h.0, λ f. absurd (cc))) (λ few. h))
+    all_turned EndComes s.max_stalled_rounds s.chunk (λ c on h. end_read s.chunk c h)
+    (λ c on h. decides EndComes s.max_stalled_rounds c (λ none all. (h.0, λ f. absurd (cc))) (λ many. (h.0, λ f. absurd (cc))) (λ few. h))
     (λ c on h. h) n (begin s reads) (λ _. e, λ f. absurd (cc))
 
 pub done_if_all_come : StreamFacts → EndsIfAllCome → DoneIfAllCome
@@ -221,7 +221,7 @@ module _ (reads : List (List ℕ)) where
   all_given s = after_turns Given (λ c status h. h) s reads (fed_given s.chunk) (λ c h. h) refl
 
   given_before : (s : Setup) (n : ℕ) → Given (before_pass s reads n)
-  given_before s n = to_pass Given s.rounds s.chunk (λ c _. fed_given s.chunk c) (λ c _. decided_too Given (λ _ _ h. h) s.rounds c) (after s reads n) (all_given s n)
+  given_before s n = to_pass Given s.max_stalled_rounds s.chunk (λ c _. fed_given s.chunk c) (λ c _. decided_too Given (λ _ _ h. h) s.max_stalled_rounds c) (after s reads n) (all_given s n)
 
 module _ (known : StreamFacts) (s : Setup) (fits : StartsFits s) where
   -- what is written so far, and what is still to come
@@ -284,7 +284,7 @@ module _ (known : StreamFacts) (s : Setup) (fits : StartsFits s) where
     part_short error p =
         let c = after s reads p.turns in
         let e = before_pass s reads p.turns in
-        let h : SoFar known s reads e = to_pass (SoFar known s reads) s.rounds s.chunk (λ d _. fed_so_far known s reads d)
+        let h : SoFar known s reads e = to_pass (SoFar known s reads) s.max_stalled_rounds s.chunk (λ d _. fed_so_far known s reads d)
         (λ d _. decided_so_far known s reads d) c (so_far known s reads fits p.turns) in
         let rest = part_rest error e p.link p.written p.part h.writes in
         in_short e (e.written ++ p.written) rest.0 false h (given_before reads s p.turns) p.made p.consumed p.appended rest.1

@@ -34,7 +34,7 @@ counts_after step c (suc n) = counts_after step c n ++ (outcome (times (suc n) s
 
 -- the counts after each of the first n turns
 abbrev pub counts_each : Setup → List (List ℕ) → ℕ → List Counts
-counts_each s reads n = counts_after (turn s.rounds s.chunk) (begin s reads) n
+counts_each s reads n = counts_after (turn s.max_stalled_rounds s.chunk) (begin s reads) n
 
 -- a copy that has ended so: it is the outcome of the reads that were made, and those are all; each of its turns
 -- but the last made a round, after which the counts were told
@@ -54,7 +54,7 @@ pub record Copied (s : Setup) (status : Status) (reads : List (List ℕ)) (told 
 -- the copy at the beginning of the round after n turns, if it goes on
 abbrev pub before_pass : Setup → List (List ℕ) → ℕ → CopyState
 before_pass s reads n =
-    while_running (decide s.rounds) (while_running (feed s.chunk) (after s reads n))
+    while_running (decide s.max_stalled_rounds) (while_running (feed s.chunk) (after s reads n))
 
 -- a round that the error ended: it stopped for want of memory, and no bytes of it were written; or not all of
 -- the bytes that it delivered were

@@ -14,7 +14,7 @@ use Rattle.std.specs.Prelude.{ℕ, suc, ◌+◌, ◌*◌, ◌-◌, ◌^◌, ◌&
 use Rattle.std.specs.Prelude.{if◌then◌else◌, Bool, true, false}
 use Rattle.std.specs.Prelude.{List, [], ◌∷◌, ◌++◌, length, take, drop, flat_map}
 use Rattle.net_receiver.specs.ReceiverState.{next_position, receiver_after_read}
-use Rattle.net_stream_model.specs.SenderState.{end_of, room_of, with_written}
+use Rattle.net_receiver.specs.SenderState.{end_of, room_of, with_written}
 use Rattle.net_stream_model.specs.Fates.{FatesState}
 use Rattle.net_stream_model.specs.Counts.{more, round_trip_time, longest_wait}
 use Rattle.net_stream_model.specs.declared.counts.Counts.{Counts}
@@ -28,7 +28,7 @@ pub record Setup : Type 0 where
   pub first : ℕ
   pub payload : ℕ
   pub max_burst : ℕ
-  pub rounds : ℕ
+  pub max_stalled_rounds : ℕ
   pub outgoing : ℕ
   pub incoming : ℕ
   pub chunk : ℕ
@@ -41,7 +41,7 @@ setup_over config to_send to_receive chunk fates ack_fates = record {
   first = config.first;
   payload = config.max_payload;
   max_burst = config.max_burst;
-  rounds = config.max_stalled_rounds;
+  max_stalled_rounds = config.max_stalled_rounds;
   outgoing = to_send;
   incoming = to_receive;
   chunk = chunk;
@@ -167,7 +167,7 @@ turn rounds chunk c =
 
 -- ---- a copy
 abbrev pub after : Setup → List (List ℕ) → ℕ → CopyState
-after s reads n = times n (turn s.rounds s.chunk) (begin s reads)
+after s reads n = times n (turn s.max_stalled_rounds s.chunk) (begin s reads)
 
 -- its outcome
 pub record Outcome : Type 0 where
@@ -195,7 +195,7 @@ concat lists = flat_map (λ xs. xs) lists
 -- no more turns than this are made: each byte that is read makes progress twice, once at the writer and once at
 -- the sender, each time after fewer than so many rounds without progress, and the last turn makes no round
 abbrev pub most_turns : Setup → List (List ℕ) → ℕ
-most_turns s reads = suc ((2 * length (concat reads) + 1) * s.rounds)
+most_turns s reads = suc ((2 * length (concat reads) + 1) * s.max_stalled_rounds)
 
 -- the copy once it has ended
 abbrev pub final : Setup → List (List ℕ) → CopyState

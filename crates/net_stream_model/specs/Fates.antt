@@ -1,5 +1,5 @@
 -- The fates of frames.
---     fate_of rates random_word      the fate that a random word represents
+--     from_word rates random_word      the fate that a random word represents
 --     FatesState      the fates of a list, and after it those that a generator draws
 --     next_fate v, after_fate v      the next fate, and the fates that are left then
 --     fates_after n v      what is left of v once n fates have come
@@ -15,8 +15,8 @@ use Rattle.net_stream_model.specs.declared.fate.Rates.{Rates}
 
 -- the last two decimal digits of a random word decide whether the frame is lost, the two before them
 -- whether it is duplicated, and the two before those whether it is delayed
-abbrev pub fate_of : Rates → ℕ → Fate
-fate_of rates random_word =
+abbrev pub from_word : Rates → ℕ → Fate
+from_word rates random_word =
     if nat_lt (random_word % 100) rates.lost then Lost
     else if nat_lt (random_word / 100 % 100) rates.duplicated then Duplicated
     else if nat_lt (random_word / 10000 % 100) rates.delayed then Delayed
@@ -44,7 +44,7 @@ pub record FatesState : Type 0 where
 
 -- the next fate, from the list that is left
 abbrev pub next_of : Rates → ℕ → List Fate → Fate
-next_of rates state [] = fate_of rates (random_word (successor state))
+next_of rates state [] = from_word rates (random_word (successor state))
 next_of rates state (x ∷ xs) = x
 
 -- what is left then

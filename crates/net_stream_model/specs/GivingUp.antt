@@ -12,8 +12,8 @@ use Rattle.net_stream_model.specs.Promises.{Fails, before_round}
 -- of so many rounds, which are at least `rounds`, each of the last `rounds` failed: its first frame, or all of its
 -- acknowledgements, didn't arrive in that round, and were lost, and not only delayed, if it isn't the last one
 pub record LastRoundsFail (s : Setup) (reads : List (List ℕ)) (made : ℕ) : Type 0 where
-  pub enough : s.rounds ≤ made
-  pub fails : (k : ℕ) → made ≤ k + s.rounds → k < made → Fails (made - suc k) (before_round s reads k)
+  pub enough : s.max_stalled_rounds ≤ made
+  pub fails : (k : ℕ) → made ≤ k + s.max_stalled_rounds → k < made → Fails (made - suc k) (before_round s reads k)
 
 -- the rounds whose counts were told, if positions, and room for a byte, are left
 abbrev pub RoundsFail : Setup → List (List ℕ) → List Counts → Counts → Type 0

@@ -1,7 +1,6 @@
 -- The definitions that the contracts cite.
 pub mod Frames
-pub mod SackBlocks
-pub mod SenderState
+pub mod SackBytes
 pub mod Fates
 pub mod Counts
 pub mod PathState

@@ -10,9 +10,10 @@ use Rattle.std.specs.Prelude.{List, All}
 use Rattle.net_receiver.specs.ReceiverState.{ReceiverState, next_position}
 use Rattle.net_receiver.specs.OneStream.{ReceivesFrom}
 use Rattle.net_receiver.specs.Retransmission.{HasByteAt}
-use Rattle.net_stream_model.specs.SenderState.{SenderState, Sends}
+use Rattle.net_receiver.specs.SenderState.{SenderState, Sends}
 use Rattle.net_stream_model.specs.Frames.{segment_of, FrameMatches}
-use Rattle.net_stream_model.specs.SackBlocks.{is_sacked, most_sack_blocks, blocks_of}
+use Rattle.net_receiver.specs.SackBlocks.{is_sacked, most_sack_blocks}
+use Rattle.net_stream_model.specs.SackBytes.{blocks_of}
 use Rattle.net_stream_model.specs.PathState.{PathState}
 use Rattle.net_stream_model.specs.LinkState.{LinkState}
 

@@ -3,7 +3,7 @@
 --     fresh_link first payload max_burst outgoing incoming fates ack_fates      a link before its first round
 --     times n f s      f, n times over
 --     Cursor, part, transmit      step 1: the sender's frames are sent, part by part
---     come s frame      a frame arrives at the receiver, which acknowledges what it then has
+--     arrive s frame      a frame arrives at the receiver, which acknowledges what it then has
 --     delayed_frame      the next delayed frame arrives: step 2
 --     pass_frame      the next frame in flight meets its fate: step 3
 --     acknowledge_all      one more acknowledgement: step 4
@@ -14,14 +14,15 @@
 use Rattle.std.specs.Prelude.{◌≡◌, ◌<◌, ℕ, zero, suc, ◌+◌, ◌-◌, ◌/◌, ◌&&◌, ◌⊎◌, min, max, nat_lt}
 use Rattle.std.specs.Prelude.{Bool, true, if◌then◌else◌, List, [], ◌∷◌, ◌++◌, length, take, drop}
 use Rattle.net_receiver.specs.ReceiverState.{ReceiverState, fresh_receiver}
-use Rattle.net_stream_model.specs.SenderState.{SenderState, sender_state, contiguous_end}
+use Rattle.net_receiver.specs.SenderState.{SenderState, sender_state, contiguous_end}
 use Rattle.net_stream_model.specs.Frames.{frame_of, segment_of}
-use Rattle.net_stream_model.specs.SackBlocks.{most_sack_blocks, is_full}
+use Rattle.net_receiver.specs.SackBlocks.{most_sack_blocks, is_full}
 use Rattle.net_stream_model.specs.Fates.{FatesState, next_fate, after_fate, arrives, arrives_later}
 use Rattle.net_stream_model.specs.Counts.{no_frames, with_fate, with_payload, with_refusal}
 use Rattle.net_stream_model.specs.PathState.{PathState, ack_of, receiver_after, with_ack}
-use Rattle.net_stream_model.specs.SenderState.{at_least_one, spared_from, next_block, stop_of}
-use Rattle.net_stream_model.specs.SenderState.{after_ack_frame}
+use Rattle.net_stream_model.specs.Transmission.{at_least_one}
+use Rattle.net_receiver.specs.SenderState.{spared_from, next_block, send_limit}
+use Rattle.net_stream_model.specs.SackBytes.{acknowledge_frame}
 use Rattle.net_stream_model.specs.PathState.{with_delayed}
 use Rattle.net_stream_model.specs.declared.counts.FrameCounts.{FrameCounts}
 use Rattle.net_stream_model.specs.declared.fate.Fate.{Fate}
@@ -86,8 +87,8 @@ send s p n = record s {
 }
 
 -- one part of the queue: bytes of a SACK block are left out, others are a frame
-abbrev pub part_at : Cursor → Cursor
-part_at c =
+abbrev pub transmit_part : Cursor → Cursor
+transmit_part c =
     if nat_lt 0 (spared_from c.link.sender c.pos)
     then record c { pos = c.pos + spared_from c.link.sender c.pos }
     else record {
@@ -98,7 +99,7 @@ part_at c =
 
 -- the same, if a frame may begin here; otherwise nothing
 abbrev pub part : Cursor → Cursor
-part c = if nat_lt c.pos (stop_of c.link.sender) && nat_lt 0 c.left then part_at c else c
+part c = if nat_lt c.pos (send_limit c.link.sender) && nat_lt 0 c.left then transmit_part c else c
 
 -- each part has a byte, so there are no more parts than bytes
 abbrev pub transmit : LinkState → LinkState
@@ -159,7 +160,7 @@ acknowledge_all s =
 
 -- ---- step 5: acknowledgements arrive at the sender
 abbrev pub acknowledge : LinkState → List ℕ → LinkState
-acknowledge s frame = record s { sender = after_ack_frame s.sender (segment_of frame) }
+acknowledge s frame = record s { sender = acknowledge_frame s.sender (segment_of frame) }
 
 abbrev pub delayed_ack_of : LinkState → List (List ℕ) → LinkState
 delayed_ack_of s [] = s
@@ -239,7 +240,7 @@ StopsAck s (frame ∷ rest) v =
 -- a frame begins here, which is not sent
 abbrev pub StopsSending : Cursor → LinkState → Type 0
 StopsSending c v =
-    (c.pos < stop_of c.link.sender) × (0 < c.left) × (spared_from c.link.sender c.pos ≡ 0) × (v ≡ c.link)
+    (c.pos < send_limit c.link.sender) × (0 < c.left) × (spared_from c.link.sender c.pos ≡ 0) × (v ≡ c.link)
 
 -- a round stopped in step 1, 2, 3, 4 or 5
 abbrev pub StopsRound : LinkState → LinkState → Type 0

@@ -10,7 +10,8 @@ use Rattle.net_assembler.specs.Positions.{maximal_runs}
 use Rattle.net_receiver.specs.Rules.{Segment}
 use Rattle.net_receiver.specs.ReceiverState.{ReceiverState, next_position, receiver_after_command, domain}
 use Rattle.net_stream_model.specs.Frames.{frame_of}
-use Rattle.net_stream_model.specs.SackBlocks.{most_sack_blocks, block_bytes}
+use Rattle.net_receiver.specs.SackBlocks.{most_sack_blocks}
+use Rattle.net_stream_model.specs.SackBytes.{block_bytes}
 use Rattle.net_stream_model.specs.Fates.{FatesState, arrives_later}
 use Rattle.net_stream_model.specs.declared.fate.Fate.{Fate}
 

@@ -32,7 +32,7 @@ use Rattle.net_stream_model.specs.LinkState.{LinkState, transmit, delayed_frames
 use Rattle.net_stream_model.specs.CopyState.{Setup, CopyState, Running, Done, GaveUp, feed, waited, while_running}
 use Rattle.net_stream_model.specs.CopyState.{is_written, room_for, after, outcome, final, copied}
 use Rattle.net_stream_model.specs.FateCounts.{CountsFates}
-use Rattle.net_stream_model.specs.SenderState.{at_least_one}
+use Rattle.net_stream_model.specs.Transmission.{at_least_one}
 use Rattle.net_stream_model.specs.Stuck.{FatesFail}
 
 abbrev pub StartsFits : Setup → Type 0
@@ -78,18 +78,18 @@ MakesNoProgress s reads n =
 abbrev pub GivesUpAfter : Type 0
 GivesUpAfter = (s : Setup) (reads : List (List ℕ)) (n : ℕ) →
     (after s reads n).status ≡ Running → (after s reads (suc n)).status ≡ GaveUp →
-    (s.rounds ≤ n) × ((k : ℕ) → n ≤ k + s.rounds → k < n → MakesNoProgress s reads k)
+    (s.max_stalled_rounds ≤ n) × ((k : ℕ) → n ≤ k + s.max_stalled_rounds → k < n → MakesNoProgress s reads k)
 
 -- as long as a copy goes on, it never made more than `rounds` rounds in a row without progress
 abbrev pub NeverLater : Type 0
 NeverLater = (s : Setup) (reads : List (List ℕ)) (n : ℕ) →
-    (after s reads n).status ≡ Running → s.rounds < n →
-    ((k : ℕ) → n ≤ k + suc s.rounds → k < n → MakesNoProgress s reads k) → ⊥
+    (after s reads n).status ≡ Running → s.max_stalled_rounds < n →
+    ((k : ℕ) → n ≤ k + suc s.max_stalled_rounds → k < n → MakesNoProgress s reads k) → ⊥
 
 -- once the last `rounds` rounds made no progress, the copy doesn't go on: the next turn makes no round
 abbrev pub NoMoreRounds : Type 0
-NoMoreRounds = (s : Setup) (reads : List (List ℕ)) (n : ℕ) → s.rounds ≤ n →
-    ((k : ℕ) → n ≤ k + s.rounds → k < n → MakesNoProgress s reads k) →
+NoMoreRounds = (s : Setup) (reads : List (List ℕ)) (n : ℕ) → s.max_stalled_rounds ≤ n →
+    ((k : ℕ) → n ≤ k + s.max_stalled_rounds → k < n → MakesNoProgress s reads k) →
     (after s reads (suc n)).status ≡ Running → ⊥
 
 -- how many frames and how many acknowledgements a round that begins with this link sends
@@ -107,7 +107,7 @@ Fails follow l = FatesFail follow (frames_sent l) (acks_sent l) l.forward.fates 
 abbrev pub GivesUpIfFailed : Type 0
 GivesUpIfFailed = (s : Setup) (reads : List (List ℕ)) (n : ℕ) → CanPass s (after s reads (suc n)) →
     (after s reads n).status ≡ Running → (after s reads (suc n)).status ≡ GaveUp →
-    (k : ℕ) → n ≤ k + s.rounds → k < n → Fails (n - suc k) (before_round s reads k)
+    (k : ℕ) → n ≤ k + s.max_stalled_rounds → k < n → Fails (n - suc k) (before_round s reads k)
 
 -- no frame that meets these fates is lost
 abbrev pub NoneLost : FatesState → Type 0
@@ -115,12 +115,12 @@ NoneLost v = (n : ℕ) → next_fate (fates_after n v) ≡ Lost → ⊥
 
 abbrev pub NeverByDelays : Type 0
 NeverByDelays = (s : Setup) (reads : List (List ℕ)) (n : ℕ) → CanPass s (after s reads n) →
-    NoneLost s.fates → NoneLost s.ack_fates → 1 < s.rounds →
+    NoneLost s.fates → NoneLost s.ack_fates → 1 < s.max_stalled_rounds →
     (after s reads n).status ≡ GaveUp → ⊥
 
 abbrev pub EndsIfAllCome : Type 0
 EndsIfAllCome = (s : Setup) (reads : List (List ℕ)) (n : ℕ) → CanPass s (after s reads n) →
-    AllCome s.fates → AllCome s.ack_fates → 0 < s.rounds →
+    AllCome s.fates → AllCome s.ack_fates → 0 < s.max_stalled_rounds →
     (after s reads n).status ≡ GaveUp → ⊥
 
 -- whether the reads come to the input's end, and none fails before it
@@ -132,7 +132,7 @@ has_end ((x ∷ xs) ∷ reads) = has_end reads
 -- the copy is then done, if the reads come to the input's end
 abbrev pub DoneIfAllCome : Type 0
 DoneIfAllCome = (s : Setup) (reads : List (List ℕ)) → CanPass s (final s reads) →
-    AllCome s.fates → AllCome s.ack_fates → 0 < s.rounds → has_end reads ≡ true →
+    AllCome s.fates → AllCome s.ack_fates → 0 < s.max_stalled_rounds → has_end reads ≡ true →
     (copied s reads).status ≡ Done
 
 -- ---- what is counted
@@ -150,16 +150,16 @@ CountsEachFate = (s : Setup) (reads : List (List ℕ)) (n : ℕ) →
 
 -- a copy that gives up counts at least `rounds` rounds
 abbrev pub GivesUpCounted : Type 0
-GivesUpCounted = (s : Setup) (reads : List (List ℕ)) (n : ℕ) → s.rounds < 2 ^ 64 →
-    (after s reads n).status ≡ GaveUp → s.rounds ≤ (after s reads n).rounds
+GivesUpCounted = (s : Setup) (reads : List (List ℕ)) (n : ℕ) → s.max_stalled_rounds < 2 ^ 64 →
+    (after s reads n).status ≡ GaveUp → s.max_stalled_rounds ≤ (after s reads n).rounds
 
 -- then at least `rounds` frames and acknowledgements were lost or delayed, and at least `rounds -
 -- 1` were lost
 abbrev pub EnoughFailed : Type 0
 EnoughFailed = (s : Setup) (reads : List (List ℕ)) (n : ℕ) → CanPass s (after s reads n) →
-    s.rounds < 2 ^ 64 → (after s reads n).status ≡ GaveUp →
-    (s.rounds ≤ (after s reads n).link.counts.lost + (after s reads n).link.counts.delayed)
-    × (s.rounds ≤ (after s reads n).link.counts.lost + 1)
+    s.max_stalled_rounds < 2 ^ 64 → (after s reads n).status ≡ GaveUp →
+    (s.max_stalled_rounds ≤ (after s reads n).link.counts.lost + (after s reads n).link.counts.delayed)
+    × (s.max_stalled_rounds ≤ (after s reads n).link.counts.lost + 1)
 
 -- it hasn't written everything that it read, if that was less than the sender has room for
 abbrev pub Unfinished : Type 0
@@ -207,7 +207,7 @@ FewRounds = (s : Setup) (reads : List (List ℕ)) (n : ℕ) → CanPass s (after
 -- whatever the link does
 abbrev pub FewRoundsAnyway : Type 0
 FewRoundsAnyway = (s : Setup) (reads : List (List ℕ)) (n : ℕ) → StartsFits s →
-    (after s reads n).rounds ≤ (2 * length (after s reads n).given + 1) * s.rounds
+    (after s reads n).rounds ≤ (2 * length (after s reads n).given + 1) * s.max_stalled_rounds
 
 -- frames and acknowledgements
 abbrev pub FewFrames : Type 0

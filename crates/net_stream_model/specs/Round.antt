@@ -7,16 +7,17 @@
 use Rattle.std.specs.Prelude.{◌≡◌, ℕ, ◌+◌, ◌^◌, ◌<◌, ◌≤◌, List, [], ◌∷◌, ◌++◌, length}
 use Rattle.std.specs.Prelude.{false}
 use Rattle.net_receiver.specs.ReceiverState.{IsSound, next_position}
-use Rattle.net_stream_model.specs.SackBlocks.{count_outside, most_sack_blocks, is_full}
+use Rattle.net_stream_model.specs.SackBytes.{count_outside}
+use Rattle.net_receiver.specs.SackBlocks.{most_sack_blocks, is_full}
 use Rattle.net_stream_model.specs.Counts.{with_fates, SameButRefused, with_payload}
-use Rattle.net_stream_model.specs.SenderState.{end_of}
+use Rattle.net_receiver.specs.SenderState.{end_of}
 use Rattle.net_stream_model.specs.Fates.{NextCome}
 use Rattle.net_stream_model.specs.PathState.{PathState, ack_of}
 use Rattle.net_stream_model.specs.Transmission.{SendsRound}
-use Rattle.net_stream_model.specs.SenderState.{at_least_one}
+use Rattle.net_stream_model.specs.Transmission.{at_least_one}
 use Rattle.net_stream_model.specs.Frames.{frames_from}
 use Rattle.net_receiver.specs.ReceiverState.{limit_of}
-use Rattle.net_stream_model.specs.Reach.{after_ack_frames}
+use Rattle.net_stream_model.specs.Reach.{acknowledge_frames}
 use Rattle.net_stream_model.specs.Arrivals.{coming_of, receiver_after_all, acks_of, path_after}
 use Rattle.net_stream_model.specs.LinkState.{LinkState, next_burst, round}
 use Rattle.net_stream_model.specs.LinkInvariant.{LinkInvariant}
@@ -36,7 +37,7 @@ pub record Passes (old new : LinkState) : Type 0 where
       ≡ old.reverse.in_flight ++ acks_of most_sack_blocks old.receiver arrived
       ++ ack_of new.receiver ∷ []
   pub acked : new.sender
-      ≡ after_ack_frames old.sender (old.reverse.delayed ++ coming_of old.reverse.fates acks)
+      ≡ acknowledge_frames old.sender (old.reverse.delayed ++ coming_of old.reverse.fates acks)
   pub left : new.forward ≡ path_after sent
   pub left_reverse : new.reverse ≡ path_after (record old.reverse { in_flight = acks })
   pub counted : SameButRefused new.counts

@@ -5,7 +5,7 @@
 --     ReadWrites, PassWrites, AllWritten      laws: so it stays over a read and over a round, and where
 --         all is written, that is all that was read
 use Rattle.std.specs.Prelude.{◌≡◌, ℕ, ◌<◌, ◌^◌, true, List, take}
-use Rattle.net_stream_model.specs.SenderState.{end_of}
+use Rattle.net_receiver.specs.SenderState.{end_of}
 use Rattle.net_stream_model.specs.LinkInvariant.{LinkInvariant}
 use Rattle.net_stream_model.specs.LinkState.{LinkState, round, StopsRound}
 use Rattle.net_stream_model.specs.CopyState.{CopyState, room_for, with_read, pass, is_written}

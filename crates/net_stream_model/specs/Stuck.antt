@@ -13,7 +13,7 @@ use Rattle.net_receiver.specs.ReceiverState.{next_position}
 use Rattle.net_stream_model.specs.declared.counts.FrameCounts.{FrameCounts}
 use Rattle.net_stream_model.specs.LinkState.{LinkState}
 use Rattle.net_stream_model.specs.declared.fate.Fate.{Fate}
-use Rattle.net_stream_model.specs.SenderState.{end_of}
+use Rattle.net_receiver.specs.SenderState.{end_of}
 use Rattle.net_stream_model.specs.Frames.{segment_of}
 use Rattle.net_stream_model.specs.Fates.{FatesState, next_fate, after_fate, fates_after, arrives, arrives_later}
 use Rattle.net_receiver.specs.ReceiverState.{limit_of}

@@ -1,4 +1,5 @@
 -- The frames that a sender transmits in a round.
+--     at_least_one n      a number of which 0 counts as 1
 --     SendsFrames p parts old new      frames of the parts, from position p on, were sent
 --     IsSackedIf ranges p n spared, AreSparedIfSacked ranges p parts      exactly the positions in the ranges are
 --         spared
@@ -8,13 +9,17 @@
 --     SendsPrefix s most burst n old new      so were the first n bytes of the queue, in at most
 --                                            `burst` frames
 --     SendsRound s most burst n old new      and no frame more could be sent
-use Rattle.std.specs.Prelude.{◌≡◌, ℕ, ◌+◌, ◌-◌, ◌<◌, ◌≤◌, ◌⊎◌, min, if◌then◌else◌}
+use Rattle.std.specs.Prelude.{◌≡◌, ℕ, ◌+◌, ◌-◌, ◌<◌, ◌≤◌, ◌⊎◌, min, max, if◌then◌else◌}
 use Rattle.std.specs.Prelude.{Bool, false}
 use Rattle.std.specs.Prelude.{List, [], ◌∷◌, ◌++◌, length, take, drop, All}
-use Rattle.net_stream_model.specs.SenderState.{SenderState, end_of, contiguous_end, spared_from, next_block, stop_of}
+use Rattle.net_receiver.specs.SenderState.{SenderState, end_of, contiguous_end, spared_from, next_block, send_limit}
 use Rattle.net_stream_model.specs.Frames.{Part, frames_from, part_bytes}
-use Rattle.net_stream_model.specs.SackBlocks.{is_sacked}
+use Rattle.net_receiver.specs.SackBlocks.{is_sacked}
 use Rattle.net_stream_model.specs.PathState.{PathState}
+
+-- a number of which 0 counts as 1
+abbrev pub at_least_one : ℕ → ℕ
+at_least_one n = max n 1
 
 -- the frames of these parts were put after those in flight
 abbrev pub SendsFrames : ℕ → List Part → PathState → PathState → Type 0
@@ -46,7 +51,7 @@ part_end s most p =
 abbrev pub HaveEnds : SenderState → ℕ → ℕ → List Part → Type 0
 HaveEnds s most p [] = Unit {0}
 HaveEnds s most p ((spared, xs) ∷ parts) =
-    (p < stop_of s) × (p + length xs ≡ part_end s most p)
+    (p < send_limit s) × (p + length xs ≡ part_end s most p)
     × HaveEnds s most (p + length xs) parts
 
 -- n of the sender's queued bytes, from position p on, were spared or sent, in k frames
@@ -76,4 +81,4 @@ pub record SendsPrefix (s : SenderState) (most burst n : ℕ) (old new : PathSta
 -- frames were sent like this; and there are `burst` frames, or no part begins after them
 pub record SendsRound (s : SenderState) (most burst n : ℕ) (old new : PathState) : Type 0 where
   pub prefix : SendsPrefix s most burst n old new
-  pub stop : (stop_of s ≤ s.first_unacknowledged + n) ⊎ (length (frames_from s.first_unacknowledged prefix.parts) ≡ burst)
+  pub stop : (send_limit s ≤ s.first_unacknowledged + n) ⊎ (length (frames_from s.first_unacknowledged prefix.parts) ≡ burst)

@@ -67,8 +67,8 @@ pub struct Counts {
     pub bytes_read: u64,
     /// How many bytes the writer took.
     pub bytes_written: u64,
-    /// How many rounds were begun, with and without progress. (`Config::rounds` is how many in a
-    /// row may make none.)
+    /// How many rounds were begun, with and without progress. (`Config::max_stalled_rounds` is how
+    /// many in a row may make none.)
     pub rounds: u64,
     /// How many microseconds the rounds took, in simulated time.
     pub micros: u64,

@@ -1,6 +1,6 @@
 //! The fate of a frame, and the rates of fates.
 ghost use Rattle.std.specs.Prelude.{◌≡◌};
-ghost use Rattle.net_stream_model.specs.Fates.{fate_of, arrives, arrives_later};
+ghost use Rattle.net_stream_model.specs.Fates.{from_word, arrives, arrives_later};
 
 /// The fate of a frame.
 #[derive(Debug, Clone, Copy, PartialEq, Eq, Drop)]
@@ -31,7 +31,7 @@ impl Fate {
     /// Returns the fate that a random word represents: its last two decimal digits are compared to
     /// `lost`, the two before them to `duplicated`, and the two before those to `delayed`.
     pub fn from_word(word: u32, rates: Rates) -> Fate
-        ensures { result ≡ fate_of rates word }
+        ensures { result ≡ from_word rates word }
     {
         if word % 100 < rates.lost {
             return Fate::Lost;

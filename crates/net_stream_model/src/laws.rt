@@ -12,6 +12,6 @@ pub use ends::{
     all_come, counts, delays, enough_rounds, gives_up, gives_up_counted, gives_up_if_failed,
     last_rounds, round_delivers, rounds,
 };
-pub use frames::{distinct_frames, frames_decode, queue_from_greatest};
+pub use frames::{distinct_frames, frames_decode};
 pub use streams::{all, filling_reads, in_short, is_written, keeps_invariant, prefix, worked_copy};
 pub use types::values;

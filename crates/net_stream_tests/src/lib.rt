@@ -22,8 +22,6 @@ mod links;
 #[cfg(test)]
 mod order;
 #[cfg(test)]
-mod sender;
-#[cfg(test)]
 mod slices;
 #[cfg(test)]
 mod stated;

@@ -9,7 +9,9 @@ use crate::counted::pattern;
 use net_base::phy::RxToken;
 use net_base::time::Duration;
 use net_ring::ManagedSlice;
-use net_stream::{Config, Fate, FrameCounts, Rates, SackBlocks, StreamLink, decode_frame};
+use net_stream::{
+    Config, Fate, FrameCounts, Rates, SackBlocks, StreamLink, decode_frame, decode_sack_blocks,
+};
 use net_testing::{Refusing, refuse_each};
 use std::alloc::{AllocError, Allocator, Global};
 
@@ -302,7 +304,7 @@ fn sends_of_ten(alloc: Global, (ranges, payload, max_burst, frames, sum): &Round
     let is_written = link.write(b"abcdefghijk") == 10;
     link.sender.acknowledge(20, SackBlocks::new());
     let is_full = link.write(b"yz") == 2;
-    link.sender.acknowledge(20, SackBlocks::from_bytes(&bytes));
+    link.sender.acknowledge(20, decode_sack_blocks(&bytes));
     is_written && is_full && sends(&mut link, frames) && link.counts.payload == *sum
 }
 
@@ -363,7 +365,7 @@ fn sends_of_seventy(alloc: Global, count: u64, frames: &[(u64, usize)]) -> bool 
         ManagedSlice::Borrowed(&mut to_receive),
     );
     let is_written = link.write(&[7; 70]) == 70;
-    link.sender.acknowledge(0, SackBlocks::from_bytes(&ranges));
+    link.sender.acknowledge(0, decode_sack_blocks(&ranges));
     is_written
         && link.pass_round().is_ok()
         && are_single(&mut link, 31)

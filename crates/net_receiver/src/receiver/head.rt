@@ -1,23 +1,26 @@
 //! A receiver in parts: a head of numbers, a storage, and runs that are kept elsewhere.
 ghost use Rattle.std.specs.Prelude.{◌≡◌, ◌↔◌, ℕ, ◌+◌, ◌-◌, ◌<◌, ◌≤◌, ◌^◌, ◌%◌, min, List, ◌++◌, length};
-ghost use Rattle.std.specs.Prelude.{take, drop, All, IsTrue, OnErr};
+ghost use Rattle.std.specs.Prelude.{take, drop, slice_range, All, IsTrue, OnErr, Some, None};
 ghost use Rattle.net_ring.specs.Ring.{queue, contiguous_allocated, contiguous_queued};
-ghost use Rattle.net_ring.specs.Place.{IsSound as IsSoundPlace, ring_at};
+ghost use Rattle.net_ring.specs.RingHead.{IsSound as IsSoundPlace, ring_at};
 ghost use Rattle.net_assembler.specs.Positions.{contains, maximal_runs};
-ghost use Rattle.net_assembler.specs.RunLists.{HasSoundRuns, set_of};
+ghost use Rattle.net_assembler.specs.RunLists.{HasSoundRuns, IsCanonical, set_of};
 ghost use Rattle.net_receiver.specs.KeptList.{piece};
 ghost use Rattle.net_receiver.specs.Rules.{first_three, verdict, state_after, numbers};
 ghost use Rattle.net_receiver.specs.Rules.{segment_result};
+ghost use Rattle.net_receiver.specs.Rules.{Segment, SegmentReply, Read, ReadReply};
 ghost use Rattle.net_receiver.specs.ReceiverState.{fresh_receiver, domain, limit_of};
 ghost use Rattle.net_receiver.specs.ReceiverState.{next_position};
 ghost use Rattle.net_receiver.specs.ReceiverState.{receiver_ops, receiver_after_read, IsSameState};
+ghost use Rattle.net_receiver.specs.ReceiverState.{StepRefines};
+ghost use Rattle.net_receiver.specs.OneStream.{ReceivesFrom, MatchesStream};
 ghost use Rattle.net_receiver.specs.Head.{receiver_of, HasSoundParts, storage_after, head_after_read};
 
 use super::held_runs::HeldRunIter;
 use super::kept::Kept;
 use net_assembler::assembler::laws;
-use net_assembler::{AssemblerHead, Run, TooManyHolesError, Turns};
-use net_ring::Place;
+use net_assembler::{AssemblerHead, Run, TooManyHolesError};
+use net_ring::RingHead;
 
 /// What a receiver has besides its storage and its held runs: numbers.
 ///
@@ -36,7 +39,7 @@ pub struct ReceiverHead {
     /// How many bytes were read.
     pub count_read: u64,
     /// Where the queue is in the storage.
-    pub place: Place,
+    pub place: RingHead,
     /// What the held runs are counted from, and how many there are.
     pub held: AssemblerHead,
 }
@@ -49,11 +52,12 @@ impl ReceiverHead {
             HasSoundParts result storage runs }
         ensures state { (storage : List ℕ) (runs : List (ℕ × ℕ)) →
             receiver_of result storage runs ≡ fresh_receiver first (length storage) }
+        ensures canonical { IsCanonical result.held }
     {
         ReceiverHead {
             first,
             count_read: 0,
-            place: Place {
+            place: RingHead {
                 read_at: 0,
                 length: 0,
             },
@@ -161,6 +165,18 @@ impl ReceiverHead {
         capacity - self.place.length
     }
 
+    /// Returns the end of the free window, where the storage has `capacity` bytes: the first
+    /// position for which there is no room. `None` if it doesn't fit 64 bits.
+    #[inline(always)]
+    pub fn window_end(&self, capacity: usize) -> Option<u64>
+        ensures some { self.now.first + self.now.count_read + capacity < 2 ^ 64 →
+            result ≡ Some (self.now.first + self.now.count_read + capacity) }
+        ensures none { 2 ^ 64 ≤ self.now.first + self.now.count_read + capacity → result ≡ None }
+    {
+        let read = self.first.checked_add(self.count_read)?;
+        read.checked_add(capacity as u64)
+    }
+
     /// Keeps the bytes of a segment that are in the free window, as `ReceiverOver::segment` does. If
     /// it is refused, head, storage and runs stay as they were, with the runs that aren't in use.
     ///
@@ -182,6 +198,13 @@ impl ReceiverHead {
         ensures state { let v = receiver_of self.old storage.old runs.old in
             receiver_of self.new storage.new runs.new ≡ state_after receiver_ops v
             (verdict receiver_ops (length runs.old) v (piece pos bytes.now)) }
+        ensures step { StepRefines (length runs.old) (receiver_of self.old storage.old runs.old)
+            (receiver_of self.new storage.new runs.new)
+            (Segment pos bytes.now) (SegmentReply result) }
+        ensures receives { (f : ℕ) (x : List ℕ) →
+            ReceivesFrom f x (receiver_of self.old storage.old runs.old) →
+            MatchesStream f x pos bytes.now →
+            ReceivesFrom f x (receiver_of self.new storage.new runs.new) }
         ensures stored { let v = receiver_of self.old storage.old runs.old in
             storage.new ≡ storage_after self.old storage.old
             (verdict receiver_ops (length runs.old) v (piece pos bytes.now)) }
@@ -190,6 +213,7 @@ impl ReceiverHead {
             (verdict receiver_ops (length runs.old) v (piece pos bytes.now)) }
         ensures unchanged { OnErr result ((self.new ≡ self.old) × (storage.new ≡ storage.old)
             × (runs.new ≡ runs.old)) }
+        ensures canonical { IsCanonical self.old.held → IsCanonical self.new.held }
     {
         let (kept, queued) = self.keep(storage, runs, pos, bytes)?;
         let sack = self.first_runs(storage, runs);
@@ -253,6 +277,7 @@ impl ReceiverHead {
             (verdict receiver_ops (length runs.old) v (piece pos bytes.now)) }
         ensures unchanged { OnErr result ((self.new ≡ self.old) × (storage.new ≡ storage.old)
             × (runs.new ≡ runs.old)) }
+        ensures canonical { IsCanonical self.old.held → IsCanonical self.new.held }
     {
         let next = self.next();
         let window = self.window(storage.len());
@@ -264,8 +289,7 @@ impl ReceiverHead {
         let rest = &bytes[late as usize..];
         let offset = ahead as usize;
         let kept = rest.len().min(window - offset);
-        let turns = &mut Turns::new();
-        let queued = self.held.add_then_remove_front(runs, offset, kept, turns)?;
+        let queued = self.held.add_then_remove_front(runs, offset, kept)?;
         self.place.write_unallocated(storage, offset, &rest[..kept]);
         self.place.enqueue(storage.len(), queued);
         Ok((kept, queued))
@@ -294,6 +318,15 @@ impl ReceiverHead {
         ensures state { (runs : List (ℕ × ℕ)) → HasSoundParts self.old storage.now runs →
             receiver_of self.new storage.now runs
             ≡ receiver_after_read (receiver_of self.old storage.now runs) (length into.old) }
+        ensures step { (runs : List (ℕ × ℕ)) → HasSoundParts self.old storage.now runs →
+            StepRefines (length runs) (receiver_of self.old storage.now runs)
+            (receiver_of self.new storage.now runs)
+            (Read (length into.old)) (ReadReply (take result into.new)) }
+        ensures receives { (runs : List (ℕ × ℕ)) → HasSoundParts self.old storage.now runs →
+            (f : ℕ) (x : List ℕ) → ReceivesFrom f x (receiver_of self.old storage.now runs) →
+            ReceivesFrom f x (receiver_of self.new storage.now runs)
+            × (take result into.new
+            ≡ slice_range x self.old.count_read (self.old.count_read + result)) }
     {
         let count = self.place.dequeue_slice(storage, into);
         self.count_read += count as u64;
@@ -318,6 +351,17 @@ impl ReceiverHead {
         ensures state { (storage : List ℕ) (runs : List (ℕ × ℕ)) → length storage ≡ capacity →
             HasSoundParts self.old storage runs → receiver_of self.new storage runs
             ≡ receiver_after_read (receiver_of self.old storage runs) count }
+        ensures step { (storage : List ℕ) (runs : List (ℕ × ℕ)) → length storage ≡ capacity →
+            HasSoundParts self.old storage runs →
+            StepRefines (length runs) (receiver_of self.old storage runs)
+            (receiver_of self.new storage runs)
+            (Read count) (ReadReply (take count (queue (ring_at storage self.old.place)))) }
+        ensures receives { (storage : List ℕ) (runs : List (ℕ × ℕ)) → length storage ≡ capacity →
+            HasSoundParts self.old storage runs → (f : ℕ) (x : List ℕ) →
+            ReceivesFrom f x (receiver_of self.old storage runs) →
+            ReceivesFrom f x (receiver_of self.new storage runs)
+            × (take count (queue (ring_at storage self.old.place))
+            ≡ slice_range x self.old.count_read (self.old.count_read + count)) }
     {
         self.place.dequeue(capacity, count);
         self.count_read += count as u64;
@@ -338,7 +382,7 @@ impl ReceiverHead {
         ensures value { let g = ring_at storage.now self.now.place in
             result.now ≡ take (length result.now) (drop offset (queue g)) }
     {
-        let span = self.place.queued(storage.len(), offset, size);
+        let span = self.place.allocated(storage.len(), offset, size);
         &storage[span.from..span.from + span.contiguous]
     }
 
@@ -371,7 +415,7 @@ impl ReceiverHead {
         ensures queue { result.0.now ++ result.1.now ≡ queue (ring_at storage.now self.now.place) }
         ensures cut { length result.0.now ≡ contiguous_queued (ring_at storage.now self.now.place) }
     {
-        let span = self.place.queued(storage.len(), 0, self.place.length);
+        let span = self.place.allocated(storage.len(), 0, self.place.length);
         (
             &storage[span.from..span.from + span.contiguous],
             &storage[..span.count - span.contiguous],

@@ -7,9 +7,9 @@ ghost use Rattle.net_stream_model.specs.Fates.{arrives, arrives_later};
 
 use super::StreamLink;
 use crate::frame::decode_frame;
-use crate::sack_blocks::{MOST_SACK_BLOCKS, SACK_BLOCKS_LEN, encode_sack_blocks};
+use crate::sack_blocks::{SACK_BLOCKS_LEN, encode_sack_blocks};
 use net_base::phy::RxToken;
-use net_receiver::Receiver;
+use net_receiver::{MOST_SACK_BLOCKS, Receiver};
 use net_stream_model::Fate;
 use std::alloc::{AllocError, Allocator};
 

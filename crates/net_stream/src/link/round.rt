@@ -2,11 +2,11 @@
 ghost use Rattle.std.specs.Prelude.{◌≡◌, ◌<◌, ◌^◌, ℕ, List, OnOk, OnErr};
 ghost use Rattle.net_stream_model.specs.LinkState.{next_burst, round, StopsRound, transmit, delayed_frames};
 ghost use Rattle.net_stream_model.specs.LinkState.{pass_frames, acknowledge_all, delayed_acks, pass_acks};
-ghost use Rattle.net_stream_model.specs.SenderState.{end_of};
+ghost use Rattle.net_receiver.specs.SenderState.{end_of};
 ghost use Rattle.net_stream_model.specs.LinkInvariant.{LinkInvariant};
 
 use super::StreamLink;
-use crate::sack_blocks::MOST_SACK_BLOCKS;
+use net_receiver::MOST_SACK_BLOCKS;
 use net_receiver::laws::numbers;
 use net_stream_model::laws;
 use std::alloc::{AllocError, Allocator};
@@ -14,7 +14,7 @@ use std::alloc::{AllocError, Allocator};
 /// Returns the burst of the next round. If there are as many SACK blocks as an acknowledgement has
 /// room for, it is half of this burst, but not below their number; otherwise it is this burst plus
 /// that number. It is never above `max_burst`.
-fn burst_after(burst: u32, max_burst: u32, full: bool) -> u32
+fn next_burst(burst: u32, max_burst: u32, full: bool) -> u32
     ensures { result ≡ next_burst max_burst burst full }
 {
     if full {
@@ -46,7 +46,7 @@ impl<'a, 'f, A: Allocator + Copy> StreamLink<'a, 'f, A> {
         laws::keeps_invariant();
         numbers();
         self.steps()?;
-        self.burst = burst_after(
+        self.burst = next_burst(
             self.burst,
             self.max_burst,
             self.sender.are_sack_blocks_full(),

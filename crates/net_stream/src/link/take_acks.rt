@@ -6,7 +6,7 @@ ghost use Rattle.net_stream_model.specs.Fates.{arrives_later};
 
 use super::StreamLink;
 use crate::frame::decode_frame;
-use crate::sack_blocks::SackBlocks;
+use crate::sack_blocks::decode_sack_blocks;
 use net_base::phy::RxToken;
 use net_stream_model::Fate;
 use std::alloc::{AllocError, Allocator};
@@ -21,8 +21,7 @@ impl<'a, 'f, A: Allocator + Copy> StreamLink<'a, 'f, A> {
         let Some((next, blocks)) = decode_frame(frame) else {
             return;
         };
-        self.sender
-            .acknowledge(next, SackBlocks::from_bytes(blocks));
+        self.sender.acknowledge(next, decode_sack_blocks(blocks));
     }
 
     /// Applies a fate to an acknowledgement that was taken off its path.

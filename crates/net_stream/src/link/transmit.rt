@@ -1,7 +1,7 @@
 //! Step 1 of a round: the sender's frames are sent.
 ghost use Rattle.std.specs.Prelude.{◌≡◌, ◌≤◌, ◌<◌, ◌^◌, ℕ, OnOk, OnErr, IfOk};
-ghost use Rattle.net_stream_model.specs.SenderState.{end_of, spared_from};
-ghost use Rattle.net_stream_model.specs.LinkState.{times, start, part, part_at, transmit, StopsSending};
+ghost use Rattle.net_receiver.specs.SenderState.{end_of, spared_from};
+ghost use Rattle.net_stream_model.specs.LinkState.{times, start, part, transmit_part, transmit, StopsSending};
 
 use super::StreamLink;
 use std::alloc::{AllocError, Allocator};
@@ -14,14 +14,14 @@ impl<'a, 'f, A: Allocator + Copy> StreamLink<'a, 'f, A> {
         requires queued { pos < end_of self.old.sender }
         requires some { 0 < left }
         ensures ok { IfOk result (λ done. record { pos = done.0; left = done.1; link = self.new }
-            ≡ part_at (record { pos = pos; left = left; link = self.old })) }
+            ≡ transmit_part (record { pos = pos; left = left; link = self.old })) }
         ensures within { IfOk result (λ done. (pos < done.0) × (done.0 ≤ end_of self.old.sender)) }
         ensures sender { self.new.sender ≡ self.old.sender }
         ensures unchanged { OnErr result (self.new ≡ self.old) }
         ensures frame { OnErr result (spared_from self.old.sender pos ≡ 0) }
     {
         let payload = self.counts.payload;
-        let spared = self.sender.sacked_from(pos);
+        let spared = self.sender.spared_from(pos);
         if spared > 0 {
             return Ok((pos + spared, left));
         }

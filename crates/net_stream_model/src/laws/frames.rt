@@ -1,6 +1,5 @@
-//! Laws of frames, and of acknowledgements.
+//! Laws of frames.
 ghost use Rattle.net_stream_model.specs.Frames.{FramesDecode, DistinctFrames};
-ghost use Rattle.net_stream_model.specs.SenderState.{QueueFromGreatest};
 
 /// States that decoding finds what was encoded.
 pub fn frames_decode()
@@ -13,10 +12,3 @@ pub fn distinct_frames()
 {
     frames_decode();
 }
-
-/// States that after several acknowledgements, in any order, a sender's queue begins at the
-/// greatest of the position at which it began and of those acknowledged positions that are not
-/// above its end.
-pub fn queue_from_greatest()
-    ensures { QueueFromGreatest }
-{}

@@ -10,7 +10,7 @@ use crate::counted::{Case, TO_THE_END};
 use net_testing::NEVER;
 
 /// Copies, and the counts of each.
-pub static CASES: [Case; 64] = [
+pub static CASES: [Case; 66] = [
     // Three frames, an acknowledgement for each and one more.
     Case(
         ALL,
@@ -161,6 +161,24 @@ pub static CASES: [Case; 64] = [
         TO_THE_END,
         ("gave up", 1, 1),
         [6, 6, 6, 320_000, 42, 36, 24, 0, 0, 0],
+    ),
+    // All is written, but a full sender has no room for the read that would meet the end.
+    Case(
+        ALL,
+        NONE,
+        (5, 0, 5, 5, 4_096, 3),
+        TO_THE_END,
+        ("gave up", 1, 1),
+        [5, 5, 4, 80_000, 12, 20, 8, 0, 0, 0],
+    ),
+    // With room for one byte more it is done after the first round.
+    Case(
+        ALL,
+        NONE,
+        (5, 0, 6, 5, 4_096, 3),
+        TO_THE_END,
+        ("Ok", 2, 1),
+        [5, 5, 1, 10_000, 3, 5, 2, 0, 0, 0],
     ),
     // Delayed acknowledgements arrive in the next round, and a duplicated one in both.
     Case(

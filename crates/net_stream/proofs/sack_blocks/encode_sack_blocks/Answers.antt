@@ -3,7 +3,8 @@ use Rattle.std.specs.Int.{w64, to_be_bytes}
 use Rattle.std.proofs.lemmas.List.Elements.{All-push}
 use Rattle.net_assembler.specs.Positions.{maximal_runs}
 use Rattle.net_receiver.specs.ReceiverState.{domain}
-use Rattle.net_stream_model.specs.SackBlocks.{most_sack_blocks, block_bytes}
+use Rattle.net_receiver.specs.SackBlocks.{most_sack_blocks}
+use Rattle.net_stream_model.specs.SackBytes.{block_bytes}
 use Rattle.net_stream_model.proofs.Kept.{IsWords, listed_push, take_same, rest_is, take_next}
 use Rattle.net_stream.proofs.sack_blocks.encode_sack_blocks.Goals as goal
 

@@ -1,7 +1,7 @@
 use Rattle.std.proofs.Common.{◌≡◌, ◌*◌, ◌<◌, ◌^◌, length, take, drop, All}
 use Rattle.net_assembler.specs.Positions.{maximal_runs}
 use Rattle.net_receiver.specs.ReceiverState.{domain}
-use Rattle.net_stream_model.specs.SackBlocks.{block_bytes}
+use Rattle.net_stream_model.specs.SackBytes.{block_bytes}
 use Rattle.net_stream.proofs.sack_blocks.encode_sack_blocks.Given as goal
 
 -- the runs so far are listed, and the others are left

@@ -1,7 +1,7 @@
 use Rattle.std.proofs.Common.{◌∙◌, sym, ap, length, length-append, refl, take_all, le_refl, arith}
 use Rattle.std.proofs.lemmas.List.{get_or_append_left, get_or-append_right}
 use Rattle.std.specs.Prelude.{slice_index_or}
-use Rattle.net_ring.specs.Place.{ring_at}
+use Rattle.net_ring.specs.RingHead.{ring_at}
 use Rattle.net_receiver.specs.Contiguous.{contiguous_count}
 use Rattle.net_receiver.specs.ReceiverState.{ReceiverState}
 use Rattle.net_receiver.proofs.Called.{head_bytes}

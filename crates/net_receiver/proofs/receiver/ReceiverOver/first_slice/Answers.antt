@@ -1,5 +1,5 @@
 use Rattle.std.proofs.Common.{◌∙◌, sym}
-use Rattle.net_ring.specs.Place.{ring_at}
+use Rattle.net_ring.specs.RingHead.{ring_at}
 use Rattle.net_assembler.specs.RunLists.{set_of}
 use Rattle.net_receiver.proofs.Contiguous.{first_part_lent}
 use Rattle.net_receiver.proofs.Heads.{lent_view, lent_sound, queue_size}

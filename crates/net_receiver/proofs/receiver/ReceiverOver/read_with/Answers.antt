@@ -1,6 +1,6 @@
 -- `f` was run on the queue's first part; what it counts is taken off, as by a read of that many bytes.
 use Rattle.std.proofs.Common.{◌≤◌, refl, subst, sym, ap, ◌∙◌, length, take, arith}
-use Rattle.net_ring.specs.Place.{IsSound as IsSoundPlace}
+use Rattle.net_ring.specs.RingHead.{IsSound as IsSoundPlace}
 use Rattle.net_receiver.specs.Contiguous.{contiguous_count}
 use Rattle.net_receiver.specs.Rules.{Read, ReadReply}
 use Rattle.net_receiver.specs.ReceiverState.{ReceiverState, next_position, receiver_after_read}

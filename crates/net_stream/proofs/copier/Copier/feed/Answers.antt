@@ -3,7 +3,7 @@ use Rattle.std.specs.Io.KnownBytes.{Consumes}
 use Rattle.std.proofs.lemmas.Bool.{both_ways}
 use Rattle.std.proofs.lemmas.List.{take_all, append-nil, nil_from_length}
 use Rattle.net_io.proofs.KnownBytes.{Consumes-none, Keeps-same}
-use Rattle.net_stream_model.specs.SenderState.{with_written}
+use Rattle.net_receiver.specs.SenderState.{with_written}
 use Rattle.net_stream_model.specs.CopyState.{Running, ReadFailed, rest_of, feed}
 use Rattle.net_stream.specs.Turns.{copy_state_of}
 use Rattle.net_stream.proofs.Copied.{fed, unfed, may_some, read_first, read_all}

@@ -8,7 +8,7 @@ pub returns-clause-state : goal.returns-clause-state
 unfolding round
 returns-clause-state g c =
     let u = c.self.inside in
-    let burst = c.burst_after-self-inside.ensures ∙ ap (next_burst u.max_burst u.burst) c.are_sack_blocks_full.ensures in
+    let burst = c.next_burst-self-inside.ensures ∙ ap (next_burst u.max_burst u.burst) c.are_sack_blocks_full.ensures in
     (λ i. record (c.self.view_is i) {
       burst = (burst ∙ ap (λ (l : LinkState). (with_burst l).burst) c.self.view_is) i;
     }) ∙ ap with_burst c.in_ok-steps.ensures.ok

@@ -1,5 +1,5 @@
 use Rattle.std.proofs.Common.{◌≡◌, ℕ, ◌≤◌, ◌-◌, ◌+◌}
-use Rattle.net_stream_model.specs.SenderState.{end_of}
+use Rattle.net_receiver.specs.SenderState.{end_of}
 use Rattle.net_stream_model.specs.LinkState.{times, start, part}
 use Rattle.net_stream.proofs.link.StreamLink.transmit.Given as goal
 

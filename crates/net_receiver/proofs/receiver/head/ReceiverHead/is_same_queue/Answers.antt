@@ -1,6 +1,6 @@
 use Rattle.std.proofs.Common.{◌≤◌, false, ap, length, refl, sym, ◌∙◌, arith, take_all}
 use Rattle.std.proofs.lemmas.Bool.{both_ways}
-use Rattle.net_ring.specs.Place.{ring_at}
+use Rattle.net_ring.specs.RingHead.{ring_at}
 use Rattle.net_ring.specs.Ring.{queue}
 use Rattle.net_ring.proofs.Rotations.{length-queue}
 use Rattle.net_receiver.proofs.SameBytes.{differ, go_on}

@@ -4,6 +4,7 @@ use Rattle.std.proofs.lemmas.List.{take_rest}
 use Rattle.net_receiver.specs.declared.receiver.head.ReceiverHead.{ReceiverHead}
 use Rattle.net_assembler.specs.Positions.{with_range, runs}
 use Rattle.net_assembler.specs.RunLists.{set_of}
+use Rattle.net_assembler.proofs.Positions.{too_many}
 use Rattle.net_receiver.specs.KeptList.{piece}
 use Rattle.net_receiver.specs.Rules.{verdict, state_after, numbers}
 use Rattle.net_receiver.specs.ReceiverState.{receiver_ops}
@@ -18,7 +19,7 @@ returns-in_err-queued-clause-state c =
     let cut = cut_of c.requires.sound c.next-next.ensures c.window-window.ensures c.saturating_sub-late.ensures c.saturating_sub-ahead.ensures
     c.if-late-bytes.false c.if-ahead-window.false c.min-kept.ensures in
     let why = c.in_err-queued.ensures.both.refused.0 refl in
-    (refused c.requires.sound cut c.requires.fits _ _ why.0 why.1.1 c.in_err-queued.ensures.unchanged.0 c.in_err-queued.ensures.unchanged.1).0
+    (refused c.requires.sound cut c.requires.fits _ _ why.0 ((too_many _ _ _ c.min-kept.result).0 why.1).1 c.in_err-queued.ensures.unchanged.0 c.in_err-queued.ensures.unchanged.1).0
 
 pub returns-in_err-queued-clause-numbers : goal.returns-in_err-queued-clause-numbers
 returns-in_err-queued-clause-numbers c =
@@ -26,14 +27,14 @@ returns-in_err-queued-clause-numbers c =
     c.if-late-bytes.false c.if-ahead-window.false c.min-kept.ensures in
     let why = c.in_err-queued.ensures.both.refused.0 refl in
     only_err c.from_residual.result c.from_residual.ensures.0
-    ∙ (refused c.requires.sound cut c.requires.fits _ _ why.0 why.1.1 c.in_err-queued.ensures.unchanged.0 c.in_err-queued.ensures.unchanged.1).1
+    ∙ (refused c.requires.sound cut c.requires.fits _ _ why.0 ((too_many _ _ _ c.min-kept.result).0 why.1).1 c.in_err-queued.ensures.unchanged.0 c.in_err-queued.ensures.unchanged.1).1
 
 pub returns-in_err-queued-clause-stored : goal.returns-in_err-queued-clause-stored
 returns-in_err-queued-clause-stored c =
     let cut = cut_of c.requires.sound c.next-next.ensures c.window-window.ensures c.saturating_sub-late.ensures c.saturating_sub-ahead.ensures
     c.if-late-bytes.false c.if-ahead-window.false c.min-kept.ensures in
     let why = c.in_err-queued.ensures.both.refused.0 refl in
-    refused_stores c.requires.sound cut c.requires.fits why.0 why.1.1
+    refused_stores c.requires.sound cut c.requires.fits why.0 ((too_many _ _ _ c.min-kept.result).0 why.1).1
 
 pub enqueue-requires-clause-free : goal.enqueue-requires-clause-free
 enqueue-requires-clause-free c =
@@ -44,16 +45,16 @@ enqueue-requires-clause-free c =
     omega (arith, few, c.write_unallocated.ensures.size)
 
 -- a range that is added is near, or makes no more runs
-added : (c : goal.After-drop-turns-3) → (c.saturating_sub-ahead.result ≡ 0)
+added : (c : goal.After-enqueue) → (c.saturating_sub-ahead.result ≡ 0)
     ⊎ (runs (with_range (set_of c.args.self.now.held c.args.runs.now) c.saturating_sub-ahead.result c.min-kept.result) ≤ length c.args.runs.now)
 added c =
     let size = length-take (length c.args.bytes.now - c.saturating_sub-late.result) (drop c.saturating_sub-late.result c.args.bytes.now) in
     let rest = length-drop c.saturating_sub-late.result c.args.bytes.now in
-    accepted_cases (length c.args.runs.now) c.saturating_sub-ahead.result c.min-kept.result _
-    (omega (arith, c.if-late-bytes.false, c.if-ahead-window.false, c.min-kept.ensures, size, rest)) c.in_ok-queued.ensures.both.refused.1
+    accepted_cases (length c.args.runs.now) c.saturating_sub-ahead.result c.min-kept.result
+    (set_of c.args.self.now.held c.args.runs.now) (omega (arith, c.if-late-bytes.false, c.if-ahead-window.false, c.min-kept.ensures, size, rest)) c.in_ok-queued.ensures.both.refused.1
 
 -- what is left, what is returned, and that the parts are sound
-all : (c : goal.After-drop-turns-3) →
+all : (c : goal.After-enqueue) →
     let h : ReceiverHead = record {
       first = c.args.self.now.first;
       count_read = c.args.self.now.count_read;

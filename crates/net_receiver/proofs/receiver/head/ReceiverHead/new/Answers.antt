@@ -1,5 +1,5 @@
 use Rattle.std.proofs.Common.{[], length, refl, sym, subst, inl, append-nil, arith}
-use Rattle.net_ring.specs.Place.{ring_at}
+use Rattle.net_ring.specs.RingHead.{ring_at}
 use Rattle.net_ring.specs.Ring.{spare}
 use Rattle.net_assembler.proofs.RunLists.{runs-nothing}
 use Rattle.net_assembler.specs.RunLists.{set_of}

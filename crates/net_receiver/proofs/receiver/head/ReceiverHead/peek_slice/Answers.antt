@@ -1,5 +1,5 @@
 use Rattle.std.proofs.Common.{arith}
-use Rattle.net_ring.specs.Place.{ring_at}
+use Rattle.net_ring.specs.RingHead.{ring_at}
 use Rattle.net_ring.specs.Ring.{queue}
 use Rattle.net_ring.proofs.Rotations.{length-queue}
 use Rattle.net_receiver.proofs.Segment.{given_is}

@@ -1,8 +1,10 @@
 use Rattle.std.proofs.Common.{◌∙◌, Ok, ap, sym, length}
 use Rattle.net_receiver.specs.KeptList.{piece}
-use Rattle.net_receiver.specs.Rules.{verdict, numbers, with_sack}
+use Rattle.net_receiver.specs.Rules.{Segment, SegmentReply, verdict, numbers, with_sack}
 use Rattle.net_receiver.specs.ReceiverState.{ReceiverState, domain, receiver_ops}
 use Rattle.net_receiver.specs.Head.{receiver_of}
+use Rattle.net_receiver.proofs.Called.{segment_receives}
+use Rattle.net_receiver.proofs.Run.{steps}
 use Rattle.net_receiver.proofs.Segment.{only_err}
 use Rattle.net_receiver.proofs.receiver.head.ReceiverHead.segment.Goals as goal
 
@@ -23,3 +25,21 @@ returns-clause-value c =
     (λ i. Ok (record { kept = c.in_ok-kept.kept; queued = c.in_ok-kept.queued; sack = c.first_runs-sack.ensures i }))
     ∙ ap (λ n. with_sack n (domain left.held)) (sym c.in_ok-kept.was ∙ c.keep.ensures.numbers)
     ∙ ap (λ (u : ReceiverState). with_sack (numbers receiver_ops v x) (domain u.held)) c.keep.ensures.state
+
+pub returns-in_err-kept-clause-step : goal.returns-in_err-kept-clause-step
+returns-in_err-kept-clause-step c =
+    steps (length c.args.runs.now) _ _ (Segment c.args.pos c.args.bytes.now) (SegmentReply c.from_residual.result) c.keep.ensures.state
+    (ap (λ r. SegmentReply r) (returns-in_err-kept-clause-value c))
+
+pub returns-clause-step : goal.returns-clause-step
+returns-clause-step c =
+    steps (length c.args.runs.now) _ _ (Segment c.args.pos c.args.bytes.now) (SegmentReply _) c.keep.ensures.state
+    (ap (λ r. SegmentReply r) (returns-clause-value c))
+
+pub returns-in_err-kept-clause-receives : goal.returns-in_err-kept-clause-receives
+returns-in_err-kept-clause-receives c =
+    λ f x r h. segment_receives (length c.args.runs.now) f x _ _ c.args.pos c.args.bytes.now c.keep.ensures.state r h
+
+pub returns-clause-receives : goal.returns-clause-receives
+returns-clause-receives c =
+    λ f x r h. segment_receives (length c.args.runs.now) f x _ _ c.args.pos c.args.bytes.now c.keep.ensures.state r h
