@@ -1,25 +1,249 @@
-/* Rings, packet queues, assemblers, receivers and senders of streams, a generator, and time, over
- * memory that the caller keeps: no heap, no global, and of the C library at most memcpy, memmove,
- * memset and memcmp.
+/* SPDX-License-Identifier: 0BSD */
+/* net-base 0.4.0.
  *
- * The caller's duties, which no call can test:
- * - a pointer is aligned, not null, and valid for the length after it, even if that is 0;
- * - what a call writes overlaps nothing else that it is passed.
+ * Functions for C and for Rust over memory that the caller keeps: rings, packet queues, assemblers,
+ * buffers of fragments, receivers, senders and their scoreboards, sequence numbers, sizes of
+ * devices, time and random words.
  *
- * All else is tested, except what a comment requires: that runs are sorted, say. A call that
- * refuses changes nothing. A call that breaks a duty can touch any memory.
+ * There is no heap and no global state. Each export calls a function of a library here, states its
+ * clauses, and refuses arguments that no correct caller passes.
+ *
+ * Memory
+ *
+ * A head is a struct of numbers, which the caller keeps beside a storage and, for some heads, runs
+ * or slots. A head of zeros is empty. Storage, runs and slots need no initial values. Fields of a
+ * head may be read: `length` is how many elements are queued, `used` how many runs are stored. Runs
+ * are counted from `first_start` of their head, and calls that return a run count it from position
+ * 0. Lengths are in elements; a length of 0 is allowed, of runs too: then no run is held.
+ *
+ * Duties
+ *
+ * Nothing checks these, and the proofs assume them. A call that breaks one can touch any memory.
+ *
+ * 1. A pointer is aligned and valid for the length after it, or for one struct if none follows; if
+ *    the length is 0, it may be null.
+ * 2. What a call may write overlaps nothing else that it is passed.
+ * 3. No two calls that are passed one head, storage or runs run at once, in threads or in an
+ *    interrupt and what it interrupts, unless all of them take it by `const`: mask the interrupt
+ *    around each call, and around what reads fields.
+ * 4. A storage, its runs and its slots have the same lengths in each call on a head.
+ * 5. A head, its runs and its slots are written by calls of its own kind alone, those of a receiver
+ *    by `net_base_receiver_..`, not its `place` by `net_base_ring_..` or its `held` by
+ *    `net_base_assembler_..`; or the head is set to zeros.
+ * 6. Where a comment says `Requires`, head and runs are sound, as a call whose name ends in
+ *    `_is_sound` tests. What calls of its own kind wrote, from an empty head on, is sound.
+ *
+ * Refusals
+ *
+ * All else is tested. A refused call changes nothing. It returns `false` if it returns a `bool`;
+ * `NET_BASE_REFUSED` if it returns a status, alone or as the first field of a struct; otherwise
+ * `NET_BASE_NONE`, alone or as the first field of a struct. `NET_BASE_REFUSED` is no other status;
+ * `false` and `NET_BASE_NONE` can also be results of calls that are done, as the comments say.
  */
 #ifndef NET_BASE_H
 #define NET_BASE_H
 #include <stdbool.h>
-#include <stddef.h>
 #include <stdint.h>
+
+/* The version: until 1.0 names and structs may change with each minor number. */
+#define NET_BASE_VERSION_MAJOR 0
+#define NET_BASE_VERSION_MINOR 4
+#define NET_BASE_VERSION_PATCH 0
 
 #ifdef __cplusplus
 extern "C" {
 #endif
 
 /* Written by tools/ffi.py, up to the line END. */
+
+/* What a refused call returns, and the statuses of those that are done. */
+
+/* The call was done. */
+#define NET_BASE_DONE UINT32_C(0)
+
+/* There would be more runs than the slice has elements. Nothing changes. */
+#define NET_BASE_TOO_MANY_RUNS UINT32_C(1)
+
+/* What was passed is nonsense. Nothing changes. */
+#define NET_BASE_REFUSED UINT32_C(2)
+
+/* The position is missing. */
+#define NET_BASE_MISSING UINT32_C(3)
+
+/* The position is present. */
+#define NET_BASE_PRESENT UINT32_C(4)
+
+/* The fragment or the size reaches past the end of the buffer. Nothing changes. */
+#define NET_BASE_TOO_LONG UINT32_C(5)
+
+/* No count, index or position of a right call: what was passed is nonsense, or there is none. */
+#define NET_BASE_NONE UINT64_MAX
+
+/* Rings: where elements are in a storage that the caller keeps, and the numbers after a call.
+ *
+ * Of elements that aren't bytes a call sees only the capacity of their storage: it returns where
+ * they are, and the caller copies them. A place that isn't one of a ring of that capacity is
+ * refused.
+ */
+
+/* The numbers of a ring apart from its storage. */
+struct net_base_ring {
+    /* The index of the first element of the queue, 0 if the storage is empty. */
+    uint64_t read_at;
+    /* How many elements are queued. */
+    uint64_t length;
+};
+
+/* Where elements of a ring are in its storage: those that are not contiguous with the first one are
+ * at the storage's beginning.
+ */
+struct net_base_span {
+    /* The index of the first one. */
+    uint64_t from;
+    /* How many there are. */
+    uint64_t count;
+    /* How many of them are contiguous, from the first one on. */
+    uint64_t contiguous;
+};
+
+/* Contiguous elements: `count` of them, from the index `from` on. */
+struct net_base_part {
+    uint64_t from;
+    uint64_t count;
+};
+
+/* Returns whether `place` is that of a ring of `capacity` elements: its read index is an index of
+ * the storage, or 0, and it has no more elements than the storage.
+ */
+bool net_base_ring_is_sound(const struct net_base_ring *place, uint64_t capacity);
+
+/* Returns where at most `size` free elements are, from the one at `offset` on; none if `offset` is
+ * past the free elements.
+ *
+ * A place that isn't sound is refused: then `from` is `UINT64_MAX`, and `count` is 0.
+ */
+struct net_base_span net_base_ring_unallocated(
+    const struct net_base_ring *place, uint64_t capacity, uint64_t offset, uint64_t size);
+
+/* Returns where at most `size` elements of the queue are, from the one at `offset` on; none if
+ * `offset` is past the queue.
+ *
+ * A place that isn't sound is refused: then `from` is `UINT64_MAX`, and `count` is 0.
+ */
+struct net_base_span net_base_ring_allocated(
+    const struct net_base_ring *place, uint64_t capacity, uint64_t offset, uint64_t size);
+
+/* Returns how many elements can be enqueued before the storage's end.
+ *
+ * A place that isn't sound is refused, and so is a capacity of `UINT64_MAX`, which no storage has:
+ * `UINT64_MAX`.
+ */
+uint64_t net_base_ring_contiguous_window(const struct net_base_ring *place, uint64_t capacity);
+
+/* Empties the queue, and moves the read index to the storage's beginning. No place is refused: this
+ * makes one sound for every capacity.
+ */
+void net_base_ring_clear(struct net_base_ring *place);
+
+/* Moves the read index of an empty ring to the storage's beginning, so that all its elements are
+ * contiguous. Otherwise nothing changes. No place is refused.
+ */
+void net_base_ring_rewind_if_empty(struct net_base_ring *place);
+
+/* Returns whether `count` elements are free, and if so enqueues them, as they are.
+ *
+ * A place that isn't sound is refused: false, and nothing changes.
+ */
+bool net_base_ring_enqueue(struct net_base_ring *place, uint64_t capacity, uint64_t count);
+
+/* Returns whether `count` elements are queued, and if so dequeues them.
+ *
+ * A place that isn't sound is refused: false, and nothing changes.
+ */
+bool net_base_ring_dequeue(struct net_base_ring *place, uint64_t capacity, uint64_t count);
+
+/* Enqueues one element, and returns its index in the storage.
+ *
+ * If none is free, or the place isn't sound: `UINT64_MAX`, and nothing changes.
+ */
+uint64_t net_base_ring_enqueue_one(struct net_base_ring *place, uint64_t capacity);
+
+/* Dequeues one element, and returns its index in the storage.
+ *
+ * If none is queued, or the place isn't sound: `UINT64_MAX`, and nothing changes.
+ */
+uint64_t net_base_ring_dequeue_one(struct net_base_ring *place, uint64_t capacity);
+
+/* Enqueues as many elements as are free, at most `size`, and returns where they are. An empty ring
+ * first moves its read index to the storage's beginning.
+ *
+ * A place that isn't sound is refused: then `from` is `UINT64_MAX`, `count` is 0, and nothing
+ * changes.
+ */
+struct net_base_span net_base_ring_enqueue_span(
+    struct net_base_ring *place, uint64_t capacity, uint64_t size);
+
+/* Enqueues contiguous elements, at most `size`, and returns where they are. An empty ring first
+ * moves its read index to the storage's beginning.
+ *
+ * A place that isn't sound is refused: then `from` is `UINT64_MAX`, `count` is 0, and nothing
+ * changes.
+ */
+struct net_base_part net_base_ring_enqueue_many(
+    struct net_base_ring *place, uint64_t capacity, uint64_t size);
+
+/* Dequeues as many elements as are queued, at most `size`, and returns where they are.
+ *
+ * A place that isn't sound is refused: then `from` is `UINT64_MAX`, `count` is 0, and nothing
+ * changes.
+ */
+struct net_base_span net_base_ring_dequeue_span(
+    struct net_base_ring *place, uint64_t capacity, uint64_t size);
+
+/* Dequeues contiguous elements, at most `size`, and returns where they are.
+ *
+ * A place that isn't sound is refused: then `from` is `UINT64_MAX`, `count` is 0, and nothing
+ * changes.
+ */
+struct net_base_part net_base_ring_dequeue_many(
+    struct net_base_ring *place, uint64_t capacity, uint64_t size);
+
+/* Writes as many bytes of `data` as there is room for to the free bytes from the one at `offset`
+ * on, and returns how many; 0 if `offset` is past the free bytes. Nothing is enqueued.
+ *
+ * A place that isn't sound for the storage is refused: `UINT64_MAX`, and nothing changes.
+ */
+uint64_t net_base_ring_write_unallocated(
+    const struct net_base_ring *place, uint8_t *storage, uint64_t storage_length, uint64_t offset,
+    const uint8_t *data, uint64_t data_length);
+
+/* Copies as many bytes of the queue as `into` has room for, from the one at `offset` on, to the
+ * beginning of `into`, and returns how many; 0 if `offset` is past the queue. The rest of `into`
+ * stays as it is, and nothing is dequeued.
+ *
+ * A place that isn't sound for the storage is refused: `UINT64_MAX`, and nothing changes.
+ */
+uint64_t net_base_ring_read_allocated(
+    const struct net_base_ring *place, const uint8_t *storage, uint64_t storage_length,
+    uint64_t offset, uint8_t *into, uint64_t into_length);
+
+/* Enqueues as many bytes of `data` as there is room for, and returns how many. An empty ring first
+ * moves its read index to the storage's beginning, even if nothing is enqueued.
+ *
+ * A place that isn't sound for the storage is refused: `UINT64_MAX`, and nothing changes.
+ */
+uint64_t net_base_ring_enqueue_slice(
+    struct net_base_ring *place, uint8_t *storage, uint64_t storage_length, const uint8_t *data,
+    uint64_t data_length);
+
+/* Dequeues as many bytes as are queued and `into` has room for, copies them to the beginning of
+ * `into`, and returns how many. The rest of `into` stays as it is.
+ *
+ * A place that isn't sound for the storage is refused: `UINT64_MAX`, and nothing changes.
+ */
+uint64_t net_base_ring_dequeue_slice(
+    struct net_base_ring *place, const uint8_t *storage, uint64_t storage_length, uint8_t *into,
+    uint64_t into_length);
 
 /* Assemblers: sets of positions, stored as runs in memory that the caller keeps.
  *
@@ -28,207 +252,418 @@ extern "C" {
 
 /* What an assembler has besides its runs: how many there are, and where the first of them starts.
  */
-struct net_assembler {
-    size_t used;
-    size_t first_start;
+struct net_base_assembler {
+    uint64_t used;
+    uint64_t first_start;
 };
 
 /* A range of positions that is stored as a run: from `start` on, up to `end`, which is not
  * included.
  */
-struct net_run {
-    size_t start;
-    size_t end;
+struct net_base_run {
+    uint64_t start;
+    uint64_t end;
 };
 
 /* The length of the run at position 0, and whether the call was done. */
-struct net_front_length {
-    /* `NET_DONE`, `NET_TOO_MANY_RUNS` or `NET_REFUSED`. */
+struct net_base_front_length {
+    /* `NET_BASE_DONE`, `NET_BASE_TOO_MANY_RUNS` or `NET_BASE_REFUSED`. */
     uint32_t status;
     /* How many positions the run has; 0 if position 0 is missing, or the call wasn't done. */
-    size_t length;
+    uint64_t length;
 };
-
-/* The call was done. */
-#define NET_DONE ((uint32_t)(0))
-
-/* There would be more runs than the slice has elements. Nothing changes. */
-#define NET_TOO_MANY_RUNS ((uint32_t)(1))
-
-/* What was passed is nonsense. Nothing changes. */
-#define NET_REFUSED ((uint32_t)(2))
-
-/* The position is missing. */
-#define NET_MISSING ((uint32_t)(0))
-
-/* The position is present. */
-#define NET_PRESENT ((uint32_t)(1))
 
 /* Returns whether `assembler` and `runs` are those of an assembler: there are `used` runs, which
  * rise, with a hole between neighbours; the first starts at 0; and each end fits 64 bits also with
  * `first_start` added. It looks at each run.
  */
-bool net_assembler_is_sound(
-    const struct net_assembler *assembler, const struct net_run *runs, size_t runs_length);
+bool net_base_assembler_is_sound(
+    const struct net_base_assembler *assembler, const struct net_base_run *runs,
+    uint64_t runs_length);
 
-/* Removes every position. Nothing is refused: this makes an assembler of any memory. */
-void net_assembler_clear(struct net_assembler *assembler);
+/* Removes every position: `used` and `first_start` are 0 then. Nothing is refused: this makes an
+ * assembler of any memory.
+ *
+ * `first_start` is 0 whenever there is no run, as long as the head is changed only by calls. Runs
+ * that aren't in use aren't read, and may be anything.
+ */
+void net_base_assembler_clear(struct net_base_assembler *assembler);
 
 /* Adds the positions from `offset` to `offset + size - 1`; none if `size` is 0. Ranges that touch
  * form one run.
  *
- * Returns `NET_DONE`, or `NET_TOO_MANY_RUNS` if there would be more runs than the slice has
- * elements, or `NET_REFUSED` if `offset + size` doesn't fit 64 bits or `used` is above
- * `runs_length`. If it isn't `NET_DONE`, nothing changes.
+ * Returns `NET_BASE_DONE`, or `NET_BASE_TOO_MANY_RUNS` if there would be more runs than the slice
+ * has elements, or `NET_BASE_REFUSED` if `offset + size` doesn't fit 64 bits or `used` is above
+ * `runs_length`. If it isn't `NET_BASE_DONE`, nothing changes.
  *
- * Requires: head and runs are sound, as `net_assembler_is_sound` tests.
+ * Requires: head and runs are sound, as `net_base_assembler_is_sound` tests.
  */
-uint32_t net_assembler_add(
-    struct net_assembler *assembler, struct net_run *runs, size_t runs_length, size_t offset,
-    size_t size);
+uint32_t net_base_assembler_add(
+    struct net_base_assembler *assembler, struct net_base_run *runs, uint64_t runs_length,
+    uint64_t offset, uint64_t size);
 
 /* Adds the positions from `offset` to `offset + size - 1`, then removes the run at position 0,
  * returns its length, and counts all later positions from its end. If position 0 is missing,
  * nothing is removed, and the length is 0.
  *
- * The status is `NET_DONE`, or `NET_TOO_MANY_RUNS` if `offset` isn't 0 and there would be more runs
- * than the slice has elements, or `NET_REFUSED` if `offset + size` doesn't fit 64 bits or `used` is
- * above `runs_length`. If it isn't `NET_DONE`, the length is 0, and nothing changes.
+ * The status is `NET_BASE_DONE`, or `NET_BASE_TOO_MANY_RUNS` if `offset` isn't 0 and there would be
+ * more runs than the slice has elements, or `NET_BASE_REFUSED` if `offset + size` doesn't fit 64
+ * bits or `used` is above `runs_length`. If it isn't `NET_BASE_DONE`, the length is 0, and nothing
+ * changes.
  *
- * Requires: head and runs are sound, as `net_assembler_is_sound` tests.
+ * Requires: head and runs are sound, as `net_base_assembler_is_sound` tests.
  */
-struct net_front_length net_assembler_add_then_remove_front(
-    struct net_assembler *assembler, struct net_run *runs, size_t runs_length, size_t offset,
-    size_t size);
+struct net_base_front_length net_base_assembler_add_then_remove_front(
+    struct net_base_assembler *assembler, struct net_base_run *runs, uint64_t runs_length,
+    uint64_t offset, uint64_t size);
 
 /* Removes the run at position 0, returns its length, and counts all later positions from its end.
  * If position 0 is missing, nothing is removed, and the length is 0.
  *
- * The status is `NET_DONE`, or `NET_REFUSED` if `used` is above `runs_length`: then the length is
- * 0, and nothing changes.
+ * The status is `NET_BASE_DONE`, or `NET_BASE_REFUSED` if `used` is above `runs_length`: then the
+ * length is 0, and nothing changes.
  *
- * Requires: head and runs are sound, as `net_assembler_is_sound` tests.
+ * Requires: head and runs are sound, as `net_base_assembler_is_sound` tests.
  */
-struct net_front_length net_assembler_remove_front(
-    struct net_assembler *assembler, struct net_run *runs, size_t runs_length);
+struct net_base_front_length net_base_assembler_remove_front(
+    struct net_base_assembler *assembler, struct net_base_run *runs, uint64_t runs_length);
+
+/* Removes the positions below `count`, and counts the others from there, so that position `count`
+ * is position 0 then. A run that `count` cuts keeps what is at or after it.
+ *
+ * Returns true, or false if `used` is above `runs_length`: then nothing changes.
+ *
+ * Requires: head and runs are sound, as `net_base_assembler_is_sound` tests.
+ */
+bool net_base_assembler_shift(
+    struct net_base_assembler *assembler, struct net_base_run *runs, uint64_t runs_length,
+    uint64_t count);
 
 /* Returns the length of the run at position 0, which is 0 if position 0 is missing.
  *
- * The status is `NET_DONE`, or `NET_REFUSED` if `used` is above `runs_length`: then the length is
- * 0.
+ * The status is `NET_BASE_DONE`, or `NET_BASE_REFUSED` if `used` is above `runs_length`: then the
+ * length is 0.
  *
- * Requires: head and runs are sound, as `net_assembler_is_sound` tests.
+ * Requires: head and runs are sound, as `net_base_assembler_is_sound` tests.
  */
-struct net_front_length net_assembler_peek_front(
-    const struct net_assembler *assembler, const struct net_run *runs, size_t runs_length);
+struct net_base_front_length net_base_assembler_peek_front(
+    const struct net_base_assembler *assembler, const struct net_base_run *runs,
+    uint64_t runs_length);
 
-/* Returns `NET_PRESENT` if `position` is present, and `NET_MISSING` if it isn't; `NET_REFUSED` if
- * `used` is above `runs_length`.
+/* Returns `NET_BASE_PRESENT` if `position` is present, and `NET_BASE_MISSING` if it isn't;
+ * `NET_BASE_REFUSED` if `used` is above `runs_length`.
  *
- * Requires: head and runs are sound, as `net_assembler_is_sound` tests.
+ * Requires: head and runs are sound, as `net_base_assembler_is_sound` tests.
  */
-uint32_t net_assembler_contains(
-    const struct net_assembler *assembler, const struct net_run *runs, size_t runs_length,
-    size_t position);
+uint32_t net_base_assembler_contains(
+    const struct net_base_assembler *assembler, const struct net_base_run *runs,
+    uint64_t runs_length, uint64_t position);
 
 /* Returns the run with number `index`, counted from 0 in rising order: its start, and its end,
  * which isn't included. If there are no more than `index` runs, both are 0.
  *
- * If `used` is above `runs_length`, it is refused: both are `SIZE_MAX`.
+ * If `used` is above `runs_length`, it is refused: both are `UINT64_MAX`.
  *
- * Requires: head and runs are sound, as `net_assembler_is_sound` tests.
+ * Requires: head and runs are sound, as `net_base_assembler_is_sound` tests.
  */
-struct net_run net_assembler_run_at(
-    const struct net_assembler *assembler, const struct net_run *runs, size_t runs_length,
-    size_t index);
+struct net_base_run net_base_assembler_run_at(
+    const struct net_base_assembler *assembler, const struct net_base_run *runs,
+    uint64_t runs_length, uint64_t index);
+
+/* Returns the hole with number `index`, counted from 0 in rising order: its start, and its end,
+ * which isn't included. Holes are the missing ranges below the end of the last run. If there are no
+ * more than `index` holes, both are 0.
+ *
+ * If `used` is above `runs_length`, it is refused: both are `NET_BASE_NONE`.
+ *
+ * Requires: head and runs are sound, as `net_base_assembler_is_sound` tests.
+ */
+struct net_base_run net_base_assembler_hole_at(
+    const struct net_base_assembler *assembler, const struct net_base_run *runs,
+    uint64_t runs_length, uint64_t index);
+
+/* Returns whether the same positions are present in another assembler.
+ *
+ * If `used` is above `runs_length`, or that of `other` above `other_runs_length`, it is refused:
+ * false.
+ *
+ * Requires: both heads are sound with their runs, as `net_base_assembler_is_sound` tests.
+ */
+bool net_base_assembler_is_same(
+    const struct net_base_assembler *assembler, const struct net_base_run *runs,
+    uint64_t runs_length, const struct net_base_assembler *other,
+    const struct net_base_run *other_runs, uint64_t other_runs_length);
+
+/* Packets that arrive in fragments, as those of IPv4 do, over bytes and runs that the caller keeps.
+ *
+ * A head of zeros, but for `expires_at`, is that of an empty buffer. The longest packet has as many
+ * bytes as the storage. Fragments may overlap: at each position the byte is that of the last
+ * fragment there. `present` is an assembler.
+ */
+
+/* What a buffer of fragments has besides its bytes and runs. */
+struct net_base_fragments {
+    /* The positions that arrived: the head of an assembler. */
+    struct net_base_assembler present;
+    /* Not 0 once the packet's size is known. */
+    uint64_t has_total;
+    /* The packet's size in bytes, once it is known. */
+    uint64_t total;
+    /* The last moment at which the packet is waited for, in microseconds. */
+    int64_t expires_at;
+};
+
+/* Starts over for a packet that is waited for up to `expires_at`, in microseconds. No head is
+ * refused: this makes one sound for any memory.
+ */
+void net_base_fragments_reset(struct net_base_fragments *fragments, int64_t expires_at);
+
+/* Adds a fragment, whose first byte is that of the packet at `offset`.
+ *
+ * Returns `NET_BASE_DONE`, or `NET_BASE_TOO_LONG` if the fragment reaches past the storage's end,
+ * or `NET_BASE_TOO_MANY_RUNS` if there would be more runs than the slice has elements, or
+ * `NET_BASE_REFUSED` if `present.used` is above `runs_length` or a known size above
+ * `storage_length`. If it isn't `NET_BASE_DONE`, nothing changes.
+ *
+ * Requires: head and runs of `present` are sound, as `net_base_assembler_is_sound` tests.
+ */
+uint32_t net_base_fragments_add(
+    struct net_base_fragments *fragments, uint8_t *storage, uint64_t storage_length,
+    struct net_base_run *runs, uint64_t runs_length, uint64_t offset, const uint8_t *data,
+    uint64_t data_length);
+
+/* Sets the packet's size to `size` bytes, in a storage of `capacity` bytes. A size that was set
+ * before is replaced.
+ *
+ * Returns `NET_BASE_DONE`, or `NET_BASE_TOO_LONG`, and nothing changes, if the storage has fewer
+ * bytes.
+ */
+uint32_t net_base_fragments_set_total_size(
+    struct net_base_fragments *fragments, uint64_t capacity, uint64_t size);
+
+/* Returns the packet's size, if it is known and all its bytes have arrived: they are the first ones
+ * of the storage, which has `capacity` bytes.
+ *
+ * The status is `NET_BASE_DONE`, or `NET_BASE_MISSING` if the size isn't known or a byte is
+ * missing, or `NET_BASE_REFUSED` if `present.used` is above `runs_length` or a known size above
+ * `capacity`. If it isn't `NET_BASE_DONE`, the length is 0.
+ *
+ * Requires: head and runs of `present` are sound, as `net_base_assembler_is_sound` tests.
+ */
+struct net_base_front_length net_base_fragments_complete(
+    const struct net_base_fragments *fragments, uint64_t capacity, const struct net_base_run *runs,
+    uint64_t runs_length);
+
+/* Returns whether `now` is after the last moment at which the packet is waited for. */
+bool net_base_fragments_is_expired(const struct net_base_fragments *fragments, int64_t now);
 
 /* Packet queues: where a packet has its slots and its bytes, in storages that the caller keeps.
  *
- * A packet uses one slot, and a gap before it one more. The caller writes size and header to a
- * slot, and marks that of a gap; it reads them again before a slot is taken off. A head that isn't
- * that of two rings of these capacities is refused.
+ * A packet uses one slot, and a gap before it one more. `enqueue`, `dequeue`, `peek` and
+ * `shorten_last` take the slots, and write them. `place`, `take_slot` and `shorten_slot` are for a
+ * caller that keeps its slots in another form: they take one slot, and the caller writes those of a
+ * packet that was placed. What is refused changes nothing.
  */
 
-/* The numbers of a ring apart from its storage. */
-struct net_place {
-    /* The index of the first element of the queue, 0 if the storage is empty. */
-    size_t read_at;
-    /* How many elements are queued. */
-    size_t length;
+/* The numbers of a packet queue apart from its storages. */
+struct net_base_packets {
+    /* The numbers of the ring of slots. */
+    struct net_base_ring slots;
+    /* The numbers of the ring of bytes. */
+    struct net_base_ring bytes;
 };
 
-/* The numbers of a packet queue apart from its storages. */
-struct net_packets {
-    /* The numbers of the ring of slots. */
-    struct net_place slots;
-    /* The numbers of the ring of bytes. */
-    struct net_place bytes;
+/* A slot of a packet queue without its header: that of a packet, or of the gap before one. */
+struct net_base_packet_slot {
+    /* How many bytes the packet or the gap has. */
+    uint64_t size;
+    /* 0 if the slot is a packet's. Any other number says that it is a gap's. */
+    uint64_t is_gap;
 };
 
 /* Where a packet was placed. */
-struct net_packet_place {
+struct net_base_packet_place {
     /* How many bytes are skipped before the packet: 0, or those up to the storage's end. */
-    size_t gap;
+    uint64_t gap;
     /* The index of the slot of the gap. If the gap has 0 bytes, it has no slot, and this is `slot`.
      */
-    size_t gap_slot;
+    uint64_t gap_slot;
     /* The index of the packet's slot. */
-    size_t slot;
+    uint64_t slot;
     /* The index of the packet's first byte. */
-    size_t from;
+    uint64_t from;
 };
 
-/* Returns whether `packets` has the places of a ring of `slot_count` slots and of one of `capacity`
- * bytes.
+/* Where the first packet is. */
+struct net_base_first_packet {
+    /* How many bytes are skipped before the packet. */
+    uint64_t gap;
+    /* The index of the packet's slot. */
+    uint64_t slot;
+    /* The index of the packet's first byte. */
+    uint64_t from;
+    /* How many bytes the packet has. */
+    uint64_t size;
+};
+
+/* Returns whether head and slots are those of a queue over `capacity` bytes: the numbers are those
+ * of a ring of the slots and of one of the bytes; the packets and gaps of the slots in use take the
+ * bytes in use; each packet is contiguous; and a gap has bytes, ends at the storage's end and has a
+ * packet after it. It looks at each slot in use.
  */
-bool net_packets_is_sound(const struct net_packets *packets, size_t slot_count, size_t capacity);
+bool net_base_packets_is_sound(
+    const struct net_base_packets *packets, const struct net_base_packet_slot *slots,
+    uint64_t slots_length, uint64_t capacity);
 
 /* Empties the queue. No head is refused: this makes one sound for all storages. */
-void net_packets_clear(struct net_packets *packets);
+void net_base_packets_clear(struct net_base_packets *packets);
 
-/* Appends a packet of `size` bytes, and returns where its slots and its bytes are. An empty queue
- * begins at the beginning of the storage of bytes.
+/* Appends a packet of `size` bytes, writes its slot and that of its gap, and returns where they and
+ * the packet's bytes are. An empty queue begins at the beginning of the storage of bytes.
  *
  * If there are no `size` contiguous free bytes, or no slots for the packet and its gap, `slot` and
- * `from` are `SIZE_MAX`, and nothing changes. A head that isn't sound is refused: then `gap` is
- * `SIZE_MAX` too.
+ * `from` are `NET_BASE_NONE`, and nothing changes. A head whose numbers aren't those of rings of
+ * the slots and of `capacity` bytes is refused: then `gap` is `NET_BASE_NONE` too.
  */
-struct net_packet_place net_packets_place(
-    struct net_packets *packets, size_t slot_count, size_t capacity, size_t size);
+struct net_base_packet_place net_base_packets_enqueue(
+    struct net_base_packets *packets, struct net_base_packet_slot *slots, uint64_t slots_length,
+    uint64_t capacity, uint64_t size);
 
-/* Returns whether the queue has `count` bytes, and if so takes the last `count` off the last
- * packet: fewer were written than were placed. The caller lowers the size in the packet's slot.
+/* Takes the first packet off, and the gap before it, and returns where it is.
  *
- * A head that isn't sound is refused: false, and nothing changes.
+ * If no slot is in use, `slot` and `from` are `NET_BASE_NONE`, and nothing changes. A head whose
+ * numbers aren't those of rings is refused, and so are first slots that can't be those of a packet:
+ * then `gap` is `NET_BASE_NONE` too. The slots of a sound queue are never refused.
  */
-bool net_packets_shorten_last(
-    struct net_packets *packets, size_t slot_count, size_t capacity, size_t count);
+struct net_base_first_packet net_base_packets_dequeue(
+    struct net_base_packets *packets, const struct net_base_packet_slot *slots,
+    uint64_t slots_length, uint64_t capacity);
 
-/* Takes the first slot off with its `size` bytes, and returns the index of the first of these: of
- * the gap before the first packet, or of the first packet if it has no gap.
+/* Returns where the first packet is, which stays.
  *
- * A head that isn't sound is refused, and so is a queue with no slot, or whose first `size` bytes
- * aren't contiguous or are more than it has: `SIZE_MAX`, and nothing changes.
+ * If no slot is in use, `slot` and `from` are `NET_BASE_NONE`. A head whose numbers aren't those of
+ * rings is refused, and so are first slots that can't be those of a packet: then `gap` is
+ * `NET_BASE_NONE` too. The slots of a sound queue are never refused.
  */
-size_t net_packets_take(
-    struct net_packets *packets, size_t slot_count, size_t capacity, size_t size);
+struct net_base_first_packet net_base_packets_peek(
+    const struct net_base_packets *packets, const struct net_base_packet_slot *slots,
+    uint64_t slots_length, uint64_t capacity);
+
+/* Takes the last `count` bytes off the last packet, lowers the size in its slot, and returns true:
+ * fewer bytes were written than were placed.
+ *
+ * Returns false, and changes nothing, if no slot is in use, if the last one isn't that of a packet
+ * of at least `count` bytes, which are in use, or if the head's numbers aren't those of rings.
+ */
+bool net_base_packets_shorten_last(
+    struct net_base_packets *packets, struct net_base_packet_slot *slots, uint64_t slots_length,
+    uint64_t capacity, uint64_t count);
+
+/* Appends a packet of `size` bytes, and returns where its slots and its bytes are. An empty queue
+ * begins at the beginning of the storage of bytes. The caller writes the slots.
+ *
+ * If there are no `size` contiguous free bytes, or no slots for the packet and its gap, `slot` and
+ * `from` are `NET_BASE_NONE`, and nothing changes. A head that isn't sound is refused: then `gap`
+ * is `NET_BASE_NONE` too.
+ */
+struct net_base_packet_place net_base_packets_place(
+    struct net_base_packets *packets, uint64_t slot_count, uint64_t capacity, uint64_t size);
+
+/* Takes the first slot in use, `first`, off with its bytes, and returns the index of the first of
+ * these: of the gap before the first packet, or of the first packet if it has no gap.
+ *
+ * A head that isn't sound is refused, and so is a slot that can't be the first one: if none is in
+ * use, if more bytes than are in use are its, if they aren't contiguous, or if it is a gap's that
+ * has no bytes or doesn't end at the storage's end. Then `NET_BASE_NONE` is returned, and nothing
+ * changes.
+ */
+uint64_t net_base_packets_take_slot(
+    struct net_base_packets *packets, uint64_t slot_count, uint64_t capacity,
+    const struct net_base_packet_slot *first);
+
+/* Takes the last `count` bytes off the last packet, lowers the size in `last`, its slot, and
+ * returns true.
+ *
+ * Returns false, and changes nothing, if no slot is in use, if `last` isn't that of a packet of at
+ * least `count` bytes, which are in use, or if the head isn't sound.
+ */
+bool net_base_packets_shorten_slot(
+    struct net_base_packets *packets, uint64_t slot_count, uint64_t capacity,
+    struct net_base_packet_slot *last, uint64_t count);
+
+/* Devices: the longest packets of one, and whether the stack handles a checksum, from numbers that
+ * the caller keeps.
+ */
+
+/* Each frame is an Ethernet frame, and begins with a header of 14 bytes. */
+#define NET_BASE_ETHERNET UINT32_C(0)
+
+/* Each frame is an IP packet. */
+#define NET_BASE_IP UINT32_C(1)
+
+/* The stack verifies checksums when receiving, and computes them when sending. */
+#define NET_BASE_CHECKSUM_BOTH UINT32_C(0)
+
+/* The stack verifies checksums when receiving. */
+#define NET_BASE_CHECKSUM_RX UINT32_C(1)
+
+/* The stack computes checksums when sending. */
+#define NET_BASE_CHECKSUM_TX UINT32_C(2)
+
+/* The stack leaves checksums alone. */
+#define NET_BASE_CHECKSUM_NONE UINT32_C(3)
+
+/* Returns whether the longest frame of a device has room for the header of its medium, and if so
+ * writes the bytes of its longest IP packet to `mtu`: those of the longest frame, less 14 if
+ * `medium` is `NET_BASE_ETHERNET`. A medium other than that and `NET_BASE_IP` is refused: then
+ * `mtu` stays.
+ */
+bool net_base_ip_mtu(uint32_t medium, uint64_t max_transmission_unit, uint64_t *mtu);
+
+/* Returns whether the longest IP packet of a device has room for a header of `ip_header_len` bytes,
+ * and if so writes the bytes of the longest payload of a fragment of IPv4 to `size`: the rest of
+ * that packet, down to a multiple of 8. A medium other than `NET_BASE_ETHERNET` and `NET_BASE_IP`
+ * is refused: then `size` stays.
+ */
+bool net_base_max_ipv4_fragment_size(
+    uint32_t medium, uint64_t max_transmission_unit, uint64_t ip_header_len, uint64_t *size);
+
+/* Returns whether the stack verifies checksums when receiving, where it handles them as `checksum`
+ * says: `NET_BASE_PRESENT` or `NET_BASE_MISSING`. A number that isn't one of `NET_BASE_CHECKSUM_..`
+ * is `NET_BASE_REFUSED`.
+ */
+uint32_t net_base_checksum_rx(uint32_t checksum);
+
+/* Returns whether the stack computes checksums when sending, where it handles them as `checksum`
+ * says: `NET_BASE_PRESENT` or `NET_BASE_MISSING`. A number that isn't one of `NET_BASE_CHECKSUM_..`
+ * is `NET_BASE_REFUSED`.
+ */
+uint32_t net_base_checksum_tx(uint32_t checksum);
 
 /* Random words, drawn from a state that the caller keeps. Any state is allowed; the words are not
  * fit for cryptography.
  */
 
 /* Steps `state` to the next one, and returns its random word, of 32 bits. */
-uint32_t net_rand_u32(uint64_t *state);
+uint32_t net_base_rand_u32(uint64_t *state);
 
 /* Steps `state` to the next one, and returns its draw of 16 bits: the two halves of its random
  * word, combined by exclusive or.
  */
-uint16_t net_rand_u16(uint64_t *state);
+uint16_t net_base_rand_u16(uint64_t *state);
 
 /* Draws 16 bits until a draw is above 1024, and returns it. It returns from every state, after at
  * most 2^64 draws.
  */
-uint16_t net_rand_source_port(uint64_t *state);
+uint16_t net_base_rand_source_port(uint64_t *state);
+
+/* Steps `state` to the next one, and returns its random word times `bound`, divided by 2^32 and
+ * rounded down: a number below `bound`. Each number below `bound` is the result for equally many
+ * words, or for one more.
+ *
+ * If `bound` is 0, it is refused: it returns 2^64 - 1, and `state` stays as it is.
+ */
+uint64_t net_base_rand_below(uint64_t *state, uint32_t bound);
 
 /* Receivers of one stream of bytes, over a storage and runs that the caller keeps.
  *
@@ -238,28 +673,28 @@ uint16_t net_rand_source_port(uint64_t *state);
  */
 
 /* What a receiver has besides its storage and its held runs: numbers. */
-struct net_receiver {
+struct net_base_receiver {
     /* The position of the stream's first byte. */
     uint64_t first;
     /* How many bytes were read. */
     uint64_t count_read;
     /* Where the queue is in the storage. */
-    struct net_place place;
+    struct net_base_ring place;
     /* What the held runs are counted from, and how many there are. */
-    struct net_assembler held;
+    struct net_base_assembler held;
 };
 
 /* How many bytes of a segment were kept, and how many joined the queue. */
-struct net_kept_counts {
+struct net_base_kept_counts {
     /* How many bytes were kept: those of the segment whose positions are in the free window. */
-    size_t kept;
+    uint64_t kept;
     /* How many bytes joined the queue: by how many positions the first missing position moved up.
      */
-    size_t queued;
+    uint64_t queued;
 };
 
 /* A held run, by absolute positions: from `start` on, up to `end`, which is not included. */
-struct net_held_run {
+struct net_base_held_run {
     uint64_t start;
     uint64_t end;
 };
@@ -267,68 +702,83 @@ struct net_held_run {
 /* Returns whether these are the head, the storage and the runs of a receiver. It looks at each run,
  * and at no byte.
  */
-bool net_receiver_is_sound(
-    const struct net_receiver *receiver, const uint8_t *storage, size_t storage_length,
-    const struct net_run *runs, size_t runs_length);
+bool net_base_receiver_is_sound(
+    const struct net_base_receiver *receiver, const uint8_t *storage, uint64_t storage_length,
+    const struct net_base_run *runs, uint64_t runs_length);
 
 /* Keeps the bytes of a segment that are in the free window, and writes to `counts` how many. The
  * segment's first byte is at `position`.
  *
- * Returns `NET_DONE`, or `NET_TOO_MANY_RUNS` if the segment has bytes in the free window, the first
- * missing position is not one of theirs, and with them there would be more runs than the slice has
- * elements: then nothing changes.
+ * Clauses `state` and `result` are about what is stored, `step` about every kept list and count of
+ * bytes read that the receiver represents (some do: `laws::represents` of `net_receiver`), and
+ * `receives` about segments of one stream.
  *
- * Returns `NET_REFUSED`, and nothing changes, if the segment doesn't end within 64 bits, if `place`
- * isn't that of a ring of `storage_length` bytes, if `next` doesn't fit 64 bits, or if `held.used`
- * is above `runs_length`.
+ * Returns `NET_BASE_DONE`, or `NET_BASE_TOO_MANY_RUNS` if the segment has bytes in the free window,
+ * the first missing position is not one of theirs, and with them there would be more runs than the
+ * slice has elements: then nothing changes.
  *
- * Requires: head, storage and runs are sound, as `net_receiver_is_sound` tests.
+ * Returns `NET_BASE_REFUSED`, and nothing changes, if the segment doesn't end within 64 bits, if
+ * `place` isn't that of a ring of `storage_length` bytes, if `next` doesn't fit 64 bits, or if
+ * `held.used` is above `runs_length`.
+ *
+ * Requires: head, storage and runs are sound, as `net_base_receiver_is_sound` tests.
  */
-uint32_t net_receiver_segment(
-    struct net_receiver *receiver, uint8_t *storage, size_t storage_length, struct net_run *runs,
-    size_t runs_length, uint64_t position, const uint8_t *bytes, size_t bytes_length,
-    struct net_kept_counts *counts);
+uint32_t net_base_receiver_segment(
+    struct net_base_receiver *receiver, uint8_t *storage, uint64_t storage_length,
+    struct net_base_run *runs, uint64_t runs_length, uint64_t position, const uint8_t *bytes,
+    uint64_t bytes_length, struct net_base_kept_counts *counts);
 
 /* Moves bytes from the head of the queue to the beginning of `into`, and returns how many: as many
  * as are queued and as `into` has room for. The rest of `into` stays as it is, and so do the runs.
  *
  * If `place` isn't that of a ring of `storage_length` bytes, or `next` doesn't fit 64 bits, it is
- * refused: `SIZE_MAX`, and nothing changes.
+ * refused: `UINT64_MAX`, and nothing changes.
  */
-size_t net_receiver_read(
-    struct net_receiver *receiver, const uint8_t *storage, size_t storage_length, uint8_t *into,
-    size_t into_length);
+uint64_t net_base_receiver_read(
+    struct net_base_receiver *receiver, const uint8_t *storage, uint64_t storage_length,
+    uint8_t *into, uint64_t into_length);
 
-/* Copies bytes from the head of the queue as `net_receiver_read` does, and leaves the queue as it
- * is.
+/* Copies bytes from the head of the queue as `net_base_receiver_read` does, and leaves the queue as
+ * it is.
  *
- * If `place` isn't that of a ring of `storage_length` bytes, it is refused: `SIZE_MAX`, and nothing
- * changes.
+ * If `place` isn't that of a ring of `storage_length` bytes, it is refused: `UINT64_MAX`, and
+ * nothing changes.
  */
-size_t net_receiver_peek_slice(
-    const struct net_receiver *receiver, const uint8_t *storage, size_t storage_length,
-    uint8_t *into, size_t into_length);
+uint64_t net_base_receiver_peek_slice(
+    const struct net_base_receiver *receiver, const uint8_t *storage, uint64_t storage_length,
+    uint8_t *into, uint64_t into_length);
 
 /* Returns whether `count` bytes are queued, and if so removes them from the head of the queue, as
- * `net_receiver_read` does, but copies none; `net_ring_queued` of `place` tells where they are.
+ * `net_base_receiver_read` does, but copies none; `net_base_ring_allocated` of `place` tells where
+ * they are.
  *
  * If `place` isn't that of a ring of `capacity` bytes, or `next` doesn't fit 64 bits, it is
  * refused: false, and nothing changes.
  */
-bool net_receiver_remove(struct net_receiver *receiver, size_t capacity, size_t count);
+bool net_base_receiver_remove(
+    struct net_base_receiver *receiver, uint64_t capacity, uint64_t count);
 
 /* Returns whether the first missing position fits 64 bits, and if so writes it to `next`: the first
  * position, plus the bytes read, plus those queued.
  */
-bool net_receiver_next(const struct net_receiver *receiver, uint64_t *next);
+bool net_base_receiver_next(const struct net_base_receiver *receiver, uint64_t *next);
+
+/* Returns whether the end of the free window fits 64 bits, where the storage has `capacity` bytes,
+ * and if so writes it to `end`: the first position for which there is no room, `next` plus the
+ * window. No segment and no read lowers it.
+ *
+ * If more is queued than that, it is refused: false, and nothing changes.
+ */
+bool net_base_receiver_window_end(
+    const struct net_base_receiver *receiver, uint64_t capacity, uint64_t *end);
 
 /* Returns the window, where the storage has `capacity` bytes: how many bytes have room after the
  * queue, held ones among them.
  *
- * If more is queued than that, it is refused, and so is a capacity of `SIZE_MAX`, which no storage
- * has: `SIZE_MAX`.
+ * If more is queued than that, it is refused, and so is a capacity of `UINT64_MAX`, which no
+ * storage has: `UINT64_MAX`.
  */
-size_t net_receiver_window(const struct net_receiver *receiver, size_t capacity);
+uint64_t net_base_receiver_window(const struct net_base_receiver *receiver, uint64_t capacity);
 
 /* Returns the held run with number `index`, counted from 0 in rising order. If there are no more
  * than `index`, start and end are 0.
@@ -336,165 +786,117 @@ size_t net_receiver_window(const struct net_receiver *receiver, size_t capacity)
  * If `place` isn't that of a ring of `storage_length` bytes, `next` doesn't fit 64 bits, or
  * `held.used` is above `runs_length`, it is refused: start and end are `UINT64_MAX`.
  *
- * Requires: head, storage and runs are sound, as `net_receiver_is_sound` tests.
+ * Requires: head, storage and runs are sound, as `net_base_receiver_is_sound` tests.
  */
-struct net_held_run net_receiver_run_at(
-    const struct net_receiver *receiver, const uint8_t *storage, size_t storage_length,
-    const struct net_run *runs, size_t runs_length, size_t index);
+struct net_base_held_run net_base_receiver_run_at(
+    const struct net_base_receiver *receiver, const uint8_t *storage, uint64_t storage_length,
+    const struct net_base_run *runs, uint64_t runs_length, uint64_t index);
 
-/* Rings: where elements are in a storage that the caller keeps, and the numbers after a call.
+/* Lists held runs at the beginning of `into`, the newest first, and returns how many: as many as
+ * are held, or as `into` has elements. The rest of `into` stays as it is.
  *
- * Of elements that aren't bytes a call sees only the capacity of their storage: it returns where
- * they are, and the caller copies them. A place that isn't one of a ring of that capacity is
- * refused.
+ * The first is the run that has `position`, that of the segment just taken, if it is held; then
+ * come the runs last listed, which `recent` remembers, and then the others, in rising order; each
+ * comes once. `recent` has as many numbers as runs are sent, zeros at first. It is the order that
+ * RFC 2018, section 4, wants of a selective acknowledgement.
+ *
+ * If `place` isn't that of a ring of `storage_length` bytes, `next` doesn't fit 64 bits, or
+ * `held.used` is above `runs_length`, it is refused: `UINT64_MAX`, and nothing changes.
+ *
+ * Requires: head, storage and runs are sound, as `net_base_receiver_is_sound` tests.
+ */
+uint64_t net_base_receiver_newest_runs(
+    const struct net_base_receiver *receiver, const uint8_t *storage, uint64_t storage_length,
+    const struct net_base_run *runs, uint64_t runs_length, uint64_t position, uint64_t *recent,
+    uint64_t recent_length, struct net_base_held_run *into, uint64_t into_length);
+
+/* Returns how many bytes of a segment of `len` bytes at `position` would be new: those in the free
+ * window whose positions are not held. `net_base_receiver_segment` keeps the others of the free
+ * window too, and counts them. If there are none, all that the segment brings in the window is
+ * there: a duplicate, which TCP may report. It is asked before the segment is kept.
+ *
+ * If the segment doesn't end within 64 bits, `place` isn't that of a ring of `storage_length`
+ * bytes, `next` doesn't fit 64 bits, or `held.used` is above `runs_length`, it is refused:
+ * `UINT64_MAX`.
+ *
+ * Requires: head, storage and runs are sound, as `net_base_receiver_is_sound` tests.
+ */
+uint64_t net_base_receiver_count_new(
+    const struct net_base_receiver *receiver, const uint8_t *storage, uint64_t storage_length,
+    const struct net_base_run *runs, uint64_t runs_length, uint64_t position, uint64_t len);
+
+/* Scoreboards: what a sender knows of the positions that the other end has, in runs that the caller
+ * keeps.
+ *
+ * At most as many runs are stored as the slice has elements; one may be that of what is
+ * acknowledged. Each call looks at each run, and refuses a scoreboard that isn't sound.
  */
 
-/* Where elements of a ring are in its storage: those that are not contiguous with the first one are
- * at the storage's beginning.
+/* What a sender knows of the positions that the other end has, as acknowledgements and their SACK
+ * blocks report them: a scoreboard.
  */
-struct net_span {
-    /* The index of the first one. */
-    size_t from;
-    /* How many there are. */
-    size_t count;
-    /* How many of them are contiguous, from the first one on. */
-    size_t contiguous;
+struct net_base_scoreboard {
+    /* The positions that were reported. */
+    struct net_base_assembler reported;
 };
 
-/* Contiguous elements: `count` of them, from the index `from` on. */
-struct net_part {
-    size_t from;
-    size_t count;
+/* A range of positions to send again, and whether the call was done. */
+struct net_base_hole {
+    /* `NET_BASE_DONE` or `NET_BASE_REFUSED`. */
+    uint32_t status;
+    /* The first position; 0 if the call was refused. */
+    uint64_t start;
+    /* The position after the last one; 0 if the call was refused. */
+    uint64_t end;
 };
 
-/* Returns whether `place` is that of a ring of `capacity` elements: its read index is an index of
- * the storage, or 0, and it has no more elements than the storage.
+/* Returns whether the scoreboard is sound with these runs: `reported` and they are those of an
+ * assembler.
  */
-bool net_ring_is_sound(const struct net_place *place, size_t capacity);
+bool net_base_scoreboard_is_sound(
+    const struct net_base_scoreboard *scoreboard, const struct net_base_run *runs,
+    uint64_t runs_length);
 
-/* Returns where at most `size` free elements are, from the one at `offset` on; none if `offset` is
- * past the free elements.
+/* Forgets all that was reported. Nothing is refused: this makes a scoreboard of any memory. */
+void net_base_scoreboard_clear(struct net_base_scoreboard *scoreboard);
+
+/* Reports the positions from `start` on and below `end`, as a SACK block of an acknowledgement
+ * does. Blocks may overlap. `sent` is the position after the last byte that was ever sent.
  *
- * A place that isn't sound is refused: then `from` is `SIZE_MAX`, and `count` is 0.
+ * Returns `NET_BASE_DONE`, or `NET_BASE_TOO_MANY_RUNS` if there would be more runs than the slice
+ * has elements, or `NET_BASE_REFUSED` if `start` isn't below `end`, if `end` is above `sent`, or if
+ * the scoreboard isn't sound. If it isn't `NET_BASE_DONE`, nothing changes.
  */
-struct net_span net_ring_free(
-    const struct net_place *place, size_t capacity, size_t offset, size_t size);
+uint32_t net_base_scoreboard_report(
+    struct net_base_scoreboard *scoreboard, struct net_base_run *runs, uint64_t runs_length,
+    uint64_t start, uint64_t end, uint64_t sent);
 
-/* Returns where at most `size` elements of the queue are, from the one at `offset` on; none if
- * `offset` is past the queue.
+/* Reports all positions below `next`, so that the runs below it become one.
  *
- * A place that isn't sound is refused: then `from` is `SIZE_MAX`, and `count` is 0.
+ * Returns `NET_BASE_DONE`, or `NET_BASE_TOO_MANY_RUNS` if there would be more runs than the slice
+ * has elements: then nothing below `next` is reported. `NET_BASE_REFUSED` if the scoreboard isn't
+ * sound. If it isn't `NET_BASE_DONE`, nothing changes.
  */
-struct net_span net_ring_queued(
-    const struct net_place *place, size_t capacity, size_t offset, size_t size);
+uint32_t net_base_scoreboard_acknowledge(
+    struct net_base_scoreboard *scoreboard, struct net_base_run *runs, uint64_t runs_length,
+    uint64_t next);
 
-/* Returns how many elements can be enqueued before the storage's end.
+/* Returns `NET_BASE_PRESENT` if `position` was reported, and `NET_BASE_MISSING` if it wasn't;
+ * `NET_BASE_REFUSED` if the scoreboard isn't sound.
+ */
+uint32_t net_base_scoreboard_contains(
+    const struct net_base_scoreboard *scoreboard, const struct net_base_run *runs,
+    uint64_t runs_length, uint64_t position);
+
+/* Returns the next range to send again: it begins at the first position from `position` on that
+ * wasn't reported, and ends at the next one that was, or at `limit`. If there is none below
+ * `limit`, start and end are `limit`.
  *
- * A place that isn't sound is refused, and so is a capacity of `SIZE_MAX`, which no storage has:
- * `SIZE_MAX`.
+ * If the scoreboard isn't sound, the status is `NET_BASE_REFUSED`, and both are 0.
  */
-size_t net_ring_contiguous_window(const struct net_place *place, size_t capacity);
-
-/* Empties the queue, and moves the read index to the storage's beginning. No place is refused: this
- * makes one sound for every capacity.
- */
-void net_ring_clear(struct net_place *place);
-
-/* Moves the read index of an empty ring to the storage's beginning, so that all its elements are
- * contiguous. Otherwise nothing changes. No place is refused.
- */
-void net_ring_rewind_if_empty(struct net_place *place);
-
-/* Returns whether `count` elements are free, and if so enqueues them, as they are.
- *
- * A place that isn't sound is refused: false, and nothing changes.
- */
-bool net_ring_enqueue(struct net_place *place, size_t capacity, size_t count);
-
-/* Returns whether `count` elements are queued, and if so dequeues them.
- *
- * A place that isn't sound is refused: false, and nothing changes.
- */
-bool net_ring_dequeue(struct net_place *place, size_t capacity, size_t count);
-
-/* Enqueues one element, and returns its index in the storage.
- *
- * If none is free, or the place isn't sound: `SIZE_MAX`, and nothing changes.
- */
-size_t net_ring_enqueue_one(struct net_place *place, size_t capacity);
-
-/* Dequeues one element, and returns its index in the storage.
- *
- * If none is queued, or the place isn't sound: `SIZE_MAX`, and nothing changes.
- */
-size_t net_ring_dequeue_one(struct net_place *place, size_t capacity);
-
-/* Enqueues as many elements as are free, at most `size`, and returns where they are. An empty ring
- * first moves its read index to the storage's beginning.
- *
- * A place that isn't sound is refused: then `from` is `SIZE_MAX`, `count` is 0, and nothing
- * changes.
- */
-struct net_span net_ring_put(struct net_place *place, size_t capacity, size_t size);
-
-/* Enqueues contiguous elements, at most `size`, and returns where they are. An empty ring first
- * moves its read index to the storage's beginning.
- *
- * A place that isn't sound is refused: then `from` is `SIZE_MAX`, `count` is 0, and nothing
- * changes.
- */
-struct net_part net_ring_put_contiguous(struct net_place *place, size_t capacity, size_t size);
-
-/* Dequeues as many elements as are queued, at most `size`, and returns where they are.
- *
- * A place that isn't sound is refused: then `from` is `SIZE_MAX`, `count` is 0, and nothing
- * changes.
- */
-struct net_span net_ring_take(struct net_place *place, size_t capacity, size_t size);
-
-/* Dequeues contiguous elements, at most `size`, and returns where they are.
- *
- * A place that isn't sound is refused: then `from` is `SIZE_MAX`, `count` is 0, and nothing
- * changes.
- */
-struct net_part net_ring_take_contiguous(struct net_place *place, size_t capacity, size_t size);
-
-/* Writes as many bytes of `data` as there is room for to the free bytes from the one at `offset`
- * on, and returns how many; 0 if `offset` is past the free bytes. Nothing is enqueued.
- *
- * A place that isn't sound for the storage is refused: `SIZE_MAX`, and nothing changes.
- */
-size_t net_ring_write_unallocated(
-    const struct net_place *place, uint8_t *storage, size_t storage_length, size_t offset,
-    const uint8_t *data, size_t data_length);
-
-/* Copies as many bytes of the queue as `into` has room for, from the one at `offset` on, to the
- * beginning of `into`, and returns how many; 0 if `offset` is past the queue. The rest of `into`
- * stays as it is, and nothing is dequeued.
- *
- * A place that isn't sound for the storage is refused: `SIZE_MAX`, and nothing changes.
- */
-size_t net_ring_read_allocated(
-    const struct net_place *place, const uint8_t *storage, size_t storage_length, size_t offset,
-    uint8_t *into, size_t into_length);
-
-/* Enqueues as many bytes of `data` as there is room for, and returns how many. An empty ring first
- * moves its read index to the storage's beginning, even if nothing is enqueued.
- *
- * A place that isn't sound for the storage is refused: `SIZE_MAX`, and nothing changes.
- */
-size_t net_ring_enqueue_slice(
-    struct net_place *place, uint8_t *storage, size_t storage_length, const uint8_t *data,
-    size_t data_length);
-
-/* Dequeues as many bytes as are queued and `into` has room for, copies them to the beginning of
- * `into`, and returns how many. The rest of `into` stays as it is.
- *
- * A place that isn't sound for the storage is refused: `SIZE_MAX`, and nothing changes.
- */
-size_t net_ring_dequeue_slice(
-    struct net_place *place, const uint8_t *storage, size_t storage_length, uint8_t *into,
-    size_t into_length);
+struct net_base_hole net_base_scoreboard_next_hole(
+    const struct net_base_scoreboard *scoreboard, const struct net_base_run *runs,
+    uint64_t runs_length, uint64_t position, uint64_t limit);
 
 /* Senders of one stream of bytes, over a storage that the caller keeps.
  *
@@ -504,52 +906,99 @@ size_t net_ring_dequeue_slice(
  */
 
 /* What a sender has besides its storage and its SACK blocks: numbers. */
-struct net_sender {
+struct net_base_sender {
     /* The position of the queue's first byte. */
     uint64_t first_unacknowledged;
     /* Where the queue is in the storage. */
-    struct net_place place;
+    struct net_base_ring place;
 };
 
 /* Returns whether this is the head of a sender over a storage of `capacity` bytes: `place` is that
  * of a ring of so many, and the position after the queue fits 64 bits.
  */
-bool net_sender_is_sound(const struct net_sender *sender, size_t capacity);
+bool net_base_sender_is_sound(const struct net_base_sender *sender, uint64_t capacity);
 
 /* Returns whether the position after the last byte that was written fits 64 bits, and if so writes
  * it to `end`.
  */
-bool net_sender_end(const struct net_sender *sender, uint64_t *end);
+bool net_base_sender_end(const struct net_base_sender *sender, uint64_t *end);
 
-/* Returns how many bytes `net_sender_write` would take: as many as have room in a storage of
+/* Returns how many bytes `net_base_sender_write` would take: as many as have room in a storage of
  * `capacity` bytes and below the last position, 2^64 - 1.
  *
- * A head that isn't sound is refused, and so is a capacity of `SIZE_MAX`, which no storage has:
- * `SIZE_MAX`.
+ * A head that isn't sound is refused, and so is a capacity of `UINT64_MAX`, which no storage has:
+ * `UINT64_MAX`.
  */
-size_t net_sender_room(const struct net_sender *sender, size_t capacity);
+uint64_t net_base_sender_room(const struct net_base_sender *sender, uint64_t capacity);
 
 /* Enqueues the first of these bytes, as many as there is room for, and returns how many.
  *
- * A head that isn't sound for the storage is refused: `SIZE_MAX`, and nothing changes.
+ * A head that isn't sound for the storage is refused: `UINT64_MAX`, and nothing changes.
  */
-size_t net_sender_write(
-    struct net_sender *sender, uint8_t *storage, size_t storage_length, const uint8_t *bytes,
-    size_t bytes_length);
+uint64_t net_base_sender_write(
+    struct net_base_sender *sender, uint8_t *storage, uint64_t storage_length, const uint8_t *bytes,
+    uint64_t bytes_length);
 
 /* Returns where at most `max` queued bytes are, from the one at `position` on; none if that byte
  * isn't queued. The caller copies or sends them.
  *
- * A head that isn't sound is refused: then `from` is `SIZE_MAX`, and `count` is 0.
+ * A head that isn't sound is refused: then `from` is `UINT64_MAX`, and `count` is 0.
  */
-struct net_span net_sender_peek_at(
-    const struct net_sender *sender, size_t capacity, uint64_t position, size_t max);
+struct net_base_span net_base_sender_peek_at(
+    const struct net_base_sender *sender, uint64_t capacity, uint64_t position, uint64_t max);
 
 /* Drops the bytes below `next`, and returns whether it did: false, and nothing changes, if `next`
  * is below `first_unacknowledged` or above the position after the last byte, or if the head isn't
  * sound.
  */
-bool net_sender_acknowledge(struct net_sender *sender, size_t capacity, uint64_t next);
+bool net_base_sender_acknowledge(struct net_base_sender *sender, uint64_t capacity, uint64_t next);
+
+/* Moves the mark `sent`, the position after the last byte that was ever sent, up to `position`, if
+ * that is above it, and returns whether `position` is one that can have been sent.
+ *
+ * False, and nothing changes, if `sent` or `position` is above the position after the last byte
+ * that was written, or that position doesn't fit 64 bits. The caller keeps the mark, which begins
+ * as the position of the stream's first byte.
+ */
+bool net_base_sender_mark_sent(
+    const struct net_base_sender *sender, uint64_t *sent, uint64_t position);
+
+/* Drops the bytes below `next`, if they were sent, and returns whether it did. `sent` is the
+ * position after the last byte that was ever sent, as `net_base_sender_mark_sent` keeps it.
+ *
+ * False, and nothing changes, if `next` is below `first_unacknowledged` or above `sent`, if `sent`
+ * is above the position after the last byte, or if the head isn't sound.
+ */
+bool net_base_sender_acknowledge_sent(
+    struct net_base_sender *sender, uint64_t capacity, uint64_t next, uint64_t sent);
+
+/* Sequence numbers of 32 bits, which wrap, and the positions of 64 bits, which don't.
+ *
+ * A receiver and a sender count in positions; TCP's segments have numbers. If position 0 has the
+ * number `initial`, each position has one number, and a number has one position near a given one.
+ * In TCP the number `initial` may be anything, and numbers before that of the first byte arrive
+ * too, as those of old duplicates; no position below 0 has them, so they can't be told from others.
+ * A stream whose first byte has the position 2^32 + its number avoids that: then `initial` is 0,
+ * the low 32 bits of a position are its number, and 2^32 positions and more come before.
+ */
+
+/* Returns the number of a position, if position 0 has the number `initial`. */
+uint32_t net_base_sequence_number_at(uint32_t initial, uint64_t position);
+
+/* Returns whether a position near `next` has a number, if position 0 has the number `initial`, and
+ * if so writes it to `position`: it is less than 2^31 after `next`, or at most 2^31 before it.
+ */
+bool net_base_sequence_number_position(
+    uint32_t number, uint32_t initial, uint64_t next, uint64_t *position);
+
+/* Returns how far a number is ahead of another one, modulo 2^32. */
+uint32_t net_base_sequence_number_ahead_of(uint32_t number, uint32_t other);
+
+/* Returns whether another number is ahead of this one by less than 2^31, and is not the same. */
+bool net_base_sequence_number_is_before(uint32_t number, uint32_t other);
+
+/* Returns a number plus a count of bytes, modulo 2^32. */
+uint32_t net_base_sequence_number_add(uint32_t number, uint32_t count);
 
 /* Moments (signed, from an origin of the caller's own) and lengths of time, in microseconds.
  *
@@ -559,66 +1008,79 @@ bool net_sender_acknowledge(struct net_sender *sender, size_t capacity, uint64_t
 /* Returns whether there is a moment so many milliseconds after the origin, and if so writes it to
  * `instant`.
  */
-bool net_instant_from_millis(int64_t millis, int64_t *instant);
+bool net_base_instant_from_millis(int64_t millis, int64_t *instant);
 
 /* Returns whether there is a moment so many seconds after the origin, and if so writes it to
  * `instant`.
  */
-bool net_instant_from_secs(int64_t secs, int64_t *instant);
+bool net_base_instant_from_secs(int64_t secs, int64_t *instant);
 
 /* Returns whether there is a moment so much later, and if so writes it to `sum`. */
-bool net_instant_add(int64_t instant, uint64_t duration, int64_t *sum);
+bool net_base_instant_add(int64_t instant, uint64_t duration, int64_t *sum);
 
 /* Returns whether there is a moment so much earlier, and if so writes it to `difference`. */
-bool net_instant_sub(int64_t instant, uint64_t duration, int64_t *difference);
+bool net_base_instant_sub(int64_t instant, uint64_t duration, int64_t *difference);
 
 /* Returns the moment so much later, or `INT64_MAX` if that is above it. */
-int64_t net_instant_saturating_add(int64_t instant, uint64_t duration);
+int64_t net_base_instant_saturating_add(int64_t instant, uint64_t duration);
 
 /* Returns the moment so much earlier, or `INT64_MIN` if that is below it. */
-int64_t net_instant_saturating_sub(int64_t instant, uint64_t duration);
+int64_t net_base_instant_saturating_sub(int64_t instant, uint64_t duration);
 
 /* Returns how far apart two moments are, whichever is the later one. Any two have a distance. */
-uint64_t net_instant_distance(int64_t instant, int64_t other);
+uint64_t net_base_instant_distance(int64_t instant, int64_t other);
+
+/* Writes the earliest of the moments to `earliest`: when to look again at several timers.
+ *
+ * Returns whether there is one: false if there are no moments, and then nothing changes.
+ */
+bool net_base_instant_earliest(const int64_t *moments, uint64_t moments_length, int64_t *earliest);
 
 /* Returns whether so many milliseconds are a length, and if so writes it to `duration`. */
-bool net_duration_from_millis(uint64_t millis, uint64_t *duration);
+bool net_base_duration_from_millis(uint64_t millis, uint64_t *duration);
 
 /* Returns whether so many seconds are a length, and if so writes it to `duration`. */
-bool net_duration_from_secs(uint64_t secs, uint64_t *duration);
+bool net_base_duration_from_secs(uint64_t secs, uint64_t *duration);
 
 /* Returns whether the sum is a length, and if so writes it to `sum`. */
-bool net_duration_add(uint64_t duration, uint64_t other, uint64_t *sum);
+bool net_base_duration_add(uint64_t duration, uint64_t other, uint64_t *sum);
 
 /* Returns whether `duration` is not below `other`, and if so writes the difference to `difference`.
  */
-bool net_duration_sub(uint64_t duration, uint64_t other, uint64_t *difference);
+bool net_base_duration_sub(uint64_t duration, uint64_t other, uint64_t *difference);
 
 /* Returns whether the product is a length, and if so writes it to `product`. */
-bool net_duration_mul(uint64_t duration, uint32_t factor, uint64_t *product);
+bool net_base_duration_mul(uint64_t duration, uint32_t factor, uint64_t *product);
 
 /* Returns whether `divisor` is not 0, and if so writes the quotient, rounded down, to `quotient`.
  */
-bool net_duration_div(uint64_t duration, uint32_t divisor, uint64_t *quotient);
+bool net_base_duration_div(uint64_t duration, uint32_t divisor, uint64_t *quotient);
 
 /* Returns whether `bits` is below 64, and if so writes the low 64 bits of the microseconds, shifted
  * left by so many bits, to `shifted`.
  */
-bool net_duration_shl(uint64_t duration, uint32_t bits, uint64_t *shifted);
+bool net_base_duration_shl(uint64_t duration, uint32_t bits, uint64_t *shifted);
 
 /* Returns whether `bits` is below 64, and if so writes the microseconds, shifted right by so many
  * bits, to `shifted`.
  */
-bool net_duration_shr(uint64_t duration, uint32_t bits, uint64_t *shifted);
+bool net_base_duration_shr(uint64_t duration, uint32_t bits, uint64_t *shifted);
 
 /* Returns the sum, or `UINT64_MAX` if it is above that. */
-uint64_t net_duration_saturating_add(uint64_t duration, uint64_t other);
+uint64_t net_base_duration_saturating_add(uint64_t duration, uint64_t other);
 
 /* Returns the difference, or 0 if `other` is above `duration`. */
-uint64_t net_duration_saturating_sub(uint64_t duration, uint64_t other);
+uint64_t net_base_duration_saturating_sub(uint64_t duration, uint64_t other);
 
 /* Returns the product, or `UINT64_MAX` if it is above that. */
-uint64_t net_duration_saturating_mul(uint64_t duration, uint32_t factor);
+uint64_t net_base_duration_saturating_mul(uint64_t duration, uint32_t factor);
+
+/* The version of this interface. */
+
+/* Returns the version of this interface, which is in the name too: what was written for another
+ * version doesn't link.
+ */
+uint32_t net_base_abi_1(void);
 
 /* END */
 

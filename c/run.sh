@@ -2,8 +2,8 @@
 # Builds and runs the programs of this folder over the archive: sh c/run.sh [SEED CALLS]
 #
 # It compares the archive's symbols with the header, and runs bare (no C library), hosted, the test
-# of each export, and the fuzzer, CALLS calls with random arguments from SEED. CC names the C
-# compiler, NET_BASE_ARCHIVE another archive.
+# of each export, the rows of crates/net_cases, and the fuzzer, CALLS calls with random arguments
+# from SEED. CC names the C compiler, NET_BASE_ARCHIVE another archive.
 set -eu
 
 here=$(cd "$(dirname "$0")" && pwd)
@@ -42,10 +42,10 @@ fi
 echo "archive: wants only $(tr '\n' ' ' < "$out/wanted")"
 
 # The header declares what the archive has, and the test calls each of these.
-nm "$archive" | awk '$2 == "T" && $3 ~ /^net_/ { print $3 }' | sort -u > "$out/defined"
-grep -oE '\bnet_[a-z0-9_]+\(' "$here/net_base.h" | tr -d '(' | sort -u > "$out/declared"
+nm "$archive" | awk '$2 == "T" && $3 ~ /^net_base_/ { print $3 }' | sort -u > "$out/defined"
+grep -oE '\bnet_base_[a-z0-9_]+\(' "$here/net_base.h" | tr -d '(' | sort -u > "$out/declared"
 diff "$out/defined" "$out/declared" || fail "archive (<) and header (>) differ"
-grep -ohE '\bnet_[a-z0-9_]+\(' "$here/exports.c" | tr -d '(' | sort -u > "$out/called"
+grep -ohE '\bnet_base_[a-z0-9_]+\(' "$here/exports.c" | tr -d '(' | sort -u > "$out/called"
 comm -23 "$out/declared" "$out/called" | grep . && fail "exports.c calls none of these"
 echo "header: $(wc -l < "$out/declared") exports"
 
@@ -60,6 +60,9 @@ echo "hosted: as in hosted.stdout"
 
 "$compiler" $flags $sanitizers "$here/exports.c" "$archive" -o "$out/exports"
 "$out/exports"
+
+"$compiler" $flags $sanitizers "$here"/rows/*.c "$archive" -o "$out/rows"
+"$out/rows" "$here/../crates/net_cases/stdin" "$here/../crates/net_cases/stdout"
 
 "$compiler" $flags $sanitizers "$here"/fuzz/*.c "$archive" -o "$out/fuzz"
 "$out/fuzz" "$seed" "$calls"

@@ -1,19 +1,21 @@
 #!/usr/bin/env python3
 """Writes the declarations of the library for C and Rust from the exports of crates/net_ffi.
 
-    python3 tools/ffi.py            writes c/net_base.h and rust/src/sys/declarations.rs
+    python3 tools/ffi.py            writes c/net_base.h, declarations.rs, calls.rs and tests.rs of rust/src/sys, and
+                                    the tests of c/exports.c
     python3 tools/ffi.py --check    compares the files with what it would write; status 1 if one is stale
     python3 tools/ffi.py --names    prints the names of the exports
 
-It reads, in the order of the modules in lib.rt,
+It reads, in the order of the modules in lib.rt, but those in FIRST before,
 - each `#[unsafe(no_mangle)] pub extern "C" fn`, with its doc comment;
-- each `pub const NET_..` of an integer type;
+- each `pub const NET_BASE_..` of an integer type;
 - each `#[repr(C)]` struct that one of these takes or returns, of this crate or of one that it uses.
 
 A slice is a pointer and then a length, with `_length` after the slice's name; `&T` and `&mut T` are pointers. In
-C a struct's name is in snake case, without `Net` before and `Head` after it, and has the prefix `net_`. The doc
+C a struct's name is in snake case, without `Net` before and `Head` after it, and has the prefix `net_base_`. The doc
 comment of a module heads its section; of a struct of another crate only its first paragraph is taken. Of
-c/net_base.h only the part between two lines is written.
+c/exports.c only the part between two lines is written. The duties and refusals in the crate's own comment are in the
+header and in docs/FFI.md. The tests are the rows of exports.txt.
 """
 import argparse
 import dataclasses
@@ -23,14 +25,22 @@ import sys
 import textwrap
 
 ROOT = pathlib.Path(__file__).resolve().parent.parent
+EXPORTS = ROOT / "crates/net_ffi"
 HEADER = ROOT / "c/net_base.h"
 DECLARATIONS = ROOT / "rust/src/sys/declarations.rs"
+CALLS = ROOT / "rust/src/sys/calls.rs"
+# Modules whose sections come first: what the others refer to.
+FIRST = ["refusals", "ring"]
+PAGE = ROOT / "docs/FFI.md"
+PAGE_BEGIN = "<!-- Written by tools/ffi.py from crates/net_ffi/src/lib.rt, up to the line END. -->"
+PAGE_END = "<!-- END -->"
 BEGIN = "/* Written by tools/ffi.py, up to the line END. */"
 END = "/* END */"
 WIDTH = 100
-C_TYPES = {"usize": "size_t", "isize": "ptrdiff_t", "bool": "bool"}
+# Numbers that cross have 64 bits on every processor.
+C_TYPES = {"usize": "uint64_t", "isize": "int64_t", "bool": "bool"}
 C_TYPES |= {f"{sign}{bits}": f"{'u' * (sign == 'u')}int{bits}_t" for sign in "iu" for bits in (8, 16, 32, 64)}
-C_LIMITS = {"usize": "SIZE", "isize": "PTRDIFF"}
+C_LIMITS = {"usize": "UINT64", "isize": "INT64"}
 C_LIMITS |= {f"{sign}{bits}": f"{'U' * (sign == 'u')}INT{bits}" for sign in "iu" for bits in (8, 16, 32, 64)}
 
 
@@ -44,6 +54,7 @@ class Item:
     members: list = dataclasses.field(default_factory=list)
     type: str = ""
     text: str = ""
+    requires: bool = False
 
 
 @dataclasses.dataclass
@@ -101,6 +112,7 @@ def closing(text, at):
     raise ValueError(f"no end: {text[at:at + 40]}")
 
 
+REQUIRES = "# Requires"
 ITEM = re.compile(
     r"(?P<head>(?:^[ \t]*(?:///.*|#\[.*\])\n)*)"
     r'^pub (?:(?P<struct>struct)|(?P<const>const)|(?:unsafe )?extern "C" (?P<fn>fn)) (?P<name>\w+)',
@@ -115,7 +127,7 @@ def items_of(path):
         head, name, at = match["head"], match["name"], match.end()
         if match["const"]:
             kind, value = re.match(r"\s*:\s*(\w+)\s*=\s*(.*?);", text[at:], flags=re.S).groups()
-            if name.startswith("NET_"):
+            if name.startswith("NET_BASE_"):
                 yield Item("const", name, doc_of(head), type=kind, text=value)
         elif match["struct"] and "#[repr(C)]" in head:
             opening = text.index("{", at)
@@ -124,8 +136,11 @@ def items_of(path):
             opening = text.index("(", at)
             end = closing(text, opening)
             result = re.match(r"\s*->\s*(.+?)\s*(?=\n|\{|requires|ensures)", text[end + 1 :])
-            members = members_of(text[opening + 1 : end])
-            yield Item("fn", name, doc_of(head), members, type=plain_type(result[1]) if result else "")
+            members, doc = members_of(text[opening + 1 : end]), doc_of(head)
+            requires = bool(re.search(r"^\s*requires\b", text[end : text.index("\n{", end)], flags=re.M))
+            if requires != (REQUIRES in doc):
+                sys.exit(f"ffi: {name}: a clause `requires` and a heading `{REQUIRES}` go together")
+            yield Item("fn", name, doc, members, plain_type(result[1]) if result else "", requires=requires)
 
 
 def first_paragraph(lines):
@@ -139,13 +154,13 @@ def module_doc(path):
 
 
 def modules_of(crate):
-    """The files of a crate, in the order of `mod` in its root."""
+    """The files of a crate: those in FIRST, then in the order of `mod` in its root."""
     files = [crate / "src/lib.rt"]
     for path in files:
         folder = path.parent if path.name == "lib.rt" else path.with_suffix("")
         for name in re.findall(r"^(?:pub )?mod (\w+);", path.read_text(), flags=re.M):
             files.append(folder / f"{name}.rt")
-    return files
+    return sorted(files, key=lambda path: (FIRST + [path.stem]).index(path.stem))
 
 
 def core_type(kind):
@@ -206,7 +221,7 @@ class Library:
 
 def c_struct(name):
     words = re.sub(r"(?<=[a-z0-9])(?=[A-Z])", "_", re.sub(r"^Net|Head$", "", name)).lower()
-    return f"struct net_{words}"
+    return f"struct net_base_{words}"
 
 
 def c_type(kind):
@@ -218,7 +233,7 @@ def c_members(member):
     kind, name = member.type, member.name
     if slice_of := re.fullmatch(r"&(mut )?\[([^;]+)\]", kind):
         const = "" if slice_of[1] else "const "
-        return [f"{const}{c_type(slice_of[2])} *{name}", f"size_t {name}_length"]
+        return [f"{const}{c_type(slice_of[2])} *{name}", f"uint64_t {name}_length"]
     if pointer := re.fullmatch(r"[&*](mut |const )?(.+)", kind):
         const = "" if pointer[1] == "mut " else "const "
         return [f"{const}{c_type(pointer[2])} *{name}"]
@@ -245,8 +260,8 @@ def wrapped_text(text, width):
     rows = []
     for paragraph in re.split(r"\n\n", text):
         rows += [""] * bool(rows)
-        for part in re.split(r"\n(?=- )", paragraph):
-            later = "  " * part.startswith("- ")
+        for part in re.split(r"\n(?=- |\d+\. )", paragraph):
+            later = " " * len(re.match(r"- |\d+\. |", part)[0])
             rows += textwrap.wrap(
                 " ".join(part.split()), width, subsequent_indent=later, break_long_words=False, break_on_hyphens=False
             )
@@ -277,7 +292,7 @@ def c_item(item, structs):
     """The lines that declare an item in C."""
     lines = c_comment(item.doc, structs)
     if item.kind == "const":
-        return lines + [f"#define {item.name} (({c_type(item.type)})({c_value(item.text)}))"]
+        return lines + [f"#define {item.name} {c_constant(item)}"]
     if item.kind == "struct":
         lines.append(f"{c_struct(item.name)} {{")
         for field in item.members:
@@ -294,31 +309,57 @@ def c_limits(text):
     return re.sub(r"\b([iu](?:\d+|size))::(MAX|MIN)\b", lambda it: f"{C_LIMITS[it[1]]}_{it[2]}", text)
 
 
-def c_value(text):
-    return c_limits(text) if "::" in text else text.replace("_", "")
+def c_constant(item):
+    """The value of a constant, as C writes it: usable in `#if`."""
+    if "::" in item.text:
+        return c_limits(item.text)
+    bits = re.sub(r"\D", "", item.type) or "64"
+    return f"{'U' * (item.type[0] == 'u')}INT{bits}_C({item.text.replace('_', '')})"
 
 
-def c_part(library):
-    """The declarations for C."""
-    lines = [BEGIN]
+def root_sections(crate):
+    """The sections of the crate's own doc comment: each a heading, '' for the first, and a text."""
+    parts = re.split(r"^# (.*)\n\n", "\n".join(module_doc(crate / "src/lib.rt")), flags=re.M)
+    return list(zip(["", *parts[1::2]], [part.strip() for part in parts[::2]]))
+
+
+def c_part(library, crate):
+    """The first comment of the header, and the declarations for C."""
+    version = re.search(r'^version = "(.*)"$', (ROOT / "rust/Cargo.toml").read_text(), flags=re.M)[1]
+    lines = ["/* SPDX-License-Identifier: 0BSD */", f"/* net-base {version}.", " *"]
+    for heading, text in root_sections(crate):
+        lines += [f" * {heading}", " *"] * bool(heading)
+        lines += [f" * {row}".rstrip() for row in wrapped_text(c_text(text.splitlines(), library.structs), WIDTH - 3)]
+        lines += [" *"]
+    lines[-1] = " */"
+    numbers = zip(("MAJOR", "MINOR", "PATCH"), version.split("."))
+    lines += ["#ifndef NET_BASE_H", "#define NET_BASE_H", "#include <stdbool.h>", "#include <stdint.h>", ""]
+    lines += ["/* The version: until 1.0 names and structs may change with each minor number. */"]
+    lines += [f"#define NET_BASE_VERSION_{name} {number}" for name, number in numbers]
+    lines += ["", "#ifdef __cplusplus", 'extern "C" {', "#endif", "", BEGIN]
     for doc, section in library.sections:
         lines += [""] + c_comment(doc, library.structs)
         for item in section:
             lines += [""] + c_item(item, library.structs)
-    return "\n".join(lines + ["", END]) + "\n"
+    return "\n".join(lines + ["", END, "", "#ifdef __cplusplus", "}", "#endif", "#endif"]) + "\n"
 
 
 def rust_comment(lines, indent=""):
-    rows = wrapped_text(plain_text(lines), WIDTH - len(indent) - 4)
+    rows = wrapped_text(re.sub(r"\busize::", "u64::", plain_text(lines)), WIDTH - len(indent) - 4)
     return [f"{indent}/// {line}".rstrip() for line in rows]
+
+
+def rust_type(kind):
+    """A type of the declarations for Rust: numbers that cross have 64 bits."""
+    return re.sub(r"\busize\b", "u64", re.sub(r"\bisize\b", "i64", kind))
 
 
 def rust_members(member):
     """How Rust declares a parameter: two of them for a slice."""
     if slice_of := re.fullmatch(r"&(mut )?\[([^;]+)\]", member.type):
         kind = "mut" if slice_of[1] else "const"
-        return [f"{member.name}: *{kind} {slice_of[2]}", f"{member.name}_length: usize"]
-    return [f"{member.name}: {member.type}"]
+        return [f"{member.name}: *{kind} {rust_type(slice_of[2])}", f"{member.name}_length: u64"]
+    return [f"{member.name}: {rust_type(member.type)}"]
 
 
 def rust_filled(head, parts, tail, indent):
@@ -333,10 +374,10 @@ def rust_item(item):
     """The lines that declare a struct or a constant in Rust."""
     lines = rust_comment(item.doc)
     if item.kind == "const":
-        return lines + [f"pub const {item.name}: {item.type} = {item.text};"]
+        return lines + [f"pub const {item.name}: {rust_type(item.type)} = {rust_type(item.text)};"]
     lines += ["#[repr(C)]", "#[derive(Debug, Clone, Copy, PartialEq, Eq)]", f"pub struct {item.name} {{"]
     for field in item.members:
-        lines += rust_comment(field.doc, "    ") + [f"    pub {field.name}: {field.type},"]
+        lines += rust_comment(field.doc, "    ") + [f"    pub {field.name}: {rust_type(field.type)},"]
     return lines + ["}"]
 
 
@@ -351,32 +392,156 @@ def rust_file(library):
     for item in library.exports():
         lines += [""] * (lines[-1] != 'extern "C" {') + rust_comment(item.doc, "    ")
         parameters = [part for member in item.members for part in rust_members(member)]
-        result = f" -> {item.type}" if item.type else ""
+        result = f" -> {rust_type(item.type)}" if item.type else ""
         lines += rust_filled(f"pub fn {item.name}(", parameters, f"){result};", "    ")
     return "\n".join(lines + ["}"]) + "\n"
 
 
-def header(library, path):
-    """The header with its declarations written anew."""
-    text = path.read_text()
-    before, rest = text.split(BEGIN + "\n", 1)
-    return before + c_part(library) + rest.split(END + "\n", 1)[1]
+def rust_own(library):
+    """The structs that calls only return, and whose numbers have this processor's width in Rust."""
+    lent = {structs_of(member.type) for item in library.exports() for member in item.members}
+    returned = {item.type for item in library.exports()} & set(library.structs) - lent
+    items = [item for _, section in library.sections for item in section if item.name in returned]
+    return [item for item in items if any(field.type == "usize" for field in item.members)]
+
+
+def own_struct(item):
+    """The lines of such a struct, and its conversion."""
+    lines = [f"/// [`declarations::{item.name}`] in this processor's numbers.", "#[derive(Debug, Clone, Copy, PartialEq, Eq)]"]
+    lines += [f"pub(crate) struct {item.name} {{"]
+    lines += [f"    pub {field.name}: {field.type}," for field in item.members]
+    lines += ["}", "", f"impl From<declarations::{item.name}> for {item.name} {{", "    #[inline]"]
+    lines += [f"    fn from(it: declarations::{item.name}) -> {item.name} {{", f"        {item.name} {{"]
+    for field in item.members:
+        value = f"narrow(it.{field.name})" if field.type == "usize" else f"it.{field.name}"
+        lines.append(f"            {field.name}: {value},")
+    return lines + ["        }", "    }", "}"]
+
+
+def method_of(item, structs):
+    """The struct whose method a call is, and its name: no struct if it is a free function."""
+    name = item.name.removeprefix("net_base_")
+    owner = structs_of(item.members[0].type) if item.members else ""
+    prefix = c_struct(owner).removeprefix("struct net_base_") + "_" if owner in structs else " "
+    return (owner, name.removeprefix(prefix)) if name.startswith(prefix) else ("", name)
+
+
+def is_option(item):
+    """Whether an export says by its result whether it wrote a number, its last parameter."""
+    return item.type == "bool" and item.members[-1].type in ("&mut i64", "&mut u64", "&mut usize")
+
+
+def call_arguments(member, is_self):
+    """What a call passes to its export for a parameter."""
+    name = "self" if is_self else member.name
+    if slice_of := re.fullmatch(r"&(mut )?\[([^;]+)\]", member.type):
+        return [f"{name}.as{'_mut' * bool(slice_of[1])}_ptr()", f"wide({name}.len())"]
+    return [f"wide({name})" if member.type == "usize" else name]
+
+
+def rust_call(item, library, own):
+    """The lines of the function that calls an export, and the struct whose method it is."""
+    owner, name = method_of(item, library.structs)
+    members = list(item.members)
+    written = members.pop() if is_option(item) else None
+    parameters = [f"{member.name}: {member.type}" for member in members]
+    if owner:
+        parameters[0] = "&mut self" if members[0].type.startswith("&mut") else "&self"
+    arguments = [part for member in members for part in call_arguments(member, bool(owner) and member is members[0])]
+    arguments += [f"&mut {written.name}"] if written else []
+    result = f"Option<{core_type(written.type)}>" if written else item.type
+    lines = []
+    if item.requires:
+        text = item.doc[item.doc.index(REQUIRES) + 1 :]
+        lines += ["/// # Safety", "///"] + rust_comment(["\n".join(text).strip()])
+    unsafe = "unsafe " * item.requires
+    lines += ["#[inline]"]
+    lines += call_filled(f"pub(crate) {unsafe}fn {name}(", parameters, f"){f' -> {result}' * bool(result)} {{")
+    block = call_filled(f"{item.name}(", arguments, ")")
+    if written:
+        lines.append(f"    let mut {written.name} = 0;")
+        number = f"narrow({written.name})" if written.type == "&mut usize" else written.name
+        before, after = "", f".then_some({number})"
+    elif item.type == "usize":
+        before, after = "narrow(", ")"
+    elif item.type in own:
+        before, after = "", ".into()"
+    else:
+        before, after = "", ""
+    if len(block) == 1 and len(one := f"    {before}unsafe {{ {block[0]} }}{after}") <= WIDTH - 4:
+        lines.append(one)
+    else:
+        lines += [f"    {before}unsafe {{"] + [f"        {row}" for row in block] + [f"    }}{after}"]
+    return owner, lines + ["}"]
+
+
+def call_filled(head, parts, tail):
+    """A head, parts and a tail on one line, or with the parts on lines of their own, as far as they fit."""
+    line = head + ", ".join(parts) + tail
+    if len(line) <= WIDTH - 16:
+        return [line]
+    kept = ", ".join(part.replace(" ", "\0") for part in parts) + ","
+    return [head] + [f"    {row}".replace("\0", " ") for row in textwrap.wrap(kept, WIDTH - 20)] + [tail]
+
+
+def calls_file(library):
+    """The file of calls for Rust."""
+    own = rust_own(library)
+    names = {item.name for item in own}
+    lines = ["//! Each export as a function of slices and references.", "//!", "//! Written by `python3 tools/ffi.py`."]
+    lines += ["//!", "//! Why each `unsafe` block is sound: it calls an export of the archive whose declarations these are, and"]
+    lines += ["//! passes only numbers, references, and pointers with the lengths of slices, which live during the call; a"]
+    lines += ["//! reference or slice for writing overlaps no other. An export requires no more, but where the function is"]
+    lines += ["//! `unsafe` and says what."]
+    owned, free = {}, []
+    for item in library.exports():
+        owner, rows = rust_call(item, library, names)
+        (owned.setdefault(owner, []) if owner else free).append(rows)
+    lines += ["use super::declarations::{self, *};", "use super::{narrow, wide};"]
+    for item in own:
+        lines += [""] + own_struct(item)
+    for owner, functions in owned.items():
+        lines += ["", f"impl {owner} {{"]
+        for at, rows in enumerate(functions):
+            lines += [""] * (at > 0) + [f"    {row}".rstrip() for row in rows]
+        lines += ["}"]
+    for rows in free:
+        lines += [""] + rows
+    return "\n".join(lines) + "\n"
+
+
+def page(crate, path):
+    """The page with its duties and refusals written anew."""
+    before, rest = path.read_text().split(PAGE_BEGIN + "\n", 1)
+    parts = []
+    for heading, text in root_sections(crate):
+        if heading in ("Duties", "Refusals"):
+            text = re.sub(r"\n(?! *\d+\. |\n)", " ", text)
+            parts.append(f"## {heading}\n\n" + "\n".join(wrapped_text(text, 120)))
+    return before + PAGE_BEGIN + "\n" + "\n\n".join(parts) + "\n" + PAGE_END + rest.split(PAGE_END, 1)[1]
 
 
 def main():
+    import exports  # which imports this file
+
     parser = argparse.ArgumentParser(description=__doc__.split("\n")[0])
     parser.add_argument("--check", action="store_true", help="compare, write nothing")
     parser.add_argument("--names", action="store_true", help="print the names of the exports")
-    parser.add_argument("--exports", type=pathlib.Path, default=ROOT / "crates/net_ffi", help="the crate of exports")
+    parser.add_argument("--exports", type=pathlib.Path, default=EXPORTS, help="the crate of exports")
     parser.add_argument("--header", type=pathlib.Path, default=HEADER)
     parser.add_argument("--rust", type=pathlib.Path, default=DECLARATIONS)
+    parser.add_argument("--calls", type=pathlib.Path, default=CALLS)
     options = parser.parse_args()
     library = Library(options.exports)
     if options.names:
         print("\n".join(item.name for item in library.exports()))
         return
     stale = False
-    for path, text in [(options.header, header(library, options.header)), (options.rust, rust_file(library))]:
+    written = [(options.header, c_part(library, options.exports)), (options.rust, rust_file(library))]
+    written.append((options.calls, calls_file(library)))
+    if options.exports == EXPORTS:
+        written += [(PAGE, page(EXPORTS, PAGE))] + exports.written(library)
+    for path, text in written:
         if not options.check:
             path.parent.mkdir(parents=True, exist_ok=True)
             path.write_text(text)

@@ -25,17 +25,17 @@ uint64_t mostly_within(uint64_t bound);
 struct room {
     uint8_t *page;
     uint8_t *bytes;
-    size_t size;
+    uint64_t size;
 };
 
 /* Returns memory for `size` random bytes, aligned to 8 if `size` is a multiple of 8. */
-uint8_t *take_room(struct room *room, size_t size);
+uint8_t *take_room(struct room *room, uint64_t size);
 
 /* Returns whether the bytes around those that were taken are as they were. */
 bool room_is_whole(const struct room *room);
 
 /* Writes random bytes. */
-void scramble(uint8_t *bytes, size_t size);
+void scramble(uint8_t *bytes, uint64_t size);
 
 /* Ends the program, and says where, if a condition is false. */
 void expect(bool condition, const char *text, const char *file, int line);
@@ -47,6 +47,9 @@ void fuzz_packets(void);
 void fuzz_assembler(void);
 void fuzz_receiver(void);
 void fuzz_sender(void);
+void fuzz_scoreboard(void);
 void fuzz_time(void);
+void fuzz_devices(void);
+void fuzz_sequence_number(void);
 void fuzz_rand(void);
 #endif

@@ -43,8 +43,8 @@ uint64_t mostly_within(uint64_t bound) {
     return below(bound + 1);
 }
 
-void scramble(uint8_t *bytes, size_t size) {
-    for (size_t i = 0; i < size; i++) bytes[i] = (uint8_t)(draw() >> 40);
+void scramble(uint8_t *bytes, uint64_t size) {
+    for (uint64_t i = 0; i < size; i++) bytes[i] = (uint8_t)(draw() >> 40);
 }
 
 static uint8_t *new_page(void) {
@@ -65,19 +65,19 @@ static uint8_t *guard_of(const struct room *room) {
     return room->bytes == room->page ? room->bytes + room->size : room->bytes - GUARD;
 }
 
-uint8_t *take_room(struct room *room, size_t size) {
+uint8_t *take_room(struct room *room, uint64_t size) {
     if (room->page == NULL) room->page = new_page();
     room->bytes = once_in(2) ? room->page : room->page + PAGE - size;
     room->size = size;
     scramble(room->bytes, size);
     uint8_t *guard = guard_of(room);
-    for (size_t i = 0; i < GUARD; i++) guard[i] = guard_byte(guard + i);
+    for (uint64_t i = 0; i < GUARD; i++) guard[i] = guard_byte(guard + i);
     return room->bytes;
 }
 
 bool room_is_whole(const struct room *room) {
     const uint8_t *guard = guard_of(room);
-    for (size_t i = 0; i < GUARD; i++) {
+    for (uint64_t i = 0; i < GUARD; i++) {
         if (guard[i] != guard_byte(guard + i)) return false;
     }
     return true;
@@ -97,7 +97,8 @@ static void on_fault(int signal) {
 }
 
 static void (*const SUBJECTS[])(void) = {
-    fuzz_ring, fuzz_packets, fuzz_assembler, fuzz_receiver, fuzz_sender, fuzz_time, fuzz_rand};
+    fuzz_ring, fuzz_packets, fuzz_assembler, fuzz_receiver, fuzz_sender, fuzz_scoreboard, fuzz_time,
+    fuzz_devices, fuzz_sequence_number, fuzz_rand};
 enum { SUBJECT_COUNT = sizeof SUBJECTS / sizeof SUBJECTS[0] };
 
 int main(int count, char **words) {

@@ -7,10 +7,11 @@
 __extension__ typedef unsigned __int128 wide;
 
 static struct room head_room, storage_room, runs_room, bytes_room, result_room;
-static struct net_receiver *head, head_before;
-static struct net_run *runs, runs_before[MOST_RUNS];
+static struct room recent_room, listed_room;
+static struct net_base_receiver *head, head_before;
+static struct net_base_run *runs, runs_before[MOST_RUNS];
 static uint8_t *storage, *bytes, stored[MOST_BYTES], given[MOST_BYTES];
-static size_t capacity, most, size;
+static uint64_t capacity, most, size;
 
 /* The positions that are held, counted from the first missing one. */
 static set held;
@@ -19,14 +20,14 @@ static uint64_t next_position(void) {
     return head_before.first + head_before.count_read + head_before.place.length;
 }
 
-static size_t window(void) {
+static uint64_t window(void) {
     return capacity - head_before.place.length;
 }
 
 /* How many positions of the free window can be held: those whose end fits 64 bits. */
-static size_t positions(void) {
+static uint64_t positions(void) {
     uint64_t left = UINT64_MAX - next_position();
-    return left < window() ? (size_t)left : window();
+    return left < window() ? (uint64_t)left : window();
 }
 
 static void remember(void) {
@@ -40,11 +41,13 @@ static void take_rooms(void) {
     capacity = below(MOST_BYTES + 1);
     most = below(MOST_RUNS + 1);
     size = below(MOST_BYTES + 1);
-    head = (struct net_receiver *)(void *)take_room(&head_room, sizeof *head);
+    head = (struct net_base_receiver *)(void *)take_room(&head_room, sizeof *head);
     storage = take_room(&storage_room, capacity);
-    runs = (struct net_run *)(void *)take_room(&runs_room, most * sizeof *runs);
+    runs = (struct net_base_run *)(void *)take_room(&runs_room, most * sizeof *runs);
     bytes = take_room(&bytes_room, size);
-    take_room(&result_room, sizeof(struct net_kept_counts));
+    take_room(&result_room, sizeof(struct net_base_kept_counts));
+    take_room(&recent_room, 0);
+    take_room(&listed_room, 0);
 }
 
 static uint64_t at_most(uint64_t number, uint64_t bound) {
@@ -93,7 +96,7 @@ static bool runs_are_unchanged(void) {
            && memcmp(runs, runs_before, most * sizeof *runs) == 0;
 }
 
-static bool head_is(uint64_t count_read, size_t read_at, size_t length) {
+static bool head_is(uint64_t count_read, uint64_t read_at, uint64_t length) {
     return head->first == head_before.first && head->count_read == count_read
            && head->place.read_at == read_at && head->place.length == length;
 }
@@ -113,25 +116,25 @@ static uint64_t draw_position(void) {
 /* The bytes of a segment in the free window: the first one's place after `next` and in the segment,
  * and how many there are. */
 struct part {
-    size_t start, skipped, size;
+    uint64_t start, skipped, size;
 };
 
 static struct part part_in_window(uint64_t position) {
     struct part part = {0, 0, 0};
-    for (size_t i = 0; i < size; i++) {
+    for (uint64_t i = 0; i < size; i++) {
         uint64_t at = position + i;
         if (at < next_position() || at - next_position() >= window()) continue;
-        if (part.size++ == 0) part = (struct part){(size_t)(at - next_position()), i, 1};
+        if (part.size++ == 0) part = (struct part){(uint64_t)(at - next_position()), i, 1};
     }
     return part;
 }
 
-static struct net_kept_counts *counts_room(void) {
-    return (struct net_kept_counts *)(void *)result_room.bytes;
+static struct net_base_kept_counts *counts_room(void) {
+    return (struct net_base_kept_counts *)(void *)result_room.bytes;
 }
 
 static uint32_t segment(uint64_t position) {
-    return net_receiver_segment(
+    return net_base_receiver_segment(
         head, storage, capacity, runs, most, position, bytes, size, counts_room());
 }
 
@@ -139,25 +142,25 @@ static void fuzz_segment(void) {
     draw_receiver();
     uint64_t position = draw_position();
     struct part part = part_in_window(position);
-    struct net_kept_counts *counts = counts_room(), before = *counts;
+    struct net_base_kept_counts *counts = counts_room(), before = *counts;
     uint32_t status = segment(position);
     set with_part = held | range_set(part.start, part.size);
     if (part.size > 0 && part.start > 0 && run_count(with_part) > most) {
-        EXPECT(status == NET_TOO_MANY_RUNS && is_unchanged());
+        EXPECT(status == NET_BASE_TOO_MANY_RUNS && is_unchanged());
         EXPECT(memcmp(counts, &before, sizeof before) == 0);
         return;
     }
-    size_t queued = front_of(with_part);
-    struct net_place place = head_before.place;
+    uint64_t queued = front_of(with_part);
+    struct net_base_ring place = head_before.place;
     struct list list = list_of(place, capacity);
-    for (size_t i = 0; i < part.size; i++) {
+    for (uint64_t i = 0; i < part.size; i++) {
         stored[list.indices[place.length + part.start + i]] = given[part.skipped + i];
     }
-    EXPECT(status == NET_DONE && counts->kept == part.size && counts->queued == queued);
+    EXPECT(status == NET_BASE_DONE && counts->kept == part.size && counts->queued == queued);
     EXPECT(bytes_are_as_wanted());
     EXPECT(head_is(head_before.count_read, place.read_at, place.length + queued));
     EXPECT(stores(&head->held, runs, shifted_down(with_part, queued), 0));
-    EXPECT(net_receiver_is_sound(head, storage, capacity, runs, most));
+    EXPECT(net_base_receiver_is_sound(head, storage, capacity, runs, most));
 }
 
 /* Makes a receiver one that is refused without a look at its runs. */
@@ -181,28 +184,28 @@ static void fuzz_refused_segment(void) {
     else
         position = UINT64_MAX - below(size);
     remember();
-    struct net_kept_counts *counts = counts_room(), before = *counts;
-    EXPECT(segment(position) == NET_REFUSED && is_unchanged());
+    struct net_base_kept_counts *counts = counts_room(), before = *counts;
+    EXPECT(segment(position) == NET_BASE_REFUSED && is_unchanged());
     EXPECT(memcmp(counts, &before, sizeof before) == 0);
 }
 
-static bool run_is(struct net_held_run run, uint64_t start, uint64_t end) {
+static bool run_is(struct net_base_held_run run, uint64_t start, uint64_t end) {
     return run.start == start && run.end == end;
 }
 
 static void fuzz_run_at(void) {
     draw_receiver();
-    size_t number = mostly_within(most);
+    uint64_t number = mostly_within(most);
     bool refused = once_in(4);
     if (refused) spoil();
     remember();
-    struct net_held_run run = net_receiver_run_at(head, storage, capacity, runs, most, number);
+    struct net_base_held_run run = net_base_receiver_run_at(head, storage, capacity, runs, most, number);
     EXPECT(is_unchanged());
     if (refused) {
         EXPECT(run_is(run, UINT64_MAX, UINT64_MAX));
         return;
     }
-    for (size_t i = 0; i < number && held != 0; i++) held &= ~first_run(held);
+    for (uint64_t i = 0; i < number && held != 0; i++) held &= ~first_run(held);
     uint64_t start = next_position() + start_of(held);
     uint64_t end = start + front_of(shifted_down(held, start_of(held)));
     EXPECT(held == 0 ? run_is(run, 0, 0) : run_is(run, start, end));
@@ -210,10 +213,10 @@ static void fuzz_run_at(void) {
 
 /* Whether head and runs are those of a receiver, by the definition. */
 static bool is_sound(void) {
-    if (!is_readable() || !net_assembler_is_sound(&head->held, runs, most)) return false;
+    if (!is_readable() || !net_base_assembler_is_sound(&head->held, runs, most)) return false;
     if (capacity > 0 && head->place.read_at != head->count_read % capacity) return false;
     if (head->held.used == 0) return true;
-    size_t end = head->held.first_start + runs[head->held.used - 1].end;
+    uint64_t end = head->held.first_start + runs[head->held.used - 1].end;
     return head->held.first_start > 0 && end <= positions();
 }
 
@@ -230,19 +233,19 @@ static void fuzz_is_sound(void) {
     default: break;
     }
     remember();
-    EXPECT(net_receiver_is_sound(head, storage, capacity, runs, most) == is_sound());
+    EXPECT(net_base_receiver_is_sound(head, storage, capacity, runs, most) == is_sound());
     EXPECT(is_unchanged());
 }
 
 /* Copies the queue's first bytes to where `into` has them, and returns how many. */
-static size_t copied(void) {
+static uint64_t copied(void) {
     struct list list = list_of(head_before.place, capacity);
-    size_t count = least(list.queued, size);
-    for (size_t i = 0; i < count; i++) given[i] = stored[list.indices[i]];
+    uint64_t count = least(list.queued, size);
+    for (uint64_t i = 0; i < count; i++) given[i] = stored[list.indices[i]];
     return count;
 }
 
-static bool is_read(size_t count) {
+static bool is_read(uint64_t count) {
     struct list list = list_of(head_before.place, capacity);
     return head_is(head_before.count_read + count, index_at(&list, count), list.queued - count)
            && runs_are_unchanged() && bytes_are_as_wanted();
@@ -250,24 +253,24 @@ static bool is_read(size_t count) {
 
 static void fuzz_read(void) {
     draw_head();
-    size_t count = net_receiver_read(head, storage, capacity, bytes, size);
+    uint64_t count = net_base_receiver_read(head, storage, capacity, bytes, size);
     if (is_readable())
         EXPECT(count == copied() && is_read(count));
     else
-        EXPECT(count == SIZE_MAX && is_unchanged());
+        EXPECT(count == UINT64_MAX && is_unchanged());
 }
 
 static void fuzz_peek_slice(void) {
     draw_head();
-    size_t count = net_receiver_peek_slice(head, storage, capacity, bytes, size);
-    size_t wanted = is_sound_place(head_before.place, capacity) ? copied() : SIZE_MAX;
+    uint64_t count = net_base_receiver_peek_slice(head, storage, capacity, bytes, size);
+    uint64_t wanted = is_sound_place(head_before.place, capacity) ? copied() : UINT64_MAX;
     EXPECT(count == wanted && is_unchanged());
 }
 
 static void fuzz_remove(void) {
     draw_head();
-    size_t count = mostly_within(head->place.length);
-    bool done = net_receiver_remove(head, capacity, count);
+    uint64_t count = mostly_within(head->place.length);
+    bool done = net_base_receiver_remove(head, capacity, count);
     EXPECT(done == (is_readable() && count <= head_before.place.length));
     EXPECT(done ? is_read(count) : is_unchanged());
 }
@@ -275,15 +278,105 @@ static void fuzz_remove(void) {
 static void fuzz_next(void) {
     draw_head();
     uint64_t *next = (uint64_t *)(void *)result_room.bytes, before = *next;
-    EXPECT(net_receiver_next(head, next) == has_next() && is_unchanged());
+    EXPECT(net_base_receiver_next(head, next) == has_next() && is_unchanged());
     EXPECT(*next == (has_next() ? next_position() : before));
 }
 
 static void fuzz_window(void) {
     draw_head();
-    size_t of = once_in(4) ? any_number() : capacity;
-    bool right = of < SIZE_MAX && head->place.length <= of;
-    EXPECT(net_receiver_window(head, of) == (right ? of - head->place.length : SIZE_MAX));
+    uint64_t of = once_in(4) ? any_number() : capacity;
+    bool right = of < UINT64_MAX && head->place.length <= of;
+    EXPECT(net_base_receiver_window(head, of) == (right ? of - head->place.length : UINT64_MAX));
+    EXPECT(is_unchanged());
+}
+
+static void fuzz_window_end(void) {
+    draw_head();
+    uint64_t of = once_in(4) ? any_number() : capacity;
+    uint64_t *end = (uint64_t *)(void *)result_room.bytes, before = *end;
+    wide wanted = (wide)head_before.first + head_before.count_read + of;
+    bool right = head->place.length <= of && wanted <= UINT64_MAX;
+    EXPECT(net_base_receiver_window_end(head, of, end) == right && is_unchanged());
+    EXPECT(*end == (right ? (uint64_t)wanted : before));
+}
+
+enum { MOST_LISTED = 4 };
+static struct net_base_held_run *listed, listed_before[MOST_LISTED];
+static uint64_t *recent, recent_before[MOST_LISTED], recent_count, listed_size;
+
+/* Draws what a call remembers and where it lists runs. */
+static void draw_list(void) {
+    recent_count = below(MOST_LISTED + 1);
+    listed_size = below(MOST_LISTED + 1);
+    recent = (uint64_t *)(void *)take_room(&recent_room, recent_count * sizeof *recent);
+    listed = (struct net_base_held_run *)(void *)take_room(&listed_room, listed_size * sizeof *listed);
+    for (uint64_t i = 0; i < recent_count; i++) recent[i] = once_in(4) ? 0 : draw_position();
+    memcpy(recent_before, recent, recent_count * sizeof *recent);
+    memcpy(listed_before, listed, listed_size * sizeof *listed);
+}
+
+static bool list_is_unchanged(uint64_t from) {
+    return memcmp(listed + from, listed_before + from, (listed_size - from) * sizeof *listed) == 0;
+}
+
+/* The position at which a run is looked for: the newest one, those remembered, and then all. */
+static uint64_t place_of_look(uint64_t number, uint64_t position) {
+    uint64_t look = number == 0              ? position
+                    : number <= recent_count ? recent_before[number - 1]
+                                             : next_position() + number - recent_count - 1;
+    return look - next_position();
+}
+
+/* Expects the runs that are listed, and returns how many. */
+static uint64_t expect_listed(uint64_t position) {
+    set seen = 0;
+    uint64_t count = 0;
+    for (uint64_t i = 0; i <= recent_count + POSITIONS && count < listed_size; i++) {
+        uint64_t at = place_of_look(i, position);
+        if (at >= POSITIONS || (held >> at & 1) == 0 || (seen >> at & 1) != 0) continue;
+        while (at > 0 && (held >> (at - 1) & 1) != 0) at--;
+        uint64_t size_of_run = front_of(held >> at), start = next_position() + at;
+        seen |= range_set(at, size_of_run);
+        EXPECT(run_is(listed[count++], start, start + size_of_run));
+    }
+    return count;
+}
+
+static void fuzz_newest_runs(void) {
+    draw_receiver();
+    bool refused = once_in(4);
+    draw_list();
+    uint64_t position = draw_position();
+    if (refused) spoil();
+    remember();
+    uint64_t count = net_base_receiver_newest_runs(head, storage, capacity, runs, most, position,
+        recent, recent_count, listed, listed_size);
+    EXPECT(is_unchanged());
+    if (refused) {
+        EXPECT(count == UINT64_MAX && list_is_unchanged(0));
+        EXPECT(memcmp(recent, recent_before, recent_count * sizeof *recent) == 0);
+        return;
+    }
+    EXPECT(count == expect_listed(position) && list_is_unchanged(count));
+    for (uint64_t i = 0; i < recent_count; i++)
+        EXPECT(recent[i] == (i < count ? listed[i].start : recent_before[i]));
+}
+
+static void fuzz_count_new(void) {
+    draw_receiver();
+    uint64_t position = draw_position(), count = 0;
+    uint64_t length = once_in(4) ? any_number() : size;
+    bool refused = once_in(4);
+    if (refused) spoil();
+    remember();
+    wide end = (wide)position + length;
+    for (uint64_t i = 0; !refused && i < window(); i++) {
+        wide at = (wide)next_position() + i;
+        count += position <= at && at < end && (held >> i & 1) == 0;
+    }
+    bool right = !refused && end <= UINT64_MAX;
+    EXPECT(net_base_receiver_count_new(head, storage, capacity, runs, most, position, length)
+           == (right ? count : UINT64_MAX));
     EXPECT(is_unchanged());
 }
 
@@ -300,8 +393,13 @@ void fuzz_receiver(void) {
         fuzz_remove,
         fuzz_next,
         fuzz_window,
+        fuzz_window_end,
+        fuzz_newest_runs,
+        fuzz_newest_runs,
+        fuzz_count_new,
     };
     calls[below(sizeof calls / sizeof calls[0])]();
     EXPECT(room_is_whole(&head_room) && room_is_whole(&storage_room) && room_is_whole(&runs_room)
-           && room_is_whole(&bytes_room) && room_is_whole(&result_room));
+           && room_is_whole(&bytes_room) && room_is_whole(&result_room)
+           && room_is_whole(&recent_room) && room_is_whole(&listed_room));
 }

@@ -3,15 +3,15 @@
 #include <string.h>
 
 static struct room head_room, storage_room, bytes_room, result_room;
-static struct net_sender *head, before;
+static struct net_base_sender *head, before;
 static uint8_t *storage, *bytes, stored[MOST_BYTES], given[MOST_BYTES];
-static size_t capacity, size;
+static uint64_t capacity, size;
 
 /* Draws a sender, most often a sound one, whose end is now and then near the last position. */
 static void draw_sender(void) {
     capacity = below(MOST_BYTES + 1);
     size = below(MOST_BYTES + 1);
-    head = (struct net_sender *)(void *)take_room(&head_room, sizeof *head);
+    head = (struct net_base_sender *)(void *)take_room(&head_room, sizeof *head);
     storage = take_room(&storage_room, capacity);
     bytes = take_room(&bytes_room, size);
     take_room(&result_room, sizeof(uint64_t));
@@ -35,7 +35,7 @@ static uint64_t end_position(void) {
     return before.first_unacknowledged + before.place.length;
 }
 
-static bool head_is(uint64_t first, size_t read_at, size_t length) {
+static bool head_is(uint64_t first, uint64_t read_at, uint64_t length) {
     return head->first_unacknowledged == first && head->place.read_at == read_at
            && head->place.length == length;
 }
@@ -49,37 +49,37 @@ static bool is_unchanged(void) {
            && bytes_are_as_wanted();
 }
 
-static size_t room_left(void) {
+static uint64_t room_left(void) {
     uint64_t positions = UINT64_MAX - end_position();
-    size_t window = capacity - before.place.length;
-    return positions < window ? (size_t)positions : window;
+    uint64_t window = capacity - before.place.length;
+    return positions < window ? (uint64_t)positions : window;
 }
 
 static void fuzz_is_sound(void) {
-    EXPECT(net_sender_is_sound(head, capacity) == is_sound() && is_unchanged());
+    EXPECT(net_base_sender_is_sound(head, capacity) == is_sound() && is_unchanged());
 }
 
 static void fuzz_end(void) {
     uint64_t *end = (uint64_t *)(void *)result_room.bytes, old = *end;
-    EXPECT(net_sender_end(head, end) == has_end() && is_unchanged());
+    EXPECT(net_base_sender_end(head, end) == has_end() && is_unchanged());
     EXPECT(*end == (has_end() ? end_position() : old));
 }
 
 static void fuzz_room(void) {
-    EXPECT(net_sender_room(head, capacity) == (is_sound() ? room_left() : SIZE_MAX));
+    EXPECT(net_base_sender_room(head, capacity) == (is_sound() ? room_left() : UINT64_MAX));
     EXPECT(is_unchanged());
 }
 
 static void fuzz_write(void) {
-    size_t count = net_sender_write(head, storage, capacity, bytes, size);
+    uint64_t count = net_base_sender_write(head, storage, capacity, bytes, size);
     if (!is_sound()) {
-        EXPECT(count == SIZE_MAX && is_unchanged());
+        EXPECT(count == UINT64_MAX && is_unchanged());
         return;
     }
-    struct net_place begins = rewound(before.place);
+    struct net_base_ring begins = rewound(before.place);
     struct list list = list_of(begins, capacity);
     EXPECT(count == least(size, room_left()));
-    for (size_t i = 0; i < count; i++) stored[list.indices[list.queued + i]] = given[i];
+    for (uint64_t i = 0; i < count; i++) stored[list.indices[list.queued + i]] = given[i];
     EXPECT(head_is(before.first_unacknowledged, begins.read_at, begins.length + count));
     EXPECT(bytes_are_as_wanted());
 }
@@ -96,15 +96,15 @@ static bool is_queued(uint64_t position) {
 
 static void fuzz_peek_at(void) {
     uint64_t position = draw_position();
-    size_t most = mostly_within(MOST_BYTES);
-    struct net_span span = net_sender_peek_at(head, capacity, position, most);
+    uint64_t most = mostly_within(MOST_BYTES);
+    struct net_base_span span = net_base_sender_peek_at(head, capacity, position, most);
     EXPECT(is_unchanged());
     if (!is_sound()) {
-        EXPECT(span.from == SIZE_MAX && span.count == 0 && span.contiguous == 0);
+        EXPECT(span.from == UINT64_MAX && span.count == 0 && span.contiguous == 0);
     } else if (is_queued(position)) {
         struct list list = list_of(before.place, capacity);
-        size_t at = (size_t)(position - before.first_unacknowledged);
-        struct net_span wanted = span_of(&list, at, list.queued, most);
+        uint64_t at = (uint64_t)(position - before.first_unacknowledged);
+        struct net_base_span wanted = span_of(&list, at, list.queued, most);
         EXPECT(span.from == wanted.from && span.contiguous == wanted.contiguous);
         EXPECT(span.count == wanted.count);
     } else {
@@ -112,17 +112,38 @@ static void fuzz_peek_at(void) {
     }
 }
 
-static void fuzz_acknowledge(void) {
-    uint64_t next = once_in(4) ? end_position() : draw_position();
-    bool right = is_sound() && before.first_unacknowledged <= next && next <= end_position();
-    EXPECT(net_sender_acknowledge(head, capacity, next) == right);
+/* Expects that all below a position was dropped, if the call was right, and otherwise nothing changed. */
+static void expect_acknowledged(uint64_t next, bool right) {
     if (!right) {
         EXPECT(is_unchanged());
         return;
     }
-    size_t count = (size_t)(next - before.first_unacknowledged);
+    uint64_t count = (uint64_t)(next - before.first_unacknowledged);
     struct list list = list_of(before.place, capacity);
     EXPECT(head_is(next, index_at(&list, count), list.queued - count) && bytes_are_as_wanted());
+}
+
+static void fuzz_acknowledge(void) {
+    uint64_t next = once_in(4) ? end_position() : draw_position();
+    bool right = is_sound() && before.first_unacknowledged <= next && next <= end_position();
+    EXPECT(net_base_sender_acknowledge(head, capacity, next) == right);
+    expect_acknowledged(next, right);
+}
+
+static void fuzz_acknowledge_sent(void) {
+    uint64_t next = draw_position(), sent = once_in(4) ? end_position() : draw_position();
+    bool right = is_sound() && before.first_unacknowledged <= next && next <= sent && sent <= end_position();
+    EXPECT(net_base_sender_acknowledge_sent(head, capacity, next, sent) == right);
+    expect_acknowledged(next, right);
+}
+
+static void fuzz_mark_sent(void) {
+    uint64_t *sent = (uint64_t *)(void *)result_room.bytes, position = draw_position();
+    if (!once_in(4)) *sent = draw_position();
+    uint64_t old = *sent, highest = position > old ? position : old;
+    bool right = has_end() && highest <= end_position();
+    EXPECT(net_base_sender_mark_sent(head, sent, position) == right && is_unchanged());
+    EXPECT(*sent == (right ? highest : old));
 }
 
 void fuzz_sender(void) {
@@ -134,6 +155,8 @@ void fuzz_sender(void) {
         fuzz_write,
         fuzz_peek_at,
         fuzz_acknowledge,
+        fuzz_acknowledge_sent,
+        fuzz_mark_sent,
     };
     draw_sender();
     calls[below(sizeof calls / sizeof calls[0])]();

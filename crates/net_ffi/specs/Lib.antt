@@ -1,3 +1,4 @@
+pub mod Devices
 pub mod PacketPlaces
 pub mod ReceiverParts
 pub mod Refusals

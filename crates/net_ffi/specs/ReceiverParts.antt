@@ -2,7 +2,7 @@
 --     IsReadable c h      in a storage of c bytes
 --     IsPlausible c n h      and with n runs
 use Rattle.std.specs.Prelude.{ℕ, ◌+◌, ◌<◌, ◌≤◌, ◌^◌}
-use Rattle.net_ring.specs.Place.{IsSound}
+use Rattle.net_ring.specs.RingHead.{IsSound}
 use Rattle.net_receiver.specs.declared.receiver.head.ReceiverHead.{ReceiverHead}
 
 -- the queue is in the storage, and the first missing position is a number of 64 bits

@@ -1,14 +1,53 @@
 //! Functions for C and for Rust over memory that the caller keeps: rings, packet queues,
-//! assemblers, receivers, senders, time and random words.
+//! assemblers, buffers of fragments, receivers, senders and their scoreboards, sequence numbers,
+//! sizes of devices, time and random words.
 //!
-//! Each export calls a function of a library here and states its clauses, and refuses what no right
-//! caller passes. None takes memory, and none keeps anything. CALLING.md says what callers owe.
+//! There is no heap and no global state. Each export calls a function of a library here, states its
+//! clauses, and refuses arguments that no correct caller passes.
+//!
+//! # Memory
+//!
+//! A head is a struct of numbers, which the caller keeps beside a storage and, for some heads, runs
+//! or slots. A head of zeros is empty. Storage, runs and slots need no initial values. Fields of a
+//! head may be read: `length` is how many elements are queued, `used` how many runs are stored. Runs
+//! are counted from `first_start` of their head, and calls that return a run count it from position
+//! 0. Lengths are in elements; a length of 0 is allowed, of runs too: then no run is held.
+//!
+//! # Duties
+//!
+//! Nothing checks these, and the proofs assume them. A call that breaks one can touch any memory.
+//!
+//! 1. A pointer is aligned and valid for the length after it, or for one struct if none follows; if
+//!    the length is 0, it may be null.
+//! 2. What a call may write overlaps nothing else that it is passed.
+//! 3. No two calls that are passed one head, storage or runs run at once, in threads or in an
+//!    interrupt and what it interrupts, unless all of them take it by `const`: mask the interrupt
+//!    around each call, and around what reads fields.
+//! 4. A storage, its runs and its slots have the same lengths in each call on a head.
+//! 5. A head, its runs and its slots are written by calls of its own kind alone, those of a receiver
+//!    by `net_base_receiver_..`, not its `place` by `net_base_ring_..` or its `held` by
+//!    `net_base_assembler_..`; or the head is set to zeros.
+//! 6. Where a comment says `Requires`, head and runs are sound, as a call whose name ends in
+//!    `_is_sound` tests. What calls of its own kind wrote, from an empty head on, is sound.
+//!
+//! # Refusals
+//!
+//! All else is tested. A refused call changes nothing. It returns `false` if it returns a `bool`;
+//! `NET_BASE_REFUSED` if it returns a status, alone or as the first field of a struct; otherwise
+//! `NET_BASE_NONE`, alone or as the first field of a struct. `NET_BASE_REFUSED` is no other status;
+//! `false` and `NET_BASE_NONE` can also be results of calls that are done, as the comments say.
 #![tactic(auto)]
 
 mod assembler;
+mod fragments;
 mod packets;
+mod phy;
 mod rand;
 mod receiver;
+mod refusals;
 mod ring;
+mod scoreboard;
 mod sender;
+mod sequence_number;
 mod time;
+mod version;

@@ -1,63 +1,240 @@
 //! Packet queues: where a packet has its slots and its bytes, in storages that the caller keeps.
 //!
-//! A packet uses one slot, and a gap before it one more. The caller writes size and header to a
-//! slot, and marks that of a gap; it reads them again before a slot is taken off. A head that isn't
-//! that of two rings of these capacities is refused.
-ghost use Rattle.std.specs.Prelude.{◌≡◌, ◌↔◌, ◌≤◌, ◌-◌, ◌+◌, ◌^◌, ℕ, IsTrue, IsFalse};
+//! A packet uses one slot, and a gap before it one more. `enqueue`, `dequeue`, `peek` and
+//! `shorten_last` take the slots, and write them. `place`, `take_slot` and `shorten_slot` are for a
+//! caller that keeps its slots in another form: they take one slot, and the caller writes those of a
+//! packet that was placed. What is refused changes nothing.
+ghost use Rattle.std.specs.Prelude.{◌≡◌, ◌↔◌, ◌≤◌, ◌⊎◌, ◌-◌, ◌+◌, ◌^◌, ℕ, List, IsTrue, IsFalse};
+ghost use Rattle.std.specs.Prelude.{length, set, slice_get};
 ghost use Rattle.std.specs.declared.option.Option.TheVariants.{Some, None};
-ghost use Rattle.net_packets.specs.PacketsHead.{IsSoundHead, placement_in, with_packet_placed};
-ghost use Rattle.net_packets.specs.PacketsHead.{packets_head, with_slot_taken};
-ghost use Rattle.net_ring.specs.Place.{place};
-ghost use Rattle.net_ffi.specs.PacketPlaces.{place_after_gap, no_place, nonsense_place};
+ghost use Rattle.net_ring.specs.RingHead.{place};
+ghost use Rattle.net_packets.specs.Packets.{with_packet_if_room, with_last_size};
+ghost use Rattle.net_packets.specs.Packets.{without_first_and_gap};
+ghost use Rattle.net_packets.specs.PacketsHead.{IsSoundHead, placement_in, place_after_gap};
+ghost use Rattle.net_packets.specs.PacketsHead.{packets_head, with_packet_placed, with_slot_taken};
+ghost use Rattle.net_packets.specs.HeadQueue.{HasSoundSlots, queue_of, slots_written};
+ghost use Rattle.net_packets.specs.HeadQueue.{HasFirst, first_packet, head_after_first, IsFirstAt};
+ghost use Rattle.net_packets.specs.HeadQueue.{CanTake, after_slot, CanShorten, packet_slot};
+ghost use Rattle.net_packets.specs.HeadQueue.{last_slot, last_slot_index};
+ghost use Rattle.net_packets.specs.declared.packet_slot.PacketSlot.{PacketSlot};
+ghost use Rattle.net_ffi.specs.PacketPlaces.{no_place, nonsense_place, no_first, nonsense_first};
 
-use crate::ring::NO_COUNT;
-use net_packets::{PacketPlace, PacketsHead};
+use crate::refusals::NET_BASE_NONE;
+use net_packets::{FirstPacket, PacketPlace, PacketSlot, PacketsHead};
 
 /// What is returned if there is no room.
 const NO_PLACE: PacketPlace = PacketPlace {
     gap: 0,
-    gap_slot: usize::MAX,
-    slot: usize::MAX,
-    from: usize::MAX,
+    gap_slot: NET_BASE_NONE,
+    slot: NET_BASE_NONE,
+    from: NET_BASE_NONE,
 };
 
 /// What is returned in place of a place that is refused.
 const NONSENSE: PacketPlace = PacketPlace {
-    gap: usize::MAX,
-    gap_slot: usize::MAX,
-    slot: usize::MAX,
-    from: usize::MAX,
+    gap: NET_BASE_NONE,
+    gap_slot: NET_BASE_NONE,
+    slot: NET_BASE_NONE,
+    from: NET_BASE_NONE,
 };
 
-/// Returns whether `packets` has the places of a ring of `slot_count` slots and of one of
-/// `capacity` bytes.
+/// What is returned if there is no packet.
+const NO_FIRST: FirstPacket = FirstPacket {
+    gap: 0,
+    slot: NET_BASE_NONE,
+    from: NET_BASE_NONE,
+    size: 0,
+};
+
+/// What is returned in place of a first packet that is refused.
+const NONSENSE_FIRST: FirstPacket = FirstPacket {
+    gap: NET_BASE_NONE,
+    slot: NET_BASE_NONE,
+    from: NET_BASE_NONE,
+    size: 0,
+};
+
+/// Returns whether head and slots are those of a queue over `capacity` bytes: the numbers are those
+/// of a ring of the slots and of one of the bytes; the packets and gaps of the slots in use take the
+/// bytes in use; each packet is contiguous; and a gap has bytes, ends at the storage's end and has a
+/// packet after it. It looks at each slot in use.
 #[unsafe(no_mangle)]
-pub extern "C" fn net_packets_is_sound(
+pub extern "C" fn net_base_packets_is_sound(
     packets: &PacketsHead,
-    slot_count: usize,
+    slots: &[PacketSlot],
     capacity: usize,
 ) -> bool
-    ensures { IsTrue result ↔ IsSoundHead slot_count capacity packets.now }
+    ensures { IsTrue result ↔ HasSoundSlots capacity packets.now slots.now }
 {
-    packets.is_sound(slot_count, capacity)
+    packets.has_sound_slots(slots, capacity)
 }
 
 /// Empties the queue. No head is refused: this makes one sound for all storages.
 #[unsafe(no_mangle)]
-pub extern "C" fn net_packets_clear(packets: &mut PacketsHead)
+pub extern "C" fn net_base_packets_clear(packets: &mut PacketsHead)
     ensures { packets.new ≡ packets_head (place 0 0) (place 0 0) }
 {
     packets.clear();
 }
 
-/// Appends a packet of `size` bytes, and returns where its slots and its bytes are. An empty queue
-/// begins at the beginning of the storage of bytes.
+/// Appends a packet of `size` bytes, writes its slot and that of its gap, and returns where they and
+/// the packet's bytes are. An empty queue begins at the beginning of the storage of bytes.
 ///
 /// If there are no `size` contiguous free bytes, or no slots for the packet and its gap, `slot` and
-/// `from` are `usize::MAX`, and nothing changes. A head that isn't sound is refused: then `gap` is
-/// `usize::MAX` too.
+/// `from` are `NET_BASE_NONE`, and nothing changes. A head whose numbers aren't those of rings of the
+/// slots and of `capacity` bytes is refused: then `gap` is `NET_BASE_NONE` too.
 #[unsafe(no_mangle)]
-pub extern "C" fn net_packets_place(
+pub extern "C" fn net_base_packets_enqueue(
+    packets: &mut PacketsHead,
+    slots: &mut [PacketSlot],
+    capacity: usize,
+    size: usize,
+) -> PacketPlace
+    ensures placed { let n = length slots.old in IsSoundHead n capacity packets.old →
+        (gap : ℕ) → placement_in n capacity packets.old size ≡ Some gap →
+        (result ≡ place_after_gap n capacity packets.old gap)
+        × (packets.new ≡ with_packet_placed gap size packets.old)
+        × (slots.new ≡ slots_written result size slots.old) }
+    ensures full { IsSoundHead (length slots.old) capacity packets.old →
+        placement_in (length slots.old) capacity packets.old size ≡ None →
+        (result ≡ no_place) × (packets.new ≡ packets.old) × (slots.new ≡ slots.old) }
+    ensures refused { (IsSoundHead (length slots.old) capacity packets.old → ⊥) →
+        (result ≡ nonsense_place) × (packets.new ≡ packets.old) × (slots.new ≡ slots.old) }
+    ensures state { (xs : List ℕ) → length xs ≡ capacity →
+        HasSoundSlots capacity packets.old slots.old → queue_of packets.new slots.new xs
+        ≡ with_packet_if_room (queue_of packets.old slots.old xs) size tt }
+    ensures sound { HasSoundSlots capacity packets.old slots.old →
+        HasSoundSlots capacity packets.new slots.new }
+{
+    if !packets.is_sound(slots.len(), capacity) {
+        return NONSENSE;
+    }
+    match packets.enqueue(slots, capacity, size) {
+        Some(place) => place,
+        None => NO_PLACE,
+    }
+}
+
+/// Takes the first packet off, and the gap before it, and returns where it is.
+///
+/// If no slot is in use, `slot` and `from` are `NET_BASE_NONE`, and nothing changes. A head whose numbers
+/// aren't those of rings is refused, and so are first slots that can't be those of a packet: then
+/// `gap` is `NET_BASE_NONE` too. The slots of a sound queue are never refused.
+#[unsafe(no_mangle)]
+pub extern "C" fn net_base_packets_dequeue(
+    packets: &mut PacketsHead,
+    slots: &[PacketSlot],
+    capacity: usize,
+) -> FirstPacket
+    ensures taken { IsSoundHead (length slots.now) capacity packets.old →
+        HasFirst capacity packets.old slots.now →
+        (result ≡ first_packet capacity packets.old slots.now)
+        × (packets.new ≡ head_after_first capacity packets.old slots.now) }
+    ensures empty { IsSoundHead (length slots.now) capacity packets.old →
+        packets.old.slots.length ≡ 0 → (result ≡ no_first) × (packets.new ≡ packets.old) }
+    ensures refused { (IsSoundHead (length slots.now) capacity packets.old
+        × (HasFirst capacity packets.old slots.now ⊎ (packets.old.slots.length ≡ 0)) → ⊥) →
+        (result ≡ nonsense_first) × (packets.new ≡ packets.old) }
+    ensures first { HasSoundSlots capacity packets.old slots.now →
+        1 ≤ packets.old.slots.length → HasFirst capacity packets.old slots.now }
+    ensures state { (xs : List ℕ) → length xs ≡ capacity →
+        HasSoundSlots capacity packets.old slots.now → 1 ≤ packets.old.slots.length →
+        (queue_of packets.new slots.now xs
+        ≡ without_first_and_gap (queue_of packets.old slots.now xs))
+        × IsFirstAt (queue_of packets.old slots.now xs) result }
+    ensures sound { HasSoundSlots capacity packets.old slots.now →
+        HasSoundSlots capacity packets.new slots.now }
+{
+    if !packets.is_sound(slots.len(), capacity) {
+        return NONSENSE_FIRST;
+    }
+    if packets.slots.length == 0 {
+        return NO_FIRST;
+    }
+    match packets.dequeue(slots, capacity) {
+        Some(first) => first,
+        None => NONSENSE_FIRST,
+    }
+}
+
+/// Returns where the first packet is, which stays.
+///
+/// If no slot is in use, `slot` and `from` are `NET_BASE_NONE`. A head whose numbers aren't those of rings
+/// is refused, and so are first slots that can't be those of a packet: then `gap` is `NET_BASE_NONE` too.
+/// The slots of a sound queue are never refused.
+#[unsafe(no_mangle)]
+pub extern "C" fn net_base_packets_peek(
+    packets: &PacketsHead,
+    slots: &[PacketSlot],
+    capacity: usize,
+) -> FirstPacket
+    ensures first { IsSoundHead (length slots.now) capacity packets.now →
+        HasFirst capacity packets.now slots.now →
+        result ≡ first_packet capacity packets.now slots.now }
+    ensures empty { IsSoundHead (length slots.now) capacity packets.now →
+        packets.now.slots.length ≡ 0 → result ≡ no_first }
+    ensures refused { (IsSoundHead (length slots.now) capacity packets.now
+        × (HasFirst capacity packets.now slots.now ⊎ (packets.now.slots.length ≡ 0)) → ⊥) →
+        result ≡ nonsense_first }
+    ensures state { (xs : List ℕ) → length xs ≡ capacity →
+        HasSoundSlots capacity packets.now slots.now → 1 ≤ packets.now.slots.length →
+        IsFirstAt (queue_of packets.now slots.now xs) result }
+{
+    if !packets.is_sound(slots.len(), capacity) {
+        return NONSENSE_FIRST;
+    }
+    if packets.slots.length == 0 {
+        return NO_FIRST;
+    }
+    match packets.peek(slots, capacity) {
+        Some(first) => first,
+        None => NONSENSE_FIRST,
+    }
+}
+
+/// Takes the last `count` bytes off the last packet, lowers the size in its slot, and returns true:
+/// fewer bytes were written than were placed.
+///
+/// Returns false, and changes nothing, if no slot is in use, if the last one isn't that of a packet of
+/// at least `count` bytes, which are in use, or if the head's numbers aren't those of rings.
+#[unsafe(no_mangle)]
+pub extern "C" fn net_base_packets_shorten_last(
+    packets: &mut PacketsHead,
+    slots: &mut [PacketSlot],
+    capacity: usize,
+    count: usize,
+) -> bool
+    ensures done { IsTrue result ↔ (IsSoundHead (length slots.old) capacity packets.old
+        × CanShorten packets.old (last_slot packets.old slots.old) count) }
+    ensures packets { IsTrue result → (packets.new.slots ≡ packets.old.slots)
+        × (packets.new.bytes
+        ≡ place packets.old.bytes.read_at (packets.old.bytes.length - count)) }
+    ensures slots { IsTrue result →
+        slots.new ≡ set slots.old (last_slot_index packets.old slots.old)
+        (packet_slot ((last_slot packets.old slots.old).size - count)) }
+    ensures unchanged { IsFalse result →
+        (packets.new ≡ packets.old) × (slots.new ≡ slots.old) }
+    ensures state { IsTrue result → (xs : List ℕ) → length xs ≡ capacity →
+        HasSoundSlots capacity packets.old slots.old → queue_of packets.new slots.new xs
+        ≡ with_last_size ((last_slot packets.old slots.old).size - count)
+        (queue_of packets.old slots.old xs) }
+    ensures sound { HasSoundSlots capacity packets.old slots.old →
+        HasSoundSlots capacity packets.new slots.new }
+{
+    if !packets.is_sound(slots.len(), capacity) {
+        return false;
+    }
+    packets.shorten_last_in(slots, capacity, count)
+}
+
+/// Appends a packet of `size` bytes, and returns where its slots and its bytes are. An empty queue
+/// begins at the beginning of the storage of bytes. The caller writes the slots.
+///
+/// If there are no `size` contiguous free bytes, or no slots for the packet and its gap, `slot` and
+/// `from` are `NET_BASE_NONE`, and nothing changes. A head that isn't sound is refused: then `gap` is
+/// `NET_BASE_NONE` too.
+#[unsafe(no_mangle)]
+pub extern "C" fn net_base_packets_place(
     packets: &mut PacketsHead,
     slot_count: usize,
     capacity: usize,
@@ -82,57 +259,79 @@ pub extern "C" fn net_packets_place(
     }
 }
 
-/// Returns whether the queue has `count` bytes, and if so takes the last `count` off the last
-/// packet: fewer were written than were placed. The caller lowers the size in the packet's slot.
+/// Takes the first slot in use, `first`, off with its bytes, and returns the index of the first of
+/// these: of the gap before the first packet, or of the first packet if it has no gap.
 ///
-/// A head that isn't sound is refused: false, and nothing changes.
+/// A head that isn't sound is refused, and so is a slot that can't be the first one: if none is in
+/// use, if more bytes than are in use are its, if they aren't contiguous, or if it is a gap's that has
+/// no bytes or doesn't end at the storage's end. Then `NET_BASE_NONE` is returned, and nothing changes.
 #[unsafe(no_mangle)]
-pub extern "C" fn net_packets_shorten_last(
+pub extern "C" fn net_base_packets_take_slot(
     packets: &mut PacketsHead,
     slot_count: usize,
     capacity: usize,
+    first: &PacketSlot,
+) -> usize
+    ensures taken { IsSoundHead slot_count capacity packets.old →
+        CanTake capacity packets.old first.now → (result ≡ packets.old.bytes.read_at)
+        × (packets.new ≡ with_slot_taken slot_count capacity first.now.size packets.old) }
+    ensures refused { (IsSoundHead slot_count capacity packets.old
+        × CanTake capacity packets.old first.now → ⊥) →
+        (result ≡ 2 ^ 64 - 1) × (packets.new ≡ packets.old) }
+    ensures first { (slots : List PacketSlot) → length slots ≡ slot_count →
+        HasSoundSlots capacity packets.old slots → 1 ≤ packets.old.slots.length →
+        slice_get slots packets.old.slots.read_at ≡ Some first.now →
+        CanTake capacity packets.old first.now }
+    ensures state { (slots : List PacketSlot) (xs : List ℕ) → length slots ≡ slot_count →
+        length xs ≡ capacity → HasSoundSlots capacity packets.old slots →
+        1 ≤ packets.old.slots.length →
+        slice_get slots packets.old.slots.read_at ≡ Some first.now →
+        queue_of packets.new slots xs ≡ after_slot first.now (queue_of packets.old slots xs) }
+    ensures sound { (slots : List PacketSlot) → length slots ≡ slot_count →
+        HasSoundSlots capacity packets.old slots → 1 ≤ packets.old.slots.length →
+        slice_get slots packets.old.slots.read_at ≡ Some first.now →
+        HasSoundSlots capacity packets.new slots }
+{
+    if !packets.is_sound(slot_count, capacity) || !packets.can_take(slot_count, capacity, first) {
+        return NET_BASE_NONE;
+    }
+    packets.take_slot(slot_count, capacity, first)
+}
+
+/// Takes the last `count` bytes off the last packet, lowers the size in `last`, its slot, and returns
+/// true.
+///
+/// Returns false, and changes nothing, if no slot is in use, if `last` isn't that of a packet of at
+/// least `count` bytes, which are in use, or if the head isn't sound.
+#[unsafe(no_mangle)]
+pub extern "C" fn net_base_packets_shorten_slot(
+    packets: &mut PacketsHead,
+    slot_count: usize,
+    capacity: usize,
+    last: &mut PacketSlot,
     count: usize,
 ) -> bool
-    ensures done { IsTrue result ↔
-        (IsSoundHead slot_count capacity packets.old × (count ≤ packets.old.bytes.length)) }
+    ensures done { IsTrue result ↔ (IsSoundHead slot_count capacity packets.old
+        × CanShorten packets.old last.old count) }
     ensures packets { IsTrue result → (packets.new.slots ≡ packets.old.slots)
         × (packets.new.bytes
         ≡ place packets.old.bytes.read_at (packets.old.bytes.length - count)) }
-    ensures unchanged { IsFalse result → packets.new ≡ packets.old }
+    ensures slot { IsTrue result → last.new ≡ packet_slot (last.old.size - count) }
+    ensures unchanged { IsFalse result → (packets.new ≡ packets.old) × (last.new ≡ last.old) }
+    ensures state { IsTrue result → (slots : List PacketSlot) (xs : List ℕ) →
+        length xs ≡ capacity → HasSoundSlots capacity packets.old slots →
+        slice_get slots (last_slot_index packets.old slots) ≡ Some last.old →
+        queue_of packets.new (set slots (last_slot_index packets.old slots) last.new) xs
+        ≡ with_last_size (last.old.size - count) (queue_of packets.old slots xs) }
+    ensures sound { IsTrue result → (slots : List PacketSlot) →
+        HasSoundSlots capacity packets.old slots →
+        slice_get slots (last_slot_index packets.old slots) ≡ Some last.old →
+        HasSoundSlots capacity packets.new
+        (set slots (last_slot_index packets.old slots) last.new) }
 {
-    if !packets.is_sound(slot_count, capacity) || count > packets.bytes.length {
+    if !packets.is_sound(slot_count, capacity) || !packets.can_shorten(last, count) {
         return false;
     }
-    packets.shorten_last(count);
+    packets.shorten_slot(last, count);
     true
-}
-
-/// Takes the first slot off with its `size` bytes, and returns the index of the first of these: of
-/// the gap before the first packet, or of the first packet if it has no gap.
-///
-/// A head that isn't sound is refused, and so is a queue with no slot, or whose first `size` bytes
-/// aren't contiguous or are more than it has: `usize::MAX`, and nothing changes.
-#[unsafe(no_mangle)]
-pub extern "C" fn net_packets_take(
-    packets: &mut PacketsHead,
-    slot_count: usize,
-    capacity: usize,
-    size: usize,
-) -> usize
-    ensures taken { IsSoundHead slot_count capacity packets.old → 1 ≤ packets.old.slots.length →
-        size ≤ packets.old.bytes.length → packets.old.bytes.read_at + size ≤ capacity →
-        (result ≡ packets.old.bytes.read_at)
-        × (packets.new ≡ with_slot_taken slot_count capacity size packets.old) }
-    ensures refused { (IsSoundHead slot_count capacity packets.old
-        × (1 ≤ packets.old.slots.length) × (size ≤ packets.old.bytes.length)
-        × (packets.old.bytes.read_at + size ≤ capacity) → ⊥) →
-        (result ≡ 2 ^ 64 - 1) × (packets.new ≡ packets.old) }
-{
-    if !packets.is_sound(slot_count, capacity) || packets.slots.length == 0 {
-        return NO_COUNT;
-    }
-    if size > packets.bytes.length || size > capacity - packets.bytes.read_at {
-        return NO_COUNT;
-    }
-    packets.take(slot_count, capacity, size)
 }

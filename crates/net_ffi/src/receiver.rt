@@ -3,22 +3,29 @@
 //! A head of zeros, but for `first`, is that of a receiver of a stream that begins there, of which
 //! nothing is read, queued or held. The queue is the ring of `place`; the held runs are those of
 //! the assembler `held`, counted from `next`, the first missing position.
-ghost use Rattle.std.specs.Prelude.{◌≡◌, ◌↔◌, ◌+◌, ◌-◌, ◌<◌, ◌≤◌, ◌^◌, ◌++◌, ℕ, List, min, length};
-ghost use Rattle.std.specs.Prelude.{take, drop, slice_get, unwrap_or, IsTrue, IsFalse, MatchResult};
+ghost use Rattle.std.specs.Prelude.{◌≡◌, ◌↔◌, ◌+◌, ◌-◌, ◌<◌, ◌≤◌, ◌^◌, ◌++◌, ◌∷◌, ℕ, List, min, length};
+ghost use Rattle.std.specs.Prelude.{take, drop, slice_get, slice_range, unwrap_or, IsTrue, IsFalse};
+ghost use Rattle.std.specs.Prelude.{MatchResult};
 ghost use Rattle.net_ring.specs.Ring.{queue};
-ghost use Rattle.net_ring.specs.Place.{ring_at, IsSound as IsSoundPlace};
+ghost use Rattle.net_ring.specs.RingHead.{ring_at, IsSound as IsSoundPlace};
 ghost use Rattle.net_assembler.specs.Positions.{maximal_runs};
+ghost use Rattle.net_assembler.specs.RunLists.{IsCanonical};
 ghost use Rattle.net_receiver.specs.KeptList.{piece};
 ghost use Rattle.net_receiver.specs.Rules.{verdict, state_after, segment_result};
+ghost use Rattle.net_receiver.specs.Rules.{Segment, Read, ReadReply};
+ghost use Rattle.net_receiver.specs.Schedule.{KeptState, kept_after_command, kept_result};
 ghost use Rattle.net_receiver.specs.ReceiverState.{receiver_ops, receiver_after_read, domain};
+ghost use Rattle.net_receiver.specs.ReceiverState.{setting, Refines, StepRefines, limit_of};
+ghost use Rattle.net_receiver.specs.Segments.{new_count};
+ghost use Rattle.net_receiver.specs.NewestRuns.{newest_runs, with_starts};
+ghost use Rattle.net_receiver.specs.OneStream.{ReceivesFrom, MatchesStream};
 ghost use Rattle.net_receiver.specs.Head.{receiver_of, HasSoundParts, head_after_read};
 ghost use Rattle.net_receiver.specs.Head.{storage_after};
 ghost use Rattle.net_ffi.specs.ReceiverParts.{IsReadable, IsPlausible};
 
-use crate::assembler::{NET_DONE, NET_REFUSED, NET_TOO_MANY_RUNS};
-use crate::ring::NO_COUNT;
+use crate::refusals::{NET_BASE_DONE, NET_BASE_NONE, NET_BASE_REFUSED, NET_BASE_TOO_MANY_RUNS};
 use net_assembler::Run;
-use net_receiver::ReceiverHead;
+use net_receiver::{HeldRun, ReceiverHead};
 
 /// How many bytes of a segment were kept, and how many joined the queue.
 #[repr(C)]
@@ -28,14 +35,6 @@ pub struct KeptCounts {
     pub kept: usize,
     /// How many bytes joined the queue: by how many positions the first missing position moved up.
     pub queued: usize,
-}
-
-/// A held run, by absolute positions: from `start` on, up to `end`, which is not included.
-#[repr(C)]
-#[derive(Debug, Clone, Copy)]
-pub struct HeldRun {
-    pub start: u64,
-    pub end: u64,
 }
 
 /// Returns whether the first missing position fits 64 bits.
@@ -70,7 +69,7 @@ fn is_plausible(receiver: &ReceiverHead, capacity: usize, run_count: usize) -> b
 /// Returns whether these are the head, the storage and the runs of a receiver. It looks at each
 /// run, and at no byte.
 #[unsafe(no_mangle)]
-pub extern "C" fn net_receiver_is_sound(
+pub extern "C" fn net_base_receiver_is_sound(
     receiver: &ReceiverHead,
     storage: &[u8],
     runs: &[Run],
@@ -83,19 +82,23 @@ pub extern "C" fn net_receiver_is_sound(
 /// Keeps the bytes of a segment that are in the free window, and writes to `counts` how many. The
 /// segment's first byte is at `position`.
 ///
-/// Returns `NET_DONE`, or `NET_TOO_MANY_RUNS` if the segment has bytes in the free window, the
+/// Clauses `state` and `result` are about what is stored, `step` about every kept list and count of
+/// bytes read that the receiver represents (some do: `laws::represents` of `net_receiver`), and
+/// `receives` about segments of one stream.
+///
+/// Returns `NET_BASE_DONE`, or `NET_BASE_TOO_MANY_RUNS` if the segment has bytes in the free window, the
 /// first missing position is not one of theirs, and with them there would be more runs than the
 /// slice has elements: then nothing changes.
 ///
-/// Returns `NET_REFUSED`, and nothing changes, if the segment doesn't end within 64 bits, if
+/// Returns `NET_BASE_REFUSED`, and nothing changes, if the segment doesn't end within 64 bits, if
 /// `place` isn't that of a ring of `storage.len()` bytes, if `next` doesn't fit 64 bits, or if
 /// `held.used` is above `runs.len()`.
 ///
 /// # Requires
 ///
-/// Head, storage and runs are sound, as `net_receiver_is_sound` tests.
+/// Head, storage and runs are sound, as `net_base_receiver_is_sound` tests.
 #[unsafe(no_mangle)]
-pub extern "C" fn net_receiver_segment(
+pub extern "C" fn net_base_receiver_segment(
     receiver: &mut ReceiverHead,
     storage: &mut [u8],
     runs: &mut [Run],
@@ -111,13 +114,27 @@ pub extern "C" fn net_receiver_segment(
         MatchResult
         (segment_result receiver_ops v
         (verdict receiver_ops (length runs.old) v (piece position bytes.now)))
-        (λ k. (result ≡ NET_DONE) × (counts.new.kept ≡ k.kept) × (counts.new.queued ≡ k.queued))
-        (λ _. (result ≡ NET_TOO_MANY_RUNS) × (counts.new ≡ counts.old)) }
+        (λ k. (result ≡ NET_BASE_DONE) × (counts.new.kept ≡ k.kept) × (counts.new.queued ≡ k.queued))
+        (λ _. (result ≡ NET_BASE_TOO_MANY_RUNS) × (counts.new ≡ counts.old)) }
     ensures state { let v = receiver_of receiver.old storage.old runs.old in
         IsPlausible (length storage.old) (length runs.old) receiver.old →
         position + length bytes.now < 2 ^ 64 →
         receiver_of receiver.new storage.new runs.new ≡ state_after receiver_ops v
         (verdict receiver_ops (length runs.old) v (piece position bytes.now)) }
+    ensures step { let v = receiver_of receiver.old storage.old runs.old in
+        let w = setting (length runs.old) v in
+        IsPlausible (length storage.old) (length runs.old) receiver.old →
+        position + length bytes.now < 2 ^ 64 → (s : KeptState) → Refines v s →
+        Refines (receiver_of receiver.new storage.new runs.new)
+        (kept_after_command w s (Segment position bytes.now))
+        × MatchResult (kept_result w s (piece position bytes.now))
+        (λ k. (result ≡ NET_BASE_DONE) × (counts.new.kept ≡ k.kept) × (counts.new.queued ≡ k.queued))
+        (λ _. (result ≡ NET_BASE_TOO_MANY_RUNS) × (counts.new ≡ counts.old)) }
+    ensures receives { IsPlausible (length storage.old) (length runs.old) receiver.old →
+        position + length bytes.now < 2 ^ 64 → (f : ℕ) (x : List ℕ) →
+        ReceivesFrom f x (receiver_of receiver.old storage.old runs.old) →
+        MatchesStream f x position bytes.now →
+        ReceivesFrom f x (receiver_of receiver.new storage.new runs.new) }
     ensures stored { let v = receiver_of receiver.old storage.old runs.old in
         IsPlausible (length storage.old) (length runs.old) receiver.old →
         position + length bytes.now < 2 ^ 64 →
@@ -126,17 +143,18 @@ pub extern "C" fn net_receiver_segment(
     ensures sound { IsPlausible (length storage.old) (length runs.old) receiver.old →
         HasSoundParts receiver.new storage.new runs.new }
     ensures refused { (IsPlausible (length storage.old) (length runs.old) receiver.old
-        × (position + length bytes.now < 2 ^ 64) → ⊥) → (result ≡ NET_REFUSED)
+        × (position + length bytes.now < 2 ^ 64) → ⊥) → (result ≡ NET_BASE_REFUSED)
         × (receiver.new ≡ receiver.old) × (storage.new ≡ storage.old) × (runs.new ≡ runs.old)
         × (counts.new ≡ counts.old) }
-    ensures too_many { result ≡ NET_TOO_MANY_RUNS → (receiver.new ≡ receiver.old)
+    ensures too_many { result ≡ NET_BASE_TOO_MANY_RUNS → (receiver.new ≡ receiver.old)
         × (storage.new ≡ storage.old) × (runs.new ≡ runs.old) × (counts.new ≡ counts.old) }
+    ensures canonical { IsCanonical receiver.old.held → IsCanonical receiver.new.held }
 {
     if !is_plausible(receiver, storage.len(), runs.len()) {
-        return NET_REFUSED;
+        return NET_BASE_REFUSED;
     }
     if bytes.len() as u64 > u64::MAX - position {
-        return NET_REFUSED;
+        return NET_BASE_REFUSED;
     }
     match receiver.segment(storage, runs, position, bytes) {
         Ok(accepted) => {
@@ -144,9 +162,9 @@ pub extern "C" fn net_receiver_segment(
                 kept: accepted.kept,
                 queued: accepted.queued,
             };
-            NET_DONE
+            NET_BASE_DONE
         }
-        Err(_) => NET_TOO_MANY_RUNS,
+        Err(_) => NET_BASE_TOO_MANY_RUNS,
     }
 }
 
@@ -156,7 +174,7 @@ pub extern "C" fn net_receiver_segment(
 /// If `place` isn't that of a ring of `storage.len()` bytes, or `next` doesn't fit 64 bits, it is
 /// refused: `usize::MAX`, and nothing changes.
 #[unsafe(no_mangle)]
-pub extern "C" fn net_receiver_read(
+pub extern "C" fn net_base_receiver_read(
     receiver: &mut ReceiverHead,
     storage: &[u8],
     into: &mut [u8],
@@ -171,22 +189,31 @@ pub extern "C" fn net_receiver_read(
     ensures state { (runs : List (ℕ × ℕ)) → HasSoundParts receiver.old storage.now runs →
         HasSoundParts receiver.new storage.now runs × (receiver_of receiver.new storage.now runs
         ≡ receiver_after_read (receiver_of receiver.old storage.now runs) (length into.old)) }
+    ensures step { (runs : List (ℕ × ℕ)) → HasSoundParts receiver.old storage.now runs →
+        StepRefines (length runs) (receiver_of receiver.old storage.now runs)
+        (receiver_of receiver.new storage.now runs)
+        (Read (length into.old)) (ReadReply (take result into.new)) }
+    ensures receives { (runs : List (ℕ × ℕ)) → HasSoundParts receiver.old storage.now runs →
+        (f : ℕ) (x : List ℕ) → ReceivesFrom f x (receiver_of receiver.old storage.now runs) →
+        ReceivesFrom f x (receiver_of receiver.new storage.now runs)
+        × (take result into.new
+        ≡ slice_range x receiver.old.count_read (receiver.old.count_read + result)) }
     ensures refused { (IsReadable (length storage.now) receiver.old → ⊥) →
         (result ≡ 2 ^ 64 - 1) × (receiver.new ≡ receiver.old) × (into.new ≡ into.old) }
 {
     if !is_readable(receiver, storage.len()) {
-        return NO_COUNT;
+        return NET_BASE_NONE;
     }
     receiver.read(storage, into)
 }
 
-/// Copies bytes from the head of the queue as `net_receiver_read` does, and leaves the queue as it
+/// Copies bytes from the head of the queue as `net_base_receiver_read` does, and leaves the queue as it
 /// is.
 ///
 /// If `place` isn't that of a ring of `storage.len()` bytes, it is refused: `usize::MAX`, and
 /// nothing changes.
 #[unsafe(no_mangle)]
-pub extern "C" fn net_receiver_peek_slice(
+pub extern "C" fn net_base_receiver_peek_slice(
     receiver: &ReceiverHead,
     storage: &[u8],
     into: &mut [u8],
@@ -200,18 +227,18 @@ pub extern "C" fn net_receiver_peek_slice(
         (result ≡ 2 ^ 64 - 1) × (into.new ≡ into.old) }
 {
     if !receiver.place.is_sound(storage.len()) {
-        return NO_COUNT;
+        return NET_BASE_NONE;
     }
     receiver.peek_slice(storage, into)
 }
 
 /// Returns whether `count` bytes are queued, and if so removes them from the head of the queue, as
-/// `net_receiver_read` does, but copies none; `net_ring_queued` of `place` tells where they are.
+/// `net_base_receiver_read` does, but copies none; `net_base_ring_allocated` of `place` tells where they are.
 ///
 /// If `place` isn't that of a ring of `capacity` bytes, or `next` doesn't fit 64 bits, it is
 /// refused: false, and nothing changes.
 #[unsafe(no_mangle)]
-pub extern "C" fn net_receiver_remove(
+pub extern "C" fn net_base_receiver_remove(
     receiver: &mut ReceiverHead,
     capacity: usize,
     count: usize,
@@ -223,6 +250,17 @@ pub extern "C" fn net_receiver_remove(
         HasSoundParts receiver.old storage runs → IsTrue result →
         HasSoundParts receiver.new storage runs × (receiver_of receiver.new storage runs
         ≡ receiver_after_read (receiver_of receiver.old storage runs) count) }
+    ensures step { (storage : List ℕ) (runs : List (ℕ × ℕ)) → length storage ≡ capacity →
+        HasSoundParts receiver.old storage runs → IsTrue result →
+        StepRefines (length runs) (receiver_of receiver.old storage runs)
+        (receiver_of receiver.new storage runs)
+        (Read count) (ReadReply (take count (queue (ring_at storage receiver.old.place)))) }
+    ensures receives { (storage : List ℕ) (runs : List (ℕ × ℕ)) → length storage ≡ capacity →
+        HasSoundParts receiver.old storage runs → IsTrue result → (f : ℕ) (x : List ℕ) →
+        ReceivesFrom f x (receiver_of receiver.old storage runs) →
+        ReceivesFrom f x (receiver_of receiver.new storage runs)
+        × (take count (queue (ring_at storage receiver.old.place))
+        ≡ slice_range x receiver.old.count_read (receiver.old.count_read + count)) }
     ensures unchanged { IsFalse result → receiver.new ≡ receiver.old }
 {
     if !is_readable(receiver, capacity) || count > receiver.place.length {
@@ -235,7 +273,7 @@ pub extern "C" fn net_receiver_remove(
 /// Returns whether the first missing position fits 64 bits, and if so writes it to `next`: the
 /// first position, plus the bytes read, plus those queued.
 #[unsafe(no_mangle)]
-pub extern "C" fn net_receiver_next(receiver: &ReceiverHead, next: &mut u64) -> bool
+pub extern "C" fn net_base_receiver_next(receiver: &ReceiverHead, next: &mut u64) -> bool
     ensures fits { IsTrue result ↔ (receiver.now.first + receiver.now.count_read
         + receiver.now.place.length < 2 ^ 64) }
     ensures next { IsTrue result → next.new
@@ -249,20 +287,52 @@ pub extern "C" fn net_receiver_next(receiver: &ReceiverHead, next: &mut u64) -> 
     true
 }
 
+/// Returns whether the end of the free window fits 64 bits, where the storage has `capacity` bytes,
+/// and if so writes it to `end`: the first position for which there is no room, `next` plus the
+/// window. No segment and no read lowers it.
+///
+/// If more is queued than that, it is refused: false, and nothing changes.
+#[unsafe(no_mangle)]
+pub extern "C" fn net_base_receiver_window_end(
+    receiver: &ReceiverHead,
+    capacity: usize,
+    end: &mut u64,
+) -> bool
+    ensures fits { IsTrue result ↔ ((receiver.now.place.length ≤ capacity)
+        × (receiver.now.first + receiver.now.count_read + capacity < 2 ^ 64)) }
+    ensures end { IsTrue result →
+        end.new ≡ receiver.now.first + receiver.now.count_read + capacity }
+    ensures limit { (storage : List ℕ) (runs : List (ℕ × ℕ)) → length storage ≡ capacity →
+        HasSoundParts receiver.now storage runs → IsTrue result →
+        end.new ≡ limit_of (receiver_of receiver.now storage runs) }
+    ensures unchanged { IsFalse result → end.new ≡ end.old }
+{
+    if receiver.place.length > capacity {
+        return false;
+    }
+    match receiver.window_end(capacity) {
+        Some(position) => {
+            *end = position;
+            true
+        }
+        None => false,
+    }
+}
+
 /// Returns the window, where the storage has `capacity` bytes: how many bytes have room after the
 /// queue, held ones among them.
 ///
 /// If more is queued than that, it is refused, and so is a capacity of `usize::MAX`, which no
 /// storage has: `usize::MAX`.
 #[unsafe(no_mangle)]
-pub extern "C" fn net_receiver_window(receiver: &ReceiverHead, capacity: usize) -> usize
+pub extern "C" fn net_base_receiver_window(receiver: &ReceiverHead, capacity: usize) -> usize
     ensures window { capacity < 2 ^ 64 - 1 → receiver.now.place.length ≤ capacity →
         result ≡ capacity - receiver.now.place.length }
     ensures refused { ((capacity < 2 ^ 64 - 1) × (receiver.now.place.length ≤ capacity) → ⊥) →
         result ≡ 2 ^ 64 - 1 }
 {
     if capacity == usize::MAX || receiver.place.length > capacity {
-        return NO_COUNT;
+        return NET_BASE_NONE;
     }
     receiver.window(capacity)
 }
@@ -275,9 +345,9 @@ pub extern "C" fn net_receiver_window(receiver: &ReceiverHead, capacity: usize) 
 ///
 /// # Requires
 ///
-/// Head, storage and runs are sound, as `net_receiver_is_sound` tests.
+/// Head, storage and runs are sound, as `net_base_receiver_is_sound` tests.
 #[unsafe(no_mangle)]
-pub extern "C" fn net_receiver_run_at(
+pub extern "C" fn net_base_receiver_run_at(
     receiver: &ReceiverHead,
     storage: &[u8],
     runs: &[Run],
@@ -286,10 +356,10 @@ pub extern "C" fn net_receiver_run_at(
     requires sound { IsPlausible (length storage.now) (length runs.now) receiver.now →
         HasSoundParts receiver.now storage.now runs.now }
     ensures run { IsPlausible (length storage.now) (length runs.now) receiver.now →
-        (result.start, result.end) ≡ unwrap_or (slice_get
+        result ≡ unwrap_or (slice_get
         (maximal_runs (domain (receiver_of receiver.now storage.now runs.now).held)) index) (0, 0) }
     ensures refused { (IsPlausible (length storage.now) (length runs.now) receiver.now → ⊥) →
-        (result.start ≡ 2 ^ 64 - 1) × (result.end ≡ 2 ^ 64 - 1) }
+        result ≡ (2 ^ 64 - 1, 2 ^ 64 - 1) }
 {
     if !is_plausible(receiver, storage.len(), runs.len()) {
         return HeldRun {
@@ -297,8 +367,85 @@ pub extern "C" fn net_receiver_run_at(
             end: u64::MAX,
         };
     }
-    match receiver.held(storage, runs).nth(index) {
-        Some((start, end)) => HeldRun { start, end },
-        None => HeldRun { start: 0, end: 0 },
+    let (start, end) = receiver.held(storage, runs).nth(index).unwrap_or((0, 0));
+    HeldRun { start, end }
+}
+
+/// Lists held runs at the beginning of `into`, the newest first, and returns how many: as many as
+/// are held, or as `into` has elements. The rest of `into` stays as it is.
+///
+/// The first is the run that has `position`, that of the segment just taken, if it is held; then
+/// come the runs last listed, which `recent` remembers, and then the others, in rising order; each
+/// comes once. `recent` has as many numbers as runs are sent, zeros at first. It is the order that
+/// RFC 2018, section 4, wants of a selective acknowledgement.
+///
+/// If `place` isn't that of a ring of `storage.len()` bytes, `next` doesn't fit 64 bits, or
+/// `held.used` is above `runs.len()`, it is refused: `usize::MAX`, and nothing changes.
+///
+/// # Requires
+///
+/// Head, storage and runs are sound, as `net_base_receiver_is_sound` tests.
+#[unsafe(no_mangle)]
+pub extern "C" fn net_base_receiver_newest_runs(
+    receiver: &ReceiverHead,
+    storage: &[u8],
+    runs: &[Run],
+    position: u64,
+    recent: &mut [u64],
+    into: &mut [HeldRun],
+) -> usize
+    requires sound { IsPlausible (length storage.now) (length runs.now) receiver.now →
+        HasSoundParts receiver.now storage.now runs.now }
+    ensures listed { IsPlausible (length storage.now) (length runs.now) receiver.now →
+        take result into.new ≡ newest_runs (length into.old)
+        (domain (receiver_of receiver.now storage.now runs.now).held) (position ∷ recent.old) }
+    ensures count { IsPlausible (length storage.now) (length runs.now) receiver.now →
+        result ≤ length into.old }
+    ensures rest { IsPlausible (length storage.now) (length runs.now) receiver.now →
+        drop result into.new ≡ drop result into.old }
+    ensures recent { IsPlausible (length storage.now) (length runs.now) receiver.now →
+        recent.new ≡ with_starts recent.old (take result into.new) }
+    ensures refused { (IsPlausible (length storage.now) (length runs.now) receiver.now → ⊥) →
+        (result ≡ 2 ^ 64 - 1) × (recent.new ≡ recent.old) × (into.new ≡ into.old) }
+{
+    if !is_plausible(receiver, storage.len(), runs.len()) {
+        return NET_BASE_NONE;
     }
+    receiver.newest_runs(storage, runs, position, recent, into)
+}
+
+/// Returns how many bytes of a segment of `len` bytes at `position` would be new: those in the free
+/// window whose positions are not held. `net_base_receiver_segment` keeps the others of the free
+/// window too, and counts them. If there are none, all that the segment brings in the window is
+/// there: a duplicate, which TCP may report. It is asked before the segment is kept.
+///
+/// If the segment doesn't end within 64 bits, `place` isn't that of a ring of `storage.len()` bytes,
+/// `next` doesn't fit 64 bits, or `held.used` is above `runs.len()`, it is refused: `usize::MAX`.
+///
+/// # Requires
+///
+/// Head, storage and runs are sound, as `net_base_receiver_is_sound` tests.
+#[unsafe(no_mangle)]
+pub extern "C" fn net_base_receiver_count_new(
+    receiver: &ReceiverHead,
+    storage: &[u8],
+    runs: &[Run],
+    position: u64,
+    len: usize,
+) -> usize
+    requires sound { IsPlausible (length storage.now) (length runs.now) receiver.now →
+        HasSoundParts receiver.now storage.now runs.now }
+    ensures count { IsPlausible (length storage.now) (length runs.now) receiver.now →
+        position + len < 2 ^ 64 →
+        result ≡ new_count (receiver_of receiver.now storage.now runs.now) position len }
+    ensures refused { (IsPlausible (length storage.now) (length runs.now) receiver.now
+        × (position + len < 2 ^ 64) → ⊥) → result ≡ 2 ^ 64 - 1 }
+{
+    if !is_plausible(receiver, storage.len(), runs.len()) {
+        return NET_BASE_NONE;
+    }
+    if len as u64 > u64::MAX - position {
+        return NET_BASE_NONE;
+    }
+    receiver.count_new(storage, runs, position, len)
 }

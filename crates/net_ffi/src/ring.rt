@@ -8,21 +8,12 @@ ghost use Rattle.std.specs.Prelude.{min, length, take, drop, IsTrue, IsFalse};
 ghost use Rattle.net_ring.specs.Ring.{queue, window, write_at, spare_index, index_after};
 ghost use Rattle.net_ring.specs.Ring.{with_enqueued, with_dequeued, with_elements_wrapping};
 ghost use Rattle.net_ring.specs.Ring.{rewind_if_empty};
-ghost use Rattle.net_ring.specs.Place.{IsSound, ring_at, free_index, queued_index, rewound};
-ghost use Rattle.net_ring.specs.Place.{enqueued_place, dequeued_place};
+ghost use Rattle.net_ring.specs.RingHead.{IsSound, ring_at, free_index, queued_index, rewound};
+ghost use Rattle.net_ring.specs.RingHead.{enqueued_place, dequeued_place};
 ghost use Rattle.net_ffi.specs.Refusals.{nowhere};
 
-use net_ring::{Place, Span};
-
-/// What is returned in place of a count that is refused.
-pub(crate) const NO_COUNT: usize = usize::MAX;
-
-/// What is returned in place of a span that is refused.
-pub(crate) const NOWHERE: Span = Span {
-    from: usize::MAX,
-    count: 0,
-    contiguous: 0,
-};
+use crate::refusals::{NET_BASE_NONE, NO_PART, NO_SPAN};
+use net_ring::{RingHead, Span};
 
 /// Contiguous elements: `count` of them, from the index `from` on.
 #[repr(C)]
@@ -32,16 +23,10 @@ pub struct Part {
     pub count: usize,
 }
 
-/// What is returned in place of a part that is refused.
-const NO_PART: Part = Part {
-    from: usize::MAX,
-    count: 0,
-};
-
 /// Returns whether `place` is that of a ring of `capacity` elements: its read index is an index of
 /// the storage, or 0, and it has no more elements than the storage.
 #[unsafe(no_mangle)]
-pub extern "C" fn net_ring_is_sound(place: &Place, capacity: usize) -> bool
+pub extern "C" fn net_base_ring_is_sound(place: &RingHead, capacity: usize) -> bool
     ensures { IsTrue result ↔ IsSound capacity place.now }
 {
     place.is_sound(capacity)
@@ -52,7 +37,12 @@ pub extern "C" fn net_ring_is_sound(place: &Place, capacity: usize) -> bool
 ///
 /// A place that isn't sound is refused: then `from` is `usize::MAX`, and `count` is 0.
 #[unsafe(no_mangle)]
-pub extern "C" fn net_ring_free(place: &Place, capacity: usize, offset: usize, size: usize) -> Span
+pub extern "C" fn net_base_ring_unallocated(
+    place: &RingHead,
+    capacity: usize,
+    offset: usize,
+    size: usize,
+) -> Span
     ensures from { IsSound capacity place.now →
         result.from ≡ free_index capacity place.now offset }
     ensures count { IsSound capacity place.now →
@@ -62,9 +52,9 @@ pub extern "C" fn net_ring_free(place: &Place, capacity: usize, offset: usize, s
     ensures refused { (IsSound capacity place.now → ⊥) → result ≡ nowhere }
 {
     if !place.is_sound(capacity) {
-        return NOWHERE;
+        return NO_SPAN;
     }
-    place.free(capacity, offset, size)
+    place.unallocated(capacity, offset, size)
 }
 
 /// Returns where at most `size` elements of the queue are, from the one at `offset` on; none if
@@ -72,8 +62,8 @@ pub extern "C" fn net_ring_free(place: &Place, capacity: usize, offset: usize, s
 ///
 /// A place that isn't sound is refused: then `from` is `usize::MAX`, and `count` is 0.
 #[unsafe(no_mangle)]
-pub extern "C" fn net_ring_queued(
-    place: &Place,
+pub extern "C" fn net_base_ring_allocated(
+    place: &RingHead,
     capacity: usize,
     offset: usize,
     size: usize,
@@ -87,9 +77,9 @@ pub extern "C" fn net_ring_queued(
     ensures refused { (IsSound capacity place.now → ⊥) → result ≡ nowhere }
 {
     if !place.is_sound(capacity) {
-        return NOWHERE;
+        return NO_SPAN;
     }
-    place.queued(capacity, offset, size)
+    place.allocated(capacity, offset, size)
 }
 
 /// Returns how many elements can be enqueued before the storage's end.
@@ -97,7 +87,7 @@ pub extern "C" fn net_ring_queued(
 /// A place that isn't sound is refused, and so is a capacity of `usize::MAX`, which no storage has:
 /// `usize::MAX`.
 #[unsafe(no_mangle)]
-pub extern "C" fn net_ring_contiguous_window(place: &Place, capacity: usize) -> usize
+pub extern "C" fn net_base_ring_contiguous_window(place: &RingHead, capacity: usize) -> usize
     ensures count { capacity < 2 ^ 64 - 1 → IsSound capacity place.now →
         result ≡ min (capacity - place.now.length)
         (capacity - index_after capacity place.now.read_at place.now.length) }
@@ -105,7 +95,7 @@ pub extern "C" fn net_ring_contiguous_window(place: &Place, capacity: usize) -> 
         result ≡ 2 ^ 64 - 1 }
 {
     if capacity == usize::MAX || !place.is_sound(capacity) {
-        return NO_COUNT;
+        return NET_BASE_NONE;
     }
     place.contiguous_window(capacity)
 }
@@ -113,7 +103,7 @@ pub extern "C" fn net_ring_contiguous_window(place: &Place, capacity: usize) -> 
 /// Empties the queue, and moves the read index to the storage's beginning. No place is refused:
 /// this makes one sound for every capacity.
 #[unsafe(no_mangle)]
-pub extern "C" fn net_ring_clear(place: &mut Place)
+pub extern "C" fn net_base_ring_clear(place: &mut RingHead)
     ensures { (place.new.read_at ≡ 0) × (place.new.length ≡ 0) }
 {
     place.clear();
@@ -122,7 +112,7 @@ pub extern "C" fn net_ring_clear(place: &mut Place)
 /// Moves the read index of an empty ring to the storage's beginning, so that all its elements are
 /// contiguous. Otherwise nothing changes. No place is refused.
 #[unsafe(no_mangle)]
-pub extern "C" fn net_ring_rewind_if_empty(place: &mut Place)
+pub extern "C" fn net_base_ring_rewind_if_empty(place: &mut RingHead)
     ensures { place.new ≡ rewound place.old }
 {
     place.rewind_if_empty();
@@ -132,7 +122,7 @@ pub extern "C" fn net_ring_rewind_if_empty(place: &mut Place)
 ///
 /// A place that isn't sound is refused: false, and nothing changes.
 #[unsafe(no_mangle)]
-pub extern "C" fn net_ring_enqueue(place: &mut Place, capacity: usize, count: usize) -> bool
+pub extern "C" fn net_base_ring_enqueue(place: &mut RingHead, capacity: usize, count: usize) -> bool
     ensures done { IsTrue result ↔
         (IsSound capacity place.old × (count ≤ capacity - place.old.length)) }
     ensures place { IsTrue result → place.new ≡ enqueued_place count place.old }
@@ -149,7 +139,7 @@ pub extern "C" fn net_ring_enqueue(place: &mut Place, capacity: usize, count: us
 ///
 /// A place that isn't sound is refused: false, and nothing changes.
 #[unsafe(no_mangle)]
-pub extern "C" fn net_ring_dequeue(place: &mut Place, capacity: usize, count: usize) -> bool
+pub extern "C" fn net_base_ring_dequeue(place: &mut RingHead, capacity: usize, count: usize) -> bool
     ensures done { IsTrue result ↔ (IsSound capacity place.old × (count ≤ place.old.length)) }
     ensures place { IsTrue result → place.new ≡ dequeued_place capacity count place.old }
     ensures unchanged { IsFalse result → place.new ≡ place.old }
@@ -165,7 +155,7 @@ pub extern "C" fn net_ring_dequeue(place: &mut Place, capacity: usize, count: us
 ///
 /// If none is free, or the place isn't sound: `usize::MAX`, and nothing changes.
 #[unsafe(no_mangle)]
-pub extern "C" fn net_ring_enqueue_one(place: &mut Place, capacity: usize) -> usize
+pub extern "C" fn net_base_ring_enqueue_one(place: &mut RingHead, capacity: usize) -> usize
     ensures done { IsSound capacity place.old → place.old.length < capacity →
         (result ≡ index_after capacity place.old.read_at place.old.length)
         × (place.new ≡ enqueued_place 1 place.old) }
@@ -173,7 +163,7 @@ pub extern "C" fn net_ring_enqueue_one(place: &mut Place, capacity: usize) -> us
         (result ≡ 2 ^ 64 - 1) × (place.new ≡ place.old) }
 {
     if !place.is_sound(capacity) || place.length == capacity {
-        return NO_COUNT;
+        return NET_BASE_NONE;
     }
     let index = place.index(capacity, place.length);
     place.enqueue(capacity, 1);
@@ -184,14 +174,14 @@ pub extern "C" fn net_ring_enqueue_one(place: &mut Place, capacity: usize) -> us
 ///
 /// If none is queued, or the place isn't sound: `usize::MAX`, and nothing changes.
 #[unsafe(no_mangle)]
-pub extern "C" fn net_ring_dequeue_one(place: &mut Place, capacity: usize) -> usize
+pub extern "C" fn net_base_ring_dequeue_one(place: &mut RingHead, capacity: usize) -> usize
     ensures done { IsSound capacity place.old → 0 < place.old.length →
         (result ≡ place.old.read_at) × (place.new ≡ dequeued_place capacity 1 place.old) }
     ensures refused { (IsSound capacity place.old × (0 < place.old.length) → ⊥) →
         (result ≡ 2 ^ 64 - 1) × (place.new ≡ place.old) }
 {
     if !place.is_sound(capacity) || place.length == 0 {
-        return NO_COUNT;
+        return NET_BASE_NONE;
     }
     let index = place.read_at;
     place.dequeue(capacity, 1);
@@ -204,7 +194,11 @@ pub extern "C" fn net_ring_dequeue_one(place: &mut Place, capacity: usize) -> us
 /// A place that isn't sound is refused: then `from` is `usize::MAX`, `count` is 0, and nothing
 /// changes.
 #[unsafe(no_mangle)]
-pub extern "C" fn net_ring_put(place: &mut Place, capacity: usize, size: usize) -> Span
+pub extern "C" fn net_base_ring_enqueue_span(
+    place: &mut RingHead,
+    capacity: usize,
+    size: usize,
+) -> Span
     ensures from { IsSound capacity place.old →
         result.from ≡ free_index capacity (rewound place.old) 0 }
     ensures count { IsSound capacity place.old →
@@ -217,9 +211,9 @@ pub extern "C" fn net_ring_put(place: &mut Place, capacity: usize, size: usize) 
         (result ≡ nowhere) × (place.new ≡ place.old) }
 {
     if !place.is_sound(capacity) {
-        return NOWHERE;
+        return NO_SPAN;
     }
-    place.put(capacity, size)
+    place.enqueue_span(capacity, size)
 }
 
 /// Enqueues contiguous elements, at most `size`, and returns where they are. An empty ring first
@@ -228,7 +222,11 @@ pub extern "C" fn net_ring_put(place: &mut Place, capacity: usize, size: usize) 
 /// A place that isn't sound is refused: then `from` is `usize::MAX`, `count` is 0, and nothing
 /// changes.
 #[unsafe(no_mangle)]
-pub extern "C" fn net_ring_put_contiguous(place: &mut Place, capacity: usize, size: usize) -> Part
+pub extern "C" fn net_base_ring_enqueue_many(
+    place: &mut RingHead,
+    capacity: usize,
+    size: usize,
+) -> Part
     ensures from { IsSound capacity place.old →
         result.from ≡ free_index capacity (rewound place.old) 0 }
     ensures count { IsSound capacity place.old → result.count
@@ -241,7 +239,7 @@ pub extern "C" fn net_ring_put_contiguous(place: &mut Place, capacity: usize, si
     if !place.is_sound(capacity) {
         return NO_PART;
     }
-    let span = place.put_contiguous(capacity, size);
+    let span = place.enqueue_many(capacity, size);
     Part {
         from: span.from,
         count: span.count,
@@ -253,7 +251,11 @@ pub extern "C" fn net_ring_put_contiguous(place: &mut Place, capacity: usize, si
 /// A place that isn't sound is refused: then `from` is `usize::MAX`, `count` is 0, and nothing
 /// changes.
 #[unsafe(no_mangle)]
-pub extern "C" fn net_ring_take(place: &mut Place, capacity: usize, size: usize) -> Span
+pub extern "C" fn net_base_ring_dequeue_span(
+    place: &mut RingHead,
+    capacity: usize,
+    size: usize,
+) -> Span
     ensures from { IsSound capacity place.old →
         result.from ≡ queued_index capacity place.old 0 }
     ensures count { IsSound capacity place.old → result.count ≡ min size place.old.length }
@@ -265,9 +267,9 @@ pub extern "C" fn net_ring_take(place: &mut Place, capacity: usize, size: usize)
         (result ≡ nowhere) × (place.new ≡ place.old) }
 {
     if !place.is_sound(capacity) {
-        return NOWHERE;
+        return NO_SPAN;
     }
-    place.take(capacity, size)
+    place.dequeue_span(capacity, size)
 }
 
 /// Dequeues contiguous elements, at most `size`, and returns where they are.
@@ -275,7 +277,11 @@ pub extern "C" fn net_ring_take(place: &mut Place, capacity: usize, size: usize)
 /// A place that isn't sound is refused: then `from` is `usize::MAX`, `count` is 0, and nothing
 /// changes.
 #[unsafe(no_mangle)]
-pub extern "C" fn net_ring_take_contiguous(place: &mut Place, capacity: usize, size: usize) -> Part
+pub extern "C" fn net_base_ring_dequeue_many(
+    place: &mut RingHead,
+    capacity: usize,
+    size: usize,
+) -> Part
     ensures from { IsSound capacity place.old → result.from ≡ place.old.read_at }
     ensures count { IsSound capacity place.old → result.count
         ≡ min size (min place.old.length (capacity - place.old.read_at)) }
@@ -287,7 +293,7 @@ pub extern "C" fn net_ring_take_contiguous(place: &mut Place, capacity: usize, s
     if !place.is_sound(capacity) {
         return NO_PART;
     }
-    let span = place.take_contiguous(capacity, size);
+    let span = place.dequeue_many(capacity, size);
     Part {
         from: span.from,
         count: span.count,
@@ -299,8 +305,8 @@ pub extern "C" fn net_ring_take_contiguous(place: &mut Place, capacity: usize, s
 ///
 /// A place that isn't sound for the storage is refused: `usize::MAX`, and nothing changes.
 #[unsafe(no_mangle)]
-pub extern "C" fn net_ring_write_unallocated(
-    place: &Place,
+pub extern "C" fn net_base_ring_write_unallocated(
+    place: &RingHead,
     storage: &mut [u8],
     offset: usize,
     data: &[u8],
@@ -314,7 +320,7 @@ pub extern "C" fn net_ring_write_unallocated(
         (result ≡ 2 ^ 64 - 1) × (storage.new ≡ storage.old) }
 {
     if !place.is_sound(storage.len()) {
-        return NO_COUNT;
+        return NET_BASE_NONE;
     }
     place.write_unallocated(storage, offset, data)
 }
@@ -325,8 +331,8 @@ pub extern "C" fn net_ring_write_unallocated(
 ///
 /// A place that isn't sound for the storage is refused: `usize::MAX`, and nothing changes.
 #[unsafe(no_mangle)]
-pub extern "C" fn net_ring_read_allocated(
-    place: &Place,
+pub extern "C" fn net_base_ring_read_allocated(
+    place: &RingHead,
     storage: &[u8],
     offset: usize,
     into: &mut [u8],
@@ -340,7 +346,7 @@ pub extern "C" fn net_ring_read_allocated(
         (result ≡ 2 ^ 64 - 1) × (into.new ≡ into.old) }
 {
     if !place.is_sound(storage.len()) {
-        return NO_COUNT;
+        return NET_BASE_NONE;
     }
     place.read_allocated(storage, offset, into)
 }
@@ -350,8 +356,8 @@ pub extern "C" fn net_ring_read_allocated(
 ///
 /// A place that isn't sound for the storage is refused: `usize::MAX`, and nothing changes.
 #[unsafe(no_mangle)]
-pub extern "C" fn net_ring_enqueue_slice(
-    place: &mut Place,
+pub extern "C" fn net_base_ring_enqueue_slice(
+    place: &mut RingHead,
     storage: &mut [u8],
     data: &[u8],
 ) -> usize
@@ -365,7 +371,7 @@ pub extern "C" fn net_ring_enqueue_slice(
         (result ≡ 2 ^ 64 - 1) × (place.new ≡ place.old) × (storage.new ≡ storage.old) }
 {
     if !place.is_sound(storage.len()) {
-        return NO_COUNT;
+        return NET_BASE_NONE;
     }
     place.enqueue_slice(storage, data)
 }
@@ -375,8 +381,8 @@ pub extern "C" fn net_ring_enqueue_slice(
 ///
 /// A place that isn't sound for the storage is refused: `usize::MAX`, and nothing changes.
 #[unsafe(no_mangle)]
-pub extern "C" fn net_ring_dequeue_slice(
-    place: &mut Place,
+pub extern "C" fn net_base_ring_dequeue_slice(
+    place: &mut RingHead,
     storage: &[u8],
     into: &mut [u8],
 ) -> usize
@@ -390,7 +396,7 @@ pub extern "C" fn net_ring_dequeue_slice(
         (result ≡ 2 ^ 64 - 1) × (place.new ≡ place.old) × (into.new ≡ into.old) }
 {
     if !place.is_sound(storage.len()) {
-        return NO_COUNT;
+        return NET_BASE_NONE;
     }
     place.dequeue_slice(storage, into)
 }

@@ -3,24 +3,25 @@
 //! A head of zeros, but for `first_unacknowledged`, is that of a sender of a stream that begins
 //! there, to which nothing was written. The queue, of bytes that are not acknowledged, is the ring
 //! of `place`.
-ghost use Rattle.std.specs.Prelude.{◌≡◌, ◌↔◌, ◌+◌, ◌-◌, ◌<◌, ◌≤◌, ◌^◌, ℕ, List, min, length, take, drop};
-ghost use Rattle.std.specs.Prelude.{IsTrue, IsFalse};
+ghost use Rattle.std.specs.Prelude.{◌≡◌, ◌↔◌, ◌+◌, ◌-◌, ◌<◌, ◌≤◌, ◌^◌, ◌++◌, ℕ, List};
+ghost use Rattle.std.specs.Prelude.{length, take, drop, min, max, IsTrue, IsFalse};
 ghost use Rattle.net_ring.specs.Ring.{queue, rewind_if_empty, with_enqueued, write_at};
 ghost use Rattle.net_ring.specs.Ring.{with_elements_wrapping};
-ghost use Rattle.net_ring.specs.Place.{ring_at, queued_index, dequeued_place};
-ghost use Rattle.net_stream_model.specs.SenderState.{room_of, with_written, contiguous_end};
-ghost use Rattle.net_stream_model.specs.SenderState.{sender_from};
-ghost use Rattle.net_stream.specs.SenderHeads.{sender_of, IsSoundHead};
+ghost use Rattle.net_ring.specs.RingHead.{ring_at, queued_index, dequeued_place};
+ghost use Rattle.net_receiver.specs.SenderState.{room_of, with_written, contiguous_end};
+ghost use Rattle.net_receiver.specs.SenderState.{sender_from, Sends};
+ghost use Rattle.net_receiver.specs.OneStream.{MatchesStream};
+ghost use Rattle.net_receiver.specs.SenderHeads.{sender_of, IsSoundHead};
 ghost use Rattle.net_ffi.specs.Refusals.{nowhere};
 
-use crate::ring::{NO_COUNT, NOWHERE};
+use crate::refusals::{NET_BASE_NONE, NO_SPAN};
+use net_receiver::SenderHead;
 use net_ring::Span;
-use net_stream::SenderHead;
 
 /// Returns whether this is the head of a sender over a storage of `capacity` bytes: `place` is that
 /// of a ring of so many, and the position after the queue fits 64 bits.
 #[unsafe(no_mangle)]
-pub extern "C" fn net_sender_is_sound(sender: &SenderHead, capacity: usize) -> bool
+pub extern "C" fn net_base_sender_is_sound(sender: &SenderHead, capacity: usize) -> bool
     ensures { IsTrue result ↔ IsSoundHead capacity sender.now }
 {
     sender.is_sound(capacity)
@@ -29,7 +30,7 @@ pub extern "C" fn net_sender_is_sound(sender: &SenderHead, capacity: usize) -> b
 /// Returns whether the position after the last byte that was written fits 64 bits, and if so writes
 /// it to `end`.
 #[unsafe(no_mangle)]
-pub extern "C" fn net_sender_end(sender: &SenderHead, end: &mut u64) -> bool
+pub extern "C" fn net_base_sender_end(sender: &SenderHead, end: &mut u64) -> bool
     ensures fits { IsTrue result ↔
         (sender.now.first_unacknowledged + sender.now.place.length < 2 ^ 64) }
     ensures end { IsTrue result → end.new
@@ -43,13 +44,13 @@ pub extern "C" fn net_sender_end(sender: &SenderHead, end: &mut u64) -> bool
     true
 }
 
-/// Returns how many bytes `net_sender_write` would take: as many as have room in a storage of
+/// Returns how many bytes `net_base_sender_write` would take: as many as have room in a storage of
 /// `capacity` bytes and below the last position, 2^64 - 1.
 ///
 /// A head that isn't sound is refused, and so is a capacity of `usize::MAX`, which no storage has:
 /// `usize::MAX`.
 #[unsafe(no_mangle)]
-pub extern "C" fn net_sender_room(sender: &SenderHead, capacity: usize) -> usize
+pub extern "C" fn net_base_sender_room(sender: &SenderHead, capacity: usize) -> usize
     ensures room { capacity < 2 ^ 64 - 1 → IsSoundHead capacity sender.now → result
         ≡ min (capacity - sender.now.place.length)
         (2 ^ 64 - 1 - (sender.now.first_unacknowledged + sender.now.place.length)) }
@@ -57,7 +58,7 @@ pub extern "C" fn net_sender_room(sender: &SenderHead, capacity: usize) -> usize
         result ≡ 2 ^ 64 - 1 }
 {
     if capacity == usize::MAX || !sender.is_sound(capacity) {
-        return NO_COUNT;
+        return NET_BASE_NONE;
     }
     sender.room(capacity)
 }
@@ -66,7 +67,7 @@ pub extern "C" fn net_sender_room(sender: &SenderHead, capacity: usize) -> usize
 ///
 /// A head that isn't sound for the storage is refused: `usize::MAX`, and nothing changes.
 #[unsafe(no_mangle)]
-pub extern "C" fn net_sender_write(
+pub extern "C" fn net_base_sender_write(
     sender: &mut SenderHead,
     storage: &mut [u8],
     bytes: &[u8],
@@ -82,11 +83,14 @@ pub extern "C" fn net_sender_write(
         ≡ with_enqueued result (with_elements_wrapping g (write_at g) (take result bytes.now)) }
     ensures sound { IsSoundHead (length storage.old) sender.old →
         IsSoundHead (length storage.old) sender.new }
+    ensures sends { IsSoundHead (length storage.old) sender.old → (blocks : List (ℕ × ℕ)) →
+        (f : ℕ) (w : List ℕ) → Sends f w (sender_of sender.old storage.old blocks) →
+        Sends f (w ++ take result bytes.now) (sender_of sender.new storage.new blocks) }
     ensures refused { (IsSoundHead (length storage.old) sender.old → ⊥) →
         (result ≡ 2 ^ 64 - 1) × (sender.new ≡ sender.old) × (storage.new ≡ storage.old) }
 {
     if !sender.is_sound(storage.len()) {
-        return NO_COUNT;
+        return NET_BASE_NONE;
     }
     sender.write(storage, bytes)
 }
@@ -96,7 +100,7 @@ pub extern "C" fn net_sender_write(
 ///
 /// A head that isn't sound is refused: then `from` is `usize::MAX`, and `count` is 0.
 #[unsafe(no_mangle)]
-pub extern "C" fn net_sender_peek_at(
+pub extern "C" fn net_base_sender_peek_at(
     sender: &SenderHead,
     capacity: usize,
     position: u64,
@@ -120,10 +124,14 @@ pub extern "C" fn net_sender_peek_at(
         length storage ≡ capacity → take result.contiguous (drop result.from storage)
         ≡ take result.contiguous (drop (position - sender.now.first_unacknowledged)
         (queue (ring_at storage sender.now.place))) }
+    ensures says { IsSoundHead capacity sender.now → (storage : List ℕ) (blocks : List (ℕ × ℕ)) →
+        length storage ≡ capacity → sender.now.first_unacknowledged ≤ position →
+        (f : ℕ) (w : List ℕ) → Sends f w (sender_of sender.now storage blocks) →
+        MatchesStream f w position (take result.contiguous (drop result.from storage)) }
     ensures refused { (IsSoundHead capacity sender.now → ⊥) → result ≡ nowhere }
 {
     if !sender.is_sound(capacity) {
-        return NOWHERE;
+        return NO_SPAN;
     }
     sender.peek_at(capacity, position, max)
 }
@@ -132,7 +140,7 @@ pub extern "C" fn net_sender_peek_at(
 /// below `first_unacknowledged` or above the position after the last byte, or if the head isn't
 /// sound.
 #[unsafe(no_mangle)]
-pub extern "C" fn net_sender_acknowledge(
+pub extern "C" fn net_base_sender_acknowledge(
     sender: &mut SenderHead,
     capacity: usize,
     next: u64,
@@ -146,6 +154,9 @@ pub extern "C" fn net_sender_acknowledge(
     ensures state { IsTrue result → (storage : List ℕ) (old new : List (ℕ × ℕ)) →
         length storage ≡ capacity → sender_of sender.new storage new
         ≡ sender_from (sender_of sender.old storage old) next new }
+    ensures sends { (storage : List ℕ) (old new : List (ℕ × ℕ)) → length storage ≡ capacity →
+        (f : ℕ) (w : List ℕ) → Sends f w (sender_of sender.old storage old) →
+        Sends f w (sender_of sender.new storage new) }
     ensures sound { IsSoundHead capacity sender.old → IsSoundHead capacity sender.new }
     ensures unsound { (IsSoundHead capacity sender.old → ⊥) → IsFalse result }
     ensures refused { IsFalse result → sender.new ≡ sender.old }
@@ -154,4 +165,60 @@ pub extern "C" fn net_sender_acknowledge(
         return false;
     }
     sender.acknowledge(capacity, next)
+}
+
+/// Moves the mark `sent`, the position after the last byte that was ever sent, up to `position`, if
+/// that is above it, and returns whether `position` is one that can have been sent.
+///
+/// False, and nothing changes, if `sent` or `position` is above the position after the last byte
+/// that was written, or that position doesn't fit 64 bits. The caller keeps the mark, which begins
+/// as the position of the stream's first byte.
+#[unsafe(no_mangle)]
+pub extern "C" fn net_base_sender_mark_sent(
+    sender: &SenderHead,
+    sent: &mut u64,
+    position: u64,
+) -> bool
+    ensures accepted { IsTrue result
+        ↔ ((sender.now.first_unacknowledged + sender.now.place.length < 2 ^ 64)
+        × (sent.old ≤ sender.now.first_unacknowledged + sender.now.place.length)
+        × (position ≤ sender.now.first_unacknowledged + sender.now.place.length)) }
+    ensures mark { IsTrue result → sent.new ≡ max sent.old position }
+    ensures refused { IsFalse result → sent.new ≡ sent.old }
+{
+    sender.end_fits() && sender.mark_sent(sent, position)
+}
+
+/// Drops the bytes below `next`, if they were sent, and returns whether it did. `sent` is the position
+/// after the last byte that was ever sent, as `net_base_sender_mark_sent` keeps it.
+///
+/// False, and nothing changes, if `next` is below `first_unacknowledged` or above `sent`, if `sent` is
+/// above the position after the last byte, or if the head isn't sound.
+#[unsafe(no_mangle)]
+pub extern "C" fn net_base_sender_acknowledge_sent(
+    sender: &mut SenderHead,
+    capacity: usize,
+    next: u64,
+    sent: u64,
+) -> bool
+    ensures accepted { IsSoundHead capacity sender.old → (IsTrue result
+        ↔ ((sender.old.first_unacknowledged ≤ next) × (next ≤ sent)
+        × (sent ≤ sender.old.first_unacknowledged + sender.old.place.length))) }
+    ensures first { IsTrue result → sender.new.first_unacknowledged ≡ next }
+    ensures place { IsTrue result → sender.new.place ≡ dequeued_place capacity
+        (next - sender.old.first_unacknowledged) sender.old.place }
+    ensures state { IsTrue result → (storage : List ℕ) (old new : List (ℕ × ℕ)) →
+        length storage ≡ capacity → sender_of sender.new storage new
+        ≡ sender_from (sender_of sender.old storage old) next new }
+    ensures sends { (storage : List ℕ) (old new : List (ℕ × ℕ)) → length storage ≡ capacity →
+        (f : ℕ) (w : List ℕ) → Sends f w (sender_of sender.old storage old) →
+        Sends f w (sender_of sender.new storage new) }
+    ensures sound { IsSoundHead capacity sender.old → IsSoundHead capacity sender.new }
+    ensures unsound { (IsSoundHead capacity sender.old → ⊥) → IsFalse result }
+    ensures refused { IsFalse result → sender.new ≡ sender.old }
+{
+    if !sender.is_sound(capacity) {
+        return false;
+    }
+    sender.acknowledge_sent(capacity, next, sent)
 }

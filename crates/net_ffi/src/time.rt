@@ -3,10 +3,11 @@
 //! A call whose result might not fit 64 bits returns whether it does, and writes it down only then.
 ghost use Rattle.std.specs.Prelude.{◌≡◌, ◌↔◌, ◌+◌, ◌-◌, ◌*◌, ◌/◌, ◌%◌, ◌^◌, ◌≤◌, ◌<◌, min};
 ghost use Rattle.std.specs.Prelude.{IsTrue, IsFalse, IsSome, IfSome, IfNone};
-ghost use Rattle.std.specs.Prelude.{pos, negsuc, ◌+ℤ◌, ◌-ℤ◌, ◌*ℤ◌};
+ghost use Rattle.std.specs.Prelude.{ℤ, Some, pos, negsuc, ◌+ℤ◌, ◌-ℤ◌, ◌*ℤ◌};
+ghost use Rattle.net_base.specs.Earliest.{earliest_of};
 ghost use Rattle.net_base.specs.Time.{IsMoment, IsLength, distance};
 
-use net_base::time::{Duration, Instant};
+use net_base::time::{Duration, Instant, earlier};
 
 /// Writes a moment down, if there is one, and returns whether there is.
 fn write_instant(instant: Option<Instant>, to: &mut i64) -> bool
@@ -41,7 +42,7 @@ fn write_duration(duration: Option<Duration>, to: &mut u64) -> bool
 /// Returns whether there is a moment so many milliseconds after the origin, and if so writes it to
 /// `instant`.
 #[unsafe(no_mangle)]
-pub extern "C" fn net_instant_from_millis(millis: i64, instant: &mut i64) -> bool
+pub extern "C" fn net_base_instant_from_millis(millis: i64, instant: &mut i64) -> bool
     ensures fits { IsTrue result ↔ IsMoment (millis *ℤ pos 1_000) }
     ensures instant { IsTrue result → instant.new ≡ millis *ℤ pos 1_000 }
     ensures unchanged { IsFalse result → instant.new ≡ instant.old }
@@ -56,7 +57,7 @@ pub extern "C" fn net_instant_from_millis(millis: i64, instant: &mut i64) -> boo
 /// Returns whether there is a moment so many seconds after the origin, and if so writes it to
 /// `instant`.
 #[unsafe(no_mangle)]
-pub extern "C" fn net_instant_from_secs(secs: i64, instant: &mut i64) -> bool
+pub extern "C" fn net_base_instant_from_secs(secs: i64, instant: &mut i64) -> bool
     ensures fits { IsTrue result ↔ IsMoment (secs *ℤ pos 1_000_000) }
     ensures instant { IsTrue result → instant.new ≡ secs *ℤ pos 1_000_000 }
     ensures unchanged { IsFalse result → instant.new ≡ instant.old }
@@ -70,7 +71,7 @@ pub extern "C" fn net_instant_from_secs(secs: i64, instant: &mut i64) -> bool
 
 /// Returns whether there is a moment so much later, and if so writes it to `sum`.
 #[unsafe(no_mangle)]
-pub extern "C" fn net_instant_add(instant: i64, duration: u64, sum: &mut i64) -> bool
+pub extern "C" fn net_base_instant_add(instant: i64, duration: u64, sum: &mut i64) -> bool
     ensures fits { IsTrue result ↔ IsMoment (instant +ℤ pos duration) }
     ensures sum { IsTrue result → sum.new ≡ instant +ℤ pos duration }
     ensures unchanged { IsFalse result → sum.new ≡ sum.old }
@@ -81,7 +82,7 @@ pub extern "C" fn net_instant_add(instant: i64, duration: u64, sum: &mut i64) ->
 
 /// Returns whether there is a moment so much earlier, and if so writes it to `difference`.
 #[unsafe(no_mangle)]
-pub extern "C" fn net_instant_sub(instant: i64, duration: u64, difference: &mut i64) -> bool
+pub extern "C" fn net_base_instant_sub(instant: i64, duration: u64, difference: &mut i64) -> bool
     ensures fits { IsTrue result ↔ IsMoment (instant -ℤ pos duration) }
     ensures difference { IsTrue result → difference.new ≡ instant -ℤ pos duration }
     ensures unchanged { IsFalse result → difference.new ≡ difference.old }
@@ -92,7 +93,7 @@ pub extern "C" fn net_instant_sub(instant: i64, duration: u64, difference: &mut 
 
 /// Returns the moment so much later, or `i64::MAX` if that is above it.
 #[unsafe(no_mangle)]
-pub extern "C" fn net_instant_saturating_add(instant: i64, duration: u64) -> i64
+pub extern "C" fn net_base_instant_saturating_add(instant: i64, duration: u64) -> i64
     ensures exact { IsMoment (instant +ℤ pos duration) → result ≡ instant +ℤ pos duration }
     ensures last { (IsMoment (instant +ℤ pos duration) → ⊥) → result ≡ pos (2 ^ 63 - 1) }
 {
@@ -102,7 +103,7 @@ pub extern "C" fn net_instant_saturating_add(instant: i64, duration: u64) -> i64
 
 /// Returns the moment so much earlier, or `i64::MIN` if that is below it.
 #[unsafe(no_mangle)]
-pub extern "C" fn net_instant_saturating_sub(instant: i64, duration: u64) -> i64
+pub extern "C" fn net_base_instant_saturating_sub(instant: i64, duration: u64) -> i64
     ensures exact { IsMoment (instant -ℤ pos duration) → result ≡ instant -ℤ pos duration }
     ensures first { (IsMoment (instant -ℤ pos duration) → ⊥) → result ≡ negsuc (2 ^ 63 - 1) }
 {
@@ -112,16 +113,39 @@ pub extern "C" fn net_instant_saturating_sub(instant: i64, duration: u64) -> i64
 
 /// Returns how far apart two moments are, whichever is the later one. Any two have a distance.
 #[unsafe(no_mangle)]
-pub extern "C" fn net_instant_distance(instant: i64, other: i64) -> u64
+pub extern "C" fn net_base_instant_distance(instant: i64, other: i64) -> u64
     ensures { result ≡ distance instant other }
 {
     let between = Instant::from_micros(instant) - Instant::from_micros(other);
     between.total_micros()
 }
 
+/// Writes the earliest of the moments to `earliest`: when to look again at several timers.
+///
+/// Returns whether there is one: false if there are no moments, and then nothing changes.
+#[unsafe(no_mangle)]
+pub extern "C" fn net_base_instant_earliest(moments: &[i64], earliest: &mut i64) -> bool
+    ensures some { IsTrue result ↔ IsSome (earliest_of (λ (t : ℤ). Some t) moments.now) }
+    ensures written { IfSome (earliest_of (λ (t : ℤ). Some t) moments.now)
+        (λ t. earliest.new ≡ t) }
+    ensures unchanged { IfNone (earliest_of (λ (t : ℤ). Some t) moments.now)
+        (earliest.new ≡ earliest.old) }
+{
+    write_instant(first_of(moments), earliest)
+}
+
+/// Returns the earliest of the moments, as a fold.
+fn first_of(moments: &[i64]) -> Option<Instant>
+    ensures { result ≡ earliest_of (λ (t : ℤ). Some t) moments.now }
+{
+    moments.iter().fold(None, |first, moment| {
+        earlier(first, Some(Instant::from_micros(*moment)))
+    })
+}
+
 /// Returns whether so many milliseconds are a length, and if so writes it to `duration`.
 #[unsafe(no_mangle)]
-pub extern "C" fn net_duration_from_millis(millis: u64, duration: &mut u64) -> bool
+pub extern "C" fn net_base_duration_from_millis(millis: u64, duration: &mut u64) -> bool
     ensures fits { IsTrue result ↔ IsLength (millis * 1_000) }
     ensures duration { IsTrue result → duration.new ≡ millis * 1_000 }
     ensures unchanged { IsFalse result → duration.new ≡ duration.old }
@@ -135,7 +159,7 @@ pub extern "C" fn net_duration_from_millis(millis: u64, duration: &mut u64) -> b
 
 /// Returns whether so many seconds are a length, and if so writes it to `duration`.
 #[unsafe(no_mangle)]
-pub extern "C" fn net_duration_from_secs(secs: u64, duration: &mut u64) -> bool
+pub extern "C" fn net_base_duration_from_secs(secs: u64, duration: &mut u64) -> bool
     ensures fits { IsTrue result ↔ IsLength (secs * 1_000_000) }
     ensures duration { IsTrue result → duration.new ≡ secs * 1_000_000 }
     ensures unchanged { IsFalse result → duration.new ≡ duration.old }
@@ -149,7 +173,7 @@ pub extern "C" fn net_duration_from_secs(secs: u64, duration: &mut u64) -> bool
 
 /// Returns whether the sum is a length, and if so writes it to `sum`.
 #[unsafe(no_mangle)]
-pub extern "C" fn net_duration_add(duration: u64, other: u64, sum: &mut u64) -> bool
+pub extern "C" fn net_base_duration_add(duration: u64, other: u64, sum: &mut u64) -> bool
     ensures fits { IsTrue result ↔ IsLength (duration + other) }
     ensures sum { IsTrue result → sum.new ≡ duration + other }
     ensures unchanged { IsFalse result → sum.new ≡ sum.old }
@@ -161,7 +185,7 @@ pub extern "C" fn net_duration_add(duration: u64, other: u64, sum: &mut u64) -> 
 /// Returns whether `duration` is not below `other`, and if so writes the difference to
 /// `difference`.
 #[unsafe(no_mangle)]
-pub extern "C" fn net_duration_sub(duration: u64, other: u64, difference: &mut u64) -> bool
+pub extern "C" fn net_base_duration_sub(duration: u64, other: u64, difference: &mut u64) -> bool
     ensures fits { IsTrue result ↔ (other ≤ duration) }
     ensures difference { IsTrue result → difference.new ≡ duration - other }
     ensures unchanged { IsFalse result → difference.new ≡ difference.old }
@@ -172,7 +196,7 @@ pub extern "C" fn net_duration_sub(duration: u64, other: u64, difference: &mut u
 
 /// Returns whether the product is a length, and if so writes it to `product`.
 #[unsafe(no_mangle)]
-pub extern "C" fn net_duration_mul(duration: u64, factor: u32, product: &mut u64) -> bool
+pub extern "C" fn net_base_duration_mul(duration: u64, factor: u32, product: &mut u64) -> bool
     ensures fits { IsTrue result ↔ IsLength (duration * factor) }
     ensures product { IsTrue result → product.new ≡ duration * factor }
     ensures unchanged { IsFalse result → product.new ≡ product.old }
@@ -182,7 +206,7 @@ pub extern "C" fn net_duration_mul(duration: u64, factor: u32, product: &mut u64
 
 /// Returns whether `divisor` is not 0, and if so writes the quotient, rounded down, to `quotient`.
 #[unsafe(no_mangle)]
-pub extern "C" fn net_duration_div(duration: u64, divisor: u32, quotient: &mut u64) -> bool
+pub extern "C" fn net_base_duration_div(duration: u64, divisor: u32, quotient: &mut u64) -> bool
     ensures fits { IsTrue result ↔ (0 < divisor) }
     ensures quotient { IsTrue result → quotient.new ≡ duration / divisor }
     ensures unchanged { IsFalse result → quotient.new ≡ quotient.old }
@@ -196,7 +220,7 @@ pub extern "C" fn net_duration_div(duration: u64, divisor: u32, quotient: &mut u
 /// Returns whether `bits` is below 64, and if so writes the low 64 bits of the microseconds,
 /// shifted left by so many bits, to `shifted`.
 #[unsafe(no_mangle)]
-pub extern "C" fn net_duration_shl(duration: u64, bits: u32, shifted: &mut u64) -> bool
+pub extern "C" fn net_base_duration_shl(duration: u64, bits: u32, shifted: &mut u64) -> bool
     ensures fits { IsTrue result ↔ (bits < 64) }
     ensures shifted { IsTrue result → shifted.new ≡ duration * 2 ^ bits % 2 ^ 64 }
     ensures unchanged { IsFalse result → shifted.new ≡ shifted.old }
@@ -212,7 +236,7 @@ pub extern "C" fn net_duration_shl(duration: u64, bits: u32, shifted: &mut u64) 
 /// Returns whether `bits` is below 64, and if so writes the microseconds, shifted right by so many
 /// bits, to `shifted`.
 #[unsafe(no_mangle)]
-pub extern "C" fn net_duration_shr(duration: u64, bits: u32, shifted: &mut u64) -> bool
+pub extern "C" fn net_base_duration_shr(duration: u64, bits: u32, shifted: &mut u64) -> bool
     ensures fits { IsTrue result ↔ (bits < 64) }
     ensures shifted { IsTrue result → shifted.new ≡ duration / 2 ^ bits }
     ensures unchanged { IsFalse result → shifted.new ≡ shifted.old }
@@ -227,7 +251,7 @@ pub extern "C" fn net_duration_shr(duration: u64, bits: u32, shifted: &mut u64) 
 
 /// Returns the sum, or `u64::MAX` if it is above that.
 #[unsafe(no_mangle)]
-pub extern "C" fn net_duration_saturating_add(duration: u64, other: u64) -> u64
+pub extern "C" fn net_base_duration_saturating_add(duration: u64, other: u64) -> u64
     ensures { result ≡ min (duration + other) (2 ^ 64 - 1) }
 {
     let both = Duration::from_micros(duration).saturating_add(Duration::from_micros(other));
@@ -236,7 +260,7 @@ pub extern "C" fn net_duration_saturating_add(duration: u64, other: u64) -> u64
 
 /// Returns the difference, or 0 if `other` is above `duration`.
 #[unsafe(no_mangle)]
-pub extern "C" fn net_duration_saturating_sub(duration: u64, other: u64) -> u64
+pub extern "C" fn net_base_duration_saturating_sub(duration: u64, other: u64) -> u64
     ensures { result ≡ duration - other }
 {
     let rest = Duration::from_micros(duration).saturating_sub(Duration::from_micros(other));
@@ -245,7 +269,7 @@ pub extern "C" fn net_duration_saturating_sub(duration: u64, other: u64) -> u64
 
 /// Returns the product, or `u64::MAX` if it is above that.
 #[unsafe(no_mangle)]
-pub extern "C" fn net_duration_saturating_mul(duration: u64, factor: u32) -> u64
+pub extern "C" fn net_base_duration_saturating_mul(duration: u64, factor: u32) -> u64
     ensures { result ≡ min (duration * factor) (2 ^ 64 - 1) }
 {
     let all = Duration::from_micros(duration).saturating_mul(factor);

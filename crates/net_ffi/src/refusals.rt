@@ -1,0 +1,59 @@
+//! What a refused call returns, and the statuses of those that are done.
+ghost use Rattle.std.specs.Prelude.{◌≡◌, ◌-◌, ◌^◌};
+ghost use Rattle.net_ffi.specs.Refusals.{nowhere};
+
+use crate::assembler::FrontLength;
+use crate::ring::Part;
+use net_ring::Span;
+
+/// The call was done.
+pub const NET_BASE_DONE: u32 = 0;
+
+/// There would be more runs than the slice has elements. Nothing changes.
+pub const NET_BASE_TOO_MANY_RUNS: u32 = 1;
+
+/// What was passed is nonsense. Nothing changes.
+pub const NET_BASE_REFUSED: u32 = 2;
+
+/// The position is missing.
+pub const NET_BASE_MISSING: u32 = 3;
+
+/// The position is present.
+pub const NET_BASE_PRESENT: u32 = 4;
+
+/// The fragment or the size reaches past the end of the buffer. Nothing changes.
+pub const NET_BASE_TOO_LONG: u32 = 5;
+
+/// No count, index or position of a right call: what was passed is nonsense, or there is none.
+pub const NET_BASE_NONE: usize = usize::MAX;
+
+/// The span of a refused call.
+pub(crate) const NO_SPAN: Span = Span {
+    from: NET_BASE_NONE,
+    count: 0,
+    contiguous: 0,
+};
+
+/// The part of a refused call.
+pub(crate) const NO_PART: Part = Part {
+    from: NET_BASE_NONE,
+    count: 0,
+};
+
+/// The front of a refused call.
+pub(crate) const NO_FRONT: FrontLength = FrontLength {
+    status: NET_BASE_REFUSED,
+    length: 0,
+};
+
+/// States each number of this module: callers may be compiled with it.
+pub fn numbers()
+    ensures done { NET_BASE_DONE ≡ 0 }
+    ensures too_many_runs { NET_BASE_TOO_MANY_RUNS ≡ 1 }
+    ensures refused { NET_BASE_REFUSED ≡ 2 }
+    ensures missing { NET_BASE_MISSING ≡ 3 }
+    ensures present { NET_BASE_PRESENT ≡ 4 }
+    ensures too_long { NET_BASE_TOO_LONG ≡ 5 }
+    ensures none { NET_BASE_NONE ≡ 2 ^ 64 - 1 }
+    ensures span { NO_SPAN ≡ nowhere }
+{}

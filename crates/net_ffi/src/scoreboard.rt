@@ -1,0 +1,179 @@
+//! Scoreboards: what a sender knows of the positions that the other end has, in runs that the caller
+//! keeps.
+//!
+//! At most as many runs are stored as the slice has elements; one may be that of what is
+//! acknowledged. Each call looks at each run, and refuses a scoreboard that isn't sound.
+ghost use Rattle.std.specs.Prelude.{◌≡◌, ◌↔◌, ◌-◌, ◌<◌, ◌≤◌, ℕ, List, length, IsTrue};
+ghost use Rattle.std.specs.Prelude.{if◌then◌else◌};
+ghost use Rattle.net_assembler.specs.Assembler.{MakesTooManyRuns};
+ghost use Rattle.net_assembler.specs.Positions.{contains, nothing, with_range};
+ghost use Rattle.net_assembler.specs.RunLists.{HasSoundRuns, IsCanonical, set_of};
+ghost use Rattle.net_receiver.specs.Scoreboards.{IsNextHole};
+
+use crate::refusals::{
+    NET_BASE_DONE, NET_BASE_MISSING, NET_BASE_PRESENT, NET_BASE_REFUSED, NET_BASE_TOO_MANY_RUNS,
+};
+use net_assembler::Run;
+use net_receiver::ScoreboardHead;
+
+/// A range of positions to send again, and whether the call was done.
+#[repr(C)]
+#[derive(Debug, Clone, Copy)]
+pub struct Hole {
+    /// `NET_BASE_DONE` or `NET_BASE_REFUSED`.
+    pub status: u32,
+    /// The first position; 0 if the call was refused.
+    pub start: u64,
+    /// The position after the last one; 0 if the call was refused.
+    pub end: u64,
+}
+
+/// Returns whether the scoreboard is sound with these runs: `reported` and they are those of an
+/// assembler.
+#[unsafe(no_mangle)]
+pub extern "C" fn net_base_scoreboard_is_sound(scoreboard: &ScoreboardHead, runs: &[Run]) -> bool
+    ensures { IsTrue result ↔ HasSoundRuns scoreboard.now.reported runs.now }
+{
+    scoreboard.is_sound(runs)
+}
+
+/// Forgets all that was reported. Nothing is refused: this makes a scoreboard of any memory.
+#[unsafe(no_mangle)]
+pub extern "C" fn net_base_scoreboard_clear(scoreboard: &mut ScoreboardHead)
+    ensures no_run { scoreboard.new.reported.used ≡ 0 }
+    ensures no_start { scoreboard.new.reported.first_start ≡ 0 }
+    ensures empty { (runs : List (ℕ × ℕ)) → set_of scoreboard.new.reported runs ≡ nothing }
+    ensures sound { (runs : List (ℕ × ℕ)) → HasSoundRuns scoreboard.new.reported runs }
+{
+    *scoreboard = ScoreboardHead::new();
+}
+
+/// Reports the positions from `start` on and below `end`, as a SACK block of an acknowledgement does.
+/// Blocks may overlap. `sent` is the position after the last byte that was ever sent.
+///
+/// Returns `NET_BASE_DONE`, or `NET_BASE_TOO_MANY_RUNS` if there would be more runs than the slice has
+/// elements, or `NET_BASE_REFUSED` if `start` isn't below `end`, if `end` is above `sent`, or if the
+/// scoreboard isn't sound. If it isn't `NET_BASE_DONE`, nothing changes.
+#[unsafe(no_mangle)]
+pub extern "C" fn net_base_scoreboard_report(
+    scoreboard: &mut ScoreboardHead,
+    runs: &mut [Run],
+    start: u64,
+    end: u64,
+    sent: u64,
+) -> u32
+    ensures done { let s = set_of scoreboard.old.reported runs.old in
+        HasSoundRuns scoreboard.old.reported runs.old → start < end → end ≤ sent →
+        (MakesTooManyRuns (length runs.old) s start (end - start) → ⊥) → (result ≡ NET_BASE_DONE)
+        × (set_of scoreboard.new.reported runs.new ≡ with_range s start (end - start)) }
+    ensures too_many { let s = set_of scoreboard.old.reported runs.old in
+        HasSoundRuns scoreboard.old.reported runs.old → start < end → end ≤ sent →
+        MakesTooManyRuns (length runs.old) s start (end - start) →
+        (result ≡ NET_BASE_TOO_MANY_RUNS)
+        × (scoreboard.new ≡ scoreboard.old) × (runs.new ≡ runs.old) }
+    ensures refused { (HasSoundRuns scoreboard.old.reported runs.old × (start < end) × (end ≤ sent) → ⊥) →
+        (result ≡ NET_BASE_REFUSED)
+        × (scoreboard.new ≡ scoreboard.old) × (runs.new ≡ runs.old) }
+    ensures sound { HasSoundRuns scoreboard.old.reported runs.old →
+        HasSoundRuns scoreboard.new.reported runs.new }
+    ensures canonical { IsCanonical scoreboard.old.reported → IsCanonical scoreboard.new.reported }
+{
+    if !ScoreboardHead::is_block(start, end, sent) || !scoreboard.is_sound(runs) {
+        return NET_BASE_REFUSED;
+    }
+    match scoreboard.report(runs, start, end) {
+        Ok(()) => NET_BASE_DONE,
+        Err(_) => NET_BASE_TOO_MANY_RUNS,
+    }
+}
+
+/// Reports all positions below `next`, so that the runs below it become one.
+///
+/// Returns `NET_BASE_DONE`, or `NET_BASE_TOO_MANY_RUNS` if there would be more runs than the slice has
+/// elements: then nothing below `next` is reported. `NET_BASE_REFUSED` if the scoreboard isn't sound.
+/// If it isn't `NET_BASE_DONE`, nothing changes.
+#[unsafe(no_mangle)]
+pub extern "C" fn net_base_scoreboard_acknowledge(
+    scoreboard: &mut ScoreboardHead,
+    runs: &mut [Run],
+    next: u64,
+) -> u32
+    ensures done { let s = set_of scoreboard.old.reported runs.old in
+        HasSoundRuns scoreboard.old.reported runs.old →
+        (MakesTooManyRuns (length runs.old) s 0 next → ⊥) → (result ≡ NET_BASE_DONE)
+        × (set_of scoreboard.new.reported runs.new ≡ with_range s 0 next) }
+    ensures too_many { let s = set_of scoreboard.old.reported runs.old in
+        HasSoundRuns scoreboard.old.reported runs.old → MakesTooManyRuns (length runs.old) s 0 next →
+        (result ≡ NET_BASE_TOO_MANY_RUNS)
+        × (scoreboard.new ≡ scoreboard.old) × (runs.new ≡ runs.old) }
+    ensures refused { (HasSoundRuns scoreboard.old.reported runs.old → ⊥) →
+        (result ≡ NET_BASE_REFUSED)
+        × (scoreboard.new ≡ scoreboard.old) × (runs.new ≡ runs.old) }
+    ensures sound { HasSoundRuns scoreboard.old.reported runs.old →
+        HasSoundRuns scoreboard.new.reported runs.new }
+    ensures canonical { IsCanonical scoreboard.old.reported → IsCanonical scoreboard.new.reported }
+{
+    if !scoreboard.is_sound(runs) {
+        return NET_BASE_REFUSED;
+    }
+    match scoreboard.acknowledge(runs, next) {
+        Ok(()) => NET_BASE_DONE,
+        Err(_) => NET_BASE_TOO_MANY_RUNS,
+    }
+}
+
+/// Returns `NET_BASE_PRESENT` if `position` was reported, and `NET_BASE_MISSING` if it wasn't;
+/// `NET_BASE_REFUSED` if the scoreboard isn't sound.
+#[unsafe(no_mangle)]
+pub extern "C" fn net_base_scoreboard_contains(
+    scoreboard: &ScoreboardHead,
+    runs: &[Run],
+    position: u64,
+) -> u32
+    ensures done { HasSoundRuns scoreboard.now.reported runs.now → result
+        ≡ (if contains (set_of scoreboard.now.reported runs.now) position
+        then NET_BASE_PRESENT else NET_BASE_MISSING) }
+    ensures refused { (HasSoundRuns scoreboard.now.reported runs.now → ⊥) →
+        result ≡ NET_BASE_REFUSED }
+{
+    if !scoreboard.is_sound(runs) {
+        return NET_BASE_REFUSED;
+    }
+    if scoreboard.contains(runs, position) {
+        NET_BASE_PRESENT
+    } else {
+        NET_BASE_MISSING
+    }
+}
+
+/// Returns the next range to send again: it begins at the first position from `position` on that
+/// wasn't reported, and ends at the next one that was, or at `limit`. If there is none below `limit`,
+/// start and end are `limit`.
+///
+/// If the scoreboard isn't sound, the status is `NET_BASE_REFUSED`, and both are 0.
+#[unsafe(no_mangle)]
+pub extern "C" fn net_base_scoreboard_next_hole(
+    scoreboard: &ScoreboardHead,
+    runs: &[Run],
+    position: u64,
+    limit: u64,
+) -> Hole
+    ensures hole { HasSoundRuns scoreboard.now.reported runs.now → (result.status ≡ NET_BASE_DONE)
+        × IsNextHole (set_of scoreboard.now.reported runs.now) position limit result.start result.end }
+    ensures refused { (HasSoundRuns scoreboard.now.reported runs.now → ⊥) →
+        (result.status ≡ NET_BASE_REFUSED) × (result.start ≡ 0) × (result.end ≡ 0) }
+{
+    if !scoreboard.is_sound(runs) {
+        return Hole {
+            status: NET_BASE_REFUSED,
+            start: 0,
+            end: 0,
+        };
+    }
+    let (start, end) = scoreboard.next_hole(runs, position, limit);
+    Hole {
+        status: NET_BASE_DONE,
+        start,
+        end,
+    }
+}

@@ -1,0 +1,69 @@
+//! Sequence numbers of 32 bits, which wrap, and the positions of 64 bits, which don't.
+//!
+//! A receiver and a sender count in positions; TCP's segments have numbers. If position 0 has the
+//! number `initial`, each position has one number, and a number has one position near a given one.
+//! In TCP the number `initial` may be anything, and numbers before that of the first byte arrive
+//! too, as those of old duplicates; no position below 0 has them, so they can't be told from
+//! others. A stream whose first byte has the position 2^32 + its number avoids that: then `initial`
+//! is 0, the low 32 bits of a position are its number, and 2^32 positions and more come before.
+ghost use Rattle.std.specs.Prelude.{◌≡◌, ◌↔◌, ◌+◌, ◌<◌, ◌^◌, ◌%◌, ℕ, IsTrue, IsFalse};
+ghost use Rattle.net_receiver.specs.SequenceNumbers.{number_at, ahead_of, ComesBefore, IsNear};
+
+use net_receiver::SequenceNumber;
+
+/// Returns the number of a position, if position 0 has the number `initial`.
+#[unsafe(no_mangle)]
+pub extern "C" fn net_base_sequence_number_at(initial: u32, position: u64) -> u32
+    ensures { result ≡ number_at initial position }
+{
+    SequenceNumber::at(SequenceNumber::new(initial), position).get()
+}
+
+/// Returns whether a position near `next` has a number, if position 0 has the number `initial`, and
+/// if so writes it to `position`: it is less than 2^31 after `next`, or at most 2^31 before it.
+#[unsafe(no_mangle)]
+pub extern "C" fn net_base_sequence_number_position(
+    number: u32,
+    initial: u32,
+    next: u64,
+    position: &mut u64,
+) -> bool
+    ensures number { IsTrue result → number_at initial position.new ≡ number }
+    ensures near { IsTrue result → IsNear next position.new }
+    ensures found { (pos : ℕ) → pos < 2 ^ 64 → number_at initial pos ≡ number → IsNear next pos →
+        IsTrue result × (position.new ≡ pos) }
+    ensures unchanged { IsFalse result → position.new ≡ position.old }
+{
+    let number = SequenceNumber::new(number);
+    match number.position(SequenceNumber::new(initial), next) {
+        Some(pos) => {
+            *position = pos;
+            true
+        }
+        None => false,
+    }
+}
+
+/// Returns how far a number is ahead of another one, modulo 2^32.
+#[unsafe(no_mangle)]
+pub extern "C" fn net_base_sequence_number_ahead_of(number: u32, other: u32) -> u32
+    ensures { result ≡ ahead_of other number }
+{
+    SequenceNumber::new(number).ahead_of(SequenceNumber::new(other))
+}
+
+/// Returns whether another number is ahead of this one by less than 2^31, and is not the same.
+#[unsafe(no_mangle)]
+pub extern "C" fn net_base_sequence_number_is_before(number: u32, other: u32) -> bool
+    ensures { IsTrue result ↔ ComesBefore number other }
+{
+    SequenceNumber::new(number).is_before(SequenceNumber::new(other))
+}
+
+/// Returns a number plus a count of bytes, modulo 2^32.
+#[unsafe(no_mangle)]
+pub extern "C" fn net_base_sequence_number_add(number: u32, count: u32) -> u32
+    ensures { result ≡ (number + count) % 2 ^ 32 }
+{
+    (SequenceNumber::new(number) + count).get()
+}
