@@ -1,7 +1,7 @@
 """Assemblers: sets of positions in at most N runs."""
 from branches import Count, Order, Size, Test
 from drawing import TOP
-from showing import START, mix, show_digest, truth, truths
+from showing import START, mix, show_digest, show_runs, truth, truths
 
 SIZES = (1, 4, 32, 100)
 FITS = Order("assembler: end of a range and greatest number")
@@ -22,6 +22,10 @@ CONTAINS = Test("assembler: contains a position")
 AT_START = Test("assembler: contains is asked at a run's first position")
 AT_END = Test("assembler: contains is asked at the position after a run")
 RUN_NONE = Order("assembler: run_at, number and runs")
+HOLE_NONE = Order("assembler: hole_at, number and holes")
+HOLE_AT_0 = Test("assembler: holes finds one at position 0")
+SHIFT_CUTS = Test("assembler: shift cuts a run")
+SHIFT_END = Order("assembler: shift, count and end of the last run")
 START_SIZE = Size("assembler: digits of a start", 63, by=8)
 DATA_SIZE = Size("assembler: digits of a length", 63, by=4)
 HOLE = Test("assembler: the first run of a text has a hole before it")
@@ -142,6 +146,25 @@ class Assembler:
         start, end = self.runs[number]
         return f"{start}-{end}"
 
+    def shift(self, count):
+        SHIFT_CUTS(any(start < count < end for start, end in self.runs))
+        SHIFT_END.least(count, self.runs[-1][1] if self.runs else 0)
+        self.runs = [(max(start, count) - count, end - count) for start, end in self.runs if end > count]
+        return "done"
+
+    def all_holes(self):
+        edges = [0] + [edge for run in self.runs for edge in run]
+        return [(start, end) for start, end in zip(edges[::2], edges[1::2]) if start < end]
+
+    def hole_at(self, number):
+        found = self.all_holes()
+        HOLE_NONE.least(number, len(found))
+        return f"{found[number][0]}-{found[number][1]}" if number < len(found) else "none"
+
+    def holes(self):
+        HOLE_AT_0(bool(self.runs) and self.runs[0][0] > 0)
+        return show_runs(self.all_holes())
+
     def fits(self, offset, size):
         return truth(offset + size <= TOP)
 
@@ -155,8 +178,8 @@ class Assembler:
 
 
 ADDING = ["add", "add", "add_counted", "add_then_remove_front", "add_then_remove_front"]
-ASKING = ["contains", "contains", "run_at", "run_at", "fits", "clone", "eq", "eq", "text", "text"]
-RARE = ["remove_front"] * 4 + ["clear"]
+ASKING = ["contains", "contains", "run_at", "run_at", "hole_at", "hole_at", "holes", "fits", "clone", "eq", "eq", "text", "text"]
+RARE = ["remove_front"] * 4 + ["clear", "shift", "shift"]
 
 
 def position(random, runs, span):
@@ -192,11 +215,12 @@ def call(random, assembler, span, step):
     if choice < 5:
         return random.of(ADDING), range_of(random, assembler, span, step)
     if choice == 5:
-        return random.of(RARE), []
+        name = random.of(RARE)
+        return name, [position(random, assembler.runs, step)] if name == "shift" else []
     name = random.of(ASKING)
     if name == "contains":
         return name, [position(random, assembler.runs, span)]
-    if name == "run_at":
+    if name in ("run_at", "hole_at"):
         return name, [random.wide() if random.one_in(20) else random.below(len(assembler.runs) + 2)]
     if name == "fits":
         offset = random.wide()

@@ -11,34 +11,35 @@ import moments
 import packets
 import receiver
 import ring
+import sender
 import small
 import texts
 import worked
 
 SEED = 54
+# What draws rows, and so many lines of them.
 PARTS = [
-    ("rings of bytes", ring.draw, 6200),
-    ("rings of cells", small.draw_cells, 700),
-    ("storage", small.draw_storage, 700),
-    ("packet queues", packets.draw, 4500),
-    ("assemblers", assembler.draw, 5200),
-    ("receivers", receiver.draw, 4500),
-    ("sequence numbers", receiver.draw_numbers, 700),
-    ("generators", small.draw_generator, 1400),
-    ("moments and lengths", moments.draw, 3300),
-    ("texts of moments and lengths", moments.draw_texts, 700),
-    ("texts of errors", texts.draw, 400),
-    ("words and lines of modes", modes.draw, 2100),
-    ("words of net_link", link_words.draw, 450),
+    (ring.draw, 6200),
+    (small.draw_cells, 700),
+    (small.draw_storage, 700),
+    (packets.draw, 5600),
+    (assembler.draw, 5200),
+    (receiver.draw, 4500),
+    (receiver.draw_numbers, 700),
+    (small.draw_generator, 1400),
+    (moments.draw, 3300),
+    (moments.draw_texts, 700),
+    (texts.draw, 400),
+    (modes.draw, 2100),
+    (link_words.draw, 450),
+    (sender.draw, 3200),
 ]
 
 
 def drawn():
-    """The worked rows and the drawn ones, and a line for each answer that no case gave."""
+    """The blocks of each subject, the worked ones first, and a line for each answer that no case gave."""
     cases = drawing.Cases()
-    cases.part("worked rows")
     worked.add(cases)
-    for number, (name, draw, lines) in enumerate(PARTS):
-        cases.part(name)
+    for number, (draw, lines) in enumerate(PARTS):
         draw(drawing.Random(SEED + number), cases, lines)
-    return cases, branches.missing()
+    return cases.blocks(), branches.missing()

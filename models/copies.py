@@ -115,6 +115,10 @@ def rows():
     yield row("All was written, and the reader has no more: no acknowledgement is waited for.", reverse="FOUR_LOST")
     yield row(reverse="NONE")
     yield row("The sender's queue is full, and the reader isn't asked.", reverse="NONE", capacity=6, rounds=5)
+    # Of five bytes over a link that loses all acknowledgements: worked by hand from docs/LINK.md.
+    five = dict(reverse="NONE", length=5, payload=5, rounds=3)
+    yield row("All is written, but a full sender has no room for the read that would meet the end.", capacity=5, **five)
+    yield row("With room for one byte more it is done after the first round.", capacity=6, **five)
     yield row("Delayed acknowledgements arrive in the next round, and a duplicated one in both.",
               reverse="FOUR_DELAYED_THEN_NONE", capacity=6, rounds=5)
     yield row(reverse="DUPLICATED_THEN_NONE", capacity=6, rounds=5)

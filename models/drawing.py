@@ -68,11 +68,7 @@ class Cases:
     """The lines of the cases, in blocks that are separated by an empty line, with their replies."""
 
     def __init__(self):
-        self.lines, self.replies, self.parts = [], [], {}
-
-    def part(self, name):
-        self.name = name
-        self.parts.setdefault(name, 0)
+        self.lines, self.replies = [], []
 
     def begin(self, line, state=""):
         """The first line of a block, whose reply is what can be seen then."""
@@ -88,4 +84,12 @@ class Cases:
     def note(self, line, reply):
         self.lines.append(line)
         self.replies.append(reply)
-        self.parts[self.name] += 1
+
+    def blocks(self):
+        """The blocks of each subject, by its name: each block as its lines and their replies."""
+        subjects, start = {}, 0
+        for end in [at for at, line in enumerate(self.lines) if not line] + [len(self.lines)]:
+            subject = self.lines[start].split(" ")[0]
+            subjects.setdefault(subject, []).append((self.lines[start:end], self.replies[start:end]))
+            start = end + 1
+        return subjects

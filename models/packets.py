@@ -224,7 +224,8 @@ def numbers_of(random, queue, name, usual):
 
 
 def draw(random, cases, lines):
-    """So many lines of packet queues of 0 to 63 slots and 0 to 4,095 bytes."""
+    """So many lines of packet queues of 0 to 63 slots and 0 to 4,095 bytes. A fourth of them lend the last packet, which not
+    every language can."""
     until = len(cases.lines) + lines
     while len(cases.lines) < until:
         slots = random.of_digits(6) if random.one_in(2) else random.below(5)
@@ -236,10 +237,11 @@ def draw(random, cases, lines):
             usual = count // 64
         queue = Packets(slots, count, seed)
         cases.begin(f"packets {slots} {count} {seed}", queue.show())
+        others = ["peek"] * (9 if many else 2) + random.of([["last_mut", "last_mut"], [], [], []]) + ["reset"]
         for turn in range(70 if many else 30 + random.below(50)):
             fills = random.below(8) < (8 if many and turn < 50 else 5)
             name = random.of(COMING) if fills else random.of(LEAVING)
             if random.one_in(6):
-                name = random.of(["peek", "last_mut", "last_mut", "peek", "reset"])
+                name = random.of(others)
             numbers = numbers_of(random, queue, name, usual)
             cases.add(name, numbers, queue.call(name, numbers), queue.show())

@@ -7,8 +7,14 @@ from showing import (START, mix, pattern, show_bytes, show_digest, show_lent, sh
                      truths)
 
 SIZES = (1, 4, 32)
+MOST_LISTED = 6
 CAPACITY = Size("receiver: capacity", 12)
 FIRST = Size("receiver: first position", 64)
+END_FITS = Test("receiver: the end of the window fits 64 bits")
+NEWEST = Test("receiver: newest_runs, the position is held")
+KNOWN = Test("receiver: newest_runs, a run was listed before")
+LISTED_RUNS = Order("receiver: newest_runs, most and held runs")
+NEW_BYTES = Order("receiver: count_new, held and free positions", ("below", "equal"))
 NEAR_63 = Test("receiver: the stream passes position 2^63")
 NEAR_64 = Test("receiver: the stream comes within 2^12 of the last position")
 FITS = Order("receiver: end of a segment and last position")
@@ -114,14 +120,14 @@ class Receiver(Positions):
 
 
 class Pair:
-    """Two receivers, with the replies to the calls of the first."""
+    """Two receivers, with the replies to the calls of the first, and where the runs start that it last listed."""
 
     def __init__(self, capacity, most, first):
         CAPACITY(capacity)
         FIRST(first)
         self.most = most
         self.now, self.other = (Receiver(most, capacity, first) for _ in range(2))
-        self.replies = []
+        self.replies, self.recent = [], [0] * MOST_LISTED
 
     def show(self):
         now = self.now
@@ -202,6 +208,36 @@ class Pair:
         self.now, self.other = self.other, self.now
         return "done"
 
+    def window_end(self):
+        end = self.now.next + self.now.window
+        return str(end - self.now.first) if END_FITS(end <= TOP) else "none"
+
+    def count_new(self, pos, size):
+        """How many of the free positions of a segment are not held."""
+        if pos + size > TOP:
+            return "forbidden"
+        now = self.now
+        start, end = max(pos, now.next), min(pos + size, now.next + now.window)
+        held = sum(max(0, min(end, run[1]) - max(start, run[0])) for run in now.held_runs())
+        NEW_BYTES.least(held, max(0, end - start))
+        return str(max(0, end - start) - held)
+
+    def newest_runs(self, pos, most):
+        """The run of the position, then those last listed, then the others; each once, and as many at most as positions
+        are remembered. What isn't written stays 7."""
+        most = min(most, MOST_LISTED)
+        runs, listed = self.now.held_runs(), []
+        NEWEST(any(start <= pos < end for start, end in runs))
+        KNOWN(any(start <= place < end for place in self.recent[:most] for start, end in runs))
+        for place in [pos, *self.recent[:most], *(start for start, _ in runs)]:
+            listed += [run for run in runs if run[0] <= place < run[1] and run not in listed]
+        count = LISTED_RUNS.least(most, len(listed))
+        listed = listed[:count]
+        self.recent[:count] = [start for start, _ in listed]
+        shown = listed + [(7, 7)] * (MOST_LISTED - count)
+        digest = mix(START, self.recent + [end for run in shown for end in run])
+        return " ".join([str(count), *filter(None, [self.listed(listed, count)]), show_digest(digest)])
+
     def reply(self, kind, pos, size, seed):
         """The reply to a command: as it is shown, and the numbers of its digest."""
         now = self.now
@@ -266,7 +302,8 @@ def command(random, now, step):
     return [2, 0, 0, 0]
 
 
-SHOWING = ["peek", "peek", "as_slices", "peek_slice", "same_state", "same_state", "swap", "fits"]
+SHOWING = ["peek", "peek", "as_slices", "peek_slice", "same_state", "same_state", "swap", "fits", "window_end",
+           "newest_runs", "newest_runs", "newest_runs", "count_new", "count_new"]
 
 
 def call(random, now, step):
@@ -288,6 +325,11 @@ def call(random, now, step):
         return name, [random.offset([queue, now.contiguous_queued()], 8), random.about([queue], 11)]
     if name == "peek_slice":
         return name, [random.about([queue], 9), random.below(40)]
+    if name == "count_new":
+        size = random.wide() if random.one_in(8) else random.about([now.window, now.capacity], 11)
+        return name, [position(random, now, step), size if random.one_in(3) else random.below(3 * step)]
+    if name == "newest_runs":
+        return name, [position(random, now, step), random.below(MOST_LISTED + 2)]
     if name == "fits":
         pos = random.wide()
         return name, [pos, random.wide() if random.one_in(2) else (TOP - pos + random.below(3) - 1) & TOP]
@@ -380,7 +422,10 @@ def draw(random, cases, lines):
         if random.one_in(4):
             mirrored(random, cases, pair, step)
         for _ in range(10 + random.below(30)):
-            add(cases, pair, *call(random, pair.now, step))
+            name, numbers = call(random, pair.now, step)
+            add(cases, pair, name, numbers)
+            if name == "segment" and len(pair.now.held) > 1:
+                add(cases, pair, "newest_runs", [numbers[0], 1 + random.below(MOST_LISTED)])
 
 
 def number_reply(name, numbers):

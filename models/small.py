@@ -18,6 +18,7 @@ SEED = Size("generator: seed", 64, by=4)
 SHIFT = Size("generator: top three bits of a state", 3)
 DRAWN = Order("generator: draw and last reserved port")
 DRAWS = Size("generator: draws for a port", 2, 1)
+BOUND = Size("generator: bound", 32, 1, by=4)
 
 
 class Cells(Ring):
@@ -149,6 +150,11 @@ class Generator:
         word = self.rand_u32()
         return (word ^ (word >> 16)) & 0xffff
 
+    def below(self, bound):
+        bound &= 0xffffffff
+        BOUND(bound)
+        return self.rand_u32() * bound >> 32
+
     def rand_source_port(self):
         draws = 1
         while DRAWN.least(port := self.rand_u16(), 1024) == port:
@@ -174,7 +180,8 @@ def draw_generator(random, cases, lines):
         rand = Generator(seed)
         cases.begin(f"rand {seed}")
         for turn in range(3 + random.below(8)):
-            name = random.of(["rand_u32", "rand_u16", "rand_source_port"])
+            name = random.of(["rand_u32", "rand_u16", "rand_source_port", "below"])
             if close and turn == 0:
                 name = "rand_source_port"
-            cases.add(name, [], getattr(rand, name)())
+            numbers = [max(1, random.of_digits(32, "bound"))] if name == "below" else []
+            cases.add(name, numbers, getattr(rand, name)(*numbers))

@@ -11,6 +11,7 @@ import moments
 import packets
 import receiver
 import ring
+import sender
 import small
 
 # The test of smoltcp, if there is one; and calls of a ring of so many bytes, each with how its reply begins: counts, and
@@ -127,6 +128,9 @@ LONG_PACKETS = [
 
 # The same of an assembler of so many runs, and the runs then.
 ASSEMBLERS = [
+    ("", 4, "add 10 3: ok; add 20 3: ok; hole_at 0: 0-10; hole_at 1: 13-20; hole_at 2: none; holes: 2#; "
+     "shift 5: done|0 0 2 15-18 5-8; shift 6: done|2 0 2 9-12 0-2; hole_at 0: 2-9; hole_at 1: none; shift 0: done|2 0 2; "
+     "shift 12: done|0 1 0; holes: 0#; hole_at 0: none; shift 18446744073709551615: done|0 1 0", []),
     ("test_partial_add_front", 4, "add 4 8: ok; add 0 4: ok", [(0, 12)]),
     ("test_partial_add_back", 4, "add 4 8: ok; add 12 4: ok", [(4, 16)]),
     ("test_partial_add_front_overlap_split", 4, "add 4 8: ok; add 2 6: ok", [(2, 12)]),
@@ -196,8 +200,46 @@ SETS = [
        f"[ {f'({hole}) {data} ' * 32}]") for hole, data in ((7, 3), (7 * 10 ** 16, 5 * 10 ** 17))),
 ]
 
+# Calls of a sender of so many bytes, from a first position on.
+SENDERS = [
+    (8, 100, "write 6 1: 6|0 6 6 2 0; acknowledge 104: done|4 6 2 6 0; write 4 2: 4|4 10 6 2 0; peek_at 104 9: 4:; "
+     "peek_at 108 9: 2:; peek_at 109 9: 1:; peek_at 110 9: 0:; peek_at 103 9: 0:; peek_at 105 2: 2:; peek_at 104 0: 0:; "
+     "write 3 3: 2|4 12 8 0 0; write 1 4: 0; acknowledge 103: refused; acknowledge 113: refused; "
+     "acknowledge 0: refused; acknowledge 112: done|12 12 0 8 1; write 9 5: 8|12 20 8 0 0; peek_at 112 99: 8:"),
+    (8, 2 ** 64 - 4, "write 6 1: 3|0 3 3 0 0; write 1 2: 0; acknowledge 18446744073709551615: done|3 3 0 0 1; write 1 3: 0"),
+    (8, 50, "write 8 1: 8; mark_sent 50 53: done 53; mark_sent 53 51: done 53; mark_sent 53 58: done 58; mark_sent 53 59: refused 53; "
+     "mark_sent 59 52: refused 59; acknowledge_sent 54 53: refused; acknowledge_sent 53 53 55 56: done|3 8 5 3 0; spared_from 55: 1; "
+     "acknowledge_sent 52 53: refused; acknowledge_sent 53 52: refused; acknowledge_sent 54 59: refused; spared_from 55: 1; "
+     "acknowledge_sent 58 58: done|8 8 0 8 1; mark_sent 0 0: done 0; acknowledge_sent 58 57: refused"),
+    (0, 7, "write 1 1: 0|0 0 0 0 1; peek_at 7 1: 0:; acknowledge 7: done; acknowledge 8: refused"),
+    (20, 10, "write 15 1: 15; acknowledge 10 12 14 16 40 13 19: done; spared_from 11: 0; spared_from 12: 2; spared_from 13: 1; "
+     "spared_from 14: 5; spared_from 17: 8; spared_from 25: 0; spared_from 30: 0; next_block 9: 12; next_block 12: 13; "
+     "next_block 13: 16; next_block 16: 25; next_block 30: 25; send_limit: 25; are_sack_blocks_full: 0; "
+     "acknowledge 13: done; spared_from 14: 0; next_block 9: 25; acknowledge 9 14 15: refused; spared_from 14: 0"),
+    (200, 0, "write 200 1: 200; acknowledge 0 MANY 64 70: done; are_sack_blocks_full: 1; send_limit: 63; spared_from 62: 0; "
+     "spared_from 64: 0; acknowledge 1 MANY: done; send_limit: 63; acknowledge 60 61 62: done; send_limit: 200; "
+     "acknowledge 60 FEW 1 2: done; send_limit: 61; acknowledge 60 FEW 150 250: done; send_limit: 200; "
+     "acknowledge 60 FEW 150 199: done; send_limit: 200; acknowledge 60 FEW 150 198: done; send_limit: 199"),
+]
+MANY_BLOCKS = " ".join(f"{2 * at} {2 * at + 1}" for at in range(31)) + " 61 62"
+FEW_BLOCKS = " ".join("1 2" for _ in range(31))
+
+
 # The same of a receiver of so many bytes and four runs whose stream begins at a position.
 RECEIVERS = [
+    (100, 0, "segment 10 3 1: 3; newest_runs 10 3: 1 10-13; segment 20 3 2: 3; newest_runs 20 3: 2 20-23 10-13; "
+             "segment 30 3 3: 3; newest_runs 30 3: 3 30-33 20-23 10-13; segment 40 3 4: 3; newest_runs 40 3: 3 40-43 30-33 20-23; "
+             "segment 21 1 5: 1; newest_runs 21 3: 3 20-23 40-43 30-33; newest_runs 0 6: 4 20-23 40-43 30-33 10-13; "
+             "newest_runs 12 1: 1 10-13; newest_runs 0 6: 4 10-13 40-43 30-33 20-23; segment 23 8 6: 8; "
+             "newest_runs 23 2: 2 20-33 10-13; newest_runs 0 6: 3 20-33 10-13 40-43; newest_runs 0 0: 0; "
+             "newest_runs 41 2: 2 40-43 20-33; newest_runs 5 2: 2 40-43 20-33; newest_runs 5 3: 3 40-43 20-33 10-13; "
+             "segment 0 10 7: 10; newest_runs 0 6: 2 40-43 20-33; window_end: 100; read 5 0: 5; window_end: 105"),
+    (20, 100, "segment 100 4 1: 4; read 2 0: 2; segment 110 3 2: 3; segment 115 2 3: 2; count_new 100 4: 0; count_new 102 2: 0; "
+              "count_new 103 3: 2; count_new 104 6: 6; count_new 104 18: 13; count_new 100 999: 13; count_new 110 3: 0; "
+              "count_new 109 5: 2; count_new 112 4: 2; count_new 121 1: 1; count_new 122 9: 0; count_new 0 18446744073709551615: 13; "
+              "count_new 1 18446744073709551615: forbidden; count_new 117 0: 0"),
+    (10, 2 ** 64 - 6, "window_end: none"),
+    (5, 2 ** 64 - 6, "window_end: 5"),
     (16, 0, "segment 0 5 1: 5 5 - - -; read 3 2: 3; execute 2 0 0 0: 5 2 14 0#"),
     (16, 0, "segment 2 2 1: 2 0 2-4; segment 3 2 2: 2 0 2-5; segment 0 2 3: 2 5 -; read 5 4: 5"),
     (16, 0, "segment 0 2 1: 2 2; segment 0 3 2: 1 1; read 9 3: 3"),
@@ -302,7 +344,8 @@ MOMENTS = [(74_000, "0.074s"), (5_674_000, "5.674s"), (5_000_000, "5.000s"), (-5
            (4_934_000, "4.934s")]
 
 # Calls on a generator of a seed.
-DRAWS = [(0, "rand_u16: 3; rand_u16: 1358"), (1, "rand_u16: 49741"), (0, "rand_source_port: 1358"),
+DRAWS = [(0, "below 2147483648: 1"), (0, "below 4294967295: 2"), (0, "below 1431655766: 1; below 1: 0"),
+         (0, "below 1431655765: 0"), (0, "rand_u16: 3; rand_u16: 1358"), (1, "rand_u16: 49741"), (0, "rand_source_port: 1358"),
          (0, "rand_u16: 3; rand_u32: 4260165794"), (0, "rand_source_port: 1358; rand_u32:"),
          (1, "rand_source_port: 49741"), (0, "rand_u32: 3; rand_u32: 4260165794"), (1, "rand_u32: 788327601")]
 
@@ -470,11 +513,12 @@ def agree(name, found, begins):
 
 
 def play(cases, first, subject, text, make):
-    cases.begin(first, subject.show() if hasattr(subject, "show") else "")
+    state = subject.show if hasattr(subject, "show") else str
+    cases.begin(first, state())
     for name, numbers, begins in rows_of(text):
         reply = make(name, numbers)
-        agree(f"{first}, {name} {numbers}", reply, begins)
-        cases.add(name, numbers, reply, subject.show() if hasattr(subject, "show") else "")
+        agree(f"{first}, {name} {numbers}", f"{reply}|{state()}", begins)
+        cases.add(name, numbers, reply, state())
 
 
 def add(cases):
@@ -496,11 +540,15 @@ def add(cases):
         subject = receiver.Pair(capacity, 4, first)
         play(cases, f"receiver {capacity} 4 {first}", subject, text,
              lambda name, numbers: getattr(subject, name)(*numbers))
+    for capacity, first, text in SENDERS:
+        subject = sender.Sender(capacity, first)
+        text = text.replace("MANY", MANY_BLOCKS).replace("FEW", FEW_BLOCKS)
+        play(cases, f"sender {capacity} {first}", subject, text, subject.call)
     add_schedules(cases)
     add_pairs(cases)
     for seed, text in DRAWS:
         subject = small.Generator(seed)
-        play(cases, f"rand {seed}", subject, text, lambda name, numbers: getattr(subject, name)())
+        play(cases, f"rand {seed}", subject, text, lambda name, numbers: getattr(subject, name)(*numbers))
     add_values(cases)
     add_lines(cases)
     for _, slots, count, text in LONG_PACKETS:

@@ -35,19 +35,25 @@ static ADDING: [Entry<Adding>; 3] = [
 #[derive(Clone, Copy)]
 enum Kind {
     RemoveFront,
+    Shift,
     Clear,
     Fits,
     Contains,
     RunAt,
+    HoleAt,
+    Holes,
 }
 
 /// The other calls.
-static CALLS: [Entry<Kind>; 5] = [
+static CALLS: [Entry<Kind>; 8] = [
     ("remove_front", 0, Kind::RemoveFront),
     ("clear", 0, Kind::Clear),
     ("fits", 2, Kind::Fits),
     ("contains", 1, Kind::Contains),
     ("run_at", 1, Kind::RunAt),
+    ("shift", 1, Kind::Shift),
+    ("hole_at", 1, Kind::HoleAt),
+    ("holes", 0, Kind::Holes),
 ];
 
 /// A call with an argument or a result that takes memory, or one of both assemblers.
@@ -208,15 +214,33 @@ fn make<const N: usize>(assembler: &mut Assembler<N>, kind: Kind, one: usize, tw
             assembler.clear();
             allowed(true)
         }
+        Kind::Shift => {
+            assembler.shift(one);
+            allowed(true)
+        }
         Kind::Fits => Reply::new().truth(Assembler::<N>::fits(one, two)),
         Kind::Contains => Reply::new().truth(assembler.contains(one)),
-        Kind::RunAt => run_at(assembler, one),
+        Kind::RunAt => show_range(assembler.run_at(one)),
+        Kind::HoleAt => show_range(assembler.hole_at(one)),
+        Kind::Holes => holes(assembler),
     }
 }
 
-fn run_at<const N: usize>(assembler: &Assembler<N>, number: usize) -> Reply {
-    match assembler.run_at(number) {
+/// Returns a reply of a range, if there is one.
+fn show_range(range: Option<(usize, usize)>) -> Reply {
+    match range {
         Some((start, end)) => Reply::new().and(Part::Run(start as u64, end as u64)),
         None => Reply::word("none"),
     }
+}
+
+/// Returns a reply of how many holes there are, and of their digest.
+fn holes<const N: usize>(assembler: &Assembler<N>) -> Reply {
+    let mut count: usize = 0;
+    let mut sum = START;
+    for (start, end) in assembler.holes() {
+        count = count.saturating_add(1);
+        sum = mix(mix(sum, start as u64), end as u64);
+    }
+    Reply::new().and(Part::Many(count, sum))
 }

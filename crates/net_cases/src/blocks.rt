@@ -6,6 +6,7 @@ use crate::error::CaseError;
 use crate::packets::packets;
 use crate::receiver::Pair as Receivers;
 use crate::ring::ring;
+use crate::sender::sender;
 use crate::storage::storage;
 use crate::subject::Subject;
 use crate::text::Texts;
@@ -85,6 +86,7 @@ fn answer_named(
         "ring" => play_ring(alloc, (one, two), lines, replies),
         "cells" => play_cells(alloc, one, lines, replies),
         "packets" => play_packets(alloc, (one, two, three), lines, replies),
+        "sender" => play_sender(alloc, (one, two), lines, replies),
         "assembler" => assemble(alloc, one, lines, replies),
         "receiver" => receive(alloc, (one, two, three), lines, replies),
         _ => Ok(false),
@@ -133,6 +135,17 @@ fn play_packets(
 ) -> Result<bool, CaseError> {
     let mut packets = packets(alloc, slots, bytes, seed)?;
     play(alloc, &mut packets, lines, replies)
+}
+
+/// Appends the replies of a sender of a capacity and of a first position.
+fn play_sender(
+    alloc: Global,
+    (capacity, first): (u64, u64),
+    lines: &str,
+    replies: &mut String,
+) -> Result<bool, CaseError> {
+    let mut sender = sender(alloc, capacity, first)?;
+    play(alloc, &mut sender, lines, replies)
 }
 
 /// Appends the replies of an assembler of so many runs.

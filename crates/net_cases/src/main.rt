@@ -17,6 +17,7 @@ mod packets;
 mod receiver;
 mod reply;
 mod ring;
+mod sender;
 mod sequence_number;
 mod storage;
 mod subject;

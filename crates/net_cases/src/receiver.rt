@@ -7,19 +7,24 @@ use crate::call::{ANY, Call, Entry, find};
 use crate::reply::{Part, Reply, allowed, answered, many};
 use crate::subject::Subject;
 use net_assembler::TooManyHolesError;
-use net_receiver::{Command, Kept, Receiver, Reply as Given, execute, replay};
+use net_receiver::{Command, HeldRun, Kept, Receiver, Reply as Given, execute, replay};
 use net_ring::ManagedSlice;
 use std::alloc::{AllocError, Global};
 use std::mem;
 
-/// Two receivers of one first position and capacity, and replies to commands of the first.
+/// Two receivers of one first position and capacity, and of the first replies to commands, and the runs that were
+/// last listed.
 #[derive(Drop)]
 pub struct Pair<const N: usize> {
     now: Receiver<'static, N>,
     other: Receiver<'static, N>,
     first: u64,
     replies: Vec<Given>,
+    recent: [u64; MOST_LISTED],
 }
+
+/// The most runs that are listed at a time.
+const MOST_LISTED: usize = 6;
 
 /// A call that asks for memory.
 #[derive(Clone, Copy)]
@@ -54,16 +59,23 @@ enum Kind {
     Fits,
     SameState,
     Swap,
+    WindowEnd,
+    /// A position, and how many runs are listed at most, and remembered.
+    NewestRuns,
+    CountNew,
 }
 
 /// The other calls; `swap` exchanges the two receivers.
-static CALLS: [Entry<Kind>; 6] = [
+static CALLS: [Entry<Kind>; 9] = [
     ("read_with", 1, Kind::ReadWith),
     ("peek", 2, Kind::Peek),
     ("as_slices", 0, Kind::AsSlices),
     ("fits", 2, Kind::Fits),
     ("same_state", 0, Kind::SameState),
     ("swap", 0, Kind::Swap),
+    ("window_end", 0, Kind::WindowEnd),
+    ("newest_runs", 2, Kind::NewestRuns),
+    ("count_new", 2, Kind::CountNew),
 ];
 
 impl<const N: usize> Pair<N> {
@@ -78,6 +90,7 @@ impl<const N: usize> Pair<N> {
             other: Receiver::new_at(ManagedSlice::from(other), first),
             first,
             replies: Vec::new(alloc),
+            recent: [0; MOST_LISTED],
         })
     }
 
@@ -105,7 +118,23 @@ impl<const N: usize> Pair<N> {
                 mem::swap(&mut self.now, &mut self.other);
                 allowed(true)
             }
+            Kind::WindowEnd => window_end(&self.now, self.first),
+            Kind::NewestRuns => self.newest_runs(one, two as usize),
+            Kind::CountNew => count_new(&self.now, one, two as usize),
         }
+    }
+
+    /// Lists runs, and returns a reply of them, and of the digest of the positions that are kept and of all that
+    /// could be listed, of which what isn't written stays.
+    fn newest_runs(&mut self, pos: u64, most: usize) -> Reply {
+        let mut listed = [HeldRun { start: 7, end: 7 }; MOST_LISTED];
+        let most = most.min(MOST_LISTED);
+        let recent = &mut self.recent[..];
+        let count = self
+            .now
+            .newest_runs(pos, &mut recent[..most], &mut listed[..most]);
+        let sum = mix_listed(mix_positions(START, &self.recent), &listed);
+        show_listed(&listed, count, self.first, sum)
     }
 }
 
@@ -237,6 +266,49 @@ fn same_state<const N: usize>(own: &Receiver<'_, N>, other: &Receiver<'_, N>) ->
     Reply::new()
         .truth(own.same_state(other))
         .truth(other.same_state(own))
+}
+
+/// Counts new bytes, where a condition allows it.
+fn count_new<const N: usize>(receiver: &Receiver<'_, N>, pos: u64, size: usize) -> Reply {
+    if !Receiver::<N>::fits(pos, size) {
+        return allowed(false);
+    }
+    Reply::new().count(receiver.count_new(pos, size))
+}
+
+/// Returns a reply of the end of the free window, counted from a first position, if there is one.
+fn window_end<const N: usize>(receiver: &Receiver<'_, N>, first: u64) -> Reply {
+    match receiver.window_end() {
+        Some(end) => Reply::new().number(end.wrapping_sub(first)),
+        None => Reply::word("none"),
+    }
+}
+
+/// Returns a reply of the first runs, so many, counted from a first position, and of a digest.
+fn show_listed(listed: &[HeldRun], count: usize, first: u64, sum: u64) -> Reply {
+    let mut reply = Reply::new().count(count);
+    for run in listed.iter().take(count) {
+        reply = show_run(Some((run.start, run.end)), first, reply);
+    }
+    reply.and(Part::Digest(sum))
+}
+
+/// Returns the digest with more runs.
+fn mix_listed(sum: u64, runs: &[HeldRun]) -> u64 {
+    let mut sum = sum;
+    for run in runs {
+        sum = mix(mix(sum, run.start), run.end);
+    }
+    sum
+}
+
+/// Returns the digest with more positions.
+fn mix_positions(sum: u64, positions: &[u64]) -> u64 {
+    let mut sum = sum;
+    for &pos in positions {
+        sum = mix(sum, pos);
+    }
+    sum
 }
 
 /// Returns the command of four numbers: 0, a position, a size and what bytes represent; 1 and a
