@@ -3,23 +3,24 @@
  * and prints how much stack it took.
  */
 #include "net_base.h"
+#include <stddef.h>
 
 enum { STACK_SIZE = 4096, PAINT = 0xa5, WRITE = 1, EXIT = 60 };
 
 /* Keeps a compiler from making a loop a call of the function that it is in. */
 #define STAYS_A_LOOP() __asm__ volatile("")
 
-void *memcpy(void *restrict to, const void *restrict from, size_t size) {
+void *memcpy(void *restrict to, const void *restrict from, uint64_t size) {
     unsigned char *target = to;
     const unsigned char *source = from;
-    for (size_t i = 0; i < size; i++) {
+    for (uint64_t i = 0; i < size; i++) {
         target[i] = source[i];
         STAYS_A_LOOP();
     }
     return to;
 }
 
-void *memmove(void *to, const void *from, size_t size) {
+void *memmove(void *to, const void *from, uint64_t size) {
     unsigned char *target = to;
     const unsigned char *source = from;
     if (target <= source) return memcpy(to, from, size);
@@ -30,25 +31,25 @@ void *memmove(void *to, const void *from, size_t size) {
     return to;
 }
 
-void *memset(void *to, int byte, size_t size) {
+void *memset(void *to, int byte, uint64_t size) {
     unsigned char *target = to;
-    for (size_t i = 0; i < size; i++) {
+    for (uint64_t i = 0; i < size; i++) {
         target[i] = (unsigned char)byte;
         STAYS_A_LOOP();
     }
     return to;
 }
 
-int memcmp(const void *one, const void *other, size_t size) {
+int memcmp(const void *one, const void *other, uint64_t size) {
     const unsigned char *left = one, *right = other;
-    for (size_t i = 0; i < size; i++) {
+    for (uint64_t i = 0; i < size; i++) {
         if (left[i] != right[i]) return left[i] < right[i] ? -1 : 1;
         STAYS_A_LOOP();
     }
     return 0;
 }
 
-static bool are_equal(const uint8_t *bytes, const char *text, size_t size) {
+static bool are_equal(const uint8_t *bytes, const char *text, uint64_t size) {
     return memcmp(bytes, text, size) == 0;
 }
 
@@ -56,47 +57,47 @@ static bool are_equal(const uint8_t *bytes, const char *text, size_t size) {
 static int run_ring(void) {
     static uint8_t storage[8];
     uint8_t into[8];
-    struct net_place ring = {0, 0};
-    if (net_ring_enqueue_slice(&ring, storage, 8, (const uint8_t *)"abcdef", 6) != 6) return 1;
-    if (net_ring_dequeue_slice(&ring, storage, 8, into, 4) != 4) return 2;
-    if (net_ring_enqueue_slice(&ring, storage, 8, (const uint8_t *)"ghijkl", 6) != 6) return 3;
-    if (net_ring_dequeue_slice(&ring, storage, 8, into, 8) != 8) return 4;
+    struct net_base_ring ring = {0, 0};
+    if (net_base_ring_enqueue_slice(&ring, storage, 8, (const uint8_t *)"abcdef", 6) != 6) return 1;
+    if (net_base_ring_dequeue_slice(&ring, storage, 8, into, 4) != 4) return 2;
+    if (net_base_ring_enqueue_slice(&ring, storage, 8, (const uint8_t *)"ghijkl", 6) != 6) return 3;
+    if (net_base_ring_dequeue_slice(&ring, storage, 8, into, 8) != 8) return 4;
     if (!are_equal(into, "efghijkl", 8)) return 5;
-    struct net_place nonsense = {3, 9};
-    if (net_ring_enqueue_slice(&nonsense, storage, 8, into, 1) != SIZE_MAX) return 6;
+    struct net_base_ring nonsense = {3, 9};
+    if (net_base_ring_enqueue_slice(&nonsense, storage, 8, into, 1) != UINT64_MAX) return 6;
     return 0;
 }
 
 /* A range that arrives early, and then those before it. */
 static int run_assembler(void) {
-    static struct net_run runs[4];
-    struct net_assembler assembler = {0, 0};
-    if (net_assembler_add(&assembler, runs, 4, 3, 2) != NET_DONE) return 1;
-    struct net_front_length front = net_assembler_add_then_remove_front(&assembler, runs, 4, 0, 3);
-    if (front.status != NET_DONE) return 2;
+    static struct net_base_run runs[4];
+    struct net_base_assembler assembler = {0, 0};
+    if (net_base_assembler_add(&assembler, runs, 4, 3, 2) != NET_BASE_DONE) return 1;
+    struct net_base_front_length front = net_base_assembler_add_then_remove_front(&assembler, runs, 4, 0, 3);
+    if (front.status != NET_BASE_DONE) return 2;
     if (front.length != 5 || assembler.used != 0) return 3;
-    for (size_t i = 1; i <= 4; i++) {
-        if (net_assembler_add(&assembler, runs, 4, 10 * i, 3) != NET_DONE) return 4;
+    for (uint64_t i = 1; i <= 4; i++) {
+        if (net_base_assembler_add(&assembler, runs, 4, 10 * i, 3) != NET_BASE_DONE) return 4;
     }
-    if (net_assembler_add(&assembler, runs, 4, 50, 3) != NET_TOO_MANY_RUNS) return 5;
+    if (net_base_assembler_add(&assembler, runs, 4, 50, 3) != NET_BASE_TOO_MANY_RUNS) return 5;
     return 0;
 }
 
 /* Segments of a stream arrive in any order, and its bytes are read in order. */
 static int run_receiver(void) {
     static uint8_t storage[8];
-    static struct net_run runs[4];
-    struct net_receiver receiver = {.first = 100};
-    struct net_kept_counts counts;
+    static struct net_base_run runs[4];
+    struct net_base_receiver receiver = {.first = 100};
+    struct net_base_kept_counts counts;
     uint8_t into[8];
     const uint8_t *bytes = (const uint8_t *)"abcdefgh";
-    if (net_receiver_segment(&receiver, storage, 8, runs, 4, 103, bytes + 3, 5, &counts)
-        != NET_DONE)
+    if (net_base_receiver_segment(&receiver, storage, 8, runs, 4, 103, bytes + 3, 5, &counts)
+        != NET_BASE_DONE)
         return 1;
-    if (net_receiver_segment(&receiver, storage, 8, runs, 4, 100, bytes, 4, &counts) != NET_DONE)
+    if (net_base_receiver_segment(&receiver, storage, 8, runs, 4, 100, bytes, 4, &counts) != NET_BASE_DONE)
         return 2;
     if (counts.kept != 4 || counts.queued != 8) return 3;
-    if (net_receiver_read(&receiver, storage, 8, into, 8) != 8) return 4;
+    if (net_base_receiver_read(&receiver, storage, 8, into, 8) != 8) return 4;
     if (!are_equal(into, "abcdefgh", 8)) return 5;
     return 0;
 }
@@ -104,10 +105,10 @@ static int run_receiver(void) {
 /* Moments, and source ports. */
 static int run_numbers(void) {
     int64_t later = 0;
-    if (!net_instant_add(1000000, 250000, &later) || later != 1250000) return 1;
-    if (net_instant_add(INT64_MAX, 1, &later) || later != 1250000) return 2;
+    if (!net_base_instant_add(1000000, 250000, &later) || later != 1250000) return 1;
+    if (net_base_instant_add(INT64_MAX, 1, &later) || later != 1250000) return 2;
     uint64_t state = 0;
-    if (net_rand_source_port(&state) != 1358) return 3;
+    if (net_base_rand_source_port(&state) != 1358) return 3;
     return 0;
 }
 
@@ -121,7 +122,7 @@ static int run(void) {
     return 0;
 }
 
-static long call_system(long number, long one, const void *two, size_t three) {
+static long call_system(long number, long one, const void *two, uint64_t three) {
     long result;
     __asm__ volatile("syscall"
                      : "=a"(result)
@@ -138,19 +139,19 @@ static void paint_stack(void) {
     for (unsigned char *at = stack; at < in_use; at++) *at = PAINT;
 }
 
-static size_t stack_used(void) {
-    size_t unused = 0;
+static uint64_t stack_used(void) {
+    uint64_t unused = 0;
     while (stack[unused] == PAINT) unused++;
     return STACK_SIZE - unused;
 }
 
-static void print(const char *text, size_t size) {
+static void print(const char *text, uint64_t size) {
     call_system(WRITE, 1, text, size);
 }
 
-static void print_number(size_t number) {
+static void print_number(uint64_t number) {
     char digits[20];
-    size_t at = sizeof digits;
+    uint64_t at = sizeof digits;
     do digits[--at] = (char)('0' + number % 10);
     while (number /= 10);
     print(digits + at, sizeof digits - at);
@@ -159,9 +160,9 @@ static void print_number(size_t number) {
 __attribute__((noreturn, used)) static void start(void) {
     paint_stack();
     int failed = run();
-    size_t used = stack_used();
+    uint64_t used = stack_used();
     print("bare: ", 6);
-    print_number((size_t)failed);
+    print_number((uint64_t)failed);
     print(" failed, ", 9);
     print_number(used);
     print(" bytes of stack\n", 16);

@@ -1,0 +1,32 @@
+/* What a Cortex-M reads at reset: where the stack begins, and where to begin. A fault ends the
+ * program with an error, by semihosting.
+ */
+extern void _start(void);
+extern char __StackTop[];
+
+__attribute__((weak)) void on_tick(void) {}
+
+static void fault(void) {
+    register unsigned call __asm__("r0") = 0x18;   /* to end the program */
+    register unsigned why __asm__("r1") = 0x20023; /* by an error */
+    __asm__ volatile("bkpt 0xab" ::"r"(call), "r"(why));
+    for (;;) {
+    }
+}
+
+/* A unit for floating-point numbers is off at reset. */
+static void reset(void) {
+#ifdef __ARM_FP
+    *(volatile unsigned *)0xe000ed88 |= 0xfu << 20;
+#endif
+    _start();
+}
+
+__attribute__((section(".vectors"), used)) static const void *const vectors[16] = {
+    __StackTop, reset, fault, fault, fault, fault, fault, fault,
+    0, 0, 0, fault, fault, 0, fault, on_tick,
+};
+
+/* newlib's start calls these. */
+void _init(void) {}
+void _fini(void) {}

@@ -1,0 +1,363 @@
+#!/usr/bin/env python3
+"""What c/targets.sh runs: programs over each archive, compiled by the target's compiler, and run by an emulator."""
+import argparse
+import concurrent.futures
+import dataclasses
+import os
+import pathlib
+import platform
+import re
+import shutil
+import subprocess
+import sys
+import tempfile
+
+HERE = pathlib.Path(__file__).resolve().parent
+C = HERE.parent
+ROOT = C.parent
+sys.path.insert(0, str(ROOT / "tools"))
+
+import archive  # noqa: E402
+import elf  # noqa: E402
+import ffi  # noqa: E402
+import sequence  # noqa: E402
+from targets import TARGETS  # noqa: E402
+
+FLAGS = ["-std=gnu11", "-O2", "-Wall", "-Wextra", "-Werror", "-ffunction-sections"]
+# Debian's package of each program that is run.
+PACKAGES = {
+    "x86_64-linux-gnu-gcc": "gcc-x86-64-linux-gnu libc6-dev-amd64-cross" if platform.machine() != "x86_64" else "gcc libc6-dev",
+    "qemu-x86_64-static": "qemu-user-static",
+    "clang": "clang",
+    "aarch64-linux-gnu-gcc": "gcc-aarch64-linux-gnu libc6-dev-arm64-cross",
+    "arm-linux-gnueabihf-gcc": "gcc-arm-linux-gnueabihf libc6-dev-armhf-cross",
+    "riscv64-linux-gnu-gcc": "gcc-riscv64-linux-gnu libc6-dev-riscv64-cross",
+    "arm-none-eabi-gcc": "gcc-arm-none-eabi libnewlib-arm-none-eabi",
+    "riscv64-unknown-elf-gcc": "gcc-riscv64-unknown-elf picolibc-riscv64-unknown-elf",
+    "qemu-aarch64-static": "qemu-user-static",
+    "qemu-arm-static": "qemu-user-static",
+    "qemu-riscv64-static": "qemu-user-static",
+    "qemu-system-arm": "qemu-system-arm",
+    "qemu-system-riscv32": "qemu-system-misc",
+    "qemu-system-riscv64": "qemu-system-misc",
+    "qemu-system-x86_64": "qemu-system-x86",
+}
+
+
+@dataclasses.dataclass(frozen=True)
+class Way:
+    """How programs are compiled and run for a target: the compiler and its words, those for linking, the emulator's. A
+    bare one has no operating system, so that a program gets the words of its command line when it is compiled."""
+
+    target: str
+    title: str
+    compiler: tuple
+    linking: tuple
+    emulator: tuple
+    bare: bool = False
+    small: bool = False
+
+    def name(self):
+        return f"{self.target} ({self.title})"
+
+    def programs(self):
+        return [self.compiler[0], *self.emulator[:1]]
+
+
+def linux(target, compiler, emulator):
+    is_own = compiler.startswith(platform.machine())
+    return Way(target, "this machine" if is_own else emulator, (compiler,), ("-static",), () if is_own else (emulator,))
+
+
+def memory(rom, rom_size, ram, ram_size):
+    return [f"-Wl,--defsym={name}={value:#x}"
+            for name, value in (("rom", rom), ("rom_size", rom_size), ("ram", ram), ("ram_size", ram_size))]
+
+
+def cortex_m(target, machine, words, memory_words, small=False):
+    return Way(target, f"qemu-system-arm -M {machine}", ("arm-none-eabi-gcc", "-mthumb", *words),
+               ("--specs=rdimon.specs", "-nostartfiles", "-Wl,--gc-sections", f"-T{HERE}/cortex_m.ld", *memory_words),
+               ("qemu-system-arm", "-M", machine, "-nographic", "-semihosting", "-kernel"), True, small)
+
+
+def riscv(target, bits, words):
+    places = {"flash": 0x80000000, "flash_size": 0x400000, "ram": 0x80400000, "ram_size": 0x400000, "stack_size": 0x10000}
+    return Way(target, f"qemu-system-riscv{bits} -M virt",
+               ("riscv64-unknown-elf-gcc", "--specs=picolibc.specs", "-mcmodel=medany", *words),
+               ("--oslib=semihost", "-Wl,--gc-sections", *[f"-Wl,--defsym=__{name}={value:#x}" for name, value in places.items()]),
+               (f"qemu-system-riscv{bits}", "-M", "virt", "-nographic", "-bios", "none", "-semihosting", "-kernel"), True)
+
+
+LARGE = memory(0, 0x400000, 0x20000000, 0x400000)
+MICROBIT = memory(0, 0x40000, 0x20000000, 0x4000)
+SECURE = memory(0x10000000, 0x400000, 0x38000000, 0x200000)
+WAYS = [
+    linux("x86_64", "x86_64-linux-gnu-gcc", "qemu-x86_64-static"),
+    linux("x86_64-none", "x86_64-linux-gnu-gcc", "qemu-x86_64-static"),
+    linux("aarch64", "aarch64-linux-gnu-gcc", "qemu-aarch64-static"),
+    linux("aarch64-none", "aarch64-linux-gnu-gcc", "qemu-aarch64-static"),
+    cortex_m("thumbv6m", "microbit", ["-march=armv6s-m"], MICROBIT, small=True),
+    cortex_m("thumbv6m", "mps2-an385", ["-march=armv6s-m"], LARGE),
+    cortex_m("thumbv6m", "mps2-an505", ["-march=armv8-m.base"], SECURE),
+    cortex_m("thumbv7m", "mps2-an385", ["-march=armv7-m"], LARGE),
+    cortex_m("thumbv7em", "mps2-an386", ["-march=armv7e-m"], LARGE),
+    cortex_m("thumbv7em-hf", "mps2-an386", ["-march=armv7e-m+fp", "-mfloat-abi=hard"], LARGE),
+    cortex_m("thumbv8m.main", "mps2-an505", ["-march=armv8-m.main"], SECURE),
+    cortex_m("thumbv8m.main-hf", "mps2-an505", ["-march=armv8-m.main+fp", "-mfloat-abi=hard"], SECURE),
+    linux("armv7", "arm-linux-gnueabihf-gcc", "qemu-arm-static"),
+    riscv("riscv32imac", 32, ["-march=rv32imac", "-mabi=ilp32"]),
+    linux("riscv64gc", "riscv64-linux-gnu-gcc", "qemu-riscv64-static"),
+    riscv("riscv64gc", 64, ["-march=rv64gc", "-mabi=lp64d"]),
+]
+
+
+# A PC without an operating system. A program ends the emulator by a port, with a status that isn't 0: 33 if all is right.
+PC = Way("x86_64-none", "qemu-system-x86_64",
+         ("x86_64-linux-gnu-gcc", "-ffreestanding", "-fno-stack-protector", "-fno-pie", "-mno-red-zone", "-mgeneral-regs-only"),
+         ("-nostdlib", "-static", "-no-pie", "-Wl,--build-id=none,--gc-sections", f"-Wl,-T,{C}/interrupt/x86_64.ld"),
+         ("qemu-system-x86_64", "-display", "none", "-debugcon", "stdio", "-no-reboot", "-device",
+          "isa-debug-exit,iobase=0xf4,iosize=4", "-kernel"))
+PC_STATUS = 33
+# Where the example with an interrupt runs.
+INTERRUPTED = [next(way for way in WAYS if way.target == "thumbv7em"), PC]
+
+
+class Failed(Exception):
+    """A program wasn't built, or didn't end as it should."""
+
+
+def shell(words, seconds=600):
+    """Runs a command. Returns its status and all that it said."""
+    try:
+        done = subprocess.run([str(word) for word in words], stdin=subprocess.DEVNULL, stdout=subprocess.PIPE,
+                              stderr=subprocess.STDOUT, timeout=seconds, text=True, errors="replace")
+    except subprocess.TimeoutExpired:
+        return 1, f"not done after {seconds} seconds"
+    return done.returncode, done.stdout.replace("\r", "")
+
+
+def has_wide_numbers(way):
+    return TARGETS[way.target].bits == 64
+
+
+def wide_compiler(way):
+    """Clang with the headers of a target's gcc: it has numbers of 128 bits on 32 bits too."""
+    _, said = shell([*way.compiler, "-E", "-v", "-x", "c", os.devnull])
+    folders = re.search(r"search starts here:\n((?: .*\n)+)", said[said.index("#include <"):])[1].split()
+    words = [word for word in TARGETS[way.target].words.split() if not word.startswith("-mcpu")]
+    return ["clang", *words, "-nostdlibinc", *[word for folder in folders for word in ("-isystem", folder)],
+            "-D__INT32_C(n)=n", "-D__UINT32_C(n)=n##U", "-D__INT64_C(n)=n##LL", "-D__UINT64_C(n)=n##ULL", "-D__int128=_BitInt(128)", "-Wno-bit-int-extension", "-Wno-keyword-macro", "-Wno-builtin-macro-redefined"]
+
+
+class Programs:
+    """Builds programs for one way, and runs them."""
+
+    def __init__(self, way, folder):
+        self.way, self.folder = way, folder
+        self.folder.mkdir(parents=True, exist_ok=True)
+        self.archive, _ = archive.kept(TARGETS[way.target])
+
+    def compiled(self, source, words=()):
+        """An object file of a source; `main` has another name where the harness has its own."""
+        target = self.folder / (f"{source.name}.o")
+        compiler = list(self.way.compiler)
+        if source.suffix == ".c" and "__int128" in source.read_text() and not has_wide_numbers(self.way):
+            compiler = wide_compiler(self.way)
+        extra = ["-Dmain=program", "-D__int64_t_defined=1", f"-I{HERE}/bare"] if self.way.bare else []
+        status, said = shell([*compiler, *FLAGS, *extra, *words, f"-I{C}", f"-I{C}/fuzz", "-c", source, "-o", target])
+        if status:
+            raise Failed(f"{source.name} isn't compiled: {said[:1500]}")
+        return target
+
+    def harness(self, words):
+        """What a bare program has besides: its words, its start."""
+        if not self.way.bare:
+            return []
+        quoted = "".join(f'"{word}", ' for word in words)
+        start = self.folder / "start.o"
+        sources = [(HERE / "start.c", start, [f"-DWORDS={quoted}"])]
+        if self.way.compiler[0] == "arm-none-eabi-gcc":
+            sources.append((HERE / "cortex_m.c", self.folder / "cortex_m.o", []))
+        for source, target, more in sources:
+            status, said = shell([*self.way.compiler, *FLAGS, *more, "-c", source, "-o", target])
+            if status:
+                raise Failed(f"{source.name} isn't compiled: {said[:1500]}")
+        found = [target for _, target, _ in sources]
+        if self.way.compiler[0] == "arm-none-eabi-gcc":
+            _, crt0 = shell([*self.way.compiler, "-print-file-name=rdimon-crt0.o"])
+            found.insert(0, crt0.strip())
+        return found
+
+    def run(self, name, sources, words=(), flags=(), emulated=()):
+        """What a program prints that ends with status 0."""
+        program = self.folder / name
+        objects = [self.compiled(source, flags) for source in sources]
+        status, said = shell([*self.way.compiler, *self.way.linking, *self.harness(words), *objects, self.archive, "-o", program])
+        if status:
+            raise Failed(f"{name} isn't linked: {said[:1500]}")
+        emulator = [*self.way.emulator[:1], *emulated, *self.way.emulator[1:]]
+        status, said = shell([*emulator, program, *([] if self.way.bare else words)])
+        if status != (PC_STATUS if self.way is PC else 0):
+            raise Failed(f"{name} ended with status {status}: {said[-500:]}")
+        return said
+
+
+def stepping(emulator):
+    """The word for an emulator to take one instruction at a time: an interrupt may come between any two."""
+    _, said = shell([emulator, "-help"])
+    return ["-accel", "tcg,one-insn-per-tb=on"] if "one-insn-per-tb" in said else ["-singlestep"]
+
+
+def interrupted(programs, flags=()):
+    """What the example with an interrupt prints."""
+    names = ["x86_64.S", "interrupt.c", "x86_64.c"] if programs.way is PC else ["interrupt.c", "cortex_m.c"]
+    sources = [C / "interrupt" / name for name in names]
+    return last(programs.run("interrupt", sources, (), flags, stepping(programs.way.emulator[0]))), None
+
+
+def last(said):
+    return (said.strip().splitlines() or ["(nothing)"])[-1]
+
+
+def tests(programs, generated, options):
+    """Runs the tests. Returns what is printed of them, and the digest."""
+    way = programs.way
+    checks = re.search(r"(\d+) checks", programs.run("exports", [C / "exports.c"]))
+    if not checks:
+        raise Failed("exports.c counts no checks")
+    done = [f"{checks[1]} checks"]
+    if not options.quick:
+        if programs.run("hosted", [C / "hosted.c"]) != (C / "hosted.stdout").read_text():
+            raise Failed("hosted.c prints something else than hosted.stdout")
+        done.append("hosted.c as it should")
+        if not way.small:
+            calls = 200_000 if way.bare else options.calls
+            said = last(programs.run("fuzz", sorted((C / "fuzz").glob("*.c")), ["1", str(calls)]))
+            if not said.endswith("0 faults"):
+                raise Failed(f"fuzz: {said}")
+            done.append(f"{calls:,} calls of the fuzzer")
+            files = [str(ROOT / "crates/net_cases" / name) for name in ("stdin", "stdout")]
+            rows = re.search(r"^rows: (\d+) made", programs.run("rows", sorted((C / "rows").glob("*.c")), files), flags=re.M)
+            if not rows:
+                raise Failed("rows counts none")
+            done.append(f"{int(rows[1]):,} rows")
+    calls = 20_000 if options.quick else options.calls
+    said = last(programs.run("sequence", [generated / "sequence.c"], [str(calls)]))
+    digest = re.search(r"digest ([0-9a-f]{16})$", said)
+    if not digest:
+        raise Failed(f"sequence: {said}")
+    done.append(f"{calls:,} calls with digest {digest[1]}")
+    return ", ".join(done), digest[1]
+
+
+def stacks(programs, generated):
+    """Bytes of stack of the export that takes most and of the one after it, as painted."""
+    flags = ["-DSTACK", "-Wno-unused-function"]
+    said = programs.run("stack", [generated / "sequence.c", generated / "empty.c"], ["300000"], flags)
+    found = sorted(((int(size), name) for size, name in re.findall(r"^stack: (\d+) (\w+)$", said, flags=re.M)), reverse=True)
+    if not found:
+        raise Failed(f"stack: {last(said)}")
+    return found[:2]
+
+
+def missing(ways):
+    """The packages of programs that aren't there, and the ways that can't be run."""
+    wanted = {program for way in ways for program in way.programs()}
+    if any(not has_wide_numbers(way) for way in ways):
+        wanted.add("clang")
+    gone = {program for program in wanted if not shutil.which(program)}
+    return gone, [way for way in ways if gone & set(way.programs())]
+
+
+def each(ways, act):
+    """Does something for several ways at once. Yields each with what came out, or how it failed."""
+    with concurrent.futures.ThreadPoolExecutor(os.cpu_count()) as pool:
+        runs = [(way, pool.submit(act, index, way)) for index, way in enumerate(ways)]
+        for way, run in runs:
+            try:
+                yield way, run.result(), None
+            except Failed as failure:
+                yield way, None, failure
+
+
+def print_table(names, stack_of):
+    """What each archive has, and what was seen of its stack."""
+    print("| Target | For | Made by | Level | Code, bytes | Wants | Stack, bytes | Ran on |")
+    print("|---|---|---|---|---:|---|---:|---|")
+    for target in (TARGETS[name] for name in names):
+        found = elf.objects(archive.kept(target)[0])
+        wanted = " ".join(f"`{name}`" for name in sorted(set().union(*[it.wanted for it in found])))
+        seen = [(way, most) for way, most in stack_of.items() if way.target == target.name]
+        stack = "; ".join(str(size) for size, _ in seen[0][1]) if seen else "not run"
+        print(f"| `{target.name}` | {target.title} | {target.made} | `{target.level}` | {sum(it.code_size() for it in found):,} "
+              f"| {wanted} | {stack} | {', '.join(way.title for way, _ in seen)} |")
+
+
+def packages_of(programs):
+    return " ".join(sorted({package for program in programs for package in PACKAGES[program].split()}))
+
+
+def report_missing(gone, left_out):
+    """Says in a line what isn't there, and how it is installed."""
+    what = ", ".join(way.name() for way in left_out) or "the fuzzer on 32 bits"
+    print(f"targets: not run: {what}: there is no {', '.join(sorted(gone))}: apt-get install -y {packages_of(gone)}")
+
+
+def main():
+    parser = argparse.ArgumentParser(prog="targets.sh")
+    parser.add_argument("--quick", action="store_true")
+    parser.add_argument("--table", action="store_true")
+    parser.add_argument("--packages", action="store_true")
+    parser.add_argument("--calls", type=int, default=1_000_000)
+    parser.add_argument("targets", nargs="*")
+    options = parser.parse_args()
+    names = options.targets or list(TARGETS)
+    if unknown := set(names) - set(TARGETS):
+        sys.exit(f"targets: no target {' '.join(sorted(unknown))}: there are {' '.join(TARGETS)}")
+    ways = [way for way in WAYS if way.target in names]
+    interrupts = [] if options.table else [way for way in INTERRUPTED if way.target in names]
+    gone, left_out = missing(ways + interrupts)
+    if options.packages:
+        print(packages_of(gone))
+        return
+    archive.check_folders()
+    for name in names:
+        archive.compare(TARGETS[name], archive.kept(TARGETS[name])[0])
+    status, digests, stack_of = 0, set(), {}
+    with tempfile.TemporaryDirectory(prefix="net_base_") as folder:
+        generated = pathlib.Path(folder) / "generated"
+        generated.mkdir()
+        library = ffi.Library(ROOT / "crates/net_ffi")
+        (generated / "sequence.c").write_text(sequence.sequence(library))
+        (generated / "empty.c").write_text(sequence.empty(library))
+
+        def act(index, way):
+            programs = Programs(way, pathlib.Path(folder) / str(index))
+            if options.table:
+                return stacks(programs, generated)
+            return interrupted(programs) if index >= len(there) else tests(programs, generated, options)
+
+        there = [way for way in ways if way not in left_out]
+        for way, result, failure in each(there + [way for way in interrupts if way not in left_out], act):
+            if failure:
+                print(f"{way.name()}: FAILED: {failure}", flush=True)
+                status = 1
+            elif options.table:
+                stack_of[way] = result
+            else:
+                text, digest = result
+                print(f"{way.name()}: {text}", flush=True)
+                digests |= {digest} - {None}
+    if options.table:
+        print_table(names, stack_of)
+    if len(digests) > 1:
+        print(f"targets: the digests differ: {' '.join(sorted(digests))}")
+        status = 1
+    if gone:
+        report_missing(gone, left_out)
+        status = status or 2
+    sys.exit(status)
+
+
+if __name__ == "__main__":
+    main()

@@ -1,0 +1,266 @@
+#!/usr/bin/env python3
+"""Plants faults in what makes and checks the archives, and sees each of them: python3 tools/archive_faults.py
+
+- Lines of the module are changed, in ways that depend on the width of a pointer: tools/retarget.py has to refuse each.
+- A shim swaps two arguments: the test of the exports, or the digest of the sequence, has to differ.
+- Data layouts are another's: 64-bit numbers aligned to 4 bytes, big-endian.
+- An archive is changed, or is that of another target: `archive.py --digest` has to say so.
+- A program doesn't mask its interrupt: bytes have to be wrong.
+- rust/build.rs is run for each target that rustc knows: it has to choose the archive of `CHOICES`, or none.
+
+It builds what it needs, so it needs the kit, and what sh c/targets.sh needs. It isn't part of the gate.
+"""
+import collections
+import os
+import pathlib
+import re
+import shutil
+import subprocess
+import sys
+import tempfile
+
+import archive
+import ffi
+import kit
+import retarget
+import sequence
+import shim
+from targets import TARGETS
+
+sys.path.insert(0, str(kit.ROOT / "c/targets"))
+import run  # noqa: E402
+
+LOAD = r"^  (%\w+) = load ptr, ptr (%\w+), align 8, !noundef !1\n"
+STORE = r"^  store ptr (%\w+), ptr (%\w+), align 8\n"
+MEMORY = r"  %mutant = alloca [8 x i8], align 8\n"
+MUTANTS = {
+    "a pointer read as a number": (LOAD, r"\g<0>  %mutant = load i64, ptr \2, align 8\n"),
+    "its upper half read": (
+        LOAD, r"\g<0>  %mutant0 = getelementptr i8, ptr \2, i64 4\n  %mutant = load i32, ptr %mutant0, align 4\n"),
+    "a pointer written as a number": (STORE, r"\g<0>  store i64 0, ptr \2, align 8\n"),
+    "its upper half cleared": (
+        STORE, r"\g<0>  %mutant = getelementptr i8, ptr \2, i64 4\n"
+        r"  call void @llvm.memset.p0.i64(ptr %mutant, i8 0, i64 4, i1 false)\n"),
+    "a pointer copied by bytes": (
+        STORE, rf"\g<0>{MEMORY}  call void @llvm.memmove.p0.p0.i64(ptr %mutant, ptr \2, i64 4, i1 false)\n"),
+    "the end of a pointer copied with what comes after it": (
+        STORE, rf"\g<0>{MEMORY}  %mutant0 = getelementptr i8, ptr \2, i64 4\n"
+        r"  call void @llvm.memmove.p0.p0.i64(ptr %mutant, ptr %mutant0, i64 8, i1 false)\n"),
+    "a pointer copied by a size that isn't known": (
+        STORE, rf"\g<0>{MEMORY}  %mutant0 = load i64, ptr %mutant, align 8\n"
+        r"  call void @llvm.memmove.p0.p0.i64(ptr %mutant, ptr \2, i64 %mutant0, i1 false)\n"),
+    "more than a pointer in memory for one": (
+        STORE, r"\g<0>  %mutant = alloca ptr, align 8\n"
+        r"  call void @llvm.memset.p0.i64(ptr %mutant, i8 0, i64 8, i1 false)\n"),
+    "a pair whose layout depends on a pointer": (STORE, r"\g<0>  %mutant = load { ptr, i8 }, ptr \2, align 8\n"),
+    "a number made a pointer": (r"^  (%\w+) = ptrtoint ptr (%\w+) to i64\n", r"\g<0>  %mutant = inttoptr i64 \1 to ptr\n"),
+    "a pointer kept with a caller": (
+        r"(define internal [^@]*@net_core_ring_clear\(ptr noundef %a0\) #\d+ \{\nstart:\n)",
+        r"\1  %mutant = alloca i64, align 8\n  store ptr %mutant, ptr %a0, align 8\n"),
+    "an alignment of 16": (r"^  (%\w+) = load i64, ptr (%\w+), align 8", r"  \1 = load i64, ptr \2, align 16"),
+    "another intrinsic": (r"^  call void @llvm\.trap\(\)\n", r"  call void @llvm.debugtrap()\n"),
+    "pointers compared": (r"^  (%\w+) = icmp eq ptr (%\w+), null\n", r"  \1 = icmp ult ptr \2, null\n"),
+    "another address space": (LOAD, r"  \1 = load ptr, ptr addrspace(1) \2, align 8\n"),
+    "assembly": (r"^  call void @llvm\.trap\(\)\n", r'  call void asm "", ""()\n'),
+    "a vector": (r"^  (%\w+) = load i64, ptr (%\w+), align 8", r"  \1 = load <2 x i32>, ptr \2, align 8"),
+    "a function that calls itself": (
+        r"^(define internal void (@net_core_ring_clear)\(ptr noundef (%a0)\) #\d+ \{\nstart:\n)",
+        r"\1  call void \2(ptr \3)\n"),
+    "a global": (r"\A", r"@mutant = global i64 0\n"),
+    "assembly of the module": (r"\A", 'module asm "nop"\n'),
+}
+# Which archive rust/build.rs chooses; no other target has one.
+LINUX = ("gnu", "musl", "ohos")
+CHOICES = {
+    **{f"x86_64-unknown-linux-{abi}": "x86_64" for abi in (*LINUX, "gnuasan", "none")},
+    "x86_64-unikraft-linux-musl": "x86_64",
+    "x86_64-unknown-none": "x86_64-none",
+    **{f"aarch64-unknown-linux-{abi}": "aarch64" for abi in LINUX},
+    **{f"aarch64{kind}-unknown-none{abi}": "aarch64-none" for kind in ("", "v8r") for abi in ("", "-softfloat")},
+    **{f"armv7-unknown-linux-{abi}eabihf": "armv7" for abi in ("gnu", "musl", "uclibc")},
+    **{f"thumbv7neon-unknown-linux-{abi}eabihf": "armv7" for abi in ("gnu", "musl")},
+    "thumbv6m-none-eabi": "thumbv6m",
+    "thumbv8m.base-none-eabi": "thumbv6m",
+    "thumbv7m-none-eabi": "thumbv7m",
+    "thumbv7em-none-eabi": "thumbv7em",
+    "thumbv7em-none-eabihf": "thumbv7em-hf",
+    "thumbv8m.main-none-eabi": "thumbv8m.main",
+    "thumbv8m.main-none-eabihf": "thumbv8m.main-hf",
+    "riscv32imc-unknown-none-elf": "riscv32imac",
+    "riscv32imac-unknown-none-elf": "riscv32imac",
+    "riscv64gc-unknown-linux-gnu": "riscv64gc",
+    "riscv64gc-unknown-linux-musl": "riscv64gc",
+    "riscv64gc-unknown-none-elf": "riscv64gc",
+}
+missed = 0
+
+
+def report(fault, seen):
+    """Counts a fault, and prints what saw it."""
+    global missed
+    missed += not seen
+    print(f"{'seen' if seen else 'NOT SEEN'}: {fault}{': ' + str(seen)[:150] if seen else ''}", flush=True)
+
+
+def refusal(act, *arguments):
+    """What a call says that refuses."""
+    try:
+        act(*arguments)
+    except (retarget.Refused, run.Failed, SystemExit) as error:
+        return " ".join(str(error).split())
+    return ""
+
+
+def mutants(text):
+    """Changes of the module, each at several places."""
+    rewritten, _ = retarget.rewritten(text)
+
+    def checked(mutant):
+        functions = retarget.functions_of(mutant)
+        retarget.check_outside(mutant)
+        retarget.check_accesses(functions, collections.Counter())
+        retarget.check_calls(functions)
+        retarget.check_cells(functions, collections.Counter())
+
+    checked(rewritten)
+    for fault, (pattern, by) in MUTANTS.items():
+        found = list(re.finditer(pattern, rewritten, flags=re.M))
+        for at in sorted({0, 1, len(found) // 3, len(found) // 2, len(found) - 1} & set(range(len(found)))):
+            match = found[at]
+            mutant = rewritten[: match.start()] + match.expand(by) + rewritten[match.end() :]
+            report(f"{fault}, {at + 1} of {len(found)}", refusal(checked, mutant))
+        if not found:
+            report(f"{fault}: there is no such line", "")
+
+
+def layouts(folder):
+    """Data layouts of processors that can't have an archive."""
+    (folder / "empty.c").write_text("int x;\n")
+    for triple in ("i686-unknown-none", "armebv7-unknown-none-eabi", "powerpc64-unknown-linux-gnu"):
+        kit.clang([f"--target={triple}", "-S", "-emit-llvm", folder / "empty.c", "-o", folder / "empty.ll"])
+        layout = re.search(r'^target datalayout = "(.*)"$', (folder / "empty.ll").read_text(), flags=re.M)[1]
+        report(f"the layout of {triple}", refusal(retarget.check_layout, layout))
+
+
+def shims(build, folder):
+    """A shim that swaps two arguments of one type, in several exports."""
+    library = ffi.Library(kit.CRATE)
+    right = shim.shim(library)
+    (folder / "sequence.c").write_text(sequence.sequence(library))
+    way = next(way for way in run.WAYS if way.target == "x86_64-none")
+    for name in ("ring_allocated", "assembler_add", "receiver_remove", "duration_saturating_sub", "sender_peek_at"):
+        call = re.search(rf"^    (?:return )?net_core_{name}\((.*)\);$", right, flags=re.M)
+        words = call[1].split(", ")
+        words[-2:] = words[:-3:-1]
+        (build.folder / "shim.c").write_text(right[: call.start(1)] + ", ".join(words) + right[call.end(1) :])
+        programs = run.Programs(way, folder / name)
+        programs.archive = folder / name / archive.ARCHIVE
+        build.by_clang(TARGETS[way.target], "-O1", programs.archive)
+        report(f"a shim that swaps the last arguments of {name}", refusal(programs.run, "exports", [run.C / "exports.c"]))
+    (build.folder / "shim.c").write_text(right)
+
+
+def archives(folder):
+    """Archives in the wrong place, or changed."""
+    right, archive.LIB = archive.LIB, folder / "lib"
+    shutil.copytree(right, archive.LIB)
+
+    def put(name, data, with_digest):
+        place, digest = archive.kept(TARGETS[name])
+        place.write_bytes(data)
+        if with_digest:
+            digest.write_text(archive.digest_line(place))
+        said = refusal(lambda: archive.compare(TARGETS[name], place))
+        shutil.rmtree(archive.LIB / name)
+        shutil.copytree(right / name, archive.LIB / name)
+        return said
+
+    def bytes_of(name):
+        return (right / name / archive.ARCHIVE).read_bytes()
+
+    kit_root = kit.ROOT
+    try:
+        kit.ROOT = folder  # so that places are named below it
+        (folder / "c").mkdir()
+        shutil.copy(kit_root / "c/net_base.h", folder / "c")
+        data = bytearray(bytes_of("thumbv7em"))
+        data[-20] ^= 1
+        report("an archive with a changed byte", put("thumbv7em", bytes(data), False))
+        for name, other in (("thumbv6m", "thumbv7m"), ("thumbv7em", "thumbv7em-hf"), ("x86_64", "x86_64-none"),
+                            ("x86_64", "aarch64"), ("riscv64gc", "riscv32imac")):
+            report(f"the archive and digest of {other} in the folder of {name}", put(name, bytes_of(other), True))
+    finally:
+        kit.ROOT, archive.LIB = kit_root, right
+
+
+def interrupts(folder):
+    """The example without a mask."""
+    for way in run.INTERRUPTED:
+        said = refusal(run.interrupted, run.Programs(way, folder / way.target), ["-DUNMASKED"])
+        report(f"an interrupt that isn't masked, {way.name()}", said)
+
+
+def rust_choices(folder):
+    """What rust/build.rs chooses for each target of rustc, and what it says to an archive that is wrong."""
+    program, crate, out = folder / "build", folder / "crate", folder / "out"
+    subprocess.run(["rustc", "--edition", "2021", kit.ROOT / "rust/build.rs", "-o", program], check=True)
+    (crate / "lib").mkdir(parents=True)
+    out.mkdir()
+
+    def ran(target, **more):
+        cfg = subprocess.run(["rustc", "--print", "cfg", "--target", target], capture_output=True, text=True).stdout
+        values = collections.defaultdict(list)
+        for line in cfg.splitlines():
+            name, _, value = line.partition("=")
+            values[f"CARGO_CFG_{name.upper()}"] += [value.strip('"')] * bool(value)
+        variables = {name: ",".join(value) for name, value in values.items()}
+        variables |= {"PATH": os.environ["PATH"], "HOME": os.environ.get("HOME", "/"), "TARGET": target, "OUT_DIR": str(out),
+                      "CARGO_MANIFEST_DIR": str(crate), "RUSTC": "rustc", **more}
+        done = subprocess.run([program], env=variables, capture_output=True, text=True)
+        return done.stdout + done.stderr
+
+    targets = subprocess.run(["rustc", "--print", "target-list"], capture_output=True, text=True).stdout.split()
+    wrong = []
+    for target in targets:
+        said = ran(target)
+        chosen = re.search(r"/lib/([\w.-]+)/libnet_ffi\.a: ", said)
+        if (chosen[1] if chosen else None) != CHOICES.get(target) or not (chosen or "cargo::warning=net-base: " in said):
+            wrong.append(target)
+    report(f"build.rs and {len(targets)} targets", "" if wrong else f"{len(set(targets) & set(CHOICES))} have an archive")
+    if wrong:
+        print(f"    another choice: {' '.join(wrong)}")
+    named = str(archive.LIB / "thumbv7em" / archive.ARCHIVE)
+    old = folder / "old.a"
+    old.write_bytes((archive.LIB / "x86_64" / archive.ARCHIVE).read_bytes().replace(b"net_base_abi_", b"net_base_abj_"))
+    text = folder / "text.a"
+    text.write_text("not an archive\n")
+    for fault, target, named, line in (
+            ("another target's archive", "x86_64-unknown-linux-gnu", named, "an archive of another target"),
+            ("another target's archive", "thumbv6m-none-eabi", named, "an archive of another target"),
+            ("another version's archive", "x86_64-unknown-linux-gnu", old, "an archive of another version"),
+            ("no archive", "x86_64-unknown-linux-gnu", text, "isn't an archive"),
+            ("no file", "x86_64-unknown-linux-gnu", folder / "none", "No such file"),
+            ("Windows", "x86_64-pc-windows-gnu", old, "in another way"),
+            ("UEFI", "x86_64-unknown-uefi", old, "in another way")):
+        said = ran(target, NET_BASE_ARCHIVE=str(named)).strip().splitlines()
+        report(f"build.rs, {target}, NET_BASE_ARCHIVE: {fault}", next((row for row in said if line in row), ""))
+
+
+def main():
+    with tempfile.TemporaryDirectory(prefix="net_base_") as name:
+        folder = pathlib.Path(name)
+        for part in ("shims", "archives", "interrupts", "rust", "build"):
+            (folder / part).mkdir()
+        rust_choices(folder / "rust")
+        archives(folder / "archives")
+        layouts(folder)
+        interrupts(folder / "interrupts")
+        build = archive.Build(folder / "build")
+        _ = build.core
+        mutants((build.folder / "module.ll").read_text())
+        shims(build, folder / "shims")
+    sys.exit(missed > 0)
+
+
+if __name__ == "__main__":
+    main()
