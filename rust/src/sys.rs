@@ -1,190 +1,186 @@
-//! The exports of the static library, as safe calls: the one file with `unsafe`.
+//! The exports of the static library, as safe calls: the one module with `unsafe`.
 //!
-//! An export tests the numbers that it is given, and refuses nonsense. What it relies on is that each
-//! pointer and length are those of a slice that lives during the call, and that no slice or number
-//! that is lent for writing overlaps another: so the arguments here are slices and references. Of an
-//! assembler it relies on the runs too: they are those of its head, and `Runs` keeps them so.
+//! `calls` has a function for each export, and says why it is sound. Here are the types whose parts an
+//! export wants sound together, and the conversion of numbers.
+#[rustfmt::skip]
+#[allow(dead_code)]
+mod calls;
+#[rustfmt::skip]
 #[allow(dead_code)]
 mod declarations;
 #[cfg(test)]
+#[rustfmt::skip]
 mod tests;
 
-use declarations::*;
+use declarations::{AssemblerHead, HeldRun};
+
+use core::slice;
 
 use crate::managed::ManagedSlice;
+use crate::time::Instant;
 
-pub(crate) use declarations::{PacketPlace, PacketsHead, Part, Place, Span};
+pub(crate) use calls::*;
+pub(crate) use declarations::{
+    FragmentsHead, PacketSlot, PacketsHead, ReceiverHead, RingHead, Run, ScoreboardHead, SenderHead,
+};
+pub(crate) use declarations::{
+    NET_BASE_DONE, NET_BASE_PRESENT, NET_BASE_REFUSED, NET_BASE_TOO_MANY_RUNS,
+};
+
+/// The version of these declarations: an archive of another one has no such symbol. `build.rs` looks for
+/// it too, since a linker may leave this out.
+#[used]
+static VERSION: unsafe extern "C" fn() -> u32 = declarations::net_base_abi_1;
+
+/// A number as it crosses: of 64 bits on every processor, aligned to 8 bytes.
+#[inline]
+const fn wide(number: usize) -> u64 {
+    const { assert!(usize::BITS <= u64::BITS && align_of::<u64>() == 8) };
+    number as u64
+}
+
+/// A number that came back: an index or a count of a storage, which fits, or one above all of them,
+/// such as `u64::MAX` for a refusal, which stays above all.
+#[inline]
+const fn narrow(number: u64) -> usize {
+    if number > usize::MAX as u64 {
+        usize::MAX
+    } else {
+        number as usize
+    }
+}
+
+/// Returns whether a range's end is a position of this crate's. Where those have 64 bits the export
+/// tests it, and this is no code.
+#[inline]
+const fn fits(offset: usize, size: usize) -> bool {
+    usize::BITS >= u64::BITS || offset <= usize::MAX - size
+}
 
 /// Why an export refused what it was given.
 #[derive(Debug, Clone, Copy, PartialEq, Eq)]
 pub(crate) enum Refusal {
     /// There would be more runs than there is room for.
     TooManyRuns,
-    /// The numbers are no call's: a range or a segment ends too high.
-    Nonsense,
+    /// Invalid arguments: a range or a segment ends above the greatest position.
+    Invalid,
 }
 
 /// Returns a value if the export's status says that the call was done.
 #[inline]
 fn done<T>(status: u32, value: T) -> Result<T, Refusal> {
     match status {
-        NET_DONE => Ok(value),
-        NET_TOO_MANY_RUNS => Err(Refusal::TooManyRuns),
-        _ => Err(Refusal::Nonsense),
+        NET_BASE_DONE => Ok(value),
+        NET_BASE_TOO_MANY_RUNS => Err(Refusal::TooManyRuns),
+        _ => Err(Refusal::Invalid),
     }
 }
 
-/// Calls on the place of a ring of `capacity` elements.
-impl Place {
-    pub(crate) const EMPTY: Place = Place { read_at: 0, length: 0 };
+impl RingHead {
+    pub(crate) const EMPTY: RingHead = RingHead { read_at: 0, length: 0 };
 
+    /// Returns the index of the first element of the queue.
     #[inline]
-    pub(crate) fn free(&self, capacity: usize, offset: usize, size: usize) -> Span {
-        // SAFETY: the export reads a place that is lent.
-        unsafe { net_ring_free(self, capacity, offset, size) }
+    pub(crate) fn start(&self) -> usize {
+        narrow(self.read_at)
     }
 
+    /// Returns how many elements are queued.
     #[inline]
-    pub(crate) fn queued(&self, capacity: usize, offset: usize, size: usize) -> Span {
-        // SAFETY: the export reads a place that is lent.
-        unsafe { net_ring_queued(self, capacity, offset, size) }
-    }
-
-    #[inline]
-    pub(crate) fn enqueue(&mut self, capacity: usize, count: usize) -> bool {
-        // SAFETY: the export writes a place that is lent for writing.
-        unsafe { net_ring_enqueue(self, capacity, count) }
-    }
-
-    #[inline]
-    pub(crate) fn dequeue(&mut self, capacity: usize, count: usize) -> bool {
-        // SAFETY: the export writes a place that is lent for writing.
-        unsafe { net_ring_dequeue(self, capacity, count) }
-    }
-
-    #[inline]
-    pub(crate) fn enqueue_one(&mut self, capacity: usize) -> usize {
-        // SAFETY: the export writes a place that is lent for writing.
-        unsafe { net_ring_enqueue_one(self, capacity) }
-    }
-
-    #[inline]
-    pub(crate) fn dequeue_one(&mut self, capacity: usize) -> usize {
-        // SAFETY: the export writes a place that is lent for writing.
-        unsafe { net_ring_dequeue_one(self, capacity) }
-    }
-
-    #[inline]
-    pub(crate) fn put(&mut self, capacity: usize, size: usize) -> Span {
-        // SAFETY: the export writes a place that is lent for writing.
-        unsafe { net_ring_put(self, capacity, size) }
-    }
-
-    #[inline]
-    pub(crate) fn put_contiguous(&mut self, capacity: usize, size: usize) -> Part {
-        // SAFETY: the export writes a place that is lent for writing.
-        unsafe { net_ring_put_contiguous(self, capacity, size) }
-    }
-
-    #[inline]
-    pub(crate) fn take(&mut self, capacity: usize, size: usize) -> Span {
-        // SAFETY: the export writes a place that is lent for writing.
-        unsafe { net_ring_take(self, capacity, size) }
-    }
-
-    #[inline]
-    pub(crate) fn take_contiguous(&mut self, capacity: usize, size: usize) -> Part {
-        // SAFETY: the export writes a place that is lent for writing.
-        unsafe { net_ring_take_contiguous(self, capacity, size) }
-    }
-
-    #[inline]
-    pub(crate) fn contiguous_window(&self, capacity: usize) -> usize {
-        // SAFETY: the export reads a place that is lent.
-        unsafe { net_ring_contiguous_window(self, capacity) }
-    }
-
-    #[inline]
-    pub(crate) fn rewind_if_empty(&mut self) {
-        // SAFETY: the export writes a place that is lent for writing.
-        unsafe { net_ring_rewind_if_empty(self) }
+    pub(crate) fn len(&self) -> usize {
+        narrow(self.length)
     }
 }
 
-/// Calls on the head of a packet queue of `slot_count` slots and `capacity` bytes.
+impl Span {
+    /// Lends the contiguous elements.
+    #[inline]
+    pub(crate) fn of<T>(self, storage: &[T]) -> &[T] {
+        &storage[self.from..][..self.contiguous]
+    }
+
+    /// Lends the contiguous elements.
+    #[inline]
+    pub(crate) fn of_mut<T>(self, storage: &mut [T]) -> &mut [T] {
+        &mut storage[self.from..][..self.contiguous]
+    }
+}
+
 impl PacketsHead {
-    pub(crate) const EMPTY: PacketsHead = PacketsHead { slots: Place::EMPTY, bytes: Place::EMPTY };
+    pub(crate) const EMPTY: PacketsHead =
+        PacketsHead { slots: RingHead::EMPTY, bytes: RingHead::EMPTY };
+}
 
-    /// Returns where a packet was placed, if there is room.
+impl PacketSlot {
+    /// Returns the slot of a packet, or of a gap, of so many bytes.
     #[inline]
-    pub(crate) fn place(
-        &mut self,
-        slot_count: usize,
-        capacity: usize,
-        size: usize,
-    ) -> Option<PacketPlace> {
-        // SAFETY: the export writes a head that is lent for writing.
-        let place = unsafe { net_packets_place(self, slot_count, capacity, size) };
-        (place.slot != usize::MAX).then_some(place)
-    }
-
-    /// Takes the last `count` bytes off the last packet.
-    #[inline]
-    pub(crate) fn shorten_last(
-        &mut self,
-        slot_count: usize,
-        capacity: usize,
-        count: usize,
-    ) -> bool {
-        // SAFETY: the export writes a head that is lent for writing.
-        unsafe { net_packets_shorten_last(self, slot_count, capacity, count) }
-    }
-
-    #[inline]
-    pub(crate) fn take(&mut self, slot_count: usize, capacity: usize, size: usize) -> usize {
-        // SAFETY: the export writes a head that is lent for writing.
-        unsafe { net_packets_take(self, slot_count, capacity, size) }
+    pub(crate) fn new(size: usize, is_gap: bool) -> PacketSlot {
+        PacketSlot { size: wide(size), is_gap: is_gap.into() }
     }
 }
 
-/// A head of an assembler and its runs. They are sound, as the exports require: an empty head is with
-/// any runs, and nothing but the exports changes them.
+impl PacketPlace {
+    /// Returns the place, if there is one: if there was room.
+    #[inline]
+    pub(crate) fn found(self) -> Option<PacketPlace> {
+        (self.slot != usize::MAX).then_some(self)
+    }
+}
+
+/// Returns the earliest of these moments, if there is one.
+#[inline]
+pub(crate) fn earliest(moments: &[Instant]) -> Option<i64> {
+    // SAFETY: a moment is `repr(transparent)`, and has the bytes of its number.
+    let numbers = unsafe { slice::from_raw_parts(moments.as_ptr().cast(), moments.len()) };
+    instant_earliest(numbers)
+}
+
+impl ScoreboardHead {
+    pub(crate) const EMPTY: ScoreboardHead = ScoreboardHead { reported: AssemblerHead::EMPTY };
+}
+
+impl AssemblerHead {
+    const EMPTY: AssemblerHead = AssemblerHead { used: 0, first_start: 0 };
+}
+
+/// The head and the runs of an assembler.
+///
+/// They are sound, as the exports require: an empty head is with any runs, and nothing but the exports
+/// changes them, each of which leaves them sound (its clause `sound`).
 #[derive(Debug, Clone)]
-pub(crate) struct Runs<const N: usize> {
+pub(crate) struct RawAssembler<const N: usize> {
     head: AssemblerHead,
     runs: [Run; N],
 }
 
-impl<const N: usize> Runs<N> {
-    pub(crate) const EMPTY: Runs<N> = Runs {
-        head: AssemblerHead { used: 0, first_start: 0 },
-        runs: [Run { start: 0, end: 0 }; N],
-    };
+impl<const N: usize> RawAssembler<N> {
+    pub(crate) const EMPTY: RawAssembler<N> =
+        RawAssembler { head: AssemblerHead::EMPTY, runs: [Run { start: 0, end: 0 }; N] };
 
     /// Returns how many runs there are.
     #[inline]
     pub(crate) fn count(&self) -> usize {
-        self.head.used
+        narrow(self.head.used)
     }
 
     #[inline]
     pub(crate) fn clear(&mut self) {
-        // SAFETY: the export writes a head that is lent for writing.
-        unsafe { net_assembler_clear(&mut self.head) }
+        self.head.clear()
     }
 
     #[inline]
     pub(crate) fn add(&mut self, offset: usize, size: usize) -> Result<(), Refusal> {
-        let (at, length) = (self.runs.as_mut_ptr(), self.runs.len());
-        // SAFETY: the runs are a slice that is lent for writing, sound with the head.
-        done(unsafe { net_assembler_add(&mut self.head, at, length, offset, size) }, ())
+        if !fits(offset, size) {
+            return Err(Refusal::Invalid);
+        }
+        // SAFETY: head and runs are sound, as the type says.
+        done(unsafe { self.head.add(&mut self.runs, offset, size) }, ())
     }
 
     #[inline]
     pub(crate) fn remove_front(&mut self) -> usize {
-        let (at, length) = (self.runs.as_mut_ptr(), self.runs.len());
-        // SAFETY: the runs are a slice that is lent for writing, sound with the head.
-        unsafe { net_assembler_remove_front(&mut self.head, at, length) }.length
+        // SAFETY: head and runs are sound, as the type says.
+        unsafe { self.head.remove_front(&mut self.runs) }.length
     }
 
     #[inline]
@@ -193,60 +189,131 @@ impl<const N: usize> Runs<N> {
         offset: usize,
         size: usize,
     ) -> Result<usize, Refusal> {
-        let (at, length) = (self.runs.as_mut_ptr(), self.runs.len());
-        let head = &mut self.head;
-        // SAFETY: the runs are a slice that is lent for writing, sound with the head.
-        let front = unsafe { net_assembler_add_then_remove_front(head, at, length, offset, size) };
+        if !fits(offset, size) {
+            return Err(Refusal::Invalid);
+        }
+        // SAFETY: head and runs are sound, as the type says.
+        let front = unsafe { self.head.add_then_remove_front(&mut self.runs, offset, size) };
         done(front.status, front.length)
     }
 
     #[inline]
     pub(crate) fn peek_front(&self) -> usize {
-        let (at, length) = (self.runs.as_ptr(), self.runs.len());
-        // SAFETY: the runs are a slice that is lent, sound with the head.
-        unsafe { net_assembler_peek_front(&self.head, at, length) }.length
+        // SAFETY: head and runs are sound, as the type says.
+        unsafe { self.head.peek_front(&self.runs) }.length
     }
 
     #[inline]
     pub(crate) fn contains(&self, position: usize) -> bool {
-        // SAFETY: the runs are a slice that is lent, sound with the head.
-        let status = unsafe {
-            net_assembler_contains(&self.head, self.runs.as_ptr(), self.runs.len(), position)
-        };
-        status == NET_PRESENT
+        // SAFETY: head and runs are sound, as the type says.
+        unsafe { self.head.contains(&self.runs, position) == NET_BASE_PRESENT }
+    }
+
+    #[inline]
+    pub(crate) fn is_same(&self, other: &Self) -> bool {
+        // SAFETY: heads and runs are sound, as the type says.
+        unsafe { self.head.is_same(&self.runs, &other.head, &other.runs) }
+    }
+
+    #[inline]
+    pub(crate) fn shift(&mut self, count: usize) {
+        // SAFETY: head and runs are sound, as the type says.
+        unsafe { self.head.shift(&mut self.runs, count) };
+    }
+
+    /// Returns the hole with a number, as start and end.
+    #[inline]
+    pub(crate) fn hole_at(&self, k: usize) -> Option<(usize, usize)> {
+        // SAFETY: head and runs are sound, as the type says.
+        let hole = unsafe { self.head.hole_at(&self.runs, k) };
+        (hole.start < hole.end).then(|| (narrow(hole.start), narrow(hole.end)))
     }
 
     /// Returns the run with a number, as start and end.
     #[inline]
     pub(crate) fn run_at(&self, k: usize) -> Option<(usize, usize)> {
-        // SAFETY: the runs are a slice that is lent, sound with the head.
-        let run =
-            unsafe { net_assembler_run_at(&self.head, self.runs.as_ptr(), self.runs.len(), k) };
-        (run.start < run.end).then_some((run.start, run.end))
-    }
-
-    #[cfg(test)]
-    fn is_sound(&self) -> bool {
-        // SAFETY: the runs are a slice that is lent.
-        unsafe { net_assembler_is_sound(&self.head, self.runs.as_ptr(), self.runs.len()) }
+        // SAFETY: head and runs are sound, as the type says.
+        let run = unsafe { self.head.run_at(&self.runs, k) };
+        (run.start < run.end).then(|| (narrow(run.start), narrow(run.end)))
     }
 }
 
-/// The storage, the head and the held runs of a receiver. They are sound, as the exports require: a
-/// head with nothing read, queued or held is with any storage and runs, and nothing but the exports
-/// changes them.
-#[derive(Debug)]
-pub(crate) struct Received<'a, const N: usize> {
+/// The storage, the head and the runs of a buffer of fragments.
+///
+/// They are sound, as the exports require: a head without runs and of no known size is with any storage
+/// and runs, and nothing but the exports changes head and runs, each of which leaves them sound (its
+/// clause `sound`).
+pub(crate) struct RawFragments<'a, const N: usize> {
+    storage: ManagedSlice<'a, u8>,
+    head: FragmentsHead,
+    runs: [Run; N],
+}
+
+impl<'a, const N: usize> RawFragments<'a, N> {
+    pub(crate) fn new(storage: ManagedSlice<'a, u8>, expires_at: i64) -> Self {
+        let present = AssemblerHead::EMPTY;
+        let head = FragmentsHead { present, has_total: 0, total: 0, expires_at };
+        RawFragments { storage, head, runs: [Run { start: 0, end: 0 }; N] }
+    }
+
+    #[inline]
+    pub(crate) fn storage(&self) -> &[u8] {
+        &self.storage
+    }
+
+    #[inline]
+    pub(crate) fn head(&self) -> &FragmentsHead {
+        &self.head
+    }
+
+    #[inline]
+    pub(crate) fn add(&mut self, offset: usize, data: &[u8]) -> u32 {
+        // SAFETY: head and runs are sound, as the type says.
+        unsafe { self.head.add(&mut self.storage, &mut self.runs, offset, data) }
+    }
+
+    #[inline]
+    pub(crate) fn set_total_size(&mut self, size: usize) -> u32 {
+        self.head.set_total_size(self.storage.len(), size)
+    }
+
+    /// Returns the packet's size, if all its bytes have arrived.
+    #[inline]
+    pub(crate) fn complete(&self) -> Option<usize> {
+        // SAFETY: head and runs are sound, as the type says.
+        let front = unsafe { self.head.complete(self.storage.len(), &self.runs) };
+        (front.status == NET_BASE_DONE).then_some(front.length)
+    }
+
+    #[inline]
+    pub(crate) fn reset(&mut self, expires_at: i64) {
+        self.head.reset(expires_at)
+    }
+}
+
+/// How many bytes of a segment were kept, and how many joined the queue.
+#[derive(Debug, Clone, Copy, PartialEq, Eq)]
+pub(crate) struct KeptCounts {
+    pub kept: usize,
+    pub queued: usize,
+}
+
+/// The storage, the head and the held runs of a receiver.
+///
+/// They are sound, as the exports require: a head with nothing read, queued or held is with any storage
+/// and runs, and nothing but the exports changes head and runs, each of which leaves them sound (its
+/// clauses `sound` and `state`).
+pub(crate) struct RawReceiver<'a, const N: usize> {
     storage: ManagedSlice<'a, u8>,
     head: ReceiverHead,
     runs: [Run; N],
 }
 
-impl<'a, const N: usize> Received<'a, N> {
+impl<'a, const N: usize> RawReceiver<'a, N> {
     pub(crate) fn new(storage: ManagedSlice<'a, u8>, first: u64) -> Self {
-        let held = AssemblerHead { used: 0, first_start: 0 };
-        let head = ReceiverHead { first, count_read: 0, place: Place::EMPTY, held };
-        Received { storage, head, runs: [Run { start: 0, end: 0 }; N] }
+        let (place, held) = (RingHead::EMPTY, AssemblerHead::EMPTY);
+        let head = ReceiverHead { first, count_read: 0, place, held };
+        RawReceiver { storage, head, runs: [Run { start: 0, end: 0 }; N] }
     }
 
     #[inline]
@@ -259,269 +326,58 @@ impl<'a, const N: usize> Received<'a, N> {
         &self.head
     }
 
+    /// Returns how many held runs there are.
     #[inline]
-    pub(crate) fn next(&self) -> u64 {
-        let mut next = 0;
-        // SAFETY: the export reads a head that is lent, and writes a number that is lent for writing.
-        unsafe { net_receiver_next(&self.head, &mut next) };
-        next
-    }
-
-    #[inline]
-    pub(crate) fn window(&self) -> usize {
-        // SAFETY: the export reads a head that is lent.
-        unsafe { net_receiver_window(&self.head, self.storage.len()) }
+    pub(crate) fn run_count(&self) -> usize {
+        narrow(self.head.held.used)
     }
 
     #[inline]
     pub(crate) fn segment(&mut self, position: u64, bytes: &[u8]) -> Result<KeptCounts, Refusal> {
-        let (storage, runs): (&mut [u8], &mut [Run]) = (&mut self.storage, &mut self.runs);
-        let mut counts = KeptCounts { kept: 0, queued: 0 };
-        // SAFETY: each pointer and length are those of a slice that is lent, for writing if written;
-        // head, storage and runs are sound.
-        let status = unsafe {
-            net_receiver_segment(
-                &mut self.head,
-                storage.as_mut_ptr(),
-                storage.len(),
-                runs.as_mut_ptr(),
-                runs.len(),
-                position,
-                bytes.as_ptr(),
-                bytes.len(),
-                &mut counts,
-            )
-        };
-        done(status, counts)
+        let mut counts = declarations::KeptCounts { kept: 0, queued: 0 };
+        let (head, storage, runs) = (&mut self.head, &mut self.storage, &mut self.runs);
+        // SAFETY: head, storage and runs are sound, as the type says.
+        let status = unsafe { head.segment(storage, runs, position, bytes, &mut counts) };
+        done(status, KeptCounts { kept: narrow(counts.kept), queued: narrow(counts.queued) })
     }
 
     #[inline]
     pub(crate) fn read(&mut self, into: &mut [u8]) -> usize {
-        let storage: &[u8] = &self.storage;
-        let (at, length) = (storage.as_ptr(), storage.len());
-        // SAFETY: each pointer and length are those of a slice that is lent, for writing if written.
-        unsafe { net_receiver_read(&mut self.head, at, length, into.as_mut_ptr(), into.len()) }
-    }
-
-    #[inline]
-    pub(crate) fn peek_slice(&self, into: &mut [u8]) -> usize {
-        let storage: &[u8] = &self.storage;
-        let (at, length) = (storage.as_ptr(), storage.len());
-        // SAFETY: each pointer and length are those of a slice that is lent, for writing if written.
-        unsafe { net_receiver_peek_slice(&self.head, at, length, into.as_mut_ptr(), into.len()) }
+        self.head.read(&self.storage, into)
     }
 
     /// Takes `count` bytes off the queue.
     #[inline]
     pub(crate) fn remove(&mut self, count: usize) -> bool {
-        // SAFETY: the export writes a head that is lent for writing.
-        unsafe { net_receiver_remove(&mut self.head, self.storage.len(), count) }
+        self.head.remove(self.storage.len(), count)
     }
 
     /// Returns the held run with a number, as start and end.
     #[inline]
     pub(crate) fn run_at(&self, k: usize) -> Option<(u64, u64)> {
-        let (storage, runs): (&[u8], &[Run]) = (&self.storage, &self.runs);
-        let (at, length) = (storage.as_ptr(), storage.len());
-        // SAFETY: each pointer and length are those of a slice that is lent; head, storage and runs are
-        // sound.
-        let run =
-            unsafe { net_receiver_run_at(&self.head, at, length, runs.as_ptr(), runs.len(), k) };
+        // SAFETY: head, storage and runs are sound, as the type says.
+        let run = unsafe { self.head.run_at(&self.storage, &self.runs, k) };
         (run.start < run.end).then_some((run.start, run.end))
     }
 
-    #[cfg(test)]
-    fn is_sound(&self) -> bool {
-        let (storage, runs): (&[u8], &[Run]) = (&self.storage, &self.runs);
-        let (at, length) = (storage.as_ptr(), storage.len());
-        // SAFETY: each pointer and length are those of a slice that is lent.
-        unsafe { net_receiver_is_sound(&self.head, at, length, runs.as_ptr(), runs.len()) }
-    }
-}
-
-/// The storage and the head of a sender. They are sound: a head with nothing queued is with any
-/// storage, and nothing but the exports changes it.
-#[derive(Debug)]
-pub(crate) struct Sent<'a> {
-    storage: ManagedSlice<'a, u8>,
-    head: SenderHead,
-}
-
-impl<'a> Sent<'a> {
-    pub(crate) fn new(storage: ManagedSlice<'a, u8>, first: u64) -> Self {
-        let head = SenderHead { first_unacknowledged: first, place: Place::EMPTY };
-        Sent { storage, head }
-    }
-
+    /// Returns how many bytes of a segment would be new, if it ends within 64 bits.
     #[inline]
-    pub(crate) fn storage(&self) -> &[u8] {
-        &self.storage
+    pub(crate) fn count_new(&self, position: u64, len: usize) -> usize {
+        // SAFETY: head, storage and runs are sound, as the type says.
+        unsafe { self.head.count_new(&self.storage, &self.runs, position, len) }
     }
 
+    /// Lists held runs, as start and end, that of a position first and then those last listed.
     #[inline]
-    pub(crate) fn head(&self) -> &SenderHead {
-        &self.head
+    pub(crate) fn newest_runs<const K: usize>(
+        &self,
+        position: u64,
+        recent: &mut [u64; K],
+    ) -> impl Iterator<Item = (u64, u64)> {
+        let mut into = [HeldRun { start: 0, end: 0 }; K];
+        let (storage, runs) = (&self.storage, &self.runs);
+        // SAFETY: head, storage and runs are sound, as the type says.
+        let count = unsafe { self.head.newest_runs(storage, runs, position, recent, &mut into) };
+        into.into_iter().take(count).map(|run| (run.start, run.end))
     }
-
-    #[inline]
-    pub(crate) fn end(&self) -> u64 {
-        let mut end = 0;
-        // SAFETY: the export reads a head that is lent, and writes a number that is lent for writing.
-        unsafe { net_sender_end(&self.head, &mut end) };
-        end
-    }
-
-    #[inline]
-    pub(crate) fn room(&self) -> usize {
-        // SAFETY: the export reads a head that is lent.
-        unsafe { net_sender_room(&self.head, self.storage.len()) }
-    }
-
-    #[inline]
-    pub(crate) fn write(&mut self, bytes: &[u8]) -> usize {
-        let storage: &mut [u8] = &mut self.storage;
-        let (at, length) = (storage.as_mut_ptr(), storage.len());
-        // SAFETY: each pointer and length are those of a slice that is lent, for writing if written.
-        unsafe { net_sender_write(&mut self.head, at, length, bytes.as_ptr(), bytes.len()) }
-    }
-
-    #[inline]
-    pub(crate) fn peek_at(&self, position: u64, max: usize) -> Span {
-        // SAFETY: the export reads a head that is lent.
-        unsafe { net_sender_peek_at(&self.head, self.storage.len(), position, max) }
-    }
-
-    #[inline]
-    pub(crate) fn acknowledge(&mut self, next: u64) -> bool {
-        // SAFETY: the export writes a head that is lent for writing.
-        unsafe { net_sender_acknowledge(&mut self.head, self.storage.len(), next) }
-    }
-
-    #[cfg(test)]
-    fn is_sound(&self) -> bool {
-        // SAFETY: the export reads a head that is lent.
-        unsafe { net_sender_is_sound(&self.head, self.storage.len()) }
-    }
-}
-
-#[inline]
-pub(crate) fn rand_u32(state: &mut u64) -> u32 {
-    // SAFETY: the export writes a number that is lent for writing.
-    unsafe { net_rand_u32(state) }
-}
-
-#[inline]
-pub(crate) fn rand_u16(state: &mut u64) -> u16 {
-    // SAFETY: the export writes a number that is lent for writing.
-    unsafe { net_rand_u16(state) }
-}
-
-#[inline]
-pub(crate) fn rand_source_port(state: &mut u64) -> u16 {
-    // SAFETY: the export writes a number that is lent for writing.
-    unsafe { net_rand_source_port(state) }
-}
-
-/// Exports that only a caller without Rust's types needs: a test calls them.
-#[cfg(test)]
-impl Place {
-    fn is_sound(&self, capacity: usize) -> bool {
-        // SAFETY: the export reads a place that is lent.
-        unsafe { net_ring_is_sound(self, capacity) }
-    }
-
-    fn clear(&mut self) {
-        // SAFETY: the export writes a place that is lent for writing.
-        unsafe { net_ring_clear(self) }
-    }
-
-    fn write_unallocated(&self, storage: &mut [u8], offset: usize, data: &[u8]) -> usize {
-        let (at, length) = (storage.as_mut_ptr(), storage.len());
-        // SAFETY: each pointer and length are those of a slice that is lent, for writing if written.
-        unsafe { net_ring_write_unallocated(self, at, length, offset, data.as_ptr(), data.len()) }
-    }
-
-    fn read_allocated(&self, storage: &[u8], offset: usize, into: &mut [u8]) -> usize {
-        let (at, length) = (storage.as_ptr(), storage.len());
-        // SAFETY: each pointer and length are those of a slice that is lent, for writing if written.
-        unsafe { net_ring_read_allocated(self, at, length, offset, into.as_mut_ptr(), into.len()) }
-    }
-
-    fn enqueue_slice(&mut self, storage: &mut [u8], data: &[u8]) -> usize {
-        let (at, length) = (storage.as_mut_ptr(), storage.len());
-        // SAFETY: each pointer and length are those of a slice that is lent, for writing if written.
-        unsafe { net_ring_enqueue_slice(self, at, length, data.as_ptr(), data.len()) }
-    }
-
-    fn dequeue_slice(&mut self, storage: &[u8], into: &mut [u8]) -> usize {
-        let (at, length) = (storage.as_ptr(), storage.len());
-        // SAFETY: each pointer and length are those of a slice that is lent, for writing if written.
-        unsafe { net_ring_dequeue_slice(self, at, length, into.as_mut_ptr(), into.len()) }
-    }
-}
-
-/// Exports that only a caller without Rust's types needs: a test calls them.
-#[cfg(test)]
-impl PacketsHead {
-    fn is_sound(&self, slot_count: usize, capacity: usize) -> bool {
-        // SAFETY: the export reads a head that is lent.
-        unsafe { net_packets_is_sound(self, slot_count, capacity) }
-    }
-
-    fn clear(&mut self) {
-        // SAFETY: the export writes a head that is lent for writing.
-        unsafe { net_packets_clear(self) }
-    }
-}
-
-/// Calls an export that writes a number and returns whether it did.
-macro_rules! number {
-    ($(fn $name:ident($($argument:ident: $type:ty),*) -> $value:ty = $export:ident;)*) => {$(
-        #[inline]
-        pub(crate) fn $name($($argument: $type),*) -> Option<$value> {
-            let mut value = 0;
-            // SAFETY: the export takes numbers, and writes one that is lent for writing.
-            unsafe { $export($($argument,)* &mut value) }.then_some(value)
-        }
-    )*};
-}
-
-number! {
-    fn instant_from_millis(millis: i64) -> i64 = net_instant_from_millis;
-    fn instant_from_secs(secs: i64) -> i64 = net_instant_from_secs;
-    fn instant_add(instant: i64, duration: u64) -> i64 = net_instant_add;
-    fn instant_sub(instant: i64, duration: u64) -> i64 = net_instant_sub;
-    fn duration_add(duration: u64, other: u64) -> u64 = net_duration_add;
-    fn duration_sub(duration: u64, other: u64) -> u64 = net_duration_sub;
-    fn duration_mul(duration: u64, factor: u32) -> u64 = net_duration_mul;
-    fn duration_div(duration: u64, divisor: u32) -> u64 = net_duration_div;
-    fn duration_shl(duration: u64, bits: u32) -> u64 = net_duration_shl;
-    fn duration_shr(duration: u64, bits: u32) -> u64 = net_duration_shr;
-}
-
-// The crate's own are constants' too, which can call no export.
-#[cfg(test)]
-number! {
-    fn duration_from_millis(millis: u64) -> u64 = net_duration_from_millis;
-    fn duration_from_secs(secs: u64) -> u64 = net_duration_from_secs;
-}
-
-/// Calls an export that takes numbers and returns one.
-macro_rules! result {
-    ($(fn $name:ident($($argument:ident: $type:ty),*) -> $value:ty = $export:ident;)*) => {$(
-        #[inline]
-        pub(crate) fn $name($($argument: $type),*) -> $value {
-            // SAFETY: the export takes numbers.
-            unsafe { $export($($argument),*) }
-        }
-    )*};
-}
-
-result! {
-    fn instant_distance(instant: i64, other: i64) -> u64 = net_instant_distance;
-    fn instant_saturating_add(instant: i64, duration: u64) -> i64 = net_instant_saturating_add;
-    fn instant_saturating_sub(instant: i64, duration: u64) -> i64 = net_instant_saturating_sub;
-    fn duration_saturating_add(duration: u64, other: u64) -> u64 = net_duration_saturating_add;
-    fn duration_saturating_sub(duration: u64, other: u64) -> u64 = net_duration_saturating_sub;
-    fn duration_saturating_mul(duration: u64, factor: u32) -> u64 = net_duration_saturating_mul;
 }

@@ -9,7 +9,7 @@ use crate::sys;
 const MICROS_PER_MILLI: i64 = 1_000;
 const MICROS_PER_SEC: i64 = 1_000_000;
 
-/// A moment: microseconds after one that the caller chooses, or before it if negative.
+/// A timestamp in microseconds since an origin of the caller's choice; it may be negative.
 ///
 /// ```
 /// use net_base::time::{Duration, Instant};
@@ -19,6 +19,7 @@ const MICROS_PER_SEC: i64 = 1_000_000;
 /// assert_eq!((end - start, end.to_string()), (Duration::from_millis(2_000), "3.500s".into()));
 /// ```
 #[derive(Debug, Copy, Clone, PartialEq, Eq, PartialOrd, Ord)]
+#[repr(transparent)]
 pub struct Instant {
     micros: i64,
 }
@@ -63,7 +64,7 @@ impl Instant {
     /// assert_eq!(Instant::from_millis(-5).total_micros(), -5_000);
     /// ```
     ///
-    /// Proved: `net_instant_from_millis`, clauses `fits` and `instant`.
+    /// Proved: `net_base_instant_from_millis`, clauses `fits` and `instant`.
     pub fn from_millis<T: Into<i64>>(millis: T) -> Instant {
         let micros = sys::instant_from_millis(millis.into());
         Instant { micros: micros.expect("attempt to multiply with overflow") }
@@ -96,13 +97,16 @@ impl Instant {
     /// assert_eq!(Instant::from_secs(5).total_millis(), 5_000);
     /// ```
     ///
-    /// Proved: `net_instant_from_secs`, clauses `fits` and `instant`.
+    /// Proved: `net_base_instant_from_secs`, clauses `fits` and `instant`.
     pub fn from_secs<T: Into<i64>>(secs: T) -> Instant {
         let micros = sys::instant_from_secs(secs.into());
         Instant { micros: micros.expect("attempt to multiply with overflow") }
     }
 
     /// Returns the moment that the system's clock shows, counted from the Unix epoch.
+    ///
+    /// That clock can be set, and then jumps, forwards or back. A timer wants
+    /// `Instant::from(std::time::Instant::now())`, whose clock doesn't.
     ///
     /// ```
     /// # use net_base::time::Instant;
@@ -111,6 +115,22 @@ impl Instant {
     #[cfg(feature = "std")]
     pub fn now() -> Instant {
         Self::from(::std::time::SystemTime::now())
+    }
+
+    /// Returns the earliest of these moments, or `None` if there is none: when to look again at several
+    /// timers. (Not in smoltcp.)
+    ///
+    /// ```
+    /// # use net_base::time::Instant;
+    /// let timers = [Instant::from_secs(5), Instant::from_secs(-2), Instant::ZERO];
+    /// assert_eq!(Instant::earliest(&timers), Some(Instant::from_secs(-2)));
+    /// assert_eq!(Instant::earliest(&[]), None);
+    /// ```
+    ///
+    /// Proved: `net_base_instant_earliest`, clauses `some` and `written`.
+    #[must_use]
+    pub fn earliest(moments: &[Instant]) -> Option<Instant> {
+        sys::earliest(moments).map(Instant::from_micros_const)
     }
 
     /// Returns the whole milliseconds beyond the whole seconds, with the moment's sign.
@@ -171,7 +191,7 @@ impl Instant {
     /// assert_eq!(last.checked_add(Duration::from_micros(1)), None);
     /// ```
     ///
-    /// Proved: `net_instant_add`, clauses `fits` and `sum`.
+    /// Proved: `net_base_instant_add`, clauses `fits` and `sum`.
     pub fn checked_add(&self, duration: Duration) -> Option<Instant> {
         sys::instant_add(self.micros, duration.micros).map(Instant::from_micros)
     }
@@ -184,7 +204,7 @@ impl Instant {
     /// assert_eq!(first.checked_sub(Duration::from_micros(1)), None);
     /// ```
     ///
-    /// Proved: `net_instant_sub`, clauses `fits` and `difference`.
+    /// Proved: `net_base_instant_sub`, clauses `fits` and `difference`.
     pub fn checked_sub(&self, duration: Duration) -> Option<Instant> {
         sys::instant_sub(self.micros, duration.micros).map(Instant::from_micros)
     }
@@ -197,7 +217,7 @@ impl Instant {
     /// assert_eq!(moment, Instant::from_micros(i64::MAX));
     /// ```
     ///
-    /// Proved: `net_instant_saturating_add`, clauses `exact` and `last`.
+    /// Proved: `net_base_instant_saturating_add`, clauses `exact` and `last`.
     pub fn saturating_add(&self, duration: Duration) -> Instant {
         Instant { micros: sys::instant_saturating_add(self.micros, duration.micros) }
     }
@@ -210,12 +230,14 @@ impl Instant {
     /// assert_eq!(moment, Instant::from_micros(i64::MIN));
     /// ```
     ///
-    /// Proved: `net_instant_saturating_sub`, clauses `exact` and `first`.
+    /// Proved: `net_base_instant_saturating_sub`, clauses `exact` and `first`.
     pub fn saturating_sub(&self, duration: Duration) -> Instant {
         Instant { micros: sys::instant_saturating_sub(self.micros, duration.micros) }
     }
 }
 
+/// The moment of std's clock that never goes back, the one for timers, in whole microseconds since the
+/// first such conversion in this process. An earlier moment is moment 0.
 #[cfg(feature = "std")]
 impl From<::std::time::Instant> for Instant {
     fn from(other: ::std::time::Instant) -> Instant {
@@ -225,6 +247,8 @@ impl From<::std::time::Instant> for Instant {
     }
 }
 
+/// The moment of the system's clock, which can be set and then jumps, in whole microseconds since the Unix
+/// epoch. Panics if it is before that, or has no number of 64 bits.
 #[cfg(feature = "std")]
 impl From<::std::time::SystemTime> for Instant {
     fn from(other: ::std::time::SystemTime) -> Instant {
@@ -233,6 +257,8 @@ impl From<::std::time::SystemTime> for Instant {
     }
 }
 
+/// The moment as one of the system's clock, counted from the Unix epoch. A negative one is taken as
+/// smoltcp takes it: as its number plus 2^64. Panics if the system's clock has no such moment.
 #[cfg(feature = "std")]
 impl From<Instant> for ::std::time::SystemTime {
     fn from(moment: Instant) -> Self {
@@ -249,7 +275,7 @@ impl fmt::Display for Instant {
 /// The moment so much later. Panics if it has no number of 64 bits. (smoltcp takes the length as a
 /// signed number.)
 ///
-/// Proved: `net_instant_add`, clauses `fits` and `sum`.
+/// Proved: `net_base_instant_add`, clauses `fits` and `sum`.
 impl ops::Add<Duration> for Instant {
     type Output = Instant;
 
@@ -272,7 +298,7 @@ impl ops::AddAssign<Duration> for Instant {
 /// The moment so much earlier. Panics if it has no number of 64 bits. (smoltcp takes the length as a
 /// signed number.)
 ///
-/// Proved: `net_instant_sub`, clauses `fits` and `difference`.
+/// Proved: `net_base_instant_sub`, clauses `fits` and `difference`.
 impl ops::Sub<Duration> for Instant {
     type Output = Instant;
 
@@ -294,7 +320,7 @@ impl ops::SubAssign<Duration> for Instant {
 
 /// The distance of two moments, the same both ways. (smoltcp's can overflow.)
 ///
-/// Proved: `net_instant_distance`.
+/// Proved: `net_base_instant_distance`.
 impl ops::Sub<Instant> for Instant {
     type Output = Duration;
 
@@ -427,7 +453,7 @@ impl Duration {
     /// assert_eq!(Duration::MAX.checked_add(Duration::from_micros(1)), None);
     /// ```
     ///
-    /// Proved: `net_duration_add`, clauses `fits` and `sum`.
+    /// Proved: `net_base_duration_add`, clauses `fits` and `sum`.
     pub fn checked_add(self, rhs: Duration) -> Option<Duration> {
         sys::duration_add(self.micros, rhs.micros).map(Duration::from_micros)
     }
@@ -439,7 +465,7 @@ impl Duration {
     /// assert_eq!(Duration::ZERO.checked_sub(Duration::from_micros(1)), None);
     /// ```
     ///
-    /// Proved: `net_duration_sub`, clauses `fits` and `difference`.
+    /// Proved: `net_base_duration_sub`, clauses `fits` and `difference`.
     pub fn checked_sub(self, rhs: Duration) -> Option<Duration> {
         sys::duration_sub(self.micros, rhs.micros).map(Duration::from_micros)
     }
@@ -451,7 +477,7 @@ impl Duration {
     /// assert_eq!(Duration::MAX.checked_mul(2), None);
     /// ```
     ///
-    /// Proved: `net_duration_mul`, clauses `fits` and `product`.
+    /// Proved: `net_base_duration_mul`, clauses `fits` and `product`.
     pub fn checked_mul(self, rhs: u32) -> Option<Duration> {
         sys::duration_mul(self.micros, rhs).map(Duration::from_micros)
     }
@@ -463,7 +489,7 @@ impl Duration {
     /// assert_eq!(Duration::MAX.checked_div(0), None);
     /// ```
     ///
-    /// Proved: `net_duration_div`, clauses `fits` and `quotient`.
+    /// Proved: `net_base_duration_div`, clauses `fits` and `quotient`.
     pub fn checked_div(self, rhs: u32) -> Option<Duration> {
         sys::duration_div(self.micros, rhs).map(Duration::from_micros)
     }
@@ -475,7 +501,7 @@ impl Duration {
     /// assert_eq!(Duration::MAX.saturating_add(Duration::from_micros(1)), Duration::MAX);
     /// ```
     ///
-    /// Proved: `net_duration_saturating_add`.
+    /// Proved: `net_base_duration_saturating_add`.
     pub fn saturating_add(self, rhs: Duration) -> Duration {
         Duration { micros: sys::duration_saturating_add(self.micros, rhs.micros) }
     }
@@ -487,7 +513,7 @@ impl Duration {
     /// assert_eq!(Duration::ZERO.saturating_sub(Duration::from_micros(1)), Duration::ZERO);
     /// ```
     ///
-    /// Proved: `net_duration_saturating_sub`.
+    /// Proved: `net_base_duration_saturating_sub`.
     pub fn saturating_sub(self, rhs: Duration) -> Duration {
         Duration { micros: sys::duration_saturating_sub(self.micros, rhs.micros) }
     }
@@ -499,7 +525,7 @@ impl Duration {
     /// assert_eq!(Duration::MAX.saturating_mul(2), Duration::MAX);
     /// ```
     ///
-    /// Proved: `net_duration_saturating_mul`.
+    /// Proved: `net_base_duration_saturating_mul`.
     pub fn saturating_mul(self, rhs: u32) -> Duration {
         Duration { micros: sys::duration_saturating_mul(self.micros, rhs) }
     }
@@ -521,7 +547,7 @@ impl fmt::Display for Duration {
 
 /// The sum. Panics if it is above [`Duration::MAX`].
 ///
-/// Proved: `net_duration_add`, clauses `fits` and `sum`.
+/// Proved: `net_base_duration_add`, clauses `fits` and `sum`.
 impl ops::Add<Duration> for Duration {
     type Output = Duration;
 
@@ -543,7 +569,7 @@ impl ops::AddAssign<Duration> for Duration {
 
 /// The difference. Panics if it would be below 0.
 ///
-/// Proved: `net_duration_sub`, clauses `fits` and `difference`.
+/// Proved: `net_base_duration_sub`, clauses `fits` and `difference`.
 impl ops::Sub<Duration> for Duration {
     type Output = Duration;
 
@@ -563,7 +589,7 @@ impl ops::SubAssign<Duration> for Duration {
 
 /// The product. Panics if it is above [`Duration::MAX`].
 ///
-/// Proved: `net_duration_mul`, clauses `fits` and `product`.
+/// Proved: `net_base_duration_mul`, clauses `fits` and `product`.
 impl ops::Mul<u32> for Duration {
     type Output = Duration;
 
@@ -584,7 +610,7 @@ impl ops::MulAssign<u32> for Duration {
 
 /// The quotient, rounded down. Panics if the divisor is 0.
 ///
-/// Proved: `net_duration_div`, clauses `fits` and `quotient`.
+/// Proved: `net_base_duration_div`, clauses `fits` and `quotient`.
 impl ops::Div<u32> for Duration {
     type Output = Duration;
 
@@ -604,7 +630,7 @@ impl ops::DivAssign<u32> for Duration {
 /// The microseconds, shifted by so many bits: those that leave the number are lost. Panics if they are
 /// 64 or more.
 ///
-/// Proved: `net_duration_shl`, clauses `fits` and `shifted`.
+/// Proved: `net_base_duration_shl`, clauses `fits` and `shifted`.
 impl ops::Shl<u32> for Duration {
     type Output = Duration;
 
@@ -624,7 +650,7 @@ impl ops::ShlAssign<u32> for Duration {
 
 /// The microseconds, shifted by so many bits. Panics if they are 64 or more.
 ///
-/// Proved: `net_duration_shr`, clauses `fits` and `shifted`.
+/// Proved: `net_base_duration_shr`, clauses `fits` and `shifted`.
 impl ops::Shr<u32> for Duration {
     type Output = Duration;
 

@@ -1,16 +1,17 @@
 //! Rings, packet queues and assemblers, over storage that the caller lends.
 mod assembler;
+mod fragment_buffer;
 mod packet_buffer;
 mod ring_buffer;
 
 pub use self::assembler::{Assembler, TooManyHolesError};
+pub use self::fragment_buffer::{FragmentBuffer, FragmentError};
 pub use self::packet_buffer::{PacketBuffer, PacketMetadata};
-pub(crate) use self::ring_buffer::part;
 pub use self::ring_buffer::RingBuffer;
 
 use core::fmt;
 
-/// Elements that can be brought to a known state in their place.
+/// Types that can be reset in place.
 ///
 /// ```
 /// use net_base::storage::{Resettable, RingBuffer};
@@ -70,3 +71,12 @@ impl fmt::Display for Empty {
 }
 
 impl core::error::Error for Empty {}
+
+/// What a call's iterator yields, as `Debug` shows a list.
+pub(crate) struct Listed<F>(pub(crate) F);
+
+impl<F: Fn() -> I, I: Iterator<Item: fmt::Debug>> fmt::Debug for Listed<F> {
+    fn fmt(&self, f: &mut fmt::Formatter) -> fmt::Result {
+        f.debug_list().entries((self.0)()).finish()
+    }
+}

@@ -1,8 +1,9 @@
 use core::fmt;
+use core::mem::needs_drop;
 
 use super::{ring_buffer, Empty, Full};
 use crate::managed::ManagedSlice;
-use crate::sys::{PacketPlace, PacketsHead};
+use crate::sys::{PacketPlace, PacketSlot, PacketsHead};
 
 /// A slot of a packet queue: the size of a packet in bytes and its header, or a gap.
 ///
@@ -36,6 +37,9 @@ impl<H> PacketMetadata<H> {
 /// static library computes the placement. Names are smoltcp's; a refusal changes nothing, where
 /// smoltcp can leave a gap, and `enqueue_with_infallible` places a packet as `enqueue` does.
 ///
+/// A header that `dequeue_with` or `reset` left in a free slot is dropped when a packet or a gap gets
+/// that slot. If its drop panics, the queue is as it was.
+///
 /// ```
 /// use net_base::storage::{Full, PacketBuffer, PacketMetadata};
 ///
@@ -56,8 +60,8 @@ pub struct PacketBuffer<'a, H: 'a> {
 impl<H: fmt::Debug> fmt::Debug for PacketBuffer<'_, H> {
     fn fmt(&self, f: &mut fmt::Formatter) -> fmt::Result {
         f.debug_struct("PacketBuffer")
-            .field("metadata_ring", &ring_buffer::Shown(&self.slots, self.head.slots))
-            .field("payload_ring", &ring_buffer::Shown(&self.bytes, self.head.bytes))
+            .field("metadata_ring", &ring_buffer::Shown(self.slots.len(), self.head.slots))
+            .field("payload_ring", &ring_buffer::Shown(self.bytes.len(), self.head.bytes))
             .finish()
     }
 }
@@ -96,7 +100,7 @@ impl<'a, H> PacketBuffer<'a, H> {
     /// assert!(!queue.is_empty());
     /// ```
     pub fn is_empty(&self) -> bool {
-        self.head.slots.length == 0
+        self.head.slots.len() == 0
     }
 
     /// Returns whether all slots are used.
@@ -110,7 +114,24 @@ impl<'a, H> PacketBuffer<'a, H> {
     /// assert!(queue.is_full());
     /// ```
     pub fn is_full(&self) -> bool {
-        self.head.slots.length == self.slots.len()
+        self.head.slots.len() == self.slots.len()
+    }
+
+    /// Returns whether `enqueue` would append a packet of `size` bytes. (Not in smoltcp.)
+    ///
+    /// ```
+    /// # use net_base::storage::{PacketBuffer, PacketMetadata};
+    /// # let mut slots = [PacketMetadata::EMPTY; 4];
+    /// # let mut bytes = [0u8; 16];
+    /// # let mut queue = PacketBuffer::new(&mut slots[..], &mut bytes[..]);
+    /// assert!(queue.enqueue(3, ()).is_ok());
+    /// assert!(queue.has_room(13) && !queue.has_room(14));
+    /// ```
+    ///
+    /// Proved: `net_base_packets_place`, clauses `placed` and `full`.
+    pub fn has_room(&self, size: usize) -> bool {
+        let mut head = self.head;
+        head.place(self.slots.len(), self.bytes.len(), size).found().is_some()
     }
 
     /// Appends a packet of `size` bytes, and lends them. They are as they were in the storage.
@@ -128,11 +149,17 @@ impl<'a, H> PacketBuffer<'a, H> {
     /// # Ok::<(), Full>(())
     /// ```
     ///
-    /// Proved: `net_packets_place`, clauses `placed` and `full`.
+    /// Proved: `net_base_packets_place`, clauses `placed` and `full`.
     pub fn enqueue(&mut self, size: usize, header: H) -> Result<&mut [u8], Full> {
         let bytes: &mut [u8] = &mut self.bytes;
-        let placed = self.head.place(self.slots.len(), bytes.len(), size).ok_or(Full)?;
+        // If an old header's drop may panic, the head moves once that is dropped.
+        let mut moved = self.head;
+        let head = if needs_drop::<H>() { &mut moved } else { &mut self.head };
+        let placed = head.place(self.slots.len(), bytes.len(), size).found().ok_or(Full)?;
         fill(&mut self.slots, placed, PacketMetadata { size, header: Some(header) });
+        if needs_drop::<H>() {
+            self.head = moved;
+        }
         Ok(&mut bytes[placed.from..][..size])
     }
 
@@ -158,8 +185,7 @@ impl<'a, H> PacketBuffer<'a, H> {
     /// assert_eq!(queue.peek().ok(), Some((&1, &b"abc"[..])));
     /// ```
     ///
-    /// Proved: `net_packets_place`, clauses `placed` and `full`; `net_packets_shorten_last`, clauses `done`
-    /// and `packets`.
+    /// Proved: `net_base_packets_place`, clauses `placed` and `full`; `net_base_packets_shorten_slot`, clause `done`.
     pub fn enqueue_with_infallible<'b, F>(
         &'b mut self,
         max_size: usize,
@@ -171,30 +197,14 @@ impl<'a, H> PacketBuffer<'a, H> {
     {
         let (slot_count, bytes): (usize, &mut [u8]) = (self.slots.len(), &mut self.bytes);
         let (capacity, mut head) = (bytes.len(), self.head);
-        let placed = head.place(slot_count, capacity, max_size).ok_or(Full)?;
+        let placed = head.place(slot_count, capacity, max_size).found().ok_or(Full)?;
         let size = f(&mut bytes[placed.from..][..max_size]);
         assert!(size <= max_size, "more bytes than were lent");
-        head.shorten_last(slot_count, capacity, max_size - size);
-        self.head = head;
+        let mut slot = PacketSlot::new(max_size, false);
+        head.shorten_slot(slot_count, capacity, &mut slot, max_size - size);
         fill(&mut self.slots, placed, PacketMetadata { size, header: Some(header) });
+        self.head = head;
         Ok(size)
-    }
-
-    /// Returns the first slot that is used.
-    #[inline]
-    fn first(&self) -> Option<&PacketMetadata<H>> {
-        if self.is_empty() {
-            return None;
-        }
-        self.slots.get(self.head.slots.read_at)
-    }
-
-    /// Dequeues the gap before the first packet, if there is one.
-    #[inline]
-    fn dequeue_padding(&mut self) {
-        if let Some(&PacketMetadata { size, header: None }) = self.first() {
-            self.head.take(self.slots.len(), self.bytes.len(), size);
-        }
     }
 
     /// Calls `f` on the header and the bytes of the first packet. If it returns `Ok`, the packet is
@@ -214,22 +224,18 @@ impl<'a, H> PacketBuffer<'a, H> {
     /// # Ok::<(), Full>(())
     /// ```
     ///
-    /// Proved: `net_packets_take`, clause `taken`.
+    /// Proved: `net_base_packets_take_slot`, clause `taken`.
     pub fn dequeue_with<'c, R, E, F>(&'c mut self, f: F) -> Result<Result<R, E>, Empty>
     where
         F: FnOnce(&mut H, &'c mut [u8]) -> Result<R, E>,
     {
-        self.dequeue_padding();
-        if self.is_empty() {
-            return Err(Empty);
-        }
         let (slots, bytes): (&mut [_], &mut [u8]) = (&mut self.slots, &mut self.bytes);
         let (slot_count, capacity) = (slots.len(), bytes.len());
-        let PacketMetadata { size, header } = &mut slots[self.head.slots.read_at];
+        let PacketMetadata { size, header } = first(&mut self.head, slots, capacity)?;
         let header = header.as_mut().expect("the first slot is a packet's");
-        let answer = f(header, &mut bytes[self.head.bytes.read_at..][..*size]);
+        let answer = f(header, &mut bytes[self.head.bytes.start()..][..*size]);
         if answer.is_ok() {
-            self.head.take(slot_count, capacity, *size);
+            self.head.take_slot(slot_count, capacity, &PacketSlot::new(*size, false));
         }
         Ok(answer)
     }
@@ -250,17 +256,13 @@ impl<'a, H> PacketBuffer<'a, H> {
     /// # Ok::<(), Full>(())
     /// ```
     ///
-    /// Proved: `net_packets_take`, clause `taken`.
+    /// Proved: `net_base_packets_take_slot`, clause `taken`.
     pub fn dequeue(&mut self) -> Result<(H, &mut [u8]), Empty> {
-        self.dequeue_padding();
-        if self.is_empty() {
-            return Err(Empty);
-        }
         let (slots, bytes): (&mut [_], &mut [u8]) = (&mut self.slots, &mut self.bytes);
         let (slot_count, capacity) = (slots.len(), bytes.len());
-        let PacketMetadata { size, header } = &mut slots[self.head.slots.read_at];
+        let PacketMetadata { size, header } = first(&mut self.head, slots, capacity)?;
         let header = header.take().expect("the first slot is a packet's");
-        let from = self.head.take(slot_count, capacity, *size);
+        let from = self.head.take_slot(slot_count, capacity, &PacketSlot::new(*size, false));
         Ok((header, &mut bytes[from..][..*size]))
     }
 
@@ -279,12 +281,12 @@ impl<'a, H> PacketBuffer<'a, H> {
     /// # Ok::<(), Full>(())
     /// ```
     ///
-    /// Proved: `net_packets_take`, clause `taken`, for the gap.
+    /// Proved: `net_base_packets_take_slot`, clause `taken`, for the gap.
     pub fn peek(&mut self) -> Result<(&H, &[u8]), Empty> {
-        self.dequeue_padding();
-        let slot = self.first().ok_or(Empty)?;
-        let header = slot.header.as_ref().expect("the first slot is a packet's");
-        Ok((header, &self.bytes[self.head.bytes.read_at..][..slot.size]))
+        let PacketMetadata { size, header } =
+            first(&mut self.head, &mut self.slots, self.bytes.len())?;
+        let header = header.as_ref().expect("the first slot is a packet's");
+        Ok((header, &self.bytes[self.head.bytes.start()..][..*size]))
     }
 
     /// Returns the number of slots.
@@ -322,7 +324,7 @@ impl<'a, H> PacketBuffer<'a, H> {
     /// assert_eq!(queue.payload_bytes_count(), 3);
     /// ```
     pub fn payload_bytes_count(&self) -> usize {
-        self.head.bytes.length
+        self.head.bytes.len()
     }
 
     /// Returns how many slots packets and gaps take. (Not in smoltcp.)
@@ -336,7 +338,7 @@ impl<'a, H> PacketBuffer<'a, H> {
     /// assert_eq!(queue.slots_used(), 1);
     /// ```
     pub fn slots_used(&self) -> usize {
-        self.head.slots.length
+        self.head.slots.len()
     }
 
     /// Drops all packets. Headers stay in their slots until these are written. (smoltcp has this call
@@ -354,6 +356,24 @@ impl<'a, H> PacketBuffer<'a, H> {
     pub fn reset(&mut self) {
         self.head = PacketsHead::EMPTY;
     }
+}
+
+/// Dequeues the gap before the first packet, if there is one, and lends that packet's slot.
+#[inline]
+fn first<'q, H>(
+    head: &mut PacketsHead,
+    slots: &'q mut [PacketMetadata<H>],
+    capacity: usize,
+) -> Result<&'q mut PacketMetadata<H>, Empty> {
+    if head.slots.len() == 0 {
+        return Err(Empty);
+    }
+    let at = head.slots.start();
+    if let PacketMetadata { size, header: None } = slots[at] {
+        head.take_slot(slots.len(), capacity, &PacketSlot::new(size, true));
+        return Ok(&mut slots[head.slots.start()]);
+    }
+    Ok(&mut slots[at])
 }
 
 /// Writes the slot of a packet, and that of the gap before it, if there is one.

@@ -2,7 +2,7 @@ use core::fmt;
 
 use super::{Empty, Full, Resettable};
 use crate::managed::ManagedSlice;
-use crate::sys::{Place, Span};
+use crate::sys::{RingHead, Span};
 
 /// A ring of elements over storage that is lent or owned.
 ///
@@ -24,24 +24,25 @@ use crate::sys::{Place, Span};
 /// ```
 pub struct RingBuffer<'a, T: 'a> {
     storage: ManagedSlice<'a, T>,
-    place: Place,
+    head: RingHead,
 }
 
-impl<T: fmt::Debug> fmt::Debug for RingBuffer<'_, T> {
+/// Capacity, read index and length: not the storage.
+impl<T> fmt::Debug for RingBuffer<'_, T> {
     fn fmt(&self, f: &mut fmt::Formatter) -> fmt::Result {
-        Shown(&self.storage, self.place).fmt(f)
+        Shown(self.capacity(), self.head).fmt(f)
     }
 }
 
-/// A ring's storage and place, which are shown as smoltcp shows a ring.
-pub(super) struct Shown<'r, 'a, T>(pub(super) &'r ManagedSlice<'a, T>, pub(super) Place);
+/// A ring's capacity and head, as `Debug` shows them.
+pub(super) struct Shown(pub(super) usize, pub(super) RingHead);
 
-impl<T: fmt::Debug> fmt::Debug for Shown<'_, '_, T> {
+impl fmt::Debug for Shown {
     fn fmt(&self, f: &mut fmt::Formatter) -> fmt::Result {
         f.debug_struct("RingBuffer")
-            .field("storage", self.0)
-            .field("read_at", &self.1.read_at)
-            .field("length", &self.1.length)
+            .field("capacity", &self.0)
+            .field("read_at", &self.1.start())
+            .field("length", &self.1.len())
             .finish()
     }
 }
@@ -59,7 +60,7 @@ impl<'a, T: 'a> RingBuffer<'a, T> {
     where
         S: Into<ManagedSlice<'a, T>>,
     {
-        RingBuffer { storage: storage.into(), place: Place::EMPTY }
+        RingBuffer { storage: storage.into(), head: RingHead::EMPTY }
     }
 
     /// Empties the ring. Its elements stay as they are.
@@ -74,7 +75,7 @@ impl<'a, T: 'a> RingBuffer<'a, T> {
     /// ```
     #[inline]
     pub fn clear(&mut self) {
-        self.place = Place::EMPTY;
+        self.head = RingHead::EMPTY;
     }
 
     /// Returns the most elements that are queued: the storage's length.
@@ -84,6 +85,7 @@ impl<'a, T: 'a> RingBuffer<'a, T> {
     /// let mut storage = [0u8; 4];
     /// assert_eq!(RingBuffer::new(&mut storage[..]).capacity(), 4);
     /// ```
+    #[must_use]
     #[inline]
     pub fn capacity(&self) -> usize {
         self.storage.len()
@@ -118,9 +120,10 @@ impl<'a, T: 'a> RingBuffer<'a, T> {
     /// ring.enqueue_unallocated(3);
     /// assert_eq!(ring.len(), 3);
     /// ```
+    #[must_use]
     #[inline]
     pub fn len(&self) -> usize {
-        self.place.length
+        self.head.len()
     }
 
     /// Returns the window: for how many more elements there is room.
@@ -133,10 +136,11 @@ impl<'a, T: 'a> RingBuffer<'a, T> {
     /// assert_eq!(ring.window(), 1);
     /// ```
     ///
-    /// Proved: `net_ring_free`, clause `count`.
+    /// Proved: `net_base_ring_unallocated`, clause `count`.
+    #[must_use]
     #[inline]
     pub fn window(&self) -> usize {
-        self.place.free(self.storage.len(), 0, usize::MAX).count
+        self.head.unallocated(self.storage.len(), 0, usize::MAX).count
     }
 
     /// Returns how many free elements are contiguous in the storage, from the first one on.
@@ -153,9 +157,11 @@ impl<'a, T: 'a> RingBuffer<'a, T> {
     /// assert_eq!((ring.window(), ring.contiguous_window()), (3, 1));
     /// ```
     ///
-    /// Proved: `net_ring_contiguous_window`, clause `count`.
+    /// Proved: `net_base_ring_unallocated`, clauses `from` and `contiguous`.
+    #[must_use]
+    #[inline]
     pub fn contiguous_window(&self) -> usize {
-        self.place.contiguous_window(self.storage.len())
+        self.head.unallocated(self.storage.len(), 0, usize::MAX).contiguous
     }
 
     /// Returns whether no element is queued.
@@ -165,6 +171,7 @@ impl<'a, T: 'a> RingBuffer<'a, T> {
     /// let mut storage = [0u8; 4];
     /// assert!(RingBuffer::new(&mut storage[..]).is_empty());
     /// ```
+    #[must_use]
     #[inline]
     pub fn is_empty(&self) -> bool {
         self.len() == 0
@@ -177,6 +184,7 @@ impl<'a, T: 'a> RingBuffer<'a, T> {
     /// let mut storage = [0u8; 0];
     /// assert!(RingBuffer::new(&mut storage[..]).is_full());
     /// ```
+    #[must_use]
     #[inline]
     pub fn is_full(&self) -> bool {
         self.len() == self.capacity()
@@ -198,7 +206,7 @@ impl<'a, T: 'a> RingBuffer<'a, T> {
     /// assert_eq!(ring.len(), 1);
     /// ```
     ///
-    /// Proved: `net_ring_free`, clauses `from` and `count`; `net_ring_enqueue`, clauses `done` and
+    /// Proved: `net_base_ring_unallocated`, clauses `from` and `count`; `net_base_ring_enqueue`, clauses `done` and
     /// `place`.
     pub fn enqueue_one_with<'b, R, E, F>(&'b mut self, f: F) -> Result<Result<R, E>, Full>
     where
@@ -206,13 +214,13 @@ impl<'a, T: 'a> RingBuffer<'a, T> {
     {
         let storage: &mut [T] = &mut self.storage;
         let capacity = storage.len();
-        let span = self.place.free(capacity, 0, 1);
+        let span = self.head.unallocated(capacity, 0, 1);
         if span.count == 0 {
             return Err(Full);
         }
         let answer = f(&mut storage[span.from]);
         if answer.is_ok() {
-            self.place.enqueue(capacity, 1);
+            self.head.enqueue(capacity, 1);
         }
         Ok(answer)
     }
@@ -230,11 +238,11 @@ impl<'a, T: 'a> RingBuffer<'a, T> {
     /// # Ok::<(), Full>(())
     /// ```
     ///
-    /// Proved: `net_ring_enqueue_one`, clauses `done` and `refused`.
+    /// Proved: `net_base_ring_enqueue_one`, clauses `done` and `refused`.
     #[inline]
     pub fn enqueue_one(&mut self) -> Result<&mut T, Full> {
         let storage: &mut [T] = &mut self.storage;
-        let index = self.place.enqueue_one(storage.len());
+        let index = self.head.enqueue_one(storage.len());
         storage.get_mut(index).ok_or(Full)
     }
 
@@ -252,7 +260,7 @@ impl<'a, T: 'a> RingBuffer<'a, T> {
     /// assert_eq!(ring.dequeue_one_with(|byte| Ok::<_, ()>(*byte)), Err(Empty));
     /// ```
     ///
-    /// Proved: `net_ring_queued`, clauses `from` and `count`; `net_ring_dequeue`, clauses `done` and
+    /// Proved: `net_base_ring_allocated`, clauses `from` and `count`; `net_base_ring_dequeue`, clauses `done` and
     /// `place`.
     pub fn dequeue_one_with<'b, R, E, F>(&'b mut self, f: F) -> Result<Result<R, E>, Empty>
     where
@@ -260,13 +268,13 @@ impl<'a, T: 'a> RingBuffer<'a, T> {
     {
         let storage: &mut [T] = &mut self.storage;
         let capacity = storage.len();
-        let span = self.place.queued(capacity, 0, 1);
+        let span = self.head.allocated(capacity, 0, 1);
         if span.count == 0 {
             return Err(Empty);
         }
         let answer = f(&mut storage[span.from]);
         if answer.is_ok() {
-            self.place.dequeue(capacity, 1);
+            self.head.dequeue(capacity, 1);
         }
         Ok(answer)
     }
@@ -284,11 +292,11 @@ impl<'a, T: 'a> RingBuffer<'a, T> {
     /// assert_eq!(ring.dequeue_one(), Err(Empty));
     /// ```
     ///
-    /// Proved: `net_ring_dequeue_one`, clauses `done` and `refused`.
+    /// Proved: `net_base_ring_dequeue_one`, clauses `done` and `refused`.
     #[inline]
     pub fn dequeue_one(&mut self) -> Result<&mut T, Empty> {
         let storage: &mut [T] = &mut self.storage;
-        let index = self.place.dequeue_one(storage.len());
+        let index = self.head.dequeue_one(storage.len());
         storage.get_mut(index).ok_or(Empty)
     }
 }
@@ -310,19 +318,19 @@ impl<'a, T: 'a> RingBuffer<'a, T> {
     /// assert_eq!(ring.get_allocated(0, 4), b"ab");
     /// ```
     ///
-    /// Proved: `net_ring_rewind_if_empty`; `net_ring_free`, clauses `from` and `contiguous`;
-    /// `net_ring_enqueue`, clauses `done` and `place`.
+    /// Proved: `net_base_ring_rewind_if_empty`; `net_base_ring_unallocated`, clauses `from` and `contiguous`;
+    /// `net_base_ring_enqueue`, clauses `done` and `place`.
     pub fn enqueue_many_with<'b, R, F>(&'b mut self, f: F) -> (usize, R)
     where
         F: FnOnce(&'b mut [T]) -> (usize, R),
     {
         let storage: &mut [T] = &mut self.storage;
         let capacity = storage.len();
-        self.place.rewind_if_empty();
-        let span = self.place.free(capacity, 0, usize::MAX);
-        let (size, answer) = f(part_mut(storage, span));
+        self.head.rewind_if_empty();
+        let span = self.head.unallocated(capacity, 0, usize::MAX);
+        let (size, answer) = f(span.of_mut(storage));
         assert!(size <= span.contiguous, "more elements than were lent");
-        self.place.enqueue(capacity, size);
+        self.head.enqueue(capacity, size);
         (size, answer)
     }
 
@@ -337,12 +345,12 @@ impl<'a, T: 'a> RingBuffer<'a, T> {
     /// assert_eq!(ring.enqueue_many(3).len(), 1);
     /// ```
     ///
-    /// Proved: `net_ring_put_contiguous`, clauses `from`, `count` and `place`.
+    /// Proved: `net_base_ring_enqueue_many`, clauses `from`, `count` and `place`.
     #[must_use]
     #[inline]
     pub fn enqueue_many(&mut self, size: usize) -> &mut [T] {
         let storage: &mut [T] = &mut self.storage;
-        let part = self.place.put_contiguous(storage.len(), size);
+        let part = self.head.enqueue_many(storage.len(), size);
         &mut storage[part.from..][..part.count]
     }
 
@@ -357,7 +365,7 @@ impl<'a, T: 'a> RingBuffer<'a, T> {
     /// assert_eq!(ring.get_allocated(0, 4), b"abcd");
     /// ```
     ///
-    /// Proved: `net_ring_put`, clauses `from`, `count`, `contiguous` and `place`.
+    /// Proved: `net_base_ring_enqueue_span`, clauses `from`, `count`, `contiguous` and `place`.
     #[must_use]
     #[inline]
     pub fn enqueue_slice(&mut self, data: &[T]) -> usize
@@ -365,7 +373,7 @@ impl<'a, T: 'a> RingBuffer<'a, T> {
         T: Copy,
     {
         let storage: &mut [T] = &mut self.storage;
-        let span = self.place.put(storage.len(), data.len());
+        let span = self.head.enqueue_span(storage.len(), data.len());
         copy_in(storage, span, data)
     }
 
@@ -384,7 +392,7 @@ impl<'a, T: 'a> RingBuffer<'a, T> {
     /// assert_eq!(ring.get_allocated(0, 4), b"c");
     /// ```
     ///
-    /// Proved: `net_ring_queued`, clauses `from` and `contiguous`; `net_ring_dequeue`, clauses `done`
+    /// Proved: `net_base_ring_allocated`, clauses `from` and `contiguous`; `net_base_ring_dequeue`, clauses `done`
     /// and `place`.
     pub fn dequeue_many_with<'b, R, F>(&'b mut self, f: F) -> (usize, R)
     where
@@ -392,10 +400,10 @@ impl<'a, T: 'a> RingBuffer<'a, T> {
     {
         let storage: &mut [T] = &mut self.storage;
         let capacity = storage.len();
-        let span = self.place.queued(capacity, 0, usize::MAX);
-        let (size, answer) = f(part_mut(storage, span));
+        let span = self.head.allocated(capacity, 0, usize::MAX);
+        let (size, answer) = f(span.of_mut(storage));
         assert!(size <= span.contiguous, "more elements than were lent");
-        self.place.dequeue(capacity, size);
+        self.head.dequeue(capacity, size);
         (size, answer)
     }
 
@@ -410,12 +418,12 @@ impl<'a, T: 'a> RingBuffer<'a, T> {
     /// assert_eq!(ring.dequeue_many(2), b"c");
     /// ```
     ///
-    /// Proved: `net_ring_take_contiguous`, clauses `from`, `count` and `place`.
+    /// Proved: `net_base_ring_dequeue_many`, clauses `from`, `count` and `place`.
     #[must_use]
     #[inline]
     pub fn dequeue_many(&mut self, size: usize) -> &mut [T] {
         let storage: &mut [T] = &mut self.storage;
-        let part = self.place.take_contiguous(storage.len(), size);
+        let part = self.head.dequeue_many(storage.len(), size);
         &mut storage[part.from..][..part.count]
     }
 
@@ -431,7 +439,7 @@ impl<'a, T: 'a> RingBuffer<'a, T> {
     /// assert_eq!((ring.dequeue_slice(&mut into), &into), (3, b"abc--"));
     /// ```
     ///
-    /// Proved: `net_ring_take`, clauses `from`, `count`, `contiguous` and `place`.
+    /// Proved: `net_base_ring_dequeue_span`, clauses `from`, `count`, `contiguous` and `place`.
     #[must_use]
     #[inline]
     pub fn dequeue_slice(&mut self, data: &mut [T]) -> usize
@@ -439,7 +447,7 @@ impl<'a, T: 'a> RingBuffer<'a, T> {
         T: Copy,
     {
         let storage: &[T] = &self.storage;
-        let span = self.place.take(storage.len(), data.len());
+        let span = self.head.dequeue_span(storage.len(), data.len());
         copy_out(storage, span, data)
     }
 }
@@ -460,13 +468,13 @@ impl<'a, T: 'a> RingBuffer<'a, T> {
     /// assert_eq!(ring.get_unallocated(2, 1), b"");
     /// ```
     ///
-    /// Proved: `net_ring_free`, clauses `from`, `count` and `contiguous`.
+    /// Proved: `net_base_ring_unallocated`, clauses `from`, `count` and `contiguous`.
     #[must_use]
     #[inline]
     pub fn get_unallocated(&mut self, offset: usize, size: usize) -> &mut [T] {
         let storage: &mut [T] = &mut self.storage;
-        let span = self.place.free(storage.len(), offset, size);
-        part_mut(storage, span)
+        let span = self.head.unallocated(storage.len(), offset, size);
+        span.of_mut(storage)
     }
 
     /// Copies as many elements of `data` as there is room for to the free elements from the one at
@@ -482,15 +490,15 @@ impl<'a, T: 'a> RingBuffer<'a, T> {
     /// assert_eq!(ring.get_allocated(0, 4), b"abcd");
     /// ```
     ///
-    /// Proved: `net_ring_free`, clauses `from`, `count` and `contiguous`.
+    /// Proved: `net_base_ring_unallocated`, clauses `from`, `count` and `contiguous`.
     #[must_use]
-    #[inline]
+    #[inline(always)]
     pub fn write_unallocated(&mut self, offset: usize, data: &[T]) -> usize
     where
         T: Copy,
     {
         let storage: &mut [T] = &mut self.storage;
-        let span = self.place.free(storage.len(), offset, data.len());
+        let span = self.head.unallocated(storage.len(), offset, data.len());
         copy_in(storage, span, data)
     }
 
@@ -507,10 +515,10 @@ impl<'a, T: 'a> RingBuffer<'a, T> {
     /// assert_eq!(ring.get_allocated(0, 4), b"ab");
     /// ```
     ///
-    /// Proved: `net_ring_enqueue`, clauses `done`, `place` and `unchanged`.
+    /// Proved: `net_base_ring_enqueue`, clauses `done`, `place` and `unchanged`.
     #[inline]
     pub fn enqueue_unallocated(&mut self, count: usize) {
-        assert!(self.place.enqueue(self.storage.len(), count), "no room for so many elements");
+        assert!(self.head.enqueue(self.storage.len(), count), "no room for so many elements");
     }
 
     /// Lends contiguous queued elements, at most `size`, from the one at `offset` on.
@@ -525,12 +533,12 @@ impl<'a, T: 'a> RingBuffer<'a, T> {
     /// assert_eq!((ring.get_allocated(1, 9), ring.get_allocated(4, 9)), (&b"bc"[..], &b""[..]));
     /// ```
     ///
-    /// Proved: `net_ring_queued`, clauses `from`, `count` and `contiguous`.
+    /// Proved: `net_base_ring_allocated`, clauses `from`, `count` and `contiguous`.
     #[must_use]
     #[inline]
     pub fn get_allocated(&self, offset: usize, size: usize) -> &[T] {
         let storage: &[T] = &self.storage;
-        part(storage, self.place.queued(storage.len(), offset, size))
+        self.head.allocated(storage.len(), offset, size).of(storage)
     }
 
     /// Copies as many queued elements as `data` has room for, from the one at `offset` on, to its
@@ -545,7 +553,7 @@ impl<'a, T: 'a> RingBuffer<'a, T> {
     /// assert_eq!((ring.read_allocated(1, &mut into), &into), (2, b"bc--"));
     /// ```
     ///
-    /// Proved: `net_ring_queued`, clauses `from`, `count` and `contiguous`.
+    /// Proved: `net_base_ring_allocated`, clauses `from`, `count` and `contiguous`.
     #[must_use]
     #[inline]
     pub fn read_allocated(&mut self, offset: usize, data: &mut [T]) -> usize
@@ -553,7 +561,7 @@ impl<'a, T: 'a> RingBuffer<'a, T> {
         T: Copy,
     {
         let storage: &[T] = &self.storage;
-        let span = self.place.queued(storage.len(), offset, data.len());
+        let span = self.head.allocated(storage.len(), offset, data.len());
         copy_out(storage, span, data)
     }
 
@@ -571,10 +579,104 @@ impl<'a, T: 'a> RingBuffer<'a, T> {
     /// assert_eq!(ring.get_allocated(0, 4), b"c");
     /// ```
     ///
-    /// Proved: `net_ring_dequeue`, clauses `done`, `place` and `unchanged`.
+    /// Proved: `net_base_ring_dequeue`, clauses `done`, `place` and `unchanged`.
     #[inline]
     pub fn dequeue_allocated(&mut self, count: usize) {
-        assert!(self.place.dequeue(self.storage.len(), count), "fewer elements are queued");
+        assert!(self.head.dequeue(self.storage.len(), count), "fewer elements are queued");
+    }
+}
+
+/// The queue as std's `VecDeque` shows one. (Additions to smoltcp's calls.)
+impl<'a, T: 'a> RingBuffer<'a, T> {
+    /// Shows the queue, in order, in two parts: the elements up to the storage's end, and those from its
+    /// beginning on. The second part is empty unless the queue wraps.
+    ///
+    /// ```
+    /// # use net_base::storage::RingBuffer;
+    /// # let mut storage = [0u8; 4];
+    /// # let mut ring = RingBuffer::new(&mut storage[..]);
+    /// assert_eq!(ring.enqueue_slice(b"abc"), 3);
+    /// ring.dequeue_allocated(2);
+    /// assert_eq!(ring.enqueue_slice(b"def"), 3);
+    /// assert_eq!(ring.as_slices(), (&b"cd"[..], &b"ef"[..]));
+    /// ```
+    ///
+    /// Proved: `net_base_ring_allocated`, clauses `from`, `count` and `contiguous`.
+    #[must_use]
+    #[inline]
+    pub fn as_slices(&self) -> (&[T], &[T]) {
+        let storage: &[T] = &self.storage;
+        let span = self.head.allocated(storage.len(), 0, usize::MAX);
+        (span.of(storage), &storage[..span.count - span.contiguous])
+    }
+
+    /// Returns an iterator over the queue, in order.
+    ///
+    /// ```
+    /// # use net_base::storage::RingBuffer;
+    /// # let mut storage = [0u8; 4];
+    /// # let mut ring = RingBuffer::new(&mut storage[..]);
+    /// assert_eq!(ring.enqueue_slice(b"abc"), 3);
+    /// ring.dequeue_allocated(2);
+    /// assert_eq!(ring.enqueue_slice(b"def"), 3);
+    /// assert!(ring.iter().eq(b"cdef") && ring.iter().rev().eq(b"fedc"));
+    /// ```
+    ///
+    /// Proved: `net_base_ring_allocated`, clauses `from`, `count` and `contiguous`.
+    pub fn iter(&self) -> impl DoubleEndedIterator<Item = &T> + '_ {
+        let (first, second) = self.as_slices();
+        first.iter().chain(second)
+    }
+
+    /// Shows the element of the queue at `index`, counted from 0: `None` if there are not so many.
+    ///
+    /// ```
+    /// # use net_base::storage::RingBuffer;
+    /// # let mut storage = [0u8; 4];
+    /// # let mut ring = RingBuffer::new(&mut storage[..]);
+    /// assert_eq!(ring.enqueue_slice(b"abc"), 3);
+    /// assert_eq!((ring.get(0), ring.get(2), ring.get(3)), (Some(&b'a'), Some(&b'c'), None));
+    /// ```
+    ///
+    /// Proved: `net_base_ring_allocated`, clauses `from` and `count`.
+    #[must_use]
+    #[inline]
+    pub fn get(&self, index: usize) -> Option<&T> {
+        self.get_allocated(index, 1).first()
+    }
+
+    /// Shows the first element of the queue, the next one to be dequeued: `None` if it is empty.
+    ///
+    /// ```
+    /// # use net_base::storage::RingBuffer;
+    /// # let mut storage = [0u8; 4];
+    /// # let mut ring = RingBuffer::new(&mut storage[..]);
+    /// assert_eq!(ring.enqueue_slice(b"abc"), 3);
+    /// assert_eq!(ring.front(), Some(&b'a'));
+    /// ```
+    ///
+    /// Proved: `net_base_ring_allocated`, clauses `from` and `count`.
+    #[must_use]
+    #[inline]
+    pub fn front(&self) -> Option<&T> {
+        self.get(0)
+    }
+
+    /// Shows the last element of the queue, the one that was enqueued last: `None` if it is empty.
+    ///
+    /// ```
+    /// # use net_base::storage::RingBuffer;
+    /// # let mut storage = [0u8; 4];
+    /// # let mut ring = RingBuffer::new(&mut storage[..]);
+    /// assert_eq!(ring.enqueue_slice(b"abc"), 3);
+    /// assert_eq!(ring.back(), Some(&b'c'));
+    /// ```
+    ///
+    /// Proved: `net_base_ring_allocated`, clauses `from` and `count`.
+    #[must_use]
+    #[inline]
+    pub fn back(&self) -> Option<&T> {
+        self.get(self.len().saturating_sub(1))
     }
 }
 
@@ -584,23 +686,11 @@ impl<'a, T: 'a> From<ManagedSlice<'a, T>> for RingBuffer<'a, T> {
     }
 }
 
-/// Lends the contiguous elements of a span.
-#[inline]
-pub(crate) fn part<T>(storage: &[T], span: Span) -> &[T] {
-    &storage[span.from..][..span.contiguous]
-}
-
-/// Lends the contiguous elements of a span.
-#[inline]
-fn part_mut<T>(storage: &mut [T], span: Span) -> &mut [T] {
-    &mut storage[span.from..][..span.contiguous]
-}
-
 /// Copies the first elements of `data` to a span, and returns how many.
 #[inline]
 fn copy_in<T: Copy>(storage: &mut [T], span: Span, data: &[T]) -> usize {
     let (first, rest) = data[..span.count].split_at(span.contiguous);
-    part_mut(storage, span).copy_from_slice(first);
+    span.of_mut(storage).copy_from_slice(first);
     if !rest.is_empty() {
         storage[..rest.len()].copy_from_slice(rest);
     }
@@ -611,9 +701,24 @@ fn copy_in<T: Copy>(storage: &mut [T], span: Span, data: &[T]) -> usize {
 #[inline]
 fn copy_out<T: Copy>(storage: &[T], span: Span, data: &mut [T]) -> usize {
     let (first, rest) = data[..span.count].split_at_mut(span.contiguous);
-    first.copy_from_slice(part(storage, span));
+    first.copy_from_slice(span.of(storage));
     if !rest.is_empty() {
         rest.copy_from_slice(&storage[..rest.len()]);
     }
     span.count
+}
+
+#[cfg(test)]
+mod tests {
+    use super::*;
+    use std::format;
+
+    #[test]
+    fn debug_text() {
+        let mut storage = [0u8; 4];
+        let mut ring = RingBuffer::new(&mut storage[..]);
+        ring.enqueue_unallocated(3);
+        ring.dequeue_allocated(2);
+        assert_eq!(format!("{ring:?}"), "RingBuffer { capacity: 4, read_at: 2, length: 1 }");
+    }
 }
