@@ -61,7 +61,7 @@ def port():
         sources.mkdir(parents=True)
         for file in [file for folder in folders for file in (COMPARE / folder).iterdir()]:
             shutil.copy2(file, sources / file.stem)
-        lines += f"{crate} staticlib: net_ring net_packets net_assembler net_storage net_base net_receiver\n"
+        lines += f"{crate} staticlib: net_ring net_packets net_assembler net_base net_receiver\n"
     shutil.copy2(REPOSITORY / "HANDLES", workspace / "HANDLES")
     (workspace / "crates.txt").write_text(lines)
     return workspace / "crates"
@@ -81,10 +81,10 @@ def program(name, words):
     return crate / "out" / name
 
 
-def archive():
-    """The archive that the crate net-base links."""
-    named = os.environ.get("NET_BASE_ARCHIVE") or REPOSITORY / "rust/lib/x86_64/libnet_ffi.a"
-    return Path(named).resolve()
+def archive(inlined=False):
+    """The archive that the crate net-base links: of machine code, or of bitcode whose functions are inlined."""
+    file = "libnet_ffi_lto.a" if inlined else "libnet_ffi.a"
+    return Path(os.environ.get("NET_BASE_ARCHIVE") or REPOSITORY / "rust/lib/x86_64" / file).resolve()
 
 
 def allocator():
@@ -95,7 +95,7 @@ def allocator():
 
 def cargo(profile, packages, smoltcp, folder=COMPARE, only=(), **variables):
     """Builds packages of a workspace, or only some of their targets, and returns the folder of what was built."""
-    target = Path(os.environ.get("CARGO_TARGET_DIR") or OUT / "target")
+    target = Path(variables.get("CARGO_TARGET_DIR") or os.environ.get("CARGO_TARGET_DIR") or OUT / "target")
     words = ["cargo", "build", "--offline", "--profile", profile]
     for package in packages:
         words += ["--package", package]

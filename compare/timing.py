@@ -1,14 +1,15 @@
 #!/usr/bin/env python3
 """SMOLTCP=path timing.py [--once] [--samples N] [--milliseconds N] [--only WORD] [--lines N] [--runs N] [--svg FILE]
 SMOLTCP=path timing.py --peers [--samples N] [--milliseconds N] [--only WORD]
-SMOLTCP=path timing.py --rust [--once] [--samples N] [--milliseconds N] [--only WORD]
+SMOLTCP=path timing.py --rust [--inlined] [--once] [--samples N] [--milliseconds N] [--only WORD]
 
 Times the workloads of `perf` over the port and over smoltcp in turns, each side linked once for each placement of
 its code, counts instructions and branches if valgrind is there, and times whole runs of net_bench beside a plain
 program over smoltcp. Prints tables in Markdown; --svg writes the plot. Status 1 if results differ.
 With --once: one placement. With --peers: the workloads over the port and over types of std in turns, and the memory
 of both. With --rust: the workloads over the crate net-base, whose exports are called, in place of the port; without
-whole runs and the loopback device, and `rt` isn't needed.
+whole runs and the loopback device, and `rt` isn't needed. With --inlined too: both sides are built as a user builds a
+program with `-C linker-plugin-lto`, in cargo's default profile, and rustc's lld inlines the exports.
 """
 import argparse
 import datetime
@@ -16,6 +17,7 @@ import math
 import os
 import platform
 import random
+import re
 import shutil
 import statistics
 import subprocess
@@ -31,6 +33,8 @@ import plot
 
 # The port is built for this processor.
 FLAGS = "-C target-cpu=x86-64-v2"
+# Cargo's default profile of a release, in place of the one of this workspace.
+DEFAULT_PROFILE = {"CARGO_PROFILE_RELEASE_LTO": "false", "CARGO_PROFILE_RELEASE_CODEGEN_UNITS": "16"}
 
 
 # Functions begin at multiples of 16 bytes, and a processor fetches code in blocks of 64.
@@ -40,12 +44,22 @@ TEXT = 0x400000
 SYSTEM = ["-lgcc_s", "-lutil", "-lrt", "-lpthread", "-lm", "-ldl", "-lc"]
 
 
-def placed(built, name, libraries, placements):
+def lld():
+    """The words by which `cc` links with the lld that rustc brings."""
+    ask = lambda *words: subprocess.run(["rustc", *words], capture_output=True, text=True, check=True).stdout
+    host = re.search(r"^host: (.*)$", ask("-vV"), flags=re.M)[1]
+    folder = Path(ask("--print", "sysroot").strip()) / "lib/rustlib" / host / "bin/gcc-ld"
+    if not folder.is_dir():
+        sys.exit(f"this rustc brings no lld: there is no {folder}")
+    return [f"-B{folder}", "-fuse-ld=lld", "-Wl,--lto-O3"]
+
+
+def placed(built, name, libraries, placements, linker):
     """A side as shared libraries, one for each placement of its code."""
     paths = []
     for pad in placements:
         path = built / f"{name}_{pad}.so"
-        words = ["cc", "-shared", "-fuse-ld=bfd", "-o", path, "-Wl,-Bsymbolic", "-Wl,-u,side_workloads"]
+        words = ["cc", "-shared", *linker, "-o", path, "-Wl,-Bsymbolic", "-Wl,-u,side_workloads"]
         words += [f"-Wl,-Ttext={TEXT + pad:#x}", built / f"lib{name}.a", *libraries, *SYSTEM]
         common.run(words, f"link_{path.stem}")
         paths.append(str(path))
@@ -220,10 +234,15 @@ def machine():
     return f"{name}, {os.cpu_count()} processors, load {os.getloadavg()[0]:.1f}"
 
 
-def rust_sides(smoltcp, libraries):
+def rust_sides(smoltcp, libraries, inlined):
     """Builds what times the crate net-base."""
-    variables = {"PORT_LIBS": str(libraries[0]), "NET_BASE_ARCHIVE": str(libraries[0]), "RUSTFLAGS": FLAGS}
+    variables = {"PORT_LIBS": str(libraries[0]), "RUSTFLAGS": FLAGS}
+    if inlined:
+        variables |= DEFAULT_PROFILE | {"RUSTFLAGS": "-C linker-plugin-lto"}
+    elif os.environ.get("NET_BASE_ARCHIVE"):
+        variables |= {"NET_BASE_ARCHIVE": str(libraries[0])}
     common.cargo("release", ["side_original", "side_rust"], smoltcp, **variables)
+    variables |= {"RUSTFLAGS": FLAGS, "PORT_LIBS": str(common.archive())}
     return common.cargo("release", ["driver"], smoltcp, only=["--bin", "driver"], **variables)
 
 
@@ -238,19 +257,23 @@ def main():
     parser.add_argument("--svg")
     parser.add_argument("--peers", action="store_true")
     parser.add_argument("--rust", action="store_true")
+    parser.add_argument("--inlined", action="store_true")
     arguments = parser.parse_args()
+    if arguments.inlined and not arguments.rust:
+        parser.error("--inlined goes with --rust")
     if arguments.peers or arguments.rust:
         arguments.lines = 0
     smoltcp = common.need(["cargo"] if arguments.rust else ["cargo", "rt"])
     if arguments.rust:
-        side, libraries = "side_rust", [common.archive()]
-        built = rust_sides(smoltcp, libraries)
+        side, libraries = "side_rust", [common.archive(arguments.inlined)]
+        built = rust_sides(smoltcp, libraries, arguments.inlined)
     else:
         side, libraries = "side_port", [common.static_library("net_perf"), common.allocator()]
         packages = ["driver", "side_original", "side_port", "plain"]
         built = common.cargo("release", packages, smoltcp, PORT_LIBS=":".join(map(str, libraries)), RUSTFLAGS=FLAGS)
     placements = PLACEMENTS[:1] if arguments.once or arguments.peers else PLACEMENTS
-    sides = [placed(built, side, libraries, placements), placed(built, "side_original", [], placements)]
+    linker = lld() if arguments.inlined else ["-fuse-ld=bfd"]
+    sides = [placed(built, side, libraries, placements, linker), placed(built, "side_original", [], placements, linker)]
     bench = common.program("net_bench", ["ring", "1"]) if arguments.lines else None
     print(f"{datetime.date.today()}; {machine()}; {len(placements)} placements of each side, "
           f"{arguments.samples} samples of {arguments.milliseconds:g} ms a row and placement\n")

@@ -5,8 +5,8 @@ In doc comments of crates/*/src, each block between ``` lines is an example: it 
 of one of EXAMPLES, crates that the gate proves, and to name the item that it documents. The pages are README.md,
 CONTRIBUTING.md, docs/*.md and crates/*/CALLING.md. Of their blocks between ``` lines,
 
-- one marked `rust` has to be found, line by line, in one file crates/*/src/**/*.rt, which the prover checks. How
-  far it is indented doesn't matter, nor does the attribute `#![tactic(auto)]`, which each crate has in its
+- one marked `rust` has to be found, line by line, in one file crates/*/src/**/*.rt, which the prover checks, or in the
+  examples of rust/src, which `cargo test` runs. How far it is indented doesn't matter, nor does the attribute `#![tactic(auto)]`, which each crate has in its
   root;
 - of one marked `text`, which shows contracts, each line that has a clause in braces has to be found in one file,
   in order, except a remark after two spaces or more. Of each other function in it, `fn NAME` or
@@ -24,7 +24,8 @@ In prose, between backquotes,
 - a name of a value in an answer, such as `c.part.ensures`, has to be in a file `proofs/**/*.antt`;
 - a path `Rattle.CRATE.specs.FILE` has to be that of a file of a crate's specs;
 - a file with a number of lines after it, such as `specs/Frames.antt`, 24 lines, has to have so many;
-- each name after the word "clause" has to be that of a clause of some function.
+- each name after the word "clause" has to be that of a clause of some function, and where "of" and a function's name
+  follow, of one of that name.
 
 Says what is not in the sources, and ends with status 1 if there is anything.
 """
@@ -41,7 +42,7 @@ SOURCES = ["crates/**/*", "models/*", "compare/**/*", "rust/**/*", "c/**/*", "to
 ELSEWHERE = set("""
     Gone FitsInMemory ManuallyDrop new_unchecked NonZero WouldBlock must_use non_exhaustive
     pad_integral styled write_char plant tidy my_crate directory logic dac8208d650f15bf
-    axioms my_program CAUSE DATA END MODULE PATH dev null poll_at start_lib BUILD bazel
+    axioms trusted nat nano compiler_builtins defmt Format Clinker iproute2 util my my_program CAUSE DATA END MODULE PATH dev null poll_at start_lib BUILD bazel
     c.storage-1.given
 """.split())
 NAME = re.compile(r"[A-Za-z_][A-Za-z0-9_]*")
@@ -238,6 +239,18 @@ def names_of_answers():
     return known
 
 
+def clauses_of(page):
+    """Each clause that a page says is of a function: its line, its name, and the function's without a path."""
+    text = page.read_text()
+    listed = r"(?P<clauses>`\w+`(?:(?:,| and| or|, and)\s+`\w+`)*)"
+    name = r"`(?P<name>\w+(?:::\w+)*)`"
+    for form in (rf"[Cc]lauses?\s+{listed}\s+of\s+{name}", rf"{name},\s+clauses?\s+{listed}"):
+        for found in re.finditer(form, text):
+            number = text.count("\n", 0, found.start()) + 1
+            for clause in re.findall(r"`(\w+)`", found["clauses"]):
+                yield number, clause, found["name"].split("::")[-1]
+
+
 def is_spec(span):
     """Whether each path `Rattle.CRATE.specs.FILE` in a span is that of a file, or of one that the crate passes on."""
     for crate, name in re.findall(r"\bRattle\.(net_\w+)\.specs\.([A-Z]\w*)", span):
@@ -257,9 +270,11 @@ def has_lines(span, count):
 def main():
     crates = sorted(ROOT.glob("crates/*"))
     sources = [path.read_text().splitlines() for path in sorted(ROOT.glob("crates/*/src/**/*.rt"))]
+    for path in sorted(ROOT.glob("rust/src/**/*.rs")):
+        sources.append([re.sub(r"^\s*//[/!] ?", "", line) for line in path.read_text().splitlines()])
     known = {crate: functions(crate) for crate in crates}
-    pages = [ROOT / "README.md", *sorted(ROOT.glob("docs/*.md")), *sorted(ROOT.glob("crates/*/CALLING.md"))]
-    counts = {"blocks": 0, "examples": 0, "quoted": 0, "retold": 0}
+    pages = [ROOT / "README.md", ROOT / "rust/README.md", *sorted(ROOT.glob("docs/*.md")), *sorted(ROOT.glob("crates/*/CALLING.md"))]
+    counts = {"blocks": 0, "examples": 0, "quoted": 0, "retold": 0, "clauses": 0}
     missing = 0
 
     def miss(page, number, what):
@@ -309,6 +324,11 @@ def main():
     answers = names_of_answers() | ELSEWHERE
     all_clauses = {clause for here in known.values() for clauses in here.values() for clause in clauses}
     for page in [*pages, ROOT / "CONTRIBUTING.md"]:
+        for number, clause, name in clauses_of(page):
+            having = [here[name] for here in known.values() if name in here]
+            if having and not any(clause in here for here in having):
+                miss(page, number, f"{name} has no clause {clause}")
+            counts["clauses"] += bool(having)
         for number, name in clauses_named(page):
             if name not in all_clauses:
                 miss(page, number, f"no function has a clause {name}")
@@ -328,6 +348,7 @@ def main():
     print(f"{counts['blocks']} quoted blocks are in the sources")
     print(f"{counts['examples']} examples of doc comments are in {', '.join(EXAMPLES)}")
     print(f"of the contracts that pages tell, {counts['quoted']} clauses are quoted and {counts['retold']} retold")
+    print(f"{counts['clauses']} clauses that pages name are those of their functions")
     print(f"{missing} things are in no source")
     return 1 if missing else 0
 

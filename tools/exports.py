@@ -1,0 +1,300 @@
+"""The tests of the exports in both languages, from the rows of exports.txt: part of ffi.py, which writes them.
+
+The first lines of exports.txt say what a row is. Each export has one, and so has each constant.
+"""
+import pathlib
+import re
+import sys
+
+import ffi
+
+TABLE = pathlib.Path(__file__).resolve().parent / "exports.txt"
+TESTS = ffi.ROOT / "rust/src/sys/tests.rs"
+CHECKS = ffi.ROOT / "c/exports.c"
+TOKEN = re.compile(r'"[^"]*"|[\[\]{}]|[^\s\[\]{}"]+')
+ANY, SAME = "_", "="
+
+
+def stop(line, message):
+    sys.exit(f"exports.txt:{line}: {message}")
+
+
+class Row:
+    """A call of an export: its arguments, its result and what it leaves, as trees of texts and lists."""
+
+    def __init__(self, line, item, arguments, result, left):
+        self.line, self.item, self.arguments, self.result, self.left = line, item, arguments, result, left
+
+
+class Table:
+    """The rows by export, and the numbers of the constants."""
+
+    def __init__(self, library):
+        self.library, self.names, self.numbers = library, {}, {}
+        self.exports = {item.name: item for item in library.exports()}
+        self.rows = {name: [] for name in self.exports}
+        for line, text in enumerate(TABLE.read_text().splitlines(), start=1):
+            self.take(line, text.split("#")[0].strip() if text.startswith("#") else text.strip())
+        constants = {item.name for _, section in library.sections for item in section if item.kind == "const"}
+        for name in sorted(constants - {f"NET_BASE_{name}" for name in self.numbers}):
+            sys.exit(f"exports.txt: no number of {name}")
+        for name in [name for name, rows in self.rows.items() if not rows]:
+            sys.exit(f"exports.txt: no row of {name}")
+
+    def take(self, line, text):
+        if not text:
+            return
+        if match := re.fullmatch(r"const (\w+) (\S+)", text):
+            self.numbers[match[1]] = 2**64 - 1 if match[2] == "MAX" else int(match[2])
+        elif match := re.fullmatch(r"let (\w+) = (.+)", text):
+            self.names[match[1]] = self.values(match[2])[0]
+        else:
+            before, after = text.split(" ->", 1)
+            name, *_ = before.split()
+            item = self.exports.get(f"net_base_{name}") or stop(line, f"no export net_base_{name}")
+            arguments, after = self.values(before[len(name) :]), self.values(after)
+            written = [member for member in item.members if member.type.startswith("&mut")]
+            if len(arguments) != len(item.members) or len(after) != bool(item.type) + len(written):
+                stop(line, f"not the arguments, the result and what is left of {item.name}")
+            result = after.pop(0) if item.type else None
+            now = dict(zip([member.name for member in item.members], arguments))
+            left = {it.name: now[it.name] if value == SAME else value for it, value in zip(written, after)}
+            self.rows[item.name].append(Row(line, item, now, result, left))
+
+    def values(self, text):
+        """The values of a text: a text each, or a list of values with its bracket before them."""
+        stack = [[]]
+        for token in TOKEN.findall(text):
+            if token in "[{":
+                stack.append([token])
+            elif token in "]}":
+                done = stack.pop()
+                stack[-1].append(done)
+            else:
+                stack[-1].append(self.names.get(token, token))
+        return stack[0]
+
+    def number(self, text, kind):
+        """The number that a text says, of a type."""
+        bits = int(re.sub(r"\D", "", kind) or 64)
+        least = -(2 ** (bits - 1)) if kind[0] == "i" else 0
+        values = {"MAX": least + 2**bits - 1, "MIN": least} | self.numbers
+        match = re.fullmatch(r"(-?)(0x[0-9a-f]+|2\^\d+|\w+)([+-]\d+)?", text)
+        sign, word, more = match.groups()
+        value = values[word] if word in values else 2 ** int(word[2:]) if word[1:2] == "^" else int(word, 0)
+        value = (-value if sign else value) + int(more or 0)
+        if not least <= value < least + 2**bits:
+            sys.exit(f"exports.txt: {text} is no {kind}")
+        return value
+
+    def is_wide(self, row):
+        """Whether an argument is a number that a processor of 32 bits doesn't have."""
+        return any(
+            member.type == "usize" and self.number(row.arguments[member.name], "usize") >= 2**32
+            for member in row.item.members
+        )
+
+
+class Language:
+    """How a language writes values of a type, and compares them."""
+
+    def __init__(self, table):
+        self.table, self.structs = table, table.library.structs
+
+    def value(self, tree, kind):
+        if kind == "bool":
+            return tree
+        if kind in self.structs:
+            fields = [(field, self.value(it, field.type)) for field, it in zip(self.fields(tree, kind), tree[1:])]
+            return self.struct(kind, fields)
+        return self.literal(self.table.number(tree, kind), kind)
+
+    def fields(self, tree, kind):
+        fields = self.structs[kind].members
+        if not isinstance(tree, list) or tree[0] != "{" or len(tree) != len(fields) + 1:
+            sys.exit(f"exports.txt: {tree} is no {kind}")
+        return fields
+
+    def compared(self, name, tree, kind):
+        """Comparisons of what has a name with a value."""
+        if tree == ANY:
+            return []
+        if slice_of := re.fullmatch(r"\[(.+)\]", kind):
+            if isinstance(tree, str):
+                return [self.bytes_equal(name, tree)]
+            return [it for at, part in enumerate(tree[1:]) for it in self.compared(f"{name}[{at}]", part, slice_of[1])]
+        if kind in self.structs:
+            fields = zip(self.fields(tree, kind), tree[1:])
+            return [it for field, part in fields for it in self.compared(f"{name}.{field.name}", part, field.type)]
+        return [f"{name} == {self.value(tree, kind)}"]
+
+    def left(self, row, skipped=()):
+        members = [it for it in row.item.members if it.name in row.left and it.name not in skipped]
+        return [it for member in members for it in self.compared(member.name, row.left[member.name], pointee(member))]
+
+
+def pointee(member):
+    return re.sub(r"^&(mut )?", "", member.type)
+
+
+class C(Language):
+    def literal(self, number, kind):
+        bits = 64 if kind.endswith("size") else int(re.sub(r"\D", "", kind))
+        sign = "U" if kind[0] == "u" else ""
+        least = 0 if sign else -(2 ** (bits - 1))
+        greatest = least + 2**bits - 1
+        if greatest - number < 100:
+            return f"{sign}INT{bits}_MAX" + f" - {greatest - number}" * (number < greatest)
+        if least < 0 and number - least < 100:
+            return f"INT{bits}_MIN" + f" + {number - least}" * (number > least)
+        return str(number) if abs(number) < 2**31 else f"{sign}INT64_C({number})"
+
+    def struct(self, kind, fields):
+        return "{" + ", ".join(value for _, value in fields) + "}"
+
+    def bytes_equal(self, name, text):
+        return f"memcmp({name}, {text}, {len(text) - 2}) == 0"
+
+    def argument(self, member, tree):
+        """The variable that an argument wants, and how it is passed."""
+        kind = pointee(member)
+        if slice_of := re.fullmatch(r"\[(.+)\]", kind):
+            mutable, length = member.type.startswith("&mut"), len(tree) - (2 if isinstance(tree, str) else 1)
+            if isinstance(tree, str):
+                variable = [f"uint8_t {member.name}[] = {tree};"] if mutable else []
+                passed = member.name if mutable else f"text({tree})"
+            else:
+                parts = ", ".join(self.value(part, slice_of[1]) for part in tree[1:])
+                variable = [f"{ffi.c_type(slice_of[1])} {member.name}[] = {{{parts}}};"] if mutable else []
+                array = f"[]){{{parts}}}" if parts else "[1]){0}"
+                passed = member.name if mutable else f"({ffi.c_type(slice_of[1])}{array}"
+            return variable, f"{passed}, {length}"
+        value = self.value(tree, kind)
+        if member.type.startswith("&mut"):
+            return [f"{ffi.c_type(kind)} {member.name} = {value};"], f"&{member.name}"
+        return [], f"&({ffi.c_type(kind)}){value}" if member.type.startswith("&") else value
+
+    def row(self, row):
+        arguments = [self.argument(member, row.arguments[member.name]) for member in row.item.members]
+        lines = [line for variable, _ in arguments for line in variable]
+        call = f"{row.item.name}({', '.join(passed for _, passed in arguments)})"
+        if not row.item.type:
+            lines.append(f"{call};")
+        elif row.item.type in self.structs:
+            values = ", ".join(self.value(part, field.type) for field, part in
+                               zip(self.fields(row.result, row.item.type), row.result[1:]))
+            lines.append(f"CHECK({is_name(row.item.type)}({call}, {values}));")
+        elif row.item.type == "bool":
+            lines.append(f"CHECK({'' if row.result == 'true' else '!'}{call});")
+        else:
+            lines.append(f"CHECK({call} == {self.value(row.result, row.item.type)});")
+        left = self.left(row)
+        lines += [f"CHECK({' && '.join(left)});"] if left else []
+        return [f"    {lines[0]}"] if len(lines) == 1 else ["    {"] + [f"        {line}" for line in lines] + ["    }"]
+
+    def part(self):
+        lines = [ffi.BEGIN, ""]
+        wrong = " || ".join(f"NET_BASE_{name} != {self.literal(it, 'u64')}" for name, it in self.table.numbers.items())
+        lines += [f"#if {wrong}".replace(" || ", " \\\n    || "), '#error "a number of net_base.h isn\'t that of the table"', "#endif"]
+        for name in sorted({item.type for item in self.table.exports.values()} & set(self.structs)):
+            members = self.structs[name].members
+            parameters = [f"{ffi.c_type(name)} it"] + [part for it in members for part in ffi.c_members(it)]
+            lines += [""] + ffi.filled(f"static bool {is_name(name)}(", parameters, ") {")
+            lines += [f"    return {' && '.join(f'it.{it.name} == {it.name}' for it in members)};", "}"]
+        for name, rows in self.table.rows.items():
+            lines += ["", f"static void check_{name.removeprefix('net_base_')}(void) {{"]
+            lines += [line for row in rows for line in self.row(row)] + ["}"]
+        lines += ["", "static void check_exports(void) {"]
+        lines += [f"    check_{name.removeprefix('net_base_')}();" for name in self.table.rows] + ["}"]
+        return "\n".join(lines + ["", ffi.END]) + "\n"
+
+
+def is_name(struct):
+    return ffi.c_struct(struct).removeprefix("struct net_base_") + "_is"
+
+
+class Rust(Language):
+    def __init__(self, table):
+        super().__init__(table)
+        self.own = {item.name for item in ffi.rust_own(table.library)}
+
+    def literal(self, number, kind):
+        bits = int(re.sub(r"\D", "", kind) or 64)
+        least = -(2 ** (bits - 1)) if kind[0] == "i" else 0
+        greatest = least + 2**bits - 1
+        if greatest - number < 100:
+            return f"{kind}::MAX" + f" - {greatest - number}" * (number < greatest)
+        if least < 0 and number - least < 100:
+            return f"{kind}::MIN" + f" + {number - least}" * (number > least)
+        return str(number)
+
+    def struct(self, kind, fields):
+        wide = kind not in self.own
+        parts = [f"{field.name}: {value.replace('usize::', 'u64::') if wide else value}" for field, value in fields]
+        return f"{kind} {{ {', '.join(parts)} }}"
+
+    def compared(self, name, tree, kind):
+        # The numbers of heads and of runs have 64 bits here.
+        return [it.replace("usize::", "u64::") for it in super().compared(name, tree, kind)]
+
+    def bytes_equal(self, name, text):
+        return f"{name} == *b{text}"
+
+    def argument(self, member, tree):
+        kind, mutable = pointee(member), member.type.startswith("&mut")
+        if slice_of := re.fullmatch(r"\[(.+)\]", kind):
+            if isinstance(tree, str):
+                return [f"let mut {member.name} = *b{tree};"] if mutable else [], f"&mut {member.name}" if mutable else f"b{tree}"
+            array = f"[{', '.join(self.value(part, slice_of[1]) for part in tree[1:])}]"
+            return [f"let mut {member.name} = {array};"] if mutable else [], f"&mut {member.name}" if mutable else f"&{array}"
+        value = self.value(tree, kind)
+        if mutable:
+            return [f"let mut {member.name} = {value};"], f"&mut {member.name}"
+        return [], f"&{value}" if member.type.startswith("&") else value
+
+    def row(self, row):
+        item, members = row.item, list(row.item.members)
+        owner, name = ffi.method_of(item, self.structs)
+        written = members.pop() if ffi.is_option(item) else None
+        arguments = [self.argument(member, row.arguments[member.name]) for member in members]
+        lines = [line for variable, _ in arguments for line in variable]
+        passed = [it for _, it in arguments]
+        if owner:
+            call = f"{passed[0].removeprefix('&mut ').removeprefix('&')}.{name}({', '.join(passed[1:])})"
+        else:
+            call = f"{name}({', '.join(passed)})"
+        call = f"unsafe {{ {call} }}" if item.requires else call
+        if written:
+            value = self.value(row.left[written.name], pointee(written))
+            lines.append(f"assert_eq!({call}, {f'Some({value})' if row.result == 'true' else 'None'});")
+        elif not item.type:
+            lines.append(f"{call};")
+        elif item.type == "bool":
+            lines.append(f"assert!({'' if row.result == 'true' else '!'}{call});")
+        else:
+            lines.append(f"assert_eq!({call}, {self.value(row.result, item.type)});")
+        left = self.left(row, [written.name] if written else [])
+        lines += [f"assert!({' && '.join(left)});"] if left else []
+        wide = ['    #[cfg(target_pointer_width = "64")]'] if self.table.is_wide(row) else []
+        if len(lines) == 1:
+            return wide + [f"    {lines[0]}"]
+        return wide + ["    {"] + [f"        {line}" for line in lines] + ["    }"]
+
+    def file(self):
+        lines = ["//! Each export at the values of tools/exports.txt: a test has the export's name.", "//!"]
+        lines += ["//! Written by `python3 tools/ffi.py`.", "use super::calls::*;"]
+        lines += [f"use super::calls::{{{', '.join(sorted(self.own))}}};"]
+        lines += ["use super::declarations::*;", ""]
+        lines += ["#[test]", "fn constants() {"]
+        lines += [f"    assert_eq!(NET_BASE_{name}, {self.literal(it, 'u64')});" for name, it in self.table.numbers.items()]
+        lines += ["}"]
+        for name, rows in self.table.rows.items():
+            lines += ["", "#[test]", f"fn {name}() {{"] + [line for row in rows for line in self.row(row)] + ["}"]
+        return "\n".join(lines) + "\n"
+
+
+def written(library):
+    """The files of tests, with their texts."""
+    table = Table(library)
+    before, rest = CHECKS.read_text().split(ffi.BEGIN + "\n", 1)
+    return [(CHECKS, before + C(table).part() + rest.split(ffi.END + "\n", 1)[1]), (TESTS, Rust(table).file())]

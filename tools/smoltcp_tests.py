@@ -1,0 +1,204 @@
+#!/usr/bin/env python3
+"""SMOLTCP=path python3 tools/smoltcp_tests.py [--keep FOLDER]
+
+Runs smoltcp's own tests of `storage` and `time`, and the examples of its page on `phy`, over this crate. It copies the
+crate, appends to each of these files the test module of smoltcp's file of that name, makes the page's examples those of
+a module, and runs `cargo test` there. It prints what had to be replaced or added for them to compile, and how many
+passed; status 1 if one fails or they are not as many as the checkout has.
+"""
+import argparse
+import os
+import re
+import shutil
+import subprocess
+import sys
+import tempfile
+from pathlib import Path
+
+CRATE = Path(__file__).resolve().parent.parent / "rust"
+FILES = ["storage/ring_buffer", "storage/packet_buffer", "storage/assembler", "time"]
+
+HELPER = """    impl From<Vec<(usize, usize)>> for Assembler {
+        fn from(holes_and_data: Vec<(usize, usize)>) -> Assembler {
+            let (mut assembler, mut from) = (Assembler::new(), 0);
+            for (hole, data) in holes_and_data {
+                assembler.add(from + hole, data).unwrap();
+                from += hole + data;
+            }
+            assembler
+        }
+    }
+"""
+
+# The tests of the ring write and read its field `length`, which is in `head` here.
+FIELDS = """
+#[cfg(test)]
+impl<T> core::ops::Deref for RingBuffer<'_, T> {
+    type Target = RingHead;
+
+    fn deref(&self) -> &RingHead {
+        &self.head
+    }
+}
+
+#[cfg(test)]
+impl<T> core::ops::DerefMut for RingBuffer<'_, T> {
+    fn deref_mut(&mut self) -> &mut RingHead {
+        &mut self.head
+    }
+}
+"""
+
+# Those of the packet queue name its field `metadata_ring`, and ask how long it is: here `slots` of `head`.
+HEAD = """
+#[cfg(test)]
+impl<H> core::ops::Deref for PacketBuffer<'_, H> {
+    type Target = PacketsHead;
+
+    fn deref(&self) -> &PacketsHead {
+        &self.head
+    }
+}
+"""
+
+RUNS = "\n#[cfg(test)]\nconst ASSEMBLER_MAX_SEGMENT_COUNT: usize = 4;\n"
+
+RAND = """//! As much of the crate `rand` as the tests ask for.
+use std::cell::Cell;
+use std::ops::{Bound, RangeBounds};
+
+pub struct ThreadRng;
+
+pub fn thread_rng() -> ThreadRng {
+    ThreadRng
+}
+
+thread_local!(static STATE: Cell<u64> = const { Cell::new(1) });
+
+pub trait Rng {
+    fn gen_range(&mut self, range: impl RangeBounds<usize>) -> usize {
+        let word = STATE.get().wrapping_mul(6364136223846793005).wrapping_add(1442695040888963407);
+        STATE.set(word);
+        let first = match range.start_bound() {
+            Bound::Included(&first) => first,
+            _ => 0,
+        };
+        let last = match range.end_bound() {
+            Bound::Included(&last) => last,
+            Bound::Excluded(&end) => end - 1,
+            Bound::Unbounded => usize::MAX,
+        };
+        first + (word >> 33) as usize % (last - first + 1)
+    }
+}
+
+impl Rng for ThreadRng {}
+"""
+
+
+def test_module(path):
+    """The test module at the end of a file."""
+    text = path.read_text()
+    match = re.search(r"^#\[cfg\(test\)\]\nmod test \{\n.*\Z", text, flags=re.M | re.S)
+    if not match:
+        sys.exit(f"{path} has no test module")
+    return match[0]
+
+
+def replaced(text, pattern, by, what, where, count=1):
+    """A text with what a pattern finds replaced; says so."""
+    text, found = re.subn(pattern, lambda _: by, text, flags=re.M | re.S)
+    if found != count:
+        sys.exit(f"{where}: {what} was found {found} times")
+    print(f"{where}: {what}")
+    return text
+
+
+def rename_slots(sources):
+    """Names the field `slots` of a packet queue's head as smoltcp does. The crate's own tests of it aren't run here."""
+    (sources / "sys/tests.rs").write_text("")
+    for path in list(sources.rglob("*.rs")):
+        text = re.sub(r"\bhead\.slots\b", "head.metadata_ring", path.read_text())
+        text = re.sub(r"\bslots: RingHead\b", "metadata_ring: RingHead", text)
+        path.write_text(text)
+    print("storage/packet_buffer: replaced: the name of that field")
+
+
+def add_phy_page(sources, crate):
+    """Makes the examples of smoltcp's `phy` those of a module, and returns how many there are."""
+    text = re.sub(r"^/// ?", "", (sources / "phy/mod.rs").read_text(), flags=re.M)
+    examples = re.findall(r"^```rust\n.*?^```$", text, flags=re.M | re.S)
+    page = "\n\n".join(examples).replace("smoltcp::", "net_base::")
+    print("phy: replaced: the crate's name in its examples")
+    (crate / "src/phy_page.md").write_text(page + "\n")
+    with (crate / "src/lib.rs").open("a") as file:
+        file.write('\n#[doc = include_str!("phy_page.md")]\npub mod phy_page {}\n')
+    return len(examples)
+
+
+def prepare(sources, crate):
+    """Copies the crate, appends the tests, and returns how many there are."""
+    shutil.copytree(CRATE, crate, ignore=shutil.ignore_patterns("target", "examples", "tests"))
+    count = 0
+    for name in FILES:
+        tests = test_module(sources / f"{name}.rs")
+        count += tests.count("#[test]")
+        more = ""
+        if name == "storage/assembler":
+            pattern = r"^    impl From<Vec<\(usize, usize\)>> for Assembler \{\n.*?^    \}\n"
+            what = "replaced: the helper that fills the private array of an assembler, by one that calls `add`"
+            tests = replaced(tests, pattern, HELPER, what, name)
+            more = RUNS
+            print(f"{name}: added: the number of runs that smoltcp's build sets, 4")
+        if name == "storage/packet_buffer":
+            more = HEAD
+            print(f"{name}: added: the queue's head by `Deref`, for tests that name its field `metadata_ring`")
+        if name == "storage/ring_buffer":
+            more = FIELDS
+            print(f"{name}: added: the ring's head by `Deref`, for tests that name its field `length`")
+        with (crate / "src" / f"{name}.rs").open("a") as file:
+            file.write(more + "\n" + tests)
+    rename_slots(crate / "src")
+    root = crate / "src/lib.rs"
+    what = "added: std's macros, since the crate has no std"
+    root.write_text(replaced(root.read_text(), r"^extern crate std;", "#[macro_use]\nextern crate std;", what, "lib"))
+    (crate / "rand/src").mkdir(parents=True)
+    (crate / "rand/src/lib.rs").write_text(RAND)
+    (crate / "rand/Cargo.toml").write_text('[package]\nname = "rand"\nversion = "0.8.0"\nedition = "2021"\n')
+    manifest = crate / "Cargo.toml"
+    manifest.write_text(re.sub(r"^\[\[example\]\]\n(?:.+\n)*", "", manifest.read_text(), flags=re.M))
+    with manifest.open("a") as file:
+        file.write('\n[dev-dependencies]\nrand = { path = "rand" }\n')
+    print("rand: replaced: the crate, by its two functions that a test calls")
+    return count
+
+
+def run(crate, what, count, words):
+    """Runs `cargo test`, of which `count` tests are to pass."""
+    environment = {"CARGO_TARGET_DIR": str(crate / "target")} | os.environ
+    words = ["cargo", "test", "--offline", "--quiet", *words]
+    done = subprocess.run(words, cwd=crate, env=environment, stdout=subprocess.PIPE, text=True)
+    passed = re.search(r"(\d+) passed; (\d+) failed", done.stdout)
+    if done.returncode or not passed or int(passed[1]) != count:
+        print(done.stdout)
+        sys.exit(f"of {count} {what}, {passed[1] if passed else 0} passed")
+    print(f"{count} {what}, {passed[1]} passed")
+
+
+def main():
+    parser = argparse.ArgumentParser(description=__doc__, formatter_class=argparse.RawDescriptionHelpFormatter)
+    parser.add_argument("--keep", type=Path, help="the folder for the copy, which stays")
+    arguments = parser.parse_args()
+    if not os.environ.get("SMOLTCP"):
+        sys.exit("SMOLTCP is not set: it names the folder of a checkout of smoltcp 0.14.0")
+    sources = Path(os.environ["SMOLTCP"]) / "src"
+    with tempfile.TemporaryDirectory() as folder:
+        crate = arguments.keep or Path(folder) / "net-base"
+        count = prepare(sources, crate)
+        examples = add_phy_page(sources, crate)
+        run(crate, "tests", count, ["--lib", "--", "::test::"])
+        run(crate, "examples of `phy`", examples, ["--doc", "--", "phy_page"])
+
+
+if __name__ == "__main__":
+    main()
