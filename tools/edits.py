@@ -63,8 +63,11 @@ def edited(folder, edit, by="new"):
 
 
 def function_at(text, line):
-    """The name of the function that has a line of a text."""
-    names = re.findall(r"\bfn (\w+)", "\n".join(text.split("\n")[:line]))
+    """The name of the function that has a line of a text; its attributes are before its name."""
+    lines = text.split("\n")
+    while line < len(lines) and lines[line - 1].strip().startswith("#["):
+        line += 1
+    names = re.findall(r"\bfn (\w+)", "\n".join(lines[:line]))
     return names[-1] if names else ""
 
 

@@ -329,7 +329,7 @@ pub reached : (h : AssemblerHead) (xs : List (ℕ × ℕ)) → HasSoundRuns h xs
     ((k : ℕ) → 1 ≤ k → k < n → start_at (used_runs h xs) k ≤ size - h.first_start) →
     ((k : ℕ) → n ≤ k → k < length (used_runs h xs) → size - h.first_start < start_at (used_runs h xs) k) →
     end ≡ max (end_at xs (n - 1)) (size - h.first_start) → Completed (runs_of h xs) n size (h.first_start + end)
-reached h xs s n size end some few l from before behind ends =
+reached h xs s n size end some few l from before after ends =
     let count = length-used_runs h xs s in
     let count_runs = length-runs_of h xs s in
     let last = end_at-up h.first_start (used_runs h xs) (n - 1) (omega arith) in
@@ -342,7 +342,7 @@ reached h xs s n size end some few l from before behind ends =
     (λ b.
     let zeroth : k ≡ 0 = omega arith in
     omega (arith, ap (start_at (used_runs h xs)) zeroth, start_of h xs s 0 (omega arith), first_pair h xs s (omega arith))))
-    (λ k a b. omega (arith, start_at-up h.first_start (used_runs h xs) k (omega arith), behind k a (omega arith)))
+    (λ k a b. omega (arith, start_at-up h.first_start (used_runs h xs) k (omega arith), after k a (omega arith)))
     top
 
 -- what follows from how a range is added

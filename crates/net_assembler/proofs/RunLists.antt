@@ -10,7 +10,7 @@ use Rattle.net_assembler.proofs.Moves.{rest_at}
 use Rattle.net_assembler.specs.Positions.{Positions, contains, nothing, front, with_range, runs, shift_down, set_of_list}
 use Rattle.net_assembler.specs.RunLists.{start_at, end_at, IsRising, AreRuns, runs_with_range, runs_shifted_down, set_of_runs}
 use Rattle.net_assembler.proofs.Positions.{either, same_positions, contains-with_range, contains-shift_down}
-use Rattle.net_assembler.proofs.Runs.{in_runs, in_first, past_first, not_in_runs, front_of_runs, step_before, step_behind, step_meets, rising-runs_with_range, front-set_of_runs, set_of_runs_injective, set-without_front, runs-set_of_runs, set-runs_with_range}
+use Rattle.net_assembler.proofs.Runs.{in_runs, in_first, past_first, not_in_runs, front_of_runs, step_before, step_after, step_meets, rising-runs_with_range, front-set_of_runs, set_of_runs_injective, set-without_front, runs-set_of_runs, set-runs_with_range}
 
 -- what is read at an index, where no default is given
 pub read : (xs : List (ℕ × ℕ)) (k : ℕ) (r : ℕ × ℕ) → k < length xs → r ≡ get_or xs k r → r ≡ get_or xs k (0, 0)
@@ -52,17 +52,17 @@ top_more r rs (suc n) low hi h l = let p = ends_rise low (r ∷ rs) 0 (suc n) h 
 pub absorbed : (low : ℕ) (rs : List (ℕ × ℕ)) (n lo hi : ℕ) → IsRising low rs → lo ≤ low → n ≤ length rs →
     ((k : ℕ) → k < n → start_at rs k ≤ hi) → ((k : ℕ) → n ≤ k → k < length rs → hi < start_at rs k) →
     runs_with_range rs lo hi ≡ (lo, top_of rs n hi) ∷ drop n rs
-absorbed low [] zero lo hi h l m upto behind = refl
-absorbed low [] (suc n) lo hi h l m upto behind = absurd (omega arith)
-absorbed low (r ∷ rs) zero lo hi h l m upto behind = let p = behind 0 (omega arith) (omega arith) in step_behind r rs lo hi (omega (arith, h.0, h.1)) p
-absorbed low (r ∷ rs) (suc n) lo hi h l m upto behind =
+absorbed low [] zero lo hi h l m upto after = refl
+absorbed low [] (suc n) lo hi h l m upto after = absurd (omega arith)
+absorbed low (r ∷ rs) zero lo hi h l m upto after = let p = after 0 (omega arith) (omega arith) in step_after r rs lo hi (omega (arith, h.0, h.1)) p
+absorbed low (r ∷ rs) (suc n) lo hi h l m upto after =
     let p = upto 0 (omega arith) in
     let least : min r.0 lo ≡ lo = omega (arith, h.0) in
     step_meets r rs lo hi (omega (arith, h.0, h.1)) p
     ∙ ap (λ a. runs_with_range rs a (max r.1 hi)) least
     ∙ absorbed (r.1 + 1) rs n lo (max r.1 hi) h.2 (omega (arith, h.0, h.1)) (omega arith)
     (λ k b. let q = upto (suc k) (omega arith) in omega (arith, q))
-    (λ k b d. let q = behind (suc k) (omega arith) (omega arith) in let s = at_run (r.1 + 1) rs k h.2 d in omega (arith, q, s.0))
+    (λ k b d. let q = after (suc k) (omega arith) (omega arith) in let s = at_run (r.1 + 1) rs k h.2 d in omega (arith, q, s.0))
     ∙ ap (λ t. (lo, t) ∷ drop n rs) (top_more r rs n low hi h (omega arith))
 
 -- a run that meets those from i to m
@@ -70,31 +70,31 @@ pub joined_at : (low : ℕ) (rs : List (ℕ × ℕ)) (i m lo hi : ℕ) → IsRis
     ((k : ℕ) → k < i → end_at rs k < lo) → lo ≤ end_at rs i →
     ((k : ℕ) → i ≤ k → k ≤ m → start_at rs k ≤ hi) → ((k : ℕ) → m < k → k < length rs → hi < start_at rs k) →
     runs_with_range rs lo hi ≡ take i rs ++ (min (start_at rs i) lo, max (end_at rs m) hi) ∷ drop (suc m) rs
-joined_at low [] i m lo hi h l n before from upto behind = absurd (omega arith)
-joined_at low (r ∷ rs) zero m lo hi h l n before from upto behind =
+joined_at low [] i m lo hi h l n before from upto after = absurd (omega arith)
+joined_at low (r ∷ rs) zero m lo hi h l n before from upto after =
     let p = upto 0 (omega arith) (omega arith) in
     step_meets r rs lo hi from p
     ∙ absorbed (r.1 + 1) rs m (min r.0 lo) (max r.1 hi) h.2 (omega (arith, h.1)) (omega arith)
     (λ k b. let q = upto (suc k) (omega arith) (omega arith) in omega (arith, q))
-    (λ k b d. let q = behind (suc k) (omega arith) (omega arith) in let s = at_run (r.1 + 1) rs k h.2 d in omega (arith, q, s.0))
+    (λ k b d. let q = after (suc k) (omega arith) (omega arith) in let s = at_run (r.1 + 1) rs k h.2 d in omega (arith, q, s.0))
     ∙ ap (λ t. (min r.0 lo, t) ∷ drop m rs) (top_more r rs m low hi h (omega arith))
-joined_at low (r ∷ rs) (suc i) zero lo hi h l n before from upto behind = absurd (omega arith)
-joined_at low (r ∷ rs) (suc i) (suc m) lo hi h l n before from upto behind =
+joined_at low (r ∷ rs) (suc i) zero lo hi h l n before from upto after = absurd (omega arith)
+joined_at low (r ∷ rs) (suc i) (suc m) lo hi h l n before from upto after =
     step_before r rs lo hi (before 0 (omega arith))
     ∙ ap (λ ts. r ∷ ts) (joined_at (r.1 + 1) rs i m lo hi h.2 (omega arith) (omega arith)
-    (λ k b. before (suc k) (omega arith)) from (λ k b d. upto (suc k) (omega arith) (omega arith)) (λ k b d. behind (suc k) (omega arith) (omega arith)))
+    (λ k b. before (suc k) (omega arith)) from (λ k b d. upto (suc k) (omega arith) (omega arith)) (λ k b d. after (suc k) (omega arith) (omega arith)))
 
 -- a run that meets none
 pub apart_at : (low : ℕ) (rs : List (ℕ × ℕ)) (i lo hi : ℕ) → IsRising low rs → i ≤ length rs → lo < hi →
     ((k : ℕ) → k < i → end_at rs k < lo) → ((k : ℕ) → i ≤ k → k < length rs → hi < start_at rs k) →
     runs_with_range rs lo hi ≡ take i rs ++ (lo, hi) ∷ drop i rs
-apart_at low [] zero lo hi h l m before behind = refl
-apart_at low [] (suc i) lo hi h l m before behind = absurd (omega arith)
-apart_at low (r ∷ rs) zero lo hi h l m before behind = let p = behind 0 (omega arith) (omega arith) in step_behind r rs lo hi (omega (arith, h.1)) p
-apart_at low (r ∷ rs) (suc i) lo hi h l m before behind =
+apart_at low [] zero lo hi h l m before after = refl
+apart_at low [] (suc i) lo hi h l m before after = absurd (omega arith)
+apart_at low (r ∷ rs) zero lo hi h l m before after = let p = after 0 (omega arith) (omega arith) in step_after r rs lo hi (omega (arith, h.1)) p
+apart_at low (r ∷ rs) (suc i) lo hi h l m before after =
     step_before r rs lo hi (before 0 (omega arith))
     ∙ ap (λ ts. r ∷ ts) (apart_at (r.1 + 1) rs i lo hi h.2 (omega arith) m (λ k b. before (suc k) (omega arith))
-    (λ k b d. behind (suc k) (omega arith) (omega arith)))
+    (λ k b d. after (suc k) (omega arith) (omega arith)))
 
 pub rising-drop : (low : ℕ) (rs : List (ℕ × ℕ)) (n m : ℕ) → IsRising low rs → ((k : ℕ) → n ≤ k → k < length rs → m ≤ start_at rs k) → IsRising m (drop n rs)
 rising-drop low [] zero m h above = tt
@@ -151,8 +151,8 @@ pub completed : (rs : List (ℕ × ℕ)) (n size : ℕ) → AreRuns rs → 0 < s
     (top_of rs n size ≡ front (with_range (set_of_runs rs) 0 size)) ×
     (set_of_runs (runs_shifted_down (top_of rs n size) (drop n rs))
     ≡ shift_down (with_range (set_of_runs rs) 0 size) (top_of rs n size))
-completed rs n size h l m upto behind =
-    let same = absorbed 0 rs n 0 size h (omega arith) m upto behind in
+completed rs n size h l m upto after =
+    let same = absorbed 0 rs n 0 size h (omega arith) m upto after in
     let top = top_of rs n size in
     let size_is : size ≡ 0 + size = omega arith in
     let all : List (ℕ × ℕ) = (0, top) ∷ drop n rs in
@@ -191,13 +191,13 @@ module _ (xs : List (ℕ × ℕ)) (used : ℕ) (h : AreRuns (take used xs)) (roo
   pair_is k l = let same = get_or-take used xs k (0, 0) l in (ap (λ (r : ℕ × ℕ). r.0) same, ap (λ (r : ℕ × ℕ). r.1) same)
 
   -- what is after the run `from` starts at or above it
-  pub rising_behind : (from : ℕ) → from < used → IsRising (start_at xs from) (drop from cs)
-  rising_behind from l =
+  pub rising_after : (from : ℕ) → from < used → IsRising (start_at xs from) (drop from cs)
+  rising_after from l =
       rising-drop 0 cs from (start_at xs from) h (λ k a b. let p = starts_rise 0 cs from k h a b in omega (arith, pair_is from l))
 
   -- runs from i on, where a range ends before the run i
-  pub all_behind : (i end : ℕ) → i < used → end < start_at xs i → (k : ℕ) → i ≤ k → k < used → end < start_at cs k
-  all_behind i end l first k a b = let p = starts_rise 0 cs i k h a (omega (arith, len)) in omega (arith, pair_is i l)
+  pub all_after : (i end : ℕ) → i < used → end < start_at xs i → (k : ℕ) → i ≤ k → k < used → end < start_at cs k
+  all_after i end l first k a b = let p = starts_rise 0 cs i k h a (omega (arith, len)) in omega (arith, pair_is i l)
 
   replaced : (i j : ℕ) (v : ℕ × ℕ) → i < j → j ≤ used →
       take (i + 1) (set xs i v) ++ drop j (take used (set xs i v)) ≡ take i cs ++ v ∷ drop j cs
@@ -211,26 +211,26 @@ module _ (xs : List (ℕ × ℕ)) (used : ℕ) (h : AreRuns (take used xs)) (roo
       ((k : ℕ) → i ≤ k → k < j → start_at cs k ≤ end) → ((k : ℕ) → j ≤ k → k < used → end < start_at cs k) →
       lo ≡ min (start_at xs i) start → hi ≡ max (end_at xs (j - 1)) end →
       take (i + 1) (set xs i (lo, hi)) ++ drop j (take used (set xs i (lo, hi))) ≡ runs_with_range cs start end
-  replaced_run i j start end lo hi l m before from upto behind low high =
+  replaced_run i j start end lo hi l m before from upto after low high =
       let last : suc (j - 1) ≡ j = omega arith in
       let lo_is : lo ≡ min (start_at cs i) start = omega (arith, low, pair_is i (omega arith)) in
       let hi_is : hi ≡ max (end_at cs (j - 1)) end = omega (arith, high, pair_is (j - 1) (omega arith)) in
       replaced i j (lo, hi) l m
       ∙ (λ k. take i cs ++ (lo_is k, hi_is k) ∷ drop (sym last k) cs)
       ∙ sym (joined_at 0 cs i (j - 1) start end h (omega arith) (omega (arith, len)) before from
-      (λ k a b. upto k a (omega arith)) (λ k a b. behind k (omega arith) (omega (arith, len))))
+      (λ k a b. upto k a (omega arith)) (λ k a b. after k (omega arith) (omega (arith, len))))
 
   -- one entry more
   pub inserted_run : (i start end : ℕ) → i ≤ used → start < end → ((k : ℕ) → k < i → end_at cs k < start) →
       ((k : ℕ) → i ≤ k → k < used → end < start_at cs k) → take i xs ++ (start, end) ∷ drop i cs ≡ runs_with_range cs start end
-  inserted_run i start end l m before behind =
+  inserted_run i start end l m before after =
       ap (λ zs. zs ++ (start, end) ∷ drop i cs) (sym (take-take i used xs l))
-      ∙ sym (apart_at 0 cs i start end h (omega (arith, len)) m before (λ k a b. behind k a (omega (arith, len))))
+      ∙ sym (apart_at 0 cs i start end h (omega (arith, len)) m before (λ k a b. after k a (omega (arith, len))))
 
   pub refused_run : (i start end : ℕ) → i ≤ used → start < end → ((k : ℕ) → k < i → end_at cs k < start) →
       ((k : ℕ) → i ≤ k → k < used → end < start_at cs k) → length (runs_with_range cs start end) ≡ used + 1
-  refused_run i start end l m before behind =
-      ap length (apart_at 0 cs i start end h (omega (arith, len)) m before (λ k a b. behind k a (omega (arith, len))))
+  refused_run i start end l m before after =
+      ap length (apart_at 0 cs i start end h (omega (arith, len)) m before (λ k a b. after k a (omega (arith, len))))
       ∙ length_apart cs i (start, end) (omega (arith, len)) ∙ omega (arith, len)
 
   -- runs that all end before a range
@@ -253,13 +253,13 @@ module _ (xs : List (ℕ × ℕ)) (used : ℕ) (h : AreRuns (take used xs)) (roo
   pub grown_run : (i start end lo hi : ℕ) → i < used → ((k : ℕ) → k < i → end_at cs k < start) → start ≤ end_at cs i → start_at cs i ≤ end →
       ((k : ℕ) → i + 1 ≤ k → k < used → end < start_at cs k) → lo ≡ min (start_at xs i) start → hi ≡ max (end_at xs i) end →
       take used (set xs i (lo, hi)) ≡ runs_with_range cs start end
-  grown_run i start end lo hi l before from upto behind low high =
+  grown_run i start end lo hi l before from upto after low high =
       let ys = set xs i (lo, hi) in
       let at : i + 1 - 1 ≡ i = omega arith in
       sym (take-append-drop (i + 1) (take used ys)) ∙ ap (λ zs. zs ++ drop (i + 1) (take used ys)) (take-take (i + 1) used ys (omega arith))
       ∙ replaced_run i (i + 1) start end lo hi (omega arith) (omega arith) before from
       (λ k a b. let p = starts_rise 0 cs k i h (omega arith) (omega (arith, len)) in omega arith)
-      behind low (high ∙ ap (λ k. max (end_at xs k) end) (sym at))
+      after low (high ∙ ap (λ k. max (end_at xs k) end) (sym at))
 
   -- a range that meets the last run alone
   pub extended_run : (start end hi : ℕ) → 0 < used → start < end → start_at xs (used - 1) ≤ start → start ≤ end_at xs (used - 1) →
@@ -278,8 +278,8 @@ Completed rs n size top = let all = with_range (set_of_runs rs) 0 size in
 pub completed_at : (rs : List (ℕ × ℕ)) (n size top : ℕ) → AreRuns rs → 0 < size → n ≤ length rs →
     ((k : ℕ) → k < n → start_at rs k ≤ size) →
     ((k : ℕ) → n ≤ k → k < length rs → size < start_at rs k) → top ≡ top_of rs n size → Completed rs n size top
-completed_at rs n size top h l m upto behind e =
-    let both = completed rs n size h l m upto behind in
+completed_at rs n size top h l m upto after e =
+    let both = completed rs n size h l m upto after in
     (e ∙ both.0, ap (λ t. set_of_runs (runs_shifted_down t (drop n rs))) e ∙ both.1 ∙ ap (shift_down (with_range (set_of_runs rs) 0 size)) (sym e))
 
 -- the entry k, which a loop that counts lower has not reached, is above
@@ -307,10 +307,10 @@ not_before low (r ∷ rs) q h first = not_in_runs r.0 (r ∷ rs) q (omega arith,
 pub in_run_at : (low : ℕ) (rs : List (ℕ × ℕ)) (n q : ℕ) → IsRising low rs → n < length rs → start_at rs n ≤ q →
     ((k : ℕ) → n < k → k < length rs → q < start_at rs k) →
     in_runs rs q ≡ nat_lt q (end_at rs n)
-in_run_at low [] n q h l from behind = absurd (omega arith)
-in_run_at low (r ∷ rs) zero q h l from behind =
+in_run_at low [] n q h l from after = absurd (omega arith)
+in_run_at low (r ∷ rs) zero q h l from after =
     either (cases_lt q r.1) (λ b. in_first r.0 r.1 q rs from b ∙ sym (lt-ltb q r.1 b))
-    (λ b. past_first r.0 r.1 q rs b ∙ not_before (r.1 + 1) rs q h.2 (λ a. behind 1 (omega arith) (omega arith)) ∙ sym (le-ltb q r.1 b))
-in_run_at low (r ∷ rs) (suc n) q h l from behind =
+    (λ b. past_first r.0 r.1 q rs b ∙ not_before (r.1 + 1) rs q h.2 (λ a. after 1 (omega arith) (omega arith)) ∙ sym (le-ltb q r.1 b))
+in_run_at low (r ∷ rs) (suc n) q h l from after =
     let p = apart low (r ∷ rs) 0 (suc n) h (omega arith) l in
-    past_first r.0 r.1 q rs (omega arith) ∙ in_run_at (r.1 + 1) rs n q h.2 (omega arith) from (λ k a b. behind (suc k) (omega arith) (omega arith))
+    past_first r.0 r.1 q rs (omega arith) ∙ in_run_at (r.1 + 1) rs n q h.2 (omega arith) from (λ k a b. after (suc k) (omega arith) (omega arith))

@@ -111,8 +111,8 @@ set_of_runs_injective rs ts h g e = sym (maximal_runs-set_of_runs rs h) ∙ ap m
 pub step_before : (r : ℕ × ℕ) (rs : List (ℕ × ℕ)) (lo hi : ℕ) → r.1 < lo → runs_with_range (r ∷ rs) lo hi ≡ r ∷ runs_with_range rs lo hi
 step_before r rs lo hi l = cond-true _ _ _ (lt-ltb r.1 lo l)
 
-pub step_behind : (r : ℕ × ℕ) (rs : List (ℕ × ℕ)) (lo hi : ℕ) → lo ≤ r.1 → hi < r.0 → runs_with_range (r ∷ rs) lo hi ≡ (lo, hi) ∷ r ∷ rs
-step_behind r rs lo hi l m = cond-false _ _ _ (le-ltb r.1 lo l) ∙ cond-true _ _ _ (lt-ltb hi r.0 m)
+pub step_after : (r : ℕ × ℕ) (rs : List (ℕ × ℕ)) (lo hi : ℕ) → lo ≤ r.1 → hi < r.0 → runs_with_range (r ∷ rs) lo hi ≡ (lo, hi) ∷ r ∷ rs
+step_after r rs lo hi l m = cond-false _ _ _ (le-ltb r.1 lo l) ∙ cond-true _ _ _ (lt-ltb hi r.0 m)
 
 pub step_meets : (r : ℕ × ℕ) (rs : List (ℕ × ℕ)) (lo hi : ℕ) → lo ≤ r.1 → r.0 ≤ hi →
     runs_with_range (r ∷ rs) lo hi ≡ runs_with_range rs (min r.0 lo) (max r.1 hi)
@@ -123,7 +123,7 @@ rising-runs_with_range low [] lo hi h l m = (l, m, tt)
 rising-runs_with_range low (r ∷ rs) lo hi h l m =
     either (cases_lt r.1 lo) (λ b. subst (IsRising low) (sym (step_before r rs lo hi b))
     (h.0, h.1, rising-runs_with_range (r.1 + 1) rs lo hi h.2 (omega arith) m))
-    (λ b. either (cases_lt hi r.0) (λ c. subst (IsRising low) (sym (step_behind r rs lo hi b c)) (l, m, (omega arith, h.1, h.2)))
+    (λ b. either (cases_lt hi r.0) (λ c. subst (IsRising low) (sym (step_after r rs lo hi b c)) (l, m, (omega arith, h.1, h.2)))
     (λ c. subst (IsRising low) (sym (step_meets r rs lo hi b c))
     (rising-runs_with_range low rs (min r.0 lo) (max r.1 hi)
     (rising_from low (r.1 + 1) rs (omega (arith, h.0, h.1)) h.2) (omega (arith, h.0)) (omega (arith, h.1)))))
@@ -143,7 +143,7 @@ in_runs-runs_with_range low (r ∷ rs) lo hi q h m =
     let new = nat_le lo q && nat_lt q hi in
     either (cases_lt r.1 lo) (λ b. ap (λ ts. in_runs ts q) (step_before r rs lo hi b) ∙ ap (λ x. here || x)
     (in_runs-runs_with_range (r.1 + 1) rs lo hi q h.2 m) ∙ sym (or_assoc here (in_runs rs q) new))
-    (λ b. either (cases_lt hi r.0) (λ c. ap (λ ts. in_runs ts q) (step_behind r rs lo hi b c) ∙ or_comm new (here || in_runs rs q))
+    (λ b. either (cases_lt hi r.0) (λ c. ap (λ ts. in_runs ts q) (step_after r rs lo hi b c) ∙ or_comm new (here || in_runs rs q))
     (λ c. ap (λ ts. in_runs ts q) (step_meets r rs lo hi b c)
     ∙ in_runs-runs_with_range (r.1 + 1) rs (min r.0 lo) (max r.1 hi) q h.2 (omega (arith, h.1))
     ∙ joined here (in_runs rs q) new _ (merged r.0 r.1 lo hi q h.1 m b c)))

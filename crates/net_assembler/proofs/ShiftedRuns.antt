@@ -8,7 +8,7 @@ use Rattle.net_assembler.specs.RunLists.{start_at, end_at, IsRising, AreRuns, St
 use Rattle.net_assembler.proofs.Moves.{rest_at}
 use Rattle.net_assembler.proofs.Positions.{either}
 use Rattle.net_assembler.proofs.RunLists.{at_run, top_of, absorbed}
-use Rattle.net_assembler.proofs.Runs.{in_runs, rising_from, step_before, step_behind, step_meets}
+use Rattle.net_assembler.proofs.Runs.{in_runs, rising_from, step_before, step_after, step_meets}
 
 -- runs that are counted n higher
 pub length-up : (n : ℕ) (rs : List (ℕ × ℕ)) → length (runs_shifted_up n rs) ≡ length rs
@@ -72,8 +72,8 @@ up-runs_with_range n (r ∷ rs) lo hi =
     ∙ sym (step_before q ups (n + lo) (n + hi) (omega arith)))
     (λ b. either (cases_lt hi r.0)
     (λ c.
-    ap (runs_shifted_up n) (step_behind r rs lo hi b c)
-    ∙ sym (step_behind q ups (n + lo) (n + hi) (omega arith) (omega arith)))
+    ap (runs_shifted_up n) (step_after r rs lo hi b c)
+    ∙ sym (step_after q ups (n + lo) (n + hi) (omega arith) (omega arith)))
     (λ c.
     ap (runs_shifted_up n) (step_meets r rs lo hi b c)
     ∙ up-runs_with_range n rs (min r.0 lo) (max r.1 hi)
@@ -116,7 +116,7 @@ fits-runs_with_range n (r ∷ rs) lo hi f l =
     either (cases_lt r.1 lo)
     (λ b. subst (FitsFrom n) (sym (step_before r rs lo hi b)) (f.0, fits-runs_with_range n rs lo hi f.1 l))
     (λ b. either (cases_lt hi r.0)
-    (λ c. subst (FitsFrom n) (sym (step_behind r rs lo hi b c)) (l, f))
+    (λ c. subst (FitsFrom n) (sym (step_after r rs lo hi b c)) (l, f))
     (λ c.
     subst (FitsFrom n) (sym (step_meets r rs lo hi b c))
     (fits-runs_with_range n rs (min r.0 lo) (max r.1 hi) f.1 (omega (arith, f.0)))))
@@ -131,7 +131,7 @@ pub zero-runs_with_range : (rs : List (ℕ × ℕ)) (lo hi : ℕ) → lo ≡ 0 �
 zero-runs_with_range [] lo hi e = e
 zero-runs_with_range (r ∷ rs) lo hi e =
     either (cases_lt hi r.0)
-    (λ c. subst StartsAtZero (sym (step_behind r rs lo hi (omega arith) c)) e)
+    (λ c. subst StartsAtZero (sym (step_after r rs lo hi (omega arith) c)) e)
     (λ c.
     subst StartsAtZero (sym (step_meets r rs lo hi (omega arith) c))
     (zero-runs_with_range rs (min r.0 lo) (max r.1 hi) (omega arith)))
@@ -214,7 +214,7 @@ pub before_first : (by size : ℕ) (rs : List (ℕ × ℕ)) → size < by →
     runs_with_range (runs_shifted_up by rs) 0 size ≡ (0, size) ∷ runs_shifted_up by rs
 before_first by size [] l = refl
 before_first by size (r ∷ rs) l =
-    step_behind (by + r.0, by + r.1) (runs_shifted_up by rs) 0 size (omega arith) (omega arith)
+    step_after (by + r.0, by + r.1) (runs_shifted_up by rs) 0 size (omega arith) (omega arith)
 
 pub top_before : (rs : List (ℕ × ℕ)) (n hi : ℕ) → 0 < n → top_of rs n hi ≡ max (end_at rs (n - 1)) hi
 top_before rs zero hi l = absurd (omega arith)
@@ -229,7 +229,7 @@ pub met_before : (by size n high : ℕ) (rs : List (ℕ × ℕ)) → AreRuns rs 
     ((k : ℕ) → n ≤ k → k < length rs → size - by < start_at rs k) →
     high ≡ max (by + end_at rs (n - 1)) size →
     runs_with_range (runs_shifted_up by rs) 0 size ≡ (0, high) ∷ runs_shifted_up by (drop n rs)
-met_before by size n high rs h f l some m upto behind is =
+met_before by size n high rs h f l some m upto after is =
     let ups = runs_shifted_up by rs in
     let len = length-up by rs in
     let last = end_at-up by rs (n - 1) (omega arith) in
@@ -239,7 +239,7 @@ met_before by size n high rs h f l some m upto behind is =
     either (cases_lt 0 k) (λ b. let p = upto k b a in omega arith)
     (λ b. let zeroth : k ≡ 0 = omega arith in
     let e = ap (start_at rs) zeroth in let z = first_at rs f in omega arith))
-    (λ k a b. let s = start_at-up by rs k (omega arith) in let p = behind k a (omega arith) in omega arith)
+    (λ k a b. let s = start_at-up by rs k (omega arith) in let p = after k a (omega arith) in omega arith)
     ∙ ap (λ (t : ℕ). (0, t) ∷ drop n ups)
     (top_before ups n size some ∙ ap (λ e. max e size) last ∙ sym is)
     ∙ ap (λ ts. (0, high) ∷ ts) (drop-up by n rs)

@@ -15,7 +15,7 @@ type Packets = PacketBuffer<'static, u32>;
 /// A call that copies nothing.
 #[derive(Clone, Copy)]
 enum Kind {
-    RingHead,
+    Place,
     Enqueue,
     EnqueueWith,
     LastMut,
@@ -28,7 +28,7 @@ enum Kind {
 
 /// The calls that copy nothing.
 static CALLS: [Entry<Kind>; 9] = [
-    ("place", 3, Kind::RingHead),
+    ("place", 3, Kind::Place),
     ("enqueue", 3, Kind::Enqueue),
     ("enqueue_with_infallible", 4, Kind::EnqueueWith),
     ("last_mut", 1, Kind::LastMut),
@@ -119,7 +119,7 @@ fn make_copy(
 /// Makes a call that copies nothing.
 fn make(queue: &mut Packets, kind: Kind, [one, two, three, four]: [u64; 4]) -> Reply {
     match kind {
-        Kind::RingHead => place(queue, one as usize, low_word(two), three),
+        Kind::Place => place(queue, one as usize, low_word(two), three),
         Kind::Enqueue => enqueue(queue, one as usize, low_word(two), three),
         Kind::EnqueueWith => enqueue_with(
             queue,

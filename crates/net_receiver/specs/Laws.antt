@@ -30,10 +30,10 @@ NoneContains k p = All (λ e. Contains e p → ⊥) k
 -- e is the last entry of k that contains p
 pub record IsLast (k : List Piece) (p : ℕ) (e : Piece) : Type 0 where
   pub before : List Piece
-  pub behind : List Piece
-  pub whole : k ≡ before ++ e ∷ behind
+  pub after : List Piece
+  pub whole : k ≡ before ++ e ∷ after
   pub contains : Contains e p
-  pub last : NoneContains behind p
+  pub last : NoneContains after p
 
 -- some entry contains p
 abbrev pub SomeContains : List Piece → ℕ → Type 0

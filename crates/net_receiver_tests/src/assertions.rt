@@ -3,14 +3,14 @@
 use std::process::Abort;
 
 /// Where a test is: the name of what is compared, and the number of a row, a turn or a request.
-pub type RingHead<'a> = (&'a str, usize);
+pub type Place<'a> = (&'a str, usize);
 
 /// Stops the test unless this holds.
-pub fn assert_holds(rt: &impl Abort, fact: bool, (name, number): RingHead<'_>) {
+pub fn assert_holds(rt: &impl Abort, fact: bool, (name, number): Place<'_>) {
     assert!(rt; fact, "{name}, {number}");
 }
 
 /// Stops the test unless these counts are equal.
-pub fn assert_count(rt: &impl Abort, found: usize, wanted: usize, (name, number): RingHead<'_>) {
+pub fn assert_count(rt: &impl Abort, found: usize, wanted: usize, (name, number): Place<'_>) {
     assert!(rt; found == wanted, "{name}, {number}: {found}, not {wanted}");
 }

@@ -21,11 +21,11 @@ pub fn decode_sack_blocks(bytes: &[u8]) -> SackBlocks
     let mut sack_blocks = SackBlocks::new();
     let mut rest = bytes;
     for _turn in 0..MOST_SACK_BLOCKS {
-        let Some((start, end, behind)) = decode_block(rest) else {
+        let Some((start, end, after)) = decode_block(rest) else {
             return sack_blocks;
         };
         sack_blocks.push(start, end);
-        rest = behind;
+        rest = after;
     }
     sack_blocks
 }

@@ -539,7 +539,7 @@ impl AssemblerHead {
         requires runs { AreRuns (used_runs self.old runs.old) }
         requires fits { FitsFrom self.old.first_start (used_runs self.old runs.old) }
         requires count { count ≤ self.old.used }
-        requires behind { count < self.old.used → end ≤ start_at runs.old count }
+        requires after { count < self.old.used → end ≤ start_at runs.old count }
         ensures sound { HasSoundRuns self.new runs.new }
         ensures runs { runs_of self.new runs.new
             ≡ runs_shifted_down end (drop count (used_runs self.old runs.old)) }

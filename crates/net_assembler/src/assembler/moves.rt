@@ -82,8 +82,8 @@ pub(crate) fn shift_runs_up(
     requires used { used ≤ length runs.old }
     requires runs { AreRuns (take used runs.old) }
     requires fits { FitsFrom by (take used runs.old) }
-    ensures runs { let behind = drop from (take used runs.old) in
-        take (used - (from - 1)) runs.new ≡ take 1 runs.old ++ runs_shifted_up by behind }
+    ensures runs { let after = drop from (take used runs.old) in
+        take (used - (from - 1)) runs.new ≡ take 1 runs.old ++ runs_shifted_up by after }
     ensures looks { turns.new.0 ≡ turns.old.0 }
     ensures moves { turns.new.1 + from ≡ turns.old.1 + used }
 {
@@ -105,8 +105,8 @@ pub(crate) fn shift_runs_down(runs: &mut [Run], used: usize, from: usize, turns:
     requires some { from < used }
     requires used { used ≤ length runs.old }
     requires runs { AreRuns (take used runs.old) }
-    ensures runs { let behind = drop from (take used runs.old) in
-        take (used - from) runs.new ≡ runs_shifted_down (start_at runs.old from) behind }
+    ensures runs { let after = drop from (take used runs.old) in
+        take (used - from) runs.new ≡ runs_shifted_down (start_at runs.old from) after }
     ensures looks { turns.new.0 ≡ turns.old.0 }
     ensures moves { turns.new.1 + from ≡ turns.old.1 + used }
 {

@@ -17,7 +17,7 @@ pub(crate) fn runs_ending_before(runs: &[Run], offset: usize, turns: &mut Turns)
     requires last { offset ≤ end_at runs.now (length runs.now - 1) }
     ensures within { result < length runs.now }
     ensures before { (k : ℕ) → k < result → end_at runs.now k < offset }
-    ensures behind { (k : ℕ) → result ≤ k → k < length runs.now → offset ≤ end_at runs.now k }
+    ensures after { (k : ℕ) → result ≤ k → k < length runs.now → offset ≤ end_at runs.now k }
     ensures looks { (b : ℕ) → length runs.now < 2 ^ b → turns.new.0 ≤ turns.old.0 + b }
     ensures no_look_lost { turns.old.0 ≤ turns.new.0 }
     ensures moves { turns.new.1 ≡ turns.old.1 }
@@ -51,7 +51,7 @@ pub(crate) fn runs_starting_by(runs: &[Run], from: usize, end: usize, turns: &mu
     ensures from { from ≤ result }
     ensures within { result ≤ length runs.now }
     ensures before { (k : ℕ) → from ≤ k → k < result → start_at runs.now k ≤ end }
-    ensures behind { (k : ℕ) → result ≤ k → k < length runs.now → end < start_at runs.now k }
+    ensures after { (k : ℕ) → result ≤ k → k < length runs.now → end < start_at runs.now k }
     ensures looks { (b : ℕ) → length runs.now < 2 ^ b → turns.new.0 ≤ turns.old.0 + b }
     ensures no_look_lost { turns.old.0 ≤ turns.new.0 }
     ensures moves { turns.new.1 ≡ turns.old.1 }

@@ -12,14 +12,14 @@ pub loop-turn-preserved : goal.loop-turn-preserved
 loop-turn-preserved c =
     let so_far = c.loop-turn.sack_blocks in
     let one : List (ℕ × ℕ) = (c.in-Some.start, c.in-Some.end) ∷ [] in
-    let more = blocks_of (most_sack_blocks - (c.loop-turn._turn + 1)) c.in-Some.behind.now in
+    let more = blocks_of (most_sack_blocks - (c.loop-turn._turn + 1)) c.in-Some.after.now in
     let long : length c.push.new.self ≡ length so_far + length one = ap length c.push.ensures ∙ length-append so_far one in
     record {
       count = omega arith;
       all =
           ap (λ l. l ++ more) c.push.ensures ∙ append_assoc so_far one more
           ∙ ap (λ l. so_far ++ l) (sym (ranges_more (most_sack_blocks - c.loop-turn._turn)
-          (most_sack_blocks - (c.loop-turn._turn + 1)) c.loop-turn.rest.now c.in-Some.start c.in-Some.end c.in-Some.behind.now
+          (most_sack_blocks - (c.loop-turn._turn + 1)) c.loop-turn.rest.now c.in-Some.start c.in-Some.end c.in-Some.after.now
           (omega arith) c.in-Some.ensures))
           ∙ c.loop-turn.invariant.all;
     }

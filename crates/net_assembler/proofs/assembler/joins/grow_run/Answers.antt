@@ -5,7 +5,7 @@ use Rattle.net_assembler.specs.RunLists.{start_at}
 use Rattle.net_assembler.specs.Turns.{binary_digits}
 use Rattle.net_assembler.proofs.AssemblerLaws.{below_binary_digits, no_turn}
 use Rattle.net_assembler.proofs.Positions.{either}
-use Rattle.net_assembler.proofs.RunLists.{replaced_run, grown_run, all_behind, starts_rise}
+use Rattle.net_assembler.proofs.RunLists.{replaced_run, grown_run, all_after, starts_rise}
 use Rattle.net_assembler.proofs.assembler.joins.grow_run.Goals as goal
 use Rattle.net_assembler.proofs.assembler.joins.grow_run.Goals.{then-second-used-via-then-second-used, then-second-used-via-else-second-used+then-end-start_of}
 
@@ -13,14 +13,14 @@ pub returns-then-second-used-clause-joined : goal.returns-then-second-used-claus
 returns-then-second-used-clause-joined c =
     let xs = c.args.runs.now in
     let same = ap (λ (r : ℕ × ℕ). r.0) (get_or-take c.args.used xs c.args.first (0, 0) c.requires.first) in
-    let behind : (k : ℕ) → c.args.first + 1 ≤ k → k < c.args.used → c.args.end < start_at (take c.args.used xs) k =
+    let after : (k : ℕ) → c.args.first + 1 ≤ k → k < c.args.used → c.args.end < start_at (take c.args.used xs) k =
     λ k a b. elim c.then-second-used.branch [
       | then-second-used-via-then-second-used w ↦ absurd (omega arith)
       | then-second-used-via-else-second-used+then-end-start_of w ↦
-          all_behind xs c.args.used c.requires.runs c.requires.used (c.args.first + 1) c.args.end (omega arith) (omega arith) k a b
+          all_after xs c.args.used c.requires.runs c.requires.used (c.args.first + 1) c.args.end (omega arith) (omega arith) k a b
     ] in
     grown_run xs c.args.used c.requires.runs c.requires.used c.args.first c.args.start c.args.end c.min-low.result c.max-high.result
-    c.requires.first c.requires.before c.requires.from c.requires.meets behind
+    c.requires.first c.requires.before c.requires.from c.requires.meets after
     (c.min-low.ensures ∙ ap (λ e. min e c.args.start) c.start_of.ensures)
     (c.max-high.ensures ∙ ap (λ e. max e c.args.end) c.end_of.ensures)
 
@@ -38,7 +38,7 @@ returns-clause-joined c =
     c.remove_runs.ensures.runs
     ∙ replaced_run xs c.args.used c.requires.runs c.requires.used c.args.first c.runs_starting_by-next.result c.args.start c.args.end
     c.min-low.result c.max-high-2.result (omega arith) (omega (arith, search.within))
-    c.requires.before c.requires.from upto (λ k a b. search.behind k a (omega arith))
+    c.requires.before c.requires.from upto (λ k a b. search.after k a (omega arith))
     (c.min-low.ensures ∙ ap (λ e. min e c.args.start) c.start_of.ensures)
     (c.max-high-2.ensures ∙ ap (λ e. max e c.args.end) c.end_of-2.ensures)
 

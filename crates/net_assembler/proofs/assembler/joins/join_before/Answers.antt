@@ -41,7 +41,7 @@ returns-clause-joined c =
     let same = ap (λ (r : ℕ × ℕ). r.1) (get_or-take c.args.used xs (next - 1) (0, 0) (omega (arith, search.within, search.from))) in
     let high = c.max-high.ensures ∙ ap (λ e. max (c.args.by + e) c.args.size) (c.end_of.ensures ∙ sym same) in
     let met = met_before c.args.by c.args.size next c.max-high.result cs c.requires.runs c.requires.first (omega arith)
-    (omega (arith, search.from)) search.within search.before search.behind high in
+    (omega (arith, search.from)) search.within search.before search.after high in
     let left = c.shift_runs_up.auto.runs in
     let ys = c.shift_runs_up.new.runs in
     let begins : c.first.inside.start ≡ start_at ys 0 =

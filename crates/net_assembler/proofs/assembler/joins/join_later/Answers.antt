@@ -2,7 +2,7 @@ use Rattle.std.proofs.Common.{◌∙◌, length, refl, arith}
 use Rattle.std.proofs.lemmas.List.{length-take-le}
 use Rattle.net_assembler.specs.Turns.{binary_digits}
 use Rattle.net_assembler.proofs.AssemblerLaws.{below_binary_digits}
-use Rattle.net_assembler.proofs.RunLists.{inserted_run, refused_run, all_behind}
+use Rattle.net_assembler.proofs.RunLists.{inserted_run, refused_run, all_after}
 use Rattle.net_assembler.proofs.assembler.joins.join_later.Goals as goal
 
 pub returns-then-used-runs-clause-joined : goal.returns-then-used-runs-clause-joined
@@ -10,9 +10,9 @@ returns-then-used-runs-clause-joined c =
     let search = c.runs_ending_before-first.ensures in
     let first = c.runs_ending_before-first.result in
     let len = length-take-le c.args.used c.args.runs.now c.requires.used in
-    let behind = all_behind c.args.runs.now c.args.used c.requires.runs c.requires.used first c.args.end (omega (arith, search.within)) (omega arith) in
+    let after = all_after c.args.runs.now c.args.used c.requires.runs c.requires.used first c.args.end (omega (arith, search.within)) (omega arith) in
     let n = refused_run c.args.runs.now c.args.used c.requires.runs c.requires.used first c.args.start c.args.end
-    (omega (arith, search.within)) c.requires.some search.before behind in
+    (omega (arith, search.within)) c.requires.some search.before after in
     (refl, omega arith)
 
 pub returns-then-end-start_of-clause-joined : goal.returns-then-end-start_of-clause-joined
@@ -20,10 +20,10 @@ returns-then-end-start_of-clause-joined c =
     let search = c.runs_ending_before-first.ensures in
     let first = c.runs_ending_before-first.result in
     let len = length-take-le c.args.used c.args.runs.now c.requires.used in
-    let behind = all_behind c.args.runs.now c.args.used c.requires.runs c.requires.used first c.args.end (omega (arith, search.within)) (omega arith) in (
+    let after = all_after c.args.runs.now c.args.used c.requires.runs c.requires.used first c.args.end (omega (arith, search.within)) (omega arith) in (
       c.insert_run.ensures.runs
           ∙ inserted_run c.args.runs.now c.args.used c.requires.runs c.requires.used first c.args.start c.args.end
-          (omega (arith, search.within)) c.requires.some search.before behind,
+          (omega (arith, search.within)) c.requires.some search.before after,
       omega arith,
     )
 

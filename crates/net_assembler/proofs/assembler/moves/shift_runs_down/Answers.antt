@@ -2,14 +2,14 @@ use Rattle.std.proofs.Common.{◌≡◌, ◌∙◌, ◌+◌, ◌-◌, ℕ, [], a
 use Rattle.std.proofs.lemmas.List.{length-set}
 use Rattle.net_assembler.specs.RunLists.{start_at}
 use Rattle.net_assembler.proofs.Moves.{change_more, rest_more}
-use Rattle.net_assembler.proofs.RunLists.{above_at, rising_behind}
+use Rattle.net_assembler.proofs.RunLists.{above_at, rising_after}
 use Rattle.net_assembler.proofs.assembler.moves.shift_runs_down.Goals as goal
 
 pub overflow_sub-runs : goal.overflow_sub-runs
 overflow_sub-runs c =
     let p = above_at c.loop-k.runs c.args.runs.now c.args.used c.args.from (start_at c.args.runs.now c.args.from)
     c.loop-k.k (omega arith) (omega arith) c.requires.used
-    (rising_behind c.args.runs.now c.args.used c.requires.runs c.requires.used c.args.from c.requires.some)
+    (rising_after c.args.runs.now c.args.used c.requires.runs c.requires.used c.args.from c.requires.some)
     c.loop-k.invariant.rest in
     omega (arith, p.0)
 
@@ -17,7 +17,7 @@ pub overflow_sub-runs-in-loop-k : goal.overflow_sub-runs-in-loop-k
 overflow_sub-runs-in-loop-k c =
     let p = above_at c.loop-k.runs c.args.runs.now c.args.used c.args.from (start_at c.args.runs.now c.args.from)
     c.loop-k.k (omega arith) (omega arith) c.requires.used
-    (rising_behind c.args.runs.now c.args.used c.requires.runs c.requires.used c.args.from c.requires.some)
+    (rising_after c.args.runs.now c.args.used c.requires.runs c.requires.used c.args.from c.requires.some)
     c.loop-k.invariant.rest in
     omega (arith, p.1)
 

@@ -21,8 +21,8 @@ loop-low-preserved c =
         | then-end_of-offset w ↦ (let r = ends_rise 0 rs j m c.requires.runs (omega arith) (omega arith) in omega arith)
         | else-end_of-offset w ↦ inv.before j (omega arith)
       ];
-      behind = λ j l n. elim c.if-end_of-offset.branch [
-        | then-end_of-offset w ↦ inv.behind j (omega arith) n
+      after = λ j l n. elim c.if-end_of-offset.branch [
+        | then-end_of-offset w ↦ inv.after j (omega arith) n
         | else-end_of-offset w ↦ (let r = ends_rise 0 rs m j c.requires.runs (omega arith) n in omega arith)
       ];
       width = λ b l.
@@ -33,5 +33,5 @@ loop-low-preserved c =
       moves = omega arith;
     }
 
-pub returns-then-offset-end_of-clause-behind : goal.returns-then-offset-end_of-clause-behind
-returns-then-offset-end_of-clause-behind c = λ k a b. let p = ends_rise 0 c.args.runs.now 1 k c.requires.runs a b in omega arith
+pub returns-then-offset-end_of-clause-after : goal.returns-then-offset-end_of-clause-after
+returns-then-offset-end_of-clause-after c = λ k a b. let p = ends_rise 0 c.args.runs.now 1 k c.requires.runs a b in omega arith

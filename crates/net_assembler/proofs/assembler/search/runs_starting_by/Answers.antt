@@ -3,8 +3,8 @@ use Rattle.net_assembler.proofs.RunLists.{halved, starts_rise}
 use Rattle.net_assembler.proofs.assembler.search.runs_starting_by.Goals as goal
 use Rattle.net_assembler.proofs.assembler.search.runs_starting_by.Goals.{then-start_of-end, else-start_of-end, then-from-runs-via-then-from-runs, then-from-runs-via-else-from-runs+then-end-start_of}
 
-pub returns-then-from-runs-clause-behind : goal.returns-then-from-runs-clause-behind
-returns-then-from-runs-clause-behind c = λ k l n. elim c.then-from-runs.branch [
+pub returns-then-from-runs-clause-after : goal.returns-then-from-runs-clause-after
+returns-then-from-runs-clause-after c = λ k l n. elim c.then-from-runs.branch [
   | then-from-runs-via-then-from-runs w ↦ omega arith
   | then-from-runs-via-else-from-runs+then-end-start_of w ↦
       (let r = starts_rise 0 c.args.runs.now c.args.from k c.requires.runs l n in omega arith)
@@ -29,8 +29,8 @@ loop-low-preserved c =
         | then-start_of-end w ↦ (let r = starts_rise 0 rs j m c.requires.runs (omega arith) (omega arith) in omega arith)
         | else-start_of-end w ↦ inv.before j a (omega arith)
       ];
-      behind = λ j l n. elim c.if-start_of-end.branch [
-        | then-start_of-end w ↦ inv.behind j (omega arith) n
+      after = λ j l n. elim c.if-start_of-end.branch [
+        | then-start_of-end w ↦ inv.after j (omega arith) n
         | else-start_of-end w ↦ (let r = starts_rise 0 rs m j c.requires.runs (omega arith) n in omega arith)
       ];
       width = λ b l.

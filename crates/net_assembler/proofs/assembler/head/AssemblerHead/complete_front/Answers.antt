@@ -63,9 +63,9 @@ drop_front-requires c =
       runs = s.runs;
       fits = s.fits;
       count = omega (arith, met.within);
-      behind = (λ l.
+      after = (λ l.
           let apart = pairs_apart h xs s (n - 1) n (omega (arith, met.from)) l in
-          omega (arith, c.max-end.ensures, apart, met.behind n (omega arith) (omega arith), start_of h xs s n l));
+          omega (arith, c.max-end.ensures, apart, met.after n (omega arith) (omega arith), start_of h xs s n l));
     }
 
 pub returns-clause-size : goal.returns-clause-size
@@ -73,7 +73,7 @@ returns-clause-size c =
     let met = c.runs_starting_by-met.ensures in
     let count = length-used_runs c.args.self.now c.args.runs.now c.requires in
     (reached c.args.self.now c.args.runs.now c.requires c.runs_starting_by-met.result c.args.size c.max-end.result met.from
-    (omega (arith, met.within)) (omega arith) (omega arith) met.before met.behind
+    (omega (arith, met.within)) (omega arith) (omega arith) met.before met.after
     (c.max-end.ensures ∙ ap (λ e. max e (c.args.size - c.args.self.now.first_start)) c.end_of.ensures)).0
 
 pub returns-clause-rest : goal.returns-clause-rest
@@ -85,7 +85,7 @@ returns-clause-rest c =
     let count = length-used_runs h xs c.requires in
     ap set_of_runs (c.drop_front.ensures.runs ∙ dropped h xs c.requires n c.max-end.result (h.first_start + c.max-end.result) refl)
     ∙ (reached h xs c.requires n c.args.size c.max-end.result met.from (omega (arith, met.within)) (omega arith) (omega arith)
-    met.before met.behind (c.max-end.ensures ∙ ap (λ e. max e (c.args.size - h.first_start)) c.end_of.ensures)).1
+    met.before met.after (c.max-end.ensures ∙ ap (λ e. max e (c.args.size - h.first_start)) c.end_of.ensures)).1
 
 pub returns-clause-turns : goal.returns-clause-turns
 returns-clause-turns c =

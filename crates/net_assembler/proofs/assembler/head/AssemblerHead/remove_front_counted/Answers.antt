@@ -26,7 +26,7 @@ drop_front-requires c =
       runs = s.runs;
       fits = s.fits;
       count = omega (arith, held.0);
-      behind = (λ l. omega (arith, held.2, c.peek_front-size.ensures, pairs_apart h xs s 0 1 (omega arith) l));
+      after = (λ l. omega (arith, held.2, c.peek_front-size.ensures, pairs_apart h xs s 0 1 (omega arith) l));
     }
 
 pub returns-clause-removed : goal.returns-clause-removed
