@@ -11,25 +11,32 @@
  * Memory
  *
  * A head is a struct of numbers, which the caller keeps beside a storage and, for some heads, runs
- * or slots. A head of zeros is empty. Storage, runs and slots need no initial values. Fields of a
- * head may be read: `length` is how many elements are queued, `used` how many runs are stored. Runs
- * are counted from `first_start` of their head, and calls that return a run count it from position
- * 0. Lengths are in elements; a length of 0 is allowed, of runs too: then no run is held.
+ * or slots. A head of zeros is empty. Storage, runs and slots need no initial values (gcc may warn
+ * where the first call takes them by `const`). Lengths are in elements; a length of 0 is allowed,
+ * of runs too: then no run is held.
+ *
+ * Fields of a head may be read: `length` is how many elements are queued, `used` how many runs are
+ * stored. `start` and `end` of a stored run are offsets from `first_start` of the head, so the
+ * first one starts at 0. A run that a call returns is counted from position 0 of the assembler, or
+ * has positions of the receiver's stream.
  *
  * Duties
  *
  * Nothing checks these, and the proofs assume them. A call that breaks one can touch any memory.
  *
- * 1. A pointer is aligned and valid for the length after it, or for one struct if none follows; if
- *    the length is 0, it may be null.
+ * 1. A pointer is aligned and valid. That of a slice, such as `data`, is valid for as many elements
+ *    as the parameter after it says, here `data_length`; if that is 0, it may be null. Any other is
+ *    valid for one value, and isn't null.
  * 2. What a call may write overlaps nothing else that it is passed.
- * 3. No two calls that are passed one head, storage or runs run at once, in threads or in an
- *    interrupt and what it interrupts, unless all of them take it by `const`: mask the interrupt
- *    around each call, and around what reads fields.
+ * 3. Two calls that share a head, a storage, runs or slots aren't made at once, in threads or in an
+ *    interrupt and what it interrupts, unless both take by `const` what they share. So mask the
+ *    interrupt around each call, and around what reads fields.
  * 4. A storage, its runs and its slots have the same lengths in each call on a head.
  * 5. A head, its runs and its slots are written by calls of its own kind alone, those of a receiver
  *    by `net_base_receiver_..`, not its `place` by `net_base_ring_..` or its `held` by
- *    `net_base_assembler_..`; or the head is set to zeros.
+ *    `net_base_assembler_..`. The caller may set a head to zeros, and then `first` of a receiver,
+ *    `first_unacknowledged` of a sender or `expires_at` of a buffer of fragments. It writes the
+ *    slots of a packet that `net_base_packets_place` placed.
  * 6. Where a comment says `Requires`, head and runs are sound, as a call whose name ends in
  *    `_is_sound` tests. What calls of its own kind wrote, from an empty head on, is sound.
  *
@@ -37,8 +44,9 @@
  *
  * All else is tested. A refused call changes nothing. It returns `false` if it returns a `bool`;
  * `NET_BASE_REFUSED` if it returns a status, alone or as the first field of a struct; otherwise
- * `NET_BASE_NONE`, alone or as the first field of a struct. `NET_BASE_REFUSED` is no other status;
- * `false` and `NET_BASE_NONE` can also be results of calls that are done, as the comments say.
+ * `NET_BASE_NONE`, alone or as the first field of a struct. `NET_BASE_REFUSED` always means a
+ * refusal; `false` and `NET_BASE_NONE` can also be results of calls that are done, as the comments
+ * say.
  */
 #ifndef NET_BASE_H
 #define NET_BASE_H
@@ -67,10 +75,10 @@ extern "C" {
 /* What was passed is nonsense. Nothing changes. */
 #define NET_BASE_REFUSED UINT32_C(2)
 
-/* The position is missing. */
+/* The position is missing, or the answer is no. */
 #define NET_BASE_MISSING UINT32_C(3)
 
-/* The position is present. */
+/* The position is present, or the answer is yes. */
 #define NET_BASE_PRESENT UINT32_C(4)
 
 /* The fragment or the size reaches past the end of the buffer. Nothing changes. */
@@ -83,7 +91,7 @@ extern "C" {
  *
  * Of elements that aren't bytes a call sees only the capacity of their storage: it returns where
  * they are, and the caller copies them. A place that isn't one of a ring of that capacity is
- * refused.
+ * refused. An empty queue may begin at any index; `read_at` is 0 if the capacity is.
  */
 
 /* The numbers of a ring apart from its storage. */
@@ -150,7 +158,8 @@ void net_base_ring_clear(struct net_base_ring *place);
  */
 void net_base_ring_rewind_if_empty(struct net_base_ring *place);
 
-/* Returns whether `count` elements are free, and if so enqueues them, as they are.
+/* Returns whether `count` elements are free, and if so enqueues these, with what the storage holds
+ * there.
  *
  * A place that isn't sound is refused: false, and nothing changes.
  */
@@ -267,7 +276,9 @@ struct net_base_run {
 
 /* The length of the run at position 0, and whether the call was done. */
 struct net_base_front_length {
-    /* `NET_BASE_DONE`, `NET_BASE_TOO_MANY_RUNS` or `NET_BASE_REFUSED`. */
+    /* `NET_BASE_DONE`, `NET_BASE_TOO_MANY_RUNS` or `NET_BASE_REFUSED`, and of
+     * `net_base_fragments_complete` also `NET_BASE_MISSING`.
+     */
     uint32_t status;
     /* How many positions the run has; 0 if position 0 is missing, or the call wasn't done. */
     uint64_t length;
@@ -382,7 +393,7 @@ struct net_base_run net_base_assembler_hole_at(
     const struct net_base_assembler *assembler, const struct net_base_run *runs,
     uint64_t runs_length, uint64_t index);
 
-/* Returns whether the same positions are present in another assembler.
+/* Returns whether the same positions are present in another assembler. It may look at each run.
  *
  * If `used` is above `runs_length`, or that of `other` above `other_runs_length`, it is refused:
  * false.
@@ -459,10 +470,12 @@ bool net_base_fragments_is_expired(const struct net_base_fragments *fragments, i
 
 /* Packet queues: where a packet has its slots and its bytes, in storages that the caller keeps.
  *
- * A packet uses one slot, and a gap before it one more. `enqueue`, `dequeue`, `peek` and
- * `shorten_last` take the slots, and write them. `place`, `take_slot` and `shorten_slot` are for a
- * caller that keeps its slots in another form: they take one slot, and the caller writes those of a
- * packet that was placed. What is refused changes nothing.
+ * A packet's bytes are contiguous. If it doesn't fit before the storage's end, it is placed at its
+ * beginning, and the bytes before the end are a gap. A packet uses one slot, and a gap before it
+ * one more. `enqueue`, `dequeue`, `peek` and `shorten_last` take the slots, which `enqueue` and
+ * `shorten_last` write. `place`, `take_slot` and `shorten_slot` are for a caller that keeps its
+ * slots in another form: `place` takes none, and the caller writes those of the packet; the others
+ * take one slot. What is refused changes nothing.
  */
 
 /* The numbers of a packet queue apart from its storages. */
@@ -549,11 +562,12 @@ struct net_base_first_packet net_base_packets_peek(
     const struct net_base_packets *packets, const struct net_base_packet_slot *slots,
     uint64_t slots_length, uint64_t capacity);
 
-/* Takes the last `count` bytes off the last packet, lowers the size in its slot, and returns true:
- * fewer bytes were written than were placed.
+/* Takes the last `count` bytes off the last packet, lowers the size in its slot, and returns true.
+ * It is for a caller that wrote fewer bytes than it placed.
  *
- * Returns false, and changes nothing, if no slot is in use, if the last one isn't that of a packet
- * of at least `count` bytes, which are in use, or if the head's numbers aren't those of rings.
+ * Returns false, and changes nothing, if no slot is in use, if the last one is a gap's, if its size
+ * is below `count` or above the number of bytes in use, or if the head's numbers aren't those of
+ * rings.
  */
 bool net_base_packets_shorten_last(
     struct net_base_packets *packets, struct net_base_packet_slot *slots, uint64_t slots_length,
@@ -563,19 +577,20 @@ bool net_base_packets_shorten_last(
  * begins at the beginning of the storage of bytes. The caller writes the slots.
  *
  * If there are no `size` contiguous free bytes, or no slots for the packet and its gap, `slot` and
- * `from` are `NET_BASE_NONE`, and nothing changes. A head that isn't sound is refused: then `gap`
- * is `NET_BASE_NONE` too.
+ * `from` are `NET_BASE_NONE`, and nothing changes. A head whose numbers aren't those of rings of so
+ * many slots and of `capacity` bytes is refused: then `gap` is `NET_BASE_NONE` too.
  */
 struct net_base_packet_place net_base_packets_place(
     struct net_base_packets *packets, uint64_t slot_count, uint64_t capacity, uint64_t size);
 
-/* Takes the first slot in use, `first`, off with its bytes, and returns the index of the first of
- * these: of the gap before the first packet, or of the first packet if it has no gap.
+/* Removes the first slot in use, which the caller passes as `first`, with its bytes, and returns
+ * the index of the first of these bytes. `first` is the slot of the gap before the first packet, or
+ * that of the first packet if it has no gap.
  *
- * A head that isn't sound is refused, and so is a slot that can't be the first one: if none is in
- * use, if more bytes than are in use are its, if they aren't contiguous, or if it is a gap's that
- * has no bytes or doesn't end at the storage's end. Then `NET_BASE_NONE` is returned, and nothing
- * changes.
+ * A head whose numbers aren't those of rings is refused, and so is a slot that can't be the first
+ * one: if none is in use, if its size is above the number of bytes in use, if its bytes aren't
+ * contiguous, or if it is a gap's that has no bytes or doesn't end at the storage's end. Then
+ * `NET_BASE_NONE` is returned, and nothing changes.
  */
 uint64_t net_base_packets_take_slot(
     struct net_base_packets *packets, uint64_t slot_count, uint64_t capacity,
@@ -584,8 +599,9 @@ uint64_t net_base_packets_take_slot(
 /* Takes the last `count` bytes off the last packet, lowers the size in `last`, its slot, and
  * returns true.
  *
- * Returns false, and changes nothing, if no slot is in use, if `last` isn't that of a packet of at
- * least `count` bytes, which are in use, or if the head isn't sound.
+ * Returns false, and changes nothing, if no slot is in use, if `last` is a gap's, if its size is
+ * below `count` or above the number of bytes in use, or if the head's numbers aren't those of
+ * rings.
  */
 bool net_base_packets_shorten_slot(
     struct net_base_packets *packets, uint64_t slot_count, uint64_t capacity,
@@ -668,8 +684,9 @@ uint64_t net_base_rand_below(uint64_t *state, uint32_t bound);
 /* Receivers of one stream of bytes, over a storage and runs that the caller keeps.
  *
  * A head of zeros, but for `first`, is that of a receiver of a stream that begins there, of which
- * nothing is read, queued or held. The queue is the ring of `place`; the held runs are those of the
- * assembler `held`, counted from `next`, the first missing position.
+ * nothing is read, queued or held. The queue is the ring of `place`. `next` is the first missing
+ * position, which `net_base_receiver_next` returns. The held runs are those of the assembler
+ * `held`, whose position 0 is `next`: the first of them starts `held.first_start` after it.
  */
 
 /* What a receiver has besides its storage and its held runs: numbers. */
@@ -709,13 +726,10 @@ bool net_base_receiver_is_sound(
 /* Keeps the bytes of a segment that are in the free window, and writes to `counts` how many. The
  * segment's first byte is at `position`.
  *
- * Clauses `state` and `result` are about what is stored, `step` about every kept list and count of
- * bytes read that the receiver represents (some do: `laws::represents` of `net_receiver`), and
- * `receives` about segments of one stream.
- *
- * Returns `NET_BASE_DONE`, or `NET_BASE_TOO_MANY_RUNS` if the segment has bytes in the free window,
- * the first missing position is not one of theirs, and with them there would be more runs than the
- * slice has elements: then nothing changes.
+ * Returns `NET_BASE_DONE`, also if no byte is in the free window: then `kept` is 0. Returns
+ * `NET_BASE_TOO_MANY_RUNS`, and nothing changes, if the segment has bytes in the free window, the
+ * first missing position is not one of theirs, and with them there would be more runs than the
+ * slice has elements.
  *
  * Returns `NET_BASE_REFUSED`, and nothing changes, if the segment doesn't end within 64 bits, if
  * `place` isn't that of a ring of `storage_length` bytes, if `next` doesn't fit 64 bits, or if
@@ -767,7 +781,7 @@ bool net_base_receiver_next(const struct net_base_receiver *receiver, uint64_t *
  * and if so writes it to `end`: the first position for which there is no room, `next` plus the
  * window. No segment and no read lowers it.
  *
- * If more is queued than that, it is refused: false, and nothing changes.
+ * If more than `capacity` bytes are queued, it is refused: false, and nothing changes.
  */
 bool net_base_receiver_window_end(
     const struct net_base_receiver *receiver, uint64_t capacity, uint64_t *end);
@@ -775,8 +789,8 @@ bool net_base_receiver_window_end(
 /* Returns the window, where the storage has `capacity` bytes: how many bytes have room after the
  * queue, held ones among them.
  *
- * If more is queued than that, it is refused, and so is a capacity of `UINT64_MAX`, which no
- * storage has: `UINT64_MAX`.
+ * If more than `capacity` bytes are queued, it is refused, and so is a capacity of `UINT64_MAX`,
+ * which no storage has: `UINT64_MAX`.
  */
 uint64_t net_base_receiver_window(const struct net_base_receiver *receiver, uint64_t capacity);
 
@@ -797,8 +811,11 @@ struct net_base_held_run net_base_receiver_run_at(
  *
  * The first is the run that has `position`, that of the segment just taken, if it is held; then
  * come the runs last listed, which `recent` remembers, and then the others, in rising order; each
- * comes once. `recent` has as many numbers as runs are sent, zeros at first. It is the order that
- * RFC 2018, section 4, wants of a selective acknowledgement.
+ * comes once. The call writes the starts of the runs that it lists to the beginning of `recent`, as
+ * many as there is room for. The caller sets `recent` to zeros before the first call, and doesn't
+ * change it afterwards. It is enough if `recent` has as many elements as an acknowledgement has
+ * SACK blocks. RFC 2018, section 4, wants this order of them. The time grows with the number of
+ * runs times the number of runs and of elements of `recent` together.
  *
  * If `place` isn't that of a ring of `storage_length` bytes, `next` doesn't fit 64 bits, or
  * `held.used` is above `runs_length`, it is refused: `UINT64_MAX`, and nothing changes.
@@ -811,9 +828,10 @@ uint64_t net_base_receiver_newest_runs(
     uint64_t recent_length, struct net_base_held_run *into, uint64_t into_length);
 
 /* Returns how many bytes of a segment of `len` bytes at `position` would be new: those in the free
- * window whose positions are not held. `net_base_receiver_segment` keeps the others of the free
- * window too, and counts them. If there are none, all that the segment brings in the window is
- * there: a duplicate, which TCP may report. It is asked before the segment is kept.
+ * window whose positions are not held. Call it before `net_base_receiver_segment`, which also keeps
+ * the segment's bytes whose positions are held already, and counts them. The result is 0 for a
+ * duplicate, which TCP may report; it is also 0 for a segment that is beyond the free window or has
+ * no byte. It looks at each run.
  *
  * If the segment doesn't end within 64 bits, `place` isn't that of a ring of `storage_length`
  * bytes, `next` doesn't fit 64 bits, or `held.used` is above `runs_length`, it is refused:
@@ -829,7 +847,8 @@ uint64_t net_base_receiver_count_new(
  * keeps.
  *
  * At most as many runs are stored as the slice has elements; one may be that of what is
- * acknowledged. Each call looks at each run, and refuses a scoreboard that isn't sound.
+ * acknowledged. Each call but `net_base_scoreboard_clear` looks at each run, and refuses a
+ * scoreboard that isn't sound.
  */
 
 /* What a sender knows of the positions that the other end has, as acknowledgements and their SACK
@@ -874,8 +893,8 @@ uint32_t net_base_scoreboard_report(
 /* Reports all positions below `next`, so that the runs below it become one.
  *
  * Returns `NET_BASE_DONE`, or `NET_BASE_TOO_MANY_RUNS` if there would be more runs than the slice
- * has elements: then nothing below `next` is reported. `NET_BASE_REFUSED` if the scoreboard isn't
- * sound. If it isn't `NET_BASE_DONE`, nothing changes.
+ * has elements, which is only so while no position below `next` is reported. `NET_BASE_REFUSED` if
+ * the scoreboard isn't sound. If it isn't `NET_BASE_DONE`, nothing changes.
  */
 uint32_t net_base_scoreboard_acknowledge(
     struct net_base_scoreboard *scoreboard, struct net_base_run *runs, uint64_t runs_length,
@@ -902,7 +921,7 @@ struct net_base_hole net_base_scoreboard_next_hole(
  *
  * A head of zeros, but for `first_unacknowledged`, is that of a sender of a stream that begins
  * there, to which nothing was written. The queue, of bytes that are not acknowledged, is the ring
- * of `place`.
+ * of `place`. These calls take no SACK blocks: what these report is kept in a scoreboard.
  */
 
 /* What a sender has besides its storage and its SACK blocks: numbers. */
@@ -976,10 +995,9 @@ bool net_base_sender_acknowledge_sent(
  *
  * A receiver and a sender count in positions; TCP's segments have numbers. If position 0 has the
  * number `initial`, each position has one number, and a number has one position near a given one.
- * In TCP the number `initial` may be anything, and numbers before that of the first byte arrive
- * too, as those of old duplicates; no position below 0 has them, so they can't be told from others.
- * A stream whose first byte has the position 2^32 + its number avoids that: then `initial` is 0,
- * the low 32 bits of a position are its number, and 2^32 positions and more come before.
+ * In TCP segments with numbers before that of the first byte arrive too, as old duplicates. If the
+ * first byte has position 0, no position has such a number. If it has the position 2^32 + its
+ * number, each has one: then `initial` is 0, and the low 32 bits of a position are its number.
  */
 
 /* Returns the number of a position, if position 0 has the number `initial`. */
@@ -1077,8 +1095,9 @@ uint64_t net_base_duration_saturating_mul(uint64_t duration, uint32_t factor);
 
 /* The version of this interface. */
 
-/* Returns the version of this interface, which is in the name too: what was written for another
- * version doesn't link.
+/* Returns the version of this interface, which is in the name too: a program that calls this
+ * doesn't link with an archive of another version. The Cargo crate refers to it; a program in C has
+ * to call it. Each version whose structs or functions differ has another number.
  */
 uint32_t net_base_abi_1(void);
 

@@ -20,7 +20,8 @@ use net_assembler::{AssemblerHead, Run, TooManyHolesError};
 #[repr(C)]
 #[derive(Debug, Clone, Copy)]
 pub struct FrontLength {
-    /// `NET_BASE_DONE`, `NET_BASE_TOO_MANY_RUNS` or `NET_BASE_REFUSED`.
+    /// `NET_BASE_DONE`, `NET_BASE_TOO_MANY_RUNS` or `NET_BASE_REFUSED`, and of
+    /// `net_base_fragments_complete` also `NET_BASE_MISSING`.
     pub status: u32,
     /// How many positions the run has; 0 if position 0 is missing, or the call wasn't done.
     pub length: usize,
@@ -125,10 +126,11 @@ pub extern "C" fn net_base_assembler_add_then_remove_front(
     ensures sound { assembler.old.used ≤ length runs.old → HasSoundRuns assembler.new runs.new }
     ensures canonical { IsCanonical assembler.old → IsCanonical assembler.new }
 {
-    if assembler.used > runs.len() || !AssemblerHead::fits(offset, size) {
+    if assembler.used > runs.len() {
         return NO_FRONT;
     }
-    // Same call per case that moves no run, as in `add_range`.
+    // Same call per case that moves no run, as in `add_range`. The first case is that of data that
+    // comes next, whose end fits, while other runs wait.
     if offset == 0 {
         if size < assembler.first_start {
             return front_length(assembler.add_then_remove_front(runs, offset, size));
@@ -139,9 +141,15 @@ pub extern "C" fn net_base_assembler_add_then_remove_front(
         if assembler.used == 1 {
             return front_length(assembler.add_then_remove_front(runs, offset, size));
         }
-    } else if assembler.used == 0 {
+        return front_length(add_any_then_remove_front(assembler, runs, offset, size));
+    }
+    if !AssemblerHead::fits(offset, size) {
+        return NO_FRONT;
+    }
+    if assembler.used == 0 {
         return front_length(assembler.add_then_remove_front(runs, offset, size));
-    } else if offset < assembler.first_start {
+    }
+    if offset < assembler.first_start {
         if assembler.used == 1 {
             return front_length(assembler.add_then_remove_front(runs, offset, size));
         }
@@ -334,7 +342,7 @@ pub extern "C" fn net_base_assembler_hole_at(
     }
 }
 
-/// Returns whether the same positions are present in another assembler.
+/// Returns whether the same positions are present in another assembler. It may look at each run.
 ///
 /// If `used` is above `runs.len()`, or that of `other` above `other_runs.len()`, it is refused: false.
 ///

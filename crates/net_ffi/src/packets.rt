@@ -1,9 +1,11 @@
 //! Packet queues: where a packet has its slots and its bytes, in storages that the caller keeps.
 //!
-//! A packet uses one slot, and a gap before it one more. `enqueue`, `dequeue`, `peek` and
-//! `shorten_last` take the slots, and write them. `place`, `take_slot` and `shorten_slot` are for a
-//! caller that keeps its slots in another form: they take one slot, and the caller writes those of a
-//! packet that was placed. What is refused changes nothing.
+//! A packet's bytes are contiguous. If it doesn't fit before the storage's end, it is placed at its
+//! beginning, and the bytes before the end are a gap. A packet uses one slot, and a gap before it
+//! one more. `enqueue`, `dequeue`, `peek` and `shorten_last` take the slots, which `enqueue` and
+//! `shorten_last` write. `place`, `take_slot` and `shorten_slot` are for a caller that keeps its slots
+//! in another form: `place` takes none, and the caller writes those of the packet; the others take
+//! one slot. What is refused changes nothing.
 ghost use Rattle.std.specs.Prelude.{◌≡◌, ◌↔◌, ◌≤◌, ◌⊎◌, ◌-◌, ◌+◌, ◌^◌, ℕ, List, IsTrue, IsFalse};
 ghost use Rattle.std.specs.Prelude.{length, set, slice_get};
 ghost use Rattle.std.specs.declared.option.Option.TheVariants.{Some, None};
@@ -192,11 +194,11 @@ pub extern "C" fn net_base_packets_peek(
     }
 }
 
-/// Takes the last `count` bytes off the last packet, lowers the size in its slot, and returns true:
-/// fewer bytes were written than were placed.
+/// Takes the last `count` bytes off the last packet, lowers the size in its slot, and returns true.
+/// It is for a caller that wrote fewer bytes than it placed.
 ///
-/// Returns false, and changes nothing, if no slot is in use, if the last one isn't that of a packet of
-/// at least `count` bytes, which are in use, or if the head's numbers aren't those of rings.
+/// Returns false, and changes nothing, if no slot is in use, if the last one is a gap's, if its size is
+/// below `count` or above the number of bytes in use, or if the head's numbers aren't those of rings.
 #[unsafe(no_mangle)]
 pub extern "C" fn net_base_packets_shorten_last(
     packets: &mut PacketsHead,
@@ -231,8 +233,8 @@ pub extern "C" fn net_base_packets_shorten_last(
 /// begins at the beginning of the storage of bytes. The caller writes the slots.
 ///
 /// If there are no `size` contiguous free bytes, or no slots for the packet and its gap, `slot` and
-/// `from` are `NET_BASE_NONE`, and nothing changes. A head that isn't sound is refused: then `gap` is
-/// `NET_BASE_NONE` too.
+/// `from` are `NET_BASE_NONE`, and nothing changes. A head whose numbers aren't those of rings of so
+/// many slots and of `capacity` bytes is refused: then `gap` is `NET_BASE_NONE` too.
 #[unsafe(no_mangle)]
 pub extern "C" fn net_base_packets_place(
     packets: &mut PacketsHead,
@@ -259,12 +261,14 @@ pub extern "C" fn net_base_packets_place(
     }
 }
 
-/// Takes the first slot in use, `first`, off with its bytes, and returns the index of the first of
-/// these: of the gap before the first packet, or of the first packet if it has no gap.
+/// Removes the first slot in use, which the caller passes as `first`, with its bytes, and returns the
+/// index of the first of these bytes. `first` is the slot of the gap before the first packet, or that
+/// of the first packet if it has no gap.
 ///
-/// A head that isn't sound is refused, and so is a slot that can't be the first one: if none is in
-/// use, if more bytes than are in use are its, if they aren't contiguous, or if it is a gap's that has
-/// no bytes or doesn't end at the storage's end. Then `NET_BASE_NONE` is returned, and nothing changes.
+/// A head whose numbers aren't those of rings is refused, and so is a slot that can't be the first
+/// one: if none is in use, if its size is above the number of bytes in use, if its bytes aren't
+/// contiguous, or if it is a gap's that has no bytes or doesn't end at the storage's end. Then
+/// `NET_BASE_NONE` is returned, and nothing changes.
 #[unsafe(no_mangle)]
 pub extern "C" fn net_base_packets_take_slot(
     packets: &mut PacketsHead,
@@ -301,8 +305,8 @@ pub extern "C" fn net_base_packets_take_slot(
 /// Takes the last `count` bytes off the last packet, lowers the size in `last`, its slot, and returns
 /// true.
 ///
-/// Returns false, and changes nothing, if no slot is in use, if `last` isn't that of a packet of at
-/// least `count` bytes, which are in use, or if the head isn't sound.
+/// Returns false, and changes nothing, if no slot is in use, if `last` is a gap's, if its size is below
+/// `count` or above the number of bytes in use, or if the head's numbers aren't those of rings.
 #[unsafe(no_mangle)]
 pub extern "C" fn net_base_packets_shorten_slot(
     packets: &mut PacketsHead,

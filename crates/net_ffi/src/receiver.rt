@@ -1,8 +1,9 @@
 //! Receivers of one stream of bytes, over a storage and runs that the caller keeps.
 //!
 //! A head of zeros, but for `first`, is that of a receiver of a stream that begins there, of which
-//! nothing is read, queued or held. The queue is the ring of `place`; the held runs are those of
-//! the assembler `held`, counted from `next`, the first missing position.
+//! nothing is read, queued or held. The queue is the ring of `place`. `next` is the first missing
+//! position, which `net_base_receiver_next` returns. The held runs are those of the assembler `held`,
+//! whose position 0 is `next`: the first of them starts `held.first_start` after it.
 ghost use Rattle.std.specs.Prelude.{◌≡◌, ◌↔◌, ◌+◌, ◌-◌, ◌<◌, ◌≤◌, ◌^◌, ◌++◌, ◌∷◌, ℕ, List, min, length};
 ghost use Rattle.std.specs.Prelude.{take, drop, slice_get, slice_range, unwrap_or, IsTrue, IsFalse};
 ghost use Rattle.std.specs.Prelude.{MatchResult};
@@ -82,13 +83,10 @@ pub extern "C" fn net_base_receiver_is_sound(
 /// Keeps the bytes of a segment that are in the free window, and writes to `counts` how many. The
 /// segment's first byte is at `position`.
 ///
-/// Clauses `state` and `result` are about what is stored, `step` about every kept list and count of
-/// bytes read that the receiver represents (some do: `laws::represents` of `net_receiver`), and
-/// `receives` about segments of one stream.
-///
-/// Returns `NET_BASE_DONE`, or `NET_BASE_TOO_MANY_RUNS` if the segment has bytes in the free window, the
+/// Returns `NET_BASE_DONE`, also if no byte is in the free window: then `kept` is 0. Returns
+/// `NET_BASE_TOO_MANY_RUNS`, and nothing changes, if the segment has bytes in the free window, the
 /// first missing position is not one of theirs, and with them there would be more runs than the
-/// slice has elements: then nothing changes.
+/// slice has elements.
 ///
 /// Returns `NET_BASE_REFUSED`, and nothing changes, if the segment doesn't end within 64 bits, if
 /// `place` isn't that of a ring of `storage.len()` bytes, if `next` doesn't fit 64 bits, or if
@@ -291,7 +289,7 @@ pub extern "C" fn net_base_receiver_next(receiver: &ReceiverHead, next: &mut u64
 /// and if so writes it to `end`: the first position for which there is no room, `next` plus the
 /// window. No segment and no read lowers it.
 ///
-/// If more is queued than that, it is refused: false, and nothing changes.
+/// If more than `capacity` bytes are queued, it is refused: false, and nothing changes.
 #[unsafe(no_mangle)]
 pub extern "C" fn net_base_receiver_window_end(
     receiver: &ReceiverHead,
@@ -322,8 +320,8 @@ pub extern "C" fn net_base_receiver_window_end(
 /// Returns the window, where the storage has `capacity` bytes: how many bytes have room after the
 /// queue, held ones among them.
 ///
-/// If more is queued than that, it is refused, and so is a capacity of `usize::MAX`, which no
-/// storage has: `usize::MAX`.
+/// If more than `capacity` bytes are queued, it is refused, and so is a capacity of `usize::MAX`,
+/// which no storage has: `usize::MAX`.
 #[unsafe(no_mangle)]
 pub extern "C" fn net_base_receiver_window(receiver: &ReceiverHead, capacity: usize) -> usize
     ensures window { capacity < 2 ^ 64 - 1 → receiver.now.place.length ≤ capacity →
@@ -376,8 +374,11 @@ pub extern "C" fn net_base_receiver_run_at(
 ///
 /// The first is the run that has `position`, that of the segment just taken, if it is held; then
 /// come the runs last listed, which `recent` remembers, and then the others, in rising order; each
-/// comes once. `recent` has as many numbers as runs are sent, zeros at first. It is the order that
-/// RFC 2018, section 4, wants of a selective acknowledgement.
+/// comes once. The call writes the starts of the runs that it lists to the beginning of `recent`,
+/// as many as there is room for. The caller sets `recent` to zeros before the first call, and doesn't
+/// change it afterwards. It is enough if `recent` has as many elements as an acknowledgement has SACK
+/// blocks. RFC 2018, section 4, wants this order of them. The time grows with the number of runs
+/// times the number of runs and of elements of `recent` together.
 ///
 /// If `place` isn't that of a ring of `storage.len()` bytes, `next` doesn't fit 64 bits, or
 /// `held.used` is above `runs.len()`, it is refused: `usize::MAX`, and nothing changes.
@@ -415,9 +416,10 @@ pub extern "C" fn net_base_receiver_newest_runs(
 }
 
 /// Returns how many bytes of a segment of `len` bytes at `position` would be new: those in the free
-/// window whose positions are not held. `net_base_receiver_segment` keeps the others of the free
-/// window too, and counts them. If there are none, all that the segment brings in the window is
-/// there: a duplicate, which TCP may report. It is asked before the segment is kept.
+/// window whose positions are not held. Call it before `net_base_receiver_segment`, which also keeps
+/// the segment's bytes whose positions are held already, and counts them. The result is 0 for a
+/// duplicate, which TCP may report; it is also 0 for a segment that is beyond the free window or has
+/// no byte. It looks at each run.
 ///
 /// If the segment doesn't end within 64 bits, `place` isn't that of a ring of `storage.len()` bytes,
 /// `next` doesn't fit 64 bits, or `held.used` is above `runs.len()`, it is refused: `usize::MAX`.

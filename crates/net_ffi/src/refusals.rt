@@ -15,10 +15,10 @@ pub const NET_BASE_TOO_MANY_RUNS: u32 = 1;
 /// What was passed is nonsense. Nothing changes.
 pub const NET_BASE_REFUSED: u32 = 2;
 
-/// The position is missing.
+/// The position is missing, or the answer is no.
 pub const NET_BASE_MISSING: u32 = 3;
 
-/// The position is present.
+/// The position is present, or the answer is yes.
 pub const NET_BASE_PRESENT: u32 = 4;
 
 /// The fragment or the size reaches past the end of the buffer. Nothing changes.

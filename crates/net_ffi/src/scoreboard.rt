@@ -2,7 +2,8 @@
 //! keeps.
 //!
 //! At most as many runs are stored as the slice has elements; one may be that of what is
-//! acknowledged. Each call looks at each run, and refuses a scoreboard that isn't sound.
+//! acknowledged. Each call but `net_base_scoreboard_clear` looks at each run, and refuses a
+//! scoreboard that isn't sound.
 ghost use Rattle.std.specs.Prelude.{◌≡◌, ◌↔◌, ◌-◌, ◌<◌, ◌≤◌, ℕ, List, length, IsTrue};
 ghost use Rattle.std.specs.Prelude.{if◌then◌else◌};
 ghost use Rattle.net_assembler.specs.Assembler.{MakesTooManyRuns};
@@ -90,8 +91,8 @@ pub extern "C" fn net_base_scoreboard_report(
 /// Reports all positions below `next`, so that the runs below it become one.
 ///
 /// Returns `NET_BASE_DONE`, or `NET_BASE_TOO_MANY_RUNS` if there would be more runs than the slice has
-/// elements: then nothing below `next` is reported. `NET_BASE_REFUSED` if the scoreboard isn't sound.
-/// If it isn't `NET_BASE_DONE`, nothing changes.
+/// elements, which is only so while no position below `next` is reported. `NET_BASE_REFUSED` if the
+/// scoreboard isn't sound. If it isn't `NET_BASE_DONE`, nothing changes.
 #[unsafe(no_mangle)]
 pub extern "C" fn net_base_scoreboard_acknowledge(
     scoreboard: &mut ScoreboardHead,

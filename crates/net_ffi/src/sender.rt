@@ -2,7 +2,7 @@
 //!
 //! A head of zeros, but for `first_unacknowledged`, is that of a sender of a stream that begins
 //! there, to which nothing was written. The queue, of bytes that are not acknowledged, is the ring
-//! of `place`.
+//! of `place`. These calls take no SACK blocks: what these report is kept in a scoreboard.
 ghost use Rattle.std.specs.Prelude.{◌≡◌, ◌↔◌, ◌+◌, ◌-◌, ◌<◌, ◌≤◌, ◌^◌, ◌++◌, ℕ, List};
 ghost use Rattle.std.specs.Prelude.{length, take, drop, min, max, IsTrue, IsFalse};
 ghost use Rattle.net_ring.specs.Ring.{queue, rewind_if_empty, with_enqueued, write_at};

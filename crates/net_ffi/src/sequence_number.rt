@@ -2,10 +2,9 @@
 //!
 //! A receiver and a sender count in positions; TCP's segments have numbers. If position 0 has the
 //! number `initial`, each position has one number, and a number has one position near a given one.
-//! In TCP the number `initial` may be anything, and numbers before that of the first byte arrive
-//! too, as those of old duplicates; no position below 0 has them, so they can't be told from
-//! others. A stream whose first byte has the position 2^32 + its number avoids that: then `initial`
-//! is 0, the low 32 bits of a position are its number, and 2^32 positions and more come before.
+//! In TCP segments with numbers before that of the first byte arrive too, as old duplicates. If the
+//! first byte has position 0, no position has such a number. If it has the position 2^32 + its
+//! number, each has one: then `initial` is 0, and the low 32 bits of a position are its number.
 ghost use Rattle.std.specs.Prelude.{◌≡◌, ◌↔◌, ◌+◌, ◌<◌, ◌^◌, ◌%◌, ℕ, IsTrue, IsFalse};
 ghost use Rattle.net_receiver.specs.SequenceNumbers.{number_at, ahead_of, ComesBefore, IsNear};
 

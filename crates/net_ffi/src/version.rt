@@ -1,8 +1,9 @@
 //! The version of this interface.
 ghost use Rattle.std.specs.Prelude.{◌≡◌};
 
-/// Returns the version of this interface, which is in the name too: what was written for another
-/// version doesn't link.
+/// Returns the version of this interface, which is in the name too: a program that calls this
+/// doesn't link with an archive of another version. The Cargo crate refers to it; a program in C has
+/// to call it. Each version whose structs or functions differ has another number.
 #[unsafe(no_mangle)]
 pub extern "C" fn net_base_abi_1() -> u32
     ensures { result ≡ 1 }

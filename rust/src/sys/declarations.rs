@@ -11,10 +11,10 @@ pub const NET_BASE_TOO_MANY_RUNS: u32 = 1;
 /// What was passed is nonsense. Nothing changes.
 pub const NET_BASE_REFUSED: u32 = 2;
 
-/// The position is missing.
+/// The position is missing, or the answer is no.
 pub const NET_BASE_MISSING: u32 = 3;
 
-/// The position is present.
+/// The position is present, or the answer is yes.
 pub const NET_BASE_PRESENT: u32 = 4;
 
 /// The fragment or the size reaches past the end of the buffer. Nothing changes.
@@ -75,7 +75,8 @@ pub struct Run {
 #[repr(C)]
 #[derive(Debug, Clone, Copy, PartialEq, Eq)]
 pub struct FrontLength {
-    /// `NET_BASE_DONE`, `NET_BASE_TOO_MANY_RUNS` or `NET_BASE_REFUSED`.
+    /// `NET_BASE_DONE`, `NET_BASE_TOO_MANY_RUNS` or `NET_BASE_REFUSED`, and of
+    /// `net_base_fragments_complete` also `NET_BASE_MISSING`.
     pub status: u32,
     /// How many positions the run has; 0 if position 0 is missing, or the call wasn't done.
     pub length: u64,
@@ -261,7 +262,8 @@ extern "C" {
     /// are contiguous. Otherwise nothing changes. No place is refused.
     pub fn net_base_ring_rewind_if_empty(place: &mut RingHead);
 
-    /// Returns whether `count` elements are free, and if so enqueues them, as they are.
+    /// Returns whether `count` elements are free, and if so enqueues these, with what the storage
+    /// holds there.
     ///
     /// A place that isn't sound is refused: false, and nothing changes.
     pub fn net_base_ring_enqueue(place: &mut RingHead, capacity: u64, count: u64) -> bool;
@@ -501,7 +503,8 @@ extern "C" {
         index: u64,
     ) -> Run;
 
-    /// Returns whether the same positions are present in another assembler.
+    /// Returns whether the same positions are present in another assembler. It may look at each
+    /// run.
     ///
     /// If `used` is above `runs.len()`, or that of `other` above `other_runs.len()`, it is refused:
     /// false.
@@ -629,11 +632,11 @@ extern "C" {
     ) -> FirstPacket;
 
     /// Takes the last `count` bytes off the last packet, lowers the size in its slot, and returns
-    /// true: fewer bytes were written than were placed.
+    /// true. It is for a caller that wrote fewer bytes than it placed.
     ///
-    /// Returns false, and changes nothing, if no slot is in use, if the last one isn't that of a
-    /// packet of at least `count` bytes, which are in use, or if the head's numbers aren't those of
-    /// rings.
+    /// Returns false, and changes nothing, if no slot is in use, if the last one is a gap's, if its
+    /// size is below `count` or above the number of bytes in use, or if the head's numbers aren't
+    /// those of rings.
     pub fn net_base_packets_shorten_last(
         packets: &mut PacketsHead,
         slots: *mut PacketSlot,
@@ -646,8 +649,9 @@ extern "C" {
     /// queue begins at the beginning of the storage of bytes. The caller writes the slots.
     ///
     /// If there are no `size` contiguous free bytes, or no slots for the packet and its gap, `slot`
-    /// and `from` are `NET_BASE_NONE`, and nothing changes. A head that isn't sound is refused:
-    /// then `gap` is `NET_BASE_NONE` too.
+    /// and `from` are `NET_BASE_NONE`, and nothing changes. A head whose numbers aren't those of
+    /// rings of so many slots and of `capacity` bytes is refused: then `gap` is `NET_BASE_NONE`
+    /// too.
     pub fn net_base_packets_place(
         packets: &mut PacketsHead,
         slot_count: u64,
@@ -655,13 +659,14 @@ extern "C" {
         size: u64,
     ) -> PacketPlace;
 
-    /// Takes the first slot in use, `first`, off with its bytes, and returns the index of the first
-    /// of these: of the gap before the first packet, or of the first packet if it has no gap.
+    /// Removes the first slot in use, which the caller passes as `first`, with its bytes, and
+    /// returns the index of the first of these bytes. `first` is the slot of the gap before the
+    /// first packet, or that of the first packet if it has no gap.
     ///
-    /// A head that isn't sound is refused, and so is a slot that can't be the first one: if none is
-    /// in use, if more bytes than are in use are its, if they aren't contiguous, or if it is a
-    /// gap's that has no bytes or doesn't end at the storage's end. Then `NET_BASE_NONE` is
-    /// returned, and nothing changes.
+    /// A head whose numbers aren't those of rings is refused, and so is a slot that can't be the
+    /// first one: if none is in use, if its size is above the number of bytes in use, if its bytes
+    /// aren't contiguous, or if it is a gap's that has no bytes or doesn't end at the storage's
+    /// end. Then `NET_BASE_NONE` is returned, and nothing changes.
     pub fn net_base_packets_take_slot(
         packets: &mut PacketsHead,
         slot_count: u64,
@@ -672,8 +677,9 @@ extern "C" {
     /// Takes the last `count` bytes off the last packet, lowers the size in `last`, its slot, and
     /// returns true.
     ///
-    /// Returns false, and changes nothing, if no slot is in use, if `last` isn't that of a packet
-    /// of at least `count` bytes, which are in use, or if the head isn't sound.
+    /// Returns false, and changes nothing, if no slot is in use, if `last` is a gap's, if its size
+    /// is below `count` or above the number of bytes in use, or if the head's numbers aren't those
+    /// of rings.
     pub fn net_base_packets_shorten_slot(
         packets: &mut PacketsHead,
         slot_count: u64,
@@ -740,13 +746,10 @@ extern "C" {
     /// Keeps the bytes of a segment that are in the free window, and writes to `counts` how many.
     /// The segment's first byte is at `position`.
     ///
-    /// Clauses `state` and `result` are about what is stored, `step` about every kept list and
-    /// count of bytes read that the receiver represents (some do: `laws::represents` of
-    /// `net_receiver`), and `receives` about segments of one stream.
-    ///
-    /// Returns `NET_BASE_DONE`, or `NET_BASE_TOO_MANY_RUNS` if the segment has bytes in the free
-    /// window, the first missing position is not one of theirs, and with them there would be more
-    /// runs than the slice has elements: then nothing changes.
+    /// Returns `NET_BASE_DONE`, also if no byte is in the free window: then `kept` is 0. Returns
+    /// `NET_BASE_TOO_MANY_RUNS`, and nothing changes, if the segment has bytes in the free window,
+    /// the first missing position is not one of theirs, and with them there would be more runs than
+    /// the slice has elements.
     ///
     /// Returns `NET_BASE_REFUSED`, and nothing changes, if the segment doesn't end within 64 bits,
     /// if `place` isn't that of a ring of `storage.len()` bytes, if `next` doesn't fit 64 bits, or
@@ -810,7 +813,7 @@ extern "C" {
     /// bytes, and if so writes it to `end`: the first position for which there is no room, `next`
     /// plus the window. No segment and no read lowers it.
     ///
-    /// If more is queued than that, it is refused: false, and nothing changes.
+    /// If more than `capacity` bytes are queued, it is refused: false, and nothing changes.
     pub fn net_base_receiver_window_end(
         receiver: &ReceiverHead,
         capacity: u64,
@@ -820,8 +823,8 @@ extern "C" {
     /// Returns the window, where the storage has `capacity` bytes: how many bytes have room after
     /// the queue, held ones among them.
     ///
-    /// If more is queued than that, it is refused, and so is a capacity of `u64::MAX`, which no
-    /// storage has: `u64::MAX`.
+    /// If more than `capacity` bytes are queued, it is refused, and so is a capacity of `u64::MAX`,
+    /// which no storage has: `u64::MAX`.
     pub fn net_base_receiver_window(receiver: &ReceiverHead, capacity: u64) -> u64;
 
     /// Returns the held run with number `index`, counted from 0 in rising order. If there are no
@@ -847,8 +850,12 @@ extern "C" {
     ///
     /// The first is the run that has `position`, that of the segment just taken, if it is held;
     /// then come the runs last listed, which `recent` remembers, and then the others, in rising
-    /// order; each comes once. `recent` has as many numbers as runs are sent, zeros at first. It is
-    /// the order that RFC 2018, section 4, wants of a selective acknowledgement.
+    /// order; each comes once. The call writes the starts of the runs that it lists to the
+    /// beginning of `recent`, as many as there is room for. The caller sets `recent` to zeros
+    /// before the first call, and doesn't change it afterwards. It is enough if `recent` has as
+    /// many elements as an acknowledgement has SACK blocks. RFC 2018, section 4, wants this order
+    /// of them. The time grows with the number of runs times the number of runs and of elements of
+    /// `recent` together.
     ///
     /// If `place` isn't that of a ring of `storage.len()` bytes, `next` doesn't fit 64 bits, or
     /// `held.used` is above `runs.len()`, it is refused: `u64::MAX`, and nothing changes.
@@ -870,9 +877,10 @@ extern "C" {
     ) -> u64;
 
     /// Returns how many bytes of a segment of `len` bytes at `position` would be new: those in the
-    /// free window whose positions are not held. `net_base_receiver_segment` keeps the others of
-    /// the free window too, and counts them. If there are none, all that the segment brings in the
-    /// window is there: a duplicate, which TCP may report. It is asked before the segment is kept.
+    /// free window whose positions are not held. Call it before `net_base_receiver_segment`, which
+    /// also keeps the segment's bytes whose positions are held already, and counts them. The result
+    /// is 0 for a duplicate, which TCP may report; it is also 0 for a segment that is beyond the
+    /// free window or has no byte. It looks at each run.
     ///
     /// If the segment doesn't end within 64 bits, `place` isn't that of a ring of `storage.len()`
     /// bytes, `next` doesn't fit 64 bits, or `held.used` is above `runs.len()`, it is refused:
@@ -920,8 +928,9 @@ extern "C" {
     /// Reports all positions below `next`, so that the runs below it become one.
     ///
     /// Returns `NET_BASE_DONE`, or `NET_BASE_TOO_MANY_RUNS` if there would be more runs than the
-    /// slice has elements: then nothing below `next` is reported. `NET_BASE_REFUSED` if the
-    /// scoreboard isn't sound. If it isn't `NET_BASE_DONE`, nothing changes.
+    /// slice has elements, which is only so while no position below `next` is reported.
+    /// `NET_BASE_REFUSED` if the scoreboard isn't sound. If it isn't `NET_BASE_DONE`, nothing
+    /// changes.
     pub fn net_base_scoreboard_acknowledge(
         scoreboard: &mut ScoreboardHead,
         runs: *mut Run,
@@ -1105,7 +1114,8 @@ extern "C" {
     /// Returns the product, or `u64::MAX` if it is above that.
     pub fn net_base_duration_saturating_mul(duration: u64, factor: u32) -> u64;
 
-    /// Returns the version of this interface, which is in the name too: what was written for
-    /// another version doesn't link.
+    /// Returns the version of this interface, which is in the name too: a program that calls this
+    /// doesn't link with an archive of another version. The Cargo crate refers to it; a program in
+    /// C has to call it. Each version whose structs or functions differ has another number.
     pub fn net_base_abi_1() -> u32;
 }
