@@ -9,7 +9,7 @@
 # way to run a target: the checks of exports.c that passed, whether hosted.c prints what it should, the calls of
 # the fuzzer, the rows of crates/net_cases, and the digest of one long sequence of N calls (1000000), which has to
 # be the same everywhere; and a line for the example with an interrupt. Quick are exports.c, 20000 calls of the
-# sequence, and the interrupt. --table prints a table of sizes and stacks, --packages what isn't installed.
+# sequence, and the interrupt. --table prints sizes, stacks and wanted functions, --packages what isn't installed.
 #
 # The status is 1 if something is wrong, and 2 if all is right but a compiler or an emulator is missing, which
 # a line names with the way to install it.

@@ -1,5 +1,6 @@
 //! Links the proved static library: the archive that NET_BASE_ARCHIVE names, or that of the target in `lib`. If the
-//! linker is to optimise (`-C linker-plugin-lto`), that is the library as LLVM bitcode, whose exports are inlined.
+//! linker is to optimise (`-C linker-plugin-lto`), on x86-64 Linux that is the library as LLVM bitcode, whose exports
+//! are inlined.
 //!
 //! Where there is none, or the target calls C functions in another way, the crate can be documented and checked
 //! only: it can't be built for want of a library, whose name says so.
@@ -62,7 +63,7 @@ fn main() {
     if env::var_os("DOCS_RS").is_some() {
         return;
     }
-    let target = set("TARGET");
+    let target = variable("TARGET");
     let fitting: Vec<_> = ARCHIVES.iter().filter(|archive| archive.fits(&target)).collect();
     let named = env::var_os("NET_BASE_ARCHIVE").map(PathBuf::from);
     let path = match (named, fitting.first()) {
@@ -79,7 +80,7 @@ fn main() {
     if let Err(problem) = check(&bytes, &fitting) {
         stop(&format!("{}: {problem}", path.display()));
     }
-    let out = PathBuf::from(set("OUT_DIR"));
+    let out = PathBuf::from(variable("OUT_DIR"));
     if let Err(error) = fs::write(out.join("libnet_ffi.a"), bytes) {
         stop(&format!("{}: {error}", out.display()));
     }
@@ -89,7 +90,7 @@ fn main() {
 
 /// The archive in `lib`.
 fn beside(archive: &Archive) -> PathBuf {
-    let folder = Path::new(&set("CARGO_MANIFEST_DIR")).join("lib").join(archive.folder);
+    let folder = Path::new(&variable("CARGO_MANIFEST_DIR")).join("lib").join(archive.folder);
     let is_bitcode = archive.folder == BITCODE_FOLDER && is_bitcode_read();
     folder.join(if is_bitcode { "libnet_ffi_lto.a" } else { "libnet_ffi.a" })
 }
@@ -97,7 +98,7 @@ fn beside(archive: &Archive) -> PathBuf {
 impl Archive {
     fn fits(&self, target: &str) -> bool {
         let is = |name: &str, words: &[&str]| {
-            words.contains(&set(&format!("CARGO_CFG_TARGET_{name}")).as_str())
+            words.contains(&variable(&format!("CARGO_CFG_TARGET_{name}")).as_str())
         };
         is("ARCH", &[self.arch])
             && is("OS", self.os)
@@ -134,11 +135,11 @@ fn check(bytes: &[u8], fitting: &[&Archive]) -> Result<(), String> {
         || fitting.iter().any(|it| {
             it.machine == word(18) && (name == "net_ffi" || name == it.folder.replace(".main", ""))
         });
-    let bits = if set("CARGO_CFG_TARGET_POINTER_WIDTH") == "64" { 2 } else { 1 };
+    let bits = if variable("CARGO_CFG_TARGET_POINTER_WIDTH") == "64" { 2 } else { 1 };
     if !is_bitcode && (!known || object[4] != bits) {
         return Err(format!(
             "it is an archive of another target ({name}.o) than {}",
-            set("TARGET")
+            variable("TARGET")
         ));
     }
     if !bytes
@@ -195,7 +196,8 @@ fn is_bitcode_read() -> bool {
             let has =
                 version.map_or("an unknown LLVM".to_string(), |version| format!("LLVM {version}"));
             println!(
-                "cargo::warning=net-base: nothing is inlined: the bitcode needs a rustc with LLVM {BITCODE_LLVM}, and this one has {has}"
+                "cargo::warning=net-base: nothing is inlined: the bitcode needs a rustc with LLVM \
+                 {BITCODE_LLVM}, and this one has {has}"
             );
             false
         }
@@ -204,13 +206,13 @@ fn is_bitcode_read() -> bool {
 
 /// The major version of rustc's LLVM.
 fn llvm() -> Option<u32> {
-    let output = Command::new(set("RUSTC")).arg("-vV").output().ok()?;
+    let output = Command::new(variable("RUSTC")).arg("-vV").output().ok()?;
     let text = String::from_utf8(output.stdout).ok()?;
     text.split("LLVM version: ").nth(1)?.split('.').next()?.trim().parse().ok()
 }
 
 /// A variable that Cargo sets.
-fn set(name: &str) -> String {
+fn variable(name: &str) -> String {
     env::var(name).unwrap_or_else(|_| stop(&format!("{name} is not set")))
 }
 

@@ -3,24 +3,25 @@
 
     python3 tools/archive.py --check     builds the archives, and compares bytes and digests; status 1 if they differ
     python3 tools/archive.py --write     builds them too, and puts them and their digests in place
-    python3 tools/archive.py --digest    compares the archives in the repository with their digests, their processors and
-                                         the header; needs no `rt`
-    python3 tools/archive.py --levels    builds those that are rewritten at -O3, -O2, -Os and -Oz, and prints bytes of code,
-                                         and instructions of loops on x86-64, where valgrind is there
+    python3 tools/archive.py --digest    compares the archives in the repository with their digests, their processors
+                                         and the header; needs no `rt`
+    python3 tools/archive.py --levels    builds those at -Os at -O3 and -Oz too, and prints bytes of code, and
+                                         instructions of loops on x86-64, where valgrind is there; with --target any
+                                         that is rewritten
 
-With --target NAME only that one; tools/targets.py has the names. The archive of NAME is rust/lib/NAME/libnet_ffi.a, and its
-digest is beside it, as `sha256sum` prints it. In crates/net_ffi `rt lib` proves what isn't proved yet. Its archive is that
-of x86-64 Linux. The kit compiles the crate for another processor that it knows. For the others, its module for wasm64 is
-rewritten (tools/retarget.py), joined to a shim for C's ABI (tools/shim.py), and compiled by the kit's clang.
+With --target NAME only that one; tools/targets.py has the names. The archive of NAME is rust/lib/NAME/libnet_ffi.a, and
+its digest is beside it, as `sha256sum` prints it. In crates/net_ffi `rt lib` proves what isn't proved yet. Its archive
+is that of x86-64 Linux. The kit compiles the crate for another processor that it knows. For the others, its module for
+wasm64 is rewritten (tools/retarget.py), joined to a shim for C's ABI (tools/shim.py), and compiled by the kit's clang.
 """
 import argparse
 import concurrent.futures
 import functools
-import hashlib
 import os
 import pathlib
 import re
 import shutil
+import struct
 import tempfile
 
 import elf
@@ -28,7 +29,7 @@ import ffi
 import kit
 import retarget
 import shim
-from targets import KIT, RETARGETED, RT_LIB, TARGETS
+from targets import KIT, RETARGETED, RT_LIB, SMALL, TARGETS
 
 LIB = kit.ROOT / "rust/lib"
 ARCHIVE = "libnet_ffi.a"
@@ -36,8 +37,8 @@ ARCHIVE = "libnet_ffi.a"
 WANTED = {"memcpy", "memmove", "memset", "memcmp"}
 WANTED_OF_32_BITS = {
     "__aeabi_memcpy", "__aeabi_memcpy8", "__aeabi_memmove", "__aeabi_memmove8", "__aeabi_memclr", "__aeabi_memclr4",
-    "__aeabi_memclr8", "__aeabi_memset", "__aeabi_memset4", "__aeabi_memset8", "__aeabi_uldivmod", "__aeabi_lmul", "__aeabi_llsl", "__aeabi_llsr",
-    "__aeabi_lasr", "__udivdi3", "__umoddi3", "__muldi3", "__ashldi3", "__lshrdi3"}
+    "__aeabi_memclr8", "__aeabi_memset", "__aeabi_memset4", "__aeabi_memset8", "__aeabi_uldivmod", "__aeabi_lmul",
+    "__aeabi_llsl", "__aeabi_llsr", "__aeabi_lasr", "__udivdi3", "__umoddi3", "__muldi3", "__ashldi3", "__lshrdi3"}
 # The kit's clang comes without headers.
 HEADERS = {
     "stdbool.h": "#define bool _Bool\n#define true 1\n#define false 0\n",
@@ -61,7 +62,7 @@ class Build:
         by_clang = [target for target in targets if target.made == RETARGETED]
         made = {target: self.archive(target) for target in targets if target not in by_clang}
         if by_clang:
-            _ = self.core
+            _ = self.core  # made once, before the threads want it
             with concurrent.futures.ThreadPoolExecutor(os.cpu_count()) as pool:
                 made |= zip(by_clang, pool.map(self.archive, by_clang))
         return {target: made[target] for target in targets}
@@ -98,8 +99,8 @@ class Build:
         size = {"-Os": "optsize", "-Oz": "minsize optsize"}.get(level, "")
         words = [*target.words.split(), level, "-ffreestanding", "-ffunction-sections", "-fdata-sections",
                  "-fno-unwind-tables", "-fno-asynchronous-unwind-tables", "-fomit-frame-pointer"]
-        kit.clang([*words, "-nostdlibinc", f"-I{self.folder}/include", f"-I{kit.ROOT}/c", "-std=c11", "-S", "-emit-llvm",
-                   "-Xclang", "-disable-llvm-passes", self.folder / "shim.c", "-o", folder / "shim.ll"])
+        kit.clang([*words, "-nostdlibinc", f"-I{self.folder}/include", f"-I{kit.ROOT}/c", "-std=c11", "-S",
+                   "-emit-llvm", "-Xclang", "-disable-llvm-passes", self.folder / "shim.c", "-o", folder / "shim.ll"])
         text = (folder / "shim.ll").read_text()
         try:
             retarget.check_layout(re.search(r'^target datalayout = "(.*)"$', text, flags=re.M)[1])
@@ -108,11 +109,6 @@ class Build:
             kit.stop(f"{target.name} is refused: {error}")
         kit.clang([*words, "-c", "-x", "ir", folder / "joined.ll", "-o", folder / target.member()])
         kit.archived(path, folder / target.member())
-
-
-def digest_line(archive):
-    """The line that `sha256sum` prints of an archive of this name."""
-    return f"{hashlib.sha256(archive.read_bytes()).hexdigest()}  {ARCHIVE}\n"
 
 
 def kept(target):
@@ -125,7 +121,7 @@ def problem_of(target, archive):
     """What is wrong with an archive: of another processor, or with other exports than the header has."""
     try:
         found = elf.objects(archive)
-    except (ValueError, KeyError) as error:
+    except (ValueError, LookupError, struct.error) as error:
         return f"isn't an archive of object files: {error}"
     for it in found:
         if (it.machine, it.bits, it.name) != (target.machine, target.bits, target.member()):
@@ -141,19 +137,21 @@ def problem_of(target, archive):
 
 
 def compare(target, archive):
-    """Ends with status 1 unless an archive is the one in the repository, which has the digest beside it. Returns a line."""
+    """Ends with status 1 unless an archive is the one in the repository, which has the digest beside it. Returns a line
+    of its size and digest."""
     place, digest = kept(target)
     name = place.relative_to(kit.ROOT)
     for path in (place, digest):
         if not path.exists():
-            kit.stop(f"there is no {path.relative_to(kit.ROOT)}: python3 tools/archive.py --write --target {target.name}")
-    if digest_line(place) != digest.read_text():
+            missing = path.relative_to(kit.ROOT)
+            kit.stop(f"there is no {missing}: python3 tools/archive.py --write --target {target.name}")
+    if kit.digest_line(place) != digest.read_text():
         kit.stop(f"{name} has another digest than the file beside it")
     if problem := problem_of(target, place):
         kit.stop(f"{name} {problem}")
     if archive.read_bytes() != place.read_bytes():
         kit.stop(f"the sources give another {name}: python3 tools/archive.py --write")
-    return f"archive: {target.name}: {place.stat().st_size:,} bytes, {digest_line(place).split()[0]}"
+    return f"archive: {target.name}: {place.stat().st_size:,} bytes, {kit.digest_line(place).split()[0]}"
 
 
 def check_folders():
@@ -172,16 +170,19 @@ def write(target, archive):
     place, digest = kept(target)
     place.parent.mkdir(parents=True, exist_ok=True)
     place.write_bytes(archive.read_bytes())
-    digest.write_text(digest_line(archive))
+    digest.write_text(kit.digest_line(place))
 
 
 def print_levels(build, targets):
-    """Prints the bytes of code at each level, and what loops take on x86-64, which tells how far functions are inlined."""
-    levels = ["-O3", "-O2", "-Os", "-Oz"]
-    print(f"| | {' | '.join(levels)} |\n|---|{'---:|' * len(levels)}")
+    """Prints the bytes of code at each level, and what loops take on x86-64, which tells how far functions are
+    inlined."""
+    levels, rows = ["-O3", "-Os", "-Oz"], {}
     for target in targets:
         sizes = [sum(it.code_size() for it in elf.objects(build.archive(target, level))) for level in levels]
-        print(f"| `{target.name}`, bytes | {' | '.join(f'{size:,}' for size in sizes)} |")
+        rows.setdefault(" | ".join(f"{size:,}" for size in sizes), []).append(f"`{target.name}`")
+    print(f"| | {' | '.join(levels)} |\n|---|{'---:|' * len(levels)}")
+    for row, equal in rows.items():
+        print(f"| {', '.join(equal)}: bytes | {row} |")
     if not shutil.which("valgrind"):
         return
     archives = [build.archive(TARGETS["x86_64-none"], level) for level in levels]
@@ -227,7 +228,8 @@ def main():
     with tempfile.TemporaryDirectory(prefix="net_base_") as folder:
         build = Build(pathlib.Path(folder))
         if options.levels:
-            print_levels(build, [target for target in targets if target.made == RETARGETED])
+            print_levels(build, [target for target in targets
+                                 if target.made == RETARGETED and (target.level == SMALL or options.target != "all")])
             return
         for target, archive in build.archives(targets).items():
             if options.write:

@@ -49,11 +49,21 @@ MUTANTS = {
     "a pointer copied by a size that isn't known": (
         STORE, rf"\g<0>{MEMORY}  %mutant0 = load i64, ptr %mutant, align 8\n"
         r"  call void @llvm.memmove.p0.p0.i64(ptr %mutant, ptr \2, i64 %mutant0, i1 false)\n"),
+    "two pointers that overlap": (
+        STORE, r"\g<0>  %mutant = getelementptr i8, ptr \2, i64 4\n  store ptr null, ptr %mutant, align 4\n"),
     "more than a pointer in memory for one": (
         STORE, r"\g<0>  %mutant = alloca ptr, align 8\n"
         r"  call void @llvm.memset.p0.i64(ptr %mutant, i8 0, i64 8, i1 false)\n"),
     "a pair whose layout depends on a pointer": (STORE, r"\g<0>  %mutant = load { ptr, i8 }, ptr \2, align 8\n"),
-    "a number made a pointer": (r"^  (%\w+) = ptrtoint ptr (%\w+) to i64\n", r"\g<0>  %mutant = inttoptr i64 \1 to ptr\n"),
+    "a pair with a number of 128 bits read": (
+        STORE, r"\g<0>  %mutant0 = alloca [32 x i8], align 8\n  %mutant = load { i64, i128 }, ptr %mutant0, align 8\n"),
+    "a pair with a number of 128 bits written": (
+        STORE, r"\g<0>  %mutant = alloca [32 x i8], align 8\n"
+        r"  store { i128, i64 } zeroinitializer, ptr %mutant, align 8\n"),
+    "a number made a pointer": (
+        r"^  (%\w+) = ptrtoint ptr (%\w+) to i64\n", r"\g<0>  %mutant = inttoptr i64 \1 to ptr\n"),
+    "a pointer that nothing made": (STORE, r"\g<0>  store ptr %mutant, ptr \2, align 8\n"),
+    "a pair that nothing made": (STORE, r"\g<0>  store { ptr, i64 } %mutant, ptr \2, align 8\n"),
     "a pointer kept with a caller": (
         r"(define internal [^@]*@net_core_ring_clear\(ptr noundef %a0\) #\d+ \{\nstart:\n)",
         r"\1  %mutant = alloca i64, align 8\n  store ptr %mutant, ptr %a0, align 8\n"),
@@ -66,6 +76,9 @@ MUTANTS = {
     "a function that calls itself": (
         r"^(define internal void (@net_core_ring_clear)\(ptr noundef (%a0)\) #\d+ \{\nstart:\n)",
         r"\1  call void \2(ptr \3)\n"),
+    "a call with another argument": (STORE, r"\g<0>  call void @net_core_ring_clear(i64 0)\n"),
+    "a call of a function from elsewhere": (STORE, r"\g<0>  call void @mutant()\n"),
+    "a function of another form": (r"\A", r"define void @mutant(...) {\nstart:\n  ret void\n}\n"),
     "a global": (r"\A", r"@mutant = global i64 0\n"),
     "assembly of the module": (r"\A", 'module asm "nop"\n'),
 }
@@ -92,13 +105,12 @@ CHOICES = {
     "riscv64gc-unknown-linux-musl": "riscv64gc",
     "riscv64gc-unknown-none-elf": "riscv64gc",
 }
-missed = 0
+counts = {True: 0, False: 0}
 
 
 def report(fault, seen):
     """Counts a fault, and prints what saw it."""
-    global missed
-    missed += not seen
+    counts[bool(seen)] += 1
     print(f"{'seen' if seen else 'NOT SEEN'}: {fault}{': ' + str(seen)[:150] if seen else ''}", flush=True)
 
 
@@ -114,21 +126,15 @@ def refusal(act, *arguments):
 def mutants(text):
     """Changes of the module, each at several places."""
     rewritten, _ = retarget.rewritten(text)
-
-    def checked(mutant):
-        functions = retarget.functions_of(mutant)
-        retarget.check_outside(mutant)
-        retarget.check_accesses(functions, collections.Counter())
-        retarget.check_calls(functions)
-        retarget.check_cells(functions, collections.Counter())
-
-    checked(rewritten)
+    more = text + '\nattributes #9999 = { nounwind "mutant"="1" }\n'
+    report("another attribute", refusal(retarget.rewritten, more))
     for fault, (pattern, by) in MUTANTS.items():
         found = list(re.finditer(pattern, rewritten, flags=re.M))
         for at in sorted({0, 1, len(found) // 3, len(found) // 2, len(found) - 1} & set(range(len(found)))):
             match = found[at]
             mutant = rewritten[: match.start()] + match.expand(by) + rewritten[match.end() :]
-            report(f"{fault}, {at + 1} of {len(found)}", refusal(checked, mutant))
+            said = refusal(retarget.check, mutant, collections.Counter())
+            report(f"{fault}, {at + 1} of {len(found)}", said)
         if not found:
             report(f"{fault}: there is no such line", "")
 
@@ -156,7 +162,8 @@ def shims(build, folder):
         programs = run.Programs(way, folder / name)
         programs.archive = folder / name / archive.ARCHIVE
         build.by_clang(TARGETS[way.target], "-O1", programs.archive)
-        report(f"a shim that swaps the last arguments of {name}", refusal(programs.run, "exports", [run.C / "exports.c"]))
+        said = refusal(programs.run, "exports", [run.C / "exports.c"])
+        report(f"a shim that swaps the last arguments of {name}", said)
     (build.folder / "shim.c").write_text(right)
 
 
@@ -169,7 +176,7 @@ def archives(folder):
         place, digest = archive.kept(TARGETS[name])
         place.write_bytes(data)
         if with_digest:
-            digest.write_text(archive.digest_line(place))
+            digest.write_text(kit.digest_line(place))
         said = refusal(lambda: archive.compare(TARGETS[name], place))
         shutil.rmtree(archive.LIB / name)
         shutil.copytree(right / name, archive.LIB / name)
@@ -214,8 +221,8 @@ def rust_choices(folder):
             name, _, value = line.partition("=")
             values[f"CARGO_CFG_{name.upper()}"] += [value.strip('"')] * bool(value)
         variables = {name: ",".join(value) for name, value in values.items()}
-        variables |= {"PATH": os.environ["PATH"], "HOME": os.environ.get("HOME", "/"), "TARGET": target, "OUT_DIR": str(out),
-                      "CARGO_MANIFEST_DIR": str(crate), "RUSTC": "rustc", **more}
+        variables |= {"PATH": os.environ["PATH"], "HOME": os.environ.get("HOME", "/"), "TARGET": target,
+                      "OUT_DIR": str(out), "CARGO_MANIFEST_DIR": str(crate), "RUSTC": "rustc", **more}
         done = subprocess.run([program], env=variables, capture_output=True, text=True)
         return done.stdout + done.stderr
 
@@ -223,10 +230,12 @@ def rust_choices(folder):
     wrong = []
     for target in targets:
         said = ran(target)
-        chosen = re.search(r"/lib/([\w.-]+)/libnet_ffi\.a: ", said)
-        if (chosen[1] if chosen else None) != CHOICES.get(target) or not (chosen or "cargo::warning=net-base: " in said):
+        found = re.search(r"/lib/([\w.-]+)/libnet_ffi\.a: ", said)
+        chosen = found[1] if found else None
+        if chosen != CHOICES.get(target) or not (chosen or "cargo::warning=net-base: " in said):
             wrong.append(target)
-    report(f"build.rs and {len(targets)} targets", "" if wrong else f"{len(set(targets) & set(CHOICES))} have an archive")
+    known = set(targets) & set(CHOICES)
+    report(f"build.rs and {len(targets)} targets", "" if wrong else f"{len(known)} have an archive")
     if wrong:
         print(f"    another choice: {' '.join(wrong)}")
     named = str(archive.LIB / "thumbv7em" / archive.ARCHIVE)
@@ -259,7 +268,8 @@ def main():
         _ = build.core
         mutants((build.folder / "module.ll").read_text())
         shims(build, folder / "shims")
-    sys.exit(missed > 0)
+    print(f"{sum(counts.values())} faults: {counts[True]} seen, {counts[False]} missed")
+    sys.exit(counts[False] > 0)
 
 
 if __name__ == "__main__":

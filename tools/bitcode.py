@@ -5,23 +5,21 @@
     python3 tools/bitcode.py --check    makes it and compares bytes and digest; status 1 if they differ
     python3 tools/bitcode.py --digest   compares the archive in the repository with its digest; needs no `rt`
 
-It is the module that `rt lib` compiles to the archive of machine code, and only attributes of its functions are changed,
-as text:
+It is the module that `rt lib` compiles to the archive of machine code, and only attributes of its functions are
+changed, as text:
 
 | Attribute | Before | Here | Why it changes no meaning |
 |---|---|---|---|
-| `target-cpu` | x86-64-v2 | x86-64 | LLVM inlines no function with more features than its caller has; fewer are always allowed |
-| `alwaysinline` | on few | on each export and on the function that it wraps, but for `_is_sound` | where code is, not what it does |
-| `noalias` | on none | on the pointers of exports | a duty of each caller: what a call writes overlaps nothing else that it is passed |
+| `target-cpu` | x86-64-v2 | x86-64 | no function with more features than its caller is inlined; fewer are allowed |
+| `alwaysinline` | on few | on each export and what it wraps, but for `_is_sound` | where code is, not what it does |
+| `noalias` | on none | on pointers of exports | a duty of callers: what is written overlaps nothing else of a call |
 
 The module is then optimised for thin link-time optimisation, which is the kind that rustc writes unless it is told
 otherwise: a linker optimises modules of two kinds apart from each other.
 """
 import argparse
-import hashlib
 import pathlib
 import re
-import sys
 import tempfile
 
 import kit
@@ -40,7 +38,7 @@ def module(folder):
     """The text of the module of which `rt lib` made its archive."""
     text = kit.module(TARGET, folder)
     if (folder / "built.a").read_bytes() != kit.BUILT.read_bytes():
-        sys.exit("bitcode: this module gives another archive than `rt lib`")
+        kit.stop("this module gives another archive than `rt lib`")
     return text
 
 
@@ -51,7 +49,10 @@ def with_attributes(text):
     always, lines, pointers = {}, [], 0
     for line in text.splitlines():
         if line.startswith("define "):
-            start, quoted, parameters, group = DEFINITION.fullmatch(line).groups()
+            definition = DEFINITION.fullmatch(line)
+            if not definition:
+                kit.stop(f"a function of another form: {line}")
+            start, quoted, parameters, group = definition.groups()
             name = quoted.strip('"')
             if INLINED.fullmatch(name) and not name.endswith("_is_sound"):
                 group = always.setdefault(group, f"#{len(groups) + len(always)}")
@@ -61,25 +62,23 @@ def with_attributes(text):
             line = f"{start}@{quoted}({parameters}) {group} {{"
         lines.append(line)
     if not always or not pointers:
-        sys.exit("bitcode: the module has no exports of the form that is known")
+        kit.stop("the module has no exports of the form that is known")
     for old, new in always.items():
         words = re.sub(r"\b(alwaysinline|inlinehint|noinline) ", "", groups[old] + " ").strip()
         lines.append(f"attributes {new} = {{ alwaysinline {words} }}")
     return "\n".join(lines) + "\n"
 
 
-def digest_line(path):
-    """The line that `sha256sum` prints of an archive of this name."""
-    return f"{hashlib.sha256(path.read_bytes()).hexdigest()}  {KEPT.name}\n"
-
-
 def compare(path):
     """Ends with status 1 unless an archive is the one in the repository, which has the digest beside it."""
-    if not KEPT.exists() or not DIGEST.exists() or digest_line(KEPT) != DIGEST.read_text():
-        sys.exit(f"bitcode: {KEPT.relative_to(kit.ROOT)} has another digest than the file beside it")
+    for needed in (KEPT, DIGEST):
+        if not needed.exists():
+            kit.stop(f"there is no {needed.relative_to(kit.ROOT)}: python3 tools/bitcode.py --write")
+    if kit.digest_line(KEPT) != DIGEST.read_text():
+        kit.stop(f"{KEPT.relative_to(kit.ROOT)} has another digest than the file beside it")
     if path.read_bytes() != KEPT.read_bytes():
-        sys.exit(f"bitcode: the sources give another {KEPT.name}: python3 tools/bitcode.py --write")
-    print(f"bitcode: {KEPT.stat().st_size:,} bytes, {digest_line(KEPT).split()[0]}")
+        kit.stop(f"the sources give another {KEPT.name}: python3 tools/bitcode.py --write")
+    print(f"bitcode: {KEPT.stat().st_size:,} bytes, {kit.digest_line(KEPT).split()[0]}")
 
 
 def build(to):
@@ -89,8 +88,9 @@ def build(to):
         changed = folder / "net_ffi.ll"
         changed.write_text(with_attributes(module(folder)))
         # The object's name is in the archive, the folder's isn't.
-        words = [f"-march={CPU}", "-ffunction-sections", "-fdata-sections", "-fno-crash-diagnostics", "-Wno-override-module"]
-        kit.clang([f"--target={TARGET}", *words, "-c", "-x", "ir", changed, "-o", folder / "net_ffi.o", "-fPIC", "-O3", "-flto=thin"])
+        words = [f"--target={TARGET}", f"-march={CPU}", "-fPIC", "-O3", "-flto=thin", "-ffunction-sections",
+                 "-fdata-sections", "-fno-crash-diagnostics", "-Wno-override-module"]
+        kit.clang([*words, "-c", "-x", "ir", changed, "-o", folder / "net_ffi.o"])
         kit.archived(to, folder / "net_ffi.o")
 
 
@@ -110,7 +110,7 @@ def main():
         build(made)
         if options.write:
             KEPT.write_bytes(made.read_bytes())
-            DIGEST.write_text(digest_line(made))
+            DIGEST.write_text(kit.digest_line(made))
         compare(made)
 
 

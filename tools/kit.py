@@ -1,7 +1,9 @@
 """Builds crates/net_ffi by the kit's compiler, and keeps the LLVM module that it makes."""
 import functools
+import hashlib
 import pathlib
 import re
+import shutil
 import subprocess
 import sys
 
@@ -18,10 +20,18 @@ def stop(message):
 
 def run(words, folder=None):
     """Runs a command; what it says is shown if it fails."""
-    done = subprocess.run([str(word) for word in words], cwd=folder, stdout=subprocess.PIPE, stderr=subprocess.STDOUT, text=True)
+    words = [str(word) for word in words]
+    if not shutil.which(words[0]):
+        stop(f"there is no {words[0]}")
+    done = subprocess.run(words, cwd=folder, stdout=subprocess.PIPE, stderr=subprocess.STDOUT, text=True)
     if done.returncode != 0:
-        stop(f"{' '.join(map(str, words[:3]))} .. failed\n{done.stdout[-4000:]}")
+        stop(f"{' '.join(words[:3])} .. failed\n{done.stdout[-4000:]}")
     return done.stdout
+
+
+def digest_line(path):
+    """The line that `sha256sum` prints of a file in its folder."""
+    return f"{hashlib.sha256(path.read_bytes()).hexdigest()}  {path.name}\n"
 
 
 @functools.cache
@@ -32,6 +42,8 @@ def kit():
 
 def rt_lib():
     """Proves the crate, and builds the archive for this machine."""
+    if not shutil.which("rt"):
+        stop("there is no rt")
     BUILT.unlink(missing_ok=True)
     if subprocess.run(["rt", "lib"], cwd=CRATE).returncode != 0:
         stop("`rt lib` failed in crates/net_ffi")

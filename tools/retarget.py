@@ -1,19 +1,21 @@
 """Makes of the module that the kit's compiler writes for wasm64 one for any processor with 32 or 64 bits.
 
-That module computes with 64-bit numbers on every processor, has no intrinsic of one, and returns structs by pointer. Its
-text is rewritten by six rules, and nothing else of it is changed:
+That module computes with 64-bit numbers on every processor, has no intrinsic of one, and returns structs by pointer.
+Its text is rewritten by six rules, and nothing else of it is changed:
 
  1. the data layout and the triple are dropped: those of the shim, to which it is joined, hold;
  2. attributes of functions that name wasm or probe the stack are dropped;
  3. the test of the stack at the head of each function is dropped: it holds for wasm's stack alone;
  4. `ptrtoaddr` becomes `ptrtoint`: the few that are left compare two addresses for an overlap;
- 5. each wrapper `@net_base_x` of an export is dropped (enter, call, leave), and what it calls is named `@net_core_x`, which
-    the shim calls;
- 6. a load of a number and a pointer at once becomes two: the pointer is at 8, where wasm64 has it and each store puts it.
+ 5. each wrapper `@net_base_x` of an export is dropped (enter, call, leave), and what it calls is named `@net_core_x`,
+    which the shim calls;
+ 6. a load of a number and a pointer at once becomes two: the pointer is at 8, where wasm64 has it and each store puts
+    it.
 
-`rewritten` refuses a module that has anything it doesn't know: a line of a form that isn't listed in `FORMS`, a memory cell
-that is both a pointer and a number, a pointer in the memory of a caller, a type whose layout differs between processors,
-an alignment of more than 8 bytes (a layout has 64-bit numbers aligned to 8; `check_layout`), a function that calls itself.
+`rewritten` refuses a module that has anything it doesn't know: a line of a form that isn't listed in `FORMS`, a memory
+cell that is both a pointer and a number, a pointer in the memory of a caller, a type whose layout differs between
+processors, an access aligned to more than 8 bytes, or 16 for a number of 128 bits (a layout has 64-bit numbers aligned
+to 8; `check_layout`), a function that calls itself.
 """
 import collections
 import dataclasses
@@ -57,11 +59,11 @@ FORMS = {kind: re.compile(pattern) for kind, pattern in FORMS.items()}
 HEAD = re.compile(
     rf"define (?:internal )?{EXTENSION}(?P<result>{TYPE}|void) (?P<name>{NAME})"
     rf"\((?P<parameters>(?:{TYPE} {EXTENSION}{VALUE}(?:, )?)*)\) #\d+ \{{")
+BODY = re.compile(r"^define .*?\n(?P<body>.*?)^\}\n?", flags=re.M | re.S)
 # What a module has besides functions.
 OUTSIDE = re.compile(
-    r'target (?:datalayout|triple) = ".*"|source_filename = ".*"|;.*|attributes #\d+ = \{ .* \}|!.*|\s*|'
-    r"declare void @llvm\.(?:trap|memset\.p0\.i64|memmove\.p0\.p0\.i64)\([^@]*\)(?: #\d+)?|"
-    r"declare (?:void|i1) @__rattle_(?:enter|leave|trap)\(\)(?: #\d+)?|declare ptr @llvm\.frameaddress\.p0\(i32 immarg\)(?: #\d+)?")
+    r";.*|attributes #\d+ = \{ .* \}|!.*|\s*|"
+    r"declare void @llvm\.(?:trap|memset\.p0\.i64|memmove\.p0\.p0\.i64)\([^@]*\)(?: #\d+)?")
 STACK_TEST = re.compile(
     r"^  (%\w+) = call ptr @llvm\.frameaddress\.p0\(i32 0\)\n"
     r"  (%\w+) = ptrtoaddr ptr \1 to i64\n"
@@ -75,9 +77,10 @@ WRAPPER = re.compile(
     r"run:.*\n  (?:%r1 = )?call [^@]*@\"rattle::export net_base_(?P=name)\"\([^)]*\)\n"
     r"  call void @__rattle_leave\(\)\n  ret .*\n\}\n\n?", flags=re.M)
 EXPORT = re.compile(r'^(define internal .*)@"rattle::export net_base_(\w+)"(.*)#\d+ \{$', flags=re.M)
-LOADED_PAIR = re.compile(rf"^  ({VALUE}) = load \{{ (i(?:1|8|16|32|64)), ptr \}}, ptr ({VALUE}), align (8)$", flags=re.M)
+LOADED_PAIR = re.compile(
+    rf"^  ({VALUE}) = load \{{ (i(?:1|8|16|32|64)), ptr \}}, ptr ({VALUE}), align 8$", flags=re.M)
 SPLIT_PAIR = (
-    r"  \1.number = load \2, ptr \3, align \4\n  \1.at = getelementptr i8, ptr \3, i64 8\n"
+    r"  \1.number = load \2, ptr \3, align 8\n  \1.at = getelementptr i8, ptr \3, i64 8\n"
     r"  \1.pointer = load ptr, ptr \1.at, align 8\n  \1.half = insertvalue { \2, ptr } poison, \2 \1.number, 0\n"
     r"  \1 = insertvalue { \2, ptr } \1.half, ptr \1.pointer, 1")
 GROUP = re.compile(r"^attributes #(\d+) = \{ (.*) \}$", flags=re.M)
@@ -115,13 +118,18 @@ def rewritten(text):
     """The module's text by the six rules, checked, and what was counted: uses of rules, lines of forms, memory."""
     counts = collections.Counter()
     text = by_rules(text, counts)
+    check(text, counts)
+    return text, counts
+
+
+def check(text, counts):
+    """Refuses a module, rewritten by the rules, that has anything that isn't known."""
     functions = functions_of(text)
     counts["functions"] = len(functions)
     check_outside(text)
     check_accesses(functions, counts)
     check_calls(functions)
     check_cells(functions, counts)
-    return text, counts
 
 
 def by_rules(text, counts):
@@ -129,7 +137,8 @@ def by_rules(text, counts):
 
     def replace(rule, pattern, by):
         nonlocal text
-        text, count = re.compile(pattern, flags=re.M).subn(by, text) if isinstance(pattern, str) else pattern.subn(by, text)
+        pattern = re.compile(pattern, flags=re.M) if isinstance(pattern, str) else pattern
+        text, count = pattern.subn(by, text)
         counts[rule] += count
 
     replace("layout", r"^(?:target datalayout|target triple|source_filename) = .*\n", "")
@@ -154,9 +163,6 @@ def kept_attributes(group, counts):
         if name not in DROPPED_ATTRIBUTES:
             kept.append(word or f'"{name}"')
     return f"attributes #{group[1]} = {{ {' '.join(kept)} }}"
-
-
-BODY = re.compile(r"^define .*?\n(?P<body>.*?)^\}\n?", flags=re.M | re.S)
 
 
 def functions_of(text):
@@ -199,13 +205,20 @@ def check_accesses(functions, counts):
             of_type = groups[1] if kind == "load" else groups[0]
             if int(groups[3]) > (16 if of_type == "i128" else 8):
                 raise Refused(f"{function.name}: an access aligned to {groups[3]}")
-            fields = fields_of(of_type)
-            if len(fields) > 1 and (fields[0][0] == "ptr" and fields[1][0] != "i64" or fields[1][0] == "ptr" or "i128" in of_type):
+            if not is_layout_fixed(of_type):
                 raise Refused(f"{function.name}: the layout of {of_type} in memory depends on the processor")
 
 
+def is_layout_fixed(of_type):
+    """Whether a type's fields are at the same offsets on each processor. Those of a pair are, if it is two numbers of
+    at most 64 bits, or a pointer and then a number of 64 bits."""
+    kinds = [kind for kind, _ in fields_of(of_type)]
+    return len(kinds) == 1 or "i128" not in kinds and (kinds == ["ptr", "i64"] or "ptr" not in kinds)
+
+
 def check_calls(functions):
-    """Refuses a function that calls itself, directly or by others: the depth of the stack would depend on what is passed."""
+    """Refuses a function that calls itself, directly or by others: how deep the stack gets would depend on what is
+    passed."""
     calls = {it.name: {groups[2] for kind, groups in it.rows if kind == "call"} for it in functions}
     while calls:
         ended = {name for name, called in calls.items() if not called & set(calls)}
@@ -225,10 +238,10 @@ def fields_of(kind):
 class Cells:
     """Which bytes of which memory hold pointers and which hold numbers, by unification.
 
-    An object stands for all memory that some pointers may point to. A pointer is an object and an offset in it, which is
-    None if it isn't constant. What is read or written at an offset is recorded for its object, and a pointer that is kept
-    there has an object of its own. Objects that are made alike keep their distance: an object has a parent, and its own
-    beginning in it.
+    An object stands for all memory that some pointers may point to. A pointer is an object and an offset in it, which
+    is None if it isn't constant. What is read or written at an offset is recorded for its object, and a pointer that is
+    kept there has an object of its own. Objects that are made alike keep their distance: an object has a parent, and
+    its own beginning in it.
     """
 
     def __init__(self):
@@ -311,7 +324,8 @@ def moved(pointer, by):
 
 
 def constant(operand):
-    return None if operand.startswith("%") else int(operand)
+    """The number that an operand is, or None if it isn't constant."""
+    return int(operand) if re.fullmatch(r"-?\d+", operand) else None
 
 
 class Flow:
@@ -333,7 +347,8 @@ class Flow:
 
     def follow(self, function):
         """Records what a function does. No value is used above the line that makes it, as there is no phi."""
-        self.values = {name: self.parameters[function.name, name] for kind, name in function.parameters if kind == "ptr"}
+        self.values = {name: self.parameters[function.name, name]
+                       for kind, name in function.parameters if kind == "ptr"}
         self.pairs = {}
         for kind, groups in function.rows:
             step = getattr(self, kind.replace(" ", "_"), None)
@@ -371,7 +386,7 @@ class Flow:
             at = moved(self.pointer(address), shift)
             self.cells.access(at, "pointer" if field == "ptr" else "number", SIZES[field])
             if field == "ptr":
-                stored = self.pointer(operand) if kind == "ptr" else self.pairs[operand][index]
+                stored = self.pairs.get(operand, {}).get(index) or self.pointer(operand)
                 self.cells.merge(self.cells.kept(at), stored)
 
     def part(self, value, pair, index):
@@ -392,13 +407,13 @@ class Flow:
 
     def copy(self, to, source, size):
         """Memory that is copied by an unknown size, or a smaller one than a pointer's, is numbers."""
-        if constant(size) is None or constant(size) < POINTER:
-            for operand in (to, source):
-                whole = constant(size) is not None
-                self.cells.access(moved(self.pointer(operand), 0 if whole else None), "number", int(size) if whole else 1)
-        else:
-            for operand in (to, source):
-                self.cells.access(self.pointer(operand), "copied", constant(size))
+        count = constant(size)
+        for operand in (to, source):
+            if count is None:
+                self.cells.access(moved(self.pointer(operand), None), "number", 1)
+            else:
+                self.cells.access(self.pointer(operand), "number" if count < POINTER else "copied", count)
+        if count is not None and count >= POINTER:
             self.cells.merge(self.pointer(to), self.pointer(source))
 
     def call(self, value, kind, name, arguments):
@@ -444,8 +459,8 @@ def check_object(spans):
 
 
 def check_cells(functions, counts):
-    """Refuses a module that may read as a number what was written as a pointer, or the reverse, or that keeps a pointer in
-    the memory of an export's caller. What is left has a pointer of 4 bytes in its 8-byte cell, on 32 bits."""
+    """Refuses a module that may read as a number what was written as a pointer, or the reverse, or that keeps a pointer
+    in the memory of an export's caller. What is left has a pointer of 4 bytes in its 8-byte cell, on 32 bits."""
     flow = Flow(functions)
     cells, holding = flow.cells, set()
     for at in cells.roots():
@@ -472,7 +487,7 @@ def check_cells(functions, counts):
 
 
 def joined(core, shim, size_words=""):
-    """One module of a rewritten one and the shim's: the shim's layout, triple and attributes of the target hold for both.
+    """One module of a rewritten one and the shim's, whose layout, triple and attributes of the target hold for both.
 
     For a small form `size_words` are attributes of all functions, and the core's functions aren't inlined by force.
     """
@@ -481,10 +496,10 @@ def joined(core, shim, size_words=""):
     names = set(re.findall(r"^define internal .*@(net_core_\w+)\(", core, flags=re.M))
     if set(declared) != names:
         raise Refused(f"the shim and the module differ in {sorted(set(declared) ^ names)}")
-    shim = re.sub(r"^(?:; Function Attrs.*\n)?declare .*@(?:net_core_\w+|llvm\.mem(?:set|move)\S*|llvm\.trap)\(.*\n", "",
-                  shim, flags=re.M)
-    core = re.sub(r"^define internal ([^@]*)@(net_core_\w+)\(([^)]*)\)", lambda head: with_extensions(head, declared), core,
-                  flags=re.M)
+    shim = re.sub(r"^(?:; Function Attrs.*\n)?declare .*@(?:net_core_\w+|llvm\.mem(?:set|move)\S*|llvm\.trap)\(.*\n",
+                  "", shim, flags=re.M)
+    core = re.sub(r"^define internal ([^@]*)@(net_core_\w+)\(([^)]*)\)", lambda head: with_extensions(head, declared),
+                  core, flags=re.M)
     core = re.sub(r"^(!llvm\.ident = .*|!0 = !\{!\"rattle.*)\n", "", core, flags=re.M)
     group = re.search(r"^define .*@net_base_\w+\(.*\).* #(\d+) ", shim, flags=re.M)[1]
     words = re.search(rf"^attributes #{group} = \{{ (.*) \}}$", shim, flags=re.M)[1]
@@ -524,8 +539,8 @@ def with_extensions(head, declared):
     def kept(words):
         return " ".join(types(words) + [word for word in words if word in ("zeroext", "signext", "noundef")])
 
-    alike = types(head[1].split()) == types(result) and [types(one) for one in own] == [types(one) for one in parameters]
-    if not alike or "{" in head[0]:
+    is_result_alike = types(head[1].split()) == types(result)
+    if not is_result_alike or [types(one) for one in own] != [types(one) for one in parameters] or "{" in head[0]:
         raise Refused(f"the shim declares another {head[2]}")
     inner = ", ".join(f"{kept(new)} {old[-1]}" for new, old in zip(parameters, own))
     before = " ".join([word for word in result if word in ("zeroext", "signext", "noundef")] + types(result))

@@ -24,9 +24,10 @@ import sequence  # noqa: E402
 from targets import TARGETS  # noqa: E402
 
 FLAGS = ["-std=gnu11", "-O2", "-Wall", "-Wextra", "-Werror", "-ffunction-sections"]
-# Debian's package of each program that is run.
+IS_X86_64 = platform.machine() == "x86_64"
+# Debian's packages of each program that is run.
 PACKAGES = {
-    "x86_64-linux-gnu-gcc": "gcc-x86-64-linux-gnu libc6-dev-amd64-cross" if platform.machine() != "x86_64" else "gcc libc6-dev",
+    "x86_64-linux-gnu-gcc": "gcc libc6-dev" if IS_X86_64 else "gcc-x86-64-linux-gnu libc6-dev-amd64-cross",
     "qemu-x86_64-static": "qemu-user-static",
     "clang": "clang",
     "aarch64-linux-gnu-gcc": "gcc-aarch64-linux-gnu libc6-dev-arm64-cross",
@@ -47,7 +48,8 @@ PACKAGES = {
 @dataclasses.dataclass(frozen=True)
 class Way:
     """How programs are compiled and run for a target: the compiler and its words, those for linking, the emulator's. A
-    bare one has no operating system, so that a program gets the words of its command line when it is compiled."""
+    bare one has no operating system, so that a program gets the words of its command line when it is compiled. A small
+    one has no room for the fuzzer and the rows."""
 
     target: str
     title: str
@@ -81,11 +83,14 @@ def cortex_m(target, machine, words, memory_words, small=False):
 
 
 def riscv(target, bits, words):
-    places = {"flash": 0x80000000, "flash_size": 0x400000, "ram": 0x80400000, "ram_size": 0x400000, "stack_size": 0x10000}
-    return Way(target, f"qemu-system-riscv{bits} -M virt",
+    places = {"flash": 0x80000000, "flash_size": 0x400000, "ram": 0x80400000, "ram_size": 0x400000,
+              "stack_size": 0x10000}
+    emulator = f"qemu-system-riscv{bits}"
+    return Way(target, f"{emulator} -M virt",
                ("riscv64-unknown-elf-gcc", "--specs=picolibc.specs", "-mcmodel=medany", *words),
-               ("--oslib=semihost", "-Wl,--gc-sections", *[f"-Wl,--defsym=__{name}={value:#x}" for name, value in places.items()]),
-               (f"qemu-system-riscv{bits}", "-M", "virt", "-nographic", "-bios", "none", "-semihosting", "-kernel"), True)
+               ("--oslib=semihost", "-Wl,--gc-sections",
+                *[f"-Wl,--defsym=__{name}={value:#x}" for name, value in places.items()]),
+               (emulator, "-M", "virt", "-nographic", "-bios", "none", "-semihosting", "-kernel"), True)
 
 
 LARGE = memory(0, 0x400000, 0x20000000, 0x400000)
@@ -111,9 +116,11 @@ WAYS = [
 ]
 
 
-# A PC without an operating system. A program ends the emulator by a port, with a status that isn't 0: 33 if all is right.
+# A PC without an operating system. A program ends the emulator by a port, with a status that isn't 0: 33 if all is
+# right.
 PC = Way("x86_64-none", "qemu-system-x86_64",
-         ("x86_64-linux-gnu-gcc", "-ffreestanding", "-fno-stack-protector", "-fno-pie", "-mno-red-zone", "-mgeneral-regs-only"),
+         ("x86_64-linux-gnu-gcc", "-ffreestanding", "-fno-stack-protector", "-fno-pie", "-mno-red-zone",
+          "-mgeneral-regs-only"),
          ("-nostdlib", "-static", "-no-pie", "-Wl,--build-id=none,--gc-sections", f"-Wl,-T,{C}/interrupt/x86_64.ld"),
          ("qemu-system-x86_64", "-display", "none", "-debugcon", "stdio", "-no-reboot", "-device",
           "isa-debug-exit,iobase=0xf4,iosize=4", "-kernel"))
@@ -137,16 +144,20 @@ def shell(words, seconds=600):
 
 
 def has_wide_numbers(way):
+    """Whether a target's own compiler has numbers of 128 bits, which the fuzzer's model computes with."""
     return TARGETS[way.target].bits == 64
 
 
 def wide_compiler(way):
     """Clang with the headers of a target's gcc: it has numbers of 128 bits on 32 bits too."""
     _, said = shell([*way.compiler, "-E", "-v", "-x", "c", os.devnull])
-    folders = re.search(r"search starts here:\n((?: .*\n)+)", said[said.index("#include <"):])[1].split()
+    found = re.search(r"#include <\.\.\.> search starts here:\n((?: .*\n)+)", said)
+    if not found:
+        raise Failed(f"{way.compiler[0]} names no folders of headers: {last(said)}")
     words = [word for word in TARGETS[way.target].words.split() if not word.startswith("-mcpu")]
-    return ["clang", *words, "-nostdlibinc", *[word for folder in folders for word in ("-isystem", folder)],
-            "-D__INT32_C(n)=n", "-D__UINT32_C(n)=n##U", "-D__INT64_C(n)=n##LL", "-D__UINT64_C(n)=n##ULL", "-D__int128=_BitInt(128)", "-Wno-bit-int-extension", "-Wno-keyword-macro", "-Wno-builtin-macro-redefined"]
+    return ["clang", *words, "-nostdlibinc", *[word for folder in found[1].split() for word in ("-isystem", folder)],
+            "-D__INT32_C(n)=n", "-D__UINT32_C(n)=n##U", "-D__INT64_C(n)=n##LL", "-D__UINT64_C(n)=n##ULL",
+            "-D__int128=_BitInt(128)", "-Wno-bit-int-extension", "-Wno-keyword-macro", "-Wno-builtin-macro-redefined"]
 
 
 class Programs:
@@ -159,15 +170,15 @@ class Programs:
 
     def compiled(self, source, words=()):
         """An object file of a source; `main` has another name where the harness has its own."""
-        target = self.folder / (f"{source.name}.o")
+        made = self.folder / f"{source.name}.o"
         compiler = list(self.way.compiler)
         if source.suffix == ".c" and "__int128" in source.read_text() and not has_wide_numbers(self.way):
             compiler = wide_compiler(self.way)
         extra = ["-Dmain=program", "-D__int64_t_defined=1", f"-I{HERE}/bare"] if self.way.bare else []
-        status, said = shell([*compiler, *FLAGS, *extra, *words, f"-I{C}", f"-I{C}/fuzz", "-c", source, "-o", target])
+        status, said = shell([*compiler, *FLAGS, *extra, *words, f"-I{C}", f"-I{C}/fuzz", "-c", source, "-o", made])
         if status:
             raise Failed(f"{source.name} isn't compiled: {said[:1500]}")
-        return target
+        return made
 
     def harness(self, words):
         """What a bare program has besides: its words, its start."""
@@ -178,11 +189,11 @@ class Programs:
         sources = [(HERE / "start.c", start, [f"-DWORDS={quoted}"])]
         if self.way.compiler[0] == "arm-none-eabi-gcc":
             sources.append((HERE / "cortex_m.c", self.folder / "cortex_m.o", []))
-        for source, target, more in sources:
-            status, said = shell([*self.way.compiler, *FLAGS, *more, "-c", source, "-o", target])
+        for source, made, more in sources:
+            status, said = shell([*self.way.compiler, *FLAGS, *more, "-c", source, "-o", made])
             if status:
                 raise Failed(f"{source.name} isn't compiled: {said[:1500]}")
-        found = [target for _, target, _ in sources]
+        found = [made for _, made, _ in sources]
         if self.way.compiler[0] == "arm-none-eabi-gcc":
             _, crt0 = shell([*self.way.compiler, "-print-file-name=rdimon-crt0.o"])
             found.insert(0, crt0.strip())
@@ -191,8 +202,8 @@ class Programs:
     def run(self, name, sources, words=(), flags=(), emulated=()):
         """What a program prints that ends with status 0."""
         program = self.folder / name
-        objects = [self.compiled(source, flags) for source in sources]
-        status, said = shell([*self.way.compiler, *self.way.linking, *self.harness(words), *objects, self.archive, "-o", program])
+        objects = [*self.harness(words), *[self.compiled(source, flags) for source in sources]]
+        status, said = shell([*self.way.compiler, *self.way.linking, *objects, self.archive, "-o", program])
         if status:
             raise Failed(f"{name} isn't linked: {said[:1500]}")
         emulator = [*self.way.emulator[:1], *emulated, *self.way.emulator[1:]]
@@ -220,7 +231,7 @@ def last(said):
 
 
 def tests(programs, generated, options):
-    """Runs the tests. Returns what is printed of them, and the digest."""
+    """Runs the tests. Returns what is printed of them, and the digest of the sequence."""
     way = programs.way
     checks = re.search(r"(\d+) checks", programs.run("exports", [C / "exports.c"]))
     if not checks:
@@ -230,14 +241,16 @@ def tests(programs, generated, options):
         if programs.run("hosted", [C / "hosted.c"]) != (C / "hosted.stdout").read_text():
             raise Failed("hosted.c prints something else than hosted.stdout")
         done.append("hosted.c as it should")
-        if not way.small:
+        if not way.small and (has_wide_numbers(way) or shutil.which("clang")):
             calls = 200_000 if way.bare else options.calls
             said = last(programs.run("fuzz", sorted((C / "fuzz").glob("*.c")), ["1", str(calls)]))
             if not said.endswith("0 faults"):
                 raise Failed(f"fuzz: {said}")
             done.append(f"{calls:,} calls of the fuzzer")
+        if not way.small:
             files = [str(ROOT / "crates/net_cases" / name) for name in ("stdin", "stdout")]
-            rows = re.search(r"^rows: (\d+) made", programs.run("rows", sorted((C / "rows").glob("*.c")), files), flags=re.M)
+            said = programs.run("rows", sorted((C / "rows").glob("*.c")), files)
+            rows = re.search(r"^rows: (\d+) made", said, flags=re.M)
             if not rows:
                 raise Failed("rows counts none")
             done.append(f"{int(rows[1]):,} rows")
@@ -254,16 +267,17 @@ def stacks(programs, generated):
     """Bytes of stack of the export that takes most and of the one after it, as painted."""
     flags = ["-DSTACK", "-Wno-unused-function"]
     said = programs.run("stack", [generated / "sequence.c", generated / "empty.c"], ["300000"], flags)
-    found = sorted(((int(size), name) for size, name in re.findall(r"^stack: (\d+) (\w+)$", said, flags=re.M)), reverse=True)
+    sizes = re.findall(r"^stack: (\d+) (\w+)$", said, flags=re.M)
+    found = sorted(((int(size), name) for size, name in sizes), reverse=True)
     if not found:
         raise Failed(f"stack: {last(said)}")
     return found[:2]
 
 
-def missing(ways):
-    """The packages of programs that aren't there, and the ways that can't be run."""
+def missing(ways, is_fuzzed):
+    """The programs that aren't there, and the ways that can't be run without them."""
     wanted = {program for way in ways for program in way.programs()}
-    if any(not has_wide_numbers(way) for way in ways):
+    if is_fuzzed and any(not has_wide_numbers(way) for way in ways):
         wanted.add("clang")
     gone = {program for program in wanted if not shutil.which(program)}
     return gone, [way for way in ways if gone & set(way.programs())]
@@ -281,16 +295,24 @@ def each(ways, act):
 
 
 def print_table(names, stack_of):
-    """What each archive has, and what was seen of its stack."""
-    print("| Target | For | Made by | Level | Code, bytes | Wants | Stack, bytes | Ran on |")
-    print("|---|---|---|---|---:|---|---:|---|")
+    """What each archive has, and what was seen of its stack: a row for all that are equal. Then what each wants."""
+    rows, wanting = {}, {}
     for target in (TARGETS[name] for name in names):
         found = elf.objects(archive.kept(target)[0])
         wanted = " ".join(f"`{name}`" for name in sorted(set().union(*[it.wanted for it in found])))
+        wanting.setdefault(wanted, []).append(f"`{target.name}`")
         seen = [(way, most) for way, most in stack_of.items() if way.target == target.name]
         stack = "; ".join(str(size) for size, _ in seen[0][1]) if seen else "not run"
-        print(f"| `{target.name}` | {target.title} | {target.made} | `{target.level}` | {sum(it.code_size() for it in found):,} "
-              f"| {wanted} | {stack} | {', '.join(way.title for way, _ in seen)} |")
+        machines = ", ".join(way.title.rpartition(" -M ")[2] for way, _ in seen)
+        row = f"{target.title} | {sum(it.code_size() for it in found):,} | {stack} | {machines}"
+        rows.setdefault(row, []).append(f"`{target.name}`")
+    print("| Target | For | Code, bytes | Stack, bytes | Ran on |")
+    print("|---|---|---:|---:|---|")
+    for row, equal in rows.items():
+        print(f"| {', '.join(equal)} | {row} |")
+    print()
+    for wanted, equal in wanting.items():
+        print(f"- {', '.join(equal)}: {wanted}")
 
 
 def packages_of(programs):
@@ -298,8 +320,8 @@ def packages_of(programs):
 
 
 def report_missing(gone, left_out):
-    """Says in a line what isn't there, and how it is installed."""
-    what = ", ".join(way.name() for way in left_out) or "the fuzzer on 32 bits"
+    """Says in a line what isn't run for want of which programs, and how they are installed."""
+    what = ", ".join([way.name() for way in left_out] + ["the fuzzer on 32 bits"] * ("clang" in gone))
     print(f"targets: not run: {what}: there is no {', '.join(sorted(gone))}: apt-get install -y {packages_of(gone)}")
 
 
@@ -316,7 +338,9 @@ def main():
         sys.exit(f"targets: no target {' '.join(sorted(unknown))}: there are {' '.join(TARGETS)}")
     ways = [way for way in WAYS if way.target in names]
     interrupts = [] if options.table else [way for way in INTERRUPTED if way.target in names]
-    gone, left_out = missing(ways + interrupts)
+    gone, left_out = missing(ways + interrupts, not (options.quick or options.table))
+    there = [way for way in ways if way not in left_out]
+    interrupts = [way for way in interrupts if way not in left_out]
     if options.packages:
         print(packages_of(gone))
         return
@@ -337,8 +361,7 @@ def main():
                 return stacks(programs, generated)
             return interrupted(programs) if index >= len(there) else tests(programs, generated, options)
 
-        there = [way for way in ways if way not in left_out]
-        for way, result, failure in each(there + [way for way in interrupts if way not in left_out], act):
+        for way, result, failure in each(there + interrupts, act):
             if failure:
                 print(f"{way.name()}: FAILED: {failure}", flush=True)
                 status = 1

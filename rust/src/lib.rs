@@ -1,5 +1,5 @@
-//! smoltcp's `storage`, `time` and `rand` over a proved static library: no heap, no C library, no
-//! dependencies.
+//! smoltcp's `storage`, `time`, `phy` and `rand` over a proved static library: no heap, no C library,
+//! no dependencies.
 //!
 //! Names, signatures and behaviour are those of [smoltcp](https://github.com/smoltcp-rs/smoltcp)
 //! 0.14.0, except where a page of this repository, `docs/FFI.md`, or an item here says
