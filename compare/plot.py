@@ -1,44 +1,122 @@
-"""The plot of the driver's rows, as SVG."""
+#!/usr/bin/env python3
+"""plot.py [--table] TABLE [TABLE ..] > FILE
+
+Draws what `timing.py` printed, as SVG: TABLE is the output of `timing.py`, and then of `timing.py --rust --inlined` and
+of `timing.py --rust`. A row has a mark for each table: the median of the ratios to smoltcp, in a line from the lowest to
+the highest over placements, above a bar for smoltcp by itself. What is outside the scale is drawn at its edge.
+
+With --table it prints the medians and the instructions, as a table in Markdown: of a group of more than two rows its mean,
+and of each group the rows that have its lowest or highest median in one of the tables.
+"""
 import html
 import math
+import re
+import statistics
+import sys
+from pathlib import Path
 
-LEFT, RIGHT, TOP, HEIGHT, WIDTH = 200, 30, 64, 18, 760
-TICKS = [0.1, 0.2, 0.33, 0.5, 0.67, 0.8, 1, 1.25, 1.5, 2]
-PORT, NOISE = "#1f5fbf", "#b0b0b0"
+LEFT, RIGHT, TOP, HEIGHT, WIDTH = 250, 30, 64, 20, 820
+TICKS = [0.1, 0.2, 0.33, 0.5, 0.67, 0.8, 1, 1.25, 1.5, 2, 2.5]
+WAYS = [("in Rattle", "#1f5fbf"), ("from Rust, inlined", "#2a8f4f"), ("from Rust, by the archive", "#c0671a")]
+NOISE = "#c8c8c8"
 
 
-def svg(rows):
-    """A line for each row: the ratio to the original over placements, from the lowest to the highest, over the
-    original's by itself.
+class Row:
+    """The median, the lowest and the highest ratio, the highest of smoltcp by itself, and both counts of instructions."""
 
-    Values outside the ticks are drawn at the edge.
-    """
+    def __init__(self, cells):
+        self.median, self.lowest, self.highest, self.itself = map(float, cells[3:7])
+        self.instructions = f"{cells[8]}/{cells[7]}"
+
+
+def rows(text):
+    """The rows of a table, by their names."""
+    lines = ([cell.strip() for cell in line.strip("|").split("|")] for line in text.splitlines())
+    return {cells[0]: Row(cells) for cells in lines if len(cells) > 8 and re.fullmatch(r"[\d.]+", cells[1])}
+
+
+def across(ratio):
+    """Where a ratio is drawn."""
     low, high = TICKS[0], TICKS[-1]
-    scale = (WIDTH - LEFT - RIGHT) / math.log(high / low)
-    x = lambda ratio: LEFT + scale * math.log(min(max(ratio, low), high) / low)
-    bottom = TOP + HEIGHT * len(rows)
+    within = min(max(ratio, low), high)
+    return LEFT + (WIDTH - LEFT - RIGHT) * math.log(within / low) / math.log(high / low)
+
+
+def mark(y, colour, row):
+    return [
+        f'<line x1="{across(row.lowest):.1f}" y1="{y:.1f}" x2="{across(row.highest):.1f}" y2="{y:.1f}" '
+        f'stroke="{colour}" stroke-width="1.5"/>',
+        f'<circle cx="{across(row.median):.1f}" cy="{y:.1f}" r="3" fill="{colour}"/>',
+    ]
+
+
+def svg(tables):
+    bottom = TOP + HEIGHT * len(tables[0])
     parts = [
         f'<svg xmlns="http://www.w3.org/2000/svg" width="{WIDTH}" height="{bottom + 40}" '
         'font-family="sans-serif" font-size="12">',
         f'<rect width="{WIDTH}" height="{bottom + 40}" fill="#ffffff"/>',
-        f'<text x="12" y="20" font-size="14">Time by the time of smoltcp (below 1: this library is faster)</text>',
-        f'<circle cx="{LEFT + 6}" cy="38" r="4" fill="{PORT}"/>',
-        f'<text x="{LEFT + 16}" y="42">this library: median of placements, lowest to highest</text>',
-        f'<rect x="{LEFT + 320}" y="33" width="14" height="10" fill="{NOISE}"/>',
-        f'<text x="{LEFT + 340}" y="42">smoltcp by itself, lowest to highest</text>',
+        '<text x="12" y="20" font-size="14">Time by the time of smoltcp (below 1: this library is faster)</text>',
     ]
+    at = 12
+    for name, colour in [*WAYS[: len(tables)], ("smoltcp by itself", NOISE)]:
+        parts.append(f'<rect x="{at}" y="33" width="12" height="10" fill="{colour}"/>')
+        parts.append(f'<text x="{at + 18}" y="42">{name}</text>')
+        at += 40 + 7 * len(name)
     for tick in TICKS:
         colour, width = ("#000000", 1.2) if tick == 1 else ("#dddddd", 1)
-        parts.append(f'<line x1="{x(tick):.1f}" y1="{TOP - 6}" x2="{x(tick):.1f}" y2="{bottom + 4}" '
+        parts.append(f'<line x1="{across(tick):.1f}" y1="{TOP - 6}" x2="{across(tick):.1f}" y2="{bottom + 4}" '
                      f'stroke="{colour}" stroke-width="{width}"/>')
-        parts.append(f'<text x="{x(tick):.1f}" y="{bottom + 20}" text-anchor="middle">{tick:g}</text>')
-    for at, (_, name, _, _, pairs, pairs_low, pairs_high, noise, noise_low, noise_high) in enumerate(rows):
-        y = TOP + HEIGHT * at + HEIGHT / 2
-        left, right = min(noise_low, noise), max(noise_high, noise)
-        wide = max(x(right) - x(left), 2)
+        parts.append(f'<text x="{across(tick):.1f}" y="{bottom + 20}" text-anchor="middle">{tick:g}</text>')
+    for line, (name, row) in enumerate(tables[0].items()):
+        y = TOP + HEIGHT * (line + 0.5)
+        left, right = across(1 / row.itself), across(row.itself)
         parts.append(f'<text x="{LEFT - 10}" y="{y + 4:.1f}" text-anchor="end">{html.escape(name)}</text>')
-        parts.append(f'<rect x="{x(left):.1f}" y="{y - 5:.1f}" width="{wide:.1f}" height="10" fill="{NOISE}"/>')
-        parts.append(f'<line x1="{x(pairs_low):.1f}" y1="{y:.1f}" x2="{x(pairs_high):.1f}" y2="{y:.1f}" '
-                     f'stroke="{PORT}" stroke-width="2"/>')
-        parts.append(f'<circle cx="{x(pairs):.1f}" cy="{y:.1f}" r="4" fill="{PORT}"/>')
+        parts.append(f'<rect x="{left:.1f}" y="{y - 8:.1f}" width="{max(right - left, 2):.1f}" height="16" '
+                     f'fill="{NOISE}"/>')
+        for way, (table, (_, colour)) in enumerate(zip(tables, WAYS)):
+            if name in table:
+                parts += mark(y + 5 * (way - (len(tables) - 1) / 2), colour, table[name])
     return "\n".join([*parts, "</svg>\n"])
+
+
+def shown(group, tables):
+    """Those of a group's rows that have its lowest or highest median in a table."""
+    extreme = {end(table, key=lambda name: table[name].median)
+               for table in ({name: table[name] for name in group if name in table} for table in tables) if table
+               for end in (min, max)}
+    return [name for name in group if name in extreme]
+
+
+def line(cells):
+    return f"| {' | '.join(cells)} |"
+
+
+def markdown(tables):
+    groups = {}
+    for name in tables[0]:
+        groups.setdefault(name.split()[0], []).append(name)
+    titles = ["in Rattle", "inlined", "by the archive"][: len(tables)]
+    head = ["Row", *titles, *(f"instructions {title}" for title in titles)]
+    lines = [line(head), "|---" + "|---:" * 2 * len(tables) + "|"]
+    for title, group in groups.items():
+        if len(group) > 2:
+            means = (statistics.geometric_mean(table[name].median for name in group) for table in tables)
+            lines.append(line([f"**group {title}**", *(f"**{mean:.2f}**" for mean in means), *[""] * len(tables)]))
+        for name in shown(group, tables):
+            found = [table.get(name) for table in tables]
+            medians = (f"{row.median:.2f}" if row else "" for row in found)
+            lines.append(line([name, *medians, *(row.instructions if row else "" for row in found)]))
+    return "\n".join([*lines, ""])
+
+
+def main():
+    files = [word for word in sys.argv[1:] if word != "--table"]
+    if not 1 <= len(files) <= len(WAYS):
+        sys.exit(__doc__.splitlines()[0])
+    tables = [rows(Path(file).read_text()) for file in files]
+    print(markdown(tables) if "--table" in sys.argv else svg(tables), end="")
+
+
+if __name__ == "__main__":
+    main()

@@ -1,11 +1,11 @@
 #!/usr/bin/env python3
-"""SMOLTCP=path timing.py [--once] [--samples N] [--milliseconds N] [--only WORD] [--lines N] [--runs N] [--svg FILE]
+"""SMOLTCP=path timing.py [--once] [--samples N] [--milliseconds N] [--only WORD] [--lines N] [--runs N]
 SMOLTCP=path timing.py --peers [--samples N] [--milliseconds N] [--only WORD]
 SMOLTCP=path timing.py --rust [--inlined] [--once] [--samples N] [--milliseconds N] [--only WORD]
 
 Times the workloads of `perf` over the port and over smoltcp in turns, each side linked once for each placement of
 its code, counts instructions and branches if valgrind is there, and times whole runs of net_bench beside a plain
-program over smoltcp. Prints tables in Markdown; --svg writes the plot. Status 1 if results differ.
+program over smoltcp. Prints tables in Markdown, which plot.py draws. Status 1 if results differ.
 With --once: one placement. With --peers: the workloads over the port and over types of std in turns, and the memory
 of both. With --rust: the workloads over the crate net-base, whose exports are called, in place of the port; without
 whole runs and the loopback device, and `rt` isn't needed. With --inlined too: both sides are built as a user builds a
@@ -29,7 +29,6 @@ from pathlib import Path
 
 sys.dont_write_bytecode = True
 import common
-import plot
 
 # The port is built for this processor.
 FLAGS = "-C target-cpu=x86-64-v2"
@@ -254,7 +253,6 @@ def main():
     parser.add_argument("--only")
     parser.add_argument("--lines", type=int, default=200_000)
     parser.add_argument("--runs", type=int, default=9)
-    parser.add_argument("--svg")
     parser.add_argument("--peers", action="store_true")
     parser.add_argument("--rust", action="store_true")
     parser.add_argument("--inlined", action="store_true")
@@ -285,8 +283,6 @@ def main():
         memory_table(built)
     else:
         workload_table(rows, counted(built, [path.split(":")[0] for path in sides], arguments))
-        if arguments.svg:
-            Path(arguments.svg).write_text(plot.svg(rows))
     if arguments.lines:
         print(f"\n{arguments.runs} whole runs of each program, in turns\n")
         differ += whole_runs(bench, built / "plain", arguments.lines, arguments.runs)
