@@ -71,7 +71,7 @@ impl<const N: usize> Assembler<N> {
     /// # Requires
     ///
     /// `N` is at least 1.
-    pub fn new() -> Self
+    pub const fn new() -> Self
         requires { 1 ≤ N }
         ensures empty { result ≡ nothing }
         ensures no_run { runs result ≡ 0 }
@@ -93,6 +93,7 @@ impl<const N: usize> Assembler<N> {
         ensures set { result ≡ set_of head runs.entry }
         ensures bound { run_count result ≤ N }
     {
+        prove!(head.is_sound(&runs), "the head is not that of these runs");
         Assembler { head, runs }
     }
 
@@ -210,6 +211,8 @@ impl<const N: usize> Assembler<N> {
         ensures no_look_lost { turns.old.0 ≤ turns.new.0 }
         ensures no_move_lost { turns.old.1 ≤ turns.new.1 }
     {
+        let fits = AssemblerHead::fits(offset, size);
+        prove!(fits, "the range's end is above `usize::MAX`");
         self.head.add_counted(&mut self.runs, offset, size, turns)
     }
 

@@ -2,10 +2,13 @@
 --     total_of h      the packet's size, once it is known
 --     fragments_of h bytes runs      the buffer that the parts are
 --     IsPlausible c n h, HasSoundParts h bytes runs      what is true of the parts of a buffer of c bytes and n runs
-use Rattle.std.specs.Prelude.{ℕ, ◌≡◌, ◌≤◌, ◌⊎◌, List, Option, length, nat_eq, if◌then◌else◌}
+--     IsExact h      that a head has no number but those that say something
+--     meets_one rs o n      whether one of some runs has one of the n positions from o on
+use Rattle.std.specs.Prelude.{ℕ, ◌≡◌, ◌≤◌, ◌-◌, ◌⊎◌, ◌&&◌, ◌||◌, Bool, false, List, [], ◌∷◌, Option, length}
+use Rattle.std.specs.Prelude.{nat_eq, nat_lt, if◌then◌else◌}
 use Rattle.std.specs.declared.option.Option.TheVariants.{Some, None}
-use Rattle.net_assembler.specs.RunLists.{set_of, HasSoundRuns}
-use Rattle.net_base.specs.Fragments.{FragmentsState, Fits}
+use Rattle.net_assembler.specs.RunLists.{set_of, HasSoundRuns, IsCanonical}
+use Rattle.net_base.specs.Fragments.{FragmentsState}
 use Rattle.net_base.specs.declared.storage.fragments.FragmentsHead.{FragmentsHead}
 
 -- the packet's size, once it is known
@@ -27,3 +30,15 @@ IsPlausible c n h = (h.present.used ≤ n) × ((h.has_total ≡ 0) ⊎ (h.total 
 -- and the runs are sound
 abbrev pub HasSoundParts : FragmentsHead → List ℕ → List (ℕ × ℕ) → Type 0
 HasSoundParts h bytes runs = HasSoundRuns h.present runs × ((h.has_total ≡ 0) ⊎ (h.total ≤ length bytes))
+
+-- where no run is used, both numbers of `present` are 0; `has_total` is 0 or 1, and `total` is 0 where
+-- it is 0: two exact heads of one buffer that have the same runs are equal
+pub record IsExact (h : FragmentsHead) : Type 0 where
+  pub present : IsCanonical h.present
+  pub flag : h.has_total ≤ 1
+  pub no_total : h.has_total ≡ 0 → h.total ≡ 0
+
+-- whether one of the runs (start, end) has one of the n positions from o on
+abbrev pub meets_one : List (ℕ × ℕ) → ℕ → ℕ → Bool
+meets_one [] o n = false
+meets_one (r ∷ rs) o n = (nat_lt (r.0 - o) n && nat_lt o r.1) || meets_one rs o n

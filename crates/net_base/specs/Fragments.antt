@@ -2,7 +2,9 @@
 --     FragmentsState, state_code      the state of a buffer, and its code
 --     Fits bytes total      a known size is at most that of the buffer
 --     with_fragment b offset data', IsComplete b n      a fragment arrived, and all bytes have
-use Rattle.std.specs.Prelude.{◌≡◌, ◌<◌, ◌≤◌, ⊤, ℕ, ℤ, List, Option, length, IsTrue, refl}
+--     DiffersFrom total n      another size than n is known
+--     Meets s o n      a set has one of the n positions from o on
+use Rattle.std.specs.Prelude.{◌≡◌, ◌≢◌, ◌+◌, ◌<◌, ◌≤◌, ⊤, ℕ, ℤ, List, Option, length, IsTrue, refl}
 use Rattle.std.specs.Coded.{Coded, code_by, coded×, coded_ℕ, coded_ℤ, coded_list, coded_option}
 use Rattle.std.specs.FinSet as set
 use Rattle.std.specs.declared.option.Option.TheVariants.{Some, None}
@@ -42,3 +44,12 @@ with_fragment b offset data' = record b {
 -- the packet has n bytes, and each of them arrived
 abbrev pub IsComplete : FragmentsState → ℕ → Type 0
 IsComplete b n = (b.total ≡ Some n) × ((p : ℕ) → p < n → IsTrue (contains b.present p))
+
+-- the packet's size is known, and isn't n
+abbrev pub DiffersFrom : Option ℕ → ℕ → Type 0
+DiffersFrom None n = ⊥
+DiffersFrom (Some m) n = m ≢ n
+
+-- one of the n positions from o on is in the set
+abbrev pub Meets : Positions → ℕ → ℕ → Type 0
+Meets s o n = (p : ℕ) × (o ≤ p) × (p < o + n) × IsTrue (contains s p)

@@ -37,7 +37,7 @@ impl Rand {
     const INCREMENT: u64 = 0x7590ef39;
 
     /// Returns a generator whose state is the seed. Any seed is allowed.
-    pub fn new(seed: u64) -> Rand
+    pub const fn new(seed: u64) -> Rand
         ensures { result ≡ seed }
     {
         Rand { state: seed }

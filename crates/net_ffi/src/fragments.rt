@@ -8,14 +8,14 @@ ghost use Rattle.std.specs.declared.option.Option.TheVariants.{Some, None};
 ghost use Rattle.net_assembler.specs.Assembler.{MakesTooManyRuns};
 ghost use Rattle.net_assembler.specs.Positions.{nothing};
 ghost use Rattle.net_assembler.specs.RunLists.{set_of, HasSoundRuns};
-ghost use Rattle.net_base.specs.Fragments.{with_fragment, IsComplete};
+ghost use Rattle.net_base.specs.Fragments.{with_fragment, IsComplete, DiffersFrom, Meets};
 ghost use Rattle.net_base.specs.FragmentParts.{total_of, fragments_of, IsPlausible};
-ghost use Rattle.net_base.specs.FragmentParts.{HasSoundParts};
+ghost use Rattle.net_base.specs.FragmentParts.{HasSoundParts, IsExact};
 
 use crate::assembler::FrontLength;
 use crate::refusals::{
-    NET_BASE_DONE, NET_BASE_MISSING, NET_BASE_REFUSED, NET_BASE_TOO_LONG, NET_BASE_TOO_MANY_RUNS,
-    NO_FRONT,
+    NET_BASE_DONE, NET_BASE_MISSING, NET_BASE_OTHER_SIZE, NET_BASE_PRESENT, NET_BASE_REFUSED,
+    NET_BASE_TOO_LONG, NET_BASE_TOO_MANY_RUNS, NO_FRONT,
 };
 use net_assembler::Run;
 use net_base::storage::{FragmentError, FragmentsHead};
@@ -37,6 +37,9 @@ pub extern "C" fn net_base_fragments_reset(fragments: &mut FragmentsHead, expire
     ensures nothing { (runs : List (ℕ × ℕ)) → set_of fragments.new.present runs ≡ nothing }
     ensures total { total_of fragments.new ≡ None }
     ensures expires { fragments.new.expires_at ≡ expires_at }
+    ensures zeros { (fragments.new.present.used ≡ 0) × (fragments.new.present.first_start ≡ 0)
+        × (fragments.new.has_total ≡ 0) × (fragments.new.total ≡ 0) }
+    ensures exact { IsExact fragments.new }
 {
     fragments.reset(expires_at);
 }
@@ -80,6 +83,10 @@ pub extern "C" fn net_base_fragments_add(
         × (fragments.new ≡ fragments.old) × (storage.new ≡ storage.old) × (runs.new ≡ runs.old) }
     ensures sound { IsPlausible (length storage.old) (length runs.old) fragments.old →
         HasSoundParts fragments.new storage.new runs.new }
+    ensures others { (fragments.new.has_total ≡ fragments.old.has_total)
+        × (fragments.new.total ≡ fragments.old.total)
+        × (fragments.new.expires_at ≡ fragments.old.expires_at) }
+    ensures exact { IsExact fragments.old → IsExact fragments.new }
 {
     if !is_plausible(fragments, storage.len(), runs.len()) {
         return NET_BASE_REFUSED;
@@ -87,33 +94,72 @@ pub extern "C" fn net_base_fragments_add(
     match fragments.add(storage, runs, offset, data) {
         Ok(()) => NET_BASE_DONE,
         Err(FragmentError::TooLong) => NET_BASE_TOO_LONG,
-        Err(FragmentError::TooManyHoles) => NET_BASE_TOO_MANY_RUNS,
+        Err(_) => NET_BASE_TOO_MANY_RUNS,
     }
 }
 
-/// Sets the packet's size to `size` bytes, in a storage of `capacity` bytes. A size that was set
-/// before is replaced.
+/// Sets the packet's size to `size` bytes, in a storage of `capacity` bytes.
 ///
-/// Returns `NET_BASE_DONE`, or `NET_BASE_TOO_LONG`, and nothing changes, if the storage has fewer
-/// bytes.
+/// Returns `NET_BASE_DONE`, or `NET_BASE_TOO_LONG` if the storage has fewer bytes, or
+/// `NET_BASE_OTHER_SIZE` if another size is known. If it isn't `NET_BASE_DONE`, nothing changes.
 #[unsafe(no_mangle)]
 pub extern "C" fn net_base_fragments_set_total_size(
     fragments: &mut FragmentsHead,
     capacity: usize,
     size: usize,
 ) -> u32
-    ensures done { size ≤ capacity → (result ≡ NET_BASE_DONE)
+    ensures done { size ≤ capacity → (DiffersFrom (total_of fragments.old) size → ⊥) →
+        (result ≡ NET_BASE_DONE)
         × (total_of fragments.new ≡ Some size) × (fragments.new.present ≡ fragments.old.present)
         × (fragments.new.expires_at ≡ fragments.old.expires_at) }
-    ensures sound { size ≤ capacity → (bytes : List ℕ) (runs : List (ℕ × ℕ)) →
+    ensures numbers { result ≡ NET_BASE_DONE →
+        (fragments.new.has_total ≡ 1) × (fragments.new.total ≡ size) }
+    ensures sound { (bytes : List ℕ) (runs : List (ℕ × ℕ)) →
         length bytes ≡ capacity → HasSoundParts fragments.old bytes runs →
         HasSoundParts fragments.new bytes runs }
     ensures too_long { capacity < size →
         (result ≡ NET_BASE_TOO_LONG) × (fragments.new ≡ fragments.old) }
+    ensures other_size { size ≤ capacity → DiffersFrom (total_of fragments.old) size →
+        (result ≡ NET_BASE_OTHER_SIZE) × (fragments.new ≡ fragments.old) }
+    ensures exact { IsExact fragments.old → IsExact fragments.new }
 {
     match fragments.set_total_size(capacity, size) {
         Ok(()) => NET_BASE_DONE,
-        Err(_) => NET_BASE_TOO_LONG,
+        Err(FragmentError::TooLong) => NET_BASE_TOO_LONG,
+        Err(_) => NET_BASE_OTHER_SIZE,
+    }
+}
+
+/// Returns `NET_BASE_PRESENT` if one of the `count` positions from `offset` on has arrived, so that a
+/// fragment there overlaps bytes that are present, and `NET_BASE_MISSING` if none has; or
+/// `NET_BASE_REFUSED` if `present.used` is above `runs.len()`.
+///
+/// # Requires
+///
+/// Head and runs of `present` are sound, as `net_base_assembler_is_sound` tests.
+#[unsafe(no_mangle)]
+pub extern "C" fn net_base_fragments_overlaps(
+    fragments: &FragmentsHead,
+    runs: &[Run],
+    offset: usize,
+    count: usize,
+) -> u32
+    requires sound { fragments.now.present.used ≤ length runs.now →
+        HasSoundRuns fragments.now.present runs.now }
+    ensures present { fragments.now.present.used ≤ length runs.now →
+        Meets (set_of fragments.now.present runs.now) offset count → result ≡ NET_BASE_PRESENT }
+    ensures missing { fragments.now.present.used ≤ length runs.now →
+        (Meets (set_of fragments.now.present runs.now) offset count → ⊥) →
+        result ≡ NET_BASE_MISSING }
+    ensures refused { length runs.now < fragments.now.present.used → result ≡ NET_BASE_REFUSED }
+{
+    if fragments.present.used > runs.len() {
+        return NET_BASE_REFUSED;
+    }
+    if fragments.overlaps(runs, offset, count) {
+        NET_BASE_PRESENT
+    } else {
+        NET_BASE_MISSING
     }
 }
 

@@ -24,6 +24,9 @@ pub const NET_BASE_PRESENT: u32 = 4;
 /// The fragment or the size reaches past the end of the buffer. Nothing changes.
 pub const NET_BASE_TOO_LONG: u32 = 5;
 
+/// Another size of the packet is known. Nothing changes.
+pub const NET_BASE_OTHER_SIZE: u32 = 6;
+
 /// No count, index or position of a right call: what was passed is nonsense, or there is none.
 pub const NET_BASE_NONE: usize = usize::MAX;
 
@@ -54,6 +57,7 @@ pub fn numbers()
     ensures missing { NET_BASE_MISSING ≡ 3 }
     ensures present { NET_BASE_PRESENT ≡ 4 }
     ensures too_long { NET_BASE_TOO_LONG ≡ 5 }
+    ensures other_size { NET_BASE_OTHER_SIZE ≡ 6 }
     ensures none { NET_BASE_NONE ≡ 2 ^ 64 - 1 }
     ensures span { NO_SPAN ≡ nowhere }
 {}

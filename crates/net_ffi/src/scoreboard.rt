@@ -1,15 +1,15 @@
 //! Scoreboards: what a sender knows of the positions that the other end has, in runs that the caller
 //! keeps.
 //!
-//! At most as many runs are stored as the slice has elements; one may be that of what is
-//! acknowledged. Each call but `net_base_scoreboard_clear` looks at each run, and refuses a
-//! scoreboard that isn't sound.
+//! At most as many runs are stored, beyond the first position that wasn't reported, as the slice has
+//! elements. Each call but `net_base_scoreboard_reset` looks at each run, and refuses a scoreboard that
+//! isn't sound.
 ghost use Rattle.std.specs.Prelude.{◌≡◌, ◌↔◌, ◌-◌, ◌<◌, ◌≤◌, ℕ, List, length, IsTrue};
 ghost use Rattle.std.specs.Prelude.{if◌then◌else◌};
-ghost use Rattle.net_assembler.specs.Assembler.{MakesTooManyRuns};
-ghost use Rattle.net_assembler.specs.Positions.{contains, nothing, with_range};
-ghost use Rattle.net_assembler.specs.RunLists.{HasSoundRuns, IsCanonical, set_of};
-ghost use Rattle.net_receiver.specs.Scoreboards.{IsNextHole};
+ghost use Rattle.net_assembler.specs.Positions.{contains, nothing, positions, with_range};
+ghost use Rattle.net_assembler.specs.RunLists.{IsCanonical};
+ghost use Rattle.net_receiver.specs.Scoreboards.{HasNoRoom, IsEnd, IsNextHole, IsSoundBoard, beyond};
+ghost use Rattle.net_receiver.specs.Scoreboards.{reported_by};
 
 use crate::refusals::{
     NET_BASE_DONE, NET_BASE_MISSING, NET_BASE_PRESENT, NET_BASE_REFUSED, NET_BASE_TOO_MANY_RUNS,
@@ -33,27 +33,31 @@ pub struct Hole {
 /// assembler.
 #[unsafe(no_mangle)]
 pub extern "C" fn net_base_scoreboard_is_sound(scoreboard: &ScoreboardHead, runs: &[Run]) -> bool
-    ensures { IsTrue result ↔ HasSoundRuns scoreboard.now.reported runs.now }
+    ensures { IsTrue result ↔ IsSoundBoard scoreboard.now runs.now }
 {
     scoreboard.is_sound(runs)
 }
 
-/// Forgets all that was reported. Nothing is refused: this makes a scoreboard of any memory.
+/// Forgets all that was reported, for a stream that begins at position `first`: all positions below it
+/// count as reported. Nothing is refused: this makes a scoreboard of any memory.
 #[unsafe(no_mangle)]
-pub extern "C" fn net_base_scoreboard_clear(scoreboard: &mut ScoreboardHead)
+pub extern "C" fn net_base_scoreboard_reset(scoreboard: &mut ScoreboardHead, first: u64)
+    ensures base { scoreboard.new.base ≡ first }
     ensures no_run { scoreboard.new.reported.used ≡ 0 }
     ensures no_start { scoreboard.new.reported.first_start ≡ 0 }
-    ensures empty { (runs : List (ℕ × ℕ)) → set_of scoreboard.new.reported runs ≡ nothing }
-    ensures sound { (runs : List (ℕ × ℕ)) → HasSoundRuns scoreboard.new.reported runs }
+    ensures empty { (runs : List (ℕ × ℕ)) →
+        reported_by scoreboard.new runs ≡ with_range nothing 0 first }
+    ensures sound { (runs : List (ℕ × ℕ)) → IsSoundBoard scoreboard.new runs }
 {
-    *scoreboard = ScoreboardHead::new();
+    *scoreboard = ScoreboardHead::new_at(first);
 }
 
 /// Reports the positions from `start` on and below `end`, as a SACK block of an acknowledgement does.
 /// Blocks may overlap. `sent` is the position after the last byte that was ever sent.
 ///
-/// Returns `NET_BASE_DONE`, or `NET_BASE_TOO_MANY_RUNS` if there would be more runs than the slice has
-/// elements, or `NET_BASE_REFUSED` if `start` isn't below `end`, if `end` is above `sent`, or if the
+/// Returns `NET_BASE_DONE`, or `NET_BASE_TOO_MANY_RUNS` if the block begins beyond the first position that
+/// wasn't reported, and there would be more runs beyond it than the slice has elements; or
+/// `NET_BASE_REFUSED` if `start` isn't below `end`, if `end` is above `sent`, or if the
 /// scoreboard isn't sound. If it isn't `NET_BASE_DONE`, nothing changes.
 #[unsafe(no_mangle)]
 pub extern "C" fn net_base_scoreboard_report(
@@ -63,20 +67,20 @@ pub extern "C" fn net_base_scoreboard_report(
     end: u64,
     sent: u64,
 ) -> u32
-    ensures done { let s = set_of scoreboard.old.reported runs.old in
-        HasSoundRuns scoreboard.old.reported runs.old → start < end → end ≤ sent →
-        (MakesTooManyRuns (length runs.old) s start (end - start) → ⊥) → (result ≡ NET_BASE_DONE)
-        × (set_of scoreboard.new.reported runs.new ≡ with_range s start (end - start)) }
-    ensures too_many { let s = set_of scoreboard.old.reported runs.old in
-        HasSoundRuns scoreboard.old.reported runs.old → start < end → end ≤ sent →
-        MakesTooManyRuns (length runs.old) s start (end - start) →
+    ensures done { let s = reported_by scoreboard.old runs.old in
+        IsSoundBoard scoreboard.old runs.old → start < end → end ≤ sent →
+        (HasNoRoom (length runs.old) s start (end - start) → ⊥) → (result ≡ NET_BASE_DONE)
+        × (reported_by scoreboard.new runs.new ≡ with_range s start (end - start)) }
+    ensures too_many { let s = reported_by scoreboard.old runs.old in
+        IsSoundBoard scoreboard.old runs.old → start < end → end ≤ sent →
+        HasNoRoom (length runs.old) s start (end - start) →
         (result ≡ NET_BASE_TOO_MANY_RUNS)
         × (scoreboard.new ≡ scoreboard.old) × (runs.new ≡ runs.old) }
-    ensures refused { (HasSoundRuns scoreboard.old.reported runs.old × (start < end) × (end ≤ sent) → ⊥) →
+    ensures refused { (IsSoundBoard scoreboard.old runs.old × (start < end) × (end ≤ sent) → ⊥) →
         (result ≡ NET_BASE_REFUSED)
         × (scoreboard.new ≡ scoreboard.old) × (runs.new ≡ runs.old) }
-    ensures sound { HasSoundRuns scoreboard.old.reported runs.old →
-        HasSoundRuns scoreboard.new.reported runs.new }
+    ensures sound { IsSoundBoard scoreboard.old runs.old →
+        IsSoundBoard scoreboard.new runs.new }
     ensures canonical { IsCanonical scoreboard.old.reported → IsCanonical scoreboard.new.reported }
 {
     if !ScoreboardHead::is_block(start, end, sent) || !scoreboard.is_sound(runs) {
@@ -88,39 +92,27 @@ pub extern "C" fn net_base_scoreboard_report(
     }
 }
 
-/// Reports all positions below `next`, so that the runs below it become one.
+/// Reports all positions below `next`, whatever the number of runs.
 ///
-/// Returns `NET_BASE_DONE`, or `NET_BASE_TOO_MANY_RUNS` if there would be more runs than the slice has
-/// elements, which is only so while no position below `next` is reported. `NET_BASE_REFUSED` if the
-/// scoreboard isn't sound. If it isn't `NET_BASE_DONE`, nothing changes.
+/// Returns `NET_BASE_DONE`, or `NET_BASE_REFUSED`, and nothing changes, if the scoreboard isn't sound.
 #[unsafe(no_mangle)]
 pub extern "C" fn net_base_scoreboard_acknowledge(
     scoreboard: &mut ScoreboardHead,
     runs: &mut [Run],
     next: u64,
 ) -> u32
-    ensures done { let s = set_of scoreboard.old.reported runs.old in
-        HasSoundRuns scoreboard.old.reported runs.old →
-        (MakesTooManyRuns (length runs.old) s 0 next → ⊥) → (result ≡ NET_BASE_DONE)
-        × (set_of scoreboard.new.reported runs.new ≡ with_range s 0 next) }
-    ensures too_many { let s = set_of scoreboard.old.reported runs.old in
-        HasSoundRuns scoreboard.old.reported runs.old → MakesTooManyRuns (length runs.old) s 0 next →
-        (result ≡ NET_BASE_TOO_MANY_RUNS)
+    ensures done { IsSoundBoard scoreboard.old runs.old → (result ≡ NET_BASE_DONE)
+        × (reported_by scoreboard.new runs.new ≡ with_range (reported_by scoreboard.old runs.old) 0 next) }
+    ensures refused { (IsSoundBoard scoreboard.old runs.old → ⊥) → (result ≡ NET_BASE_REFUSED)
         × (scoreboard.new ≡ scoreboard.old) × (runs.new ≡ runs.old) }
-    ensures refused { (HasSoundRuns scoreboard.old.reported runs.old → ⊥) →
-        (result ≡ NET_BASE_REFUSED)
-        × (scoreboard.new ≡ scoreboard.old) × (runs.new ≡ runs.old) }
-    ensures sound { HasSoundRuns scoreboard.old.reported runs.old →
-        HasSoundRuns scoreboard.new.reported runs.new }
+    ensures sound { IsSoundBoard scoreboard.old runs.old → IsSoundBoard scoreboard.new runs.new }
     ensures canonical { IsCanonical scoreboard.old.reported → IsCanonical scoreboard.new.reported }
 {
     if !scoreboard.is_sound(runs) {
         return NET_BASE_REFUSED;
     }
-    match scoreboard.acknowledge(runs, next) {
-        Ok(()) => NET_BASE_DONE,
-        Err(_) => NET_BASE_TOO_MANY_RUNS,
-    }
+    scoreboard.acknowledge(runs, next);
+    NET_BASE_DONE
 }
 
 /// Returns `NET_BASE_PRESENT` if `position` was reported, and `NET_BASE_MISSING` if it wasn't;
@@ -131,10 +123,10 @@ pub extern "C" fn net_base_scoreboard_contains(
     runs: &[Run],
     position: u64,
 ) -> u32
-    ensures done { HasSoundRuns scoreboard.now.reported runs.now → result
-        ≡ (if contains (set_of scoreboard.now.reported runs.now) position
+    ensures done { IsSoundBoard scoreboard.now runs.now → result
+        ≡ (if contains (reported_by scoreboard.now runs.now) position
         then NET_BASE_PRESENT else NET_BASE_MISSING) }
-    ensures refused { (HasSoundRuns scoreboard.now.reported runs.now → ⊥) →
+    ensures refused { (IsSoundBoard scoreboard.now runs.now → ⊥) →
         result ≡ NET_BASE_REFUSED }
 {
     if !scoreboard.is_sound(runs) {
@@ -159,9 +151,9 @@ pub extern "C" fn net_base_scoreboard_next_hole(
     position: u64,
     limit: u64,
 ) -> Hole
-    ensures hole { HasSoundRuns scoreboard.now.reported runs.now → (result.status ≡ NET_BASE_DONE)
-        × IsNextHole (set_of scoreboard.now.reported runs.now) position limit result.start result.end }
-    ensures refused { (HasSoundRuns scoreboard.now.reported runs.now → ⊥) →
+    ensures hole { IsSoundBoard scoreboard.now runs.now → (result.status ≡ NET_BASE_DONE)
+        × IsNextHole (reported_by scoreboard.now runs.now) position limit result.start result.end }
+    ensures refused { (IsSoundBoard scoreboard.now runs.now → ⊥) →
         (result.status ≡ NET_BASE_REFUSED) × (result.start ≡ 0) × (result.end ≡ 0) }
 {
     if !scoreboard.is_sound(runs) {
@@ -176,5 +168,45 @@ pub extern "C" fn net_base_scoreboard_next_hole(
         status: NET_BASE_DONE,
         start,
         end,
+    }
+}
+
+/// What was reported beyond the first position that wasn't, and whether the call was done.
+#[repr(C)]
+#[derive(Debug, Clone, Copy)]
+pub struct Reported {
+    /// `NET_BASE_DONE` or `NET_BASE_REFUSED`.
+    pub status: u32,
+    /// The position after the last one that was reported; 0 if none was.
+    pub end: u64,
+    /// How many positions were reported beyond the first one that wasn't.
+    pub count: usize,
+}
+
+/// Returns the position after the last one that was reported, and how many were beyond the first one
+/// that wasn't, which is `base`.
+///
+/// If the scoreboard isn't sound, the status is `NET_BASE_REFUSED`, and both are 0.
+#[unsafe(no_mangle)]
+pub extern "C" fn net_base_scoreboard_reported(scoreboard: &ScoreboardHead, runs: &[Run]) -> Reported
+    ensures done { IsSoundBoard scoreboard.now runs.now → result.status ≡ NET_BASE_DONE }
+    ensures end { IsSoundBoard scoreboard.now runs.now →
+        IsEnd (reported_by scoreboard.now runs.now) result.end }
+    ensures count { IsSoundBoard scoreboard.now runs.now →
+        result.count ≡ length (positions (beyond (reported_by scoreboard.now runs.now))) }
+    ensures refused { (IsSoundBoard scoreboard.now runs.now → ⊥) →
+        (result.status ≡ NET_BASE_REFUSED) × (result.end ≡ 0) × (result.count ≡ 0) }
+{
+    if !scoreboard.is_sound(runs) {
+        return Reported {
+            status: NET_BASE_REFUSED,
+            end: 0,
+            count: 0,
+        };
+    }
+    Reported {
+        status: NET_BASE_DONE,
+        end: scoreboard.highest_reported(runs),
+        count: scoreboard.count_beyond(runs),
     }
 }

@@ -10,10 +10,10 @@ use Rattle.std.specs.Prelude.{◌↔◌, IfSome, IsNone, ⊤, Option, Bool, true
 use Rattle.std.specs.List.{slice_get}
 use Rattle.net_ring.specs.Overwrite.{overwrite}
 use Rattle.std.specs.declared.option.Option.TheVariants.{Some, None}
-use Rattle.net_ring.specs.Ring.{RingState, index_after, queue, capacity, window, storage_index, write_at, IsWellFormed, ring, with_dequeued, with_elements, with_enqueued, Enqueues}
+use Rattle.net_ring.specs.Ring.{RingState, index_after, queue, window, storage_index, write_at, IsWellFormed, ring, with_dequeued, with_elements, with_enqueued, Enqueues}
 use Rattle.net_ring.specs.RingHead.{ring_at, place, enqueued_place, rewound, contiguous_free}
 use Rattle.net_packets.specs.Packets.{Packet, PacketsState, packet, bytes_used, slots_used, byte_ring, IsPlaced, slots_for, gap_for, ArePlaced, IsWellPlaced, first_gap, first_size, without_first_gap, without_gap, without_first_and_gap, without_first, with_last_size, with_first_size, placement, with_packet_if, with_packet_if_room, before_last, only_last}
-use Rattle.net_packets.specs.PacketSlots.{slot, gap_slot, packet_slots, packets_in, Represents, packets_state}
+use Rattle.net_packets.specs.PacketSlots.{slot, gap_slot, packet_slots, packets_in, Represents}
 use Rattle.net_packets.specs.PacketsHead.{IsSoundHead, with_slot_taken, placement_in, place_after_gap, with_packet_placed}
 use Rattle.net_packets.specs.HeadQueue.{AreSlotsAfter, metadata, slot_ring, queue_of, HasSoundSlots, CanTake, after_slot, first_slot, head_after_gap, HasFirst, first_packet, head_after_first, IsFirstAt, CanShorten, last_slot, last_slot_index, packet_slot, slots_written}
 use Rattle.net_ring.specs.declared.head.RingHead.{RingHead}
@@ -26,7 +26,7 @@ use Rattle.net_ring.proofs.Rotations.{with_dequeued_parts, length-queue, overwri
 use Rattle.net_ring.proofs.RingFacts.{rewound_ring, enqueued_one, queue_head, queue_law, written_wf}
 use Rattle.net_packets.proofs.HeadFacts.{placed_alike}
 use Rattle.net_packets.proofs.PacketFacts.{count_is, ends_in, pushed_slot, slots_some, slots_for_pos, place_cases, gap_slot_one, place_zero, off_wf, bytes_append, slots_of_append, slots_append}
-use Rattle.net_packets.proofs.PacketSteps.{head_or, close_gap, push_left, pushed_is, mk, held, before_append, last_append, well_placed, slots_are, slice_get_end, skip_left, take_left, gap_of, gap_fits, head_fits}
+use Rattle.net_packets.proofs.PacketSteps.{head_or, close_gap, push_left, pushed_is, mk, held, before_append, last_append, well_placed, slice_get_end, skip_left, take_left, gap_of, gap_fits, head_fits}
 
 -- a slot is a packet's or a gap's
 kind_of : (s : PacketSlot) → ((s.is_gap ≡ 0) × (metadata s ≡ slot s.size (Some tt)) × (nat_eq s.is_gap 0 ≡ true))
@@ -293,7 +293,7 @@ module _ (h : PacketsHead) (last : PacketSlot) (k : ℕ) (can : CanShorten h las
 
 -- ---- a packet comes last
 -- an element is set after the queue of a ring
-push_set : {T : Type 0} (st : List T) (r n p : ℕ) (x : T) → IsWellFormed (ring st r n) → n < length st → p ≡ index_after (length st) r n
+pub push_set : {T : Type 0} (st : List T) (r n p : ℕ) (x : T) → IsWellFormed (ring st r n) → n < length st → p ≡ index_after (length st) r n
     → (queue (ring (set st p x) r (n + 1)) ≡ queue (ring st r n) ++ (x ∷ [])) × IsWellFormed (ring (set st p x) r (n + 1))
 push_set st r n p x wf lt e =
     let g = ring st r n in

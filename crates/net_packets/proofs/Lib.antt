@@ -2,6 +2,7 @@ pub mod PacketFacts
 mod HeadFacts
 pub mod PacketSteps
 mod HeadQueue
+mod HeadParts
 pub mod PacketOrder
 pub mod PacketRuns
 mod EmptyQueue

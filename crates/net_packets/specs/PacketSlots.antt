@@ -1,13 +1,18 @@
 -- A queue of packets by the two rings that store it.
 --     slot s h, packet_slots ps, packets_in gap ms      a slot, the slots of packets, and back
 --     Represents m b ps, packets_state m b      two rings represent packets; the queue that they represent
+--     packets_at h ms xs, AreSoundParts h ms xs      the same by a head, slots and bytes
+--     slots_with p s h ms      the slots of a packet of s bytes are written
 --     IsFirstSlot m s h, WithFirstSlot m s h n      what the first slot of a ring is
-use Rattle.std.specs.Prelude.{◌≡◌, ℕ, zero, suc, ◌+◌, List, [], ◌∷◌, ◌++◌, drop}
+use Rattle.std.specs.Prelude.{◌≡◌, ℕ, zero, suc, ◌+◌, List, [], ◌∷◌, ◌++◌, drop, set, nat_eq, if◌then◌else◌}
 use Rattle.std.specs.Prelude.{Option}
 use Rattle.std.specs.declared.option.Option.TheVariants.{Some, None}
 use Rattle.net_ring.specs.Ring.{RingState, capacity, queue, IsWellFormed}
+use Rattle.net_ring.specs.RingHead.{ring_at}
 use Rattle.net_packets.specs.Packets.{Packet, PacketsState, packet, bytes_used, ArePlaced}
 use Rattle.net_packets.specs.declared.packet_metadata.PacketMetadata.{PacketMetadata}
+use Rattle.net_packets.specs.declared.head.PacketsHead.{PacketsHead}
+use Rattle.net_packets.specs.declared.head.PacketPlace.{PacketPlace}
 
 module _ {H : Type 0} where
   -- the slot of s bytes with the header h, or with none
@@ -58,3 +63,17 @@ module _ {H : Type 0} where
       (PacketMetadata H) → Type 0
   WithFirstSlot m s h n =
       (queue n ≡ slot s h ∷ drop 1 (queue m)) × IsWellFormed n × (capacity n ≡ capacity m)
+
+  -- the queue that a head, slots and bytes represent
+  abbrev pub packets_at : PacketsHead → List (PacketMetadata H) → List ℕ → PacketsState H
+  packets_at h ms xs = packets_state (ring_at ms h.slots) (ring_at xs h.bytes)
+
+  -- they represent one
+  abbrev pub AreSoundParts : PacketsHead → List (PacketMetadata H) → List ℕ → Type 0
+  AreSoundParts h ms xs =
+      Represents (ring_at ms h.slots) (ring_at xs h.bytes) (packets_in 0 (queue (ring_at ms h.slots)))
+
+  -- the slots with those of a packet of s bytes with the header h, and of its gap, at their places
+  abbrev pub slots_with : PacketPlace → ℕ → H → List (PacketMetadata H) → List (PacketMetadata H)
+  slots_with p s h ms =
+      set (if nat_eq p.gap 0 then ms else set ms p.gap_slot (slot p.gap None)) p.slot (slot s (Some h))

@@ -59,6 +59,23 @@ pub struct FirstPacket {
 }
 
 impl PacketsHead {
+    /// Returns the numbers of a queue with no packets.
+    #[inline]
+    pub fn new() -> Self
+        ensures { result ≡ packets_head (place 0 0) (place 0 0) }
+    {
+        PacketsHead {
+            slots: RingHead {
+                read_at: 0,
+                length: 0,
+            },
+            bytes: RingHead {
+                read_at: 0,
+                length: 0,
+            },
+        }
+    }
+
     /// Returns whether the numbers are those of a ring of `slot_count` slots and one of `capacity`
     /// bytes.
     #[inline]

@@ -7,11 +7,10 @@ ghost use Rattle.net_packets.specs.Packets.{placement, only_last, without_gap, f
 ghost use Rattle.net_packets.specs.Packets.{first_size};
 ghost use Rattle.net_packets.specs.PacketHistory.{contents, Makes, Reset};
 
-use self::slots::take_slot;
 use crate::head::PacketsHead;
 use crate::packet_metadata::PacketMetadata;
-use net_ring::{Empty, Full, ManagedSlice, RingOver, Storage};
-use std::marker::Model;
+use net_ring::{Empty, Full, ManagedSlice, Storage};
+use std::marker::{Model, PhantomData};
 
 mod closures;
 pub mod laws;
@@ -33,8 +32,10 @@ mod taking;
 /// determine which packets are refused.
 #[derive(Debug, Drop)]
 pub struct PacketsOver<H, M: Storage<PacketMetadata<H>>, B: Storage<u8>> {
-    slots: RingOver<PacketMetadata<H>, M>,
-    bytes: RingOver<u8, B>,
+    head: PacketsHead,
+    slots: M,
+    bytes: B,
+    headers: PhantomData<H>,
 }
 
 /// A queue of packets over lent or owned storage.
@@ -47,15 +48,14 @@ pub type PacketBuffer<'a, H> = PacketsOver<
 >;
 
 impl<H, M: Storage<PacketMetadata<H>>, B: Storage<u8>> Model for PacketsOver<H, M, B> {
-    ghost use Rattle.net_ring.specs.Ring.{queue};
     ghost use Rattle.net_packets.specs.Packets.{PacketsState};
-    ghost use Rattle.net_packets.specs.PacketSlots.{packets_state, packets_in, Represents};
+    ghost use Rattle.net_packets.specs.PacketSlots.{packets_at, AreSoundParts};
 
     ghost Value = { PacketsState H };
 
-    ghost view = { λ a. packets_state a.slots a.bytes };
+    ghost view = { λ a. packets_at a.head (M.elements a.slots) (B.elements a.bytes) };
 
-    ghost invariant = { λ a. Represents a.slots a.bytes (packets_in 0 (queue a.slots)) };
+    ghost invariant = { λ a. AreSoundParts a.head (M.elements a.slots) (B.elements a.bytes) };
 }
 
 impl<H, M: Storage<PacketMetadata<H>>, B: Storage<u8>> PacketsOver<H, M, B> {
@@ -73,8 +73,10 @@ impl<H, M: Storage<PacketMetadata<H>>, B: Storage<u8>> PacketsOver<H, M, B> {
         ensures made { result ≡ no_packets (length (M.elements slots)) (B.elements bytes) }
     {
         PacketsOver {
-            slots: RingOver::new(slots),
-            bytes: RingOver::new(bytes),
+            head: PacketsHead::new(),
+            slots,
+            bytes,
+            headers: PhantomData,
         }
     }
 
@@ -84,7 +86,7 @@ impl<H, M: Storage<PacketMetadata<H>>, B: Storage<u8>> PacketsOver<H, M, B> {
         ensures empty { IsTrue result ↔ (contents self.now ≡ []) }
         ensures packets { result ≡ (length self.now.packets == 0) }
     {
-        self.slots.is_empty()
+        self.head.slots.length == 0
     }
 
     /// Returns whether no slot is free. A queue that is not full still refuses a packet if there
@@ -93,7 +95,7 @@ impl<H, M: Storage<PacketMetadata<H>>, B: Storage<u8>> PacketsOver<H, M, B> {
     pub fn is_full(&self) -> bool
         ensures { result ≡ (self.now.slot_count - slots_used self.now.packets == 0) }
     {
-        self.slots.is_full()
+        self.head.slots.length == self.slots.count()
     }
 
     /// Returns the number of slots.
@@ -101,7 +103,7 @@ impl<H, M: Storage<PacketMetadata<H>>, B: Storage<u8>> PacketsOver<H, M, B> {
     pub fn packet_capacity(&self) -> usize
         ensures { result ≡ self.now.slot_count }
     {
-        self.slots.capacity()
+        self.slots.count()
     }
 
     /// Returns the number of bytes of the storage, used or not.
@@ -109,7 +111,7 @@ impl<H, M: Storage<PacketMetadata<H>>, B: Storage<u8>> PacketsOver<H, M, B> {
     pub fn payload_capacity(&self) -> usize
         ensures { result ≡ length self.now.storage }
     {
-        self.bytes.capacity()
+        self.bytes.count()
     }
 
     /// Returns the number of bytes that packets take, gaps included. A call that drops the gap
@@ -118,7 +120,7 @@ impl<H, M: Storage<PacketMetadata<H>>, B: Storage<u8>> PacketsOver<H, M, B> {
     pub fn payload_bytes_count(&self) -> usize
         ensures { result ≡ bytes_used self.now.packets }
     {
-        self.bytes.len()
+        self.head.bytes.length
     }
 
     /// Returns the number of slots used: one for each packet and one for each gap. smoltcp has no
@@ -127,7 +129,7 @@ impl<H, M: Storage<PacketMetadata<H>>, B: Storage<u8>> PacketsOver<H, M, B> {
     pub fn slots_used(&self) -> usize
         ensures { result ≡ slots_used self.now.packets }
     {
-        self.slots.len()
+        self.head.slots.length
     }
 
     /// Returns how many packets the queue has. It looks at every slot, to leave out the gaps. smoltcp has no
@@ -136,9 +138,10 @@ impl<H, M: Storage<PacketMetadata<H>>, B: Storage<u8>> PacketsOver<H, M, B> {
         ensures contents { result ≡ length (contents self.now) }
         ensures packets { result ≡ length self.now.packets }
     {
-        // Called only for its clauses, by which the sum below does not wrap.
-        let _used = self.slots.len();
-        let (first, second) = self.slots.as_slices();
+        let from = self.head.slots.read_at;
+        let cut = self.head.slots.contiguous_queue(self.slots.count());
+        let first = self.slots.part(from, from + cut);
+        let second = self.slots.part(0, self.head.slots.length - cut);
         count_packets(first) + count_packets(second)
     }
 
@@ -151,8 +154,7 @@ impl<H, M: Storage<PacketMetadata<H>>, B: Storage<u8>> PacketsOver<H, M, B> {
         ensures made { self.new ≡ no_packets self.old.slot_count self.old.storage }
         ensures call { Makes Reset self.old self.new }
     {
-        self.slots.clear();
-        self.bytes.clear();
+        self.head.clear();
     }
 }
 
@@ -164,11 +166,8 @@ impl<H, M: Storage<PacketMetadata<H>>, B: Storage<u8>> PacketsOver<H, M, B> {
         ensures gap { result ≡ placement self.now size }
         ensures well_placed { IsWellPlaced self.now }
     {
-        let head = PacketsHead {
-            slots: self.slots.place(),
-            bytes: self.bytes.place(),
-        };
-        head.placement(self.slots.capacity(), self.bytes.capacity(), size)
+        self.head
+            .placement(self.slots.count(), self.bytes.count(), size)
     }
 
     /// Returns the size of the last packet, or 0 if there is none.
@@ -176,11 +175,14 @@ impl<H, M: Storage<PacketMetadata<H>>, B: Storage<u8>> PacketsOver<H, M, B> {
         ensures size { result ≡ first_size (only_last self.now.packets) }
         ensures well_placed { IsWellPlaced self.now }
     {
-        let used = self.slots.len();
-        match self.slots.get_allocated(used.saturating_sub(1), 1).first() {
-            Some(slot) => slot.size,
-            None => 0,
+        if self.head.slots.length == 0 {
+            return 0;
         }
+        let last = self
+            .head
+            .slots
+            .index(self.slots.count(), self.head.slots.length - 1);
+        self.slots.element(last).size
     }
 
     /// Returns the gap before the first packet, or 0 if there is none.
@@ -189,9 +191,13 @@ impl<H, M: Storage<PacketMetadata<H>>, B: Storage<u8>> PacketsOver<H, M, B> {
         ensures gap { result ≡ first_gap self.now.packets }
         ensures well_placed { IsWellPlaced self.now }
     {
-        match self.slots.head().first() {
-            Some(slot) => { if slot.header.is_none() { slot.size } else { 0 } }
-            None => 0,
+        if self.head.slots.length == 0 {
+            return 0;
+        }
+        let slot = self.slots.element(self.head.slots.read_at);
+        match &slot.header {
+            Some(_header) => 0,
+            None => slot.size,
         }
     }
 
@@ -204,7 +210,7 @@ impl<H, M: Storage<PacketMetadata<H>>, B: Storage<u8>> PacketsOver<H, M, B> {
     {
         let gap = self.first_gap();
         if gap > 0 {
-            take_slot(&mut self.slots, &mut self.bytes, gap);
+            self.head.take(self.slots.count(), self.bytes.count(), gap);
         }
     }
 }

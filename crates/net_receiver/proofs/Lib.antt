@@ -26,6 +26,10 @@ pub mod Resumed
 pub mod WorkedExample
 pub mod Senders
 pub mod Represents
+pub mod Boards
 pub mod Scoreboards
 pub mod NewestRuns
 pub mod NewBytes
+pub mod Ends
+pub mod EndLaws
+pub mod EndSenders

@@ -57,6 +57,12 @@ outside s p h =
     let complete = known.complete p in
     grind arith
 
+-- each position of the set is one of theirs
+pub sacked : (s : Positions) (p : ℕ) → contains s p ≡ true → is_sacked (maximal_runs s) p ≡ true
+sacked s p h =
+    let known = are_maximal_runs s in
+    any_counted (maximal_runs s) p (known.complete p h)
+
 none_counted : (rs : List (ℕ × ℕ)) (p : ℕ) → is_sacked rs p ≡ false → count_from rs p ≡ 0
 none_counted [] p h = refl
 none_counted (r ∷ rs) p h = let others = none_counted rs p in grind (arith, nat_tests)

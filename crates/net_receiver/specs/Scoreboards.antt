@@ -1,7 +1,53 @@
 -- What a sender sends again: the holes of the positions that were reported to it.
+--     board base offsets, reported_by h runs      the positions that a scoreboard represents
+--     offsets_of s, beyond s      those beyond the first missing one, counted from it, and as they are
+--     HasNoRoom most s o n      a range isn't stored, since there would be too many runs
+--     IsSoundBoard h runs      what is true of the parts of a scoreboard
+--     IsEnd s n      n is the position after the last one
 --     IsNextHole s p limit start end      the first range of positions from p on, below the limit, that s lacks
-use Rattle.std.specs.Prelude.{◌≡◌, ℕ, ◌<◌, ◌≤◌, min, IsTrue, IsFalse}
-use Rattle.net_assembler.specs.Positions.{Positions, contains, first_missing}
+use Rattle.std.specs.Prelude.{◌≡◌, ℕ, ◌+◌, ◌-◌, ◌<◌, ◌≤◌, ◌^◌, min, List, [], ◌∷◌, IsTrue, IsFalse}
+use Rattle.net_assembler.specs.Assembler.{MakesTooManyRuns}
+use Rattle.net_assembler.specs.Positions.{Positions, contains, first_missing, front, with_range, shift_up, shift_down}
+use Rattle.net_assembler.specs.RunLists.{set_of, HasSoundRuns}
+use Rattle.net_receiver.specs.declared.scoreboard.head.ScoreboardHead.{ScoreboardHead}
+
+-- all positions below a base, and those at offsets that are counted from it
+abbrev pub board : ℕ → Positions → Positions
+board base offsets = with_range (shift_up offsets base) 0 base
+
+-- the positions that were reported to a scoreboard
+abbrev pub reported_by : ScoreboardHead → List (ℕ × ℕ) → Positions
+reported_by h rs = board h.base (set_of h.reported rs)
+
+-- the positions beyond the first missing one, counted from it
+abbrev pub offsets_of : Positions → Positions
+offsets_of s = shift_down s (front s)
+
+-- and as they are
+abbrev pub beyond : Positions → Positions
+beyond s = shift_up (offsets_of s) (front s)
+
+-- the range (o, n) begins beyond the first missing position, and with it there would be more than most
+-- runs beyond that
+abbrev pub HasNoRoom : ℕ → Positions → ℕ → ℕ → Type 0
+HasNoRoom most s o n = (front s < o) × MakesTooManyRuns most (beyond s) o n
+
+-- a head and runs are those of a scoreboard: the runs are sound, the base is missing, and each reported
+-- position and its end are numbers of 64 bits
+pub record IsSoundBoard (h : ScoreboardHead) (rs : List (ℕ × ℕ)) : Type 0 where
+  pub runs : HasSoundRuns h.reported rs
+  pub begins : IsFalse (contains (set_of h.reported rs) 0)
+  pub fits : (p : ℕ) → IsTrue (contains (set_of h.reported rs) p) → h.base + p + 1 < 2 ^ 64
+
+-- how many positions runs (start, end) have together
+abbrev pub sizes : List (ℕ × ℕ) → ℕ
+sizes [] = 0
+sizes (r ∷ rs) = (r.1 - r.0) + sizes rs
+
+-- n is above each position of s, and 0 or the end of the last one
+pub record IsEnd (s : Positions) (n : ℕ) : Type 0 where
+  pub above : (p : ℕ) → IsTrue (contains s p) → p < n
+  pub reached : 0 < n → IsTrue (contains s (n - 1))
 
 -- the range begins at the first position from p on that is missing in s, and ends before the next one that
 -- is in s; the limit bounds both, so that the range is empty, and at the limit, if none is missing below it

@@ -1,149 +1,186 @@
 //! A scoreboard: which positions a sender knows that the other end has.
-ghost use Rattle.std.specs.Prelude.{◌≡◌, ◌↔◌, ◌-◌, ◌<◌, ◌≤◌, List, ℕ, length, IsTrue, OnErr};
-ghost use Rattle.net_assembler.specs.AssemblerLaws.{Adds};
-ghost use Rattle.net_assembler.specs.Positions.{contains, first_missing, maximal_runs, nothing};
-ghost use Rattle.net_assembler.specs.RunLists.{HasSoundRuns, IsCanonical, set_of};
-ghost use Rattle.net_receiver.specs.Scoreboards.{IsNextHole};
+ghost use Rattle.std.specs.Prelude.{◌≡◌, ◌↔◌, ◌-◌, ◌≤◌, length, IsErr, OnOk, OnErr};
+ghost use Rattle.net_assembler.specs.Positions.{contains, first_missing, front, maximal_runs, nothing};
+ghost use Rattle.net_assembler.specs.Positions.{positions, with_range};
+ghost use Rattle.net_receiver.specs.Scoreboards.{HasNoRoom, IsEnd, IsNextHole, IsSoundBoard, beyond};
+ghost use Rattle.net_receiver.specs.Scoreboards.{reported_by};
 
-use crate::sack_blocks::nearer;
-use net_assembler::{AssemblerHead, Run, TooManyHolesError};
+mod head;
+
+use crate::receiver::HeldRuns;
+pub use head::ScoreboardHead;
+use net_assembler::{Run, TooManyHolesError};
+use std::marker::Model;
 
 /// What a sender knows of the positions that the other end has, as acknowledgements and their SACK
 /// blocks report them: a scoreboard.
 ///
-/// Positions are absolute. The caller keeps the runs, as those of an assembler: the slice's length
-/// is the most runs that are stored, of which one may be that of what is acknowledged. In contracts
-/// `set_of` of `reported` and the runs is the set of reported positions.
-///
-/// A scoreboard is *sound* with runs if its head is, as `is_sound` tests. `next_hole` gives what isn't
-/// reported, range by range; what is sent again, and when, is the caller's choice. smoltcp has no such
-/// type: its TCP socket sends again from the first unacknowledged position on.
-#[repr(C)]
-#[derive(Debug, Clone, Copy)]
-pub struct ScoreboardHead {
-    /// The positions that were reported.
-    pub reported: AssemblerHead,
+/// Positions are absolute. Contracts see the set of those that were reported. At most `N` runs are
+/// stored beyond the first position that wasn't reported; what is below that needs none. No call takes
+/// memory. `next_hole` gives what isn't reported, range by range; what is sent again, and when, is the
+/// caller's choice. smoltcp has no such type: its TCP socket sends again from the first unacknowledged
+/// position on.
+#[derive(Debug, Drop)]
+pub struct Scoreboard<const N: usize> {
+    head: ScoreboardHead,
+    runs: [Run; N],
 }
 
+impl<const N: usize> Model for Scoreboard<N> {
+    ghost use Rattle.std.specs.Coded.{coded_ℕ};
+    ghost use Rattle.std.specs.FinSet as set;
+    ghost use Rattle.std.specs.Prelude.{◌≡◌, length};
+    ghost use Rattle.net_assembler.specs.Positions.{Positions};
+    ghost use Rattle.net_receiver.specs.Scoreboards.{reported_by, IsSoundBoard};
+
+    ghost Value = { Positions };
+
+    ghost coded = { set.code coded_ℕ };
+
+    ghost view = { λ b. reported_by b.head b.runs };
+
+    ghost invariant = { λ b. IsSoundBoard b.head b.runs × (length b.runs ≡ N) };
+}
+
+<<<<<<< ours
 impl ScoreboardHead {
     /// Returns a scoreboard to which nothing was reported, whatever its runs.
-    pub fn new() -> Self
+    pub const fn new() -> Self
         ensures no_run { result.reported.used ≡ 0 }
         ensures no_start { result.reported.first_start ≡ 0 }
         ensures sound { (runs : List (ℕ × ℕ)) → HasSoundRuns result.reported runs }
         ensures empty { (runs : List (ℕ × ℕ)) → set_of result.reported runs ≡ nothing }
+=======
+impl<const N: usize> Scoreboard<N> {
+    /// Returns a scoreboard of a stream that begins at position 0, to which nothing was reported.
+    ///
+    /// # Requires
+    ///
+    /// `N` is at least 1.
+    pub fn new() -> Self
+        requires { 1 ≤ N }
+        ensures { result ≡ nothing }
+>>>>>>> theirs
     {
-        ScoreboardHead {
-            reported: AssemblerHead::new(),
+        Scoreboard {
+            head: ScoreboardHead::new(),
+            runs: [Run { start: 0, end: 0 }; N],
         }
     }
 
-    /// Returns whether the scoreboard is sound with these runs, for any numbers in both.
-    pub fn is_sound(&self, runs: &[Run]) -> bool
-        ensures { IsTrue result ↔ HasSoundRuns self.now.reported runs.now }
-    {
-        self.reported.is_sound(runs)
-    }
-
-    /// Returns whether a SACK block can be right: it has a position, and none from `sent` on, which
-    /// is the position after the last byte that was ever sent.
-    pub fn is_block(start: u64, end: u64, sent: u64) -> bool
-        ensures { IsTrue result ↔ ((start < end) × (end ≤ sent)) }
-    {
-        start < end && end <= sent
-    }
-
-    /// Reports the positions from `start` on and below `end`. Blocks may overlap.
-    ///
-    /// Returns an error, and changes nothing, if there would be more runs than the slice has
-    /// elements. Then the block isn't known, and its bytes are sent again.
+    /// Returns a scoreboard of a stream that begins at position `first`, to which nothing was reported.
+    /// All positions below `first` count as reported.
     ///
     /// # Requires
     ///
-    /// The scoreboard is sound with the runs, and `start` is at most `end`, as `is_block` tests.
-    pub fn report(
-        &mut self,
-        runs: &mut [Run],
-        start: u64,
-        end: u64,
-    ) -> Result<(), TooManyHolesError>
-        requires sound { HasSoundRuns self.old.reported runs.old }
-        requires block { start ≤ end }
-        ensures sound { HasSoundRuns self.new.reported runs.new }
-        ensures added { Adds (length runs.old) (set_of self.old.reported runs.old) start (end - start)
-            result (set_of self.new.reported runs.new) }
-        ensures unchanged { OnErr result ((self.new ≡ self.old) × (runs.new ≡ runs.old)) }
-        ensures canonical { IsCanonical self.old.reported → IsCanonical self.new.reported }
+    /// `N` is at least 1.
+    pub fn new_at(first: u64) -> Self
+        requires { 1 ≤ N }
+        ensures { result ≡ with_range nothing 0 first }
     {
-        let size = (end - start) as usize;
-        self.reported.add(runs, start as usize, size)
+        Scoreboard {
+            head: ScoreboardHead::new_at(first),
+            runs: [Run { start: 0, end: 0 }; N],
+        }
     }
 
-    /// Reports all positions below `next`, so that the runs below it become one.
-    ///
-    /// Returns an error, and changes nothing, if there would be more runs than the slice has
-    /// elements. That is no loss, since nothing below `next` is reported then.
+    /// Returns the scoreboard that a head and runs represent.
     ///
     /// # Requires
     ///
-    /// The scoreboard is sound with the runs.
-    pub fn acknowledge(&mut self, runs: &mut [Run], next: u64) -> Result<(), TooManyHolesError>
-        requires sound { HasSoundRuns self.old.reported runs.old }
-        ensures sound { HasSoundRuns self.new.reported runs.new }
-        ensures added { Adds (length runs.old) (set_of self.old.reported runs.old) 0 next
-            result (set_of self.new.reported runs.new) }
-        ensures unchanged { OnErr result ((self.new ≡ self.old) × (runs.new ≡ runs.old)) }
-        ensures canonical { IsCanonical self.old.reported → IsCanonical self.new.reported }
+    /// They are sound, as `ScoreboardHead::is_sound` tests.
+    pub fn from_parts(head: ScoreboardHead, runs: [Run; N]) -> Self
+        requires { IsSoundBoard head runs }
+        ensures { result ≡ reported_by head runs.entry }
     {
-        self.report(runs, 0, next)
+        Scoreboard { head, runs }
+    }
+
+    /// Returns the head and the runs, which represent the scoreboard.
+    pub fn into_parts(self) -> (ScoreboardHead, [Run; N])
+        ensures sound { IsSoundBoard result.0 result.1 }
+        ensures set { reported_by result.0 result.1 ≡ self.entry }
+        ensures length { length result.1 ≡ N }
+    {
+        let Scoreboard { head, runs } = self;
+        (head, runs)
+    }
+
+    /// Reports the positions from `start` on and below `end`, as a SACK block does. Blocks may overlap.
+    ///
+    /// Returns an error, and changes nothing, exactly if the block begins beyond the first position that
+    /// wasn't reported, and there would be more than `N` runs beyond it. Then the block isn't known, and
+    /// its bytes are sent again.
+    ///
+    /// # Requires
+    ///
+    /// `start` is at most `end`, as `ScoreboardHead::is_block` tests.
+    pub fn report(&mut self, start: u64, end: u64) -> Result<(), TooManyHolesError>
+        requires { start ≤ end }
+        ensures ok { OnOk result (self.new ≡ with_range self.old start (end - start)) }
+        ensures unchanged { OnErr result (self.new ≡ self.old) }
+        ensures refused { IsErr result ↔ HasNoRoom N self.old start (end - start) }
+    {
+        self.head.report(&mut self.runs, start, end)
+    }
+
+    /// Reports all positions below `next`. It is never refused.
+    pub fn acknowledge(&mut self, next: u64)
+        ensures { self.new ≡ with_range self.old 0 next }
+    {
+        self.head.acknowledge(&mut self.runs, next);
+    }
+
+    /// Returns the first position that wasn't reported.
+    pub fn first_unreported(&self) -> u64
+        ensures { result ≡ front self.now }
+    {
+        self.head.first_unreported(&self.runs)
     }
 
     /// Returns whether a position was reported.
-    ///
-    /// # Requires
-    ///
-    /// The scoreboard is sound with the runs.
-    pub fn contains(&self, runs: &[Run], pos: u64) -> bool
-        requires { HasSoundRuns self.now.reported runs.now }
-        ensures { result ≡ contains (set_of self.now.reported runs.now) pos }
+    pub fn contains(&self, pos: u64) -> bool
+        ensures { result ≡ contains self.now pos }
     {
-        self.reported.contains(runs, pos as usize)
+        self.head.contains(&self.runs, pos)
+    }
+
+    /// Returns the runs beyond the first position that wasn't reported, as absolute (start, end), the end
+    /// not included, in rising order, at most `N`.
+    pub fn reported(&self) -> HeldRuns<'_, N>
+        ensures runs { result ≡ maximal_runs (beyond self.now) }
+        ensures bound { length result ≤ N }
+    {
+        self.head.reported(&self.runs)
+    }
+
+    /// Returns the position after the last one that was reported; 0 if none was.
+    pub fn highest_reported(&self) -> u64
+        ensures { IsEnd self.now result }
+    {
+        self.head.highest_reported(&self.runs)
+    }
+
+    /// Returns how many positions were reported beyond the first one that wasn't.
+    pub fn count_beyond(&self) -> usize
+        ensures { result ≡ length (positions (beyond self.now)) }
+    {
+        self.head.count_beyond(&self.runs)
     }
 
     /// Returns the first position from `pos` on that wasn't reported.
-    ///
-    /// # Requires
-    ///
-    /// The scoreboard is sound with the runs.
-    pub fn first_missing(&self, runs: &[Run], pos: u64) -> u64
-        requires { HasSoundRuns self.now.reported runs.now }
-        ensures { result ≡ first_missing (set_of self.now.reported runs.now) pos }
+    pub fn first_missing(&self, pos: u64) -> u64
+        ensures { result ≡ first_missing self.now pos }
     {
-        for (start, end) in self.reported.iter_data(runs) {
-            if start as u64 <= pos && pos < end as u64 {
-                return end as u64;
-            }
-        }
-        pos
+        self.head.first_missing(&self.runs, pos)
     }
 
     /// Returns the next range to send again, as a start and an end: it begins at the first position
     /// from `pos` on that wasn't reported, and ends at the next one that was, or at `limit`. If there
     /// is none below `limit`, both are `limit`.
-    ///
-    /// # Requires
-    ///
-    /// The scoreboard is sound with the runs.
-    #[tactic(auto, using(crate::proofs::Scoreboards::next_hole_is))]
-    pub fn next_hole(&self, runs: &[Run], pos: u64, limit: u64) -> (u64, u64)
-        requires { HasSoundRuns self.now.reported runs.now }
-        ensures { IsNextHole (set_of self.now.reported runs.now) pos limit result.0 result.1 }
+    pub fn next_hole(&self, pos: u64, limit: u64) -> (u64, u64)
+        ensures { IsNextHole self.now pos limit result.0 result.1 }
     {
-        let start = self.first_missing(runs, pos).min(limit);
-        let mut end = limit;
-        for (from, _to) in self.reported.iter_data(runs) {
-            end = nearer(start, from as u64, end);
-        }
-        (start, end)
+        self.head.next_hole(&self.runs, pos, limit)
     }
 }

@@ -26,14 +26,14 @@ impl Model for SequenceNumber {
 
 impl SequenceNumber {
     /// Returns this number.
-    pub fn new(number: u32) -> Self
+    pub const fn new(number: u32) -> Self
         ensures { result ≡ number }
     {
         SequenceNumber { number }
     }
 
     /// Returns the number as it is sent.
-    pub fn get(self) -> u32
+    pub const fn get(self) -> u32
         ensures { result ≡ self }
     {
         self.number

@@ -7,6 +7,8 @@
 #[cfg(test)]
 mod assertions;
 #[cfg(test)]
+mod finite;
+#[cfg(test)]
 mod newest;
 #[cfg(test)]
 mod parts;

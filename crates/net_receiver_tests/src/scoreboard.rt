@@ -1,5 +1,5 @@
 //! What a scoreboard gives to send again, at known blocks.
-ghost use Rattle.net_assembler.specs.RunLists.{HasSoundRuns};
+ghost use Rattle.net_receiver.specs.Scoreboards.{IsSoundBoard};
 
 use crate::assertions::assert_holds;
 use net_assembler::Run;
@@ -10,8 +10,10 @@ use net_receiver::{SackBlocks, ScoreboardHead};
 enum Step {
     /// Takes this block, or has no room for it.
     Report(u64, u64, bool),
-    /// Takes an acknowledgement of all below a position, or has no room for it.
-    Acknowledge(u64, bool),
+    /// Takes an acknowledgement of all below a position, which leaves this base.
+    Acknowledge(u64, u64),
+    /// Beyond the base so many positions were reported, and the last one ends there.
+    Beyond(usize, u64),
     /// From the first position on and below the second, this range is sent next.
     Hole(u64, u64, (u64, u64)),
     /// Whether this position was reported, and the first one from it on that wasn't.
@@ -20,9 +22,17 @@ enum Step {
 
 /// Returns whether a block is taken.
 fn reports(board: &mut ScoreboardHead, runs: &mut [Run], start: u64, end: u64) -> bool
-    requires { HasSoundRuns board.old.reported runs.old }
+    requires { IsSoundBoard board.old runs.old }
 {
     start <= end && board.report(runs, start, end).is_ok()
+}
+
+/// Returns the first position that isn't reported, once all below `next` are.
+fn acknowledges(board: &mut ScoreboardHead, runs: &mut [Run], next: u64) -> u64
+    requires { IsSoundBoard board.old runs.old }
+{
+    board.acknowledge(runs, next);
+    board.first_unreported(runs)
 }
 
 /// Returns whether a call gives what it should.
@@ -32,7 +42,10 @@ fn does(board: &mut ScoreboardHead, runs: &mut [Run], step: &Step) -> bool {
     }
     match step {
         Step::Report(start, end, taken) => reports(board, runs, *start, *end) == *taken,
-        Step::Acknowledge(next, taken) => board.acknowledge(runs, *next).is_ok() == *taken,
+        Step::Acknowledge(next, base) => acknowledges(board, runs, *next) == *base,
+        Step::Beyond(count, end) => {
+            board.count_beyond(runs) == *count && board.highest_reported(runs) == *end
+        }
         Step::Hole(pos, limit, hole) => board.next_hole(runs, *pos, *limit) == *hole,
         Step::Has(pos, present, missing) => {
             board.contains(runs, *pos) == *present && board.first_missing(runs, *pos) == *missing
@@ -41,24 +54,25 @@ fn does(board: &mut ScoreboardHead, runs: &mut [Run], step: &Step) -> bool {
 }
 
 /// Calls of a scoreboard with room for two runs.
-const TWO_RUNS: [Step; 16] = [
+const TWO_RUNS: [Step; 18] = [
     Step::Hole(100, 130, (100, 130)),
     Step::Report(110, 115, true),
     Step::Report(118, 119, true),
     // A third run has no room.
     Step::Report(121, 122, false),
-    Step::Acknowledge(105, false),
-    Step::Hole(100, 130, (100, 110)),
+    Step::Acknowledge(105, 105),
+    Step::Beyond(6, 119),
+    Step::Hole(100, 130, (105, 110)),
     Step::Hole(110, 130, (115, 118)),
     Step::Hole(118, 130, (119, 130)),
     Step::Hole(112, 114, (114, 114)),
     Step::Has(114, true, 115),
     Step::Has(115, false, 115),
-    // It joins both, and so leaves room for the acknowledged positions.
     Step::Report(112, 120, true),
-    Step::Acknowledge(105, true),
+    Step::Acknowledge(104, 105),
     Step::Hole(0, 130, (105, 110)),
-    Step::Acknowledge(110, true),
+    Step::Acknowledge(110, 120),
+    Step::Beyond(0, 120),
     Step::Hole(0, 130, (120, 130)),
 ];
 

@@ -326,10 +326,10 @@ module _ {T : Type 0} where
     found_queued c i p ec ep = ep ∙ ap₂ (λ (n : ℕ) (o : RingState T). index_after n o.read_at (min i o.count)) ec is
 
     -- and how many elements are contiguous
-    found_window : (c m : ℕ) → c ≡ capacity g → m ≡ min (c - v.count) (c - index_after c v.read_at v.count) → m ≡ contiguous_window g
+    pub found_window : (c m : ℕ) → c ≡ capacity g → m ≡ min (c - v.count) (c - index_after c v.read_at v.count) → m ≡ contiguous_window g
     found_window c m ec em = em ∙ ap₂ (λ (n : ℕ) (o : RingState T). min (n - o.count) (n - index_after n o.read_at o.count)) ec is
 
-    found_head : (c m : ℕ) → c ≡ capacity g → m ≡ min v.count (c - v.read_at) → m ≡ contiguous_queued g
+    pub found_head : (c m : ℕ) → c ≡ capacity g → m ≡ min v.count (c - v.read_at) → m ≡ contiguous_queued g
     found_head c m ec em = em ∙ ap₂ (λ (n : ℕ) (o : RingState T). min o.count (n - o.read_at)) ec is
 
     -- one write leaves the ring well-formed

@@ -142,6 +142,8 @@ impl<T, S: Storage<T>> RingOver<T, S> {
         requires sound { IsSound (length (S.elements storage)) place }
         ensures ring { result ≡ ring_at (S.elements storage) place }
     {
+        let capacity = storage.count();
+        prove!(place.is_sound(capacity), "the head is not that of this storage");
         RingOver {
             storage,
             place,

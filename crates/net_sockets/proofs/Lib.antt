@@ -1,3 +1,4 @@
 pub mod FragmentFacts
 pub mod FrameFacts
+pub mod LentBytes
 pub mod SocketFacts

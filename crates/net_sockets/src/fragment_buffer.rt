@@ -4,10 +4,12 @@ ghost use Rattle.std.specs.Prelude.{OnOk, OnErr, ◌<ℤ◌, Err, length, take};
 ghost use Rattle.std.specs.declared.option.Option.TheVariants.{Some, None};
 ghost use Rattle.net_assembler.specs.Positions.{nothing};
 ghost use Rattle.net_assembler.specs.Assembler.{MakesTooManyRuns};
-ghost use Rattle.net_base.specs.Fragments.{with_fragment, IsComplete};
+ghost use Rattle.net_base.specs.FragmentParts.{fragments_of, HasSoundParts};
+ghost use Rattle.net_base.specs.Fragments.{with_fragment, IsComplete, DiffersFrom, Meets};
 
-use net_assembler::{Assembler, assembler};
+use net_assembler::Run;
 pub use net_base::storage::FragmentError;
+use net_base::storage::FragmentsHead;
 use net_base::time::Instant;
 use net_ring::{ManagedSlice, Storage};
 use std::marker::Model;
@@ -22,43 +24,45 @@ pub mod laws;
 /// Contracts see the bytes of the storage, the set of the positions that arrived, the packet's
 /// size, once it is known, and the moment up to which the packet is waited for.
 pub struct FragmentsOver<B: Storage<u8>, const N: usize> {
+    head: FragmentsHead,
     bytes: B,
-    present: Assembler<N>,
-    total: Option<usize>,
-    expires_at: Instant,
+    runs: [Run; N],
 }
 
 /// Written by hand: with a derived `Drop` a `FragmentBuffer` could not be a local.
 impl<B: Storage<u8> + Drop, const N: usize> Drop for FragmentsOver<B, N> {
     fn drop(self) {
         let FragmentsOver {
+            head: _,
             bytes,
-            present: _,
-            total: _,
-            expires_at: _,
+            runs: _,
         } = self;
         drop(bytes);
     }
+}
+
+/// The last moment at which the packet is waited for.
+fn moment_of(head: &FragmentsHead) -> Instant
+    ensures { result ≡ head.now.expires_at }
+{
+    Instant::from_micros(head.expires_at)
 }
 
 /// A packet that arrives in fragments, over lent or owned bytes.
 pub type FragmentBuffer<'a, const N: usize> = FragmentsOver<ManagedSlice<'a, u8>, N>;
 
 impl<B: Storage<u8>, const N: usize> Model for FragmentsOver<B, N> {
-    ghost use Rattle.net_base.specs.Fragments.{FragmentsState, state_code, Fits};
+    ghost use Rattle.std.specs.Prelude.{◌≡◌, length};
+    ghost use Rattle.net_base.specs.Fragments.{FragmentsState, state_code};
+    ghost use Rattle.net_base.specs.FragmentParts.{fragments_of, HasSoundParts};
 
     ghost Value = { FragmentsState };
 
     ghost coded = { state_code };
 
-    ghost view = { λ b. record {
-      bytes = B.elements b.bytes;
-      present = b.present;
-      total = b.total;
-      expires_at = b.expires_at;
-    } };
+    ghost view = { λ b. fragments_of b.head (B.elements b.bytes) b.runs };
 
-    ghost invariant = { λ b. Fits (B.elements b.bytes) b.total };
+    ghost invariant = { λ b. HasSoundParts b.head (B.elements b.bytes) b.runs × (length b.runs ≡ N) };
 }
 
 impl<B: Storage<u8>, const N: usize> FragmentsOver<B, N> {
@@ -74,11 +78,32 @@ impl<B: Storage<u8>, const N: usize> FragmentsOver<B, N> {
         ensures expires { result.expires_at ≡ expires_at }
     {
         FragmentsOver {
+            head: FragmentsHead::new(expires_at.total_micros()),
             bytes,
-            present: Assembler::new(),
-            total: None,
-            expires_at,
+            runs: [Run { start: 0, end: 0 }; N],
         }
+    }
+
+    /// Returns the buffer that a head, bytes and runs represent. smoltcp has no such call.
+    ///
+    /// # Requires
+    ///
+    /// They are sound: the runs are those of an assembler, and a known size is at most that of `bytes`.
+    pub fn from_parts(head: FragmentsHead, bytes: B, runs: [Run; N]) -> Self
+        requires { HasSoundParts head (B.elements bytes) runs }
+        ensures { result ≡ fragments_of head (B.elements bytes) runs.entry }
+    {
+        FragmentsOver { head, bytes, runs }
+    }
+
+    /// Returns the head, the bytes and the runs, which represent the buffer. smoltcp has no such call.
+    pub fn into_parts(self) -> (FragmentsHead, B, [Run; N])
+        ensures sound { HasSoundParts result.0 (B.elements result.1) result.2 }
+        ensures state { fragments_of result.0 (B.elements result.1) result.2 ≡ self }
+        ensures runs { length result.2 ≡ N }
+    {
+        let FragmentsOver { head, bytes, runs } = self;
+        (head, bytes, runs)
     }
 
     /// Returns the number of bytes of the buffer: the size of the longest packet that fits.
@@ -93,7 +118,7 @@ impl<B: Storage<u8>, const N: usize> FragmentsOver<B, N> {
     pub fn is_empty(&self) -> bool
         ensures { IsTrue result ↔ (self.now.present ≡ nothing) }
     {
-        self.present.is_empty()
+        self.head.present.is_empty()
     }
 
     /// Returns the moment up to which the packet is waited for. It is not expired at that moment, but at each later
@@ -101,7 +126,7 @@ impl<B: Storage<u8>, const N: usize> FragmentsOver<B, N> {
     pub fn expires_at(&self) -> Instant
         ensures { result ≡ self.now.expires_at }
     {
-        self.expires_at
+        moment_of(&self.head)
     }
 
     /// Adds a fragment, whose first byte is that of the packet at `offset`.
@@ -117,34 +142,43 @@ impl<B: Storage<u8>, const N: usize> FragmentsOver<B, N> {
         ensures refused { IsErr result ↔ ((length self.old.bytes < offset + length «data».now)
             ⊎ MakesTooManyRuns N self.old.present offset (length «data».now)) }
     {
-        let limit = self.bytes.count();
-        if offset > limit || data.len() > limit - offset {
-            return Err(FragmentError::TooLong);
-        }
-        let Ok(()) = self.present.add(offset, data.len()) else {
-            return Err(FragmentError::TooManyHoles);
-        };
-        self.bytes
-            .part_mut(offset, offset + data.len())
-            .copy_from_slice(data);
-        Ok(())
+        let count = self.bytes.count();
+        let bytes = self.bytes.part_mut(0, count);
+        self.head.add(bytes, &mut self.runs, offset, data)
     }
 
-    /// Sets the packet's size to `size` bytes. A size that was set before is replaced; smoltcp
-    /// refuses a second size that differs.
+    /// Sets the packet's size to `size` bytes.
     ///
-    /// It is refused as `TooLong`, and nothing changes, exactly if the buffer has fewer bytes.
+    /// It is refused, and nothing changes, exactly if the buffer has fewer bytes, which is `TooLong`, or
+    /// else if another size is known, which is `OtherSize`.
     pub fn set_total_size(&mut self, size: usize) -> Result<(), FragmentError>
         ensures ok { OnOk result (self.new ≡ record self.old { total = Some size }) }
         ensures unchanged { OnErr result (self.new ≡ self.old) }
         ensures too_long { (result ≡ Err FragmentError.TooLong) ↔ (length self.old.bytes < size) }
-        ensures refused { IsErr result ↔ (length self.old.bytes < size) }
+        ensures other_size { (result ≡ Err FragmentError.OtherSize)
+            ↔ ((size ≤ length self.old.bytes) × DiffersFrom self.old.total size) }
+        ensures refused { IsErr result
+            ↔ ((length self.old.bytes < size) ⊎ DiffersFrom self.old.total size) }
     {
-        if size > self.bytes.count() {
-            return Err(FragmentError::TooLong);
-        }
-        self.total = Some(size);
-        Ok(())
+        self.head.set_total_size(self.bytes.count(), size)
+    }
+
+    /// Returns the packet's size, once it is known. smoltcp has no such call.
+    pub fn total_size(&self) -> Option<usize>
+        ensures { result ≡ self.now.total }
+    {
+        self.head.total_size()
+    }
+
+    /// Returns whether one of the `len` positions from `offset` on has arrived: whether a fragment there
+    /// overlaps bytes that are present. They need not be within the buffer.
+    ///
+    /// It is asked before `add`, by callers who refuse a packet whose fragments overlap (RFC 5722). A
+    /// fragment that arrives twice overlaps too. smoltcp has no such call.
+    pub fn overlaps(&self, offset: usize, len: usize) -> bool
+        ensures { IsTrue result ↔ Meets self.now.present offset len }
+    {
+        self.head.overlaps(&self.runs, offset, len)
     }
 
     /// Shows the bytes of the packet. `None` exactly if its size is not known or one of its bytes
@@ -154,19 +188,17 @@ impl<B: Storage<u8>, const N: usize> FragmentsOver<B, N> {
         ensures bytes { IfSome result
             (λ r. (size : ℕ) × IsComplete self.now size × (r.now ≡ take size self.now.bytes)) }
     {
-        assembler::laws::front();
-        let total = self.total?;
-        if self.present.peek_front() < total {
-            return None;
+        match self.head.complete(&self.runs) {
+            Some(size) => Some(self.bytes.part(0, size)),
+            None => None,
         }
-        Some(self.bytes.part(0, total))
     }
 
     /// Returns whether `now` is after the moment up to which the packet is waited for.
     pub fn is_expired(&self, now: Instant) -> bool
         ensures { IsTrue result ↔ (self.now.expires_at <ℤ now) }
     {
-        self.expires_at < now
+        self.head.is_expired(now.total_micros())
     }
 
     /// Starts over for another packet, which is waited for up to `expires_at`.
@@ -175,8 +207,6 @@ impl<B: Storage<u8>, const N: usize> FragmentsOver<B, N> {
         ensures nothing { (self.new.present ≡ nothing) × (self.new.total ≡ None) }
         ensures expires { self.new.expires_at ≡ expires_at }
     {
-        self.present.clear();
-        self.total = None;
-        self.expires_at = expires_at;
+        self.head.reset(expires_at.total_micros());
     }
 }

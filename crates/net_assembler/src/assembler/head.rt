@@ -45,7 +45,7 @@ pub struct AssemblerHead {
 
 impl AssemblerHead {
     /// Returns the head of an assembler with no position, whatever its runs.
-    pub fn new() -> Self
+    pub const fn new() -> Self
         ensures no_run { result.used ≡ 0 }
         ensures no_start { result.first_start ≡ 0 }
         ensures sound { (runs : List (ℕ × ℕ)) → HasSoundRuns result runs }
@@ -464,6 +464,8 @@ impl AssemblerHead {
         if offset == 0 {
             return Ok(self.complete_front(runs, size, turns));
         }
+        let fits = Self::fits(offset, size);
+        prove!(fits, "the range's end is above `usize::MAX`");
         // Position 0 is missing and stays missing, so nothing is removed. This is the case of most
         // data that arrives too early; one comparison tells it, and that the range doesn't begin
         // before the runs.

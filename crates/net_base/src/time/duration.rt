@@ -39,17 +39,17 @@ impl Duration {
     pub const MAX: Duration = Duration { micros: u64::MAX };
 
     /// Returns a length of so many microseconds.
-    pub fn from_micros(micros: u64) -> Duration
+    pub const fn from_micros(micros: u64) -> Duration
         ensures { result ≡ micros }
     {
         Duration { micros }
     }
 
     /// Returns whether the value fits; precondition of `from_millis`.
-    pub fn fits_millis(millis: u64) -> bool
+    pub const fn fits_millis(millis: u64) -> bool
         ensures { IsTrue result ↔ IsLength (millis * 1_000) }
     {
-        millis.checked_mul(1_000).is_some()
+        matches!(millis.checked_mul(1_000), Some(_))
     }
 
     /// Returns a length of so many milliseconds.
@@ -57,20 +57,22 @@ impl Duration {
     /// # Requires
     ///
     /// So many microseconds fit 64 bits, as `fits_millis` tests.
-    pub fn from_millis(millis: u64) -> Duration
+    pub const fn from_millis(millis: u64) -> Duration
         requires fits_millis { IsLength (millis * 1_000) }
         ensures { result ≡ millis * 1_000 }
     {
+        let fits = Self::fits_millis(millis);
+        prove!(fits, "attempt to multiply with overflow");
         Duration {
             micros: millis * 1_000,
         }
     }
 
     /// Returns whether the value fits; precondition of `from_secs`.
-    pub fn fits_secs(secs: u64) -> bool
+    pub const fn fits_secs(secs: u64) -> bool
         ensures { IsTrue result ↔ IsLength (secs * 1_000_000) }
     {
-        secs.checked_mul(1_000_000).is_some()
+        matches!(secs.checked_mul(1_000_000), Some(_))
     }
 
     /// Returns a length of so many seconds.
@@ -78,45 +80,47 @@ impl Duration {
     /// # Requires
     ///
     /// So many microseconds fit 64 bits, as `fits_secs` tests.
-    pub fn from_secs(secs: u64) -> Duration
+    pub const fn from_secs(secs: u64) -> Duration
         requires fits_secs { IsLength (secs * 1_000_000) }
         ensures { result ≡ secs * 1_000_000 }
     {
+        let fits = Self::fits_secs(secs);
+        prove!(fits, "attempt to multiply with overflow");
         Duration {
             micros: secs * 1_000_000,
         }
     }
 
     /// Returns the whole milliseconds beyond the whole seconds.
-    pub fn millis(&self) -> u64
+    pub const fn millis(&self) -> u64
         ensures { result ≡ length_millis self.now }
     {
         self.micros / 1_000 % 1_000
     }
 
     /// Returns the microseconds beyond the whole seconds.
-    pub fn micros(&self) -> u64
+    pub const fn micros(&self) -> u64
         ensures { result ≡ self.now % 1_000_000 }
     {
         self.micros % 1_000_000
     }
 
     /// Returns the whole seconds.
-    pub fn secs(&self) -> u64
+    pub const fn secs(&self) -> u64
         ensures { result ≡ self.now / 1_000_000 }
     {
         self.micros / 1_000_000
     }
 
     /// Returns the whole milliseconds.
-    pub fn total_millis(&self) -> u64
+    pub const fn total_millis(&self) -> u64
         ensures { result ≡ self.now / 1_000 }
     {
         self.micros / 1_000
     }
 
     /// Returns all of the microseconds.
-    pub fn total_micros(&self) -> u64
+    pub const fn total_micros(&self) -> u64
         ensures { result ≡ self.now }
     {
         self.micros
@@ -139,6 +143,8 @@ impl Duration {
         requires fits_core { IsLength (as_nanos duration / 1_000) }
         ensures { result ≡ as_nanos duration / 1_000 }
     {
+        let fits = Self::fits_core(duration);
+        prove!(fits, "attempt to multiply with overflow");
         Duration {
             micros: duration.as_micros() as u64,
         }
@@ -261,6 +267,8 @@ impl Add for Duration {
     ghost add_gives = { λ d e r. r ≡ d + e };
 
     fn add(self, rhs: Duration) -> Duration {
+        let fits = self.can_add(rhs);
+        prove!(fits, "attempt to add with overflow");
         Duration {
             micros: self.micros + rhs.micros,
         }
@@ -274,6 +282,8 @@ impl AddAssign for Duration {
     ghost add_assign_gives = { λ d e r. r ≡ d + e };
 
     fn add_assign(&mut self, rhs: Duration) {
+        let fits = self.can_add(rhs);
+        prove!(fits, "attempt to add with overflow");
         self.micros += rhs.micros;
     }
 }
@@ -287,6 +297,8 @@ impl Sub for Duration {
     ghost sub_gives = { λ d e r. r ≡ d - e };
 
     fn sub(self, rhs: Duration) -> Duration {
+        let fits = self.can_sub(rhs);
+        prove!(fits, "overflow when subtracting durations");
         Duration {
             micros: self.micros - rhs.micros,
         }
@@ -300,6 +312,8 @@ impl SubAssign for Duration {
     ghost sub_assign_gives = { λ d e r. r ≡ d - e };
 
     fn sub_assign(&mut self, rhs: Duration) {
+        let fits = self.can_sub(rhs);
+        prove!(fits, "overflow when subtracting durations");
         self.micros -= rhs.micros;
     }
 }
@@ -313,6 +327,8 @@ impl Mul<u32> for Duration {
     ghost mul_gives = { λ d k r. r ≡ d * k };
 
     fn mul(self, rhs: u32) -> Duration {
+        let fits = self.can_mul(rhs);
+        prove!(fits, "attempt to multiply with overflow");
         Duration {
             micros: self.micros * u64::from(rhs),
         }
@@ -326,6 +342,8 @@ impl MulAssign<u32> for Duration {
     ghost mul_assign_gives = { λ d k r. r ≡ d * k };
 
     fn mul_assign(&mut self, rhs: u32) {
+        let fits = self.can_mul(rhs);
+        prove!(fits, "attempt to multiply with overflow");
         self.micros *= u64::from(rhs);
     }
 }
@@ -365,6 +383,7 @@ impl Shl<u32> for Duration {
     ghost shl_gives = { λ d k r. r ≡ d * 2 ^ k % 2 ^ 64 };
 
     fn shl(self, rhs: u32) -> Duration {
+        prove!(rhs < 64, "attempt to shift left with overflow");
         Duration {
             micros: self.micros << rhs,
         }
@@ -378,6 +397,7 @@ impl ShlAssign<u32> for Duration {
     ghost shl_assign_gives = { λ d k r. r ≡ d * 2 ^ k % 2 ^ 64 };
 
     fn shl_assign(&mut self, rhs: u32) {
+        prove!(rhs < 64, "attempt to shift left with overflow");
         self.micros <<= rhs;
     }
 }
@@ -391,6 +411,7 @@ impl Shr<u32> for Duration {
     ghost shr_gives = { λ d k r. r ≡ d / 2 ^ k };
 
     fn shr(self, rhs: u32) -> Duration {
+        prove!(rhs < 64, "attempt to shift right with overflow");
         Duration {
             micros: self.micros >> rhs,
         }
@@ -404,6 +425,7 @@ impl ShrAssign<u32> for Duration {
     ghost shr_assign_gives = { λ d k r. r ≡ d / 2 ^ k };
 
     fn shr_assign(&mut self, rhs: u32) {
+        prove!(rhs < 64, "attempt to shift right with overflow");
         self.micros >>= rhs;
     }
 }

@@ -45,17 +45,17 @@ impl Instant {
 
     /// Returns the same as `from_micros`. smoltcp's is a `const fn`, this one isn't: it is here for
     /// code that was written for smoltcp.
-    pub fn from_micros_const(micros: i64) -> Instant
+    pub const fn from_micros_const(micros: i64) -> Instant
         ensures { result ≡ micros }
     {
-        Instant::from_micros(micros)
+        Instant { micros }
     }
 
     /// Returns whether the value fits; precondition of `from_millis`.
-    pub fn fits_millis(millis: i64) -> bool
+    pub const fn fits_millis(millis: i64) -> bool
         ensures { IsTrue result ↔ IsMoment (millis *ℤ pos 1_000) }
     {
-        millis.checked_mul(1_000).is_some()
+        matches!(millis.checked_mul(1_000), Some(_))
     }
 
     /// Returns the moment so many milliseconds after the origin.
@@ -67,6 +67,8 @@ impl Instant {
         requires fits_millis { IsMoment (millis *ℤ pos 1_000) }
         ensures { result ≡ millis *ℤ pos 1_000 }
     {
+        let fits = Self::fits_millis(millis);
+        prove!(fits, "attempt to multiply with overflow");
         Instant {
             micros: millis * 1_000,
         }
@@ -77,18 +79,21 @@ impl Instant {
     /// # Requires
     ///
     /// So many microseconds fit 64 bits with a sign, as `fits_millis` tests.
-    pub fn from_millis_const(millis: i64) -> Instant
+    pub const fn from_millis_const(millis: i64) -> Instant
         requires fits_millis { IsMoment (millis *ℤ pos 1_000) }
         ensures { result ≡ millis *ℤ pos 1_000 }
     {
-        Instant::from_millis(millis)
+        prove!(Self::fits_millis(millis), "attempt to multiply with overflow");
+        Instant {
+            micros: millis * 1_000,
+        }
     }
 
     /// Returns whether the value fits; precondition of `from_secs`.
-    pub fn fits_secs(secs: i64) -> bool
+    pub const fn fits_secs(secs: i64) -> bool
         ensures { IsTrue result ↔ IsMoment (secs *ℤ pos 1_000_000) }
     {
-        secs.checked_mul(1_000_000).is_some()
+        matches!(secs.checked_mul(1_000_000), Some(_))
     }
 
     /// Returns the moment so many seconds after the origin.
@@ -100,41 +105,43 @@ impl Instant {
         requires fits_secs { IsMoment (secs *ℤ pos 1_000_000) }
         ensures { result ≡ secs *ℤ pos 1_000_000 }
     {
+        let fits = Self::fits_secs(secs);
+        prove!(fits, "attempt to multiply with overflow");
         Instant {
             micros: secs * 1_000_000,
         }
     }
 
     /// Returns the whole milliseconds beyond the whole seconds, with the sign of the moment.
-    pub fn millis(&self) -> i64
+    pub const fn millis(&self) -> i64
         ensures { result ≡ moment_millis self.now }
     {
         self.micros() / 1_000
     }
 
     /// Returns the microseconds beyond the whole seconds, with the sign of the moment.
-    pub fn micros(&self) -> i64
+    pub const fn micros(&self) -> i64
         ensures { result ≡ moment_micros self.now }
     {
         self.micros % 1_000_000
     }
 
     /// Returns the whole seconds since the origin.
-    pub fn secs(&self) -> i64
+    pub const fn secs(&self) -> i64
         ensures { result ≡ moment_secs self.now }
     {
         self.micros / 1_000_000
     }
 
     /// Returns the whole milliseconds since the origin.
-    pub fn total_millis(&self) -> i64
+    pub const fn total_millis(&self) -> i64
         ensures { result ≡ int_div self.now (pos 1_000) }
     {
         self.micros / 1_000
     }
 
     /// Returns the microseconds since the origin.
-    pub fn total_micros(&self) -> i64
+    pub const fn total_micros(&self) -> i64
         ensures { result ≡ self.now }
     {
         self.micros
@@ -159,7 +166,7 @@ impl Instant {
         ensures { SomeIff result (IsMoment (self.now +ℤ pos duration)) (self.now +ℤ pos duration) }
     {
         if self.can_add(duration) {
-            Some(*self + duration)
+            Some(self.sum(duration))
         } else {
             None
         }
@@ -170,7 +177,7 @@ impl Instant {
         ensures { SomeIff result (IsMoment (self.now -ℤ pos duration)) (self.now -ℤ pos duration) }
     {
         if self.can_sub(duration) {
-            Some(*self - duration)
+            Some(self.difference(duration))
         } else {
             None
         }
@@ -187,7 +194,7 @@ impl Instant {
         ensures last { (IsMoment (self.now +ℤ pos duration) → ⊥) → result ≡ pos (2 ^ 63 - 1) }
     {
         if self.can_add(duration) {
-            *self + duration
+            self.sum(duration)
         } else {
             Instant::from_micros(i64::MAX)
         }
@@ -199,9 +206,33 @@ impl Instant {
         ensures first { (IsMoment (self.now -ℤ pos duration) → ⊥) → result ≡ negsuc (2 ^ 63 - 1) }
     {
         if self.can_sub(duration) {
-            *self - duration
+            self.difference(duration)
         } else {
             Instant::from_micros(i64::MIN)
+        }
+    }
+
+    /// Returns the moment so much later.
+    fn sum(self, rhs: Duration) -> Instant
+        requires can_add { IsMoment (self +ℤ pos rhs) }
+        ensures { result ≡ self +ℤ pos rhs }
+    {
+        let fits = self.can_add(rhs);
+        prove!(fits, "attempt to add with overflow");
+        Instant {
+            micros: (i128::from(self.micros) + i128::from(rhs.total_micros())) as i64,
+        }
+    }
+
+    /// Returns the moment so much earlier.
+    fn difference(self, rhs: Duration) -> Instant
+        requires can_sub { IsMoment (self -ℤ pos rhs) }
+        ensures { result ≡ self -ℤ pos rhs }
+    {
+        let fits = self.can_sub(rhs);
+        prove!(fits, "attempt to subtract with overflow");
+        Instant {
+            micros: (i128::from(self.micros) - i128::from(rhs.total_micros())) as i64,
         }
     }
 
@@ -235,22 +266,18 @@ impl fmt::Display for Instant {
 impl Add<Duration> for Instant {
     type Output = Instant;
 
-    ghost can_add = { λ i d. IsMoment (i +ℤ pos d) };
-
-    ghost add_gives = { λ i d r. r ≡ i +ℤ pos d };
+    ghost add_gives = { λ i d r. (IsMoment (i +ℤ pos d) → r ≡ i +ℤ pos d) ×
+        ((IsMoment (i +ℤ pos d) → ⊥) → r ≡ pos (2 ^ 63 - 1)) };
 
     fn add(self, rhs: Duration) -> Instant {
-        Instant {
-            micros: (i128::from(self.micros) + i128::from(rhs.total_micros())) as i64,
-        }
+        self.saturating_add(rhs)
     }
 }
 
 /// Moves to the moment so much later. `can_add` tells whether there is one.
 impl AddAssign<Duration> for Instant {
-    ghost can_add_assign = { λ i d. IsMoment (i +ℤ pos d) };
-
-    ghost add_assign_gives = { λ i d r. r ≡ i +ℤ pos d };
+    ghost add_assign_gives = { λ i d r. (IsMoment (i +ℤ pos d) → r ≡ i +ℤ pos d) ×
+        ((IsMoment (i +ℤ pos d) → ⊥) → r ≡ pos (2 ^ 63 - 1)) };
 
     fn add_assign(&mut self, rhs: Duration) {
         *self = *self + rhs;
@@ -261,22 +288,18 @@ impl AddAssign<Duration> for Instant {
 impl Sub<Duration> for Instant {
     type Output = Instant;
 
-    ghost can_sub = { λ i d. IsMoment (i -ℤ pos d) };
-
-    ghost sub_gives = { λ i d r. r ≡ i -ℤ pos d };
+    ghost sub_gives = { λ i d r. (IsMoment (i -ℤ pos d) → r ≡ i -ℤ pos d) ×
+        ((IsMoment (i -ℤ pos d) → ⊥) → r ≡ negsuc (2 ^ 63 - 1)) };
 
     fn sub(self, rhs: Duration) -> Instant {
-        Instant {
-            micros: (i128::from(self.micros) - i128::from(rhs.total_micros())) as i64,
-        }
+        self.saturating_sub(rhs)
     }
 }
 
 /// Moves to the moment so much earlier. `can_sub` tells whether there is one.
 impl SubAssign<Duration> for Instant {
-    ghost can_sub_assign = { λ i d. IsMoment (i -ℤ pos d) };
-
-    ghost sub_assign_gives = { λ i d r. r ≡ i -ℤ pos d };
+    ghost sub_assign_gives = { λ i d r. (IsMoment (i -ℤ pos d) → r ≡ i -ℤ pos d) ×
+        ((IsMoment (i -ℤ pos d) → ⊥) → r ≡ negsuc (2 ^ 63 - 1)) };
 
     fn sub_assign(&mut self, rhs: Duration) {
         *self = *self - rhs;

@@ -16,6 +16,10 @@ enum Step<'a> {
     Resets(i64),
     /// Whether the packet is given up at this moment in microseconds.
     Expires(i64, bool),
+    /// Whether bytes at an offset, of a count, overlap bytes that are present.
+    Overlaps(usize, usize, bool),
+    /// The size, if it is known.
+    Total(Option<usize>),
     /// Whether no packet is begun, and up to which moment in microseconds one is waited for.
     Waits(bool, i64),
 }
@@ -33,6 +37,8 @@ fn does(packet: &mut FragmentsOver<&mut [u8], 2>, step: &Step<'_>) -> bool {
         Step::Expires(micros, expired) => {
             packet.is_expired(Instant::from_micros(*micros)) == *expired
         }
+        Step::Overlaps(offset, count, overlap) => packet.overlaps(*offset, *count) == *overlap,
+        Step::Total(size) => packet.total_size() == *size,
         Step::Waits(empty, micros) => {
             packet.is_empty() == *empty
                 && packet.expires_at() == Instant::from_micros(*micros)
@@ -43,12 +49,18 @@ fn does(packet: &mut FragmentsOver<&mut [u8], 2>, step: &Step<'_>) -> bool {
 
 /// Three fragments arrive out of order, and one of them twice, with other bytes. The next packet never becomes
 /// complete.
-static STEPS: [Step<'static>; 18] = [
+static STEPS: [Step<'static>; 24] = [
     Step::Adds(6, b"gh", None),
     Step::Adds(3, b"??", None),
     Step::Adds(6, b"too long", Some(FragmentError::TooLong)),
     Step::Adds(1, b"b", Some(FragmentError::TooManyHoles)),
+    Step::Total(None),
     Step::Sizes(8, None),
+    Step::Sizes(7, Some(FragmentError::OtherSize)),
+    Step::Total(Some(8)),
+    Step::Overlaps(0, 3, false),
+    Step::Overlaps(0, 4, true),
+    Step::Overlaps(5, 1, false),
     Step::Assembles(None),
     Step::Adds(3, b"def", None),
     Step::Adds(0, b"abc", None),
@@ -68,7 +80,7 @@ static STEPS: [Step<'static>; 18] = [
 fn fragments_in_any_order_make_a_packet(rt: HostRuntime) {
     let mut bytes = [0u8; 8];
     let mut packet = FragmentsOver::<&mut [u8], 2>::new(&mut bytes, Instant::from_micros(30));
-    for index in 0..16usize {
+    for index in 0..STEPS.len() {
         assert_holds(&rt, does(&mut packet, &STEPS[index]), ("step", index));
     }
 }

@@ -20,6 +20,11 @@ fn refuses(bytes: &mut [u8], runs: &mut [Run]) -> bool {
         && head.add(bytes, runs, 7, b"h").is_ok()
         && head.add(bytes, runs, 0, b"a") == Err(FragmentError::TooManyHoles)
         && head.set_total_size(bytes.len(), 9) == Err(FragmentError::TooLong)
+        && head.set_total_size(bytes.len(), 8).is_ok()
+        && head.set_total_size(bytes.len(), 7) == Err(FragmentError::OtherSize)
+        && head.total_size() == Some(8)
+        && head.overlaps(runs, 3, 5)
+        && !head.overlaps(runs, 3, 4)
 }
 
 /// Returns whether a packet is waited for up to a moment, and a longer one after a reset.

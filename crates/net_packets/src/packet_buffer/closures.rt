@@ -7,7 +7,7 @@ ghost use Rattle.net_packets.specs.PacketCalls.{TakesFirstPacket, HandsPacket};
 ghost use Rattle.net_packets.specs.PacketHistory.{contents};
 
 use super::PacketsOver;
-use super::slots::{append, lift_header, put_header, take_slot};
+use super::slots::{lift_header, put_header, write_slots};
 use crate::packet_metadata::PacketMetadata;
 use net_ring::{Empty, Full, Storage};
 
@@ -38,12 +38,14 @@ impl<H: Drop, M: Storage<PacketMetadata<H>>, B: Storage<u8>> PacketsOver<H, M, B
         ensures capacity { (self.new.slot_count ≡ self.old.slot_count)
             × (length self.new.storage ≡ length self.old.storage) }
     {
-        let Some(gap) = self.placement(max_size) else {
+        let slot_count = self.slots.count();
+        let capacity = self.bytes.count();
+        let Some(place) = self.head.place(slot_count, capacity, max_size) else {
             return Err(Full);
         };
-        self.bytes.rewind_if_empty();
-        let count = f(self.bytes.get_unallocated(gap, max_size));
-        append(&mut self.slots, &mut self.bytes, gap, count, header);
+        let count = f(self.bytes.part_mut(place.from, place.from + max_size));
+        self.head.shorten_last(max_size - count);
+        write_slots(&mut self.slots, place, count, header);
         Ok(count)
     }
 
@@ -69,12 +71,23 @@ impl<H: Drop, M: Storage<PacketMetadata<H>>, B: Storage<u8>> PacketsOver<H, M, B
             × (length self.new.storage ≡ length self.old.storage) }
     {
         self.skip();
-        let (size, mut header) = lift_header(&mut self.slots)?;
-        let answer = f(&mut header, self.bytes.get_allocated_mut(0, size));
+        if self.head.slots.length == 0 {
+            return Err(Empty);
+        }
+        let at = self.head.slots.read_at;
+        let Some((size, mut header)) = lift_header(&mut self.slots, at) else {
+            return Err(Empty);
+        };
+        // Called only for its clauses, by which the sum below does not wrap.
+        let _bytes = self.bytes.count();
+        let from = self.head.bytes.read_at;
+        let answer = f(&mut header, self.bytes.part_mut(from, from + size));
         if answer.is_ok() {
-            take_slot(&mut self.slots, &mut self.bytes, size);
+            let slot_count = self.slots.count();
+            let capacity = self.bytes.count();
+            self.head.take(slot_count, capacity, size);
         } else {
-            put_header(&mut self.slots, header);
+            put_header(&mut self.slots, at, size, header);
         }
         Ok(answer)
     }

@@ -20,7 +20,7 @@ use net_ring::Storage;
 pub fn well_placed<H, M: Storage<PacketMetadata<H>>, B: Storage<u8>>(queue: &PacketsOver<H, M, B>)
     ensures { IsWellPlaced queue.now }
 {
-    let _slots = queue.slots.capacity();
+    let _slots = queue.slots.count();
 }
 
 /// States that a queue's contents have as many entries as it has packets, and so none exactly if it

@@ -9,7 +9,7 @@ ghost use Rattle.net_packets.specs.PacketHistory.{contents, with_bytes_in_last_e
 ghost use Rattle.net_packets.specs.PacketHistory.{Place, WriteLast, Enqueue};
 
 use super::PacketsOver;
-use super::slots::append;
+use super::slots::write_slots;
 use crate::packet_metadata::PacketMetadata;
 use net_ring::{Full, Storage};
 
@@ -42,10 +42,12 @@ impl<H: Drop, M: Storage<PacketMetadata<H>>, B: Storage<u8>> PacketsOver<H, M, B
             × (length self.new.storage ≡ length self.old.storage) }
         ensures call { OnOk result (Makes (Place header (last_bytes self.new)) self.old self.new) }
     {
-        let Some(gap) = self.placement(size) else {
+        let slot_count = self.slots.count();
+        let capacity = self.bytes.count();
+        let Some(place) = self.head.place(slot_count, capacity, size) else {
             return Err(Full);
         };
-        self.push(gap, size, header);
+        write_slots(&mut self.slots, place, size, header);
         Ok(())
     }
 
@@ -91,15 +93,6 @@ impl<H: Drop, M: Storage<PacketMetadata<H>>, B: Storage<u8>> PacketsOver<H, M, B
         Ok(self.last_part_mut(size))
     }
 
-    /// Appends a packet after a gap of `gap` bytes.
-    fn push(&mut self, gap: usize, size: usize, header: H)
-        requires { placement self.old size ≡ Some gap }
-        ensures { self.new ≡ with_packet self.old gap size header }
-    {
-        self.bytes.rewind_if_empty();
-        append(&mut self.slots, &mut self.bytes, gap, size, header);
-    }
-
     /// Lends the last `size` bytes, which are those of the last packet.
     pub(super) fn last_part_mut(&mut self, size: usize) -> &mut [u8]
         requires { size ≡ first_size (only_last self.old.packets) }
@@ -108,7 +101,8 @@ impl<H: Drop, M: Storage<PacketMetadata<H>>, B: Storage<u8>> PacketsOver<H, M, B
         ensures value { result.now ≡ last_bytes self.old }
         ensures size { length result.now ≡ first_size (only_last self.old.packets) }
     {
-        let before = self.bytes.len() - size;
-        self.bytes.get_allocated_mut(before, size)
+        let before = self.head.bytes.length - size;
+        let from = self.head.bytes.index(self.bytes.count(), before);
+        self.bytes.part_mut(from, from + size)
     }
 }

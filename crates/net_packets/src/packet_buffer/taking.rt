@@ -1,15 +1,15 @@
 //! The first packet, shown and taken off.
 ghost use Rattle.std.specs.Prelude.{◌≡◌, ◌↔◌, ◌∷◌, [], ℕ, List, IsErr, IfOk, OnErr, OnOk, length};
-ghost use Rattle.std.specs.Prelude.{drop};
+ghost use Rattle.std.specs.Prelude.{drop, IsNone, IfSome};
 ghost use Rattle.std.specs.Borrow.{sem};
 ghost use Rattle.net_packets.specs.Packets.{without_gap, first_gap, first_bytes, IsFirstSized, IsFirst};
-ghost use Rattle.net_packets.specs.Packets.{without_first_and_gap, with_bytes, AreLastDequeued};
+ghost use Rattle.net_packets.specs.Packets.{without_first, without_first_and_gap, with_bytes, AreLastDequeued};
 ghost use Rattle.net_packets.specs.Packets.{last_dequeued_bytes_index, last_dequeued_bytes};
 ghost use Rattle.net_packets.specs.Packets.{AreLastDequeuedAt};
 ghost use Rattle.net_packets.specs.PacketHistory.{contents, Makes, Peek, Take, WriteLastDequeued, Dequeue};
 
 use super::PacketsOver;
-use super::slots::{lift_header, take_slot};
+use super::slots::lift_header;
 use crate::packet_metadata::PacketMetadata;
 use net_ring::{Empty, Storage};
 
@@ -71,8 +71,9 @@ impl<H: Drop, M: Storage<PacketMetadata<H>>, B: Storage<u8>> PacketsOver<H, M, B
             (λ r. Makes (Take r.0 (last_dequeued_bytes self.new r.1)) self.old self.new) }
     {
         self.skip();
-        let (size, header) = lift_header(&mut self.slots)?;
-        take_slot(&mut self.slots, &mut self.bytes, size);
+        let Some((header, size)) = self.take_first() else {
+            return Err(Empty);
+        };
         Ok((header, size))
     }
 
@@ -96,7 +97,8 @@ impl<H: Drop, M: Storage<PacketMetadata<H>>, B: Storage<u8>> PacketsOver<H, M, B
         ensures call { (ws : List ℕ) → length ws ≡ size → Makes (WriteLastDequeued ws) self.old
             (with_bytes self.old (last_dequeued_bytes_index self.old size) ws) }
     {
-        self.bytes.last_dequeued_mut(size)
+        let from = self.head.bytes.last_dequeued_index(self.bytes.count(), size);
+        self.bytes.part_mut(from, from + size)
     }
 
     /// Takes the first packet and its gap off, returns its header and lends its bytes.
@@ -124,6 +126,29 @@ impl<H: Drop, M: Storage<PacketMetadata<H>>, B: Storage<u8>> PacketsOver<H, M, B
     }
 }
 
+/// A step of `take`.
+impl<H: Drop, M: Storage<PacketMetadata<H>>, B: Storage<u8>> PacketsOver<H, M, B> {
+    /// Takes the first packet, which has no gap before it, off, and returns its header and size.
+    fn take_first(&mut self) -> Option<(H, usize)>
+        requires { first_gap self.old.packets ≡ 0 }
+        ensures none { IsNone result ↔ (length self.old.packets ≡ 0) }
+        ensures unchanged { IsNone result → self.new ≡ self.old }
+        ensures first { IfSome result (λ r. IsFirstSized self.old.packets r.0 r.1) }
+        ensures left { IfSome result (λ r. self.new ≡ without_first self.old) }
+    {
+        if self.head.slots.length == 0 {
+            return None;
+        }
+        let Some((size, header)) = lift_header(&mut self.slots, self.head.slots.read_at) else {
+            return None;
+        };
+        let slot_count = self.slots.count();
+        let capacity = self.bytes.count();
+        self.head.take(slot_count, capacity, size);
+        Some((header, size))
+    }
+}
+
 /// A step of `peek`.
 impl<H, M: Storage<PacketMetadata<H>>, B: Storage<u8>> PacketsOver<H, M, B> {
     /// Returns the first packet, which has no gap before it.
@@ -133,11 +158,15 @@ impl<H, M: Storage<PacketMetadata<H>>, B: Storage<u8>> PacketsOver<H, M, B> {
         ensures first { IfOk result (λ r. IsFirstSized self.now.packets r.0.now (length r.1.now)) }
         ensures bytes { IfOk result (λ r. r.1.now ≡ first_bytes self.now) }
     {
-        let Some(slot) = self.slots.head().first() else {
+        if self.head.slots.length == 0 {
             return Err(Empty);
-        };
+        }
+        // Called only for its clauses, by which the sum below does not wrap.
+        let _capacity = self.bytes.count();
+        let slot = self.slots.element(self.head.slots.read_at);
+        let from = self.head.bytes.read_at;
         match &slot.header {
-            Some(header) => Ok((header, self.bytes.get_allocated(0, slot.size))),
+            Some(header) => Ok((header, self.bytes.part(from, from + slot.size))),
             None => Err(Empty),
         }
     }

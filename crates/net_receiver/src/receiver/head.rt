@@ -47,7 +47,7 @@ pub struct ReceiverHead {
 impl ReceiverHead {
     /// Returns the head of a receiver of a stream that begins at position `first`; nothing is read,
     /// queued or held. It is sound with every storage and all runs.
-    pub fn new(first: u64) -> Self
+    pub const fn new(first: u64) -> Self
         ensures sound { (storage : List ℕ) (runs : List (ℕ × ℕ)) →
             HasSoundParts result storage runs }
         ensures state { (storage : List ℕ) (runs : List (ℕ × ℕ)) →
@@ -112,7 +112,7 @@ impl ReceiverHead {
     }
 
     /// Returns whether the offset of each held byte is above 0 and below `limit`.
-    fn is_held_below(&self, limit: u64, runs: &[Run]) -> bool
+    pub(super) fn is_held_below(&self, limit: u64, runs: &[Run]) -> bool
         requires { HasSoundRuns self.now.held runs.now }
         ensures { IsTrue result ↔ ((p : ℕ) →
             IsTrue (contains (set_of self.now.held runs.now) p) → (0 < p) × (p < limit)) }

@@ -133,7 +133,10 @@ impl<S: Storage<u8>, const N: usize> ReceiverOver<S, N> {
             take result.0 self.old.queue
             ≡ slice_range x self.old.read (self.old.read + result.0) }
     {
-        let answer = f(self.first_slice());
+        let part = self.first_slice();
+        let lent = part.len();
+        let answer = f(part);
+        prove!(answer.0 <= lent, "more bytes than were lent");
         self.head.remove(self.storage.count(), answer.0);
         answer
     }

@@ -32,7 +32,7 @@ pub struct SenderHead {
 impl SenderHead {
     /// Returns the head of a sender of a stream that begins at position `first`, to which nothing
     /// was written. It is sound for every storage.
-    pub fn new(first: u64) -> Self
+    pub const fn new(first: u64) -> Self
         ensures sound { (capacity : ℕ) → IsSoundHead capacity result }
         ensures state { (storage : List ℕ) (blocks : List (ℕ × ℕ)) → sender_of result storage blocks
             ≡ sender_state (length storage) first [] blocks (first + length storage) }
@@ -152,7 +152,7 @@ impl SenderHead {
                 contiguous: 0,
             };
         }
-        let offset = (pos - self.first_unacknowledged) as usize;
+        let offset = (pos - self.first_unacknowledged).min(usize::MAX as u64) as usize;
         self.place.allocated(capacity, offset, max)
     }
 

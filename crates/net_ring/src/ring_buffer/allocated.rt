@@ -144,6 +144,7 @@ impl<T, S: Storage<T>> RingOver<T, S> {
         ensures room { window self.new ≡ window self.old + count }
         ensures call { Makes (Dequeue (take count (queue self.old))) self.old self.new }
     {
+        prove!(count <= self.place.length, "fewer elements are queued");
         self.place.dequeue(self.storage.count(), count);
     }
 }

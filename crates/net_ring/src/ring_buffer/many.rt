@@ -40,6 +40,7 @@ impl<T, S: Storage<T>> RingOver<T, S> {
         let from = self.place.index(capacity, self.place.length);
         let to = from + self.place.contiguous_window(capacity);
         let answer = f(self.storage.part_mut(from, to));
+        prove!(answer.0 <= to - from, "more elements than were lent");
         self.place.enqueue(capacity, answer.0);
         answer
     }
@@ -95,6 +96,7 @@ impl<T, S: Storage<T>> RingOver<T, S> {
         let from = self.place.read_at;
         let to = from + self.place.contiguous_queue(capacity);
         let answer = f(self.storage.part_mut(from, to));
+        prove!(answer.0 <= to - from, "more elements than were lent");
         self.place.dequeue_contiguous(capacity, answer.0);
         answer
     }

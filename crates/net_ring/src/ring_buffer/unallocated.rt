@@ -106,6 +106,8 @@ impl<T, S: Storage<T>> RingOver<T, S> {
         ensures of_spare { spare self.new ≡ drop count (spare self.old) }
         ensures call { Makes (EnqueueUnallocated (take count (spare self.old))) self.old self.new }
     {
+        let window = self.window();
+        prove!(count <= window, "no room for so many elements");
         self.place.enqueue(self.storage.count(), count);
     }
 }

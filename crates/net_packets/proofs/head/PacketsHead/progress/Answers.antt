@@ -1,5 +1,5 @@
-use Rattle.std.proofs.Common.{arith, ◌-◌}
-use Rattle.net_packets.proofs.HeadQueue.{follows, next_packet, next_gap}
+use Rattle.std.proofs.Common.{arith}
+use Rattle.net_packets.proofs.HeadQueue.{follows}
 use Rattle.net_packets.proofs.head.PacketsHead.progress.Goals as goal
 
 pub returns-then-slot-self-clause-none : goal.returns-then-slot-self-clause-none

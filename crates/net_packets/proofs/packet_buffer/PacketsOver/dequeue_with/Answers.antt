@@ -1,68 +1,92 @@
-use Rattle.std.proofs.Common.{◌≡◌, ◌∷◌, refl, sym, ap, ◌∙◌, subst, is_ok, length, drop, rules}
-use Rattle.std.specs.declared.option.Option.TheVariants.{Some, None}
-use Rattle.net_ring.specs.Ring.{capacity, queue_index, IsWellFormed}
-use Rattle.net_packets.specs.Packets.{IsFirst, after_hand_out, without_gap}
+use Rattle.std.proofs.Common.{◌≡◌, [], ◌∷◌, List, ℕ, refl, sym, ap, ap₂, ◌∙◌, subst, is_ok, length, set, rules, arith}
+use Rattle.std.proofs.lemmas.Bool.{false≢true}
+use Rattle.std.proofs.lemmas.List.{length-set}
+use Rattle.std.specs.declared.option.Option.TheVariants.{Some}
+use Rattle.net_ring.specs.RingHead.{IsSound}
+use Rattle.net_ring.proofs.Rotations.{length-overwrite}
+use Rattle.net_packets.specs.Packets.{Packet, IsFirst, after_hand_out, first_gap, without_gap, without_first_gap}
+use Rattle.net_packets.specs.PacketsHead.{with_slot_taken}
 use Rattle.net_packets.specs.PacketHistory.{contents}
 use Rattle.net_packets.specs.PacketSlots.{slot}
-use Rattle.net_ring.proofs.Rotations.{length-overwrite}
-use Rattle.net_packets.proofs.PacketFacts.{off_wf}
+use Rattle.net_packets.proofs.HeadParts.{parts_some, parts_has_header, parts_first_fits, parts_first_in, parts_first_sized, parts_first_bytes, handed_gone, handed_back, set_again}
 use Rattle.net_packets.proofs.PacketOrder as order
 use Rattle.net_packets.proofs.PacketRuns.{handed_contents, dequeue_with_call, none_of}
-use Rattle.net_packets.proofs.PacketSteps.{close_gap, close_first, first_shown, off_left, on_left}
+use Rattle.net_packets.proofs.PacketSteps.{close_gap, close_first}
 use Rattle.net_packets.proofs.packet_buffer.PacketsOver.dequeue_with.Goals as goal
 use Rattle.net_packets.proofs.packet_buffer.PacketsOver.dequeue_with.Goals.{then-is_ok, else-is_ok}
 
+-- as many packets are left without the gap
+gapless : {H : Type 0} (ps : List (Packet H)) → length (without_first_gap ps) ≡ length ps
+gapless [] = refl
+gapless (p ∷ ps) = refl
+
+pub returns-then-self-eq0-clause-empty : goal.returns-then-self-eq0-clause-empty
+returns-then-self-eq0-clause-empty g c = none_of c.args.self.now (search rules)
+
+pub invariant_of-self : goal.invariant_of-self
+invariant_of-self g c = absurd (parts_has_header _ _ _ c.self.invariant (ap (λ o. first_gap o.packets) (c.self.view_is ∙ c.skip.ensures.skipped) ∙ (close_gap c.args.self.now.packets)) (omega (arith, c.if-self-eq0.false)) (c.in_default.ensures.none refl))
+
+pub returns-in_default-clause-empty : goal.returns-in_default-clause-empty
+returns-in_default-clause-empty g c = absurd (parts_has_header _ _ _ c.self.invariant (ap (λ o. first_gap o.packets) (c.self.view_is ∙ c.skip.ensures.skipped) ∙ (close_gap c.args.self.now.packets)) (omega (arith, c.if-self-eq0.false)) (c.in_default.ensures.none refl))
+
+pub returns-in_default-clause-no_packet : goal.returns-in_default-clause-no_packet
+returns-in_default-clause-no_packet g c = absurd (parts_has_header _ _ _ c.self.invariant (ap (λ o. first_gap o.packets) (c.self.view_is ∙ c.skip.ensures.skipped) ∙ (close_gap c.args.self.now.packets)) (omega (arith, c.if-self-eq0.false)) (c.in_default.ensures.none refl))
+
+pub returns-in_default-clause-unchanged : goal.returns-in_default-clause-unchanged
+returns-in_default-clause-unchanged g c = absurd (parts_has_header _ _ _ c.self.invariant (ap (λ o. first_gap o.packets) (c.self.view_is ∙ c.skip.ensures.skipped) ∙ (close_gap c.args.self.now.packets)) (omega (arith, c.if-self-eq0.false)) (c.in_default.ensures.none refl))
+
+pub returns-in_default-clause-capacity : goal.returns-in_default-clause-capacity
+returns-in_default-clause-capacity g c = absurd (parts_has_header _ _ _ c.self.invariant (ap (λ o. first_gap o.packets) (c.self.view_is ∙ c.skip.ensures.skipped) ∙ (close_gap c.args.self.now.packets)) (omega (arith, c.if-self-eq0.false)) (c.in_default.ensures.none refl))
+
+pub overflow_add-from : goal.overflow_add-from
+overflow_add-from g c =
+    let fits = parts_first_fits _ _ _ c.self.invariant (ap (λ o. first_gap o.packets) (c.self.view_is ∙ c.skip.ensures.skipped) ∙ (close_gap c.args.self.now.packets)) c.in-Some.size c.in-Some.header (omega (arith, c.if-self-eq0.false)) c.in-Some.ensures.some in
+    omega (arith, fits, c.count-bytes.ensures, c.count-bytes.type_inv)
+
+pub part_mut-requires : goal.part_mut-requires
+part_mut-requires g c = let fits = parts_first_fits _ _ _ c.self.invariant (ap (λ o. first_gap o.packets) (c.self.view_is ∙ c.skip.ensures.skipped) ∙ (close_gap c.args.self.now.packets)) c.in-Some.size c.in-Some.header (omega (arith, c.if-self-eq0.false)) c.in-Some.ensures.some in record { count = (omega arith, omega (arith, fits)) }
+
+pub f-answer-requires : goal.f-answer-requires
+f-answer-requires g c =
+    let first : IsFirst c.args.self.now c.in-Some.header c.part_mut.result.now = (close_first c.args.self.now.packets c.in-Some.header (length c.part_mut.result.now) (parts_first_sized _ _ _ c.self.invariant (ap (λ o. first_gap o.packets) (c.self.view_is ∙ c.skip.ensures.skipped) ∙ (close_gap c.args.self.now.packets)) c.in-Some.size c.in-Some.header (omega (arith, c.if-self-eq0.false)) c.in-Some.ensures.some c.part_mut.result.now c.part_mut.ensures.value (without_gap c.args.self.now) (c.self.view_is ∙ c.skip.ensures.skipped)), parts_first_bytes _ _ _ c.self.invariant (ap (λ o. first_gap o.packets) (c.self.view_is ∙ c.skip.ensures.skipped) ∙ (close_gap c.args.self.now.packets)) c.in-Some.size c.in-Some.header (omega (arith, c.if-self-eq0.false)) c.in-Some.ensures.some c.part_mut.result.now c.part_mut.ensures.value (without_gap c.args.self.now) (c.self.view_is ∙ c.skip.ensures.skipped)) in
+    let callable = c.requires c.in-Some.header c.part_mut.result.now first in
+    search (rules, callable)
+
+pub take-requires-clause-sound : goal.take-requires-clause-sound
+take-requires-clause-sound g c =
+    (subst (λ (n : ℕ). IsSound n c.self.inside.head.slots) (sym (c.count-slot_count.ensures ∙ ap length c.in-Some.ensures.left ∙ length-set _ _ _)) c.self.invariant.0,
+    subst (λ (n : ℕ). IsSound n c.self.inside.head.bytes) (sym (c.count-capacity.ensures ∙ ap length (g.met.B.Storage.part_written c.self.inside.bytes c.self.inside.head.bytes.read_at c.f-answer.new.arg3) ∙ length-overwrite _ c.self.inside.head.bytes.read_at c.f-answer.new.arg3)) c.self.invariant.1)
+
+pub take-requires-clause-size : goal.take-requires-clause-size
+take-requires-clause-size g c = parts_first_in _ _ _ c.self.invariant (ap (λ o. first_gap o.packets) (c.self.view_is ∙ c.skip.ensures.skipped) ∙ (close_gap c.args.self.now.packets)) c.in-Some.size c.in-Some.header (omega (arith, c.if-self-eq0.false)) c.in-Some.ensures.some
+
 pub invariant_of-self-then-is_ok : goal.invariant_of-self-then-is_ok
-invariant_of-self-then-is_ok g c =
-    let lifted = c.in_ok-size.ensures.left in
-    let wfm = subst IsWellFormed (sym c.take_slot.ensures.slots) (off_wf c.lift_header.new.slots _ _ lifted.1 lifted.0) in
-    (off_left _ _ c.self.invariant _ (c.self.view_is ∙ c.skip.ensures.skipped) (close_gap c.args.self.now.packets) c.in_ok-size.size c.in_ok-size.header
-    c.in_ok-size.ensures.first c.take_slot.new.slots wfm c.take_slot.new.bytes c.f-answer.new.arg3 c.f-answer.new.arg2
-    (c.take_slot.ensures.queue ∙ ap (drop 1) lifted.0) c.take_slot.ensures.bytes).0
+invariant_of-self-then-is_ok g c = (handed_gone _ _ _ c.self.invariant (without_gap c.args.self.now) (c.self.view_is ∙ c.skip.ensures.skipped) (close_gap c.args.self.now.packets) c.in-Some.size c.in-Some.header (omega (arith, c.if-self-eq0.false)) c.in-Some.ensures.some c.f-answer.new.arg3 c.f-answer.new.arg2 _ (g.met.B.Storage.part_written c.self.inside.bytes c.self.inside.head.bytes.read_at c.f-answer.new.arg3) _ c.in-Some.ensures.left _ (c.take.ensures.taken ∙ ap₂ (λ (n k : ℕ). with_slot_taken n k c.in-Some.size c.self.inside.head) (c.count-slot_count.ensures ∙ ap length c.in-Some.ensures.left ∙ length-set _ _ _) (c.count-capacity.ensures ∙ ap length (g.met.B.Storage.part_written c.self.inside.bytes c.self.inside.head.bytes.read_at c.f-answer.new.arg3) ∙ length-overwrite _ c.self.inside.head.bytes.read_at c.f-answer.new.arg3))).0
 
 pub invariant_of-self-else-is_ok : goal.invariant_of-self-else-is_ok
-invariant_of-self-else-is_ok g c =
-    let lifted = c.in_ok-size.ensures.left in
-    let size = c.in_ok-size.size in
-    let rest = ap (drop 1) lifted.0 in
-    let em = c.put_header.ensures.queue size None (lifted.0 ∙ ap (λ l. slot size None ∷ l) (sym rest))
-    ∙ ap (λ l. slot size (Some c.f-answer.new.arg2) ∷ l) rest in
-    (on_left _ _ c.self.invariant _ (c.self.view_is ∙ c.skip.ensures.skipped) (close_gap c.args.self.now.packets) size c.in_ok-size.header
-    c.in_ok-size.ensures.first c.put_header.new.slots c.put_header.ensures.well_formed _ c.f-answer.new.arg3 c.f-answer.new.arg2 em refl).0
+invariant_of-self-else-is_ok g c = (handed_back _ _ _ c.self.invariant (without_gap c.args.self.now) (c.self.view_is ∙ c.skip.ensures.skipped) (close_gap c.args.self.now.packets) c.in-Some.size c.in-Some.header (omega (arith, c.if-self-eq0.false)) c.in-Some.ensures.some c.f-answer.new.arg3 c.f-answer.new.arg2 _ (g.met.B.Storage.part_written c.self.inside.bytes c.self.inside.head.bytes.read_at c.f-answer.new.arg3) _ (c.put_header.ensures ∙ ap (λ l. set l c.self.inside.head.slots.read_at (slot c.in-Some.size (Some c.f-answer.new.arg2))) c.in-Some.ensures.left ∙ set_again _ c.self.inside.head.slots.read_at _ _)).0
+
+pub returns-clause-no_packet : goal.returns-clause-no_packet
+returns-clause-no_packet g c =
+    (λ e. absurd (false≢true e), λ zero. absurd (parts_some _ _ _ c.self.invariant (omega (arith, c.if-self-eq0.false)) (ap (λ o. length o.packets) (c.self.view_is ∙ c.skip.ensures.skipped) ∙ gapless _ ∙ zero)))
+
+pub returns-clause-empty : goal.returns-clause-empty
+returns-clause-empty g c = none_of c.args.self.now (returns-clause-no_packet g c)
 
 pub returns-clause-handed : goal.returns-clause-handed
 returns-clause-handed g c =
-    let m = c.self.inside.slots in
-    let bytes = c.self.inside.bytes in
-    let is = c.self.view_is ∙ c.skip.ensures.skipped in
-    let z = close_gap c.args.self.now.packets in
-    let at = c.in_ok-size.ensures.first in
-    let lifted = c.in_ok-size.ensures.left in
-    let rest = ap (drop 1) lifted.0 in
-    let size = c.in_ok-size.size in
-    let hd = c.in_ok-size.header in
-    let now = c.get_allocated_mut.result.now in
+    let q = c.args.self.now in
+    let hd = c.in-Some.header in
+    let now = c.part_mut.result.now in
     let new = c.f-answer.new.arg2 in
     let ws = c.f-answer.new.arg3 in
     let answer = c.f-answer.result in
-    let q = c.args.self.now in
     let ok = c.skip.ensures.well_placed in
-    let first = first_shown m bytes c.self.invariant (without_gap q) is z size hd at now
-    c.get_allocated_mut.ensures.count c.get_allocated_mut.ensures.stored in
-    let before : IsFirst q hd now = (close_first q.packets hd (length now) first.0, first.1) in
+    let before : IsFirst q hd now = (close_first c.args.self.now.packets c.in-Some.header (length c.part_mut.result.now) (parts_first_sized _ _ _ c.self.invariant (ap (λ o. first_gap o.packets) (c.self.view_is ∙ c.skip.ensures.skipped) ∙ (close_gap c.args.self.now.packets)) c.in-Some.size c.in-Some.header (omega (arith, c.if-self-eq0.false)) c.in-Some.ensures.some c.part_mut.result.now c.part_mut.ensures.value (without_gap c.args.self.now) (c.self.view_is ∙ c.skip.ensures.skipped)), parts_first_bytes _ _ _ c.self.invariant (ap (λ o. first_gap o.packets) (c.self.view_is ∙ c.skip.ensures.skipped) ∙ (close_gap c.args.self.now.packets)) c.in-Some.size c.in-Some.header (omega (arith, c.if-self-eq0.false)) c.in-Some.ensures.some c.part_mut.result.now c.part_mut.ensures.value (without_gap c.args.self.now) (c.self.view_is ∙ c.skip.ensures.skipped)) in
     let long : length ws ≡ length now = c.f-answer.auto.arg3 in
-    let slots = lifted.2 ∙ ap (λ q. q.slot_count) is in
     let made : c.if-is_ok.self ≡ after_hand_out (is_ok answer) q new ws = elim c.if-is_ok.branch [
-      | then-is_ok w ↦
-          let wfm = subst IsWellFormed (sym w.take_slot.ensures.slots) (off_wf c.lift_header.new.slots _ _ lifted.1 lifted.0) in
-          w.self-is ∙ (off_left m bytes c.self.invariant (without_gap q) is z size hd at w.take_slot.new.slots wfm w.take_slot.new.bytes ws new
-          (w.take_slot.ensures.queue ∙ rest) w.take_slot.ensures.bytes).1 (ap capacity w.take_slot.ensures.slots ∙ slots)
-          ∙ ap (λ t. after_hand_out t q new ws) w.if-is_ok.ensures.value
-      | else-is_ok w ↦
-          let em = w.put_header.ensures.queue size None (lifted.0 ∙ ap (λ l. slot size None ∷ l) (sym rest)) ∙ ap (λ l. slot size (Some new) ∷ l) rest in
-          w.self-is
-          ∙ (on_left m bytes c.self.invariant (without_gap q) is z size hd at w.put_header.new.slots w.put_header.ensures.well_formed _ ws new em refl).1
-          (w.put_header.ensures.capacity ∙ slots) ∙ ap (λ t. after_hand_out t q new ws) w.if-is_ok.ensures.value
+      | then-is_ok w ↦ w.self-is ∙ (handed_gone _ _ _ c.self.invariant (without_gap c.args.self.now) (c.self.view_is ∙ c.skip.ensures.skipped) (close_gap c.args.self.now.packets) c.in-Some.size c.in-Some.header (omega (arith, c.if-self-eq0.false)) c.in-Some.ensures.some c.f-answer.new.arg3 c.f-answer.new.arg2 _ (g.met.B.Storage.part_written c.self.inside.bytes c.self.inside.head.bytes.read_at c.f-answer.new.arg3) _ c.in-Some.ensures.left _ (w.take.ensures.taken ∙ ap₂ (λ (n k : ℕ). with_slot_taken n k c.in-Some.size c.self.inside.head) (w.count-slot_count.ensures ∙ ap length c.in-Some.ensures.left ∙ length-set _ _ _) (w.count-capacity.ensures ∙ ap length (g.met.B.Storage.part_written c.self.inside.bytes c.self.inside.head.bytes.read_at c.f-answer.new.arg3) ∙ length-overwrite _ c.self.inside.head.bytes.read_at c.f-answer.new.arg3))).1 ∙ ap (λ t. after_hand_out t q new ws) w.if-is_ok.ensures.value
+      | else-is_ok w ↦ w.self-is ∙ (handed_back _ _ _ c.self.invariant (without_gap c.args.self.now) (c.self.view_is ∙ c.skip.ensures.skipped) (close_gap c.args.self.now.packets) c.in-Some.size c.in-Some.header (omega (arith, c.if-self-eq0.false)) c.in-Some.ensures.some c.f-answer.new.arg3 c.f-answer.new.arg2 _ (g.met.B.Storage.part_written c.self.inside.bytes c.self.inside.head.bytes.read_at c.f-answer.new.arg3) _ (w.put_header.ensures ∙ ap (λ l. set l c.self.inside.head.slots.read_at (slot c.in-Some.size (Some c.f-answer.new.arg2))) c.in-Some.ensures.left ∙ set_again _ c.self.inside.head.slots.read_at _ _)).1 ∙ ap (λ t. after_hand_out t q new ws) w.if-is_ok.ensures.value
     ] in
     record {
       header = hd;
@@ -80,23 +104,15 @@ returns-clause-handed g c =
 
 pub returns-clause-capacity : goal.returns-clause-capacity
 returns-clause-capacity g c =
-    let bytes = c.self.inside.bytes in
-    let is = c.self.view_is ∙ c.skip.ensures.skipped in
-    let slots = c.in_ok-size.ensures.left.2 ∙ ap (λ q. q.slot_count) is in
-    let stored = length-overwrite bytes.storage (queue_index bytes 0) c.f-answer.new.arg3 ∙ ap (λ q. length q.storage) is in
+    let stored = ap length (g.met.B.Storage.part_written c.self.inside.bytes c.self.inside.head.bytes.read_at c.f-answer.new.arg3) ∙ length-overwrite _ c.self.inside.head.bytes.read_at c.f-answer.new.arg3 ∙ ap (λ q. length q.storage) (c.self.view_is ∙ c.skip.ensures.skipped) in
     elim c.if-is_ok.branch [
       | then-is_ok w ↦ (
-        ap (λ q. q.slot_count) w.self-is ∙ ap capacity w.take_slot.ensures.slots ∙ slots,
-        ap (λ q. length q.storage) w.self-is ∙ ap (λ o. length o.storage) w.take_slot.ensures.bytes ∙ stored,
+        ap (λ q. q.slot_count) w.self-is ∙ ap length c.in-Some.ensures.left ∙ length-set _ _ _ ∙ ap (λ q. q.slot_count) (c.self.view_is ∙ c.skip.ensures.skipped),
+        ap (λ q. length q.storage) w.self-is ∙ stored,
       )
       | else-is_ok w ↦ (
-        ap (λ q. q.slot_count) w.self-is ∙ w.put_header.ensures.capacity ∙ slots,
+        ap (λ q. q.slot_count) w.self-is ∙ ap length w.put_header.ensures ∙ length-set _ _ _ ∙ ap length c.in-Some.ensures.left ∙ length-set _ _ _
+        ∙ ap (λ q. q.slot_count) (c.self.view_is ∙ c.skip.ensures.skipped),
         ap (λ q. length q.storage) w.self-is ∙ stored,
       )
     ]
-
-pub returns-in_err-size-clause-empty : goal.returns-in_err-size-clause-empty
-returns-in_err-size-clause-empty g c = none_of c.args.self.now (search rules)
-
-pub returns-clause-empty : goal.returns-clause-empty
-returns-clause-empty g c = none_of c.args.self.now (search rules)

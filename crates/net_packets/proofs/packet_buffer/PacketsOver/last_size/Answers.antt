@@ -1,21 +1,18 @@
-use Rattle.std.proofs.Common.{arith}
-use Rattle.net_packets.proofs.PacketSteps.{end_is, well_placed}
+use Rattle.std.proofs.Common.{sym, ap, ◌∙◌, ◌-◌, arith}
+use Rattle.std.specs.List.{slice_get}
+use Rattle.net_ring.specs.Ring.{index_after}
+use Rattle.net_packets.specs.Packets.{first_size, only_last}
+use Rattle.net_packets.proofs.PacketSteps.{well_placed}
+use Rattle.net_packets.proofs.HeadParts.{parts_last}
 use Rattle.net_packets.proofs.packet_buffer.PacketsOver.last_size.Goals as goal
 
-pub returns-in-Some-clause-size : goal.returns-in-Some-clause-size
-returns-in-Some-clause-size g c =
-    let s = c.saturating_sub.ensures in
-    (end_is _ _ c.self.invariant _ c.self.view_is c.saturating_sub.result (omega (arith, c.len-used.ensures.count, s)) c.get_allocated.result.now
-    c.get_allocated.ensures.count c.get_allocated.ensures.value).0 c.in-Some.slot.now c.in-Some.ensures.value
+pub returns-clause-size : goal.returns-clause-size
+returns-clause-size g c =
+    let h = c.self.inside.head.slots in
+    let at = c.index-last.ensures.index ∙ ap (λ n. index_after n h.read_at (h.length - 1)) c.count.ensures in
+    parts_last _ _ _ c.self.invariant c.element.result.now (omega (arith, c.if-self-eq0.false))
+    (ap (slice_get (g.M.Storage.elements c.self.inside.slots)) (sym at) ∙ c.element.ensures)
+    ∙ ap (λ q. first_size (only_last q.packets)) c.self.view_is
 
-pub returns-in-None-clause-size : goal.returns-in-None-clause-size
-returns-in-None-clause-size g c =
-    let s = c.saturating_sub.ensures in
-    (end_is _ _ c.self.invariant _ c.self.view_is c.saturating_sub.result (omega (arith, c.len-used.ensures.count, s)) c.get_allocated.result.now
-    c.get_allocated.ensures.count c.get_allocated.ensures.value).1 c.in-None.ensures.value
-
-pub returns-in-Some-clause-well_placed : goal.returns-in-Some-clause-well_placed
-returns-in-Some-clause-well_placed g c = well_placed _ _ c.self.invariant _ c.self.view_is
-
-pub returns-in-None-clause-well_placed : goal.returns-in-None-clause-well_placed
-returns-in-None-clause-well_placed g c = well_placed _ _ c.self.invariant _ c.self.view_is
+pub returns-clause-well_placed : goal.returns-clause-well_placed
+returns-clause-well_placed g c = well_placed _ _ c.self.invariant _ c.self.view_is

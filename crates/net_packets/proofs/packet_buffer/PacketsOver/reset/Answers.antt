@@ -1,11 +1,9 @@
-use Rattle.std.proofs.Common.{◌≡◌, ◌∙◌, ap, rules}
-use Rattle.net_packets.specs.Packets.{no_packets}
-use Rattle.net_packets.specs.PacketSlots.{packets_state}
+use Rattle.std.proofs.Common.{◌∙◌, ap}
+use Rattle.net_packets.specs.PacketSlots.{packets_at}
 use Rattle.net_packets.specs.PacketHistory.{contents}
 use Rattle.net_packets.proofs.PacketRuns.{no_contents}
 use Rattle.net_packets.proofs.packet_buffer.PacketsOver.reset.Goals as goal
 
 pub returns-clause-empty : goal.returns-clause-empty
 returns-clause-empty g c =
-    let is : packets_state c.clear.new.self c.clear-2.new.self ≡ no_packets c.args.self.now.slot_count c.args.self.now.storage = search rules in
-    ap contents is ∙ no_contents _ _
+    ap (λ h. contents (packets_at h (g.M.Storage.elements c.self.inside.slots) (g.B.Storage.elements c.self.inside.bytes))) c.clear.ensures ∙ no_contents _ _

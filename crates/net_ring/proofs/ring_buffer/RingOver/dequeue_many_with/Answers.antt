@@ -4,7 +4,7 @@ use denote.MutBor.{at_last}
 use Rattle.net_ring.specs.Ring.{IsWellFormed, DequeuesFrom, queue, contiguous_queued}
 use Rattle.net_ring.specs.RingHead.{ring_at}
 use Rattle.net_ring.proofs.Rotations.{read_at_le}
-use Rattle.net_ring.proofs.RingFacts.{well, found, off_wf, lent_head, left_off_from}
+use Rattle.net_ring.proofs.RingFacts.{found_head, well, found, off_wf, lent_head, left_off_from}
 use Rattle.net_ring.specs.RingHistory.{Makes}
 use Rattle.net_ring.proofs.ring_buffer.RingOver.dequeue_many_with.Goals as goal
 
@@ -70,3 +70,12 @@ returns g c =
       called = (after, met, long, same ∙ left.0, subst (DequeuesFrom old n after) (sym same) left.1);
       call = (after, met, (refl, long, omega (arith, le, long), same ∙ left.0));
     }
+
+pub prove-unreachable-requires : goal.prove-unreachable-requires
+prove-unreachable-requires g c =
+    let is = c.self.view_is in
+    let lent = lent_head _ _ is c.self.invariant _ _ _ c.capacity-capacity.ensures.capacity c.contiguous_queue.ensures.count (omega arith) _
+    c.part_mut.ensures.value in
+    let le = c.requires.count c.f-answer.result c.f-answer.new.arg2
+    (record { shown = c.part_mut.result; shows = lent.0; left = at_last c.part_mut.result c.f-answer.new.arg2; leaves = refl; met = c.f-answer.ensures }) in
+    omega (arith, le, found_head _ _ is c.self.invariant _ _ c.capacity-capacity.ensures.capacity c.contiguous_queue.ensures.count, c.if-prove.true)

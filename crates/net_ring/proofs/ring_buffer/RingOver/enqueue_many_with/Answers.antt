@@ -3,7 +3,7 @@ use Rattle.std.specs.Fn.{FnOnceReturnsAtMut}
 use denote.MutBor.{at_last}
 use Rattle.net_ring.specs.Ring.{IsWellFormed, EnqueuesFrom, rewind_if_empty, capacity, spare, contiguous_window}
 use Rattle.net_ring.specs.RingHead.{ring_at}
-use Rattle.net_ring.proofs.RingFacts.{found_next, in_wf, lent_next, left_in_from}
+use Rattle.net_ring.proofs.RingFacts.{found_window, found_next, in_wf, lent_next, left_in_from}
 use Rattle.net_ring.specs.RingHistory.{Makes}
 use Rattle.net_ring.proofs.ring_buffer.RingOver.enqueue_many_with.Goals as goal
 
@@ -63,3 +63,14 @@ returns g c =
       called = (after, met, long, same ∙ left.0, subst (EnqueuesFrom old n after) (sym same) left.1);
       call = (after, met, (long, omega (arith, le, long), same ∙ left.0));
     }
+
+pub prove-unreachable-requires : goal.prove-unreachable-requires
+prove-unreachable-requires g c =
+    let old = rewind_if_empty c.args.self.now in
+    let is = c.self.view_is ∙ c.rewind_if_empty.ensures.ring in
+    let size = c.capacity-capacity.ensures.capacity ∙ ap capacity c.rewind_if_empty.ensures.ring in
+    let lent = lent_next _ _ is c.self.invariant _ _ _ _ size c.index-from.ensures.index c.contiguous_window.ensures.count (omega arith) _
+    c.part_mut.ensures.value in
+    let le = c.requires.count c.f-answer.result c.f-answer.new.arg2
+    (record { shown = c.part_mut.result; shows = lent.0; left = at_last c.part_mut.result c.f-answer.new.arg2; leaves = refl; met = c.f-answer.ensures }) in
+    omega (arith, le, found_window _ _ is c.self.invariant _ _ size c.contiguous_window.ensures.count, c.if-prove.true)

@@ -1,4 +1,4 @@
-use Rattle.std.proofs.Common.{rules, List, ℕ, refl}
+use Rattle.std.proofs.Common.{rules, refl}
 use Rattle.net_base.proofs.storage.fragments.FragmentsHead.complete.Goals as goal
 
 pub returns-clause-complete : goal.returns-clause-complete

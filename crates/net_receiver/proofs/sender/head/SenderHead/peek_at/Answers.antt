@@ -11,8 +11,9 @@ returns-clause-bytes c = λ xs size.
     let p = c.args.self.now.place in
     let g = ring_at xs p in
     let i = c.args.pos - c.args.self.now.first_unacknowledged in
-    let at : c.allocated.result.from ≡ queue_index g i = c.allocated.ensures.from ∙ ap (λ n. queued_index n p i) (sym size) in
-    let count : c.allocated.result.contiguous ≡ contiguous_allocated g i c.args.max = omega (arith, at, c.allocated.ensures.count, c.allocated.ensures.contiguous) in
+    let same : c.min-offset.result ≡ i = omega (arith, c.min-offset.ensures, c.well_formed) in
+    let at : c.allocated.result.from ≡ queue_index g i = c.allocated.ensures.from ∙ ap (λ o. queued_index c.args.capacity p o) same ∙ ap (λ n. queued_index n p i) (sym size) in
+    let count : c.allocated.result.contiguous ≡ contiguous_allocated g i c.args.max = omega (arith, at, same, c.allocated.ensures.count, c.allocated.ensures.contiguous) in
     (λ j. take (count j) (drop (at j) xs))
     ∙ queue_part_value g (subst (λ n. IsSound n p) (sym size) c.requires.place) i c.args.max
     ∙ sym (λ j. take (count j) (drop i (queue g)))

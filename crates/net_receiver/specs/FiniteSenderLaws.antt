@@ -1,0 +1,77 @@
+-- The laws of a sender of a stream that ends.
+--     SenderCommand      bytes are written, the sender is closed, numbers are sent, or an acknowledgement arrives
+--     sender_after_commands s cs, bytes_written s cs      what they leave, and the bytes that were taken
+--     IsSoundSent s      what is true of every sender
+-- The others are laws.
+use Rattle.std.specs.Prelude.{◌≡◌, ℕ, ◌+◌, ◌-◌, ◌<◌, ◌≤◌, max, min, if◌then◌else◌, List, [], ◌∷◌, ◌++◌, length, take, drop, nat_le}
+use Rattle.net_receiver.specs.SenderState.{end_of, Sends}
+use Rattle.net_receiver.specs.FiniteSender.{FiniteSenderState, fresh_finite_sender, first_number, numbers_end, finite_room, with_bytes, closed_sender}
+use Rattle.net_receiver.specs.FiniteSender.{has_end_at, accepts, acknowledged_below}
+use Rattle.net_receiver.specs.FiniteLaws.{MatchesFinite}
+
+-- commands
+pub data SenderCommand : Type 0 where
+  Writes : List ℕ → SenderCommand
+  Closes : SenderCommand
+  Marks : ℕ → SenderCommand
+  Acknowledges : ℕ → List (ℕ × ℕ) → SenderCommand
+
+-- the bytes that one takes
+abbrev pub written_of : FiniteSenderState → SenderCommand → List ℕ
+written_of s (Writes xs) = take (min (length xs) (finite_room s)) xs
+written_of s Closes = []
+written_of s (Marks pos) = []
+written_of s (Acknowledges n blocks) = []
+
+-- what one leaves
+abbrev pub sender_after_command : FiniteSenderState → SenderCommand → FiniteSenderState
+sender_after_command s (Writes xs) = with_bytes s (take (min (length xs) (finite_room s)) xs)
+sender_after_command s Closes = closed_sender s
+sender_after_command s (Marks pos) =
+    if nat_le pos (numbers_end s)
+    then record { sender = s.sender; closed = s.closed; finished = s.finished; sent = max s.sent pos } else s
+sender_after_command s (Acknowledges n blocks) = if accepts s n then acknowledged_below s n blocks else s
+
+-- what several leave
+abbrev pub sender_after_commands : FiniteSenderState → List SenderCommand → FiniteSenderState
+sender_after_commands s [] = s
+sender_after_commands s (c ∷ cs) = sender_after_commands (sender_after_command s c) cs
+
+-- the bytes that they take, in order
+abbrev pub bytes_written : FiniteSenderState → List SenderCommand → List ℕ
+bytes_written s [] = []
+bytes_written s (c ∷ cs) = written_of s c ++ bytes_written (sender_after_command s c) cs
+
+-- an end is acknowledged only after all bytes, and what was sent is between what is acknowledged and what there is
+pub record IsSoundSent (s : FiniteSenderState) : Type 0 where
+  pub closed : s.closed ≤ 1
+  pub finished : s.finished ≤ s.closed
+  pub none_left : 0 < s.finished → length s.sender.queue ≡ 0
+  pub low : first_number s ≤ s.sent
+  pub high : s.sent ≤ numbers_end s
+
+-- ---- laws
+-- what is true of every sender is true of a fresh one, and stays true
+abbrev pub FreshSentIsSound : Type 0
+FreshSentIsSound = (capacity first : ℕ) → IsSoundSent (fresh_finite_sender capacity first)
+
+abbrev pub SoundSentStays : Type 0
+SoundSentStays = (s : FiniteSenderState) (c : SenderCommand) → IsSoundSent s → IsSoundSent (sender_after_command s c)
+
+-- after all commands the sender sends what was written, and then what they wrote; once it is closed it stays
+-- closed, and its end is where it was; once the end is acknowledged it stays so, and all bytes are
+abbrev pub ClosedStays : Type 0
+ClosedStays = (s : FiniteSenderState) (cs : List SenderCommand) (f : ℕ) (w : List ℕ) → IsSoundSent s → Sends f w s.sender →
+    let t = sender_after_commands s cs in
+    Sends f (w ++ bytes_written s cs) t.sender
+    × (s.closed ≡ 1 → (t.closed ≡ 1) × (bytes_written s cs ≡ []) × (end_of t.sender ≡ end_of s.sender))
+    × (s.finished ≡ 1 → t.finished ≡ 1)
+    × (t.finished ≡ 1 → (t.closed ≡ 1) × (t.sender.first_unacknowledged ≡ f + length (w ++ bytes_written s cs)))
+
+-- a segment of queued bytes, which is the last one if it ends at the end, is one of the stream that is written in
+-- the end, whatever is written later
+abbrev pub LentIsOfStream : Type 0
+LentIsOfStream = (s : FiniteSenderState) (cs : List SenderCommand) (f : ℕ) (w : List ℕ) (pos : ℕ) (xs : List ℕ) →
+    IsSoundSent s → Sends f w s.sender → s.sender.first_unacknowledged ≤ pos →
+    xs ≡ take (length xs) (drop (pos - s.sender.first_unacknowledged) s.sender.queue) →
+    MatchesFinite f (w ++ bytes_written s cs) pos xs (has_end_at s (pos + length xs))

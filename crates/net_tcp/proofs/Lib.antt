@@ -1,0 +1,3 @@
+pub mod WordSums
+pub mod Scales
+pub mod Timeouts

@@ -1,0 +1,251 @@
+-- Sums of words, and what folding keeps of them: the number modulo 65535, and whether it is 0.
+use Rattle.std.proofs.Common.{◌≡◌, ℕ, zero, suc, ◌+◌, ◌-◌, ◌*◌, ◌/◌, ◌%◌, ◌^◌, ◌<◌, ◌≤◌, List, [], ◌∷◌, ◌++◌, length, take, drop, refl, sym, ap, ◌∙◌, inl, inr, subst, arith, length-append, append-nil, All}
+use Rattle.std.specs.Prelude.{◌⊎◌}
+use Rattle.std.specs.Int.{w32, from_be_bytes}
+use Rattle.std.proofs.lemmas.Bool.{cases_lt}
+use Rattle.net_tcp.specs.InternetChecksum.{word_sum, folded, internet_checksum, updated, word_bytes, IsEven, add_words, carried_sum, IsCarriedSum, GroupsAdd, FoldsAdd, ChecksumVerifies, OnlyChecksumVerifies, UpdateIsChecksum, UpdateKeepsValid}
+
+-- ---- folding
+-- two positive numbers that differ by a multiple of 65535 fold to one
+pub folded_alike : (x y j k : ℕ) → 0 < x → 0 < y → x + 65535 * j ≡ y + 65535 * k → folded x ≡ folded y
+folded_alike zero y j k some more e = absurd (omega arith)
+folded_alike (suc n) zero j k some more e = absurd (omega arith)
+folded_alike (suc n) (suc m) j k some more e = ap suc (omega arith)
+
+-- what folding takes away
+pub folded_is : (n : ℕ) → n ≡ folded n + 65535 * ((n - 1) / 65535)
+folded_is zero = refl
+folded_is (suc n) = omega arith
+
+pub folded_le : (n : ℕ) → folded n ≤ 65535
+folded_le zero = omega arith
+folded_le (suc n) = omega arith
+
+pub folded_some : (n : ℕ) → 0 < n → 0 < folded n
+folded_some zero h = absurd (omega arith)
+folded_some (suc n) h = omega arith
+
+-- the same, where the greater number is named by the other and a multiple
+pub folded_same : (x y k : ℕ) → x ≡ y + 65535 * k → (y ≡ 0 → k ≡ 0) → folded x ≡ folded y
+folded_same x zero k e z = let none : x ≡ 0 = omega (arith, z refl) in ap folded none
+folded_same x (suc m) k e z = folded_alike x (suc m) 0 k (omega arith) (omega arith) (omega arith)
+
+none_above : (a b : ℕ) → a + folded b ≡ 0 → (b - 1) / 65535 ≡ 0
+none_above a zero h = refl
+none_above a (suc n) h = absurd (omega arith)
+
+pub folds_add : FoldsAdd
+folds_add a b = sym (folded_same (a + b) (a + folded b) ((b - 1) / 65535) (omega (arith, folded_is b)) (none_above a b))
+
+-- ---- carries
+-- a number of at most 17 bits, its carry added at the low end
+carry_in : (s : ℕ) → s ≤ 131070 → s % 2 ^ 16 + s / 2 ^ 16 ≡ folded s
+carry_in zero h = refl
+carry_in (suc n) h = omega arith
+
+pub add_words-is : (a w : ℕ) → a ≤ 65535 → w ≤ 65535 → add_words a w ≡ folded (a + w)
+add_words-is a w h l = carry_in (a + w) (omega arith)
+
+folded_first : (a b : ℕ) → folded (folded a + b) ≡ folded (a + b)
+folded_first a b = let e : folded a + b ≡ b + folded a = omega arith in
+    let f : b + a ≡ a + b = omega arith in ap folded e ∙ folds_add b a ∙ ap folded f
+
+folded_small : (n : ℕ) → n ≤ 65535 → folded n ≡ n
+folded_small zero h = refl
+folded_small (suc n) h = omega arith
+
+pub carried_is : (a : ℕ) (xs : List ℕ) → a ≤ 65535 → All (λ x. x < 256) xs → carried_sum a xs ≡ folded (a + word_sum xs)
+carried_is a [] h bytes = let e : a + 0 ≡ a = omega arith in sym (ap folded e ∙ folded_small a h)
+carried_is a (x ∷ []) h bytes = let low : x < 256 = bytes 0 0 (omega arith) in add_words-is a (x * 256) h (omega arith)
+carried_is a (x ∷ y ∷ xs) h bytes =
+    let high : x < 256 = bytes 0 0 (omega arith) in
+    let low : y < 256 = bytes 1 0 (omega arith) in
+    let sum = add_words-is a (x * 256 + y) h (omega arith) in
+    let e : (a + (x * 256 + y)) + word_sum xs ≡ a + (x * 256 + y + word_sum xs) = omega arith in
+    carried_is (add_words a (x * 256 + y)) xs (omega (arith, sum, folded_le (a + (x * 256 + y)))) (λ k d l. bytes (suc (suc k)) d (omega arith))
+    ∙ ap (λ s. folded (s + word_sum xs)) sum ∙ folded_first (a + (x * 256 + y)) (word_sum xs) ∙ ap folded e
+
+pub is_carried : IsCarriedSum
+is_carried xs bytes = let e : 0 + word_sum xs ≡ word_sum xs = omega arith in carried_is 0 xs (omega arith) bytes ∙ ap folded e
+
+-- ---- parts
+pub groups_add : GroupsAdd
+groups_add [] ys h = omega arith
+groups_add (a ∷ []) ys h = absurd (omega arith)
+groups_add (a ∷ b ∷ xs) ys h = omega (arith, groups_add xs ys (omega arith))
+
+-- after an odd count the next byte is a low byte
+pub word_sum-append_odd : (xs : List ℕ) (b : ℕ) (ys : List ℕ) → length xs % 2 ≡ 1 → word_sum (xs ++ b ∷ ys) ≡ word_sum xs + b + word_sum ys
+word_sum-append_odd [] b ys h = absurd (omega arith)
+word_sum-append_odd (a ∷ []) b ys h = omega arith
+word_sum-append_odd (a ∷ c ∷ xs) b ys h = omega (arith, word_sum-append_odd xs b ys (omega arith))
+
+-- four bytes as one number, in a sum
+pub four : (x : ℕ) (s : List ℕ) → 4 ≤ length s → folded (x + from_be_bytes w32 (take 4 s) + word_sum (drop 4 s)) ≡ folded (x + word_sum s)
+four x (a ∷ b ∷ c ∷ d ∷ s) l = folded_same _ _ (a * 256 + b) (omega arith) (λ z. omega arith)
+four x _ l = absurd (omega arith)
+
+-- sums that fold alike, and then more added to both
+pub folded_more : (a b y : ℕ) → folded a ≡ folded b → folded (a + y) ≡ folded (b + y)
+folded_more a b y e = sym (folded_first a y) ∙ ap (λ n. folded (n + y)) e ∙ folded_first b y
+
+-- a turn of the loop over four bytes
+pub four_more : (s w : ℕ) (rest part after : List ℕ) → w ≡ from_be_bytes w32 part →
+    (part ≡ take 4 rest) × (after ≡ drop 4 rest) × (length after + 4 ≡ length rest) → folded (s + w + word_sum after) ≡ folded (s + word_sum rest)
+four_more s w rest part after is parts =
+    ap (λ n. folded (s + n + word_sum after)) (is ∙ ap (from_be_bytes w32) parts.0) ∙ ap (λ l. folded (s + from_be_bytes w32 (take 4 rest) + word_sum l)) parts.1
+    ∙ four s rest (omega arith)
+
+-- a turn of the loop over blocks
+pub block_more : (s w r : ℕ) (rest part after : List ℕ) → folded w ≡ folded (word_sum part) → folded r ≡ folded (s + w) →
+    rest ≡ part ++ after → IsEven part → folded (r + word_sum after) ≡ folded (s + word_sum rest)
+block_more s w r rest part after is sum cut even =
+    let all = groups_add part after even in
+    let e : (s + word_sum part) + word_sum after ≡ s + word_sum rest = omega (arith, all, ap word_sum cut) in
+    folded_more r (s + word_sum part) (word_sum after) (sum ∙ sym (folds_add s w) ∙ ap (λ n. folded (s + n)) is ∙ folds_add s (word_sum part)) ∙ ap folded e
+
+-- ---- one part after another
+-- a part that begins with a high byte
+pub parts_even : (s t a b : ℕ) (xs ys : List ℕ) → folded s ≡ folded (word_sum xs) → 0 ≡ length xs % 2 → folded t ≡ folded (s + word_sum ys) → b ≡ length ys % 2 →
+    (folded t ≡ folded (word_sum (xs ++ ys))) × (b ≡ length (xs ++ ys) % 2)
+parts_even s t a b xs ys sum even more odd = (
+  more ∙ folded_more s (word_sum xs) (word_sum ys) sum ∙ ap folded (sym (groups_add xs ys (sym even))),
+  omega (arith, length-append xs ys),
+)
+
+-- a part that begins with a low byte
+pub parts_odd : (s t u b : ℕ) (xs ys : List ℕ) (x : ℕ) → folded s ≡ folded (word_sum xs) → 1 ≡ length xs % 2 → folded u ≡ folded (s + x) → folded t ≡ folded (u + word_sum ys) → b ≡ length ys % 2 →
+    (folded t ≡ folded (word_sum (xs ++ x ∷ ys))) × (b ≡ length (xs ++ x ∷ ys) % 2)
+parts_odd s t u b xs ys x sum odd low more end = (
+  more ∙ folded_more u (word_sum xs + x) (word_sum ys) (low ∙ folded_more s (word_sum xs) x sum) ∙ ap folded (sym (word_sum-append_odd xs x ys (sym odd))),
+  omega (arith, length-append xs (x ∷ ys)),
+)
+
+-- ---- a field of a message
+-- a word at an even offset
+pub field_sum : (xs ys : List ℕ) (w : ℕ) → IsEven xs → word_sum (xs ++ word_bytes w ++ ys) ≡ word_sum xs + word_sum ys + w
+field_sum xs ys w h =
+    let outer = groups_add (xs ++ word_bytes w) ys (omega (arith, length-append xs (word_bytes w))) in
+    let inner = groups_add xs (word_bytes w) h in
+    omega (arith, outer, inner)
+
+-- the checksum of the rest makes the whole 65535
+sum_valid : (s : ℕ) → folded (s + (65535 - folded s)) ≡ 65535
+sum_valid s = folded_same (s + (65535 - folded s)) 65535 ((s - 1) / 65535) (omega (arith, folded_is s, folded_le s)) (λ z. absurd (omega arith))
+
+-- and only it, but for the other zero
+sum_only : (s c : ℕ) → c ≤ 65535 → folded (s + c) ≡ 65535 → (c ≡ 65535 - folded s) ⊎ ((c ≡ 65535) × (65535 - folded s ≡ 0))
+sum_only s c h valid =
+    let few = folded_le s in let of_sum = folded_is s in let of_all = folded_is (s + c) in
+    elim (cases_lt (folded s + c) 65536) [
+      | inl l ↦ elim (cases_lt 0 (s + c)) [
+        | inl some ↦ inl (omega (arith, few, of_sum, of_all))
+        | inr none ↦ let e : s + c ≡ 0 = omega arith in absurd (omega (arith, ap folded e))
+      ]
+      | inr m ↦ inr (omega (arith, few, of_sum, of_all), omega (arith, few, of_sum, of_all))
+    ]
+
+positive : (s m n : ℕ) → m ≤ 65535 → 0 < (65535 - (65535 - folded (s + m))) + (65535 - m) + n
+positive s zero n h = omega arith
+positive s (suc m) n h = omega (arith, folded_some (s + suc m) (omega arith), folded_le (s + suc m))
+
+-- an update of the sum of all
+sum_updated : (s m n : ℕ) → m ≤ 65535 → n ≤ 65535 → 0 < s + n → folded ((65535 - (65535 - folded (s + m))) + (65535 - m) + n) ≡ folded (s + n)
+sum_updated s m n h l some =
+    let few = folded_le (s + m) in let is = folded_is (s + m) in
+    folded_alike ((65535 - (65535 - folded (s + m))) + (65535 - m) + n) (s + n) ((s + m - 1) / 65535) 1 (positive s m n h) some (omega (arith, few, is))
+
+-- the same, with the checksum's own field among the words
+sum_kept : (s c m n : ℕ) → c ≤ 65535 → m ≤ 65535 → n ≤ 65535 → 0 < s + n → folded (s + c + m) ≡ 65535 →
+    folded (s + (65535 - folded ((65535 - c) + (65535 - m) + n)) + n) ≡ 65535
+sum_kept s c m n hc hm hn some valid =
+    let t = (65535 - c) + (65535 - m) + n in
+    let few = folded_le t in let is = folded_is t in let was = folded_is (s + c + m) in
+    folded_alike (s + (65535 - folded t) + n) 65535 1 ((s + c + m - 1) / 65535 + (t - 1) / 65535) (omega arith) (omega arith) (omega (arith, few, is, was, valid))
+
+-- ---- laws
+pub checksum_verifies : ChecksumVerifies
+checksum_verifies xs ys h =
+    let plain = field_sum xs ys 0 h in
+    let s = word_sum xs + word_sum ys in
+    let zero_field : word_sum (xs ++ word_bytes 0 ++ ys) ≡ s = omega (arith, plain) in
+    ap folded (field_sum xs ys (internet_checksum (xs ++ word_bytes 0 ++ ys)) h)
+    ∙ ap (λ n. folded (s + (65535 - folded n))) zero_field
+    ∙ sum_valid s
+
+pub only_checksum : OnlyChecksumVerifies
+only_checksum xs ys c h few valid =
+    let plain = field_sum xs ys 0 h in
+    let s = word_sum xs + word_sum ys in
+    let zero_field : s ≡ word_sum (xs ++ word_bytes 0 ++ ys) = omega (arith, plain) in
+    subst (λ n. (c ≡ 65535 - folded n) ⊎ ((c ≡ 65535) × (65535 - folded n ≡ 0))) zero_field
+    (sum_only s c few (sym (ap folded (field_sum xs ys c h)) ∙ valid))
+
+pub update_is_checksum : UpdateIsChecksum
+update_is_checksum xs ys m n h few less some =
+    let s = word_sum xs + word_sum ys in
+    let old = field_sum xs ys m h in let new = field_sum xs ys n h in
+    ap (λ k. 65535 - folded ((65535 - (65535 - folded k)) + (65535 - m) + n)) old
+    ∙ ap (λ k. 65535 - k) (sum_updated s m n few less (omega (arith, new)) ∙ ap folded (sym new))
+
+-- two fields
+fields_sum : (xs ys zs : List ℕ) (c m : ℕ) → IsEven xs → IsEven ys → word_sum (xs ++ word_bytes c ++ ys ++ word_bytes m ++ zs) ≡ word_sum xs + word_sum ys + word_sum zs + c + m
+fields_sum xs ys zs c m h l =
+    let before : IsEven (xs ++ word_bytes c ++ ys) = omega (arith, length-append (xs ++ word_bytes c) ys, length-append xs (word_bytes c)) in
+    omega (arith, field_sum (xs ++ word_bytes c ++ ys) zs m before, field_sum xs ys c h)
+
+pub update_keeps_valid : UpdateKeepsValid
+update_keeps_valid xs ys zs c m n h l hc hm hn some valid =
+    let s = word_sum xs + word_sum ys + word_sum zs in
+    let even : IsEven (xs ++ ys) = omega (arith, length-append xs ys) in
+    let rest = field_sum (xs ++ ys) zs n even in let both = groups_add xs ys h in
+    ap folded (fields_sum xs ys zs (updated c m n) n h l)
+    ∙ sum_kept s c m n hc hm hn (omega (arith, rest, both)) (ap folded (sym (fields_sum xs ys zs c m h l)) ∙ valid)
+
+-- ---- sums of parts that begin with a low byte
+abbrev low_sum : List ℕ → ℕ
+low_sum [] = 0
+low_sum (y ∷ ys) = y + word_sum ys
+
+high_then_low : (z : ℕ) (ys : List ℕ) → word_sum (z ∷ ys) ≡ z * 256 + low_sum ys
+high_then_low z [] = omega arith
+high_then_low z (y ∷ ys) = omega arith
+
+after_odd : (xs ys : List ℕ) → length xs % 2 ≡ 1 → word_sum (xs ++ ys) ≡ word_sum xs + low_sum ys
+after_odd xs [] h = ap word_sum (append-nil xs) ∙ omega arith
+after_odd xs (y ∷ ys) h = word_sum-append_odd xs y ys h ∙ omega arith
+
+-- such a sum is 256 times the sum of the same bytes from a high byte on
+turned_sum : (ys : List ℕ) → (k : ℕ) × (256 * word_sum ys ≡ low_sum ys + 65535 * k) × (low_sum ys ≡ 0 → k ≡ 0)
+turned_sum [] = (0, omega arith, λ z. refl)
+turned_sum (y ∷ []) = (y, omega arith, λ z. omega arith)
+turned_sum (y ∷ z ∷ ys) =
+    let more = turned_sum ys in let cut = high_then_low z ys in
+    (y + more.0, omega (arith, more.1, cut), λ none. omega (arith, cut, more.2 (omega (arith, cut))))
+
+turned : (ys : List ℕ) → folded (256 * word_sum ys) ≡ folded (low_sum ys)
+turned ys = let t = turned_sum ys in folded_same _ _ t.0 t.1 t.2
+
+swap_is : (w : ℕ) → folded (w % 256 * 256 + w / 256) ≡ folded (256 * w)
+swap_is w = sym (folded_same (256 * w) (w % 256 * 256 + w / 256) (w / 256) (omega arith) (λ z. omega arith))
+
+-- folding before a multiplication
+times : (a : ℕ) → folded (256 * folded a) ≡ folded (256 * a)
+times zero = refl
+times (suc n) = folded_alike (256 * folded (suc n)) (256 * suc n) (256 * (n / 65535)) 0 (omega arith) (omega arith) (omega arith)
+
+pub joined_odd : (s t w r b d : ℕ) (xs ys : List ℕ) → folded s ≡ folded (word_sum xs) → 1 ≡ length xs % 2 → folded t ≡ folded (word_sum ys) → b ≡ length ys % 2 →
+    w ≡ folded t % 256 * 256 + folded t / 256 → folded r ≡ folded (s + w) → b + d ≡ 1 →
+    (folded r ≡ folded (word_sum (xs ++ ys))) × (d ≡ length (xs ++ ys) % 2)
+joined_odd s t w r b d xs ys sum odd part end is all other =
+    let low : folded w ≡ folded (low_sum ys) = ap folded is ∙ swap_is (folded t) ∙ ap (λ n. folded (256 * n)) part ∙ times (word_sum ys) ∙ turned ys in (
+      all ∙ folded_more s (word_sum xs) w sum ∙ sym (folds_add (word_sum xs) w) ∙ ap (λ n. folded (word_sum xs + n)) low ∙ folds_add (word_sum xs) (low_sum ys)
+          ∙ ap folded (sym (after_odd xs ys (sym odd))),
+      omega (arith, length-append xs ys),
+    )
+
+pub joined_even : (s t r b : ℕ) (xs ys : List ℕ) → folded s ≡ folded (word_sum xs) → 0 ≡ length xs % 2 → folded t ≡ folded (word_sum ys) → b ≡ length ys % 2 →
+    folded r ≡ folded (s + t) → (folded r ≡ folded (word_sum (xs ++ ys))) × (b ≡ length (xs ++ ys) % 2)
+joined_even s t r b xs ys sum even part end all =
+    parts_even s r 0 b xs ys sum even
+    (all ∙ sym (folds_add s t) ∙ ap (λ n. folded (s + n)) part ∙ folds_add s (word_sum ys)) end

@@ -1,0 +1,90 @@
+-- The Internet checksum of RFC 1071, and its update of RFC 1624.
+--     word_sum xs      the sum of the 16-bit words of these bytes
+--     folded n      n as one 16-bit word of ones' complement
+--     internet_checksum xs, updated c m n      the checksum, and c after a word m became n
+--     add_words, carried_sum      the sum as RFC 1071 describes it, carry by carry
+--     Sums s xs      the running sum s is that of the bytes xs
+use Rattle.std.specs.Prelude.{◌≡◌, ℕ, zero, suc, ◌+◌, ◌-◌, ◌*◌, ◌/◌, ◌%◌, ◌^◌, ◌<◌, ◌≤◌, ◌⊎◌}
+use Rattle.std.specs.Prelude.{List, [], ◌∷◌, ◌++◌, length, All}
+use Rattle.std.specs.Int.{from_bool}
+use Rattle.net_tcp.specs.declared.internet_sum.PartsSum.{PartsSum}
+
+-- the sum of the words of these bytes, the high byte first; a last odd byte is a high byte
+abbrev pub word_sum : List ℕ → ℕ
+word_sum [] = 0
+word_sum (a ∷ []) = a * 256
+word_sum (a ∷ b ∷ xs) = a * 256 + b + word_sum xs
+
+-- 0 is 0; any other number is that of 1 to 65535 which differs from it by a multiple of 65535
+abbrev pub folded : ℕ → ℕ
+folded zero = 0
+folded (suc n) = suc (n % 65535)
+
+-- the complement of the sum of the words
+abbrev pub internet_checksum : List ℕ → ℕ
+internet_checksum xs = 65535 - folded (word_sum xs)
+
+-- equation 3 of RFC 1624: the checksum c, after a word m of the message became n
+abbrev pub updated : ℕ → ℕ → ℕ → ℕ
+updated c m n = 65535 - folded ((65535 - c) + (65535 - m) + n)
+
+-- the bytes of a word
+abbrev pub word_bytes : ℕ → List ℕ
+word_bytes w = w / 256 ∷ w % 256 ∷ []
+
+-- so many bytes that the next one is a high byte
+abbrev pub IsEven : List ℕ → Type 0
+IsEven xs = length xs % 2 ≡ 0
+
+-- s is the sum of the bytes xs, so far
+abbrev pub Sums : PartsSum → List ℕ → Type 0
+Sums s xs = (folded s.sum ≡ folded (word_sum xs)) × (from_bool s.odd ≡ length xs % 2)
+
+-- ---- what RFC 1071 says
+-- ones' complement addition of two words: a carry out of the high bit is added at the low end
+abbrev pub add_words : ℕ → ℕ → ℕ
+add_words a b = (a + b) % 2 ^ 16 + (a + b) / 2 ^ 16
+
+-- the words of these bytes, added to a word one after another
+abbrev pub carried_sum : ℕ → List ℕ → ℕ
+carried_sum a [] = a
+carried_sum a (x ∷ []) = add_words a (x * 256)
+carried_sum a (x ∷ y ∷ xs) = carried_sum (add_words a (x * 256 + y)) xs
+
+-- ---- laws
+-- the folded sum is that of RFC 1071
+abbrev pub IsCarriedSum : Type 0
+IsCarriedSum = (xs : List ℕ) → All (λ x. x < 256) xs → carried_sum 0 xs ≡ folded (word_sum xs)
+
+-- the sum doesn't depend on where it is cut, at even offsets
+abbrev pub GroupsAdd : Type 0
+GroupsAdd = (xs ys : List ℕ) → IsEven xs → word_sum (xs ++ ys) ≡ word_sum xs + word_sum ys
+
+-- nor on where sums are folded
+abbrev pub FoldsAdd : Type 0
+FoldsAdd = (a b : ℕ) → folded (a + folded b) ≡ folded (a + b)
+
+-- a message whose field at an even offset is its checksum, computed with a zero field, is valid
+abbrev pub ChecksumVerifies : Type 0
+ChecksumVerifies = (xs ys : List ℕ) → IsEven xs →
+    folded (word_sum (xs ++ word_bytes (internet_checksum (xs ++ word_bytes 0 ++ ys)) ++ ys)) ≡ 65535
+
+-- and no other field is valid there, except that 65535 is too where the checksum is 0
+abbrev pub OnlyChecksumVerifies : Type 0
+OnlyChecksumVerifies = (xs ys : List ℕ) (c : ℕ) → IsEven xs → c ≤ 65535 →
+    folded (word_sum (xs ++ word_bytes c ++ ys)) ≡ 65535 →
+    (c ≡ internet_checksum (xs ++ word_bytes 0 ++ ys))
+    ⊎ ((c ≡ 65535) × (internet_checksum (xs ++ word_bytes 0 ++ ys) ≡ 0))
+
+-- the update is the checksum of the message with the new word, unless that is all zeros
+abbrev pub UpdateIsChecksum : Type 0
+UpdateIsChecksum = (xs ys : List ℕ) (m n : ℕ) → IsEven xs → m ≤ 65535 → n ≤ 65535 →
+    0 < word_sum (xs ++ word_bytes n ++ ys) →
+    updated (internet_checksum (xs ++ word_bytes m ++ ys)) m n ≡ internet_checksum (xs ++ word_bytes n ++ ys)
+
+-- an update leaves a message as valid as it was, unless it is all zeros then
+abbrev pub UpdateKeepsValid : Type 0
+UpdateKeepsValid = (xs ys zs : List ℕ) (c m n : ℕ) → IsEven xs → IsEven ys → c ≤ 65535 → m ≤ 65535 →
+    n ≤ 65535 → 0 < word_sum (xs ++ ys ++ word_bytes n ++ zs) →
+    folded (word_sum (xs ++ word_bytes c ++ ys ++ word_bytes m ++ zs)) ≡ 65535 →
+    folded (word_sum (xs ++ word_bytes (updated c m n) ++ ys ++ word_bytes n ++ zs)) ≡ 65535

@@ -1,0 +1,6 @@
+pub mod InternetChecksum
+pub mod Acceptability
+pub mod AdvertisedWindow
+pub mod PeerWindow
+pub mod RetransmissionTimeout
+pub mod Agreement
