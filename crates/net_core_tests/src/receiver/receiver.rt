@@ -1,0 +1,58 @@
+//! What the rows of `net_cases` don't show: two receivers of streams that begin at different positions, and what
+//! storage has once its receiver is gone.
+use crate::receiver::assertions::assert_holds;
+use net_receiver::Receiver;
+use net_ring::ManagedSlice;
+
+#[test]
+fn first_positions_are_compared(rt: HostRuntime) {
+    let mut buffer = [0u8; 16];
+    let mut other = [0u8; 16];
+    let late = Receiver::<4>::new_at(ManagedSlice::Borrowed(&mut buffer), 1);
+    let early = Receiver::<4>::new(ManagedSlice::Borrowed(&mut other));
+    assert_holds(&rt, !early.same_state(&late), ("same", 0));
+}
+
+/// Gives segments to a receiver of one run over this storage, of which one is refused and one is beyond the free
+/// window, and reads two bytes. Returns whether each call did so.
+fn keeps_some(storage: &mut [u8]) -> bool {
+    let mut receiver = Receiver::<1>::new(ManagedSlice::Borrowed(storage));
+    receiver.segment(8, b"AB").is_ok()
+        && receiver.segment(12, b"CD").is_err()
+        && receiver.segment(16, b"EF").is_ok()
+        && receiver.segment(0, b"abc").is_ok()
+        && receiver.read(&mut [0u8; 2]) == 2
+}
+
+/// A stream's byte number i is at index i of storage that it doesn't fill, also once it was read.
+#[test]
+fn storage_is_written_only_where_bytes_are_kept(rt: HostRuntime) {
+    let mut storage = *b"................";
+    assert_holds(&rt, keeps_some(&mut storage), ("calls", 5));
+    let is_kept = storage.as_slice() == b"abc.....AB......".as_slice();
+    assert_holds(&rt, is_kept, ("storage", 16));
+}
+
+/// Gives a receiver over this storage a segment, the same again, and reads it and more. Returns whether each call
+/// did so.
+fn takes_twice(storage: &mut [u8]) -> bool {
+    let mut receiver = Receiver::<4>::new(ManagedSlice::Borrowed(storage));
+    receiver
+        .segment(0, b"abcd")
+        .is_ok_and(|kept| kept.kept == 4)
+        && receiver
+            .segment(0, b"WXYZ")
+            .is_ok_and(|kept| kept.kept == 0)
+        && receiver.read(&mut [0u8; 9]) == 4
+        && receiver.segment(1, b"XY").is_ok_and(|kept| kept.kept == 0)
+        && receiver.read(&mut [0u8; 9]) == 0
+}
+
+/// Neither a new receiver, nor what comes again, nor a read of all bytes writes to storage.
+#[test]
+fn long_storage_is_written_only_where_bytes_are_kept(rt: HostRuntime) {
+    let mut storage = [b'.'; 2_000];
+    assert_holds(&rt, takes_twice(&mut storage), ("calls", 5));
+    let is_kept = storage.starts_with(b"abcd") && storage[4..].iter().all(|byte| *byte == b'.');
+    assert_holds(&rt, is_kept, ("storage", 2_000));
+}

@@ -1,0 +1,8 @@
+//! The tests of `net_ring`, `net_packets` and `net_assembler`, each through its public calls.
+
+mod assembler;
+mod assembler_text;
+mod assertions;
+mod counted;
+mod packets;
+mod ring;

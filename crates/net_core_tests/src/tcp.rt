@@ -1,0 +1,5 @@
+//! The tests of `net_tcp`, with values from outside: the RFCs' examples, and numbers worked by hand.
+
+mod sums;
+mod timeouts;
+mod windows;
