@@ -1,5 +1,5 @@
-//! smoltcp's `storage`, `time`, `phy` and `rand` over a proved static library: no heap, no C library,
-//! no dependencies.
+//! smoltcp's `storage`, `time`, `phy` and `rand` as proved text that rustc compiles: no heap, no `unsafe`, no C
+//! library, no dependencies.
 //!
 //! Names, signatures and behaviour are those of [smoltcp](https://github.com/smoltcp-rs/smoltcp)
 //! 0.14.0, except where a page of this repository, `docs/FFI.md`, or an item here says
@@ -22,30 +22,26 @@
 //!
 //! # What is proved
 //!
-//! Each rule, where elements are, what is refused, what joins, how a packet is placed, how clocks
-//! add, is an export of `crates/net_ffi`, a library in Rattle: Rust in which functions have contracts,
-//! and a prover shows for every input that a body meets its contract. An item here names the export
-//! that computes it, and the clauses of that contract which say what it returns and leaves, as in
-//! "Proved: `net_base_ring_enqueue_span`, clause `count`".
+//! The modules in `src/proved` are the repository's `crates`, written in Rattle: Rust in which functions have contracts,
+//! and a prover shows for every input that a body meets its contract. `erase.py` takes the contracts out, and leaves them
+//! in the documentation, as the section "Contract" of a function. What a contract requires of a caller is tested here: an
+//! `assert!` of the erased text is a `prove!` of Rattle's, which is shown never to fail if the contract is kept.
 //!
 //! # What isn't
 //!
-//! This crate and the compilers: that it passes to each export what the item says, keeps what the
-//! export leaves, and slices the storage where the export says. Tests show that, smoltcp's own among
-//! them. A slice here has Rust's bounds check, so a fault of this crate could return a wrong element
-//! or panic, and not touch other memory, except in the one module with `unsafe`, `src/sys.rs`, which
-//! only passes pointers and lengths of slices. Constants can call no library: the `const fn`s of
-//! [`time`] are Rust's own, as are texts. README.md lists all that this crate decides by itself.
+//! The eraser and rustc; what is written by hand in the modules beside `proved`: conversions of storage, `Debug`, closures
+//! that keep what they are lent, `Sender`, `Scoreboard`, the traits and devices of [`phy`]; the few pieces that
+//! `replaced.txt` lists; and that a `usize` has 64 bits, as the prover takes it: on 32 bits the text is only tested.
 //!
 //! # Features and targets
 //!
 //! smoltcp's other features are accepted, and change nothing. `alloc`: storage may own a vector. `std`, which is on unless it is turned off: conversions from
-//! std's clocks, and `alloc`. `lib` has an archive for each target that docs/PROCESSORS.md lists; the environment variable
-//! `NET_BASE_ARCHIVE` names another one. Elements and headers stay in Rust, and closures too.
+//! std's clocks, and `alloc`. Each target that rustc has will do.
 //!
 //! Overflow panics here in every build, unless an item says otherwise.
 #![no_std]
-#![deny(missing_docs, unsafe_code, unsafe_op_in_unsafe_fn)]
+#![forbid(unsafe_code)]
+#![deny(missing_docs)]
 
 #[cfg(feature = "alloc")]
 extern crate alloc;
@@ -54,12 +50,13 @@ extern crate std;
 
 pub mod managed;
 pub mod phy;
+mod proved;
 pub mod rand;
+mod rattle;
 pub mod receiver;
 pub mod scoreboard;
 pub mod sender;
 pub mod sequence_number;
 pub mod storage;
-#[allow(unsafe_code)]
-mod sys;
+pub mod tcp;
 pub mod time;

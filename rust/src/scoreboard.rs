@@ -1,7 +1,7 @@
 //! What a sender knows of the positions that the other end has.
+use crate::proved::net_assembler::Run;
+use crate::proved::net_receiver::ScoreboardHead;
 use crate::storage::TooManyHolesError;
-use crate::sys;
-use crate::sys::{Run, NET_BASE_DONE, NET_BASE_PRESENT, NET_BASE_REFUSED, NET_BASE_TOO_MANY_RUNS};
 
 /// A scoreboard: the positions that acknowledgements and their SACK blocks report, kept as at most `N`
 /// runs, of which one may be that of what is acknowledged.
@@ -14,14 +14,14 @@ use crate::sys::{Run, NET_BASE_DONE, NET_BASE_PRESENT, NET_BASE_REFUSED, NET_BAS
 ///
 /// // Of the bytes from 100 to 199, all sent, those below 120 and those from 140 to 159 have arrived.
 /// let mut scoreboard = Scoreboard::<4>::empty();
-/// assert_eq!(scoreboard.acknowledge(120), Ok(()));
+/// scoreboard.acknowledge(120);
 /// assert_eq!(scoreboard.report(140, 160, 200), Ok(true));
 /// assert_eq!(scoreboard.next_hole(120, 200), Some((120, 140)));
 /// assert_eq!(scoreboard.next_hole(140, 200), Some((160, 200)));
 /// ```
 #[derive(Debug, Clone)]
 pub struct Scoreboard<const N: usize> {
-    head: sys::ScoreboardHead,
+    head: ScoreboardHead,
     runs: [Run; N],
 }
 
@@ -47,7 +47,7 @@ impl<const N: usize> Scoreboard<N> {
     #[must_use]
     pub const fn empty() -> Scoreboard<N> {
         const { assert!(N >= 1, "a scoreboard has at least one run") };
-        let head = sys::ScoreboardHead::EMPTY;
+        let head = ScoreboardHead::new();
         Scoreboard { head, runs: [Run { start: 0, end: 0 }; N] }
     }
 
@@ -64,7 +64,7 @@ impl<const N: usize> Scoreboard<N> {
     /// Proved: `net_base_scoreboard_clear`, clause `empty`.
     #[inline]
     pub fn clear(&mut self) {
-        self.head.clear();
+        self.head = ScoreboardHead::new();
     }
 
     /// Reports the positions from `start` on and below `end`, as a SACK block of an acknowledgement does,
@@ -87,32 +87,26 @@ impl<const N: usize> Scoreboard<N> {
     ///
     /// Proved: `net_base_scoreboard_report`, clauses `done`, `too_many` and `refused`.
     pub fn report(&mut self, start: u64, end: u64, sent: u64) -> Result<bool, TooManyHolesError> {
-        match self.head.report(&mut self.runs, start, end, sent) {
-            NET_BASE_DONE => Ok(true),
-            NET_BASE_TOO_MANY_RUNS => Err(TooManyHolesError),
-            _ => Ok(false),
+        if !ScoreboardHead::is_block(start, end, sent) {
+            return Ok(false);
         }
+        self.head.report(&mut self.runs, start, end)?;
+        Ok(true)
     }
 
-    /// Reports all positions below `next`, so that the runs below it become one.
-    ///
-    /// Returns [`TooManyHolesError`], and changes nothing, if there would be more than `N` runs: then
-    /// nothing below `next` is reported, and nothing is lost.
+    /// Reports all positions below `next`. It is never refused.
     ///
     /// ```
     /// # use net_base::scoreboard::Scoreboard;
     /// # let mut scoreboard = Scoreboard::<4>::empty();
     /// assert_eq!(scoreboard.report(5, 9, 20), Ok(true));
-    /// assert_eq!(scoreboard.acknowledge(7), Ok(()));
+    /// scoreboard.acknowledge(7);
     /// assert_eq!(scoreboard.next_hole(0, 20), Some((9, 20)));
     /// ```
     ///
     /// Proved: `net_base_scoreboard_acknowledge`, clauses `done` and `too_many`.
-    pub fn acknowledge(&mut self, next: u64) -> Result<(), TooManyHolesError> {
-        match self.head.acknowledge(&mut self.runs, next) {
-            NET_BASE_TOO_MANY_RUNS => Err(TooManyHolesError),
-            _ => Ok(()),
-        }
+    pub fn acknowledge(&mut self, next: u64) {
+        self.head.acknowledge(&mut self.runs, next);
     }
 
     /// Returns whether a position was reported.
@@ -127,7 +121,7 @@ impl<const N: usize> Scoreboard<N> {
     /// Proved: `net_base_scoreboard_contains`, clause `done`.
     #[must_use]
     pub fn contains(&self, pos: u64) -> bool {
-        self.head.contains(&self.runs, pos) == NET_BASE_PRESENT
+        self.head.contains(&self.runs, pos)
     }
 
     /// Returns the next range to send again, as start and end, the end not included. It begins at the first
@@ -145,7 +139,7 @@ impl<const N: usize> Scoreboard<N> {
     /// Proved: `net_base_scoreboard_next_hole`, clause `hole`.
     #[must_use]
     pub fn next_hole(&self, pos: u64, limit: u64) -> Option<(u64, u64)> {
-        let hole = self.head.next_hole(&self.runs, pos, limit);
-        (hole.status != NET_BASE_REFUSED && hole.start < hole.end).then_some((hole.start, hole.end))
+        let (start, end) = self.head.next_hole(&self.runs, pos, limit);
+        (start < end).then_some((start, end))
     }
 }

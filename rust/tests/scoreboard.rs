@@ -3,15 +3,15 @@ use net_base::scoreboard::Scoreboard;
 use net_base::storage::TooManyHolesError;
 
 /// A scoreboard with all below 10, and 20 to 29 and 40 to 44; all up to 100 was sent.
-fn scoreboard() -> Scoreboard<3> {
+fn scoreboard() -> Scoreboard<2> {
     let mut scoreboard = Scoreboard::empty();
-    assert_eq!(scoreboard.acknowledge(10), Ok(()));
+    scoreboard.acknowledge(10);
     assert_eq!(scoreboard.report(20, 30, 100), Ok(true));
     assert_eq!(scoreboard.report(40, 45, 100), Ok(true));
     scoreboard
 }
 
-fn has(scoreboard: &Scoreboard<3>, ranges: &[(u64, u64)]) -> bool {
+fn has(scoreboard: &Scoreboard<2>, ranges: &[(u64, u64)]) -> bool {
     (0..110).all(|pos| {
         scoreboard.contains(pos) == ranges.iter().any(|&(start, end)| start <= pos && pos < end)
     })
@@ -21,7 +21,7 @@ fn has(scoreboard: &Scoreboard<3>, ranges: &[(u64, u64)]) -> bool {
 fn reports() {
     let mut it = scoreboard();
     assert!(has(&it, &[(0, 10), (20, 30), (40, 45)]));
-    // A fourth run is refused; what touches or overlaps one is not.
+    // A third run is refused; what touches or overlaps one is not.
     assert_eq!(it.report(50, 51, 100), Err(TooManyHolesError));
     assert_eq!(it.report(12, 13, 100), Err(TooManyHolesError));
     assert!(has(&it, &[(0, 10), (20, 30), (40, 45)]));
@@ -41,24 +41,28 @@ fn what_is_no_block() {
         assert!(has(&it, &[(0, 10), (20, 30), (40, 45)]));
     }
     let mut it = Scoreboard::<1>::empty();
+    it.acknowledge(u64::MAX - 9);
     assert_eq!(it.report(u64::MAX - 1, u64::MAX, u64::MAX), Ok(true));
-    assert!(it.contains(u64::MAX - 1) && !it.contains(u64::MAX) && !it.contains(0));
+    assert!(it.contains(u64::MAX - 1) && !it.contains(u64::MAX) && it.contains(0));
 }
 
 #[test]
 fn acknowledgements() {
     let mut it = scoreboard();
-    assert_eq!(it.acknowledge(5), Ok(()));
+    it.acknowledge(5);
     assert!(has(&it, &[(0, 10), (20, 30), (40, 45)]));
-    assert_eq!(it.acknowledge(25), Ok(()));
+    it.acknowledge(25);
     assert!(has(&it, &[(0, 30), (40, 45)]));
-    assert_eq!(it.acknowledge(45), Ok(()));
+    it.acknowledge(45);
     assert!(has(&it, &[(0, 45)]));
     let mut it = Scoreboard::<1>::empty();
-    assert_eq!((it.report(3, 5, 9), it.acknowledge(2)), (Ok(true), Err(TooManyHolesError)));
-    assert!(it.contains(3) && !it.contains(0));
-    assert_eq!((it.acknowledge(3), it.contains(0), it.contains(4)), (Ok(()), true, true));
-    assert_eq!(it.acknowledge(0), Ok(()));
+    assert_eq!(it.report(3, 5, 9), Ok(true));
+    it.acknowledge(2);
+    assert!(it.contains(1) && !it.contains(2) && it.contains(3));
+    it.acknowledge(3);
+    assert!(it.contains(2) && it.contains(4) && !it.contains(5));
+    it.acknowledge(0);
+    assert!(it.contains(4) && !it.contains(5));
 }
 
 #[test]

@@ -42,15 +42,6 @@ impl<const N: usize> Model for Scoreboard<N> {
     ghost invariant = { λ b. IsSoundBoard b.head b.runs × (length b.runs ≡ N) };
 }
 
-<<<<<<< ours
-impl ScoreboardHead {
-    /// Returns a scoreboard to which nothing was reported, whatever its runs.
-    pub const fn new() -> Self
-        ensures no_run { result.reported.used ≡ 0 }
-        ensures no_start { result.reported.first_start ≡ 0 }
-        ensures sound { (runs : List (ℕ × ℕ)) → HasSoundRuns result.reported runs }
-        ensures empty { (runs : List (ℕ × ℕ)) → set_of result.reported runs ≡ nothing }
-=======
 impl<const N: usize> Scoreboard<N> {
     /// Returns a scoreboard of a stream that begins at position 0, to which nothing was reported.
     ///
@@ -60,7 +51,6 @@ impl<const N: usize> Scoreboard<N> {
     pub fn new() -> Self
         requires { 1 ≤ N }
         ensures { result ≡ nothing }
->>>>>>> theirs
     {
         Scoreboard {
             head: ScoreboardHead::new(),

@@ -4,75 +4,39 @@ mod fragment_buffer;
 mod packet_buffer;
 mod ring_buffer;
 
-pub use self::assembler::{Assembler, TooManyHolesError};
-pub use self::fragment_buffer::{FragmentBuffer, FragmentError};
-pub use self::packet_buffer::{PacketBuffer, PacketMetadata};
-pub use self::ring_buffer::RingBuffer;
-
 use core::fmt;
 
-/// Types that can be reset in place.
-///
-/// ```
-/// use net_base::storage::{Resettable, RingBuffer};
-///
-/// struct Slot(u32);
-///
-/// impl Resettable for Slot {
-///     fn reset(&mut self) {
-///         self.0 = 0;
-///     }
-/// }
-///
-/// let mut slots = [Slot(1), Slot(2)];
-/// let mut ring = RingBuffer::new(&mut slots[..]);
-/// ring.reset();
-/// assert_eq!(ring.enqueue_one().map(|slot| slot.0).ok(), Some(0));
-/// ```
-pub trait Resettable {
-    /// Brings the element to its known state.
-    fn reset(&mut self);
+pub use crate::proved::net_assembler::{Assembler, TooManyHolesError};
+pub use crate::proved::net_packets::{PacketBuffer, PacketMetadata, PacketsOver};
+pub use crate::proved::net_ring::{Empty, Full, Resettable, RingBuffer, RingOver, Storage};
+pub use crate::proved::net_sockets::{FragmentBuffer, FragmentError, FragmentsOver};
+
+/// The text of an error, and that it is one: Rattle derives both.
+macro_rules! error_text {
+    ($($error:ty, $this:ident => $text:expr;)*) => { $(
+        impl fmt::Display for $error {
+            fn fmt(&self, f: &mut fmt::Formatter) -> fmt::Result {
+                let $this = self;
+                f.write_str($text)
+            }
+        }
+
+        impl core::error::Error for $error {}
+    )* };
 }
 
-/// The refusal of a ring or packet queue that has no room. Nothing has changed.
-///
-/// ```
-/// use net_base::storage::{Full, RingBuffer};
-///
-/// let mut storage = [0u8; 0];
-/// assert_eq!(RingBuffer::new(&mut storage[..]).enqueue_one(), Err(Full));
-/// ```
-#[derive(Debug, PartialEq, Eq, Clone, Copy)]
-pub struct Full;
-
-impl fmt::Display for Full {
-    fn fmt(&self, f: &mut fmt::Formatter) -> fmt::Result {
-        write!(f, "buffer full")
-    }
+error_text! {
+    Full, _error => "buffer full";
+    Empty, _error => "buffer empty";
+    TooManyHolesError, _error => "too many holes";
+    FragmentError, error => match error {
+        FragmentError::TooLong => "past the end of the buffer",
+        FragmentError::TooManyHoles => "too many holes",
+        FragmentError::OtherSize => "another size is known",
+    };
 }
 
-impl core::error::Error for Full {}
-
-/// The refusal of a ring or packet queue in which nothing is queued. Nothing has changed.
-///
-/// ```
-/// use net_base::storage::{Empty, RingBuffer};
-///
-/// let mut storage = [0u8; 4];
-/// assert_eq!(RingBuffer::new(&mut storage[..]).dequeue_one(), Err(Empty));
-/// ```
-#[derive(Debug, PartialEq, Eq, Clone, Copy)]
-pub struct Empty;
-
-impl fmt::Display for Empty {
-    fn fmt(&self, f: &mut fmt::Formatter) -> fmt::Result {
-        write!(f, "buffer empty")
-    }
-}
-
-impl core::error::Error for Empty {}
-
-/// What a call's iterator yields, as `Debug` shows a list.
+/// Prints what a closure's iterator yields, as a list.
 pub(crate) struct Listed<F>(pub(crate) F);
 
 impl<F: Fn() -> I, I: Iterator<Item: fmt::Debug>> fmt::Debug for Listed<F> {

@@ -1,0 +1,10 @@
+//! The proved code: crates of this repository without their contracts, as `tools/erase.py` writes them.
+#![allow(missing_docs, dead_code, unused_variables, unused_imports, clippy::all)]
+
+pub mod net_assembler;
+pub mod net_base;
+pub mod net_packets;
+pub mod net_receiver;
+pub mod net_ring;
+pub mod net_sockets;
+pub mod net_tcp;

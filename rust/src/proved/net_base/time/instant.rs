@@ -1,0 +1,372 @@
+//! Moments, in whole microseconds from an origin.
+
+use crate::proved::net_base::time::{Duration, LONGEST_TEXT};
+use core::fmt;
+use crate::rattle::InlineText;
+use core::fmt::Write;
+use core::ops::{Add, AddAssign, Sub, SubAssign};
+
+/// A moment, in microseconds since an origin of the user's own, such as the start of the system. A
+/// moment below zero is before the origin. With it a caller says what time it is, in timeouts and
+/// to a device that it polls.
+///
+/// Contracts see the microseconds, a whole number from -2^63 to 2^63 - 1. Quotients are cut towards
+/// zero.
+#[derive(Debug, Copy, Clone, PartialEq, Eq, PartialOrd, Ord)]
+pub struct Instant {
+    micros: i64,
+}
+
+impl Instant {
+    /// The origin.
+    pub const ZERO: Instant = Instant { micros: 0 };
+
+    /// Returns the moment so many microseconds after the origin.
+    ///
+    /// # Contract
+    ///
+    /// ```text
+    /// ensures { result ≡ micros }
+    /// ```
+    pub fn from_micros<T: Into<i64>>(micros: T) -> Instant {
+        Instant { micros: micros.into() }
+    }
+
+    /// Returns the same as `from_micros`. smoltcp's is a `const fn`, this one isn't: it is here for
+    /// code that was written for smoltcp.
+    ///
+    /// # Contract
+    ///
+    /// ```text
+    /// ensures { result ≡ micros }
+    /// ```
+    pub const fn from_micros_const(micros: i64) -> Instant {
+        Instant { micros }
+    }
+
+    /// Returns whether the value fits; precondition of `from_millis`.
+    ///
+    /// # Contract
+    ///
+    /// ```text
+    /// ensures { IsTrue result ↔ IsMoment (millis *ℤ pos 1_000) }
+    /// ```
+    pub const fn fits_millis(millis: i64) -> bool {
+        matches!(millis.checked_mul(1_000), Some(_))
+    }
+
+    /// Returns the moment so many milliseconds after the origin.
+    ///
+    /// # Requires
+    ///
+    /// So many microseconds fit 64 bits with a sign, as `fits_millis` tests.
+    ///
+    /// # Contract
+    ///
+    /// ```text
+    /// requires fits_millis { IsMoment (millis *ℤ pos 1_000) }
+    /// ensures { result ≡ millis *ℤ pos 1_000 }
+    /// ```
+    pub fn from_millis<T: Into<i64>>(millis: T) -> Instant {
+        let millis = millis.into();
+        let fits = Self::fits_millis(millis);
+        assert!(fits, "attempt to multiply with overflow");
+        Instant {
+            micros: millis * 1_000,
+        }
+    }
+
+    /// Returns the same as `from_millis`. It is no `const fn` either.
+    ///
+    /// # Requires
+    ///
+    /// So many microseconds fit 64 bits with a sign, as `fits_millis` tests.
+    ///
+    /// # Contract
+    ///
+    /// ```text
+    /// requires fits_millis { IsMoment (millis *ℤ pos 1_000) }
+    /// ensures { result ≡ millis *ℤ pos 1_000 }
+    /// ```
+    pub const fn from_millis_const(millis: i64) -> Instant {
+        assert!(Self::fits_millis(millis), "attempt to multiply with overflow");
+        Instant {
+            micros: millis * 1_000,
+        }
+    }
+
+    /// Returns whether the value fits; precondition of `from_secs`.
+    ///
+    /// # Contract
+    ///
+    /// ```text
+    /// ensures { IsTrue result ↔ IsMoment (secs *ℤ pos 1_000_000) }
+    /// ```
+    pub const fn fits_secs(secs: i64) -> bool {
+        matches!(secs.checked_mul(1_000_000), Some(_))
+    }
+
+    /// Returns the moment so many seconds after the origin.
+    ///
+    /// # Requires
+    ///
+    /// So many microseconds fit 64 bits with a sign, as `fits_secs` tests.
+    ///
+    /// # Contract
+    ///
+    /// ```text
+    /// requires fits_secs { IsMoment (secs *ℤ pos 1_000_000) }
+    /// ensures { result ≡ secs *ℤ pos 1_000_000 }
+    /// ```
+    pub fn from_secs<T: Into<i64>>(secs: T) -> Instant {
+        let secs = secs.into();
+        let fits = Self::fits_secs(secs);
+        assert!(fits, "attempt to multiply with overflow");
+        Instant {
+            micros: secs * 1_000_000,
+        }
+    }
+
+    /// Returns the whole milliseconds beyond the whole seconds, with the sign of the moment.
+    ///
+    /// # Contract
+    ///
+    /// ```text
+    /// ensures { result ≡ moment_millis self.now }
+    /// ```
+    pub const fn millis(&self) -> i64 {
+        self.micros() / 1_000
+    }
+
+    /// Returns the microseconds beyond the whole seconds, with the sign of the moment.
+    ///
+    /// # Contract
+    ///
+    /// ```text
+    /// ensures { result ≡ moment_micros self.now }
+    /// ```
+    pub const fn micros(&self) -> i64 {
+        self.micros % 1_000_000
+    }
+
+    /// Returns the whole seconds since the origin.
+    ///
+    /// # Contract
+    ///
+    /// ```text
+    /// ensures { result ≡ moment_secs self.now }
+    /// ```
+    pub const fn secs(&self) -> i64 {
+        self.micros / 1_000_000
+    }
+
+    /// Returns the whole milliseconds since the origin.
+    ///
+    /// # Contract
+    ///
+    /// ```text
+    /// ensures { result ≡ int_div self.now (pos 1_000) }
+    /// ```
+    pub const fn total_millis(&self) -> i64 {
+        self.micros / 1_000
+    }
+
+    /// Returns the microseconds since the origin.
+    ///
+    /// # Contract
+    ///
+    /// ```text
+    /// ensures { result ≡ self.now }
+    /// ```
+    pub const fn total_micros(&self) -> i64 {
+        self.micros
+    }
+
+    /// Returns whether the sum fits; precondition of `+` and `+=`.
+    ///
+    /// # Contract
+    ///
+    /// ```text
+    /// ensures { IsTrue result ↔ IsMoment (self.now +ℤ pos duration) }
+    /// ```
+    pub fn can_add(&self, duration: Duration) -> bool {
+        i64::try_from(i128::from(self.micros) + i128::from(duration.total_micros())).is_ok()
+    }
+
+    /// Returns whether the difference fits; precondition of `-` and `-=`.
+    ///
+    /// # Contract
+    ///
+    /// ```text
+    /// ensures { IsTrue result ↔ IsMoment (self.now -ℤ pos duration) }
+    /// ```
+    pub fn can_sub(&self, duration: Duration) -> bool {
+        i64::try_from(i128::from(self.micros) - i128::from(duration.total_micros())).is_ok()
+    }
+
+    /// Returns the moment so much later, or `None` exactly if that is after the last moment.
+    ///
+    /// # Contract
+    ///
+    /// ```text
+    /// ensures { SomeIff result (IsMoment (self.now +ℤ pos duration)) (self.now +ℤ pos duration) }
+    /// ```
+    pub fn checked_add(&self, duration: Duration) -> Option<Instant> {
+        if self.can_add(duration) {
+            Some(self.sum(duration))
+        } else {
+            None
+        }
+    }
+
+    /// Returns the moment so much earlier, or `None` exactly if that is before the first moment.
+    ///
+    /// # Contract
+    ///
+    /// ```text
+    /// ensures { SomeIff result (IsMoment (self.now -ℤ pos duration)) (self.now -ℤ pos duration) }
+    /// ```
+    pub fn checked_sub(&self, duration: Duration) -> Option<Instant> {
+        if self.can_sub(duration) {
+            Some(self.difference(duration))
+        } else {
+            None
+        }
+    }
+
+    /// Returns the moment so much later, or the last moment if that is after it.
+    ///
+    /// ```ignore
+    /// self.timeout = self.timeout.saturating_mul(2);
+    /// self.deadline = now.saturating_add(self.timeout);
+    /// ```
+    ///
+    /// # Contract
+    ///
+    /// ```text
+    /// ensures exact { IsMoment (self.now +ℤ pos duration) → result ≡ self.now +ℤ pos duration }
+    /// ensures last { (IsMoment (self.now +ℤ pos duration) → ⊥) → result ≡ pos (2 ^ 63 - 1) }
+    /// ```
+    pub fn saturating_add(&self, duration: Duration) -> Instant {
+        if self.can_add(duration) {
+            self.sum(duration)
+        } else {
+            Instant::from_micros(i64::MAX)
+        }
+    }
+
+    /// Returns the moment so much earlier, or the first moment if that is before it.
+    ///
+    /// # Contract
+    ///
+    /// ```text
+    /// ensures exact { IsMoment (self.now -ℤ pos duration) → result ≡ self.now -ℤ pos duration }
+    /// ensures first { (IsMoment (self.now -ℤ pos duration) → ⊥) → result ≡ negsuc (2 ^ 63 - 1) }
+    /// ```
+    pub fn saturating_sub(&self, duration: Duration) -> Instant {
+        if self.can_sub(duration) {
+            self.difference(duration)
+        } else {
+            Instant::from_micros(i64::MIN)
+        }
+    }
+
+    /// Returns the moment so much later.
+    ///
+    /// # Contract
+    ///
+    /// ```text
+    /// requires can_add { IsMoment (self +ℤ pos rhs) }
+    /// ensures { result ≡ self +ℤ pos rhs }
+    /// ```
+    fn sum(self, rhs: Duration) -> Instant {
+        let fits = self.can_add(rhs);
+        assert!(fits, "attempt to add with overflow");
+        Instant {
+            micros: (i128::from(self.micros) + i128::from(rhs.total_micros())) as i64,
+        }
+    }
+
+    /// Returns the moment so much earlier.
+    ///
+    /// # Contract
+    ///
+    /// ```text
+    /// requires can_sub { IsMoment (self -ℤ pos rhs) }
+    /// ensures { result ≡ self -ℤ pos rhs }
+    /// ```
+    fn difference(self, rhs: Duration) -> Instant {
+        let fits = self.can_sub(rhs);
+        assert!(fits, "attempt to subtract with overflow");
+        Instant {
+            micros: (i128::from(self.micros) - i128::from(rhs.total_micros())) as i64,
+        }
+    }
+
+    /// Returns the text of the moment, whatever the options.
+    ///
+    /// # Contract
+    ///
+    /// ```text
+    /// ensures { IfOk result (λ text. inline_text text ≡ moment_text self.now) }
+    /// ```
+    fn text(&self) -> Result<InlineText<LONGEST_TEXT>, fmt::Error> {
+        let secs = self.secs();
+        let millis = self.millis();
+        let mut text = InlineText::new();
+        write!(text, "{secs}.{millis:0>3}s")?;
+        Ok(text)
+    }
+}
+
+/// `{secs}.{millis}s`, the milliseconds filled on the left by the digit 0 to three places. The
+/// milliseconds of a negative moment keep their sign, which takes one of the places: `0.0-5s`.
+/// Options such as a width change nothing.
+impl fmt::Display for Instant {
+    fn fmt(&self, f: &mut fmt::Formatter<'_>) -> fmt::Result {
+        let text = self.text()?;
+        f.write_str(text.as_str())
+    }
+}
+
+/// Returns the moment so much later. `can_add` tells whether there is one.
+impl Add<Duration> for Instant {
+    type Output = Instant;
+
+    fn add(self, rhs: Duration) -> Instant {
+        self.saturating_add(rhs)
+    }
+}
+
+/// Moves to the moment so much later. `can_add` tells whether there is one.
+impl AddAssign<Duration> for Instant {
+    fn add_assign(&mut self, rhs: Duration) {
+        *self = *self + rhs;
+    }
+}
+
+/// Returns the moment so much earlier. `can_sub` tells whether there is one.
+impl Sub<Duration> for Instant {
+    type Output = Instant;
+
+    fn sub(self, rhs: Duration) -> Instant {
+        self.saturating_sub(rhs)
+    }
+}
+
+/// Moves to the moment so much earlier. `can_sub` tells whether there is one.
+impl SubAssign<Duration> for Instant {
+    fn sub_assign(&mut self, rhs: Duration) {
+        *self = *self - rhs;
+    }
+}
+
+/// Returns how far apart the moments are, whichever is the later one. Any two moments have a
+/// distance.
+impl Sub<Instant> for Instant {
+    type Output = Duration;
+
+    fn sub(self, rhs: Instant) -> Duration {
+        Duration::from_micros(self.micros.abs_diff(rhs.micros))
+    }
+}

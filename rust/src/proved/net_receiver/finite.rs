@@ -1,0 +1,10 @@
+//! Streams that end: a receiver that knows where the stream ends, and a sender that says so.
+mod error;
+mod receiver;
+mod receiver_head;
+mod sender_head;
+
+pub use error::FiniteError;
+pub use receiver::{FiniteReceiver, FiniteReceiverOver};
+pub use receiver_head::FiniteReceiverHead;
+pub use sender_head::FiniteSenderHead;

@@ -1,0 +1,11 @@
+//! Why a segment of a stream that ends is refused.
+
+/// Why a segment is refused. Nothing changes then.
+#[derive(Debug, Clone, Copy, PartialEq, Eq)]
+pub enum FiniteError {
+    /// Its bytes would make more held runs than there is room for.
+    TooManyHoles,
+    /// It says that the stream ends where it can't: at another position than an earlier one said,
+    /// or below a byte that is queued or held.
+    OtherEnd,
+}

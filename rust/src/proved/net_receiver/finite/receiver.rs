@@ -1,0 +1,240 @@
+//! A receiver of a stream that ends.
+
+use super::error::FiniteError;
+use super::receiver_head::NO_END;
+use crate::proved::net_receiver::receiver::{Kept, ReceiverOver};
+use crate::proved::net_ring::{ManagedSlice, Storage};
+
+/// A receiver of one stream of bytes that ends: a receiver that knows where the stream ends, once a
+/// segment has said so.
+///
+/// The end is the position after the last byte. It has a number, as a byte has, and needs no room.
+/// Segments may arrive in any order, the last one too. Contracts see what the receiver of the bytes
+/// stores, and the end, `no_end` while it isn't known.
+pub struct FiniteReceiverOver<S: Storage<u8>, const N: usize> {
+    receiver: ReceiverOver<S, N>,
+    end: u64,
+}
+
+/// A receiver over storage that is lent or owned.
+pub type FiniteReceiver<'a, const N: usize = 4> = FiniteReceiverOver<ManagedSlice<'a, u8>, N>;
+
+impl<S: Storage<u8>, const N: usize> FiniteReceiverOver<S, N> {
+    /// Returns a receiver of a stream that begins at position `first`; nothing has arrived.
+    ///
+    /// # Requires
+    ///
+    /// `N` is at least 1, and `first` is not the greatest number of 64 bits.
+    ///
+    /// # Contract
+    ///
+    /// ```text
+    /// requires runs { 1 ≤ N }
+    /// requires number { first < no_end }
+    /// ensures state { result ≡ fresh_finite first (length (S.elements storage)) }
+    /// ensures receives { (x : List ℕ) → ReceivesFinite first x result }
+    /// ```
+    pub fn over_at(storage: S, first: u64) -> Self {
+        assert!(first < NO_END, "no number is left for an end");
+        FiniteReceiverOver {
+            receiver: ReceiverOver::over_at(storage, first),
+            end: NO_END,
+        }
+    }
+
+    /// Returns whether a segment fits: its bytes and an end after them have positions, as `segment`
+    /// requires.
+    ///
+    /// # Contract
+    ///
+    /// ```text
+    /// ensures { IsTrue result ↔ (pos + len < no_end) }
+    /// ```
+    pub fn fits(pos: u64, len: usize) -> bool {
+        pos < NO_END && (len as u64) < NO_END - pos
+    }
+
+    /// Returns the receiver of the bytes, for the calls that change nothing.
+    ///
+    /// # Contract
+    ///
+    /// ```text
+    /// ensures { result.now ≡ self.now.receiver }
+    /// ```
+    pub fn receiver(&self) -> &ReceiverOver<S, N> {
+        &self.receiver
+    }
+
+    /// Returns the position after the last byte, once it is known.
+    ///
+    /// # Contract
+    ///
+    /// ```text
+    /// ensures some { self.now.end < no_end → result ≡ Some self.now.end }
+    /// ensures none { no_end ≤ self.now.end → result ≡ None }
+    /// ```
+    pub fn end(&self) -> Option<u64> {
+        if self.end < NO_END {
+            Some(self.end)
+        } else {
+            None
+        }
+    }
+
+    /// Returns whether the stream can end at a position: it is the end that is known, or none is,
+    /// and no byte is queued or held at it or above.
+    ///
+    /// # Contract
+    ///
+    /// ```text
+    /// ensures { result ≡ can_end self.now pos }
+    /// ```
+    pub fn can_end(&self, pos: u64) -> bool {
+        if self.end < NO_END {
+            return pos == self.end;
+        }
+        self.receiver.has_all_below(pos)
+    }
+
+    /// Returns the end that is known after a segment that ends at `pos`.
+    ///
+    /// # Contract
+    ///
+    /// ```text
+    /// ensures { result ≡ end_after self.now pos is_last }
+    /// ```
+    fn end_after(&self, pos: u64, is_last: bool) -> u64 {
+        let ahead = pos.saturating_sub(self.receiver.next());
+        if is_last && ahead <= self.receiver.window() as u64 {
+            pos
+        } else {
+            self.end
+        }
+    }
+
+    /// Keeps the bytes of a segment that are in the free window and below the end, as
+    /// `ReceiverOver::segment` does. `is_last` says that the stream ends after the segment.
+    ///
+    /// The end is taken if it is at most the end of the free window: an end beyond that is cut off,
+    /// as the bytes before it are, and is sent again. A segment is refused, and nothing changes, if
+    /// it says that the stream ends where it can't (`can_end`), or if its bytes are refused.
+    ///
+    /// # Requires
+    ///
+    /// The segment fits, as `fits` tests.
+    ///
+    /// # Contract
+    ///
+    /// ```text
+    /// requires { pos + length bytes.now < no_end }
+    /// ensures state { self.new ≡ finite_after N self.old pos bytes.now is_last }
+    /// ensures value { result ≡ finite_result N self.old pos bytes.now is_last }
+    /// ensures receives { (f : ℕ) (x : List ℕ) → ReceivesFinite f x self.old →
+    ///     MatchesFinite f x pos bytes.now is_last → ReceivesFinite f x self.new }
+    /// ```
+    pub fn segment(&mut self, pos: u64, bytes: &[u8], is_last: bool) -> Result<Kept, FiniteError> {
+        assert!(Self::fits(pos, bytes.len()), "the segment ends too high");
+        let last = pos + bytes.len() as u64;
+        if is_last && !self.can_end(last) {
+            return Err(FiniteError::OtherEnd);
+        }
+        let end = self.end_after(last, is_last);
+        let count = (bytes.len() as u64).min(self.end.saturating_sub(pos)) as usize;
+        match self.receiver.segment(pos, &bytes[..count]) {
+            Ok(kept) => {
+                self.end = end;
+                Ok(kept)
+            }
+            Err(_) => Err(FiniteError::TooManyHoles),
+        }
+    }
+
+    /// Moves bytes from the head of the queue to the beginning of `into`, and returns how many: as
+    /// many as are queued and as `into` has room for. The rest of `into` stays as it is.
+    ///
+    /// # Contract
+    ///
+    /// ```text
+    /// ensures state { self.new ≡ finite_after_read self.old (length into.old) }
+    /// ensures count { result ≡ min (length into.old) (length self.old.receiver.queue) }
+    /// ensures into { into.new ≡ take (length into.old) self.old.receiver.queue
+    ///     ++ drop (length self.old.receiver.queue) into.old }
+    /// ensures receives { (f : ℕ) (x : List ℕ) → ReceivesFinite f x self.old →
+    ///     ReceivesFinite f x self.new }
+    /// ensures bytes { (f : ℕ) (x : List ℕ) → ReceivesFinite f x self.old → take result into.new
+    ///     ≡ slice_range x self.old.receiver.read (self.old.receiver.read + result) }
+    /// ```
+    pub fn read(&mut self, into: &mut [u8]) -> usize {
+        self.receiver.read(into)
+    }
+
+    /// Returns whether all bytes and the end have arrived. Once it is so it stays so.
+    ///
+    /// # Contract
+    ///
+    /// ```text
+    /// ensures { result ≡ is_complete self.now }
+    /// ```
+    pub fn is_complete(&self) -> bool {
+        self.receiver.next() == self.end
+    }
+
+    /// Returns the number that an acknowledgement carries: the first missing position, or, once all
+    /// bytes and the end have arrived, the end plus 1, since the end has a number.
+    ///
+    /// # Contract
+    ///
+    /// ```text
+    /// ensures { result ≡ acknowledged self.now }
+    /// ```
+    pub fn acknowledged(&self) -> u64 {
+        let next = self.receiver.next();
+        if next == self.end { next + 1 } else { next }
+    }
+
+    /// Returns whether all bytes were read, up to the end. Once it is so it stays so.
+    ///
+    /// # Contract
+    ///
+    /// ```text
+    /// ensures { result ≡ has_read_all self.now }
+    /// ```
+    pub fn has_read_all(&self) -> bool {
+        self.is_complete() && self.receiver.queued() == 0
+    }
+
+    /// Returns whether a number may arrive: it is the acknowledged one or above, by less than the
+    /// window.
+    ///
+    /// # Contract
+    ///
+    /// ```text
+    /// ensures { result ≡ in_window self.now pos }
+    /// ```
+    fn is_in_window(&self, pos: u64) -> bool {
+        let first = self.acknowledged();
+        pos >= first && pos - first < self.receiver.window() as u64
+    }
+
+    /// Returns whether a segment of `count` numbers from `pos` on is acceptable, as RFC 9293,
+    /// 3.10.7.4, has it: its first number may arrive, or its last one. The end is a number. If the
+    /// window is 0, only a segment without numbers at the acknowledged one is.
+    ///
+    /// # Requires
+    ///
+    /// `pos + count` fits 64 bits.
+    ///
+    /// # Contract
+    ///
+    /// ```text
+    /// requires { pos + count < 2 ^ 64 }
+    /// ensures { result ≡ is_acceptable self.now pos count }
+    /// ```
+    pub fn is_acceptable(&self, pos: u64, count: u64) -> bool {
+        assert!(count <= u64::MAX - pos, "the segment ends too high");
+        if self.receiver.window() == 0 {
+            return count == 0 && pos == self.acknowledged();
+        }
+        self.is_in_window(pos) || count > 0 && self.is_in_window(pos + count - 1)
+    }
+}

@@ -1,0 +1,379 @@
+//! The receiver.
+
+mod below;
+mod head;
+mod held_runs;
+mod kept;
+mod new_bytes;
+mod newest_runs;
+mod reads;
+
+pub use head::ReceiverHead;
+pub use held_runs::{HeldRunIter, HeldRuns};
+pub use kept::Kept;
+use crate::proved::net_assembler::{Run, TooManyHolesError};
+use crate::proved::net_ring::{ManagedSlice, Storage};
+pub use newest_runs::HeldRun;
+
+/// A receiver of one stream of bytes, which stores them in a ring until they are read. It serves as
+/// the receiving half of a TCP socket, or of any protocol that names bytes by their positions.
+///
+/// Positions are absolute and counted in bytes; the stream's first byte has the position `first`.
+/// `next` is the first missing one: the bytes after those read, up to `next`, are queued and can be
+/// read. The free window is the positions from `next` on for which there is room, the receive
+/// window of TCP. A byte in it that is beyond `next` is held at its offset after the queue, in at
+/// most `N` runs, until the bytes before it have arrived. In the storage the stream's byte number
+/// i, counted from 0, has the index i modulo the capacity.
+///
+/// Contracts see the first position, the capacity, the count of bytes read, the queue, and the held
+/// bytes by their positions. No call takes memory. smoltcp's TCP socket joins ring and assembler in
+/// its own `process`; this is the part of it that stores what was received.
+pub struct ReceiverOver<S: Storage<u8>, const N: usize> {
+    head: ReceiverHead,
+    storage: S,
+    runs: [Run; N],
+}
+
+/// A receiver over storage that is lent or owned.
+pub type Receiver<'a, const N: usize = 4> = ReceiverOver<ManagedSlice<'a, u8>, N>;
+
+impl<S: Storage<u8>, const N: usize> ReceiverOver<S, N> {
+    /// Returns a receiver of a stream that begins at position 0: `new_at` with 0.
+    ///
+    /// ```ignore
+    /// let mut storage = [0u8; 16];
+    /// let mut receiver = Receiver::<4>::new(ManagedSlice::Borrowed(&mut storage));
+    /// ```
+    ///
+    /// # Requires
+    ///
+    /// `N` is at least 1.
+    ///
+    /// # Contract
+    ///
+    /// ```text
+    /// requires { 1 ≤ N }
+    /// ensures state { result ≡ fresh_receiver 0 (length (S.elements storage)) }
+    /// ensures refines { Refines result fresh_kept }
+    /// ensures receives { (x : List ℕ) → ReceivesFrom 0 x result }
+    /// ```
+    pub const fn over(storage: S) -> Self {
+        Self::over_at(storage, 0)
+    }
+
+    /// Returns a receiver of a stream that begins at position `first`; nothing is read, queued or
+    /// held.
+    ///
+    /// Its capacity is the length of `storage` in bytes, of which 0 is allowed.
+    ///
+    /// # Requires
+    ///
+    /// `N` is at least 1.
+    ///
+    /// # Contract
+    ///
+    /// ```text
+    /// requires { 1 ≤ N }
+    /// ensures state { result ≡ fresh_receiver first (length (S.elements storage)) }
+    /// ensures refines { Refines result fresh_kept }
+    /// ensures receives { (x : List ℕ) → ReceivesFrom first x result }
+    /// ```
+    pub const fn over_at(storage: S, first: u64) -> Self {
+        const { assert!(N >= 1, "a receiver has at least one run") };
+        ReceiverOver {
+            head: ReceiverHead::new(first),
+            storage,
+            runs: [Run { start: 0, end: 0 }; N],
+        }
+    }
+
+    /// Returns the receiver that a head, a storage and runs represent. smoltcp has no such call.
+    ///
+    /// # Requires
+    ///
+    /// They are sound, as `ReceiverHead::is_sound` tests.
+    ///
+    /// # Contract
+    ///
+    /// ```text
+    /// requires { HasSoundParts head (S.elements storage) runs }
+    /// ensures { result ≡ receiver_of head (S.elements storage) runs.entry }
+    /// ```
+    pub fn from_parts(head: ReceiverHead, storage: S, runs: [Run; N]) -> Self {
+        assert!(head.is_sound(whole(&storage), &runs), "the head is not that of these parts");
+        ReceiverOver {
+            head,
+            storage,
+            runs,
+        }
+    }
+
+    /// Returns the head, the storage and the runs, which represent the receiver. smoltcp has no such
+    /// call.
+    ///
+    /// # Contract
+    ///
+    /// ```text
+    /// ensures sound { HasSoundParts result.0 (S.elements result.1) result.2 }
+    /// ensures state { receiver_of result.0 (S.elements result.1) result.2 ≡ self }
+    /// ensures runs { length result.2 ≡ N }
+    /// ```
+    pub fn into_parts(self) -> (ReceiverHead, S, [Run; N]) {
+        let ReceiverOver {
+            head,
+            storage,
+            runs,
+        } = self;
+        (head, storage, runs)
+    }
+
+    /// Returns whether `pos + len` fits `u64`, as `segment` requires for a segment of `len` bytes.
+    ///
+    /// # Contract
+    ///
+    /// ```text
+    /// ensures { IsTrue result ↔ (pos + len < 2 ^ 64) }
+    /// ```
+    pub const fn fits(pos: u64, len: usize) -> bool {
+        len as u64 <= u64::MAX - pos
+    }
+
+    /// Returns the first missing position: the first position, plus the count of bytes read, plus
+    /// those queued.
+    ///
+    /// # Contract
+    ///
+    /// ```text
+    /// ensures { result ≡ next_position self.now }
+    /// ```
+    pub fn next(&self) -> u64 {
+        self.head.next()
+    }
+
+    /// Returns how many bytes are queued.
+    ///
+    /// # Contract
+    ///
+    /// ```text
+    /// ensures { result ≡ length self.now.queue }
+    /// ```
+    pub fn queued(&self) -> usize {
+        self.head.queued()
+    }
+
+    /// Returns the window: how many bytes have room after the queue, held ones among them. `queued`
+    /// and `window` together are the capacity.
+    ///
+    /// # Contract
+    ///
+    /// ```text
+    /// ensures window { result ≡ self.now.capacity - length self.now.queue }
+    /// ensures room { length self.now.queue + result ≡ self.now.capacity }
+    /// ```
+    pub fn window(&self) -> usize {
+        self.head.window(self.storage.count())
+    }
+
+    /// Returns the end of the free window, `next` plus `window`: the first position for which there
+    /// is no room. `None` if it doesn't fit 64 bits. It never falls (`laws::numbers`).
+    ///
+    /// # Contract
+    ///
+    /// ```text
+    /// ensures some { limit_of self.now < 2 ^ 64 → result ≡ Some (limit_of self.now) }
+    /// ensures none { 2 ^ 64 ≤ limit_of self.now → result ≡ None }
+    /// ```
+    pub fn window_end(&self) -> Option<u64> {
+        self.head.window_end(self.storage.count())
+    }
+
+    /// Returns how many bytes have room, queued and held ones included: the storage's length.
+    ///
+    /// # Contract
+    ///
+    /// ```text
+    /// ensures { result ≡ self.now.capacity }
+    /// ```
+    pub fn capacity(&self) -> usize {
+        self.storage.count()
+    }
+
+    /// Returns how many bytes are queued, as `queued` does.
+    ///
+    /// # Contract
+    ///
+    /// ```text
+    /// ensures { result ≡ length self.now.queue }
+    /// ```
+    pub fn len(&self) -> usize {
+        self.queued()
+    }
+
+    /// Returns whether no byte is queued; bytes may be held.
+    ///
+    /// # Contract
+    ///
+    /// ```text
+    /// ensures { IsTrue result ↔ (self.now.queue ≡ []) }
+    /// ```
+    pub fn is_empty(&self) -> bool {
+        self.queued() == 0
+    }
+
+    /// Returns the held runs as absolute (start, end), the end not included, in rising order, at
+    /// most `N`. Each begins above `next` and ends within the free window. What a selective
+    /// acknowledgement lists are not the first of these: `newest_runs` lists those.
+    ///
+    /// # Contract
+    ///
+    /// ```text
+    /// ensures runs { result ≡ maximal_runs (domain self.now.held) }
+    /// ensures bound { length result ≤ N }
+    /// ensures above { All (λ run. (next_position self.now < run.0) × (run.0 < run.1)) result }
+    /// ensures within { All (λ run. run.1 ≤ limit_of self.now) result }
+    /// ```
+    pub fn held(&self) -> HeldRuns<'_, N> {
+        self.head.held(whole(&self.storage), &self.runs)
+    }
+
+    /// Lists held runs at the beginning of `into`, the newest first, and returns how many: as many
+    /// as are held, or as `into` has elements. The rest of `into` stays as it is.
+    ///
+    /// The first is the run that has `position`, that of the segment just taken, if it is held;
+    /// then come the runs last listed, which `recent` remembers, and then the others, in rising
+    /// order; each comes once. `recent` has as many numbers as runs are sent, zeros at first.
+    ///
+    /// It is the order of RFC 2018, section 4. A sender that is told the first runs again and again
+    /// learns late of others. smoltcp reports the first run alone.
+    ///
+    /// # Contract
+    ///
+    /// ```text
+    /// ensures listed { take result into.new
+    ///     ≡ newest_runs (length into.old) (domain self.now.held) (position ∷ recent.old) }
+    /// ensures count { result ≤ length into.old }
+    /// ensures rest { drop result into.new ≡ drop result into.old }
+    /// ensures recent { recent.new ≡ with_starts recent.old (take result into.new) }
+    /// ```
+    pub fn list_newest_runs(&self, position: u64, recent: &mut [u64], into: &mut [HeldRun]) -> usize {
+        self.head
+            .newest_runs(whole(&self.storage), &self.runs, position, recent, into)
+    }
+
+    /// Returns how many bytes of a segment of `len` bytes at `position` would be new: those in the
+    /// free window whose positions are not held. `segment` keeps the others of the free window too,
+    /// and counts them. If all that it brings was read, queued or held, there are none: a duplicate,
+    /// which TCP may report (RFC 2883). It is asked before `segment`; smoltcp has no such call.
+    ///
+    /// # Requires
+    ///
+    /// The segment ends within 64 bits, as `fits` tests.
+    ///
+    /// # Contract
+    ///
+    /// ```text
+    /// requires { position + len < 2 ^ 64 }
+    /// ensures { result ≡ new_count self.now position len }
+    /// ```
+    pub fn count_new(&self, position: u64, len: usize) -> usize {
+        let fits = Self::fits(position, len);
+        assert!(fits, "the segment's end is above `u64::MAX`");
+        self.head
+            .count_new(whole(&self.storage), &self.runs, position, len)
+    }
+
+    /// Keeps the bytes of a segment that are in the free window: from `next` on, and below `next`
+    /// plus `window`.
+    ///
+    /// They are written at their positions, over those held there, and all bytes that are then
+    /// contiguous from `next` on join the queue. If there are none, nothing changes. The segment is
+    /// refused, and nothing changes, exactly if the bytes do not begin at `next` and together with
+    /// those held would make more than `N` runs. So a segment that begins at or below `next` is
+    /// never refused, and its kept bytes join the queue.
+    ///
+    /// Two promises are exact. `state` and `reply` say what the call leaves and returns, by the
+    /// rules on what is stored. `step` is about kept lists: for every list of kept segments and
+    /// count of bytes read that this receiver represents, the call returns what the rules of a
+    /// schedule give, and the receiver then represents the state that they give. The other clauses
+    /// follow from these. `receives` is for callers that expect one stream: if the receiver has
+    /// kept only bytes of the stream, and the segment has the stream's bytes, it still has kept
+    /// only bytes of the stream.
+    ///
+    /// ```ignore
+    /// if Receiver::<4>::fits(pos, payload.len()) {
+    ///     let _accepted = receiver.segment(pos, payload).is_ok();
+    /// }
+    /// ```
+    ///
+    /// # Requires
+    ///
+    /// The segment ends within 64 bits, as `fits` tests.
+    ///
+    /// # Contract
+    ///
+    /// ```text
+    /// requires { pos + length bytes.now < 2 ^ 64 }
+    /// ensures state { self.new ≡ receiver_after_command N self.old (Segment pos bytes.now) }
+    /// ensures reply { SegmentReply result ≡ receiver_reply N self.old (Segment pos bytes.now) }
+    /// ensures step { StepRefines N self.old self.new (Segment pos bytes.now)
+    ///     (SegmentReply result) }
+    /// ensures setting { StaysInSetting N self.old self.new }
+    /// ensures keeps { KeepsOrRefuses self.old (window_part self.old pos bytes.now)
+    ///     self.new result }
+    /// ensures in_order { pos ≤ next_position self.old →
+    ///     JoinsQueue self.old (window_part self.old pos bytes.now) self.new result }
+    /// ensures receives { (f : ℕ) (x : List ℕ) → ReceivesFrom f x self.old →
+    ///     MatchesStream f x pos bytes.now → ReceivesFrom f x self.new }
+    /// ```
+    // Inlined, so that a caller that doesn't look at `sack` doesn't pay for it.
+    #[inline(always)]
+    pub fn segment(&mut self, pos: u64, bytes: &[u8]) -> Result<Kept, TooManyHolesError> {
+        let fits = Self::fits(pos, bytes.len());
+        assert!(fits, "the segment's end is above `u64::MAX`");
+        let count = self.storage.count();
+        let storage = self.storage.part_mut(0, count);
+        self.head.segment(storage, &mut self.runs, pos, bytes)
+    }
+
+    /// Returns whether first position, count of bytes read, queued bytes and held runs are equal.
+    /// The held bytes are not compared, nor are the capacities.
+    ///
+    /// `states` says which states of a schedule differ by it. `converges` says that two receivers
+    /// of one stream are found equal if the same number of bytes was read from both and the same
+    /// positions were kept, in whatever order the segments arrived.
+    ///
+    /// # Contract
+    ///
+    /// ```text
+    /// ensures exact { IsTrue result ↔ IsSameState self.now other.now }
+    /// ensures states { TellsStates self.now other.now result }
+    /// ensures converges { Converges self.now other.now result }
+    /// ```
+    pub fn same_state<O: Storage<u8>>(&self, other: &ReceiverOver<O, N>) -> bool {
+        let storage = whole(&self.storage);
+        let other_storage = whole(&other.storage);
+        self.head.is_same_state(storage, &self.runs, &other.head, other_storage, &other.runs)
+    }
+
+    /// States what is true of every receiver; it does nothing. Callers use `laws::is_sound`.
+    ///
+    /// # Contract
+    ///
+    /// ```text
+    /// ensures { IsSound N self.now }
+    /// ```
+    pub(crate) fn is_sound(&self) {
+        let _next = self.head.next();
+    }
+}
+
+/// Shows all bytes of a storage.
+///
+/// # Contract
+///
+/// ```text
+/// ensures { result.now ≡ S.elements storage.now }
+/// ```
+fn whole<S: Storage<u8>>(storage: &S) -> &[u8] {
+    storage.part(0, storage.count())
+}

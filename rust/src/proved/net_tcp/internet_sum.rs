@@ -1,0 +1,266 @@
+//! The Internet checksum (RFC 1071), over one part or several, and its update (RFC 1624).
+
+/// The sum of the bytes of several parts of a message, one after another, of any lengths.
+#[derive(Copy, Clone, Debug)]
+pub struct PartsSum {
+    /// The sum of the words, with carries out of 64 bits added at the low end.
+    pub sum: u64,
+    /// Whether the next byte is the low byte of a word.
+    pub odd: bool,
+}
+
+impl PartsSum {
+    /// Returns the sum of no bytes.
+    ///
+    /// # Contract
+    ///
+    /// ```text
+    /// ensures { Sums result [] }
+    /// ```
+    pub fn new() -> Self {
+        PartsSum { sum: 0, odd: false }
+    }
+
+    /// Adds the bytes that follow those which were added.
+    ///
+    /// # Contract
+    ///
+    /// ```text
+    /// ensures { (xs : List ℕ) → Sums self.old xs → Sums self.new (xs ++ part.now) }
+    /// ```
+    pub fn add(&mut self, part: &[u8]) {
+        *self = self.with(part);
+    }
+
+    /// Returns the sum of the bytes that were added and of those that follow them.
+    ///
+    /// # Contract
+    ///
+    /// ```text
+    /// ensures { (xs : List ℕ) → Sums self xs → Sums result (xs ++ part.now) }
+    /// ```
+    pub fn with(self, part: &[u8]) -> Self {
+        if !self.odd {
+            return sum_from(self.sum, part);
+        }
+        match part.split_first() {
+            Some((low, words)) => sum_from(add_carry(self.sum, u64::from(*low)), words),
+            None => self,
+        }
+    }
+
+    /// Returns the sum of the bytes that were added and of a word that follows them, as one of a
+    /// pseudo-header.
+    ///
+    /// # Requires
+    ///
+    /// An even count of bytes was added.
+    ///
+    /// # Contract
+    ///
+    /// ```text
+    /// requires { IsFalse self.odd }
+    /// ensures { (xs : List ℕ) → Sums self xs → Sums result (xs ++ word_bytes word) }
+    /// ```
+    pub fn with_word(self, word: u16) -> Self {
+        assert!(!self.odd, "an odd count of bytes was added");
+        PartsSum {
+            sum: add_carry(self.sum, u64::from(word)),
+            odd: false,
+        }
+    }
+
+    /// Returns the sum of the bytes that were added, and of those of which `after` is the sum.
+    ///
+    /// # Contract
+    ///
+    /// ```text
+    /// ensures { (xs ys : List ℕ) → Sums self xs → Sums after ys → Sums result (xs ++ ys) }
+    /// ```
+    pub fn joined(self, after: PartsSum) -> Self {
+        if self.odd {
+            PartsSum {
+                sum: add_carry(self.sum, u64::from(swapped(fold(after.sum)))),
+                odd: !after.odd,
+            }
+        } else {
+            PartsSum {
+                sum: add_carry(self.sum, after.sum),
+                odd: after.odd,
+            }
+        }
+    }
+
+    /// Returns the checksum of the bytes that were added.
+    ///
+    /// # Contract
+    ///
+    /// ```text
+    /// ensures { (xs : List ℕ) → Sums self.now xs → result ≡ internet_checksum xs }
+    /// ```
+    pub fn checksum(&self) -> u16 {
+        u16::MAX - fold(self.sum)
+    }
+
+    /// Returns whether the bytes that were added, with a checksum among them, are valid.
+    ///
+    /// # Contract
+    ///
+    /// ```text
+    /// ensures { (xs : List ℕ) → Sums self.now xs
+    ///     → (IsTrue result ↔ (folded (word_sum xs) ≡ 65535)) }
+    /// ```
+    pub fn is_valid(&self) -> bool {
+        fold(self.sum) == u16::MAX
+    }
+}
+
+/// Returns the checksum of these bytes.
+///
+/// # Contract
+///
+/// ```text
+/// ensures { result ≡ internet_checksum bytes.now }
+/// ```
+pub fn checksum(bytes: &[u8]) -> u16 {
+    u16::MAX - fold(sum_words(0, bytes))
+}
+
+/// Returns whether these bytes, with their checksum among them at an even offset, are valid.
+///
+/// # Contract
+///
+/// ```text
+/// ensures { IsTrue result ↔ (folded (word_sum bytes.now) ≡ 65535) }
+/// ```
+pub fn is_valid(bytes: &[u8]) -> bool {
+    fold(sum_words(0, bytes)) == u16::MAX
+}
+
+/// Returns the checksum of a message in which the word `old` became `new`, from its checksum before
+/// (RFC 1624, equation 3).
+///
+/// # Contract
+///
+/// ```text
+/// ensures { result ≡ updated checksum old new }
+/// ```
+pub fn updated_checksum(checksum: u16, old: u16, new: u16) -> u16 {
+    let without = u64::from(u16::MAX - checksum) + u64::from(u16::MAX - old);
+    u16::MAX - fold(without + u64::from(new))
+}
+
+/// Returns the sum of some words and of these bytes, the first of which is a high byte.
+///
+/// # Contract
+///
+/// ```text
+/// ensures sum { folded result.sum ≡ folded (start + word_sum bytes.now) }
+/// ensures odd { from_bool result.odd ≡ length bytes.now % 2 }
+/// ```
+fn sum_from(start: u64, bytes: &[u8]) -> PartsSum {
+    PartsSum {
+        sum: sum_words(start, bytes),
+        odd: bytes.len() % 2 == 1,
+    }
+}
+
+/// How many bytes are summed with no test for a carry: the sum of so many has room in 64 bits.
+const BLOCK: usize = 1 << 16;
+
+/// Adds the words of these bytes to a sum.
+///
+/// # Contract
+///
+/// ```text
+/// ensures { folded result ≡ folded (start + word_sum bytes.now) }
+/// ```
+fn sum_words(start: u64, bytes: &[u8]) -> u64 {
+    let mut sum = start;
+    let mut rest = bytes;
+    while rest.len() > BLOCK {
+        let (block, after) = rest.split_at(BLOCK);
+        sum = add_carry(sum, sum_block(block));
+        rest = after;
+    }
+    add_carry(sum, sum_block(rest))
+}
+
+/// Returns a sum of the words of a block. The loop has no carries, so that it is done by vectors.
+///
+/// # Contract
+///
+/// ```text
+/// requires { length bytes.now ≤ BLOCK }
+/// ensures { folded result ≡ folded (word_sum bytes.now) }
+/// ```
+fn sum_block(bytes: &[u8]) -> u64 {
+    let mut sum = 0;
+    let mut rest = bytes;
+    while let Some((four, after)) = rest.split_first_chunk::<4>() {
+        sum += u64::from(u32::from_be_bytes(*four));
+        rest = after;
+    }
+    sum_pairs(sum, rest)
+}
+
+/// Adds the words of a few bytes to a sum.
+///
+/// # Contract
+///
+/// ```text
+/// ensures { folded result ≡ folded (start + word_sum bytes.now) }
+/// ```
+fn sum_pairs(start: u64, bytes: &[u8]) -> u64 {
+    let mut sum = start;
+    let mut rest = bytes;
+    while let Some((two, after)) = rest.split_first_chunk::<2>() {
+        sum = add_carry(sum, u64::from(u16::from_be_bytes(*two)));
+        rest = after;
+    }
+    match rest.first() {
+        Some(high) => add_carry(sum, u64::from(*high) * 256),
+        None => sum,
+    }
+}
+
+/// Adds two sums, and a carry out of 64 bits at the low end.
+///
+/// # Contract
+///
+/// ```text
+/// ensures { folded result ≡ folded (a + b) }
+/// ```
+#[inline]
+fn add_carry(a: u64, b: u64) -> u64 {
+    let (sum, carried) = a.overflowing_add(b);
+    sum + carried as u64
+}
+
+/// Returns a word with its bytes exchanged.
+///
+/// # Contract
+///
+/// ```text
+/// ensures { result ≡ word % 256 * 256 + word / 256 }
+/// ```
+#[inline]
+fn swapped(word: u16) -> u16 {
+    word % 256 * 256 + word / 256
+}
+
+/// Folds a sum to one word.
+///
+/// # Contract
+///
+/// ```text
+/// ensures { result ≡ folded sum }
+/// ```
+#[inline]
+fn fold(sum: u64) -> u16 {
+    if sum == 0 {
+        0
+    } else {
+        ((sum - 1) % 65535 + 1) as u16
+    }
+}

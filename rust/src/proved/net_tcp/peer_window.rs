@@ -1,0 +1,130 @@
+//! The window that the peer announced.
+
+use crate::proved::net_tcp::advertised_window::MAX_SCALE;
+
+/// The window that the peer announced, and the segment that it is from. It is kept as its right edge,
+/// which acknowledgements don't move.
+#[derive(Copy, Clone, Debug)]
+pub struct PeerWindow {
+    /// The position after the last that may be sent.
+    pub edge: u64,
+    /// The position of the segment's first byte, in the peer's stream.
+    pub seq: u64,
+    /// The position that it acknowledged.
+    pub ack: u64,
+}
+
+/// Returns how many bytes the field of a segment announces.
+///
+/// # Requires
+///
+/// The scale is at most 14.
+///
+/// # Contract
+///
+/// ```text
+/// requires { scale ≤ 14 }
+/// ensures value { result ≡ field * 2 ^ scale }
+/// ensures few { result < 2 ^ 30 }
+/// ```
+pub fn scaled(field: u16, scale: u8) -> u64 {
+    assert!(scale <= MAX_SCALE, "a greater scale than 14");
+    u64::from(field) << scale
+}
+
+impl PeerWindow {
+    /// Returns the window that a segment announced.
+    ///
+    /// # Contract
+    ///
+    /// ```text
+    /// ensures { result ≡ window_from seq ack window }
+    /// ```
+    pub fn new(seq: u64, ack: u64, window: u64) -> Self {
+        PeerWindow {
+            edge: ack.saturating_add(window),
+            seq,
+            ack,
+        }
+    }
+
+    /// Takes over the window of an acceptable segment, unless that is older than the one before, or
+    /// acknowledges what was acknowledged before `first_unacknowledged`, or what was never sent.
+    /// Returns whether it did. A window may shrink.
+    ///
+    /// # Contract
+    ///
+    /// ```text
+    /// ensures accepted { IsTrue result ↔ ((first_unacknowledged ≤ ack) × (ack ≤ sent)
+    ///     × (IsNewer self.old seq ack)) }
+    /// ensures window { IsTrue result → self.new ≡ window_from seq ack window }
+    /// ensures refused { IsFalse result → self.new ≡ self.old }
+    /// ensures state { first_unacknowledged ≤ ack → ack ≤ sent →
+    ///     self.new ≡ with_segment self.old seq ack window }
+    /// ```
+    pub fn update(
+        &mut self,
+        first_unacknowledged: u64,
+        sent: u64,
+        seq: u64,
+        ack: u64,
+        window: u64,
+    ) -> bool {
+        if ack < first_unacknowledged || ack > sent || !self.is_replaced_by(seq, ack) {
+            return false;
+        }
+        *self = PeerWindow::new(seq, ack, window);
+        true
+    }
+
+    /// Returns whether the segment of these numbers is not older than the one that the window is from.
+    ///
+    /// # Contract
+    ///
+    /// ```text
+    /// ensures value { result ≡ is_newer self.now seq ack }
+    /// ensures newer { IsTrue result ↔ IsNewer self.now seq ack }
+    /// ```
+    #[inline]
+    fn is_replaced_by(&self, seq: u64, ack: u64) -> bool {
+        self.seq < seq || self.seq == seq && self.ack <= ack
+    }
+
+    /// Returns how many bytes from `pos` on may be sent: none if the edge is at or below it, as it
+    /// may be after the window shrank.
+    ///
+    /// # Contract
+    ///
+    /// ```text
+    /// ensures { result ≡ self.now.edge - pos }
+    /// ```
+    pub fn usable(&self, pos: u64) -> u64 {
+        self.edge.saturating_sub(pos)
+    }
+
+    /// Returns the end of what may be sent of the bytes below `end`.
+    ///
+    /// # Contract
+    ///
+    /// ```text
+    /// ensures { result ≡ min self.now.edge end }
+    /// ```
+    pub fn send_limit(&self, end: u64) -> u64 {
+        self.edge.min(end)
+    }
+
+    /// Returns whether a probe may be sent, the one byte at `first_unacknowledged`: the window has
+    /// closed, and there are bytes below `end` that wait.
+    ///
+    /// # Contract
+    ///
+    /// ```text
+    /// ensures value { IsTrue result
+    ///     ↔ ((self.now.edge ≤ first_unacknowledged) × (first_unacknowledged < end)) }
+    /// ensures progress { first_unacknowledged < end → IsFalse result →
+    ///     first_unacknowledged < min self.now.edge end }
+    /// ```
+    pub fn is_probe_allowed(&self, first_unacknowledged: u64, end: u64) -> bool {
+        self.edge <= first_unacknowledged && first_unacknowledged < end
+    }
+}

@@ -1,0 +1,201 @@
+//! The time until a retransmission, in whole microseconds.
+
+/// The longest round trip that counts, in microseconds: 2^60, some 36,000 years.
+const LONGEST_SAMPLE: u64 = 1 << 60;
+
+/// An estimate of the time of a round trip.
+#[derive(Copy, Clone, Debug)]
+pub struct RttEstimate {
+    /// Eight times the smoothed time.
+    pub srtt_8: u64,
+    /// Four times its variation.
+    pub rttvar_4: u64,
+}
+
+/// The bounds of a timeout, and the tick of the clock that the samples are read from.
+#[derive(Copy, Clone, Debug)]
+pub struct TimeoutBounds {
+    /// The least timeout.
+    pub least: u64,
+    /// The greatest.
+    pub most: u64,
+    /// The time between two ticks of the clock.
+    pub tick: u64,
+}
+
+/// When an acknowledged segment was sent. A segment that was sent again gives no sample: which of
+/// the copies was acknowledged is not known (Karn).
+#[derive(Copy, Clone, Debug)]
+pub enum Transmission {
+    /// Once, at this time.
+    Once(u64),
+    /// More than once.
+    Repeated,
+}
+
+impl RttEstimate {
+    /// Returns the estimate after the first sample.
+    ///
+    /// # Contract
+    ///
+    /// ```text
+    /// ensures value { result ≡ first_estimate (sample time) }
+    /// ensures small { IsSmall result }
+    /// ```
+    pub fn first(time: u64) -> Self {
+        let time = time.min(LONGEST_SAMPLE);
+        RttEstimate {
+            srtt_8: time * 8,
+            rttvar_4: time * 2,
+        }
+    }
+
+    /// Returns the estimate after one more sample.
+    ///
+    /// # Requires
+    ///
+    /// The estimate was made by samples, as `is_small` tests.
+    ///
+    /// # Contract
+    ///
+    /// ```text
+    /// requires { IsSmall self }
+    /// ensures value { result ≡ next_estimate self (sample time) }
+    /// ensures small { IsSmall result }
+    /// ```
+    pub fn with_sample(self, time: u64) -> Self {
+        assert!(self.is_small(), "an estimate that was not made by samples");
+        let time = time.min(LONGEST_SAMPLE);
+        RttEstimate {
+            srtt_8: self.srtt_8 - (self.srtt_8 >> 3) + time,
+            rttvar_4: self.rttvar_4 - (self.rttvar_4 >> 2) + (self.srtt_8 >> 3).abs_diff(time),
+        }
+    }
+
+    /// Returns whether this estimate has room for a sample, as any has that was made by samples.
+    ///
+    /// # Contract
+    ///
+    /// ```text
+    /// ensures { IsTrue result ↔ IsSmall self }
+    /// ```
+    pub const fn is_small(self) -> bool {
+        self.srtt_8 <= 1 << 63 && self.rttvar_4 <= 1 << 62
+    }
+
+    /// Returns the smoothed time.
+    ///
+    /// # Contract
+    ///
+    /// ```text
+    /// ensures { result ≡ self.srtt_8 / 8 }
+    /// ```
+    pub fn srtt(self) -> u64 {
+        self.srtt_8 >> 3
+    }
+
+    /// Returns the timeout that it gives: at least the smoothed time, but for the greatest timeout.
+    ///
+    /// # Contract
+    ///
+    /// ```text
+    /// ensures value { result ≡ timeout_of bounds self }
+    /// ensures least { bounds.least ≤ result }
+    /// ensures most { bounds.least ≤ bounds.most → result ≤ bounds.most }
+    /// ensures long { min bounds.most (self.srtt_8 / 8) ≤ result }
+    /// ```
+    pub fn timeout(self, bounds: TimeoutBounds) -> u64 {
+        let time = (self.srtt_8 >> 3).saturating_add(bounds.tick.max(self.rttvar_4));
+        bounds.least.max(bounds.most.min(time))
+    }
+}
+
+/// The time until a retransmission.
+#[derive(Copy, Clone, Debug)]
+pub struct RetransmissionTimeout {
+    /// The estimate, if there was a sample.
+    pub estimate: Option<RttEstimate>,
+    /// The timeout.
+    pub timeout: u64,
+}
+
+impl RetransmissionTimeout {
+    /// Returns a timeout before any sample. The RFC has 1 second.
+    ///
+    /// # Contract
+    ///
+    /// ```text
+    /// ensures value { result.timeout ≡ timeout }
+    /// ensures small { IsSmallIfAny result.estimate }
+    /// ```
+    pub fn new(timeout: u64) -> Self {
+        RetransmissionTimeout {
+            estimate: None,
+            timeout,
+        }
+    }
+
+    /// Takes over the sample of a segment that was acknowledged now, if it was sent once.
+    ///
+    /// # Requires
+    ///
+    /// The estimate, if there is one, was made by samples.
+    ///
+    /// # Contract
+    ///
+    /// ```text
+    /// requires { IsSmallIfAny self.old.estimate }
+    /// ensures state { self.new ≡ after_acknowledgement bounds sent now self.old }
+    /// ensures small { IsSmallIfAny self.new.estimate }
+    /// ```
+    pub fn acknowledged(&mut self, bounds: TimeoutBounds, sent: Transmission, now: u64) {
+        match sent {
+            Transmission::Once(at) => self.take_sample(bounds, now.saturating_sub(at)),
+            Transmission::Repeated => {}
+        }
+    }
+
+    /// Takes over a sample.
+    ///
+    /// # Contract
+    ///
+    /// ```text
+    /// requires { IsSmallIfAny self.old.estimate }
+    /// ensures state { self.new ≡ after_sample bounds time self.old }
+    /// ensures small { IsSmallIfAny self.new.estimate }
+    /// ```
+    fn take_sample(&mut self, bounds: TimeoutBounds, time: u64) {
+        let estimate = updated(self.estimate, time);
+        self.estimate = Some(estimate);
+        self.timeout = estimate.timeout(bounds);
+    }
+
+    /// Doubles the timeout, after it passed.
+    ///
+    /// # Contract
+    ///
+    /// ```text
+    /// ensures timeout { self.new.timeout ≡ doubled bounds self.old.timeout }
+    /// ensures estimate { self.new.estimate ≡ self.old.estimate }
+    /// ```
+    pub fn expired(&mut self, bounds: TimeoutBounds) {
+        let timeout = self.timeout.saturating_mul(2);
+        self.timeout = bounds.least.max(bounds.most.min(timeout));
+    }
+}
+
+/// Returns the estimate after a sample.
+///
+/// # Contract
+///
+/// ```text
+/// requires { IsSmallIfAny estimate }
+/// ensures value { result ≡ estimate_after estimate (sample time) }
+/// ensures small { IsSmall result }
+/// ```
+fn updated(estimate: Option<RttEstimate>, time: u64) -> RttEstimate {
+    match estimate {
+        Some(estimate) => estimate.with_sample(time),
+        None => RttEstimate::first(time),
+    }
+}
