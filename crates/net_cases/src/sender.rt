@@ -3,14 +3,14 @@ use crate::bytes::{START, mix_bytes, pattern};
 use crate::call::{ANY, Call, Entry, find};
 use crate::reply::{Part, Reply};
 use crate::subject::Subject;
-use net_receiver::{MOST_SACK_BLOCKS, SackBlocks, Sender};
+use net_receiver::{MOST_SACK_BLOCKS, SackBlocks, SackSender};
 use net_ring::ManagedSlice;
 use std::alloc::{AllocError, Global};
 
 /// A sender, and its stream's first position.
 #[derive(Drop)]
 pub struct Source {
-    sender: Sender<'static>,
+    sender: SackSender<'static>,
     first: u64,
 }
 
@@ -49,7 +49,7 @@ static CALLS: [Entry<Kind>; 9] = [
 pub fn sender(alloc: Global, capacity: u64, first: u64) -> Result<Source, AllocError> {
     let storage = pattern(alloc, capacity, 0)?;
     Ok(Source {
-        sender: Sender::new_at(ManagedSlice::from(storage), first),
+        sender: SackSender::new_at(ManagedSlice::from(storage), first),
         first,
     })
 }
@@ -92,7 +92,7 @@ impl Subject for Source {
 }
 
 /// Returns the digest of the queue.
-fn digest_of(sender: &Sender<'_>) -> u64 {
+fn digest_of(sender: &SackSender<'_>) -> u64 {
     let begin = sender.first_unacknowledged();
     let part = sender.peek_at(begin, usize::MAX);
     let next = begin.saturating_add(part.len() as u64);
@@ -102,7 +102,7 @@ fn digest_of(sender: &Sender<'_>) -> u64 {
 
 fn write(
     alloc: Global,
-    sender: &mut Sender<'_>,
+    sender: &mut SackSender<'_>,
     size: u64,
     seed: u64,
 ) -> Result<Reply, AllocError> {
@@ -111,7 +111,7 @@ fn write(
 }
 
 /// Accepts an acknowledgement, and returns a reply of whether its position is one that the queue has, or its end.
-fn acknowledge(sender: &mut Sender<'_>, next: u64, blocks: SackBlocks) -> Reply {
+fn acknowledge(sender: &mut SackSender<'_>, next: u64, blocks: SackBlocks) -> Reply {
     let is_done = sender.first_unacknowledged() <= next && next <= sender.end();
     sender.acknowledge(next, blocks);
     done(is_done)
@@ -123,7 +123,7 @@ fn done(is_done: bool) -> Reply {
 }
 
 /// Moves a mark of what was sent, and returns a reply of whether it was done, and of the mark.
-fn mark_sent(sender: &Sender<'_>, sent: u64, pos: u64) -> Reply {
+fn mark_sent(sender: &SackSender<'_>, sent: u64, pos: u64) -> Reply {
     let mut mark = sent;
     let is_done = sender.mark_sent(&mut mark, pos);
     done(is_done).number(mark)

@@ -124,9 +124,9 @@ module _ (b : ℕ) (s : Positions) (begins : contains s 0 ≡ false) where
       let misses = first_missing-misses (shift_up s b) from in
       let has = first_missing-has (shift_up s b) from in
       let misses' : contains (board b s) e ≡ false =
-          let k = contains-board b s e in
-          let u = contains-shift_up s b e in
-          grind (arith, nat_tests) in
+      let k = contains-board b s e in
+      let u = contains-shift_up s b e in
+      grind (arith, nat_tests) in
       first_missing-is (board b s) p e (omega (arith, least)) misses' (λ q low high.
       let k = contains-board b s q in
       let u = contains-shift_up s b q in
@@ -177,10 +177,10 @@ pub no_room : (most b : ℕ) (s : Positions) (o n : ℕ) → contains s 0 ≡ fa
 no_room most b s o n begins l =
     let le : b ≤ o = omega arith in
     let number : runs (with_range (beyond (board b s)) o n) ≡ runs (with_range s (o - b) n) =
-        ap (λ t. runs (with_range t o n)) (beyond_board b s begins)
-        ∙ runs_shifted b (with_range s (o - b) n) (with_range (shift_up s b) o n) (range_shifted b s o n le) in
+    ap (λ t. runs (with_range t o n)) (beyond_board b s begins)
+    ∙ runs_shifted b (with_range s (o - b) n) (with_range (shift_up s b) o n) (range_shifted b s o n le) in
     let test : makes_too_many_runs most (beyond (board b s)) o n ≡ makes_too_many_runs most s (o - b) n =
-        ap (λ k. nat_lt 0 n && nat_lt most k) number in
+    ap (λ k. nat_lt 0 n && nat_lt most k) number in
     let at = front_board b s begins in
     (λ many. (omega (arith, at, l), test ∙ many), λ none. sym test ∙ none.1)
 

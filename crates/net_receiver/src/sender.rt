@@ -3,14 +3,12 @@ ghost use Rattle.std.specs.Prelude.{◌≡◌, ◌↔◌, ◌+◌, ◌-◌, ◌<
 ghost use Rattle.std.specs.Prelude.{length, take, drop, min, max, slice_index_or, IsTrue, IsFalse};
 ghost use Rattle.net_receiver.specs.OneStream.{MatchesStream};
 ghost use Rattle.net_receiver.specs.SenderState.{sender_state, end_of, room_of, contiguous_end, with_written};
-ghost use Rattle.net_receiver.specs.SenderState.{acknowledge, sender_from, spared_from, next_block};
-ghost use Rattle.net_receiver.specs.SenderState.{send_limit, Sends};
-ghost use Rattle.net_receiver.specs.SackBlocks.{is_full};
+ghost use Rattle.net_receiver.specs.SenderState.{sender_from, Sends};
+ghost use Rattle.net_receiver.specs.SenderHeads.{sender_of, IsSoundHead};
 
 mod head;
 
 use crate::laws;
-use crate::sack_blocks::SackBlocks;
 pub use head::SenderHead;
 use net_ring::{ManagedSlice, Storage};
 use std::marker::Model;
@@ -18,29 +16,29 @@ use std::marker::Model;
 /// The sender of a stream: its queue has the bytes that were written and not yet acknowledged. It
 /// serves as the sending half of a TCP socket: `peek_at` lends the bytes of a segment.
 ///
-/// Positions are absolute and counted in bytes, as a `Receiver` counts them. Contracts see the
-/// capacity, the first unacknowledged position, which is that of the queue's head, the queue, the
-/// SACK blocks of the last acknowledgement, and the position at which the storage begins again;
-/// `Sends f w` says of a sender that all bytes that were ever written to it are `w`, the first at
-/// position `f`. No call takes memory. smoltcp's TCP socket has its transmit buffer inside, and
-/// ignores SACK blocks.
+/// Positions are absolute and counted in bytes, as a `Receiver` counts them. The storage's length is
+/// the most bytes that are queued.
+///
+/// Contracts see the capacity, the first unacknowledged position, which is that of the queue's head,
+/// the queue, and the position at which the storage begins again; `Sends f w` says of a sender that
+/// all bytes that were ever written to it are `w`, the first at position `f`. No call takes memory.
+/// smoltcp's TCP socket has its transmit buffer inside.
 pub struct SenderOver<S: Storage<u8>> {
     head: SenderHead,
     storage: S,
-    sack_blocks: SackBlocks,
 }
 
 /// A sender over storage that is lent or owned.
 pub type Sender<'a> = SenderOver<ManagedSlice<'a, u8>>;
 
 impl<S: Storage<u8>> Model for SenderOver<S> {
-    ghost use Rattle.std.specs.Prelude.{length};
+    ghost use Rattle.std.specs.Prelude.{length, []};
     ghost use Rattle.net_receiver.specs.SenderState.{SenderState};
     ghost use Rattle.net_receiver.specs.SenderHeads.{sender_of, IsSoundHead};
 
     ghost Value = { SenderState };
 
-    ghost view = { λ s. sender_of s.head (S.elements s.storage) s.sack_blocks };
+    ghost view = { λ s. sender_of s.head (S.elements s.storage) [] };
 
     ghost invariant = { λ s. IsSoundHead (length (S.elements s.storage)) s.head };
 }
@@ -48,29 +46,24 @@ impl<S: Storage<u8>> Model for SenderOver<S> {
 /// Written by hand, so that storage that isn't `Drop` can be used too.
 impl<S: Storage<u8> + Drop> Drop for SenderOver<S> {
     fn drop(self) {
-        let SenderOver {
-            head: _,
-            storage,
-            sack_blocks,
-        } = self;
-        drop(sack_blocks);
+        let SenderOver { head: _, storage } = self;
         drop(storage);
     }
 }
 
 impl<S: Storage<u8>> SenderOver<S> {
-    /// Returns a sender of a stream that begins at position 0: `new_at` with 0.
-    pub fn new(storage: S) -> Self
+    /// Returns a sender of a stream that begins at position 0: `over_at` with 0.
+    pub const fn over(storage: S) -> Self
         ensures state { let n = length (S.elements storage) in result ≡ sender_state n 0 [] [] n }
         ensures sends { Sends 0 [] result }
     {
-        Self::new_at(storage, 0)
+        Self::over_at(storage, 0)
     }
 
     /// Returns a sender of a stream that begins at position `first`, to which nothing was written.
     ///
     /// Its capacity is the length of `storage` in bytes, of which 0 is allowed.
-    pub fn new_at(storage: S, first: u64) -> Self
+    pub const fn over_at(storage: S, first: u64) -> Self
         ensures state { let n = length (S.elements storage) in
             result ≡ sender_state n first [] [] (first + n) }
         ensures sends { Sends first [] result }
@@ -78,8 +71,42 @@ impl<S: Storage<u8>> SenderOver<S> {
         SenderOver {
             head: SenderHead::new(first),
             storage,
-            sack_blocks: SackBlocks::new(),
         }
+    }
+
+    /// Returns the sender that a head and a storage represent.
+    ///
+    /// # Requires
+    ///
+    /// The head is sound for the storage, as `SenderHead::is_sound` tests.
+    pub fn from_parts(head: SenderHead, storage: S) -> Self
+        requires { IsSoundHead (length (S.elements storage)) head }
+        ensures { result ≡ sender_of head (S.elements storage) [] }
+    {
+        prove!(
+            head.is_sound(storage.count()),
+            "the head is not that of this storage"
+        );
+        SenderOver { head, storage }
+    }
+
+    /// Returns the head and the storage, which represent the sender.
+    pub fn into_parts(self) -> (SenderHead, S)
+        ensures sound { IsSoundHead (length (S.elements result.1)) result.0 }
+        ensures state { sender_of result.0 (S.elements result.1) [] ≡ self }
+    {
+        let SenderOver { head, storage } = self;
+        (head, storage)
+    }
+
+    /// Begins again: a stream that begins at position `first`, to which nothing was written, over the
+    /// same storage.
+    pub fn reset_at(&mut self, first: u64)
+        ensures state { self.new
+            ≡ sender_state self.old.capacity first [] [] (first + self.old.capacity) }
+        ensures sends { Sends first [] self.new }
+    {
+        self.head = SenderHead::new(first);
     }
 
     /// Returns the first unacknowledged position, which is that of the queue's head.
@@ -113,15 +140,22 @@ impl<S: Storage<u8>> SenderOver<S> {
         self.len() == 0
     }
 
-    /// Returns how many bytes `write` would take: as many as have room in the storage and below the
-    /// last position.
-    pub fn room(&self) -> usize
+    /// Returns the most bytes that are queued: the storage's length.
+    pub fn capacity(&self) -> usize
+        ensures { result ≡ self.now.capacity }
+    {
+        self.storage.count()
+    }
+
+    /// Returns the window: how many bytes `write` would take. As many as have room in the storage and
+    /// below the last position, `u64::MAX`.
+    pub fn window(&self) -> usize
         ensures { result ≡ room_of self.now }
     {
         self.head.room(self.storage.count())
     }
 
-    /// Enqueues the first of these bytes, as many as `room` says, and returns how many.
+    /// Enqueues the first of these bytes, as many as `window` says, and returns how many.
     pub fn write(&mut self, bytes: &[u8]) -> usize
         ensures count { result ≡ min (length bytes.now) (room_of self.old) }
         ensures state { self.new ≡ with_written self.old (take result bytes.now) }
@@ -156,61 +190,22 @@ impl<S: Storage<u8>> SenderOver<S> {
         self.storage.part(span.from, span.from + span.contiguous)
     }
 
-    /// Returns how many of the queued bytes, from the one at `pos` on, are in the first SACK block
-    /// that has `pos`: 0 if none has it, or `pos` is at or past the end.
-    pub fn spared_from(&self, pos: u64) -> u64
-        ensures value { result ≡ spared_from self.now pos }
-        ensures within { pos ≤ end_of self.now → pos + result ≤ end_of self.now }
-        ensures fits { end_of self.now < 2 ^ 64 }
-    {
-        let left = self.end().saturating_sub(pos);
-        self.sack_blocks.count_from(pos).min(left)
-    }
-
-    /// Returns the first start of a SACK block above `pos` and below the end, or the end if
-    /// there is none.
-    pub fn next_block(&self, pos: u64) -> u64
-        ensures value { result ≡ next_block self.now pos }
-        ensures above { pos < end_of self.now → pos < result }
-    {
-        self.sack_blocks.next_start(pos, self.end())
-    }
-
-    /// Returns whether there are as many SACK blocks as an acknowledgement has room for. Then the
-    /// receiver may hold bytes that it couldn't list.
-    pub fn are_sack_blocks_full(&self) -> bool
-        ensures { result ≡ is_full self.now.sack_blocks }
-    {
-        self.sack_blocks.is_full()
-    }
-
-    /// Returns the position at and above which no frame begins: the end, or, if there are as many
-    /// SACK blocks as there can be, the one after the end of the last.
-    pub fn send_limit(&self) -> u64
-        ensures { result ≡ send_limit self.now }
-    {
-        if !self.are_sack_blocks_full() {
-            return self.end();
-        }
-        let last = self.sack_blocks.greatest_end(self.first_unacknowledged());
-        last.saturating_add(1).min(self.end())
-    }
-
-    /// Accepts an acknowledgement: drops the bytes below `next`, and stores these SACK blocks in
-    /// place of the last ones. A position below `first_unacknowledged` or above `end` changes
-    /// nothing.
-    pub fn acknowledge(&mut self, next: u64, sack_blocks: SackBlocks)
-        ensures state { self.new ≡ acknowledge self.old next sack_blocks }
+    /// Accepts an acknowledgement: dequeues all bytes below `next`, and returns true. A position below
+    /// `first_unacknowledged` or above `end` changes nothing, and returns false. `acknowledge_sent` also
+    /// refuses a position of bytes that were written and not sent.
+    pub fn acknowledge(&mut self, next: u64) -> bool
+        ensures accepted { IsTrue result
+            ↔ ((self.old.first_unacknowledged ≤ next) × (next ≤ end_of self.old)) }
+        ensures state { IsTrue result → self.new ≡ sender_from self.old next [] }
         ensures sends { (f : ℕ) (w : List ℕ) → Sends f w self.old → Sends f w self.new }
+        ensures refused { IsFalse result → self.new ≡ self.old }
     {
-        if self.head.acknowledge(self.storage.count(), next) {
-            self.sack_blocks = sack_blocks;
-        }
+        self.head.acknowledge(self.storage.count(), next)
     }
 
     /// Moves `sent`, the position after the last byte that was ever sent, up to `pos`, if that is
-    /// above it. Returns false, and changes nothing, if `sent` or `pos` is above `end`: no such byte
-    /// was written.
+    /// above it, and returns true. Returns false, and changes nothing, if `sent` or `pos` is above
+    /// `end`: no such byte was written.
     ///
     /// The caller keeps this mark. It begins as the position of the stream's first byte.
     pub fn mark_sent(&self, sent: &mut u64, pos: u64) -> bool
@@ -222,21 +217,17 @@ impl<S: Storage<u8>> SenderOver<S> {
         self.head.mark_sent(sent, pos)
     }
 
-    /// Accepts an acknowledgement, as `acknowledge` does, if what it acknowledges was sent: `sent` is
-    /// the position after the last byte that was ever sent, as `mark_sent` keeps it. Returns false,
-    /// and changes nothing, if `next` is below `first_unacknowledged` or above `sent`, or `sent` is
-    /// above `end`.
-    pub fn acknowledge_sent(&mut self, next: u64, sent: u64, sack_blocks: SackBlocks) -> bool
+    /// Dequeues all bytes below `next`, as `acknowledge` does, if they were sent, and returns true:
+    /// `sent` is the position after the last byte that was ever sent, as `mark_sent` keeps it. Returns
+    /// false, and changes nothing, if `next` is below `first_unacknowledged` or above `sent`, or `sent`
+    /// is above `end`. RFC 9293, section 3.10.7.4, wants an acknowledgement above `sent` refused.
+    pub fn acknowledge_sent(&mut self, next: u64, sent: u64) -> bool
         ensures accepted { IsTrue result ↔ ((self.old.first_unacknowledged ≤ next) × (next ≤ sent)
             × (sent ≤ end_of self.old)) }
-        ensures state { IsTrue result → self.new ≡ sender_from self.old next sack_blocks }
+        ensures state { IsTrue result → self.new ≡ sender_from self.old next [] }
         ensures sends { (f : ℕ) (w : List ℕ) → Sends f w self.old → Sends f w self.new }
         ensures refused { IsFalse result → self.new ≡ self.old }
     {
-        if !self.head.acknowledge_sent(self.storage.count(), next, sent) {
-            return false;
-        }
-        self.sack_blocks = sack_blocks;
-        true
+        self.head.acknowledge_sent(self.storage.count(), next, sent)
     }
 }

@@ -22,7 +22,7 @@ pub use fates::{Fates, LinkFates};
 pub use frame::{decode_frame, requeue_frame, send_frame};
 pub use link::StreamLink;
 pub use net_receiver::laws::queue_from_greatest;
-pub use net_receiver::{SackBlocks, Sender, SenderHead, SenderOver};
+pub use net_receiver::{SackBlocks, SackSender, SackSenderOver, SenderHead};
 pub use net_stream_model::laws::{distinct_frames, frames_decode};
 pub use net_stream_model::{Config, CopyError, Counts, Fate, FrameCounts, Rates, laws};
 pub use path::FaultyPath;

@@ -17,7 +17,7 @@ mod transmit;
 use crate::fates::LinkFates;
 use crate::path::FaultyPath;
 use net_base::time::{Duration, Instant};
-use net_receiver::{MOST_SACK_BLOCKS, Receiver, Sender, laws};
+use net_receiver::{MOST_SACK_BLOCKS, Receiver, SackSender, laws};
 use net_ring::ManagedSlice;
 use net_stream_model::FrameCounts;
 use std::alloc::Allocator;
@@ -33,7 +33,7 @@ use std::marker::Model;
 #[derive(Drop)]
 pub struct StreamLink<'a, 'f, A: Allocator + Copy> {
     /// The sender.
-    pub sender: Sender<'a>,
+    pub sender: SackSender<'a>,
     /// The receiver. It holds at most as many runs as an acknowledgement has SACK blocks.
     pub receiver: Receiver<'a, MOST_SACK_BLOCKS>,
     /// The path of the frames, from the sender to the receiver.
@@ -94,7 +94,7 @@ impl<'a, 'f, A: Allocator + Copy> StreamLink<'a, 'f, A> {
         ensures carries { LinkInvariant first [] result }
     {
         StreamLink {
-            sender: Sender::new_at(to_send, first),
+            sender: SackSender::new_at(to_send, first),
             receiver: Receiver::new_at(to_receive, first),
             forward: FaultyPath::new(alloc, fates.frames),
             reverse: FaultyPath::new(alloc, fates.acks),

@@ -1,7 +1,7 @@
 //! The bytes that a sender has queued and lends, at known bytes.
 
 use crate::receiver::assertions::assert_holds;
-use net_receiver::{SackBlocks, Sender, SenderHead};
+use net_receiver::{SackBlocks, SackSender, SenderHead};
 use net_ring::ManagedSlice;
 use std::alloc::{AllocError, Global};
 
@@ -25,19 +25,19 @@ enum Step {
 }
 
 /// Returns whether an acknowledgement below a mark is taken, or refused, as it should be.
-fn is_sent_acknowledged(sender: &mut Sender<'_>, next: u64, sent: u64, taken: bool) -> bool {
+fn is_sent_acknowledged(sender: &mut SackSender<'_>, next: u64, sent: u64, taken: bool) -> bool {
     sender.acknowledge_sent(next, sent, SackBlocks::new()) == taken
 }
 
 /// Returns whether a mark of what was sent is moved as it should be.
-fn is_marked(sender: &Sender<'_>, sent: u64, pos: u64, moved: bool, left: u64) -> bool {
+fn is_marked(sender: &SackSender<'_>, sent: u64, pos: u64, moved: bool, left: u64) -> bool {
     let mut mark = sent;
     sender.mark_sent(&mut mark, pos) == moved && mark == left
 }
 
 /// Returns whether an acknowledgement leaves this first unacknowledged position and this end, and
 /// as many bytes.
-fn is_acknowledged(sender: &mut Sender<'_>, next: u64, head: u64, end: u64) -> bool {
+fn is_acknowledged(sender: &mut SackSender<'_>, next: u64, head: u64, end: u64) -> bool {
     sender.acknowledge(next, SackBlocks::new());
     sender.first_unacknowledged() == head
         && sender.end() == end
@@ -46,7 +46,7 @@ fn is_acknowledged(sender: &mut Sender<'_>, next: u64, head: u64, end: u64) -> b
 }
 
 /// Returns whether a call gives what it should.
-fn does(sender: &mut Sender<'_>, step: &Step) -> bool {
+fn does(sender: &mut SackSender<'_>, step: &Step) -> bool {
     match step {
         Step::Write(bytes, count) => sender.write(bytes) == *count,
         Step::Peek(pos, most, bytes) => sender.peek_at(*pos, *most) == *bytes,
@@ -123,7 +123,7 @@ const SENT_TO_TWELVE: [Step; 12] = [
 
 /// Returns how many of the calls give what they should, up to the first that doesn't.
 fn all_of(steps: &[Step], storage: &mut [u8], first: u64) -> usize {
-    let mut sender = Sender::new_at(ManagedSlice::Borrowed(storage), first);
+    let mut sender = SackSender::new_at(ManagedSlice::Borrowed(storage), first);
     for i in 0..steps.len() {
         if !does(&mut sender, &steps[i]) {
             return i;
@@ -158,7 +158,7 @@ fn part(elements: &[u8], from: usize, to: usize) -> &[u8] {
 
 /// Returns whether a sender of as many bytes as these lends all of them, and after an
 /// acknowledgement the rest of them and the bytes that are written then.
-fn lends_all(sender: &mut Sender<'_>, bytes: &[u8]) -> bool {
+fn lends_all(sender: &mut SackSender<'_>, bytes: &[u8]) -> bool {
     let is_full = sender.write(bytes) == bytes.len() && sender.room() == 0;
     let is_lent = sender.peek_at(0, usize::MAX) == bytes
         && sender.peek_at(1_000, 65_528) == part(bytes, 1_000, 66_528);
@@ -183,7 +183,7 @@ fn pattern(alloc: Global, len: usize) -> Result<Vec<u8>, AllocError> {
 fn a_large_sender_lends_all_at_once(rt: HostRuntime) -> Result<(), AllocError> {
     let bytes = pattern(rt.alloc(), 262_144)?;
     let mut storage = pattern(rt.alloc(), 262_144)?;
-    let mut sender = Sender::new(ManagedSlice::Borrowed(&mut storage));
+    let mut sender = SackSender::new(ManagedSlice::Borrowed(&mut storage));
     assert_holds(&rt, lends_all(&mut sender, &bytes), ("sender", 0));
     Ok(())
 }
@@ -208,7 +208,7 @@ fn storage_is_written_only_where_bytes_are_queued(rt: HostRuntime) {
 
 /// Returns how many of these bytes a sender over this storage takes.
 fn taken_by(storage: &mut [u8], bytes: &[u8]) -> usize {
-    let mut sender = Sender::new(ManagedSlice::Borrowed(storage));
+    let mut sender = SackSender::new(ManagedSlice::Borrowed(storage));
     sender.write(bytes)
 }
 

@@ -2,7 +2,7 @@ use Rattle.std.proofs.Common.{◌≡◌, ◌∙◌, ap, arith}
 use Rattle.net_receiver.specs.SenderState.{end_of, next_block}
 use Rattle.net_receiver.specs.SackBlocks.{next_start}
 use Rattle.net_receiver.proofs.Senders.{next_above}
-use Rattle.net_receiver.proofs.sender.SenderOver.next_block.Goals as goal
+use Rattle.net_receiver.proofs.sack_sender.SackSenderOver.next_block.Goals as goal
 
 pub returns-clause-value : goal.returns-clause-value
 returns-clause-value g c =

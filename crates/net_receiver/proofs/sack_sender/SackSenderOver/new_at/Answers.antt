@@ -2,7 +2,7 @@ use Rattle.std.proofs.Common.{◌-◌, ◌∙◌, [], length, ap, sym, subst, ar
 use Rattle.std.proofs.lemmas.List.{drop_all}
 use Rattle.net_receiver.specs.SenderState.{Sends}
 use Rattle.net_receiver.specs.SenderHeads.{sender_of}
-use Rattle.net_receiver.proofs.sender.SenderOver.new_at.Goals as goal
+use Rattle.net_receiver.proofs.sack_sender.SackSenderOver.new_at.Goals as goal
 
 pub invariant_of-result : goal.invariant_of-result
 invariant_of-result g c = c.new.ensures.sound (length (g.S.Storage.elements c.args.storage))
