@@ -201,7 +201,7 @@ def text():
     return (
         "//! The rows that models/copies.py gives.\n\n"
         f"use crate::counted::ways::{{\n{ways}\n}};\n"
-        "use crate::counted::{Case, TO_THE_END};\nuse net_testing::NEVER;\n\n"
+        "use crate::counted::{Case, TO_THE_END};\nuse net_io::testing::NEVER;\n\n"
         f"/// Copies, and the counts of each.\npub static CASES: [Case; {len(cases)}] = [\n"
         + "\n".join(cases)
         + "\n];\n"

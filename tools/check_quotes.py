@@ -3,17 +3,9 @@
 
 In doc comments of crates/*/src, each block between ``` lines is an example: it has to be found, line by line, in a file
 of one of EXAMPLES, crates that the gate proves, and to name the item that it documents. The pages are README.md,
-CONTRIBUTING.md, docs/*.md and crates/*/CALLING.md. Of their blocks between ``` lines,
-
-- one marked `rust` has to be found, line by line, in one file crates/*/src/**/*.rt, which the prover checks, or in the
-  examples of rust/src, which `cargo test` runs. How far it is indented doesn't matter, nor does the attribute `#![tactic(auto)]`, which each crate has in its
-  root;
-- of one marked `text`, which shows contracts, each line that has a clause in braces has to be found in one file,
-  in order, except a remark after two spaces or more. Of each other function in it, `fn NAME` or
-  `fn TYPE::NAME`, a function of this name has to be in the sources of the page's crate, and have each clause
-  that the block names, as `ensures NAME:` or `ensures NAME, NAME:`. What a clause says is compared too, `S`
-  standing for what `self` points to before a call and `S'` for that after it: it says how many clauses are
-  quoted and how many retold, in other words or shortened.
+CONTRIBUTING.md, docs/*.md and crates/*/CALLING.md. Each of their blocks that is marked `rust` has to be found, line by
+line, in one file crates/*/src/**/*.rt, which the prover checks, or in the examples of rust/src, which `cargo test` runs.
+How far it is indented doesn't matter, nor does the attribute `#![tactic(auto)]`, which each crate has in its root.
 
 In prose, between backquotes,
 
@@ -36,7 +28,7 @@ import sys
 
 ROOT = pathlib.Path(__file__).resolve().parent.parent
 # The crates whose lines doc comments quote as examples.
-EXAMPLES = ["net_examples", "net_base_tests", "net_examples_tests", "net_sockets"]
+EXAMPLES = ["net_examples", "net_core_tests", "net_stream_tests", "net_sockets"]
 # Where names are looked for.
 SOURCES = ["crates/**/*", "models/*", "compare/**/*", "rust/**/*", "c/**/*", "tools/*", "crates.txt", "HANDLES", ".ci/run", "*", "docs/*"]
 ELSEWHERE = set("""
@@ -55,11 +47,11 @@ def dedented(lines):
     return [line[cut:].rstrip() for line in lines]
 
 
-def blocks(page, kind):
-    """The blocks of a page that are marked so, each with the number of its first line."""
+def blocks(page):
+    """The blocks of a page that are marked `rust`, each with the number of its first line."""
     block, begins = None, 0
     for number, line in enumerate(page.read_text().splitlines(), 1):
-        if block is None and line.strip() == "```" + kind:
+        if block is None and line.strip() == "```rust":
             block, begins = [], number + 1
         elif block is not None and line.strip() == "```":
             yield begins, block
@@ -108,20 +100,6 @@ def has_block(block, source):
     return False
 
 
-def has_in_order(block, source):
-    """Whether the source has each line of the block, without its remark, in this order."""
-    lines = iter(line.strip() for line in source)
-    return all(re.split(r"\s{2,}", line.strip())[0] in lines for line in block if line.strip())
-
-
-def plain(clause):
-    """What a clause says, with one name for what `self` points to, and no more spaces than needed."""
-    clause = clause.replace("S'", "self.new")
-    clause = re.sub(r"(?<![\w.])S(?![\w'])", "self.old", clause)
-    clause = re.sub(r"\.entry|\.now|[«»]", "", clause.replace("self.now", "self.old"))
-    return re.sub(r"\s+", " ", clause).strip()
-
-
 def contract(lines):
     """A function's lines from its first on, up to its body or to the semicolon in its place."""
     depth = 0
@@ -135,7 +113,7 @@ def contract(lines):
 
 
 def functions(crate):
-    """Of each function in a crate's sources, by name: its clauses, by name. A clause without one has ''."""
+    """Of each function in a crate's sources, by name: the names of its clauses. A clause without one has ''."""
     found = {}
     for path in sorted(crate.glob("src/**/*.rt")):
         lines = [line for line in path.read_text().splitlines() if not line.strip().startswith("//")]
@@ -143,37 +121,13 @@ def functions(crate):
             function = re.match(r"\s*(?:pub(?:\(crate\))? )?(?:const )?fn (\w+)", line)
             if not function:
                 continue
-            clauses = found.setdefault(function.group(1), {})
+            clauses = found.setdefault(function.group(1), set())
             text = "\n".join(contract(lines[start:])).rstrip(" ;{")
             for part in re.split(r"\n\s*(?=(?:ensures|requires)\b)", text)[1:]:
-                clause = re.match(r"(?:ensures|requires)\*? ?(\w*) \{([\s\S]*)\}?$", part)
+                clause = re.match(r"(?:ensures|requires)\*? ?(\w*) \{", part)
                 if clause:
-                    clauses.setdefault(clause.group(1), set()).add(plain(clause.group(2).rstrip(" }\n")))
+                    clauses.add(clause.group(1))
     return found
-
-
-def told(block):
-    """Each function that a block tells of: its name, and its clauses, each with its names and what it says."""
-    name, clauses = None, []
-    for part in block:
-        if re.match(r"(impl|trait|struct|enum|\w+ +seen as)\b", part) and name:
-            yield name, clauses
-            name, clauses = None, []
-        heading = re.match(r"\s*(?:pub )?fn (?:\w+::)*(\w+)", part)
-        if heading:
-            if name:
-                yield name, clauses
-            name, clauses = heading.group(1), []
-        for place, piece in enumerate(re.split(r"\s{4,}", part.strip())):
-            clause = re.match(r"(?:ensures|requires)\*? (\w+(?:, \w+)*): (.*)$", piece)
-            if place > 0 and not clause and clauses:
-                clause = re.match(r"(\w+): (.*)$", piece)
-            if clause:
-                clauses.append((clause.group(1).split(", "), clause.group(2)))
-            elif clauses and part.startswith("    ") and not heading:
-                clauses[-1] = clauses[-1][0], clauses[-1][1] + " " + piece
-    if name:
-        yield name, clauses
 
 
 def names_of_sources():
@@ -274,7 +228,7 @@ def main():
         sources.append([re.sub(r"^\s*//[/!] ?", "", line) for line in path.read_text().splitlines()])
     known = {crate: functions(crate) for crate in crates}
     pages = [ROOT / "README.md", ROOT / "rust/README.md", *sorted(ROOT.glob("docs/*.md")), *sorted(ROOT.glob("crates/*/CALLING.md"))]
-    counts = {"blocks": 0, "examples": 0, "quoted": 0, "retold": 0, "clauses": 0}
+    counts = {"blocks": 0, "examples": 0, "clauses": 0}
     missing = 0
 
     def miss(page, number, what):
@@ -283,30 +237,12 @@ def main():
         print(f"{page.relative_to(ROOT)}:{number}: {what}")
 
     for page in pages:
-        for number, block in blocks(page, "rust"):
+        for number, block in blocks(page):
             block = dedented(without_root_attribute(block))
             if block and any(has_block(block, source) for source in sources):
                 counts["blocks"] += 1
             else:
                 miss(page, number, f"is in no source: {block[:1]}")
-        for number, block in blocks(page, "text"):
-            if any(re.match(r"\s*(ensures|requires)[^:]*\{", line) for line in block):
-                if any(has_in_order(block, source) for source in sources):
-                    counts["blocks"] += 1
-                else:
-                    miss(page, number, f"is in no source: {block[:1]}")
-                continue
-            for name, clauses in told(block):
-                here = known.get(page.parent, {}).get(name)
-                if here is None:
-                    miss(page, number, f"there is no function {name}")
-                    continue
-                for names, says in clauses:
-                    for clause in names:
-                        if clause not in here:
-                            miss(page, number, f"{name} has no clause {clause}")
-                    quoted = len(names) == 1 and plain(says).rstrip(" }") in here.get(names[0], set())
-                    counts["quoted" if quoted else "retold"] += 1
     proved = [
         path.read_text().splitlines()
         for crate in EXAMPLES
@@ -347,7 +283,6 @@ def main():
                 miss(page, number, f"{span} hasn't {lines.group(1)} lines")
     print(f"{counts['blocks']} quoted blocks are in the sources")
     print(f"{counts['examples']} examples of doc comments are in {', '.join(EXAMPLES)}")
-    print(f"of the contracts that pages tell, {counts['quoted']} clauses are quoted and {counts['retold']} retold")
     print(f"{counts['clauses']} clauses that pages name are those of their functions")
     print(f"{missing} things are in no source")
     return 1 if missing else 0

@@ -1,13 +1,14 @@
 //! What programs read and write besides their data: the words of a command line, numbers in decimal
 //! digits, a text that is written whole, and how a program ends.
 //!
-//! It also has the lemmas about readers and writers that several crates cite.
+//! It also has what tests share (`testing`), and the lemmas about readers and writers that several crates cite.
 #![tactic(auto)]
 
 mod arguments;
 pub mod laws;
 mod numeral;
 mod status;
+pub mod testing;
 mod writer;
 
 pub use arguments::{command_words, gather};

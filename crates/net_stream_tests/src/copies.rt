@@ -5,8 +5,8 @@ use crate::assertions::assert_holds;
 use crate::calls::{PERFECT, Setup, Way, copy_by, copy_over_by};
 use crate::counted::pattern;
 use crate::counted::ways::{ALL, EACH_SECOND};
+use net_io::testing::{NEVER, Refusing, Sink, Source, refuse_each};
 use net_stream::{Config, CopyBuffers, CopyError, Counts, Rates};
-use net_testing::{NEVER, Refusing, Sink, Source, refuse_each};
 use std::alloc::{AllocError, Global};
 use std::io::ErrorKind;
 

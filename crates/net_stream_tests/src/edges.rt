@@ -5,9 +5,9 @@ use crate::assertions::assert_holds;
 use crate::calls::{DELAYED, PERFECT, Setup, Way, copy_by, copy_over_by, copy_watched_by, link_by};
 use crate::counted::pattern;
 use crate::counted::ways::{ALL, EACH_SECOND, FIRST_LOST, NONE, SECOND_LOST, SOME};
+use net_io::testing::{NEVER, Refusing, Sink, Source, refuse_each};
 use net_ring::ManagedSlice;
 use net_stream::{Config, CopyBuffers, Counts, Fate, Rates, Watch};
-use net_testing::{NEVER, Refusing, Sink, Source, refuse_each};
 use std::alloc::Global;
 use std::io::ErrorKind;
 

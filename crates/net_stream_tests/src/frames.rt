@@ -4,10 +4,10 @@ use crate::assertions::assert_holds;
 use crate::calls::{PERFECT, start};
 use crate::counted::pattern;
 use net_base::phy::{Device, Loopback, Medium, RxToken};
+use net_io::testing::{NEVER, Refusing, refuse_each};
 use net_stream::{
     Counts, Fate, Fates, FaultyPath, FrameCounts, Rates, decode_frame, requeue_frame, send_frame,
 };
-use net_testing::{NEVER, Refusing, refuse_each};
 use std::alloc::{AllocError, Allocator, Global};
 
 /// Takes the next frame, and returns whether it has these bytes.

@@ -1,7 +1,7 @@
-//! The tests of `net_stream`, each through its public calls.
+//! The tests of `net_stream` and of `net_examples`, which uses it, each through its public calls.
 //!
-//! They are in a crate of their own, so that crates that use `net_stream` don't wait for them and
-//! link nothing that only tests need.
+//! They are in a crate of their own, so that crates that use `net_stream` don't wait for them and link nothing that only
+//! tests need.
 #![tactic(auto)]
 
 #[cfg(test)]
@@ -15,6 +15,8 @@ mod copies;
 mod counted;
 #[cfg(test)]
 mod edges;
+#[cfg(test)]
+mod examples;
 #[cfg(test)]
 mod frames;
 #[cfg(test)]

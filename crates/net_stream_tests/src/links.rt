@@ -8,11 +8,11 @@ use crate::calls::{
 use crate::counted::pattern;
 use net_base::phy::RxToken;
 use net_base::time::Duration;
+use net_io::testing::{Refusing, refuse_each};
 use net_ring::ManagedSlice;
 use net_stream::{
     Config, Fate, FrameCounts, Rates, SackBlocks, StreamLink, decode_frame, decode_sack_blocks,
 };
-use net_testing::{Refusing, refuse_each};
 use std::alloc::{AllocError, Allocator, Global};
 
 /// Returns a link of these fates and of frames of at most so many bytes, from this position on.

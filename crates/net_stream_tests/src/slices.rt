@@ -3,8 +3,8 @@
 use crate::assertions::assert_holds;
 use crate::calls::{Setup, Way, copy_slice_by};
 use crate::counted::ways::{ALL, FIRST_LOST, NONE};
+use net_io::testing::Sink;
 use net_stream::{Config, Counts};
-use net_testing::Sink;
 use std::alloc::{AllocError, Global};
 
 /// How a copy ends, after how many rounds, what it wrote, and how many bytes it left.

@@ -4,8 +4,8 @@ ghost use Rattle.std.specs.Prelude.{◌≡◌, ◌⊎◌, ◌++◌, ◌≤◌, S
 use crate::assertions::assert_holds;
 use crate::calls::{Setup, Way, copy_stated_by};
 use crate::counted::ways::{ALL, FIRST_LOST};
+use net_io::testing::Sink;
 use net_stream::{Config, Counts, StatedRead, Watch};
-use net_testing::Sink;
 use std::alloc::{AllocError, Global};
 use std::io;
 use std::io::Read;

@@ -3,8 +3,8 @@
 use crate::assertions::assert_holds;
 use crate::calls::{Setup, Way, copy_watched_by};
 use crate::counted::ways::{ALL, EACH_SECOND, FIRST_LOST, NONE, SOME};
+use net_io::testing::{NEVER, Refusing, Source};
 use net_stream::{Config, Counts, Watch};
-use net_testing::{NEVER, Refusing, Source};
 use std::alloc::Global;
 use std::cell::Cell;
 use std::io;

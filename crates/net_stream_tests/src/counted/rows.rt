@@ -7,7 +7,7 @@ use crate::counted::ways::{
     THIRTY_LOST, THREE_DELAYED_THEN_NONE, TWO_LOST_THEN_DELAYED,
 };
 use crate::counted::{Case, TO_THE_END};
-use net_testing::NEVER;
+use net_io::testing::NEVER;
 
 /// Copies, and the counts of each.
 pub static CASES: [Case; 66] = [

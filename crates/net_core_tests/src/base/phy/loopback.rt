@@ -5,7 +5,7 @@ use super::{is_over, next_is, sends};
 use net_base::phy::loopback::{Loopback, RxToken, TxToken};
 use net_base::phy::{Device, Medium, PacketMeta, RxToken as _, TxToken as _};
 use net_base::time::Instant;
-use net_testing::Refusing;
+use net_io::testing::Refusing;
 use std::alloc::{AllocError, Allocator, Global};
 use std::cell::Cell;
 

@@ -9,8 +9,8 @@ use net_base::phy::{
     loopback,
 };
 use net_base::time::Instant;
+use net_io::testing::Refusing;
 use net_sockets::{forward, forward_lists, forward_one};
-use net_testing::Refusing;
 use std::alloc::{AllocError, Allocator, Global};
 use std::cell::Cell;
 use std::marker::Model;

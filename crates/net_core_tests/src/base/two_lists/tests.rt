@@ -3,7 +3,7 @@ ghost use Rattle.std.specs.Prelude.{◌≡◌, ◌∷◌, ◌++◌, [], List, �
 
 use super::*;
 use net_base::phy::echo_once;
-use net_testing::Refusing;
+use net_io::testing::Refusing;
 
 fn is_back<A: Allocator + Copy>(frames: &VecDeque<Vec<u8, A>, A>, bytes: &[u8]) -> bool {
     frames.back().is_some_and(|frame| frame.as_slice() == bytes)

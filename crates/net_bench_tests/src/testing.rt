@@ -1,4 +1,0 @@
-//! The tests of `net_testing`.
-
-mod memory;
-mod streams;

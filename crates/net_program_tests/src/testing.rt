@@ -1,0 +1,4 @@
+//! The tests of `net_io::testing`.
+
+mod memory;
+mod streams;

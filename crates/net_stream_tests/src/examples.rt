@@ -1,0 +1,6 @@
+//! The tests of `net_examples`: the examples as their users call them.
+
+mod buffers;
+mod datagrams;
+mod devices;
+mod streams;
