@@ -151,24 +151,23 @@ impl Instant {
     pub fn can_add(&self, duration: Duration) -> bool
         ensures { IsTrue result ↔ IsMoment (self.now +ℤ pos duration) }
     {
-        i64::try_from(i128::from(self.micros) + i128::from(duration.total_micros())).is_ok()
+        self.checked_add(duration).is_some()
     }
 
     /// Returns whether the difference fits; precondition of `-` and `-=`.
     pub fn can_sub(&self, duration: Duration) -> bool
         ensures { IsTrue result ↔ IsMoment (self.now -ℤ pos duration) }
     {
-        i64::try_from(i128::from(self.micros) - i128::from(duration.total_micros())).is_ok()
+        self.checked_sub(duration).is_some()
     }
 
     /// Returns the moment so much later, or `None` exactly if that is after the last moment.
     pub fn checked_add(&self, duration: Duration) -> Option<Instant>
         ensures { SomeIff result (IsMoment (self.now +ℤ pos duration)) (self.now +ℤ pos duration) }
     {
-        if self.can_add(duration) {
-            Some(self.sum(duration))
-        } else {
-            None
+        match self.micros.checked_add_unsigned(duration.total_micros()) {
+            Some(micros) => Some(Instant { micros }),
+            None => None,
         }
     }
 
@@ -176,10 +175,9 @@ impl Instant {
     pub fn checked_sub(&self, duration: Duration) -> Option<Instant>
         ensures { SomeIff result (IsMoment (self.now -ℤ pos duration)) (self.now -ℤ pos duration) }
     {
-        if self.can_sub(duration) {
-            Some(self.difference(duration))
-        } else {
-            None
+        match self.micros.checked_sub_unsigned(duration.total_micros()) {
+            Some(micros) => Some(Instant { micros }),
+            None => None,
         }
     }
 
@@ -193,10 +191,9 @@ impl Instant {
         ensures exact { IsMoment (self.now +ℤ pos duration) → result ≡ self.now +ℤ pos duration }
         ensures last { (IsMoment (self.now +ℤ pos duration) → ⊥) → result ≡ pos (2 ^ 63 - 1) }
     {
-        if self.can_add(duration) {
-            self.sum(duration)
-        } else {
-            Instant::from_micros(i64::MAX)
+        match self.micros.checked_add_unsigned(duration.total_micros()) {
+            Some(micros) => Instant { micros },
+            None => Instant::from_micros(i64::MAX),
         }
     }
 
@@ -205,34 +202,9 @@ impl Instant {
         ensures exact { IsMoment (self.now -ℤ pos duration) → result ≡ self.now -ℤ pos duration }
         ensures first { (IsMoment (self.now -ℤ pos duration) → ⊥) → result ≡ negsuc (2 ^ 63 - 1) }
     {
-        if self.can_sub(duration) {
-            self.difference(duration)
-        } else {
-            Instant::from_micros(i64::MIN)
-        }
-    }
-
-    /// Returns the moment so much later.
-    fn sum(self, rhs: Duration) -> Instant
-        requires can_add { IsMoment (self +ℤ pos rhs) }
-        ensures { result ≡ self +ℤ pos rhs }
-    {
-        let fits = self.can_add(rhs);
-        prove!(fits, "attempt to add with overflow");
-        Instant {
-            micros: (i128::from(self.micros) + i128::from(rhs.total_micros())) as i64,
-        }
-    }
-
-    /// Returns the moment so much earlier.
-    fn difference(self, rhs: Duration) -> Instant
-        requires can_sub { IsMoment (self -ℤ pos rhs) }
-        ensures { result ≡ self -ℤ pos rhs }
-    {
-        let fits = self.can_sub(rhs);
-        prove!(fits, "attempt to subtract with overflow");
-        Instant {
-            micros: (i128::from(self.micros) - i128::from(rhs.total_micros())) as i64,
+        match self.micros.checked_sub_unsigned(duration.total_micros()) {
+            Some(micros) => Instant { micros },
+            None => Instant::from_micros(i64::MIN),
         }
     }
 

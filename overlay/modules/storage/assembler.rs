@@ -1,0 +1,76 @@
+//! What Rattle has no words for in an assembler: a clone that can't be refused, and texts.
+use core::{array, fmt};
+
+use crate::config::ASSEMBLER_MAX_SEGMENT_COUNT;
+use crate::proved::net_assembler::Assembler as Runs;
+pub use crate::proved::net_assembler::TooManyHolesError;
+
+/// A set of positions of which data has arrived, in as many runs as the build says.
+pub type Assembler = Runs<ASSEMBLER_MAX_SEGMENT_COUNT>;
+
+impl Assembler {
+    /// Returns an assembler with no position.
+    pub const fn new() -> Assembler {
+        Assembler::empty()
+    }
+}
+
+impl<const N: usize> Clone for Runs<N> {
+    fn clone(&self) -> Self {
+        Runs {
+            head: self.head,
+            runs: self.runs,
+        }
+    }
+}
+
+impl fmt::Display for TooManyHolesError {
+    fn fmt(&self, f: &mut fmt::Formatter) -> fmt::Result {
+        f.write_str("too many holes")
+    }
+}
+
+impl core::error::Error for TooManyHolesError {}
+
+/// A hole and the data after it, as they are printed.
+#[derive(Debug)]
+struct Contig {
+    #[allow(dead_code)]
+    hole_size: usize,
+    #[allow(dead_code)]
+    data_size: usize,
+}
+
+impl<const N: usize> fmt::Debug for Runs<N> {
+    fn fmt(&self, f: &mut fmt::Formatter) -> fmt::Result {
+        let (mut runs, mut from) = (self.iter_data(), 0);
+        let contigs: [Contig; N] = array::from_fn(|_| {
+            let (start, end) = runs.next().unwrap_or((from, from));
+            let (hole_size, data_size) = (start - from, end - start);
+            from = end;
+            Contig {
+                hole_size,
+                data_size,
+            }
+        });
+        f.debug_struct("Assembler")
+            .field("contigs", &contigs)
+            .finish()
+    }
+}
+
+#[cfg(feature = "defmt")]
+impl<const N: usize> defmt::Format for Runs<N> {
+    fn format(&self, fmt: defmt::Formatter) {
+        defmt::write!(fmt, "[ ");
+        let mut from = 0;
+        for (start, end) in self.iter_data() {
+            if start != from {
+                defmt::write!(fmt, "({}) ", start - from);
+            }
+            defmt::write!(fmt, "{} ", end - start);
+            from = end;
+        }
+        defmt::write!(fmt, "]");
+    }
+}

@@ -1,0 +1,220 @@
+#!/usr/bin/env python3
+"""overlay.py CHECKOUT [--into COPY] [--small] [--dry-run] [--net-base PATH]
+overlay.py CHECKOUT --undo
+
+Makes `storage`, `time` and `rand` of a checkout of smoltcp 0.14.0 the proved text of net-base, so that smoltcp's sockets
+and interfaces run over it. No dependency is added: `src/proved` is new, `src/storage`, `src/time.rs` and `src/rand.rs`
+become what is written by hand around it, and `src/lib.rs` gets one item more.
+
+--into      changes a copy of the checkout, which is made.
+--small     for less code: nothing is always inline.
+--dry-run   prints what would change.
+--net-base  the folder of net-base's Cargo.toml, if it isn't that of this script.
+--undo      puts back what was there, byte for byte, unless a file has been edited since.
+
+Refuses another version; a replaced file whose code, up to its test module, isn't 0.14.0's by SHA-256; a second overlay;
+a net-base that doesn't fit. Then one line says so, the status is 1, and nothing is changed. Test modules stay.
+"""
+import argparse
+import hashlib
+import json
+import re
+import shutil
+import sys
+from pathlib import Path
+
+HERE = Path(__file__).resolve().parent
+MODULES = HERE / "modules"
+VERSION = "0.14.0"
+SAVED = ".net-base-overlay"
+
+# SHA-256 of smoltcp's files, up to their test modules, without empty lines at the end.
+DIGESTS = {
+    "src/storage/mod.rs": "d443e70c0fd4ac7ff33fa4632dc26e4eee8dd790e30477eaa8fe15aa6bf13e7e",
+    "src/storage/assembler.rs": "58d74127cf211b7102e9418a00982db0f8e4ec97b0750dbc7b23521d8f9b6716",
+    "src/storage/packet_buffer.rs": "458ca5839d2a3c7f905b6af5fec5585ded51cf54231f048ce08fb3de76e6007e",
+    "src/storage/ring_buffer.rs": "7c6e4540f3b32162bad555dcebb73f57a7499ddb050f6ff86cf4c833675cf182",
+    "src/time.rs": "560b3ddc47fcfa97d4b9b4d5ad2b2efc5ffce613fb95deac43404b1328aacfd8",
+    "src/rand.rs": "0d9e7dd2f2077730096a35f94c6feda9c1eb33188e1f5e75b2d3b7ecc48860f9",
+}
+
+# What of net-base's src/proved is taken.
+PROVED = ["net_ring", "net_packets", "net_assembler", "net_base/time", "net_base/time.rs", "net_base/rand.rs"]
+DEFMT = '#[cfg_attr(feature = "defmt", derive(defmt::Format))]\n'
+
+# A file of src/proved, a pattern in it, what replaces it, and how often it is found there.
+CHANGES = [
+    # Storage is that of the crate `managed`.
+    ("net_ring/managed.rs", r"^use .*?\n\n(?=/// A list)", "", 1),
+    ("net_ring/managed.rs", r"^impl<'a, T> Storage<T> for &'a mut \[T\].*\Z", (MODULES / "proved/managed.rs").read_text(), 1),
+    ("net_ring/ring_buffer.rs", r"^use crate::rattle::Vec;\n\n", "", 1),
+    ("net_ring/ring_buffer.rs", r"^impl<'a, T(?:, const N: usize)?> From<(?:&'a mut|Vec).*?\n}\n\n", "", 3),
+    # What smoltcp derives.
+    ("net_ring/error.rs", r"^(?=pub struct (?:Full|Empty);)", DEFMT, 2),
+    ("net_packets/packet_metadata.rs", r"^(?=pub struct PacketMetadata<H>)", DEFMT, 1),
+]
+
+# What names a private field in smoltcp's test modules.
+TESTS = [
+    ("src/storage/ring_buffer.rs", r"\bring\.length\b", "ring.place.length", 2),
+    ("src/storage/packet_buffer.rs", r"\bmetadata_ring\.len\(\)", "slots_used()", 10),
+    ("src/storage/assembler.rs", r"^    impl From<Vec<\(usize, usize\)>> for Assembler \{\n.*?^    \}\n", """\
+    impl From<Vec<(usize, usize)>> for Assembler {
+        fn from(holes_and_data: Vec<(usize, usize)>) -> Assembler {
+            let (mut assembler, mut from) = (Assembler::new(), 0);
+            for (hole, data) in holes_and_data {
+                assembler.add(from + hole, data).unwrap();
+                from += hole + data;
+            }
+            assembler
+        }
+    }
+""", 1),
+]
+
+# What of smoltcp's own `time` stays: std's clocks, its texts for defmt, and core's lengths.
+TIME = r"""^(?:#\[cfg\(feature = "(?:std|defmt)"\)\]\nimpl |impl From<::core::time::Duration> for Duration ).*?^}\n"""
+
+
+def digest(data):
+    return hashlib.sha256(data).hexdigest()
+
+
+def read(path):
+    """The text of a file, or one that no file has."""
+    return path.read_text(encoding="utf-8", errors="replace") if path.is_file() else ""
+
+
+def parts(text):
+    """The code of a file, and its test module, if it has one."""
+    code, mark, tests = text.partition("\n#[cfg(test)]\nmod test {\n")
+    return code.rstrip("\n") + "\n", (mark + tests).lstrip("\n")
+
+
+def changed(text, pattern, by, count, name):
+    text, found = re.subn(pattern, lambda _: by, text, flags=re.M | re.S)
+    if found != count:
+        sys.exit(f"{name} doesn't fit: {found} matches, and not {count}, of {pattern}")
+    return text
+
+
+def check(root):
+    """Refuses what isn't smoltcp as it was released."""
+    package = read(root / "Cargo.toml").partition("[package]\n")[2].partition("\n[")[0]
+    facts = dict(re.findall(r'^(name|version) *= *"([^"]*)"', package, flags=re.M))
+    if facts.get("name") != "smoltcp":
+        sys.exit(f"{root} has no Cargo.toml of smoltcp")
+    if facts.get("version") != VERSION:
+        sys.exit(f"{root} is smoltcp {facts.get('version')}, and not {VERSION}")
+    if (root / SAVED).exists() or (root / "src/proved").exists():
+        sys.exit(f"{root} has an overlay already; --undo takes it off")
+    edited = [name for name, is_so in DIGESTS.items() if digest(parts(read(root / name))[0].encode()) != is_so]
+    if edited:
+        sys.exit(f"{root} isn't as smoltcp {VERSION} was released: {', '.join(edited)}")
+
+
+def proved_files(net_base, small):
+    """The files of src/proved."""
+    source, new = net_base / "src/proved", {}
+    for part in PROVED:
+        for path in [source / part] if part.endswith(".rs") else sorted((source / part).rglob("*.rs")):
+            new[path.relative_to(source).as_posix()] = read(path)
+    new["rattle.rs"] = read(net_base / "src/rattle.rs")
+    if not all(new.values()) or len(new) < 2 * len(PROVED):
+        sys.exit(f"{net_base} isn't the folder of net-base's Cargo.toml")
+    for name, pattern, by, count in CHANGES:
+        new[name] = changed(new.get(name, ""), pattern, by, count, f"{source / name}")
+    for name, text in new.items():
+        text = text.replace("crate::rattle", "crate::proved::rattle")
+        new[name] = text.replace("#[inline(always)]", "#[inline]") if small else text
+    new["mod.rs"] = (MODULES / "proved/mod.rs").read_text()
+    return {f"src/proved/{name}": text for name, text in new.items()}
+
+
+def other_files(root):
+    """The files by hand around them, with smoltcp's test modules, and lib.rs."""
+    new = {name: (MODULES / name.removeprefix("src/")).read_text() for name in DIGESTS}
+    code = parts(read(root / "src/time.rs"))[0]
+    own = "\n".join(re.findall(TIME, code, flags=re.M | re.S))
+    page = code[: code.index("use core::")]
+    new["src/time.rs"] = f"{page}{new['src/time.rs']}\n{own.replace('val.micros as', 'val.total_micros() as')}"
+    for name in new:
+        tests = parts(read(root / name))[1]
+        for _, pattern, by, count in [entry for entry in TESTS if tests and entry[0] == name]:
+            tests = changed(tests, pattern, by, count, f"{root / name}")
+        new[name] += "\n" * bool(tests) + tests
+    item = "#[rustfmt::skip]\nmod proved;\nmod rand;"
+    new["src/lib.rs"] = changed(read(root / "src/lib.rs"), r"^mod rand;$", item, 1, f"{root / 'src/lib.rs'}")
+    return new
+
+
+def put_back(root, record):
+    """Puts back what was there, as far as it was changed."""
+    for name in record["now"]:
+        path, saved = root / name, root / SAVED / name
+        if name in record["added"]:
+            path.unlink(missing_ok=True)
+        elif saved.is_file() and path.read_bytes() != saved.read_bytes():
+            shutil.copy(saved, path)
+    for folder in sorted({folder for name in record["added"] for folder in Path(name).parents}, reverse=True):
+        if (root / folder).is_dir() and not any((root / folder).iterdir()):
+            (root / folder).rmdir()
+    shutil.rmtree(root / SAVED, ignore_errors=True)
+
+
+def undo(root):
+    if not (root / SAVED / "files.json").is_file():
+        sys.exit(f"{root} has no overlay")
+    record = json.loads(read(root / SAVED / "files.json"))
+    edited = [name for name, now in record["now"].items() if not (root / name).is_file() or digest((root / name).read_bytes()) != now]
+    if edited:
+        sys.exit(f"edited since: {', '.join(edited)}; what was there is in {root / SAVED}")
+    put_back(root, record)
+    print(f"{root} is as it was: {len(record['now'])} files")
+
+
+def write(root, new):
+    record = {"added": [name for name in new if not (root / name).exists()]}
+    record["now"] = {name: digest(text.encode()) for name, text in new.items()}
+    try:
+        for name in new:
+            if name not in record["added"]:
+                (root / SAVED / name).parent.mkdir(parents=True, exist_ok=True)
+                shutil.copy(root / name, root / SAVED / name)
+        (root / SAVED / "files.json").write_text(json.dumps(record, indent=1) + "\n")
+        for name, text in new.items():
+            (root / name).parent.mkdir(parents=True, exist_ok=True)
+            (root / name).write_bytes(text.encode())
+    except OSError:
+        put_back(root, record)
+        raise
+    print(f"{root}: {len(record['added'])} files added, {len(new) - len(record['added'])} changed; --undo puts them back")
+
+
+def main():
+    parser = argparse.ArgumentParser(description=__doc__, formatter_class=argparse.RawDescriptionHelpFormatter)
+    parser.add_argument("checkout", type=Path)
+    parser.add_argument("--into", type=Path, metavar="COPY")
+    parser.add_argument("--net-base", type=Path, metavar="PATH", default=HERE.parent / "rust")
+    for flag in ["--small", "--dry-run", "--undo"]:
+        parser.add_argument(flag, action="store_true")
+    arguments = parser.parse_args()
+    root = arguments.checkout
+    if arguments.undo:
+        return undo(root)
+    check(root)
+    # All texts are made before anything is written.
+    new = proved_files(arguments.net_base, arguments.small) | other_files(root)
+    if arguments.dry_run:
+        return print("\n".join(f"{'changed' if (root / name).is_file() else 'added'}: {name}" for name in new))
+    if arguments.into:
+        shutil.copytree(root, arguments.into, symlinks=True, ignore=shutil.ignore_patterns("target"))
+        root = arguments.into
+    write(root, new)
+
+
+if __name__ == "__main__":
+    try:
+        main()
+    except OSError as error:
+        sys.exit(f"nothing was changed: {error}")
