@@ -1,39 +1,44 @@
 #!/usr/bin/env python3
 """Erases Rattle to Rust: what is proved goes, what is executed stays, token by token.
 
-    python3 tools/erase.py             writes rust/src/proved from the crates that tools/erase.txt names
+    python3 tools/erase.py             writes rust/src/proved, of the crates that tools/erase_list.py names
     python3 tools/erase.py --check     writes nothing, and names each file that isn't so
 
-A file becomes itself minus *ghost forms*, with replacements: those of the tables below, and of tools/erase.txt. A form
-that isn't known is refused, with file and line. A function's contract becomes a section of its documentation. What is
-written is checked: it has the source's tokens minus those of ghost forms, and no word of contracts; erased again, it stays.
+A file becomes itself without its *ghost forms*, those of the tables below. A form that isn't known is refused, with its
+file and line. A function's contract becomes a section of its documentation. tools/erase_list.py says what else differs.
+
+A public function with a precondition begins with a guard, `prove!(..)`, which becomes `assert!(..)`; one without is
+refused, but for those that the list names. What is written has the source's tokens without those of ghost forms, and no
+word of contracts; erased again, it stays.
 """
 import re
 import sys
 from pathlib import Path
 
+import erase_list as given
+
 REPOSITORY = Path(__file__).resolve().parent.parent
-TOP = '''//! The proved code: crates of this repository without their contracts, as `tools/erase.py` writes them.
+OUT = REPOSITORY / 'rust/src/proved'
+TOP = '''//! The proved code: crates of the repository without their contracts, as `tools/erase.py` writes them.
 #![allow(missing_docs, dead_code, unused_variables, unused_imports, clippy::all)]
 
 '''
-ROOT, SHIM = 'crate::proved', 'crate::rattle'     # the erased crates, and what Rattle's std has and Rust's doesn't
-PATHS = {                                         # beginnings of paths; the longest that fits counts
-    'std::snapshot': f'{SHIM}::snapshot',
-    'std::fmt::InlineText': f'{SHIM}::InlineText',
-    'std': 'core',
-}
+ROOT, SHIM, PAGE = 'crate::proved', 'crate::rattle', 'crate::contracts'
+PATHS = {'std::snapshot': f'{SHIM}::snapshot', 'std::fmt::InlineText': f'{SHIM}::InlineText', 'std': 'core'}
+SHIM_USES = {r'\bVec<': f'use {SHIM}::Vec;\n', r'\.slice_mut\(': f'use {SHIM}::SliceMut as _;\n'}
 GHOST_IMPORTS = {'Model', 'Error', 'AllocError'}  # of std and thiserror: only erased text names them
-GHOST_DERIVES, GHOST_ATTRIBUTES = {'Drop', 'Error'}, {'tactic', 'error'}      # an error's text is in a layer
-PLAIN_ATTRIBUTES = {'allow', 'cfg', 'default', 'derive', 'doc', 'inline', 'must_use', 'non_exhaustive', 'repr', 'test'}
+GHOST_DERIVES, GHOST_ATTRIBUTES = {'Drop', 'Error'}, {'tactic', 'error'}      # an error's text is in the layer by hand
+PLAIN_ATTRIBUTES = {'allow', 'cfg', 'default', 'derive', 'inline', 'must_use', 'non_exhaustive', 'repr', 'track_caller'}
 FOREIGN_IMPLS = {                                 # other traits in Rattle, and what their impls may have
     'Model': re.compile(''),
     'Drop': re.compile(r'fn drop \( self \) { let \w+ { [\w ,:]* } = self ;(?: drop \( \w+ \) ;)* }'),
-    'Clone': re.compile(r'fn clone \( & self \) -> Result < .* }'),   # it can be refused: a layer has another one
+    'Clone': re.compile(r'fn clone \( & self \) -> Result < .* }'),           # it can be refused: the layer has another
 }
 LAWS = 'laws'                                     # modules of theorems; calls of their functions
-CONTRACT_WORDS = {'ghost', 'requires', 'ensures', 'tactic', 'Model', 'prove'}
-SHIM_USES = {r'\bVec<': f'use {SHIM}::Vec;\n', r'\.slice_mut\(': f'use {SHIM}::SliceMut as _;\n'}
+CONTRACT_WORDS = {'ghost', 'requires', 'ensures', 'tactic', 'Model', 'Drop', 'prove'}
+DROP = re.compile(r'(?<=: )Drop \+ |(?:: | \+ )Drop\b(?=[,>]| \{| for)')      # a bound that all types of Rust meet
+SOME_RUNS = re.compile(r'requires(?: \w+)? { 1 ≤ N }')                        # tested when the program is compiled
+HAS_RUNS = 'const { assert!(N >= 1, "N is at least 1") };'
 
 TOKEN = re.compile(r"""
     (?P<space>\s+) | (?P<doc>//[/!][^\n]*) | (?P<note>//[^\n]*) | (?P<unread>/\*|b?r\#*"|c")
@@ -41,9 +46,9 @@ TOKEN = re.compile(r"""
   | (?P<word>[A-Za-z_]\w*) | (?P<number>\d\w*(?:\.\d\w*)?) | (?P<sign>::|->|=>|.)
 """, re.X | re.S)
 CLAUSE = re.compile(r'(?:requires|ensures\*?)(?:\s+[a-z_]\w*)?\s*(?=\{)')
-GHOST_USE = re.compile(r'ghost\s+use\b[^;]*;')
-GHOST_MEMBER = re.compile(r'ghost\s+[A-Za-z_]\w*\s*(?=[=:])')      # `= {..};`, `: {..};`, `: {..} = {..};`, or `,`
+GHOST = re.compile(r'ghost\s+(?:use\b[^;]*|[A-Za-z_]\w*\s*)(?=[=:;])')     # `= {..};`, `: {..};`, `: {..} = {..};`, or `,`
 LOGIC = re.compile(r'"(?:\\.|[^"\\])*"|//[^\n]*|[(\[{)\]}]')       # in logic ' is part of names
+ANGLES = r'<(?:[^<>]|<(?:[^<>]|<[^<>]*>)*>)*>'
 OPEN, CLOSE, SPACE = '([{', ')]}', ('space', 'doc', 'note')
 GONE, NO_CLAUSE = '\0', '\1'                      # where a form, and where a clause, was
 
@@ -66,11 +71,15 @@ def branches(tree):
 
 
 class Eraser:
-    """One file. `new` has the text that is written for a token, where that is another one."""
+    """One file of a crate; functions of the types `public` can be called from outside.
 
-    def __init__(self, text, crate, crates, omitted):
-        self.text, self.crate, self.crates, self.omitted = text, crate, crates, omitted
+    `new` has the text that is written for a token, where that is another one; `before` and `after` what is added."""
+
+    def __init__(self, text, crate, public=(), unguarded={}, into={}):
+        self.text, self.crate = DROP.sub('', text), crate
+        self.public, self.unguarded, self.into = public, unguarded, into
         self.tokens, self.new, self.before, self.after = [], {}, {}, {}
+        self.owner, self.used = ('', 0), set()
         self.read()
 
     def refuse(self, at, message):
@@ -97,30 +106,26 @@ class Eraser:
                 clause = CLAUSE.match(self.text, i) or self.refuse(i, 'not a clause')
                 kind, end = 'clause', self.logic(clause.end())
             elif m.group() == 'ghost':
-                kind, use, member = 'ghost', GHOST_USE.match(self.text, i), GHOST_MEMBER.match(self.text, i)
-                end = use.end() if use else self.member(member.end()) if member else self.refuse(i, 'an unknown ghost form')
+                kind, end = 'ghost', self.ghost(i)
             elif kind == 'unread':
                 self.refuse(i, 'a form that the eraser does not read')
             self.tokens.append((kind, self.text[i:end], i))
             i = end
         self.tokens.append(('end', '', i))
 
-    def member(self, i):
-        """The end of a ghost member, whose name ends at i."""
-        while self.text[i] in ':=':
+    def ghost(self, i):
+        """The end of the ghost item or member that begins at i."""
+        i = (GHOST.match(self.text, i) or self.refuse(i, 'an unknown ghost form')).end()
+        while self.text[i:i + 1] in (':', '='):
             brace = re.compile(r'[:=]\s*(?=\{)').match(self.text, i) or self.refuse(i, 'a ghost member without braces')
             i = re.compile(r'\s*').match(self.text, self.logic(brace.end())).end()
-        return i + 1 if self.text[i] in ';,' else self.refuse(i, 'a ghost member that does not end')
+        return i + 1 if self.text[i:i + 1] in (';', ',') else self.refuse(i, 'a ghost member that does not end')
 
     def next(self, k):
         """The first token from k on that isn't space or a comment."""
         while self.tokens[k][0] in SPACE:
             k += 1
         return k
-
-    def last(self, k):
-        """The last token before k that isn't space or a comment."""
-        return next((j for j in range(k - 1, -1, -1) if self.tokens[j][0] not in SPACE), k)
 
     def group(self, k):
         """The token after the bracket that opens at k."""
@@ -154,11 +159,11 @@ class Eraser:
     def path(self, path):
         """A path in the crate where the erased crates are modules."""
         first = path.split('::')[0]
-        if path.startswith((ROOT, SHIM)):
+        if path.startswith((ROOT, SHIM, PAGE)):
             return path
         if first == 'crate':
             return f'{ROOT}::{self.crate}{path[5:]}'
-        if first in self.crates:
+        if first in given.CRATES:
             return f'{ROOT}::{path}'
         old = max((p for p in PATHS if path == p or path.startswith(p + '::')), key=len, default='')
         return PATHS.get(old, '') + path[len(old):]
@@ -172,6 +177,7 @@ class Eraser:
             if kind == 'doc':
                 head = k if begins and word.startswith('///') else head
                 line = re.sub(r'^(//[/!] *```)rust$', r'\1ignore', word)        # parts of proved functions
+                line = re.sub(r'(?<=^/// # Requires)$', ', else it panics', line)
                 k = self.put(k, k + 1, re.sub(r'(?<=\()\w+(?:::\w+)+(?=\))', lambda m: self.path(m.group()), line))
             elif kind in SPACE:
                 k += 1
@@ -200,50 +206,89 @@ class Eraser:
             return False, self.function(k, head)
         if fresh and word == 'use':
             return True, self.use(k, self.until(k, ';') + 1, head)
-        if fresh and word == 'mod' and self.tokens[after][1] in (LAWS, *self.omitted):
+        if fresh and word == 'mod' and self.tokens[after][1] in (LAWS, *given.CRATES[self.crate]):
             return True, self.put(head, self.until(k, ';') + 1, GONE)
         if fresh and word == 'impl':
-            name = re.search(r'(\w+)(?:<[^{]*>)?\s+for\b', self.source(k, self.until(k, '{')))
-            if name and name.group(1) in FOREIGN_IMPLS:
-                brace, end = self.until(k, '{'), self.group(self.until(k, '{'))
-                body = ' '.join(w for kind, w, _ in self.tokens[brace + 1:end - 1] if kind not in (*SPACE, 'ghost'))
-                if not FOREIGN_IMPLS[name.group(1)].fullmatch(body):
-                    self.refuse(at, 'an impl that does more than those that are erased')
-                return True, self.put(head, end, GONE)
+            return self.implementation(k, head)
         if word == 'prove' and self.tokens[after][1] == '!':
+            first, owner, margin = self.inside
+            if not owner.endswith('Head') and '#[track' not in self.before.get(first, ''):
+                self.before[first] = f'{self.before.get(first, "")}#[track_caller]\n{margin}'
             return False, self.put(k, k + 1, 'assert')
-        if word == 'Drop':
-            return False, self.bound(k, after)
         path, end = word, k + 1
         while self.tokens[end][1] == '::' and self.tokens[end + 1][0] == 'word':
             path, end = f'{path}::{self.tokens[end + 1][1]}', end + 2
-        if '::' in path and self.tokens[self.last(k)][1] != '::':
+        if '::' in path:
             if fresh and path.split('::')[-2] == LAWS:
                 return True, self.put(k, self.until(k, ';') + 1, GONE)
             return False, self.put(k, end, self.path(path))
         return False, k + 1
 
+    def implementation(self, k, head):
+        """An impl of a trait that is another one in Rust goes; of another one the type's name is kept."""
+        brace = self.until(k, '{')
+        said, end = re.sub(ANGLES, '', self.source(k, brace)).split(' where ')[0].split(), self.group(brace)
+        if 'for' in said and said[-3] in FOREIGN_IMPLS:
+            body = ' '.join(w for kind, w, _ in self.tokens[brace + 1:end - 1] if kind not in (*SPACE, 'ghost'))
+            if not FOREIGN_IMPLS[said[-3]].fullmatch(body):
+                self.refuse(self.tokens[k][2], 'an impl that does more than those that are erased')
+            return True, self.put(head, end, GONE)
+        self.owner = said[-1], end
+        return False, k + 1
+
     def function(self, k, head):
         """A signature and its contract; a function with a contract and no statement is a law, and goes."""
-        body, contract = self.until(k, '{', ';'), []
+        begin = body = self.until(k, '{', ';')
         while self.tokens[body][0] == 'clause':
-            contract.append(self.tokens[body][1])
             body = self.next(self.put(body, body + 1, NO_CLAUSE))
-        if not contract:
-            return k + 1
-        if self.tokens[body][1] not in ('{', ';'):
+        contract = [word for kind, word, _ in self.tokens[begin:body] if kind == 'clause']
+        if contract and self.tokens[body][1] not in ('{', ';'):
             self.refuse(self.tokens[body][2], 'no body after a contract')
-        if self.tokens[body][1] + self.tokens[self.next(body + 1)][1] == '{}':
+        if contract and self.tokens[body][1] + self.tokens[self.next(body + 1)][1] == '{}':
             return self.put(head, self.next(body + 1) + 1, GONE)
-        self.document(k, head, contract)
+        owner = self.owner[0] if k < self.owner[1] else ''
+        name = f'{owner}::{self.tokens[self.next(k + 1)][1]}'.removeprefix('::')
+        pub = next((j for j in range(head, k) if self.tokens[j][1] == 'pub' and self.tokens[j + 1][1] != '('), None)
+        if pub is not None and name.split('::')[0] in self.public:
+            if re.search(r'Head\b', self.source(k, begin)):                 # a head has no guards: it stays inside
+                self.put(pub, pub + 1, 'pub(crate)')
+            elif any(clause[0] == 'r' and not SOME_RUNS.fullmatch(clause) for clause in contract):
+                self.used |= set() if self.is_guarded(body) else {name}
+        if self.used - self.unguarded.keys():
+            self.refuse(self.tokens[k][2], f'{name} has a precondition and no guard')
+        margin = re.search(r'[ \t]*$', self.text[:self.tokens[head][2]]).group()
+        self.inside = next(j for j in range(head, k + 1) if self.tokens[j][1] in ('pub', 'const', 'fn')), owner, margin
+        if name in self.into:
+            self.convert(k, begin, body, margin, self.into[name])
+        if any(map(SOME_RUNS.fullmatch, contract)):
+            self.after[body] = f'\n{margin}    {HAS_RUNS}'
+        if contract:
+            self.document(k, head, margin, contract)
         return k + 1
 
-    def document(self, k, head, contract):
+    def is_guarded(self, body):
+        """Whether a body begins with a guard, after the `let`s that this needs."""
+        k = self.next(body + 1)
+        while self.tokens[k][1] == 'let':
+            k = self.next(self.until(k, ';') + 1)
+        return self.tokens[k][1] == 'prove'
+
+    def convert(self, k, begin, body, margin, parameters):
+        """Lets parameters be all that converts to their types."""
+        signature, generics = self.source(k, begin), []
+        for letter, name in zip('AB', parameters):
+            found = re.search(rf'(?<=\b{name}: )(?:{ANGLES}|[^,)])+', signature)
+            generics.append(f'{letter}: Into<{found.group()}>')
+            signature = signature[:found.start()] + letter + signature[found.end():]
+            self.after[body] = f'\n{margin}    let {name} = {name}.into();' + self.after.get(body, '')
+        self.put(k, begin, signature.replace('(', f'<{", ".join(generics)}>(', 1))
+
+    def document(self, k, head, margin, contract):
         """Writes a contract to the documentation of the function at k."""
         docs = [d for d in range(head, k) if self.tokens[d][0] == 'doc']
-        margin = re.search(r'[ \t]*$', self.text[:self.tokens[head][2]]).group()
         rows = [re.sub(f'^{margin}    ', '', row) for clause in contract for row in clause.split('\n')]
-        lines = ['///'] * bool(docs) + ['/// # Contract', '///', '/// ```text', *(f'/// {row}' for row in rows), '/// ```']
+        lines = ['///'] * bool(docs) + ['/// # Contract', '///', f'/// In the words of [`contracts`]({PAGE}):', '///',
+                                        '/// ```text', *(f'/// {row}' for row in rows), '/// ```']
         if docs:
             self.after[docs[-1]] = ''.join(f'\n{margin}{line}' for line in lines)
         else:
@@ -264,9 +309,9 @@ class Eraser:
     def use(self, k, end, head):
         """An import: its paths anew, without those that only erased text names."""
         tree = re.sub(r'\s+', ' ', self.source(k + 1, end - 1)).strip()
-        old = branches(tree)
+        old, omitted = branches(tree), set(given.CRATES[self.crate])
         ghost = re.compile(rf'(?:std|thiserror)\b.*::(?:{"|".join(GHOST_IMPORTS)})$|(?:.*::)?{LAWS}(?:::|$)')
-        new = [self.path(b) for b in old if not ghost.match(b) and not set(b.split('::')[:-1]) & set(self.omitted)]
+        new = [self.path(b) for b in old if not ghost.match(b) and not set(b.split('::')[:-1]) & omitted]
         root = re.match(r'\w+', tree).group()
         if new != old and new == [self.path(root) + b[len(root):] for b in old]:
             self.put(self.next(k + 1), self.next(k + 1) + 1, self.path(root))
@@ -274,95 +319,61 @@ class Eraser:
             self.put(head, end, '\n'.join(f'{self.source(head, k)}use {path};' for path in new) or GONE)
         return end
 
-    def bound(self, k, after):
-        """The bound `Drop`: in Rattle not every type has it."""
-        before = self.last(k)
-        sign, follows = self.tokens[before][1], self.tokens[after][1]
-        if sign == ':' and follows == '+':
-            return self.put(k, self.next(after + 1), '')
-        if sign == '+' or sign == ':' and follows in (',', '>', '{'):
-            return self.put(before - (self.tokens[before - 1][0] == 'space'), k + 1, '')
-        self.refuse(self.tokens[k][2], 'a use of Drop that the eraser does not know')
-
     def finish(self):
-        kept = [self.new.get(k, token[1]) for k, token in enumerate(self.tokens)]
-        out = ''.join(self.before.get(k, '') + text + self.after.get(k, '') for k, text in enumerate(kept))
-        out = re.sub(rf'\s*(?:{NO_CLAUSE}\s*)+(?=[{{;])', lambda m: ' ' if out[m.end()] == '{' else '', out)
+        """The text, laid out; it has the tokens that are kept, and no word of contracts."""
+        kept = [self.before.get(k, '') + self.new.get(k, token[1]) + self.after.get(k, '')
+                for k, token in enumerate(self.tokens)]
+        out = re.sub(rf'\s*(?:{NO_CLAUSE}\s*)+(?={{)', ' ', ''.join(kept))
+        out = re.sub(rf'\s*(?:{NO_CLAUSE}\s*)+(?=;)', '', out)
         out = re.sub(rf'(?m)^[ \t]*{GONE}[ \t{GONE}]*\n', '', out).replace(GONE, '')
         out = re.sub(r'\{\n\n+', '{\n', re.sub(r'\n\n+(\s*\})', r'\n\1', re.sub(r'\n{3,}', '\n\n', out))).lstrip('\n')
-        if words(out) != [w for k, text in enumerate(kept) for w in words(text.strip(GONE + NO_CLAUSE))]:
+        if words(out) != [word for text in kept for word in words(re.sub(f'[{GONE}{NO_CLAUSE}]', '', text))]:
             raise Refused('the result has other tokens than the source without its ghost forms')
         for word in words(out):
             if word in CONTRACT_WORDS or not word.isascii() and word[0] not in '"\'b':
                 raise Refused(f'a word of contracts is left: {word}')
-        return out
+        uses = ''.join(use for pattern, use in SHIM_USES.items() if re.search(pattern, out) and use not in out)
+        top = re.match(r'(?://![^\n]*\n)*', out).end()
+        return out[:top] + '\n' * bool(top and uses) + uses + out[top:]
 
 
-def erase(text, crate, crates, omitted=(), replaced=()):
-    for old, new in replaced:
-        if old not in text:
-            raise Refused(f'nothing to replace: {old}')
-        text = text.replace(old, new)
-    out = Eraser(text, crate, crates, omitted).run()
-    uses = ''.join(use for pattern, use in SHIM_USES.items() if re.search(pattern, out) and use not in out)
-    top = re.match(r'(?://![^\n]*\n)*', out).end()
-    return out[:top] + '\n' * bool(top and uses) + uses + out[top:]
-
-
-def read_list(path):
-    r"""Lines `crate NAME`, or `crate NAME without MODULE, ..`; and for a file its name, then pairs of lines `- old` and
-    `+ new`, in which `\n` ends a line."""
-    crates, replaced, file = {}, {}, None
-    for line in path.read_text().split('\n'):
-        if line[:6] == 'crate ':
-            name, *omitted = re.findall(r'\w+', line[6:].replace(' without ', ' '))
-            crates[name] = omitted
-        elif line[:2] == '- ':
-            replaced.setdefault(file, []).append([line[2:].replace('\\n', '\n'), ''])
-        elif line[:2] == '+ ':
-            replaced[file][-1][1] = line[2:].replace('\\n', '\n')
-        elif line and line[0] != '#':
-            file = line
-    return crates, replaced
-
-
-def erased(crates, replaced, said):
+def erased(said):
     """Each file of the result, by its path, with its text; what is refused is appended to `said`."""
-    files = {Path('mod.rs'): TOP + ''.join(f'pub mod {crate};\n' for crate in sorted(crates))}
-    for crate, omitted in crates.items():
+    layer = ''.join(file.read_text() for file in OUT.parent.rglob('*.rs') if OUT not in file.parents)
+    public = set(re.findall(r'\w+', ' '.join(re.findall(r'pub use crate::proved([^;]*);', layer))))
+    files = {OUT / 'mod.rs': TOP + ''.join(f'pub mod {crate};\n' for crate in sorted(given.CRATES))}
+    unused = {old for pairs in given.REPLACED.values() for old, _ in pairs} | given.UNGUARDED.keys()
+    for crate, omitted in given.CRATES.items():
         source = REPOSITORY / 'crates' / crate / 'src'
-        for file in sorted(source.rglob('*.rt')):
-            path = file.relative_to(source)
+        for path in sorted(file.relative_to(source) for file in source.rglob('*.rt')):
             if {LAWS, *omitted} & set(path.with_suffix('').parts):
                 continue
+            text = (source / path).read_text()
+            for old, new in given.REPLACED.get('', []) + given.REPLACED.get(f'{crate}/{path}', []):
+                unused -= {old} if old in text else set()
+                text = text.replace(old, new)
             try:
-                text = erase(file.read_text(), crate, crates, omitted, replaced.pop(f'{crate}/{path}', ()))
-                if erase(text, crate, crates) != text:
+                eraser = Eraser(text, crate, public, given.UNGUARDED, given.INTO)
+                text = eraser.run()
+                if Eraser(text, crate).run() != text:
                     raise Refused('erased again, it is another text')
             except Refused as refused:
-                said.append(f'{file.relative_to(REPOSITORY)}:{refused}')
-                continue
-            path = Path('mod.rs') if path.name == 'lib.rt' else path.with_suffix('.rs')
-            files[crate / path] = text
+                said.append(f'{source / path}:{refused}')
+            unused -= eraser.used
+            files[OUT / crate / ('mod.rs' if path.name == 'lib.rt' else path.with_suffix('.rs'))] = text
+    said += [f'tools/erase_list.py: nothing has use for: {text}' for text in sorted(unused)]
     return files
 
 
 def main(arguments):
     said = []
-    crates, replaced = read_list(REPOSITORY / 'tools/erase.txt')
-    files = erased(crates, replaced, said)
-    said += [f'no file {file}, which is to have replacements' for file in replaced]
-    out = REPOSITORY / 'rust/src/proved'
-    old = {file.relative_to(out): file for file in out.rglob('*') if file.is_file()}
+    files, old = erased(said), {file: file.read_text() for file in OUT.rglob('*') if file.is_file()}
+    differ = [path for path in sorted(files.keys() | old.keys()) if files.get(path) != old.get(path)]
     if arguments == ['--check']:
-        said += [f'rust/src/proved/{path} is not as tools/erase.py writes it' for path in files.keys() | old.keys()
-                 if path not in old or files.get(path) != old[path].read_text()]
-    elif not said:
-        for path in old.keys() - files.keys():
-            old[path].unlink()
-        for path, text in files.items():
-            (out / path).parent.mkdir(parents=True, exist_ok=True)
-            (out / path).write_text(text)
+        said += [f'{path} is not as tools/erase.py writes it' for path in differ]
+    for path in differ if not said else []:
+        path.parent.mkdir(parents=True, exist_ok=True)
+        path.write_text(files[path]) if path in files else path.unlink()
     print(*said, sep='\n', end='\n' * bool(said), file=sys.stderr)
     return bool(said)
 

@@ -1,32 +1,150 @@
-"""What erase.py refuses, and what it makes of small texts: python3 t/refusals.py"""
-import sys; sys.dont_write_bytecode = True
-from erase import erase, Refused
-def gives(text, want, **k):
-    got = erase(text, 'net_x', ['net_x', 'net_ring'], **k)
-    assert got == want, (text, got, want)
-    assert erase(got, 'net_x', ['net_x', 'net_ring']) == got
-def refuses(text, words):
-    try: got = erase(text, 'net_x', ['net_x'])
-    except Refused as e: assert words in str(e), (text, str(e)); return
-    raise AssertionError((text, got))
-gives('fn f(x: u8) -> u8\n    requires a { x ≤ 3 }\n{\n    x\n}\n', '/// # Contract\n///\n/// ```text\n/// requires a { x ≤ 3 }\n/// ```\nfn f(x: u8) -> u8 {\n    x\n}\n')
-gives('/// D.\n#[inline]\npub(crate) fn f<\'a>(x: &\'a [u8; 3]) -> char\n    ensures { x\' ≡ "}" }\n{\n    \'}\'\n}\n', "/// D.\n///\n/// # Contract\n///\n/// ```text\n/// ensures { x' ≡ \"}\" }\n/// ```\n#[inline]\npub(crate) fn f<'a>(x: &'a [u8; 3]) -> char {\n    '}'\n}\n")
-gives('/// A law.\npub fn law()\n    ensures { ⊤ }\n{}\nfn g() {}\n', 'fn g() {}\n')
-gives('fn f() {\n    crate::laws::x::<u8>();\n    g();\n}\n', 'fn f() {\n    g();\n}\n')
-gives('use std::marker::{Model, PhantomData};\nuse net_ring::{A, B};\npub use crate::laws;\n', 'use core::marker::PhantomData;\nuse crate::proved::net_ring::{A, B};\n')
-gives('#[derive(Debug, Drop)]\nstruct A<H: Drop, G: Drop + Copy, F: Copy + Drop> {\n    ghost fits: { x },\n    a: H,\n}\n', '#[derive(Debug)]\nstruct A<H, G: Copy, F: Copy> {\n    a: H,\n}\n')
-gives('struct A;\n\n/// M.\nimpl Model for A {\n    ghost use x.y;\n    ghost Value = { ℕ };\n}\n\nfn f() {}\n', 'struct A;\n\nfn f() {}\n')
-gives('trait T {\n    /// X.\n    ghost x: { A } = { b };\n\n    fn f(&self) -> [u8; 3]\n        ensures { ⊤ };\n}\n', 'trait T {\n    /// # Contract\n    ///\n    /// ```text\n    /// ensures { ⊤ }\n    /// ```\n    fn f(&self) -> [u8; 3];\n}\n')
-gives('fn f(a: u8) {\n    let s = "ghost { requires";\n    // ghost use\n    prove!(a < 3, "ghost");\n}\n', 'fn f(a: u8) {\n    let s = "ghost { requires";\n    // ghost use\n    assert!(a < 3, "ghost");\n}\n')
-for text, words in [
-    ('ghost fn f() {}', 'unknown ghost form'), ('fn f() { ghost let x = 1; }', 'unknown ghost form'), ('ghost x = 3;', 'without braces'),
-    ('fn f() requires x', 'not a clause'), ('let requires = 3;', 'not a clause'), ('fn f() ensures { (] }\n{ 1 }', 'another bracket'),
-    ('fn f() ensures { ( \n', 'not closed'), ('#[decreases(x)] fn f() {}', 'unknown attribute'), ('#[derive_where(Debug)] struct A;', 'unknown attribute'),
-    ('fn f() {\n  /* a */ }', 'does not read'), ('fn f() { r"a"; }', 'does not read'), ('fn f(x: Drop) {}', 'use of Drop'), ('struct A { requires { x } }', 'no function'),
-    ('fn f() -> ℕ {}', 'is left'), ('fn f<T: Model>() {}', 'is left'), ('fn f() ensures { x } where T: Copy { 1 }', 'no body'), ('fn f() { x.tactic(); }', 'is left'),
-    ('fn f() { (]; }\nimpl Model for A { ( }', 'bracket')]:
-    refuses(text, words)
-refuses('impl Drop for A {\n    fn drop(self) {\n        let A { x } = self;\n        close(x);\n    }\n}\n', 'does more')
-refuses('impl Model for A {\n    fn f() {}\n}\n', 'does more')
-gives('impl<T: Drop> Drop for A<T> {\n    fn drop(self) {\n        let A { x, y: _, } = self;\n        drop(x);\n    }\n}\nfn f() {}\n', 'fn f() {}\n')
-print('ok')
+#!/usr/bin/env python3
+"""What tools/erase.py makes of small texts, and texts that it refuses: python3 tools/erase_tests.py"""
+import sys
+
+sys.dont_write_bytecode = True
+import erase
+
+CONTRACT = '''/// # Contract
+///
+/// In the words of [`contracts`](crate::contracts):
+///
+/// ```text
+'''
+
+
+def of(text, **settings):
+    return erase.Eraser(text, 'net_tcp', **settings).run()
+
+
+# Pairs: a text, and what it becomes.
+GIVEN = [
+    ('fn f(x: u8) -> u8\n    requires a { x ≤ 3 }\n{\n    x\n}\n',
+     CONTRACT + '/// requires a { x ≤ 3 }\n/// ```\nfn f(x: u8) -> u8 {\n    x\n}\n'),
+    # A contract is after the documentation and before attributes; brackets and quotes in logic are none of Rust's.
+    ("/// D.\n#[inline]\npub(crate) fn f<'a>(x: &'a [u8; 3]) -> char\n    ensures { x' ≡ \"}\" }\n{\n    '}'\n}\n",
+     '/// D.\n///\n' + CONTRACT + "/// ensures { x' ≡ \"}\" }\n/// ```\n#[inline]\n"
+     "pub(crate) fn f<'a>(x: &'a [u8; 3]) -> char {\n    '}'\n}\n"),
+    # Clauses of several lines keep their shape.
+    ('    fn f()\n        ensures { a\n            b }\n    {\n        g();\n    }\n',
+     '    ' + CONTRACT.replace('\n', '\n    ') + '/// ensures { a\n    ///     b }\n    /// ```\n    fn f() {\n        g();\n    }\n'),
+    # Laws, their imports, and what calls them.
+    ('/// A law.\npub fn law()\n    ensures { ⊤ }\n{}\nfn g() {}\n', 'fn g() {}\n'),
+    ('fn f() {\n    crate::laws::x::<u8>();\n    laws::y();\n    g();\n}\n', 'fn f() {\n    g();\n}\n'),
+    ('mod a;\npub mod laws;\nuse crate::laws;\nuse a::laws::b;\n', 'mod a;\n'),
+    # Imports are of one crate, and what only contracts name is imported no more.
+    ('use std::marker::{Model, PhantomData};\nuse net_ring::{A, B};\npub use crate::c::d;\n',
+     'use core::marker::PhantomData;\nuse crate::proved::net_ring::{A, B};\npub use crate::proved::net_tcp::c::d;\n'),
+    ('use std::fmt::{self, InlineText};\n', 'use core::fmt;\nuse crate::rattle::InlineText;\n'),
+    ('use thiserror::Error;\nuse std::alloc::AllocError;\nfn f() {}\n', 'fn f() {}\n'),
+    ('fn f() {\n    std::mem::swap(a, net_ring::b());\n    Self::c();\n}\n',
+     'fn f() {\n    core::mem::swap(a, crate::proved::net_ring::b());\n    Self::c();\n}\n'),
+    # Ghost fields, items and members; bounds and derives that all types of Rust meet.
+    ('#[derive(Debug, Drop)]\nstruct A<H: Drop, G: Drop + Copy, F: Copy + Drop> {\n    ghost fits: { x },\n    a: H,\n}\n',
+     '#[derive(Debug)]\nstruct A<H, G: Copy, F: Copy> {\n    a: H,\n}\n'),
+    ('#[derive(Drop)]\nstruct A;\n', 'struct A;\n'),
+    ('struct A;\n\n/// M.\nimpl Model for A {\n    ghost use x.y;\n    ghost Value = { ℕ };\n}\n\nfn f() {}\n',
+     'struct A;\n\nfn f() {}\n'),
+    ('trait T {\n    /// X.\n    ghost x: { A } = { b };\n\n    ghost y: { C };\n\n    fn f(&self) -> [u8; 3]\n        ensures { ⊤ };\n}\n',
+     'trait T {\n    ' + CONTRACT.replace('\n', '\n    ') + '/// ensures { ⊤ }\n    /// ```\n    fn f(&self) -> [u8; 3];\n}\n'),
+    ('impl<T: Drop> Drop for A<T> {\n    fn drop(self) {\n        let A { x, y: _, } = self;\n        drop(x);\n    }\n}\nfn f() {}\n',
+     'fn f() {}\n'),
+    ('impl Clone for A {\n    fn clone(&self) -> Result<A, E> {\n        Ok(b)\n    }\n}\nfn f() {}\n', 'fn f() {}\n'),
+    ('#![tactic(auto)]\n#[tactic(auto, using(a::b))]\nfn f() {}\n', 'fn f() {}\n'),
+    ('#[error("no room")]\nstruct A;\n', 'struct A;\n'),
+    # Words of contracts in texts and comments are none; a guard says who called.
+    ('fn f(a: u8) {\n    let s = "ghost { requires";\n    // ghost use\n    prove!(a < 3, "ghost");\n}\n',
+     '#[track_caller]\nfn f(a: u8) {\n    let s = "ghost { requires";\n    // ghost use\n    assert!(a < 3, "ghost");\n}\n'),
+    ('impl AHead {\n    fn f(a: u8) {\n        prove!(a < 3);\n    }\n}\n', 'impl AHead {\n    fn f(a: u8) {\n        assert!(a < 3);\n    }\n}\n'),
+    # That there is a run is tested when the program is compiled.
+    ('pub const fn f<const N: usize>()\n    requires runs { 1 ≤ N }\n{\n    g()\n}\n',
+     CONTRACT + '/// requires runs { 1 ≤ N }\n/// ```\npub const fn f<const N: usize>() {\n    '
+     'const { assert!(N >= 1, "N is at least 1") };\n    g()\n}\n'),
+    # Examples of proved functions are parts; the others are run.
+    ('/// ```rust\n/// a?\n/// ```\n///\n/// ```\n/// b();\n/// ```\n///\n/// # Requires\nfn f() {}\n',
+     '/// ```ignore\n/// a?\n/// ```\n///\n/// ```\n/// b();\n/// ```\n///\n/// # Requires, else it panics\nfn f() {}\n'),
+    ('/// [`f`](crate::a::f), [`g`](net_ring::g).\nfn f() {}\n',
+     '/// [`f`](crate::proved::net_tcp::a::f), [`g`](crate::proved::net_ring::g).\nfn f() {}\n'),
+]
+
+# A text, and a part of what is said of it.
+REFUSED = [
+    ('ghost fn f() {}', 'unknown ghost form'),
+    ('fn f() { ghost let x = 1; }', 'unknown ghost form'),
+    ('fn f() { let x = ghost; }', 'unknown ghost form'),
+    ('ghost { x }', 'unknown ghost form'),
+    ('ghost x = 3;', 'without braces'),
+    ('ghost x: y = { z };', 'without braces'),
+    ('ghost x = { y }', 'does not end'),
+    ('ghost x = { y } fn f() {}', 'does not end'),
+    ('ghost x = { (y };', 'another bracket'),
+    ('ghost x = { y', 'not closed'),
+    ('fn f() requires x', 'not a clause'),
+    ('let requires = 3;', 'not a clause'),
+    ('fn f() { x.ensures() }', 'not a clause'),
+    ('fn f() ensures { (] }\n{ 1 }', 'another bracket'),
+    ('fn f() ensures { ( \n', 'not closed'),
+    ('struct A { requires { x } }', 'no function'),
+    ('requires { x }', 'no function'),
+    ('fn f() ensures { x } where T: Copy { 1 }', 'no body'),
+    ('fn f() ensures { x } = 3;', 'no body'),
+    ('#[decreases(x)] fn f() {}', 'unknown attribute'),
+    ('#[derive_where(Debug)] struct A;', 'unknown attribute'),
+    ('#![feature(x)]', 'unknown attribute'),
+    ('#[unsafe(no_mangle)] fn f() {}', 'unknown attribute'),
+    ('fn f() {\n  /* a */ }', 'does not read'),
+    ('fn f() { r"a"; }', 'does not read'),
+    ('fn f() { br#"a"#; }', 'does not read'),
+    ('fn f() { c"a"; }', 'does not read'),
+    ('fn f(x: Drop) {}', 'is left: Drop'),
+    ('fn f<T: Model>() {}', 'is left: Model'),
+    ('fn f() -> ℕ {}', 'is left: ℕ'),
+    ('fn f() { x.tactic(); }', 'is left: tactic'),
+    ('fn f() { prove(x); }', 'is left: prove'),
+    ('use a::{b, c::{d, e}};', 'braces in braces'),
+    ('fn f() { (]; }\nimpl Model for A { ( }', 'bracket'),
+    ('impl Drop for A {\n    fn drop(self) {\n        let A { x } = self;\n        close(x);\n    }\n}\n', 'does more'),
+    ('impl Model for A {\n    fn f() {}\n}\n', 'does more'),
+    ('impl Clone for A {\n    fn clone(&self) -> A {\n        A\n    }\n}\n', 'does more'),
+]
+
+# Of a type that can be called from outside.
+CALLED = [
+    ('impl A {\n    pub fn f(x: u8)\n        requires { x < 3 }\n    {\n        let y = x < 3;\n        prove!(y);\n    }\n}\n', None),
+    ('impl A {\n    pub fn f(x: u8)\n        requires { x < 3 }\n    {\n        g(x);\n        prove!(x < 3);\n    }\n}\n', 'no guard'),
+    ('impl<T: B<C>> A<T> {\n    pub const fn f(x: u8)\n        requires a { x < 3 }\n    {\n        g(x)\n    }\n}\n', 'no guard'),
+    ('impl A {\n    fn f(x: u8)\n        requires { x < 3 }\n    {\n        g(x)\n    }\n}\n', None),
+    ('impl A {\n    pub(crate) fn f(x: u8)\n        requires { x < 3 }\n    {\n        g(x)\n    }\n}\n', None),
+    ('impl B {\n    pub fn f(x: u8)\n        requires { x < 3 }\n    {\n        g(x)\n    }\n}\n', None),
+    ('impl A {\n    pub fn listed(x: u8)\n        requires { x < 3 }\n    {\n        g(x)\n    }\n}\n', None),
+    ('impl A<B> {\n    pub fn f(x: u8)\n        requires { 1 ≤ N }\n        requires { x < 3 }\n    {\n        g(x)\n    }\n}\n', 'no guard'),
+]
+
+
+def said(text, **settings):
+    """Why a text is refused; nothing if it isn't."""
+    try:
+        of(text, **settings)
+    except erase.Refused as refused:
+        return str(refused)
+
+
+def main():
+    for text, wanted in GIVEN:
+        assert of(text) == wanted, (text, of(text), wanted)
+        assert of(wanted) == wanted, (wanted, of(wanted))
+    for text, part in REFUSED:
+        assert part in (said(text) or ''), (text, part, said(text))
+    for text, part in CALLED:
+        why = said(text, public={'A'}, unguarded={'A::listed': 'a reason'})
+        assert part in why if part else why is None, (text, part, why)
+    # A head stays inside; parameters are converted.
+    head = 'impl A {\n    pub fn place(&self) -> AHead {\n        self.a\n    }\n}\n'
+    assert of(head, public={'A'}) == head.replace('pub fn', 'pub(crate) fn')
+    wanted = 'impl A {\n    pub fn f<A: Into<B<C, D>>>(x: A, y: u8) {\n        let x = x.into();\n        g(x);\n    }\n}\n'
+    assert of('impl A {\n    pub fn f(x: B<C, D>, y: u8) {\n        g(x);\n    }\n}\n', into={'A::f': ['x']}) == wanted
+    print(f'{len(GIVEN)} texts erased, {len(REFUSED)} refused, {len(CALLED)} asked for a guard')
+
+
+if __name__ == '__main__':
+    main()

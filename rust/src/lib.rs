@@ -48,6 +48,7 @@ extern crate alloc;
 #[cfg(any(feature = "std", test))]
 extern crate std;
 
+pub mod contracts;
 pub mod managed;
 pub mod phy;
 mod proved;

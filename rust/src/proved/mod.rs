@@ -1,4 +1,4 @@
-//! The proved code: crates of this repository without their contracts, as `tools/erase.py` writes them.
+//! The proved code: crates of the repository without their contracts, as `tools/erase.py` writes them.
 #![allow(missing_docs, dead_code, unused_variables, unused_imports, clippy::all)]
 
 pub mod net_assembler;

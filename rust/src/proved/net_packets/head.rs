@@ -56,6 +56,8 @@ impl PacketsHead {
     ///
     /// # Contract
     ///
+    /// In the words of [`contracts`](crate::contracts):
+    ///
     /// ```text
     /// ensures { result ≡ packets_head (place 0 0) (place 0 0) }
     /// ```
@@ -78,6 +80,8 @@ impl PacketsHead {
     ///
     /// # Contract
     ///
+    /// In the words of [`contracts`](crate::contracts):
+    ///
     /// ```text
     /// ensures { IsTrue result ↔ IsSoundHead slot_count capacity self }
     /// ```
@@ -89,11 +93,13 @@ impl PacketsHead {
     /// Returns how many bytes are skipped before a packet of `size` bytes; `None` if there are no
     /// `size` contiguous free bytes, or no slot for the packet or its gap.
     ///
-    /// # Requires
+    /// # Requires, else it panics
     ///
     /// The numbers are sound.
     ///
     /// # Contract
+    ///
+    /// In the words of [`contracts`](crate::contracts):
     ///
     /// ```text
     /// requires sound { IsSoundHead slot_count capacity self }
@@ -112,11 +118,13 @@ impl PacketsHead {
     /// An empty queue begins at the storage's beginning. The caller writes the size of the gap, if
     /// it has a slot, and size and header of the packet to their slots.
     ///
-    /// # Requires
+    /// # Requires, else it panics
     ///
     /// The numbers are sound.
     ///
     /// # Contract
+    ///
+    /// In the words of [`contracts`](crate::contracts):
     ///
     /// ```text
     /// requires sound { IsSoundHead slot_count capacity self.old }
@@ -155,11 +163,13 @@ impl PacketsHead {
     /// Takes the first slot and its `size` bytes off, and returns the index of the first of these
     /// bytes: of a gap before the first packet, or of the first packet.
     ///
-    /// # Requires
+    /// # Requires, else it panics
     ///
     /// The numbers are sound, a slot is used, and at least `size` bytes are.
     ///
     /// # Contract
+    ///
+    /// In the words of [`contracts`](crate::contracts):
     ///
     /// ```text
     /// requires sound { IsSoundHead slot_count capacity self.old }
@@ -180,11 +190,13 @@ impl PacketsHead {
     /// Takes the last `count` bytes off the last packet, after a closure or another program wrote
     /// fewer bytes than were placed. The caller lowers the size in the packet's slot.
     ///
-    /// # Requires
+    /// # Requires, else it panics
     ///
     /// At least `count` bytes are used.
     ///
     /// # Contract
+    ///
+    /// In the words of [`contracts`](crate::contracts):
     ///
     /// ```text
     /// requires size { count ≤ self.old.bytes.length }
@@ -202,6 +214,8 @@ impl PacketsHead {
     ///
     /// # Contract
     ///
+    /// In the words of [`contracts`](crate::contracts):
+    ///
     /// ```text
     /// ensures { self.new ≡ packets_head (place 0 0) (place 0 0) }
     /// ```
@@ -216,6 +230,8 @@ impl PacketsHead {
 /// contiguous, since it is then read from the storage's beginning.
 ///
 /// # Contract
+///
+/// In the words of [`contracts`](crate::contracts):
 ///
 /// ```text
 /// requires { IsSound capacity bytes }
@@ -236,6 +252,8 @@ fn contiguous_if_placed(bytes: RingHead, capacity: usize) -> usize {
 ///
 /// # Contract
 ///
+/// In the words of [`contracts`](crate::contracts):
+///
 /// ```text
 /// requires { contiguous ≤ window }
 /// ensures { result ≡ gap_for size contiguous window }
@@ -255,6 +273,8 @@ fn gap_for(size: usize, contiguous: usize, window: usize) -> Option<usize> {
 ///
 /// # Contract
 ///
+/// In the words of [`contracts`](crate::contracts):
+///
 /// ```text
 /// ensures count { result ≡ slots_for gap }
 /// ensures some { 1 ≤ result }
@@ -269,6 +289,8 @@ pub(crate) fn slots_for(gap: usize) -> usize {
 /// Returns the gap, if `free` slots are enough for it and its packet.
 ///
 /// # Contract
+///
+/// In the words of [`contracts`](crate::contracts):
 ///
 /// ```text
 /// ensures { result ≡ if_slots free gap }

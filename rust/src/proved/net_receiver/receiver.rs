@@ -45,11 +45,13 @@ impl<S: Storage<u8>, const N: usize> ReceiverOver<S, N> {
     /// let mut receiver = Receiver::<4>::new(ManagedSlice::Borrowed(&mut storage));
     /// ```
     ///
-    /// # Requires
+    /// # Requires, else it panics
     ///
     /// `N` is at least 1.
     ///
     /// # Contract
+    ///
+    /// In the words of [`contracts`](crate::contracts):
     ///
     /// ```text
     /// requires { 1 ≤ N }
@@ -58,6 +60,7 @@ impl<S: Storage<u8>, const N: usize> ReceiverOver<S, N> {
     /// ensures receives { (x : List ℕ) → ReceivesFrom 0 x result }
     /// ```
     pub const fn over(storage: S) -> Self {
+        const { assert!(N >= 1, "N is at least 1") };
         Self::over_at(storage, 0)
     }
 
@@ -66,11 +69,13 @@ impl<S: Storage<u8>, const N: usize> ReceiverOver<S, N> {
     ///
     /// Its capacity is the length of `storage` in bytes, of which 0 is allowed.
     ///
-    /// # Requires
+    /// # Requires, else it panics
     ///
     /// `N` is at least 1.
     ///
     /// # Contract
+    ///
+    /// In the words of [`contracts`](crate::contracts):
     ///
     /// ```text
     /// requires { 1 ≤ N }
@@ -79,7 +84,7 @@ impl<S: Storage<u8>, const N: usize> ReceiverOver<S, N> {
     /// ensures receives { (x : List ℕ) → ReceivesFrom first x result }
     /// ```
     pub const fn over_at(storage: S, first: u64) -> Self {
-        const { assert!(N >= 1, "a receiver has at least one run") };
+        const { assert!(N >= 1, "N is at least 1") };
         ReceiverOver {
             head: ReceiverHead::new(first),
             storage,
@@ -89,17 +94,20 @@ impl<S: Storage<u8>, const N: usize> ReceiverOver<S, N> {
 
     /// Returns the receiver that a head, a storage and runs represent. smoltcp has no such call.
     ///
-    /// # Requires
+    /// # Requires, else it panics
     ///
     /// They are sound, as `ReceiverHead::is_sound` tests.
     ///
     /// # Contract
     ///
+    /// In the words of [`contracts`](crate::contracts):
+    ///
     /// ```text
     /// requires { HasSoundParts head (S.elements storage) runs }
     /// ensures { result ≡ receiver_of head (S.elements storage) runs.entry }
     /// ```
-    pub fn from_parts(head: ReceiverHead, storage: S, runs: [Run; N]) -> Self {
+    #[track_caller]
+    pub(crate) fn from_parts(head: ReceiverHead, storage: S, runs: [Run; N]) -> Self {
         assert!(head.is_sound(whole(&storage), &runs), "the head is not that of these parts");
         ReceiverOver {
             head,
@@ -113,12 +121,14 @@ impl<S: Storage<u8>, const N: usize> ReceiverOver<S, N> {
     ///
     /// # Contract
     ///
+    /// In the words of [`contracts`](crate::contracts):
+    ///
     /// ```text
     /// ensures sound { HasSoundParts result.0 (S.elements result.1) result.2 }
     /// ensures state { receiver_of result.0 (S.elements result.1) result.2 ≡ self }
     /// ensures runs { length result.2 ≡ N }
     /// ```
-    pub fn into_parts(self) -> (ReceiverHead, S, [Run; N]) {
+    pub(crate) fn into_parts(self) -> (ReceiverHead, S, [Run; N]) {
         let ReceiverOver {
             head,
             storage,
@@ -130,6 +140,8 @@ impl<S: Storage<u8>, const N: usize> ReceiverOver<S, N> {
     /// Returns whether `pos + len` fits `u64`, as `segment` requires for a segment of `len` bytes.
     ///
     /// # Contract
+    ///
+    /// In the words of [`contracts`](crate::contracts):
     ///
     /// ```text
     /// ensures { IsTrue result ↔ (pos + len < 2 ^ 64) }
@@ -143,6 +155,8 @@ impl<S: Storage<u8>, const N: usize> ReceiverOver<S, N> {
     ///
     /// # Contract
     ///
+    /// In the words of [`contracts`](crate::contracts):
+    ///
     /// ```text
     /// ensures { result ≡ next_position self.now }
     /// ```
@@ -153,6 +167,8 @@ impl<S: Storage<u8>, const N: usize> ReceiverOver<S, N> {
     /// Returns how many bytes are queued.
     ///
     /// # Contract
+    ///
+    /// In the words of [`contracts`](crate::contracts):
     ///
     /// ```text
     /// ensures { result ≡ length self.now.queue }
@@ -165,6 +181,8 @@ impl<S: Storage<u8>, const N: usize> ReceiverOver<S, N> {
     /// and `window` together are the capacity.
     ///
     /// # Contract
+    ///
+    /// In the words of [`contracts`](crate::contracts):
     ///
     /// ```text
     /// ensures window { result ≡ self.now.capacity - length self.now.queue }
@@ -179,6 +197,8 @@ impl<S: Storage<u8>, const N: usize> ReceiverOver<S, N> {
     ///
     /// # Contract
     ///
+    /// In the words of [`contracts`](crate::contracts):
+    ///
     /// ```text
     /// ensures some { limit_of self.now < 2 ^ 64 → result ≡ Some (limit_of self.now) }
     /// ensures none { 2 ^ 64 ≤ limit_of self.now → result ≡ None }
@@ -191,6 +211,8 @@ impl<S: Storage<u8>, const N: usize> ReceiverOver<S, N> {
     ///
     /// # Contract
     ///
+    /// In the words of [`contracts`](crate::contracts):
+    ///
     /// ```text
     /// ensures { result ≡ self.now.capacity }
     /// ```
@@ -202,6 +224,8 @@ impl<S: Storage<u8>, const N: usize> ReceiverOver<S, N> {
     ///
     /// # Contract
     ///
+    /// In the words of [`contracts`](crate::contracts):
+    ///
     /// ```text
     /// ensures { result ≡ length self.now.queue }
     /// ```
@@ -212,6 +236,8 @@ impl<S: Storage<u8>, const N: usize> ReceiverOver<S, N> {
     /// Returns whether no byte is queued; bytes may be held.
     ///
     /// # Contract
+    ///
+    /// In the words of [`contracts`](crate::contracts):
     ///
     /// ```text
     /// ensures { IsTrue result ↔ (self.now.queue ≡ []) }
@@ -225,6 +251,8 @@ impl<S: Storage<u8>, const N: usize> ReceiverOver<S, N> {
     /// acknowledgement lists are not the first of these: `newest_runs` lists those.
     ///
     /// # Contract
+    ///
+    /// In the words of [`contracts`](crate::contracts):
     ///
     /// ```text
     /// ensures runs { result ≡ maximal_runs (domain self.now.held) }
@@ -248,6 +276,8 @@ impl<S: Storage<u8>, const N: usize> ReceiverOver<S, N> {
     ///
     /// # Contract
     ///
+    /// In the words of [`contracts`](crate::contracts):
+    ///
     /// ```text
     /// ensures listed { take result into.new
     ///     ≡ newest_runs (length into.old) (domain self.now.held) (position ∷ recent.old) }
@@ -265,16 +295,19 @@ impl<S: Storage<u8>, const N: usize> ReceiverOver<S, N> {
     /// and counts them. If all that it brings was read, queued or held, there are none: a duplicate,
     /// which TCP may report (RFC 2883). It is asked before `segment`; smoltcp has no such call.
     ///
-    /// # Requires
+    /// # Requires, else it panics
     ///
     /// The segment ends within 64 bits, as `fits` tests.
     ///
     /// # Contract
     ///
+    /// In the words of [`contracts`](crate::contracts):
+    ///
     /// ```text
     /// requires { position + len < 2 ^ 64 }
     /// ensures { result ≡ new_count self.now position len }
     /// ```
+    #[track_caller]
     pub fn count_new(&self, position: u64, len: usize) -> usize {
         let fits = Self::fits(position, len);
         assert!(fits, "the segment's end is above `u64::MAX`");
@@ -305,11 +338,13 @@ impl<S: Storage<u8>, const N: usize> ReceiverOver<S, N> {
     /// }
     /// ```
     ///
-    /// # Requires
+    /// # Requires, else it panics
     ///
     /// The segment ends within 64 bits, as `fits` tests.
     ///
     /// # Contract
+    ///
+    /// In the words of [`contracts`](crate::contracts):
     ///
     /// ```text
     /// requires { pos + length bytes.now < 2 ^ 64 }
@@ -327,6 +362,7 @@ impl<S: Storage<u8>, const N: usize> ReceiverOver<S, N> {
     /// ```
     // Inlined, so that a caller that doesn't look at `sack` doesn't pay for it.
     #[inline(always)]
+    #[track_caller]
     pub fn segment(&mut self, pos: u64, bytes: &[u8]) -> Result<Kept, TooManyHolesError> {
         let fits = Self::fits(pos, bytes.len());
         assert!(fits, "the segment's end is above `u64::MAX`");
@@ -344,6 +380,8 @@ impl<S: Storage<u8>, const N: usize> ReceiverOver<S, N> {
     ///
     /// # Contract
     ///
+    /// In the words of [`contracts`](crate::contracts):
+    ///
     /// ```text
     /// ensures exact { IsTrue result ↔ IsSameState self.now other.now }
     /// ensures states { TellsStates self.now other.now result }
@@ -359,6 +397,8 @@ impl<S: Storage<u8>, const N: usize> ReceiverOver<S, N> {
     ///
     /// # Contract
     ///
+    /// In the words of [`contracts`](crate::contracts):
+    ///
     /// ```text
     /// ensures { IsSound N self.now }
     /// ```
@@ -370,6 +410,8 @@ impl<S: Storage<u8>, const N: usize> ReceiverOver<S, N> {
 /// Shows all bytes of a storage.
 ///
 /// # Contract
+///
+/// In the words of [`contracts`](crate::contracts):
 ///
 /// ```text
 /// ensures { result.now ≡ S.elements storage.now }

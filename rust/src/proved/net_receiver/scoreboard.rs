@@ -23,17 +23,20 @@ pub struct Scoreboard<const N: usize> {
 impl<const N: usize> Scoreboard<N> {
     /// Returns a scoreboard of a stream that begins at position 0, to which nothing was reported.
     ///
-    /// # Requires
+    /// # Requires, else it panics
     ///
     /// `N` is at least 1.
     ///
     /// # Contract
+    ///
+    /// In the words of [`contracts`](crate::contracts):
     ///
     /// ```text
     /// requires { 1 ≤ N }
     /// ensures { result ≡ nothing }
     /// ```
     pub fn new() -> Self {
+        const { assert!(N >= 1, "N is at least 1") };
         Scoreboard {
             head: ScoreboardHead::new(),
             runs: [Run { start: 0, end: 0 }; N],
@@ -43,17 +46,20 @@ impl<const N: usize> Scoreboard<N> {
     /// Returns a scoreboard of a stream that begins at position `first`, to which nothing was reported.
     /// All positions below `first` count as reported.
     ///
-    /// # Requires
+    /// # Requires, else it panics
     ///
     /// `N` is at least 1.
     ///
     /// # Contract
+    ///
+    /// In the words of [`contracts`](crate::contracts):
     ///
     /// ```text
     /// requires { 1 ≤ N }
     /// ensures { result ≡ with_range nothing 0 first }
     /// ```
     pub fn new_at(first: u64) -> Self {
+        const { assert!(N >= 1, "N is at least 1") };
         Scoreboard {
             head: ScoreboardHead::new_at(first),
             runs: [Run { start: 0, end: 0 }; N],
@@ -62,11 +68,13 @@ impl<const N: usize> Scoreboard<N> {
 
     /// Returns the scoreboard that a head and runs represent.
     ///
-    /// # Requires
+    /// # Requires, else it panics
     ///
     /// They are sound, as `ScoreboardHead::is_sound` tests.
     ///
     /// # Contract
+    ///
+    /// In the words of [`contracts`](crate::contracts):
     ///
     /// ```text
     /// requires { IsSoundBoard head runs }
@@ -79,6 +87,8 @@ impl<const N: usize> Scoreboard<N> {
     /// Returns the head and the runs, which represent the scoreboard.
     ///
     /// # Contract
+    ///
+    /// In the words of [`contracts`](crate::contracts):
     ///
     /// ```text
     /// ensures sound { IsSoundBoard result.0 result.1 }
@@ -96,11 +106,13 @@ impl<const N: usize> Scoreboard<N> {
     /// wasn't reported, and there would be more than `N` runs beyond it. Then the block isn't known, and
     /// its bytes are sent again.
     ///
-    /// # Requires
+    /// # Requires, else it panics
     ///
     /// `start` is at most `end`, as `ScoreboardHead::is_block` tests.
     ///
     /// # Contract
+    ///
+    /// In the words of [`contracts`](crate::contracts):
     ///
     /// ```text
     /// requires { start ≤ end }
@@ -116,6 +128,8 @@ impl<const N: usize> Scoreboard<N> {
     ///
     /// # Contract
     ///
+    /// In the words of [`contracts`](crate::contracts):
+    ///
     /// ```text
     /// ensures { self.new ≡ with_range self.old 0 next }
     /// ```
@@ -127,6 +141,8 @@ impl<const N: usize> Scoreboard<N> {
     ///
     /// # Contract
     ///
+    /// In the words of [`contracts`](crate::contracts):
+    ///
     /// ```text
     /// ensures { result ≡ front self.now }
     /// ```
@@ -137,6 +153,8 @@ impl<const N: usize> Scoreboard<N> {
     /// Returns whether a position was reported.
     ///
     /// # Contract
+    ///
+    /// In the words of [`contracts`](crate::contracts):
     ///
     /// ```text
     /// ensures { result ≡ contains self.now pos }
@@ -150,6 +168,8 @@ impl<const N: usize> Scoreboard<N> {
     ///
     /// # Contract
     ///
+    /// In the words of [`contracts`](crate::contracts):
+    ///
     /// ```text
     /// ensures runs { result ≡ maximal_runs (beyond self.now) }
     /// ensures bound { length result ≤ N }
@@ -162,6 +182,8 @@ impl<const N: usize> Scoreboard<N> {
     ///
     /// # Contract
     ///
+    /// In the words of [`contracts`](crate::contracts):
+    ///
     /// ```text
     /// ensures { IsEnd self.now result }
     /// ```
@@ -173,6 +195,8 @@ impl<const N: usize> Scoreboard<N> {
     ///
     /// # Contract
     ///
+    /// In the words of [`contracts`](crate::contracts):
+    ///
     /// ```text
     /// ensures { result ≡ length (positions (beyond self.now)) }
     /// ```
@@ -183,6 +207,8 @@ impl<const N: usize> Scoreboard<N> {
     /// Returns the first position from `pos` on that wasn't reported.
     ///
     /// # Contract
+    ///
+    /// In the words of [`contracts`](crate::contracts):
     ///
     /// ```text
     /// ensures { result ≡ first_missing self.now pos }
@@ -196,6 +222,8 @@ impl<const N: usize> Scoreboard<N> {
     /// is none below `limit`, both are `limit`.
     ///
     /// # Contract
+    ///
+    /// In the words of [`contracts`](crate::contracts):
     ///
     /// ```text
     /// ensures { IsNextHole self.now pos limit result.0 result.1 }

@@ -23,6 +23,8 @@ pub struct FragmentsOver<B: Storage<u8>, const N: usize> {
 ///
 /// # Contract
 ///
+/// In the words of [`contracts`](crate::contracts):
+///
 /// ```text
 /// ensures { result ≡ head.now.expires_at }
 /// ```
@@ -36,11 +38,13 @@ pub type FragmentBuffer<'a, const N: usize = 4> = FragmentsOver<ManagedSlice<'a,
 impl<B: Storage<u8>, const N: usize> FragmentsOver<B, N> {
     /// An empty buffer that expires after `expires_at`.
     ///
-    /// # Requires
+    /// # Requires, else it panics
     ///
     /// `N` is at least 1.
     ///
     /// # Contract
+    ///
+    /// In the words of [`contracts`](crate::contracts):
     ///
     /// ```text
     /// requires { 1 ≤ N }
@@ -49,7 +53,7 @@ impl<B: Storage<u8>, const N: usize> FragmentsOver<B, N> {
     /// ensures expires { result.expires_at ≡ expires_at }
     /// ```
     pub fn over(bytes: B, expires_at: Instant) -> Self {
-        const { assert!(N >= 1, "a buffer of fragments has at least one run") };
+        const { assert!(N >= 1, "N is at least 1") };
         FragmentsOver {
             head: FragmentsHead::new(expires_at.total_micros()),
             bytes,
@@ -59,17 +63,19 @@ impl<B: Storage<u8>, const N: usize> FragmentsOver<B, N> {
 
     /// Returns the buffer that a head, bytes and runs represent. smoltcp has no such call.
     ///
-    /// # Requires
+    /// # Requires, else it panics
     ///
     /// They are sound: the runs are those of an assembler, and a known size is at most that of `bytes`.
     ///
     /// # Contract
     ///
+    /// In the words of [`contracts`](crate::contracts):
+    ///
     /// ```text
     /// requires { HasSoundParts head (B.elements bytes) runs }
     /// ensures { result ≡ fragments_of head (B.elements bytes) runs.entry }
     /// ```
-    pub fn from_parts(head: FragmentsHead, bytes: B, runs: [Run; N]) -> Self {
+    pub(crate) fn from_parts(head: FragmentsHead, bytes: B, runs: [Run; N]) -> Self {
         FragmentsOver { head, bytes, runs }
     }
 
@@ -77,12 +83,14 @@ impl<B: Storage<u8>, const N: usize> FragmentsOver<B, N> {
     ///
     /// # Contract
     ///
+    /// In the words of [`contracts`](crate::contracts):
+    ///
     /// ```text
     /// ensures sound { HasSoundParts result.0 (B.elements result.1) result.2 }
     /// ensures state { fragments_of result.0 (B.elements result.1) result.2 ≡ self }
     /// ensures runs { length result.2 ≡ N }
     /// ```
-    pub fn into_parts(self) -> (FragmentsHead, B, [Run; N]) {
+    pub(crate) fn into_parts(self) -> (FragmentsHead, B, [Run; N]) {
         let FragmentsOver { head, bytes, runs } = self;
         (head, bytes, runs)
     }
@@ -90,6 +98,8 @@ impl<B: Storage<u8>, const N: usize> FragmentsOver<B, N> {
     /// Returns the number of bytes of the buffer: the size of the longest packet that fits.
     ///
     /// # Contract
+    ///
+    /// In the words of [`contracts`](crate::contracts):
     ///
     /// ```text
     /// ensures { result ≡ length self.now.bytes }
@@ -103,6 +113,8 @@ impl<B: Storage<u8>, const N: usize> FragmentsOver<B, N> {
     ///
     /// # Contract
     ///
+    /// In the words of [`contracts`](crate::contracts):
+    ///
     /// ```text
     /// ensures { IsTrue result ↔ (self.now.present ≡ nothing) }
     /// ```
@@ -114,6 +126,8 @@ impl<B: Storage<u8>, const N: usize> FragmentsOver<B, N> {
     /// one.
     ///
     /// # Contract
+    ///
+    /// In the words of [`contracts`](crate::contracts):
     ///
     /// ```text
     /// ensures { result ≡ self.now.expires_at }
@@ -128,6 +142,8 @@ impl<B: Storage<u8>, const N: usize> FragmentsOver<B, N> {
     /// `TooLong`, or would leave more than `N` maximal runs. The end of an accepted fragment fits `usize`.
     ///
     /// # Contract
+    ///
+    /// In the words of [`contracts`](crate::contracts):
     ///
     /// ```text
     /// ensures ok { OnOk result (self.new ≡ with_fragment self.old offset «data».now) }
@@ -151,6 +167,8 @@ impl<B: Storage<u8>, const N: usize> FragmentsOver<B, N> {
     ///
     /// # Contract
     ///
+    /// In the words of [`contracts`](crate::contracts):
+    ///
     /// ```text
     /// ensures ok { OnOk result (self.new ≡ record self.old { total = Some size }) }
     /// ensures unchanged { OnErr result (self.new ≡ self.old) }
@@ -168,6 +186,8 @@ impl<B: Storage<u8>, const N: usize> FragmentsOver<B, N> {
     ///
     /// # Contract
     ///
+    /// In the words of [`contracts`](crate::contracts):
+    ///
     /// ```text
     /// ensures { result ≡ self.now.total }
     /// ```
@@ -183,6 +203,8 @@ impl<B: Storage<u8>, const N: usize> FragmentsOver<B, N> {
     ///
     /// # Contract
     ///
+    /// In the words of [`contracts`](crate::contracts):
+    ///
     /// ```text
     /// ensures { IsTrue result ↔ Meets self.now.present offset len }
     /// ```
@@ -194,6 +216,8 @@ impl<B: Storage<u8>, const N: usize> FragmentsOver<B, N> {
     /// is missing.
     ///
     /// # Contract
+    ///
+    /// In the words of [`contracts`](crate::contracts):
     ///
     /// ```text
     /// ensures complete { IsSome result ↔ ((size : ℕ) × IsComplete self.now size) }
@@ -211,6 +235,8 @@ impl<B: Storage<u8>, const N: usize> FragmentsOver<B, N> {
     ///
     /// # Contract
     ///
+    /// In the words of [`contracts`](crate::contracts):
+    ///
     /// ```text
     /// ensures { IsTrue result ↔ (self.now.expires_at <ℤ now) }
     /// ```
@@ -221,6 +247,8 @@ impl<B: Storage<u8>, const N: usize> FragmentsOver<B, N> {
     /// Starts over for another packet, which is waited for up to `expires_at`.
     ///
     /// # Contract
+    ///
+    /// In the words of [`contracts`](crate::contracts):
     ///
     /// ```text
     /// ensures bytes { self.new.bytes ≡ self.old.bytes }

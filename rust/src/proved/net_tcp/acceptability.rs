@@ -9,6 +9,8 @@
 ///
 /// # Contract
 ///
+/// In the words of [`contracts`](crate::contracts):
+///
 /// ```text
 /// ensures { IsTrue result ↔ IsAcceptable next window seq len }
 /// ```

@@ -7,6 +7,8 @@ pub const MAX_SCALE: u8 = 14;
 ///
 /// # Contract
 ///
+/// In the words of [`contracts`](crate::contracts):
+///
 /// ```text
 /// ensures { IsScaleFor capacity result }
 /// ```
@@ -31,6 +33,8 @@ impl AdvertisedWindow {
     ///
     /// # Contract
     ///
+    /// In the words of [`contracts`](crate::contracts):
+    ///
     /// ```text
     /// ensures { result.edge ≡ first }
     /// ```
@@ -46,11 +50,13 @@ impl AdvertisedWindow {
     /// unit more: the number may then be one less than what was promised, by less than a unit. What
     /// was promised is still accepted, and `edge` stays.
     ///
-    /// # Requires
+    /// # Requires, else it panics
     ///
     /// The scale is at most 14, and the window doesn't end before `next`.
     ///
     /// # Contract
+    ///
+    /// In the words of [`contracts`](crate::contracts):
     ///
     /// ```text
     /// requires scale { scale ≤ 14 }
@@ -64,6 +70,7 @@ impl AdvertisedWindow {
     /// ensures lost { self.old.edge ≤ window_end → self.old.edge ≤ announced next scale 65535 →
     ///     self.old.edge < announced next scale result + 2 ^ scale }
     /// ```
+    #[track_caller]
     pub fn announce(&mut self, scale: u8, next: u64, window_end: u64) -> u16 {
         assert!(scale <= MAX_SCALE, "a greater scale than 14");
         assert!(
@@ -80,11 +87,13 @@ impl AdvertisedWindow {
     /// the edge only if an update would be due: otherwise it announces what was promised before. So
     /// a sender is never told of a few bytes of room (RFC 9293, section 3.8.6.2.2).
     ///
-    /// # Requires
+    /// # Requires, else it panics
     ///
     /// The scale is at most 14, and the window doesn't end before `next`.
     ///
     /// # Contract
+    ///
+    /// In the words of [`contracts`](crate::contracts):
     ///
     /// ```text
     /// requires scale { scale ≤ 14 }
@@ -99,6 +108,7 @@ impl AdvertisedWindow {
     /// ensures steps { self.old.edge + worth capacity mss ≤ self.new.edge
     ///     ⊎ (self.new.edge ≡ max self.old.edge next) }
     /// ```
+    #[track_caller]
     pub fn announce_in_steps(
         &mut self,
         scale: u8,
@@ -123,11 +133,13 @@ impl AdvertisedWindow {
     /// Returns whether an update is worth a segment of its own: whether the edge would move by half
     /// of the receiver's capacity, or by one segment of `mss` bytes.
     ///
-    /// # Requires
+    /// # Requires, else it panics
     ///
     /// The scale is at most 14, and the window doesn't end before `next`.
     ///
     /// # Contract
+    ///
+    /// In the words of [`contracts`](crate::contracts):
     ///
     /// ```text
     /// requires scale { scale ≤ 14 }
@@ -135,6 +147,7 @@ impl AdvertisedWindow {
     /// ensures { IsTrue result
     ///     ↔ (worth capacity mss ≤ gain self.now.edge scale next window_end) }
     /// ```
+    #[track_caller]
     pub fn is_update_due(
         &self,
         scale: u8,
@@ -157,6 +170,8 @@ impl AdvertisedWindow {
 /// Returns the number to announce.
 ///
 /// # Contract
+///
+/// In the words of [`contracts`](crate::contracts):
 ///
 /// ```text
 /// requires scale { scale ≤ 14 }

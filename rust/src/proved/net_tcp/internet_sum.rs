@@ -14,6 +14,8 @@ impl PartsSum {
     ///
     /// # Contract
     ///
+    /// In the words of [`contracts`](crate::contracts):
+    ///
     /// ```text
     /// ensures { Sums result [] }
     /// ```
@@ -25,6 +27,8 @@ impl PartsSum {
     ///
     /// # Contract
     ///
+    /// In the words of [`contracts`](crate::contracts):
+    ///
     /// ```text
     /// ensures { (xs : List ℕ) → Sums self.old xs → Sums self.new (xs ++ part.now) }
     /// ```
@@ -35,6 +39,8 @@ impl PartsSum {
     /// Returns the sum of the bytes that were added and of those that follow them.
     ///
     /// # Contract
+    ///
+    /// In the words of [`contracts`](crate::contracts):
     ///
     /// ```text
     /// ensures { (xs : List ℕ) → Sums self xs → Sums result (xs ++ part.now) }
@@ -52,16 +58,19 @@ impl PartsSum {
     /// Returns the sum of the bytes that were added and of a word that follows them, as one of a
     /// pseudo-header.
     ///
-    /// # Requires
+    /// # Requires, else it panics
     ///
     /// An even count of bytes was added.
     ///
     /// # Contract
     ///
+    /// In the words of [`contracts`](crate::contracts):
+    ///
     /// ```text
     /// requires { IsFalse self.odd }
     /// ensures { (xs : List ℕ) → Sums self xs → Sums result (xs ++ word_bytes word) }
     /// ```
+    #[track_caller]
     pub fn with_word(self, word: u16) -> Self {
         assert!(!self.odd, "an odd count of bytes was added");
         PartsSum {
@@ -73,6 +82,8 @@ impl PartsSum {
     /// Returns the sum of the bytes that were added, and of those of which `after` is the sum.
     ///
     /// # Contract
+    ///
+    /// In the words of [`contracts`](crate::contracts):
     ///
     /// ```text
     /// ensures { (xs ys : List ℕ) → Sums self xs → Sums after ys → Sums result (xs ++ ys) }
@@ -95,6 +106,8 @@ impl PartsSum {
     ///
     /// # Contract
     ///
+    /// In the words of [`contracts`](crate::contracts):
+    ///
     /// ```text
     /// ensures { (xs : List ℕ) → Sums self.now xs → result ≡ internet_checksum xs }
     /// ```
@@ -105,6 +118,8 @@ impl PartsSum {
     /// Returns whether the bytes that were added, with a checksum among them, are valid.
     ///
     /// # Contract
+    ///
+    /// In the words of [`contracts`](crate::contracts):
     ///
     /// ```text
     /// ensures { (xs : List ℕ) → Sums self.now xs
@@ -119,6 +134,8 @@ impl PartsSum {
 ///
 /// # Contract
 ///
+/// In the words of [`contracts`](crate::contracts):
+///
 /// ```text
 /// ensures { result ≡ internet_checksum bytes.now }
 /// ```
@@ -129,6 +146,8 @@ pub fn checksum(bytes: &[u8]) -> u16 {
 /// Returns whether these bytes, with their checksum among them at an even offset, are valid.
 ///
 /// # Contract
+///
+/// In the words of [`contracts`](crate::contracts):
 ///
 /// ```text
 /// ensures { IsTrue result ↔ (folded (word_sum bytes.now) ≡ 65535) }
@@ -142,6 +161,8 @@ pub fn is_valid(bytes: &[u8]) -> bool {
 ///
 /// # Contract
 ///
+/// In the words of [`contracts`](crate::contracts):
+///
 /// ```text
 /// ensures { result ≡ updated checksum old new }
 /// ```
@@ -153,6 +174,8 @@ pub fn updated_checksum(checksum: u16, old: u16, new: u16) -> u16 {
 /// Returns the sum of some words and of these bytes, the first of which is a high byte.
 ///
 /// # Contract
+///
+/// In the words of [`contracts`](crate::contracts):
 ///
 /// ```text
 /// ensures sum { folded result.sum ≡ folded (start + word_sum bytes.now) }
@@ -172,6 +195,8 @@ const BLOCK: usize = 1 << 16;
 ///
 /// # Contract
 ///
+/// In the words of [`contracts`](crate::contracts):
+///
 /// ```text
 /// ensures { folded result ≡ folded (start + word_sum bytes.now) }
 /// ```
@@ -190,6 +215,8 @@ fn sum_words(start: u64, bytes: &[u8]) -> u64 {
 ///
 /// # Contract
 ///
+/// In the words of [`contracts`](crate::contracts):
+///
 /// ```text
 /// requires { length bytes.now ≤ BLOCK }
 /// ensures { folded result ≡ folded (word_sum bytes.now) }
@@ -207,6 +234,8 @@ fn sum_block(bytes: &[u8]) -> u64 {
 /// Adds the words of a few bytes to a sum.
 ///
 /// # Contract
+///
+/// In the words of [`contracts`](crate::contracts):
 ///
 /// ```text
 /// ensures { folded result ≡ folded (start + word_sum bytes.now) }
@@ -228,6 +257,8 @@ fn sum_pairs(start: u64, bytes: &[u8]) -> u64 {
 ///
 /// # Contract
 ///
+/// In the words of [`contracts`](crate::contracts):
+///
 /// ```text
 /// ensures { folded result ≡ folded (a + b) }
 /// ```
@@ -241,6 +272,8 @@ fn add_carry(a: u64, b: u64) -> u64 {
 ///
 /// # Contract
 ///
+/// In the words of [`contracts`](crate::contracts):
+///
 /// ```text
 /// ensures { result ≡ word % 256 * 256 + word / 256 }
 /// ```
@@ -252,6 +285,8 @@ fn swapped(word: u16) -> u16 {
 /// Folds a sum to one word.
 ///
 /// # Contract
+///
+/// In the words of [`contracts`](crate::contracts):
 ///
 /// ```text
 /// ensures { result ≡ folded sum }

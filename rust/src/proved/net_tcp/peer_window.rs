@@ -16,17 +16,20 @@ pub struct PeerWindow {
 
 /// Returns how many bytes the field of a segment announces.
 ///
-/// # Requires
+/// # Requires, else it panics
 ///
 /// The scale is at most 14.
 ///
 /// # Contract
+///
+/// In the words of [`contracts`](crate::contracts):
 ///
 /// ```text
 /// requires { scale ≤ 14 }
 /// ensures value { result ≡ field * 2 ^ scale }
 /// ensures few { result < 2 ^ 30 }
 /// ```
+#[track_caller]
 pub fn scaled(field: u16, scale: u8) -> u64 {
     assert!(scale <= MAX_SCALE, "a greater scale than 14");
     u64::from(field) << scale
@@ -36,6 +39,8 @@ impl PeerWindow {
     /// Returns the window that a segment announced.
     ///
     /// # Contract
+    ///
+    /// In the words of [`contracts`](crate::contracts):
     ///
     /// ```text
     /// ensures { result ≡ window_from seq ack window }
@@ -53,6 +58,8 @@ impl PeerWindow {
     /// Returns whether it did. A window may shrink.
     ///
     /// # Contract
+    ///
+    /// In the words of [`contracts`](crate::contracts):
     ///
     /// ```text
     /// ensures accepted { IsTrue result ↔ ((first_unacknowledged ≤ ack) × (ack ≤ sent)
@@ -81,6 +88,8 @@ impl PeerWindow {
     ///
     /// # Contract
     ///
+    /// In the words of [`contracts`](crate::contracts):
+    ///
     /// ```text
     /// ensures value { result ≡ is_newer self.now seq ack }
     /// ensures newer { IsTrue result ↔ IsNewer self.now seq ack }
@@ -95,6 +104,8 @@ impl PeerWindow {
     ///
     /// # Contract
     ///
+    /// In the words of [`contracts`](crate::contracts):
+    ///
     /// ```text
     /// ensures { result ≡ self.now.edge - pos }
     /// ```
@@ -105,6 +116,8 @@ impl PeerWindow {
     /// Returns the end of what may be sent of the bytes below `end`.
     ///
     /// # Contract
+    ///
+    /// In the words of [`contracts`](crate::contracts):
     ///
     /// ```text
     /// ensures { result ≡ min self.now.edge end }
@@ -117,6 +130,8 @@ impl PeerWindow {
     /// closed, and there are bytes below `end` that wait.
     ///
     /// # Contract
+    ///
+    /// In the words of [`contracts`](crate::contracts):
     ///
     /// ```text
     /// ensures value { IsTrue result

@@ -38,6 +38,8 @@ impl RttEstimate {
     ///
     /// # Contract
     ///
+    /// In the words of [`contracts`](crate::contracts):
+    ///
     /// ```text
     /// ensures value { result ≡ first_estimate (sample time) }
     /// ensures small { IsSmall result }
@@ -52,17 +54,20 @@ impl RttEstimate {
 
     /// Returns the estimate after one more sample.
     ///
-    /// # Requires
+    /// # Requires, else it panics
     ///
     /// The estimate was made by samples, as `is_small` tests.
     ///
     /// # Contract
+    ///
+    /// In the words of [`contracts`](crate::contracts):
     ///
     /// ```text
     /// requires { IsSmall self }
     /// ensures value { result ≡ next_estimate self (sample time) }
     /// ensures small { IsSmall result }
     /// ```
+    #[track_caller]
     pub fn with_sample(self, time: u64) -> Self {
         assert!(self.is_small(), "an estimate that was not made by samples");
         let time = time.min(LONGEST_SAMPLE);
@@ -76,6 +81,8 @@ impl RttEstimate {
     ///
     /// # Contract
     ///
+    /// In the words of [`contracts`](crate::contracts):
+    ///
     /// ```text
     /// ensures { IsTrue result ↔ IsSmall self }
     /// ```
@@ -87,6 +94,8 @@ impl RttEstimate {
     ///
     /// # Contract
     ///
+    /// In the words of [`contracts`](crate::contracts):
+    ///
     /// ```text
     /// ensures { result ≡ self.srtt_8 / 8 }
     /// ```
@@ -97,6 +106,8 @@ impl RttEstimate {
     /// Returns the timeout that it gives: at least the smoothed time, but for the greatest timeout.
     ///
     /// # Contract
+    ///
+    /// In the words of [`contracts`](crate::contracts):
     ///
     /// ```text
     /// ensures value { result ≡ timeout_of bounds self }
@@ -124,6 +135,8 @@ impl RetransmissionTimeout {
     ///
     /// # Contract
     ///
+    /// In the words of [`contracts`](crate::contracts):
+    ///
     /// ```text
     /// ensures value { result.timeout ≡ timeout }
     /// ensures small { IsSmallIfAny result.estimate }
@@ -137,11 +150,13 @@ impl RetransmissionTimeout {
 
     /// Takes over the sample of a segment that was acknowledged now, if it was sent once.
     ///
-    /// # Requires
+    /// # Requires, else it panics
     ///
     /// The estimate, if there is one, was made by samples.
     ///
     /// # Contract
+    ///
+    /// In the words of [`contracts`](crate::contracts):
     ///
     /// ```text
     /// requires { IsSmallIfAny self.old.estimate }
@@ -159,6 +174,8 @@ impl RetransmissionTimeout {
     ///
     /// # Contract
     ///
+    /// In the words of [`contracts`](crate::contracts):
+    ///
     /// ```text
     /// requires { IsSmallIfAny self.old.estimate }
     /// ensures state { self.new ≡ after_sample bounds time self.old }
@@ -174,6 +191,8 @@ impl RetransmissionTimeout {
     ///
     /// # Contract
     ///
+    /// In the words of [`contracts`](crate::contracts):
+    ///
     /// ```text
     /// ensures timeout { self.new.timeout ≡ doubled bounds self.old.timeout }
     /// ensures estimate { self.new.estimate ≡ self.old.estimate }
@@ -187,6 +206,8 @@ impl RetransmissionTimeout {
 /// Returns the estimate after a sample.
 ///
 /// # Contract
+///
+/// In the words of [`contracts`](crate::contracts):
 ///
 /// ```text
 /// requires { IsSmallIfAny estimate }

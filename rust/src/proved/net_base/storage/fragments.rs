@@ -41,6 +41,8 @@ impl FragmentsHead {
     ///
     /// # Contract
     ///
+    /// In the words of [`contracts`](crate::contracts):
+    ///
     /// ```text
     /// ensures sound { (bytes : List ℕ) (runs : List (ℕ × ℕ)) → HasSoundParts result bytes runs }
     /// ensures nothing { (runs : List (ℕ × ℕ)) → set_of result.present runs ≡ nothing }
@@ -63,6 +65,8 @@ impl FragmentsHead {
     ///
     /// # Contract
     ///
+    /// In the words of [`contracts`](crate::contracts):
+    ///
     /// ```text
     /// ensures sound { (bytes : List ℕ) (runs : List (ℕ × ℕ)) →
     ///     HasSoundParts self.new bytes runs }
@@ -82,11 +86,13 @@ impl FragmentsHead {
     /// It is refused, and nothing changes, exactly if it reaches past the buffer's end, which is
     /// `TooLong`, or would leave more maximal runs than there is room for.
     ///
-    /// # Requires
+    /// # Requires, else it panics
     ///
     /// Head, bytes and runs are those of a buffer.
     ///
     /// # Contract
+    ///
+    /// In the words of [`contracts`](crate::contracts):
     ///
     /// ```text
     /// requires sound { HasSoundParts self.old bytes.old runs.old }
@@ -129,6 +135,8 @@ impl FragmentsHead {
     ///
     /// # Contract
     ///
+    /// In the words of [`contracts`](crate::contracts):
+    ///
     /// ```text
     /// ensures ok { OnOk result ((self.new.has_total ≡ 1) × (self.new.total ≡ size)
     ///     × (self.new.present ≡ self.old.present) × (self.new.expires_at ≡ self.old.expires_at)) }
@@ -160,6 +168,8 @@ impl FragmentsHead {
     ///
     /// # Contract
     ///
+    /// In the words of [`contracts`](crate::contracts):
+    ///
     /// ```text
     /// ensures { result ≡ total_of self.now }
     /// ```
@@ -177,11 +187,13 @@ impl FragmentsHead {
     /// It is asked before `add`, by callers who refuse a packet whose fragments overlap (RFC 5722). A
     /// fragment that arrives twice overlaps too.
     ///
-    /// # Requires
+    /// # Requires, else it panics
     ///
     /// The runs are sound.
     ///
     /// # Contract
+    ///
+    /// In the words of [`contracts`](crate::contracts):
     ///
     /// ```text
     /// requires sound { HasSoundRuns self.now.present runs.now }
@@ -199,11 +211,13 @@ impl FragmentsHead {
     /// Returns the packet's size, if it is known and all its bytes have arrived: they are the first
     /// ones of the buffer.
     ///
-    /// # Requires
+    /// # Requires, else it panics
     ///
     /// The runs are sound.
     ///
     /// # Contract
+    ///
+    /// In the words of [`contracts`](crate::contracts):
     ///
     /// ```text
     /// requires sound { HasSoundRuns self.now.present runs.now }
@@ -224,6 +238,8 @@ impl FragmentsHead {
     /// Returns whether `now` is after the last moment at which the packet is waited for.
     ///
     /// # Contract
+    ///
+    /// In the words of [`contracts`](crate::contracts):
     ///
     /// ```text
     /// ensures { IsTrue result ↔ (self.now.expires_at <ℤ now) }

@@ -25,17 +25,22 @@ impl Instant {
     ///
     /// # Contract
     ///
+    /// In the words of [`contracts`](crate::contracts):
+    ///
     /// ```text
     /// ensures { result ≡ micros }
     /// ```
-    pub fn from_micros<T: Into<i64>>(micros: T) -> Instant {
-        Instant { micros: micros.into() }
+    pub fn from_micros<A: Into<i64>>(micros: A) -> Instant {
+        let micros = micros.into();
+        Instant { micros }
     }
 
     /// Returns the same as `from_micros`. smoltcp's is a `const fn`, this one isn't: it is here for
     /// code that was written for smoltcp.
     ///
     /// # Contract
+    ///
+    /// In the words of [`contracts`](crate::contracts):
     ///
     /// ```text
     /// ensures { result ≡ micros }
@@ -48,6 +53,8 @@ impl Instant {
     ///
     /// # Contract
     ///
+    /// In the words of [`contracts`](crate::contracts):
+    ///
     /// ```text
     /// ensures { IsTrue result ↔ IsMoment (millis *ℤ pos 1_000) }
     /// ```
@@ -57,17 +64,20 @@ impl Instant {
 
     /// Returns the moment so many milliseconds after the origin.
     ///
-    /// # Requires
+    /// # Requires, else it panics
     ///
     /// So many microseconds fit 64 bits with a sign, as `fits_millis` tests.
     ///
     /// # Contract
     ///
+    /// In the words of [`contracts`](crate::contracts):
+    ///
     /// ```text
     /// requires fits_millis { IsMoment (millis *ℤ pos 1_000) }
     /// ensures { result ≡ millis *ℤ pos 1_000 }
     /// ```
-    pub fn from_millis<T: Into<i64>>(millis: T) -> Instant {
+    #[track_caller]
+    pub fn from_millis<A: Into<i64>>(millis: A) -> Instant {
         let millis = millis.into();
         let fits = Self::fits_millis(millis);
         assert!(fits, "attempt to multiply with overflow");
@@ -78,16 +88,19 @@ impl Instant {
 
     /// Returns the same as `from_millis`. It is no `const fn` either.
     ///
-    /// # Requires
+    /// # Requires, else it panics
     ///
     /// So many microseconds fit 64 bits with a sign, as `fits_millis` tests.
     ///
     /// # Contract
     ///
+    /// In the words of [`contracts`](crate::contracts):
+    ///
     /// ```text
     /// requires fits_millis { IsMoment (millis *ℤ pos 1_000) }
     /// ensures { result ≡ millis *ℤ pos 1_000 }
     /// ```
+    #[track_caller]
     pub const fn from_millis_const(millis: i64) -> Instant {
         assert!(Self::fits_millis(millis), "attempt to multiply with overflow");
         Instant {
@@ -99,6 +112,8 @@ impl Instant {
     ///
     /// # Contract
     ///
+    /// In the words of [`contracts`](crate::contracts):
+    ///
     /// ```text
     /// ensures { IsTrue result ↔ IsMoment (secs *ℤ pos 1_000_000) }
     /// ```
@@ -108,17 +123,20 @@ impl Instant {
 
     /// Returns the moment so many seconds after the origin.
     ///
-    /// # Requires
+    /// # Requires, else it panics
     ///
     /// So many microseconds fit 64 bits with a sign, as `fits_secs` tests.
     ///
     /// # Contract
     ///
+    /// In the words of [`contracts`](crate::contracts):
+    ///
     /// ```text
     /// requires fits_secs { IsMoment (secs *ℤ pos 1_000_000) }
     /// ensures { result ≡ secs *ℤ pos 1_000_000 }
     /// ```
-    pub fn from_secs<T: Into<i64>>(secs: T) -> Instant {
+    #[track_caller]
+    pub fn from_secs<A: Into<i64>>(secs: A) -> Instant {
         let secs = secs.into();
         let fits = Self::fits_secs(secs);
         assert!(fits, "attempt to multiply with overflow");
@@ -131,6 +149,8 @@ impl Instant {
     ///
     /// # Contract
     ///
+    /// In the words of [`contracts`](crate::contracts):
+    ///
     /// ```text
     /// ensures { result ≡ moment_millis self.now }
     /// ```
@@ -141,6 +161,8 @@ impl Instant {
     /// Returns the microseconds beyond the whole seconds, with the sign of the moment.
     ///
     /// # Contract
+    ///
+    /// In the words of [`contracts`](crate::contracts):
     ///
     /// ```text
     /// ensures { result ≡ moment_micros self.now }
@@ -153,6 +175,8 @@ impl Instant {
     ///
     /// # Contract
     ///
+    /// In the words of [`contracts`](crate::contracts):
+    ///
     /// ```text
     /// ensures { result ≡ moment_secs self.now }
     /// ```
@@ -163,6 +187,8 @@ impl Instant {
     /// Returns the whole milliseconds since the origin.
     ///
     /// # Contract
+    ///
+    /// In the words of [`contracts`](crate::contracts):
     ///
     /// ```text
     /// ensures { result ≡ int_div self.now (pos 1_000) }
@@ -175,6 +201,8 @@ impl Instant {
     ///
     /// # Contract
     ///
+    /// In the words of [`contracts`](crate::contracts):
+    ///
     /// ```text
     /// ensures { result ≡ self.now }
     /// ```
@@ -185,6 +213,8 @@ impl Instant {
     /// Returns whether the sum fits; precondition of `+` and `+=`.
     ///
     /// # Contract
+    ///
+    /// In the words of [`contracts`](crate::contracts):
     ///
     /// ```text
     /// ensures { IsTrue result ↔ IsMoment (self.now +ℤ pos duration) }
@@ -197,6 +227,8 @@ impl Instant {
     ///
     /// # Contract
     ///
+    /// In the words of [`contracts`](crate::contracts):
+    ///
     /// ```text
     /// ensures { IsTrue result ↔ IsMoment (self.now -ℤ pos duration) }
     /// ```
@@ -207,6 +239,8 @@ impl Instant {
     /// Returns the moment so much later, or `None` exactly if that is after the last moment.
     ///
     /// # Contract
+    ///
+    /// In the words of [`contracts`](crate::contracts):
     ///
     /// ```text
     /// ensures { SomeIff result (IsMoment (self.now +ℤ pos duration)) (self.now +ℤ pos duration) }
@@ -222,6 +256,8 @@ impl Instant {
     /// Returns the moment so much earlier, or `None` exactly if that is before the first moment.
     ///
     /// # Contract
+    ///
+    /// In the words of [`contracts`](crate::contracts):
     ///
     /// ```text
     /// ensures { SomeIff result (IsMoment (self.now -ℤ pos duration)) (self.now -ℤ pos duration) }
@@ -243,6 +279,8 @@ impl Instant {
     ///
     /// # Contract
     ///
+    /// In the words of [`contracts`](crate::contracts):
+    ///
     /// ```text
     /// ensures exact { IsMoment (self.now +ℤ pos duration) → result ≡ self.now +ℤ pos duration }
     /// ensures last { (IsMoment (self.now +ℤ pos duration) → ⊥) → result ≡ pos (2 ^ 63 - 1) }
@@ -258,6 +296,8 @@ impl Instant {
     /// Returns the moment so much earlier, or the first moment if that is before it.
     ///
     /// # Contract
+    ///
+    /// In the words of [`contracts`](crate::contracts):
     ///
     /// ```text
     /// ensures exact { IsMoment (self.now -ℤ pos duration) → result ≡ self.now -ℤ pos duration }
@@ -275,10 +315,13 @@ impl Instant {
     ///
     /// # Contract
     ///
+    /// In the words of [`contracts`](crate::contracts):
+    ///
     /// ```text
     /// requires can_add { IsMoment (self +ℤ pos rhs) }
     /// ensures { result ≡ self +ℤ pos rhs }
     /// ```
+    #[track_caller]
     fn sum(self, rhs: Duration) -> Instant {
         let fits = self.can_add(rhs);
         assert!(fits, "attempt to add with overflow");
@@ -291,10 +334,13 @@ impl Instant {
     ///
     /// # Contract
     ///
+    /// In the words of [`contracts`](crate::contracts):
+    ///
     /// ```text
     /// requires can_sub { IsMoment (self -ℤ pos rhs) }
     /// ensures { result ≡ self -ℤ pos rhs }
     /// ```
+    #[track_caller]
     fn difference(self, rhs: Duration) -> Instant {
         let fits = self.can_sub(rhs);
         assert!(fits, "attempt to subtract with overflow");
@@ -306,6 +352,8 @@ impl Instant {
     /// Returns the text of the moment, whatever the options.
     ///
     /// # Contract
+    ///
+    /// In the words of [`contracts`](crate::contracts):
     ///
     /// ```text
     /// ensures { IfOk result (λ text. inline_text text ≡ moment_text self.now) }

@@ -22,6 +22,8 @@ impl<H, M: Storage<PacketMetadata<H>>, B: Storage<u8>> PacketsOver<H, M, B> {
     ///
     /// # Contract
     ///
+    /// In the words of [`contracts`](crate::contracts):
+    ///
     /// ```text
     /// ensures accepted { OnOk result ((ws : List ℕ) → length ws ≡ size
     ///     → contents (with_last_bytes self.new ws) ≡ contents self.old ++ (header, ws) ∷ []) }
@@ -51,6 +53,8 @@ impl<H, M: Storage<PacketMetadata<H>>, B: Storage<u8>> PacketsOver<H, M, B> {
     ///
     /// # Contract
     ///
+    /// In the words of [`contracts`](crate::contracts):
+    ///
     /// ```text
     /// ensures* writes_back { sem 𝓛 (lends_bytes H.row M.row B.row M.Storage B.Storage
     ///     self.entry result (with_last_bytes self.old)) }
@@ -77,6 +81,8 @@ impl<H, M: Storage<PacketMetadata<H>>, B: Storage<u8>> PacketsOver<H, M, B> {
     ///
     /// # Contract
     ///
+    /// In the words of [`contracts`](crate::contracts):
+    ///
     /// ```text
     /// ensures* writes_back { sem 𝓛 (lends_bytes_if H.row M.row B.row M.Storage B.Storage
     ///     self.entry result (with_last_bytes (with_packet_if_room self.old size header))) }
@@ -100,6 +106,8 @@ impl<H, M: Storage<PacketMetadata<H>>, B: Storage<u8>> PacketsOver<H, M, B> {
     /// Lends the last `size` bytes, which are those of the last packet.
     ///
     /// # Contract
+    ///
+    /// In the words of [`contracts`](crate::contracts):
     ///
     /// ```text
     /// requires { size ≡ first_size (only_last self.old.packets) }

@@ -8,6 +8,8 @@ use crate::proved::net_ring::Storage;
 ///
 /// # Contract
 ///
+/// In the words of [`contracts`](crate::contracts):
+///
 /// ```text
 /// requires gap_slot { place.gap_slot < length (M.elements slots.old) }
 /// requires slot { place.slot < length (M.elements slots.old) }
@@ -37,6 +39,8 @@ pub(crate) fn write_slots<H, M: Storage<PacketMetadata<H>>>(
 ///
 /// # Contract
 ///
+/// In the words of [`contracts`](crate::contracts):
+///
 /// ```text
 /// requires { at < length (M.elements slots.old) }
 /// ensures none { IsNone result → (size : _) (h : _) →
@@ -59,6 +63,8 @@ pub(crate) fn lift_header<H, M: Storage<PacketMetadata<H>>>(
 /// Writes size and header of a packet to the slot at the index `at`.
 ///
 /// # Contract
+///
+/// In the words of [`contracts`](crate::contracts):
 ///
 /// ```text
 /// requires { at < length (M.elements slots.old) }

@@ -19,6 +19,8 @@ impl<H, M: Storage<PacketMetadata<H>>, B: Storage<u8>> PacketsOver<H, M, B> {
     ///
     /// # Contract
     ///
+    /// In the words of [`contracts`](crate::contracts):
+    ///
     /// ```text
     /// ensures* skips { sem 𝓛 (ends_as H.row M.row B.row M.Storage B.Storage
     ///     self.entry (without_gap self.old)) }
@@ -51,6 +53,8 @@ impl<H, M: Storage<PacketMetadata<H>>, B: Storage<u8>> PacketsOver<H, M, B> {
     ///
     /// # Contract
     ///
+    /// In the words of [`contracts`](crate::contracts):
+    ///
     /// ```text
     /// ensures empty { IsErr result ↔ (contents self.old ≡ []) }
     /// ensures taken { IfOk result
@@ -77,12 +81,14 @@ impl<H, M: Storage<PacketMetadata<H>>, B: Storage<u8>> PacketsOver<H, M, B> {
 
     /// Lends the `size` bytes before the read index: those of the packet that was taken off last.
     ///
-    /// # Requires
+    /// # Requires, else it panics
     ///
     /// The `size` bytes before the read index are contiguous and none is a packet's, as after a
     /// call of [`PacketsOver::take`] that returned `size`.
     ///
     /// # Contract
+    ///
+    /// In the words of [`contracts`](crate::contracts):
     ///
     /// ```text
     /// requires { AreLastDequeued self.old size }
@@ -108,6 +114,8 @@ impl<H, M: Storage<PacketMetadata<H>>, B: Storage<u8>> PacketsOver<H, M, B> {
     /// Returns `Empty`, and changes nothing, if the queue has no packets.
     ///
     /// # Contract
+    ///
+    /// In the words of [`contracts`](crate::contracts):
     ///
     /// ```text
     /// ensures* writes_back { sem 𝓛 (lends_packet_if H.row M.row B.row M.Storage B.Storage
@@ -138,6 +146,8 @@ impl<H, M: Storage<PacketMetadata<H>>, B: Storage<u8>> PacketsOver<H, M, B> {
     ///
     /// # Contract
     ///
+    /// In the words of [`contracts`](crate::contracts):
+    ///
     /// ```text
     /// requires { first_gap self.old.packets ≡ 0 }
     /// ensures none { IsNone result ↔ (length self.old.packets ≡ 0) }
@@ -164,6 +174,8 @@ impl<H, M: Storage<PacketMetadata<H>>, B: Storage<u8>> PacketsOver<H, M, B> {
     /// Returns the first packet, which has no gap before it.
     ///
     /// # Contract
+    ///
+    /// In the words of [`contracts`](crate::contracts):
     ///
     /// ```text
     /// requires { first_gap self.now.packets ≡ 0 }

@@ -22,11 +22,13 @@ pub type FiniteReceiver<'a, const N: usize = 4> = FiniteReceiverOver<ManagedSlic
 impl<S: Storage<u8>, const N: usize> FiniteReceiverOver<S, N> {
     /// Returns a receiver of a stream that begins at position `first`; nothing has arrived.
     ///
-    /// # Requires
+    /// # Requires, else it panics
     ///
     /// `N` is at least 1, and `first` is not the greatest number of 64 bits.
     ///
     /// # Contract
+    ///
+    /// In the words of [`contracts`](crate::contracts):
     ///
     /// ```text
     /// requires runs { 1 ≤ N }
@@ -34,7 +36,9 @@ impl<S: Storage<u8>, const N: usize> FiniteReceiverOver<S, N> {
     /// ensures state { result ≡ fresh_finite first (length (S.elements storage)) }
     /// ensures receives { (x : List ℕ) → ReceivesFinite first x result }
     /// ```
+    #[track_caller]
     pub fn over_at(storage: S, first: u64) -> Self {
+        const { assert!(N >= 1, "N is at least 1") };
         assert!(first < NO_END, "no number is left for an end");
         FiniteReceiverOver {
             receiver: ReceiverOver::over_at(storage, first),
@@ -47,6 +51,8 @@ impl<S: Storage<u8>, const N: usize> FiniteReceiverOver<S, N> {
     ///
     /// # Contract
     ///
+    /// In the words of [`contracts`](crate::contracts):
+    ///
     /// ```text
     /// ensures { IsTrue result ↔ (pos + len < no_end) }
     /// ```
@@ -58,6 +64,8 @@ impl<S: Storage<u8>, const N: usize> FiniteReceiverOver<S, N> {
     ///
     /// # Contract
     ///
+    /// In the words of [`contracts`](crate::contracts):
+    ///
     /// ```text
     /// ensures { result.now ≡ self.now.receiver }
     /// ```
@@ -68,6 +76,8 @@ impl<S: Storage<u8>, const N: usize> FiniteReceiverOver<S, N> {
     /// Returns the position after the last byte, once it is known.
     ///
     /// # Contract
+    ///
+    /// In the words of [`contracts`](crate::contracts):
     ///
     /// ```text
     /// ensures some { self.now.end < no_end → result ≡ Some self.now.end }
@@ -86,6 +96,8 @@ impl<S: Storage<u8>, const N: usize> FiniteReceiverOver<S, N> {
     ///
     /// # Contract
     ///
+    /// In the words of [`contracts`](crate::contracts):
+    ///
     /// ```text
     /// ensures { result ≡ can_end self.now pos }
     /// ```
@@ -99,6 +111,8 @@ impl<S: Storage<u8>, const N: usize> FiniteReceiverOver<S, N> {
     /// Returns the end that is known after a segment that ends at `pos`.
     ///
     /// # Contract
+    ///
+    /// In the words of [`contracts`](crate::contracts):
     ///
     /// ```text
     /// ensures { result ≡ end_after self.now pos is_last }
@@ -119,11 +133,13 @@ impl<S: Storage<u8>, const N: usize> FiniteReceiverOver<S, N> {
     /// as the bytes before it are, and is sent again. A segment is refused, and nothing changes, if
     /// it says that the stream ends where it can't (`can_end`), or if its bytes are refused.
     ///
-    /// # Requires
+    /// # Requires, else it panics
     ///
     /// The segment fits, as `fits` tests.
     ///
     /// # Contract
+    ///
+    /// In the words of [`contracts`](crate::contracts):
     ///
     /// ```text
     /// requires { pos + length bytes.now < no_end }
@@ -132,6 +148,7 @@ impl<S: Storage<u8>, const N: usize> FiniteReceiverOver<S, N> {
     /// ensures receives { (f : ℕ) (x : List ℕ) → ReceivesFinite f x self.old →
     ///     MatchesFinite f x pos bytes.now is_last → ReceivesFinite f x self.new }
     /// ```
+    #[track_caller]
     pub fn segment(&mut self, pos: u64, bytes: &[u8], is_last: bool) -> Result<Kept, FiniteError> {
         assert!(Self::fits(pos, bytes.len()), "the segment ends too high");
         let last = pos + bytes.len() as u64;
@@ -154,6 +171,8 @@ impl<S: Storage<u8>, const N: usize> FiniteReceiverOver<S, N> {
     ///
     /// # Contract
     ///
+    /// In the words of [`contracts`](crate::contracts):
+    ///
     /// ```text
     /// ensures state { self.new ≡ finite_after_read self.old (length into.old) }
     /// ensures count { result ≡ min (length into.old) (length self.old.receiver.queue) }
@@ -172,6 +191,8 @@ impl<S: Storage<u8>, const N: usize> FiniteReceiverOver<S, N> {
     ///
     /// # Contract
     ///
+    /// In the words of [`contracts`](crate::contracts):
+    ///
     /// ```text
     /// ensures { result ≡ is_complete self.now }
     /// ```
@@ -183,6 +204,8 @@ impl<S: Storage<u8>, const N: usize> FiniteReceiverOver<S, N> {
     /// bytes and the end have arrived, the end plus 1, since the end has a number.
     ///
     /// # Contract
+    ///
+    /// In the words of [`contracts`](crate::contracts):
     ///
     /// ```text
     /// ensures { result ≡ acknowledged self.now }
@@ -196,6 +219,8 @@ impl<S: Storage<u8>, const N: usize> FiniteReceiverOver<S, N> {
     ///
     /// # Contract
     ///
+    /// In the words of [`contracts`](crate::contracts):
+    ///
     /// ```text
     /// ensures { result ≡ has_read_all self.now }
     /// ```
@@ -207,6 +232,8 @@ impl<S: Storage<u8>, const N: usize> FiniteReceiverOver<S, N> {
     /// window.
     ///
     /// # Contract
+    ///
+    /// In the words of [`contracts`](crate::contracts):
     ///
     /// ```text
     /// ensures { result ≡ in_window self.now pos }
@@ -220,16 +247,19 @@ impl<S: Storage<u8>, const N: usize> FiniteReceiverOver<S, N> {
     /// 3.10.7.4, has it: its first number may arrive, or its last one. The end is a number. If the
     /// window is 0, only a segment without numbers at the acknowledged one is.
     ///
-    /// # Requires
+    /// # Requires, else it panics
     ///
     /// `pos + count` fits 64 bits.
     ///
     /// # Contract
     ///
+    /// In the words of [`contracts`](crate::contracts):
+    ///
     /// ```text
     /// requires { pos + count < 2 ^ 64 }
     /// ensures { result ≡ is_acceptable self.now pos count }
     /// ```
+    #[track_caller]
     pub fn is_acceptable(&self, pos: u64, count: u64) -> bool {
         assert!(count <= u64::MAX - pos, "the segment ends too high");
         if self.receiver.window() == 0 {

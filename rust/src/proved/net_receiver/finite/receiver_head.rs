@@ -28,11 +28,13 @@ impl FiniteReceiverHead {
     /// Returns the head of a receiver of a stream that begins at position `first`; nothing has
     /// arrived. It is sound with every storage and all runs.
     ///
-    /// # Requires
+    /// # Requires, else it panics
     ///
     /// `first` is not the greatest number of 64 bits.
     ///
     /// # Contract
+    ///
+    /// In the words of [`contracts`](crate::contracts):
     ///
     /// ```text
     /// requires { first < no_end }
@@ -52,6 +54,8 @@ impl FiniteReceiverHead {
     ///
     /// # Contract
     ///
+    /// In the words of [`contracts`](crate::contracts):
+    ///
     /// ```text
     /// ensures { IsTrue result ↔ HasSoundFinite self.now storage.now runs.now }
     /// ```
@@ -67,6 +71,8 @@ impl FiniteReceiverHead {
     ///
     /// # Contract
     ///
+    /// In the words of [`contracts`](crate::contracts):
+    ///
     /// ```text
     /// ensures { IsTrue result ↔ (pos + len < no_end) }
     /// ```
@@ -77,6 +83,8 @@ impl FiniteReceiverHead {
     /// Returns whether the end is known.
     ///
     /// # Contract
+    ///
+    /// In the words of [`contracts`](crate::contracts):
     ///
     /// ```text
     /// ensures value { result ≡ nat_lt self.now.end no_end }
@@ -90,6 +98,8 @@ impl FiniteReceiverHead {
     /// Returns the position after the last byte, once it is known.
     ///
     /// # Contract
+    ///
+    /// In the words of [`contracts`](crate::contracts):
     ///
     /// ```text
     /// ensures some { self.now.end < no_end → result ≡ Some self.now.end }
@@ -106,11 +116,13 @@ impl FiniteReceiverHead {
     /// Returns whether the stream can end at a position: it is the end that is known, or none is,
     /// and no byte is queued or held at it or above.
     ///
-    /// # Requires
+    /// # Requires, else it panics
     ///
     /// Head, storage and runs are sound, as `is_sound` tests.
     ///
     /// # Contract
+    ///
+    /// In the words of [`contracts`](crate::contracts):
     ///
     /// ```text
     /// requires { HasSoundFinite self.now storage.now runs.now }
@@ -127,6 +139,8 @@ impl FiniteReceiverHead {
     /// `capacity` bytes.
     ///
     /// # Contract
+    ///
+    /// In the words of [`contracts`](crate::contracts):
     ///
     /// ```text
     /// requires { HasSoundFinite self.now storage.now runs.now }
@@ -148,6 +162,8 @@ impl FiniteReceiverHead {
     ///
     /// # Contract
     ///
+    /// In the words of [`contracts`](crate::contracts):
+    ///
     /// ```text
     /// ensures { result ≡ min len (self.now.end - pos) }
     /// ```
@@ -163,11 +179,13 @@ impl FiniteReceiverHead {
     /// as the bytes are before it, and is sent again. A segment is refused, and nothing changes, if
     /// it says that the stream ends where it can't (`can_end`), or if its bytes are refused.
     ///
-    /// # Requires
+    /// # Requires, else it panics
     ///
     /// Head, storage and runs are sound, as `is_sound` tests, and the segment fits, as `fits` tests.
     ///
     /// # Contract
+    ///
+    /// In the words of [`contracts`](crate::contracts):
     ///
     /// ```text
     /// requires sound { HasSoundFinite self.old storage.old runs.old }
@@ -211,12 +229,14 @@ impl FiniteReceiverHead {
 
     /// Returns whether all bytes and the end have arrived. Once it is so it stays so.
     ///
-    /// # Requires
+    /// # Requires, else it panics
     ///
     /// The first missing position and the one after it fit 64 bits, as they do where head, storage
     /// and runs are sound.
     ///
     /// # Contract
+    ///
+    /// In the words of [`contracts`](crate::contracts):
     ///
     /// ```text
     /// requires { next_of self.now < no_end }
@@ -233,12 +253,14 @@ impl FiniteReceiverHead {
     /// Returns the number that an acknowledgement carries: the first missing position, or, once all
     /// bytes and the end have arrived, the end plus 1, since the end has a number.
     ///
-    /// # Requires
+    /// # Requires, else it panics
     ///
     /// The first missing position and the one after it fit 64 bits, as they do where head, storage
     /// and runs are sound.
     ///
     /// # Contract
+    ///
+    /// In the words of [`contracts`](crate::contracts):
     ///
     /// ```text
     /// requires { next_of self.now < no_end }
@@ -254,11 +276,13 @@ impl FiniteReceiverHead {
 
     /// Returns whether all bytes were read, up to the end. Once it is so it stays so.
     ///
-    /// # Requires
+    /// # Requires, else it panics
     ///
     /// The first missing position fits 64 bits, as it does where head, storage and runs are sound.
     ///
     /// # Contract
+    ///
+    /// In the words of [`contracts`](crate::contracts):
     ///
     /// ```text
     /// requires { next_of self.now < no_end }
@@ -273,12 +297,14 @@ impl FiniteReceiverHead {
     /// Moves bytes from the head of the queue to the beginning of `into`, and returns how many: as
     /// many as are queued and as `into` has room for. The rest of `into` stays as it is.
     ///
-    /// # Requires
+    /// # Requires, else it panics
     ///
     /// The queue is in the storage, and the first missing position fits 64 bits, as they do where
     /// head, storage and runs are sound.
     ///
     /// # Contract
+    ///
+    /// In the words of [`contracts`](crate::contracts):
     ///
     /// ```text
     /// requires place { IsSoundPlace (length storage.now) self.old.receiver.place }
@@ -305,11 +331,13 @@ impl FiniteReceiverHead {
     /// Returns whether two receivers of a stream that ends are equal in first position, count of
     /// bytes read, queued bytes, held runs and end.
     ///
-    /// # Requires
+    /// # Requires, else it panics
     ///
     /// Both heads are sound with their storages and runs, as `is_sound` tests.
     ///
     /// # Contract
+    ///
+    /// In the words of [`contracts`](crate::contracts):
     ///
     /// ```text
     /// requires sound { HasSoundFinite self.now storage.now runs.now }
@@ -336,6 +364,8 @@ impl FiniteReceiverHead {
     ///
     /// # Contract
     ///
+    /// In the words of [`contracts`](crate::contracts):
+    ///
     /// ```text
     /// requires { HasSoundFinite self.now storage.now runs.now }
     /// ensures { result ≡ in_window (finite_of self.now storage.now runs.now) pos }
@@ -352,11 +382,13 @@ impl FiniteReceiverHead {
     /// 3.10.7.4, has it: its first number may arrive, or its last one. The end is a number. If the
     /// window is 0, only a segment without numbers at the acknowledged one is.
     ///
-    /// # Requires
+    /// # Requires, else it panics
     ///
     /// Head, storage and runs are sound, as `is_sound` tests, and `pos + count` fits 64 bits.
     ///
     /// # Contract
+    ///
+    /// In the words of [`contracts`](crate::contracts):
     ///
     /// ```text
     /// requires sound { HasSoundFinite self.now storage.now runs.now }
@@ -375,11 +407,13 @@ impl FiniteReceiverHead {
     /// Returns how many bytes of a segment of `len` bytes at `position` would be new: those in the
     /// free window and below the end whose positions are not held.
     ///
-    /// # Requires
+    /// # Requires, else it panics
     ///
     /// Head, storage and runs are sound, as `is_sound` tests, and the segment fits, as `fits` tests.
     ///
     /// # Contract
+    ///
+    /// In the words of [`contracts`](crate::contracts):
     ///
     /// ```text
     /// requires sound { HasSoundFinite self.now storage.now runs.now }

@@ -26,6 +26,8 @@ impl FiniteSenderHead {
     ///
     /// # Contract
     ///
+    /// In the words of [`contracts`](crate::contracts):
+    ///
     /// ```text
     /// ensures sound { (capacity : ℕ) → IsSoundFiniteSender capacity result }
     /// ensures state { (storage : List ℕ) →
@@ -43,6 +45,8 @@ impl FiniteSenderHead {
     /// Returns whether this head is sound for a storage of `capacity` bytes.
     ///
     /// # Contract
+    ///
+    /// In the words of [`contracts`](crate::contracts):
     ///
     /// ```text
     /// ensures { IsTrue result ↔ IsSoundFiniteSender capacity self.now }
@@ -64,11 +68,13 @@ impl FiniteSenderHead {
 
     /// Returns the first number that isn't acknowledged.
     ///
-    /// # Requires
+    /// # Requires, else it panics
     ///
     /// The head is sound for a storage of `capacity` bytes, as in each call below.
     ///
     /// # Contract
+    ///
+    /// In the words of [`contracts`](crate::contracts):
     ///
     /// ```text
     /// requires { IsSoundFiniteSender capacity self.now }
@@ -84,6 +90,8 @@ impl FiniteSenderHead {
     /// Returns the number after the last byte's, and after the end's once the sender is closed.
     ///
     /// # Contract
+    ///
+    /// In the words of [`contracts`](crate::contracts):
     ///
     /// ```text
     /// requires { IsSoundFiniteSender capacity self.now }
@@ -101,6 +109,8 @@ impl FiniteSenderHead {
     /// sender is closed.
     ///
     /// # Contract
+    ///
+    /// In the words of [`contracts`](crate::contracts):
     ///
     /// ```text
     /// requires { IsSoundFiniteSender (length storage.old) self.old }
@@ -126,6 +136,8 @@ impl FiniteSenderHead {
     /// if there is no number left for the end. A second call changes nothing.
     ///
     /// # Contract
+    ///
+    /// In the words of [`contracts`](crate::contracts):
     ///
     /// ```text
     /// requires { IsSoundFiniteSender capacity self.old }
@@ -153,6 +165,8 @@ impl FiniteSenderHead {
     ///
     /// # Contract
     ///
+    /// In the words of [`contracts`](crate::contracts):
+    ///
     /// ```text
     /// requires { IsSoundFiniteSender capacity self.now }
     /// ensures state { (storage : List ℕ) (blocks : List (ℕ × ℕ)) → length storage ≡ capacity →
@@ -170,6 +184,8 @@ impl FiniteSenderHead {
     /// bytes that ends it is the end alone.
     ///
     /// # Contract
+    ///
+    /// In the words of [`contracts`](crate::contracts):
     ///
     /// ```text
     /// requires { IsSoundFiniteSender capacity self.now }
@@ -197,6 +213,8 @@ impl FiniteSenderHead {
     ///
     /// # Contract
     ///
+    /// In the words of [`contracts`](crate::contracts):
+    ///
     /// ```text
     /// requires { IsSoundFiniteSender capacity self.now }
     /// ensures { IsTrue result ↔ ((self.now.closed ≡ 1) × (pos + len
@@ -214,6 +232,8 @@ impl FiniteSenderHead {
     /// Returns false, and changes nothing, if `pos` is above `numbers_end`.
     ///
     /// # Contract
+    ///
+    /// In the words of [`contracts`](crate::contracts):
     ///
     /// ```text
     /// requires { IsSoundFiniteSender capacity self.old }
@@ -236,6 +256,8 @@ impl FiniteSenderHead {
     /// Returns false, and changes nothing, if `next` is below `first_number` or above what was sent.
     ///
     /// # Contract
+    ///
+    /// In the words of [`contracts`](crate::contracts):
     ///
     /// ```text
     /// requires { IsSoundFiniteSender capacity self.old }
@@ -267,6 +289,8 @@ impl FiniteSenderHead {
     ///
     /// # Contract
     ///
+    /// In the words of [`contracts`](crate::contracts):
+    ///
     /// ```text
     /// ensures { IsTrue result ↔ ((start < end) × (end ≤ self.now.sent)) }
     /// ```
@@ -279,6 +303,8 @@ impl FiniteSenderHead {
     ///
     /// # Contract
     ///
+    /// In the words of [`contracts`](crate::contracts):
+    ///
     /// ```text
     /// ensures { result ≡ (self.now.closed == 1) }
     /// ```
@@ -290,6 +316,8 @@ impl FiniteSenderHead {
     /// Returns whether all bytes and the end are acknowledged. Once it is so it stays so.
     ///
     /// # Contract
+    ///
+    /// In the words of [`contracts`](crate::contracts):
     ///
     /// ```text
     /// ensures { result ≡ (self.now.finished == 1) }

@@ -9,11 +9,13 @@ impl ReceiverHead {
     /// Returns whether all bytes that are queued or held are below a position. The storage is for
     /// the contract only.
     ///
-    /// # Requires
+    /// # Requires, else it panics
     ///
     /// Head, storage and runs are sound, as `is_sound` tests.
     ///
     /// # Contract
+    ///
+    /// In the words of [`contracts`](crate::contracts):
     ///
     /// ```text
     /// requires { HasSoundParts self.now storage.now runs.now }
@@ -31,6 +33,8 @@ impl<S: Storage<u8>, const N: usize> ReceiverOver<S, N> {
     /// Returns whether all bytes that are queued or held are below a position.
     ///
     /// # Contract
+    ///
+    /// In the words of [`contracts`](crate::contracts):
     ///
     /// ```text
     /// ensures { IsTrue result ↔ (top_of self.now ≤ pos) }

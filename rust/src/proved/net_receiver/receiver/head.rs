@@ -33,6 +33,8 @@ impl ReceiverHead {
     ///
     /// # Contract
     ///
+    /// In the words of [`contracts`](crate::contracts):
+    ///
     /// ```text
     /// ensures sound { (storage : List ℕ) (runs : List (ℕ × ℕ)) →
     ///     HasSoundParts result storage runs }
@@ -56,6 +58,8 @@ impl ReceiverHead {
     /// at each held run, and at no byte.
     ///
     /// # Contract
+    ///
+    /// In the words of [`contracts`](crate::contracts):
     ///
     /// ```text
     /// ensures { IsTrue result ↔ HasSoundParts self.now storage.now runs.now }
@@ -83,6 +87,8 @@ impl ReceiverHead {
     ///
     /// # Contract
     ///
+    /// In the words of [`contracts`](crate::contracts):
+    ///
     /// ```text
     /// ensures { IsTrue result ↔ (0 < capacity →
     ///     self.now.place.read_at ≡ self.now.count_read % capacity) }
@@ -97,6 +103,8 @@ impl ReceiverHead {
     /// Returns whether the first missing position fits 64 bits.
     ///
     /// # Contract
+    ///
+    /// In the words of [`contracts`](crate::contracts):
     ///
     /// ```text
     /// ensures { IsTrue result
@@ -113,6 +121,8 @@ impl ReceiverHead {
     /// Returns whether the offset of each held byte is above 0 and below `limit`.
     ///
     /// # Contract
+    ///
+    /// In the words of [`contracts`](crate::contracts):
     ///
     /// ```text
     /// requires { HasSoundRuns self.now.held runs.now }
@@ -135,11 +145,13 @@ impl ReceiverHead {
     /// Returns the first missing position: the first position, plus the count of bytes read, plus
     /// those queued.
     ///
-    /// # Requires
+    /// # Requires, else it panics
     ///
     /// The sum fits 64 bits, as it does where head, storage and runs are sound.
     ///
     /// # Contract
+    ///
+    /// In the words of [`contracts`](crate::contracts):
     ///
     /// ```text
     /// requires { self.now.first + self.now.count_read + self.now.place.length < 2 ^ 64 }
@@ -154,6 +166,8 @@ impl ReceiverHead {
     ///
     /// # Contract
     ///
+    /// In the words of [`contracts`](crate::contracts):
+    ///
     /// ```text
     /// ensures { result ≡ self.now.place.length }
     /// ```
@@ -165,11 +179,13 @@ impl ReceiverHead {
     /// Returns the window, where the storage has `capacity` bytes: how many bytes have room after
     /// the queue, held ones among them.
     ///
-    /// # Requires
+    /// # Requires, else it panics
     ///
     /// No more is queued than the capacity, as is so where head, storage and runs are sound.
     ///
     /// # Contract
+    ///
+    /// In the words of [`contracts`](crate::contracts):
     ///
     /// ```text
     /// requires { self.now.place.length ≤ capacity }
@@ -185,6 +201,8 @@ impl ReceiverHead {
     ///
     /// # Contract
     ///
+    /// In the words of [`contracts`](crate::contracts):
+    ///
     /// ```text
     /// ensures some { self.now.first + self.now.count_read + capacity < 2 ^ 64 →
     ///     result ≡ Some (self.now.first + self.now.count_read + capacity) }
@@ -199,12 +217,14 @@ impl ReceiverHead {
     /// Keeps the bytes of a segment that are in the free window, as `ReceiverOver::segment` does. If
     /// it is refused, head, storage and runs stay as they were, with the runs that aren't in use.
     ///
-    /// # Requires
+    /// # Requires, else it panics
     ///
     /// Head, storage and runs are sound, as `is_sound` tests, and the segment ends within 64 bits,
     /// as `ReceiverOver::fits` tests.
     ///
     /// # Contract
+    ///
+    /// In the words of [`contracts`](crate::contracts):
     ///
     /// ```text
     /// requires sound { HasSoundParts self.old storage.old runs.old }
@@ -246,6 +266,8 @@ impl ReceiverHead {
     ///
     /// # Contract
     ///
+    /// In the words of [`contracts`](crate::contracts):
+    ///
     /// ```text
     /// requires { HasSoundParts self.now storage.now runs.now }
     /// ensures { result ≡ first_three (maximal_runs (domain (receiver_of self.now storage.now runs.now).held)) }
@@ -260,11 +282,13 @@ impl ReceiverHead {
     /// most as many as `runs` has elements. Each begins above `next` and ends within the free
     /// window. The storage is for the contract only.
     ///
-    /// # Requires
+    /// # Requires, else it panics
     ///
     /// Head, storage and runs are sound, as `is_sound` tests.
     ///
     /// # Contract
+    ///
+    /// In the words of [`contracts`](crate::contracts):
     ///
     /// ```text
     /// requires { HasSoundParts self.now storage.now runs.now }
@@ -286,6 +310,8 @@ impl ReceiverHead {
     /// queue.
     ///
     /// # Contract
+    ///
+    /// In the words of [`contracts`](crate::contracts):
     ///
     /// ```text
     /// requires sound { HasSoundParts self.old storage.old runs.old }
@@ -334,12 +360,14 @@ impl ReceiverHead {
     /// Moves bytes from the head of the queue to the beginning of `into`, and returns how many: as
     /// many as are queued and as `into` has room for. The rest of `into` stays as it is.
     ///
-    /// # Requires
+    /// # Requires, else it panics
     ///
     /// The queue is in the storage, and the first missing position fits 64 bits, as they do where
     /// head, storage and runs are sound.
     ///
     /// # Contract
+    ///
+    /// In the words of [`contracts`](crate::contracts):
     ///
     /// ```text
     /// requires place { IsSoundPlace (length storage.now) self.old.place }
@@ -373,12 +401,14 @@ impl ReceiverHead {
     /// Removes the first `count` bytes of the queue, as `read` does, and copies none. `capacity` is
     /// how many bytes the storage has.
     ///
-    /// # Requires
+    /// # Requires, else it panics
     ///
     /// The queue is in the storage, it has `count` bytes, and the first missing position fits 64
     /// bits.
     ///
     /// # Contract
+    ///
+    /// In the words of [`contracts`](crate::contracts):
     ///
     /// ```text
     /// requires place { IsSoundPlace capacity self.old.place }
@@ -411,11 +441,13 @@ impl ReceiverHead {
     /// Shows bytes of the queue that are contiguous, from its byte `offset` on: `size`, or as many
     /// as there are up to the end of the queue or of the storage.
     ///
-    /// # Requires
+    /// # Requires, else it panics
     ///
     /// The queue is in the storage.
     ///
     /// # Contract
+    ///
+    /// In the words of [`contracts`](crate::contracts):
     ///
     /// ```text
     /// requires { IsSoundPlace (length storage.now) self.now.place }
@@ -435,11 +467,13 @@ impl ReceiverHead {
     /// many as are queued and as `into` has room for. The rest of `into` stays as it is, and the
     /// queue too.
     ///
-    /// # Requires
+    /// # Requires, else it panics
     ///
     /// The queue is in the storage.
     ///
     /// # Contract
+    ///
+    /// In the words of [`contracts`](crate::contracts):
     ///
     /// ```text
     /// requires { IsSoundPlace (length storage.now) self.now.place }
@@ -455,11 +489,13 @@ impl ReceiverHead {
     /// Shows the queue, in order, in two parts: the bytes up to the storage's end, and those from
     /// its beginning on. The second part is empty unless the queue wraps.
     ///
-    /// # Requires
+    /// # Requires, else it panics
     ///
     /// The queue is in the storage.
     ///
     /// # Contract
+    ///
+    /// In the words of [`contracts`](crate::contracts):
     ///
     /// ```text
     /// requires { IsSoundPlace (length storage.now) self.now.place }
@@ -481,11 +517,13 @@ impl ReceiverHead {
     /// Returns whether first position, count of bytes read, queued bytes and held runs are equal.
     /// The held bytes are not compared, nor are the capacities.
     ///
-    /// # Requires
+    /// # Requires, else it panics
     ///
     /// Both heads are sound with their storages and runs, as `is_sound` tests.
     ///
     /// # Contract
+    ///
+    /// In the words of [`contracts`](crate::contracts):
     ///
     /// ```text
     /// requires sound { HasSoundParts self.now storage.now runs.now }
@@ -510,6 +548,8 @@ impl ReceiverHead {
     /// Returns whether two receivers have equal queues, compared slice by slice.
     ///
     /// # Contract
+    ///
+    /// In the words of [`contracts`](crate::contracts):
     ///
     /// ```text
     /// requires place { IsSoundPlace (length storage.now) self.now.place }

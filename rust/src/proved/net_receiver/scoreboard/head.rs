@@ -29,6 +29,8 @@ impl ScoreboardHead {
     ///
     /// # Contract
     ///
+    /// In the words of [`contracts`](crate::contracts):
+    ///
     /// ```text
     /// ensures base { result.base ≡ first }
     /// ensures no_run { result.reported.used ≡ 0 }
@@ -48,6 +50,8 @@ impl ScoreboardHead {
     ///
     /// # Contract
     ///
+    /// In the words of [`contracts`](crate::contracts):
+    ///
     /// ```text
     /// ensures base { result.base ≡ 0 }
     /// ensures no_run { result.reported.used ≡ 0 }
@@ -63,6 +67,8 @@ impl ScoreboardHead {
     /// each used run.
     ///
     /// # Contract
+    ///
+    /// In the words of [`contracts`](crate::contracts):
     ///
     /// ```text
     /// ensures { IsTrue result ↔ IsSoundBoard self.now runs.now }
@@ -82,6 +88,8 @@ impl ScoreboardHead {
     ///
     /// # Contract
     ///
+    /// In the words of [`contracts`](crate::contracts):
+    ///
     /// ```text
     /// ensures { IsTrue result ↔ ((start < end) × (end ≤ sent)) }
     /// ```
@@ -96,11 +104,13 @@ impl ScoreboardHead {
     /// would be more runs than the slice has elements. Then the block isn't known, and its bytes are sent
     /// again. On a processor of 32 bits it is refused too if `end` is 2^32 or more above the base.
     ///
-    /// # Requires
+    /// # Requires, else it panics
     ///
     /// The scoreboard is sound with the runs, and `start` is at most `end`, as `is_block` tests.
     ///
     /// # Contract
+    ///
+    /// In the words of [`contracts`](crate::contracts):
     ///
     /// ```text
     /// requires sound { IsSoundBoard self.old runs.old }
@@ -134,11 +144,13 @@ impl ScoreboardHead {
 
     /// Reports all positions below `next`. It is never refused, whatever the number of runs.
     ///
-    /// # Requires
+    /// # Requires, else it panics
     ///
     /// The scoreboard is sound with the runs.
     ///
     /// # Contract
+    ///
+    /// In the words of [`contracts`](crate::contracts):
     ///
     /// ```text
     /// requires sound { IsSoundBoard self.old runs.old }
@@ -159,11 +171,13 @@ impl ScoreboardHead {
 
     /// Returns the first position that wasn't reported.
     ///
-    /// # Requires
+    /// # Requires, else it panics
     ///
     /// The scoreboard is sound with the runs.
     ///
     /// # Contract
+    ///
+    /// In the words of [`contracts`](crate::contracts):
     ///
     /// ```text
     /// requires { IsSoundBoard self.now runs.now }
@@ -177,11 +191,13 @@ impl ScoreboardHead {
 
     /// Returns whether a position was reported.
     ///
-    /// # Requires
+    /// # Requires, else it panics
     ///
     /// The scoreboard is sound with the runs.
     ///
     /// # Contract
+    ///
+    /// In the words of [`contracts`](crate::contracts):
     ///
     /// ```text
     /// requires { IsSoundBoard self.now runs.now }
@@ -201,11 +217,13 @@ impl ScoreboardHead {
     /// Returns the runs beyond the first position that wasn't reported, as absolute (start, end), the end
     /// not included, in rising order.
     ///
-    /// # Requires
+    /// # Requires, else it panics
     ///
     /// The scoreboard is sound with the runs.
     ///
     /// # Contract
+    ///
+    /// In the words of [`contracts`](crate::contracts):
     ///
     /// ```text
     /// requires { IsSoundBoard self.now runs.now }
@@ -218,11 +236,13 @@ impl ScoreboardHead {
 
     /// Returns the position after the last one that was reported; 0 if none was.
     ///
-    /// # Requires
+    /// # Requires, else it panics
     ///
     /// The scoreboard is sound with the runs.
     ///
     /// # Contract
+    ///
+    /// In the words of [`contracts`](crate::contracts):
     ///
     /// ```text
     /// requires { IsSoundBoard self.now runs.now }
@@ -234,11 +254,13 @@ impl ScoreboardHead {
 
     /// Returns how many positions were reported beyond the first one that wasn't.
     ///
-    /// # Requires
+    /// # Requires, else it panics
     ///
     /// The scoreboard is sound with the runs.
     ///
     /// # Contract
+    ///
+    /// In the words of [`contracts`](crate::contracts):
     ///
     /// ```text
     /// requires { IsSoundBoard self.now runs.now }
@@ -254,11 +276,13 @@ impl ScoreboardHead {
 
     /// Returns the first position from `pos` on that wasn't reported.
     ///
-    /// # Requires
+    /// # Requires, else it panics
     ///
     /// The scoreboard is sound with the runs.
     ///
     /// # Contract
+    ///
+    /// In the words of [`contracts`](crate::contracts):
     ///
     /// ```text
     /// requires { IsSoundBoard self.now runs.now }
@@ -278,11 +302,13 @@ impl ScoreboardHead {
     /// from `pos` on that wasn't reported, and ends at the next one that was, or at `limit`. If there
     /// is none below `limit`, both are `limit`.
     ///
-    /// # Requires
+    /// # Requires, else it panics
     ///
     /// The scoreboard is sound with the runs.
     ///
     /// # Contract
+    ///
+    /// In the words of [`contracts`](crate::contracts):
     ///
     /// ```text
     /// requires { IsSoundBoard self.now runs.now }
@@ -301,6 +327,8 @@ impl ScoreboardHead {
 /// Returns the end of the last run; 0 if there is none.
 ///
 /// # Contract
+///
+/// In the words of [`contracts`](crate::contracts):
 ///
 /// ```text
 /// requires { HasSoundRuns reported.now runs.now }
