@@ -83,7 +83,8 @@ class Eraser:
         self.read()
 
     def refuse(self, at, message):
-        raise Refused(f'{self.text.count(chr(10), 0, at) + 1}: {message}: {self.text[at:at + 70].splitlines()[0]}')
+        here = self.text[at:at + 70].split('\n')[0]
+        raise Refused(f'{self.text.count(chr(10), 0, at) + 1}: {message}: {here}')
 
     def logic(self, i):
         """The end of the bracket of logic that opens at i."""
