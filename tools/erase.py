@@ -16,6 +16,7 @@ import sys
 from pathlib import Path
 
 import erase_list as given
+import erase_words
 
 REPOSITORY = Path(__file__).resolve().parent.parent
 OUT = REPOSITORY / 'rust/src/proved'
@@ -79,7 +80,7 @@ class Eraser:
         self.text, self.crate = DROP.sub('', text), crate
         self.public, self.unguarded, self.into = public, unguarded, into
         self.tokens, self.new, self.before, self.after = [], {}, {}, {}
-        self.owner, self.used = ('', 0), set()
+        self.owner, self.used, self.contracts = ('', 0), set(), []
         self.read()
 
     def refuse(self, at, message):
@@ -255,6 +256,7 @@ class Eraser:
                 self.put(pub, pub + 1, 'pub(crate)')
             elif any(clause[0] == 'r' and not SOME_RUNS.fullmatch(clause) for clause in contract):
                 self.used |= set() if self.is_guarded(body) else {name}
+            self.contracts += contract
         if self.used - self.unguarded.keys():
             self.refuse(self.tokens[k][2], f'{name} has a precondition and no guard')
         margin = re.search(r'[ \t]*$', self.text[:self.tokens[head][2]]).group()
@@ -342,7 +344,7 @@ def erased(said):
     """Each file of the result, by its path, with its text; what is refused is appended to `said`."""
     layer = ''.join(file.read_text() for file in OUT.parent.rglob('*.rs') if OUT not in file.parents)
     public = set(re.findall(r'\w+', ' '.join(re.findall(r'pub use crate::proved([^;]*);', layer))))
-    files = {OUT / 'mod.rs': TOP + ''.join(f'pub mod {crate};\n' for crate in sorted(given.CRATES))}
+    files, contracts = {OUT / 'mod.rs': TOP + ''.join(f'pub mod {name};\n' for name in ('contracts', *given.CRATES))}, []
     unused = {old for pairs in given.REPLACED.values() for old, _ in pairs} | given.UNGUARDED.keys()
     for crate, omitted in given.CRATES.items():
         source = REPOSITORY / 'crates' / crate / 'src'
@@ -360,8 +362,9 @@ def erased(said):
                     raise Refused('erased again, it is another text')
             except Refused as refused:
                 said.append(f'{source / path}:{refused}')
-            unused -= eraser.used
+            unused, contracts = unused - eraser.used, contracts + eraser.contracts
             files[OUT / crate / ('mod.rs' if path.name == 'lib.rt' else path.with_suffix('.rs'))] = text
+    files[OUT / 'contracts.rs'] = erase_words.page(REPOSITORY, given.CRATES, '\n'.join(contracts))
     said += [f'tools/erase_list.py: nothing has use for: {text}' for text in sorted(unused)]
     return files
 

@@ -48,9 +48,9 @@ extern crate alloc;
 #[cfg(any(feature = "std", test))]
 extern crate std;
 
-pub mod contracts;
 pub mod managed;
 pub mod phy;
+
 mod proved;
 pub mod rand;
 mod rattle;
@@ -61,3 +61,5 @@ pub mod sequence_number;
 pub mod storage;
 pub mod tcp;
 pub mod time;
+
+pub use proved::contracts;

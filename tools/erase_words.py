@@ -1,0 +1,36 @@
+"""The page that explains the words of contracts, for tools/erase.py: signs from docs/NOTATION.md, definitions from specs."""
+import re
+
+NAME = re.compile(r"[A-Za-z_][\w'-]*")
+DEFINED = re.compile(r'^ *(?:abbrev |unfoldable )*pub (?:abbrev |unfoldable |record |data )*([^\s:]+)', re.M)
+TOP = '''What the words of a contract mean, in the section "Contract" of each function's documentation.
+
+A clause is proved of the function's text in Rattle, for all arguments. Here its text is compiled by rustc, without the
+contract; what `requires` asks is tested, and if it isn't met the call panics.
+
+'''
+
+
+def definitions(specs):
+    """Each definition of a file, by its name: its comment and its lines."""
+    found = {}
+    for block in re.split(r'\n\s*\n', specs.read_text()):
+        name = DEFINED.search(block)
+        if name:
+            block = block.strip('\n')
+            margin = min(len(line) - len(line.lstrip()) for line in block.split('\n'))
+            found[name[1]] = '\n'.join(line[margin:] for line in block.split('\n') if not line.lstrip().startswith('-- ----'))
+    return found
+
+
+def page(repository, crates, contracts):
+    """The page, of the words of these contracts that are defined in the specs of these crates."""
+    notation = (repository / 'docs/NOTATION.md').read_text()
+    signs = re.search(r'\n\| Written \|.*?(?=\n\n)', notation, re.S)[0]
+    used, text = set(NAME.findall(contracts)), f'{TOP}# Signs\n{signs}\n'
+    for crate in crates:
+        for specs in sorted((repository / 'crates' / crate / 'specs').glob('*.antt')):
+            found = [block for name, block in definitions(specs).items() if name in used]
+            if found:
+                text += f'\n# {crate}, {specs.stem}\n\n```text\n' + '\n\n'.join(found) + '\n```\n'
+    return ''.join(f'//! {line}'.rstrip() + '\n' for line in text.rstrip('\n').split('\n'))
