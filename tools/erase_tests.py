@@ -60,6 +60,9 @@ GIVEN = [
     ('pub const fn f<const N: usize>()\n    requires runs { 1 ≤ N }\n{\n    g()\n}\n',
      CONTRACT + '/// requires runs { 1 ≤ N }\n/// ```\npub const fn f<const N: usize>() {\n    '
      'const { assert!(N >= 1, "N is at least 1") };\n    g()\n}\n'),
+    ('pub const fn f<const N: usize>()\n    requires { 1 ≤ N }\n{\n    prove!(N >= 1, "some");\n    g()\n}\n',
+     CONTRACT + '/// requires { 1 ≤ N }\n/// ```\npub const fn f<const N: usize>() {\n    '
+     'const { assert!(N >= 1, "some") };\n    g()\n}\n'),
     # Examples of proved functions are parts; the others are run.
     ('/// ```rust\n/// a?\n/// ```\n///\n/// ```\n/// b();\n/// ```\n///\n/// # Requires\nfn f() {}\n',
      '/// ```ignore\n/// a?\n/// ```\n///\n/// ```\n/// b();\n/// ```\n///\n/// # Requires, else it panics\nfn f() {}\n'),
