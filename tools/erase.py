@@ -287,7 +287,7 @@ class Eraser:
             found = re.search(rf'(?<=\b{name}: )(?:{ANGLES}|[^,)])+', signature)
             generics.append(f'{letter}: Into<{found.group()}>')
             signature = signature[:found.start()] + letter + signature[found.end():]
-            self.after[body] = f'\n{margin}    let {name} = {name}.into();' + self.after.get(body, '')
+            self.after[body] = self.after.get(body, '') + f'\n{margin}    let {name} = {name}.into();'
         self.put(k, begin, signature.replace('(', f'<{", ".join(generics)}>(', 1))
 
     def document(self, k, head, margin, contract):
