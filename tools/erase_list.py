@@ -9,7 +9,7 @@ CRATES = {
     'net_ring': [],
     'net_packets': ['closures'],
     'net_assembler': [],
-    'net_receiver': ['schedule', 'command', 'reply'],
+    'net_receiver': ['schedule', 'command', 'reply', 'sack_sender'],
     'net_base': ['loopback', 'device', 'echo', 'rx_token', 'tx_token', 'frame_lists', 'non_zero_u16', 'non_zero_usize'],
     'net_sockets': ['bridge', 'inbox', 'udp_socket', 'endpoint'],
     'net_tcp': [],

@@ -9,8 +9,7 @@
 //! |---|---|
 //! | `result` | what the call returns |
 //! | `x.old`, `x.new` | what a `&mut x` points to, before the call and after it |
-//! | `x.now` | what a shared `&x` points to |
-//! | `x.entry` | an argument by value, as it was passed |
+//! | `x.now`; `x.entry` | what a shared `&x` points to; an argument by value, as it was passed |
 //! | `a ≡ b`, `a ≢ b` | a equals b; a differs from b, also `a ≡ b → ⊥` (⊥ is false) |
 //! | `p × q`, `p ⊎ q`, `p → q`, `p ↔ q` | p and q; p or q; p implies q; p exactly if q |
 //! | `(k : ℕ) → p`, `(k : ℕ) × p` | p for every k; p for some k |
@@ -23,8 +22,7 @@
 //! | `All P xs` | P is true of each element of xs |
 //! | `x.0`, `record s { a = e }` | the first of a tuple; s with its field `a` changed to e |
 //! | `λ x. e` | the function that takes x to e |
-//! | `not b`, `nat_lt a b` | Rust's `!b` and `a < b`, on values |
-//! | `IsTrue b`, `IsFalse b` | the `bool` b is true; false |
+//! | `not b`, `nat_lt a b`; `IsTrue b`, `IsFalse b` | Rust's `!b` and `a < b`, on values; the `bool` b is true; false |
 //! | `IfSome r (λ x. p)`, `IfOk`, `IfErr`; `IfNone r p` | if r is `Some(x)`, `Ok(x)`, `Err(x)`, then p; if r is `None`, then p |
 //! | `OnOk r p`, `OnErr r p`; `IsOk r`, `IsErr r` | if r is `Ok`, `Err`, then p; r is `Ok`, `Err` |
 //! | `MatchOption r p (λ x. q)`, `MatchResult r (λ x. p) (λ e. q)` | p if r is `None`, q if it is `Some(x)`; p if r is `Ok(x)`, q if it is `Err(e)` |
@@ -499,6 +497,14 @@
 //! AreLastDequeuedAt q s p = AreLastDequeued q s × (last_dequeued_bytes_index q s ≡ p)
 //! ```
 //!
+//! # net_packets, PacketsHead
+//!
+//! ```text
+//! -- they are those of two rings
+//! abbrev pub IsSoundHead : ℕ → ℕ → PacketsHead → Type 0
+//! IsSoundHead n c h = IsSound n h.slots × IsSound c h.bytes
+//! ```
+//!
 //! # net_assembler, Assembler
 //!
 //! ```text
@@ -917,6 +923,59 @@
 //! new_count v p n =
 //!     count_by (λ q. nat_le (next_position v) q && nat_lt q (limit_of v) && not (contains (domain v.held) q))
 //!     (range_with_len p n)
+//! ```
+//!
+//! # net_receiver, SenderHeads
+//!
+//! ```text
+//! -- what is stored
+//! abbrev pub sender_of : SenderHead → List ℕ → List (ℕ × ℕ) → SenderState
+//! sender_of h xs blocks =
+//!     sender_state (length xs) h.first_unacknowledged (queue (ring_at xs h.place)) blocks
+//!     (h.first_unacknowledged + (length xs - h.place.read_at))
+//!
+//! -- the queue is in the storage, and its end fits 64 bits
+//! pub record IsSoundHead (capacity : ℕ) (h : SenderHead) : Type 0 where
+//!   pub place : IsSound capacity h.place
+//!   pub fits : h.first_unacknowledged + h.place.length < 2 ^ 64
+//! ```
+//!
+//! # net_receiver, SenderState
+//!
+//! ```text
+//! -- a sender of this capacity, with this queue from position `head` on, with these SACK blocks, and whose
+//! -- storage begins again at `wraps_at`
+//! abbrev pub sender_state : ℕ → ℕ → List ℕ → List (ℕ × ℕ) → ℕ → SenderState
+//! sender_state capacity head queue sack_blocks wraps_at =
+//!     record { capacity = capacity; first_unacknowledged = head; queue = queue; sack_blocks = sack_blocks; wraps_at = wraps_at }
+//!
+//! -- the position after the last byte
+//! abbrev pub end_of : SenderState → ℕ
+//! end_of v = v.first_unacknowledged + length v.queue
+//!
+//! -- how many bytes can be written: those that have room, as far as positions go
+//! abbrev pub room_of : SenderState → ℕ
+//! room_of v = min (v.capacity - length v.queue) (2 ^ 64 - 1 - end_of v)
+//!
+//! -- of the queued bytes from position p on, the end of those that are contiguous in the storage
+//! abbrev pub contiguous_end : SenderState → ℕ → ℕ
+//! contiguous_end v p = if nat_lt p v.wraps_at then min v.wraps_at (end_of v) else end_of v
+//!
+//! -- these bytes were written after the queue
+//! abbrev pub with_written : SenderState → List ℕ → SenderState
+//! with_written v xs = record v { queue = v.queue ++ xs; wraps_at = next_wrap v }
+//!
+//! -- all bytes below position n were acknowledged; once n is past `wraps_at`, the storage begins again later by
+//! -- its length
+//! abbrev pub sender_from : SenderState → ℕ → List (ℕ × ℕ) → SenderState
+//! sender_from v n ranges = sender_state v.capacity n (drop (n - v.first_unacknowledged) v.queue) ranges
+//!     (if nat_lt n v.wraps_at then v.wraps_at else v.wraps_at + v.capacity)
+//!
+//! -- the queue is the rest of w, from its position on
+//! pub record Sends (f : ℕ) (w : List ℕ) (v : SenderState) : Type 0 where
+//!   pub from : f ≤ v.first_unacknowledged
+//!   pub end : end_of v ≡ f + length w
+//!   pub queue : v.queue ≡ drop (v.first_unacknowledged - f) w
 //! ```
 //!
 //! # net_receiver, SequenceNumbers

@@ -108,7 +108,10 @@ impl<S: Storage<u8>, const N: usize> ReceiverOver<S, N> {
     /// ```
     #[track_caller]
     pub(crate) fn from_parts(head: ReceiverHead, storage: S, runs: [Run; N]) -> Self {
-        assert!(head.is_sound(whole(&storage), &runs), "the head is not that of these parts");
+        assert!(
+            head.is_sound(whole(&storage), &runs),
+            "the head is not that of these parts"
+        );
         ReceiverOver {
             head,
             storage,

@@ -220,7 +220,7 @@ impl Instant {
     /// ensures { IsTrue result ↔ IsMoment (self.now +ℤ pos duration) }
     /// ```
     pub fn can_add(&self, duration: Duration) -> bool {
-        i64::try_from(i128::from(self.micros) + i128::from(duration.total_micros())).is_ok()
+        self.checked_add(duration).is_some()
     }
 
     /// Returns whether the difference fits; precondition of `-` and `-=`.
@@ -233,7 +233,7 @@ impl Instant {
     /// ensures { IsTrue result ↔ IsMoment (self.now -ℤ pos duration) }
     /// ```
     pub fn can_sub(&self, duration: Duration) -> bool {
-        i64::try_from(i128::from(self.micros) - i128::from(duration.total_micros())).is_ok()
+        self.checked_sub(duration).is_some()
     }
 
     /// Returns the moment so much later, or `None` exactly if that is after the last moment.
@@ -246,10 +246,9 @@ impl Instant {
     /// ensures { SomeIff result (IsMoment (self.now +ℤ pos duration)) (self.now +ℤ pos duration) }
     /// ```
     pub fn checked_add(&self, duration: Duration) -> Option<Instant> {
-        if self.can_add(duration) {
-            Some(self.sum(duration))
-        } else {
-            None
+        match self.micros.checked_add_unsigned(duration.total_micros()) {
+            Some(micros) => Some(Instant { micros }),
+            None => None,
         }
     }
 
@@ -263,10 +262,9 @@ impl Instant {
     /// ensures { SomeIff result (IsMoment (self.now -ℤ pos duration)) (self.now -ℤ pos duration) }
     /// ```
     pub fn checked_sub(&self, duration: Duration) -> Option<Instant> {
-        if self.can_sub(duration) {
-            Some(self.difference(duration))
-        } else {
-            None
+        match self.micros.checked_sub_unsigned(duration.total_micros()) {
+            Some(micros) => Some(Instant { micros }),
+            None => None,
         }
     }
 
@@ -286,10 +284,9 @@ impl Instant {
     /// ensures last { (IsMoment (self.now +ℤ pos duration) → ⊥) → result ≡ pos (2 ^ 63 - 1) }
     /// ```
     pub fn saturating_add(&self, duration: Duration) -> Instant {
-        if self.can_add(duration) {
-            self.sum(duration)
-        } else {
-            Instant::from_micros(i64::MAX)
+        match self.micros.checked_add_unsigned(duration.total_micros()) {
+            Some(micros) => Instant { micros },
+            None => Instant::from_micros(i64::MAX),
         }
     }
 
@@ -304,48 +301,9 @@ impl Instant {
     /// ensures first { (IsMoment (self.now -ℤ pos duration) → ⊥) → result ≡ negsuc (2 ^ 63 - 1) }
     /// ```
     pub fn saturating_sub(&self, duration: Duration) -> Instant {
-        if self.can_sub(duration) {
-            self.difference(duration)
-        } else {
-            Instant::from_micros(i64::MIN)
-        }
-    }
-
-    /// Returns the moment so much later.
-    ///
-    /// # Contract
-    ///
-    /// In the words of [`contracts`](crate::contracts):
-    ///
-    /// ```text
-    /// requires can_add { IsMoment (self +ℤ pos rhs) }
-    /// ensures { result ≡ self +ℤ pos rhs }
-    /// ```
-    #[track_caller]
-    fn sum(self, rhs: Duration) -> Instant {
-        let fits = self.can_add(rhs);
-        assert!(fits, "attempt to add with overflow");
-        Instant {
-            micros: (i128::from(self.micros) + i128::from(rhs.total_micros())) as i64,
-        }
-    }
-
-    /// Returns the moment so much earlier.
-    ///
-    /// # Contract
-    ///
-    /// In the words of [`contracts`](crate::contracts):
-    ///
-    /// ```text
-    /// requires can_sub { IsMoment (self -ℤ pos rhs) }
-    /// ensures { result ≡ self -ℤ pos rhs }
-    /// ```
-    #[track_caller]
-    fn difference(self, rhs: Duration) -> Instant {
-        let fits = self.can_sub(rhs);
-        assert!(fits, "attempt to subtract with overflow");
-        Instant {
-            micros: (i128::from(self.micros) - i128::from(rhs.total_micros())) as i64,
+        match self.micros.checked_sub_unsigned(duration.total_micros()) {
+            Some(micros) => Instant { micros },
+            None => Instant::from_micros(i64::MIN),
         }
     }
 
