@@ -76,7 +76,7 @@ impl<'a, T> From<ManagedSlice<'a, T>> for RingBuffer<'a, T> {
 
     /// Returns an empty ring over the storage, whose elements stay as they are.
     fn from(storage: ManagedSlice<'a, T>) -> Self {
-        RingOver::new(storage)
+        RingOver::over(storage)
     }
 }
 
@@ -85,7 +85,7 @@ impl<'a, T> From<&'a mut [T]> for RingBuffer<'a, T> {
 
     /// Returns an empty ring over elements that are lent, which stay as they are.
     fn from(elements: &'a mut [T]) -> Self {
-        RingOver::new(ManagedSlice::Borrowed(elements))
+        RingOver::over(ManagedSlice::Borrowed(elements))
     }
 }
 
@@ -94,7 +94,7 @@ impl<'a, T, const N: usize> From<&'a mut [T; N]> for RingBuffer<'a, T> {
 
     /// Returns an empty ring over an array that is lent, whose elements stay as they are.
     fn from(elements: &'a mut [T; N]) -> Self {
-        RingOver::new(ManagedSlice::Borrowed(elements))
+        RingOver::over(ManagedSlice::Borrowed(elements))
     }
 }
 
@@ -103,19 +103,33 @@ impl<'a, T> From<Vec<T>> for RingBuffer<'a, T> {
 
     /// Returns an empty ring over elements of its own, which stay as they are.
     fn from(elements: Vec<T>) -> Self {
-        RingOver::new(ManagedSlice::Owned(elements))
+        RingOver::over(ManagedSlice::Owned(elements))
     }
 }
 
-/// Making, emptying and measuring a ring.
-impl<T, S: Storage<T>> RingOver<T, S> {
+impl<'a, T> RingBuffer<'a, T> {
+    ghost use Rattle.net_ring.specs.Managed.{elements};
+
     /// Returns an empty ring over the storage, whose elements stay as they are.
     ///
     /// ```rust
     /// let mut storage = [0u8; 8];
     /// let mut ring = RingBuffer::new(ManagedSlice::Borrowed(&mut storage));
     /// ```
-    pub fn new(storage: S) -> Self
+    pub fn new(storage: ManagedSlice<'a, T>) -> Self
+        ensures ring { result ≡ ring (elements storage.entry) 0 0 }
+        ensures parts { (queue result ≡ []) × (spare result ≡ elements storage.entry) }
+    {
+        RingOver::over(storage)
+    }
+}
+
+/// Making, emptying and measuring a ring.
+impl<T, S: Storage<T>> RingOver<T, S> {
+    /// Returns an empty ring over storage of any type, whose elements stay as they are.
+    ///
+    /// smoltcp has no such call: [`RingBuffer::new`] is the one for a [`ManagedSlice`].
+    pub const fn over(storage: S) -> Self
         ensures ring { result ≡ ring (S.elements storage) 0 0 }
         ensures parts { (queue result ≡ []) × (spare result ≡ S.elements storage) }
     {
@@ -143,7 +157,10 @@ impl<T, S: Storage<T>> RingOver<T, S> {
         ensures ring { result ≡ ring_at (S.elements storage) place }
     {
         let capacity = storage.count();
-        prove!(place.is_sound(capacity), "the head is not that of this storage");
+        prove!(
+            place.is_sound(capacity),
+            "the head is not that of this storage"
+        );
         RingOver {
             storage,
             place,

@@ -85,6 +85,24 @@ impl<T, S: Storage<T>> RingOver<T, S> {
         )
     }
 
+    /// Shows at most `size` elements of the queue from the one at `offset` on, in order, in two parts:
+    /// those up to the storage's end, which `get_allocated` shows, and those from its beginning on.
+    ///
+    /// The second part is empty unless the range wraps; both are empty if `offset` is past the queue.
+    /// smoltcp has no such call.
+    pub fn allocated_slices(&self, offset: usize, size: usize) -> (&[T], &[T])
+        ensures elements { result.0.now ++ result.1.now ≡ take size (drop offset (queue self.now)) }
+        ensures cut { length result.0.now ≡ contiguous_allocated self.now offset size }
+        ensures count { length result.0.now + length result.1.now
+            ≡ min size (self.now.count - offset) }
+    {
+        let span = self.place.allocated(self.capacity(), offset, size);
+        (
+            self.storage.part(span.from, span.from + span.contiguous),
+            self.storage.part(0, span.count - span.contiguous),
+        )
+    }
+
     /// Lends at most `size` elements of the queue from the one at `offset` on: as many as are
     /// contiguous.
     ///

@@ -64,3 +64,25 @@ impl<'a, T> Iterator for Iter<'a, T> {
         None
     }
 }
+
+impl<'a, T> DoubleEndedIterator for Iter<'a, T> {
+    ghost use Rattle.std.specs.Iterator.{YieldsLastRef};
+
+    ghost next_back_gives = { YieldsLastRef (λ s. s) };
+
+    fn next_back(&mut self) -> Option<&'a T> {
+        let second = self.second;
+        if !second.is_empty() {
+            let last = second.len() - 1;
+            self.second = &second[..last];
+            return Some(&second[last]);
+        }
+        let first = self.first;
+        if !first.is_empty() {
+            let last = first.len() - 1;
+            self.first = &first[..last];
+            return Some(&first[last]);
+        }
+        None
+    }
+}

@@ -87,7 +87,10 @@ impl<T, S: Storage<T>> RingOver<T, S> {
             Makes (WriteLastDequeued ws) self.old
             (with_elements self.old (last_dequeued_index self.old size) ws) }
     {
-        let from = self.place.last_dequeued_index(self.capacity(), size);
+        let capacity = self.capacity();
+        prove!(size <= capacity, "the ring has fewer elements");
+        let from = self.place.last_dequeued_index(capacity, size);
+        prove!(size <= capacity - from, "the elements are not contiguous");
         self.storage.part_mut(from, from + size)
     }
 

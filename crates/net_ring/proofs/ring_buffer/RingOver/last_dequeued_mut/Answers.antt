@@ -12,7 +12,7 @@ returns g c =
     let k = c.args.size in
     let from = c.last_dequeued_index-from.result in
     let at : from ≡ last_dequeued_index old k = c.last_dequeued_index-from.ensures
-    ∙ ap₂ (λ n o. index_after n o.read_at (n - k)) (c.capacity.ensures.capacity ∙ ap capacity is) is in
+    ∙ ap₂ (λ n o. index_after n o.read_at (n - k)) (c.capacity-capacity.ensures.capacity ∙ ap capacity is) is in
     let lent = shown_last_dequeued _ _ is c.self.invariant k from _ c.requires.size c.requires.contiguous at (omega arith) _ c.part_mut.ensures.value in (
       (refl, λ w. left_at _ _ is c.self.invariant _ _ at _ w (g.met.S.Storage.part_written c.self.inside.storage from w)),
       record {
