@@ -61,7 +61,7 @@ pub struct FirstPacket {
 impl PacketsHead {
     /// Returns the numbers of a queue with no packets.
     #[inline]
-    pub fn new() -> Self
+    pub const fn new() -> Self
         ensures { result ≡ packets_head (place 0 0) (place 0 0) }
     {
         PacketsHead {

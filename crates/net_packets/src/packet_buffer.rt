@@ -1,5 +1,5 @@
 //! A queue of packets, each with a header, over storage that is lent or owned.
-ghost use Rattle.std.specs.Prelude.{◌≡◌, ◌≤◌, ◌<◌, ◌^◌, ◌-◌, ◌==◌, ◌↔◌, [], IsTrue, length};
+ghost use Rattle.std.specs.Prelude.{◌≡◌, ◌≤◌, ◌<◌, ◌^◌, ◌-◌, ◌==◌, ◌↔◌, [], IsTrue, IsSome, length};
 ghost use Rattle.std.specs.Prelude.{filter, is_some};
 ghost use Rattle.net_ring.specs.Ring.{capacity};
 ghost use Rattle.net_packets.specs.Packets.{IsWellPlaced, bytes_used, slots_used, no_packets};
@@ -58,7 +58,9 @@ impl<H, M: Storage<PacketMetadata<H>>, B: Storage<u8>> Model for PacketsOver<H, 
     ghost invariant = { λ a. AreSoundParts a.head (M.elements a.slots) (B.elements a.bytes) };
 }
 
-impl<H, M: Storage<PacketMetadata<H>>, B: Storage<u8>> PacketsOver<H, M, B> {
+impl<'a, H> PacketBuffer<'a, H> {
+    ghost use Rattle.net_ring.specs.Managed.{elements};
+
     /// Returns a queue with no packets, which has as many slots as `slots` has elements, and room
     /// for as many bytes as `bytes` has.
     ///
@@ -68,7 +70,18 @@ impl<H, M: Storage<PacketMetadata<H>>, B: Storage<u8>> PacketsOver<H, M, B> {
     ///     ManagedSlice::Borrowed(&mut bytes_in),
     /// ),
     /// ```
-    pub fn new(slots: M, bytes: B) -> Self
+    pub fn new(slots: ManagedSlice<'a, PacketMetadata<H>>, bytes: ManagedSlice<'a, u8>) -> Self
+        ensures empty { contents result ≡ [] }
+        ensures made { result ≡ no_packets (length (elements slots.entry)) (elements bytes.entry) }
+    {
+        PacketsOver::over(slots, bytes)
+    }
+}
+
+impl<H, M: Storage<PacketMetadata<H>>, B: Storage<u8>> PacketsOver<H, M, B> {
+    /// Returns a queue with no packets over storages of any type. smoltcp has no such call:
+    /// [`PacketBuffer::new`] is the one for two [`ManagedSlice`].
+    pub const fn over(slots: M, bytes: B) -> Self
         ensures empty { contents result ≡ [] }
         ensures made { result ≡ no_packets (length (M.elements slots)) (B.elements bytes) }
     {
@@ -96,6 +109,15 @@ impl<H, M: Storage<PacketMetadata<H>>, B: Storage<u8>> PacketsOver<H, M, B> {
         ensures { result ≡ (self.now.slot_count - slots_used self.now.packets == 0) }
     {
         self.head.slots.length == self.slots.count()
+    }
+
+    /// Returns whether a packet of `size` bytes can be appended: whether [`PacketsOver::place`]
+    /// would accept it. smoltcp has no such call.
+    #[inline]
+    pub fn has_room(&self, size: usize) -> bool
+        ensures { IsTrue result ↔ IsSome (placement self.now size) }
+    {
+        self.placement(size).is_some()
     }
 
     /// Returns the number of slots.

@@ -40,12 +40,16 @@ impl<H: Drop, M: Storage<PacketMetadata<H>>, B: Storage<u8>> PacketsOver<H, M, B
     {
         let slot_count = self.slots.count();
         let capacity = self.bytes.count();
-        let Some(place) = self.head.place(slot_count, capacity, max_size) else {
+        let mut head = self.head;
+        let Some(place) = head.place(slot_count, capacity, max_size) else {
             return Err(Full);
         };
         let count = f(self.bytes.part_mut(place.from, place.from + max_size));
-        self.head.shorten_last(max_size - count);
+        prove!(count <= max_size, "more bytes than were lent");
+        head.shorten_last(max_size - count);
+        // The head is written last, as in `place`.
         write_slots(&mut self.slots, place, count, header);
+        self.head = head;
         Ok(count)
     }
 
@@ -78,13 +82,11 @@ impl<H: Drop, M: Storage<PacketMetadata<H>>, B: Storage<u8>> PacketsOver<H, M, B
         let Some((size, mut header)) = lift_header(&mut self.slots, at) else {
             return Err(Empty);
         };
-        // Called only for its clauses, by which the sum below does not wrap.
-        let _bytes = self.bytes.count();
+        let slot_count = self.slots.count();
+        let capacity = self.bytes.count();
         let from = self.head.bytes.read_at;
         let answer = f(&mut header, self.bytes.part_mut(from, from + size));
         if answer.is_ok() {
-            let slot_count = self.slots.count();
-            let capacity = self.bytes.count();
             self.head.take(slot_count, capacity, size);
         } else {
             put_header(&mut self.slots, at, size, header);

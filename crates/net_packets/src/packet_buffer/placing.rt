@@ -44,10 +44,14 @@ impl<H: Drop, M: Storage<PacketMetadata<H>>, B: Storage<u8>> PacketsOver<H, M, B
     {
         let slot_count = self.slots.count();
         let capacity = self.bytes.count();
-        let Some(place) = self.head.place(slot_count, capacity, size) else {
+        let mut head = self.head;
+        let Some(place) = head.place(slot_count, capacity, size) else {
             return Err(Full);
         };
+        // The head is written last: if the drop of a header that was in a slot panics, as in Rust it
+        // may, the queue is as it was.
         write_slots(&mut self.slots, place, size, header);
+        self.head = head;
         Ok(())
     }
 

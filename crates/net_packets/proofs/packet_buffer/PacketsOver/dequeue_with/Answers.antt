@@ -41,7 +41,7 @@ returns-in_default-clause-capacity g c = absurd (parts_has_header _ _ _ c.self.i
 pub overflow_add-from : goal.overflow_add-from
 overflow_add-from g c =
     let fits = parts_first_fits _ _ _ c.self.invariant (ap (λ o. first_gap o.packets) (c.self.view_is ∙ c.skip.ensures.skipped) ∙ (close_gap c.args.self.now.packets)) c.in-Some.size c.in-Some.header (omega (arith, c.if-self-eq0.false)) c.in-Some.ensures.some in
-    omega (arith, fits, c.count-bytes.ensures, c.count-bytes.type_inv)
+    omega (arith, fits, c.count-capacity.ensures, c.count-capacity.type_inv)
 
 pub part_mut-requires : goal.part_mut-requires
 part_mut-requires g c = let fits = parts_first_fits _ _ _ c.self.invariant (ap (λ o. first_gap o.packets) (c.self.view_is ∙ c.skip.ensures.skipped) ∙ (close_gap c.args.self.now.packets)) c.in-Some.size c.in-Some.header (omega (arith, c.if-self-eq0.false)) c.in-Some.ensures.some in record { count = (omega arith, omega (arith, fits)) }
@@ -53,15 +53,16 @@ f-answer-requires g c =
     search (rules, callable)
 
 pub take-requires-clause-sound : goal.take-requires-clause-sound
-take-requires-clause-sound g c =
-    (subst (λ (n : ℕ). IsSound n c.self.inside.head.slots) (sym (c.count-slot_count.ensures ∙ ap length c.in-Some.ensures.left ∙ length-set _ _ _)) c.self.invariant.0,
-    subst (λ (n : ℕ). IsSound n c.self.inside.head.bytes) (sym (c.count-capacity.ensures ∙ ap length (g.met.B.Storage.part_written c.self.inside.bytes c.self.inside.head.bytes.read_at c.f-answer.new.arg3) ∙ length-overwrite _ c.self.inside.head.bytes.read_at c.f-answer.new.arg3)) c.self.invariant.1)
+take-requires-clause-sound g c = (
+  subst (λ (n : ℕ). IsSound n c.self.inside.head.slots) (sym (c.count-slot_count.ensures ∙ ap length c.in-Some.ensures.left ∙ length-set _ _ _)) c.self.invariant.0,
+  subst (λ (n : ℕ). IsSound n c.self.inside.head.bytes) (sym c.count-capacity.ensures) c.self.invariant.1,
+)
 
 pub take-requires-clause-size : goal.take-requires-clause-size
 take-requires-clause-size g c = parts_first_in _ _ _ c.self.invariant (ap (λ o. first_gap o.packets) (c.self.view_is ∙ c.skip.ensures.skipped) ∙ (close_gap c.args.self.now.packets)) c.in-Some.size c.in-Some.header (omega (arith, c.if-self-eq0.false)) c.in-Some.ensures.some
 
 pub invariant_of-self-then-is_ok : goal.invariant_of-self-then-is_ok
-invariant_of-self-then-is_ok g c = (handed_gone _ _ _ c.self.invariant (without_gap c.args.self.now) (c.self.view_is ∙ c.skip.ensures.skipped) (close_gap c.args.self.now.packets) c.in-Some.size c.in-Some.header (omega (arith, c.if-self-eq0.false)) c.in-Some.ensures.some c.f-answer.new.arg3 c.f-answer.new.arg2 _ (g.met.B.Storage.part_written c.self.inside.bytes c.self.inside.head.bytes.read_at c.f-answer.new.arg3) _ c.in-Some.ensures.left _ (c.take.ensures.taken ∙ ap₂ (λ (n k : ℕ). with_slot_taken n k c.in-Some.size c.self.inside.head) (c.count-slot_count.ensures ∙ ap length c.in-Some.ensures.left ∙ length-set _ _ _) (c.count-capacity.ensures ∙ ap length (g.met.B.Storage.part_written c.self.inside.bytes c.self.inside.head.bytes.read_at c.f-answer.new.arg3) ∙ length-overwrite _ c.self.inside.head.bytes.read_at c.f-answer.new.arg3))).0
+invariant_of-self-then-is_ok g c = (handed_gone _ _ _ c.self.invariant (without_gap c.args.self.now) (c.self.view_is ∙ c.skip.ensures.skipped) (close_gap c.args.self.now.packets) c.in-Some.size c.in-Some.header (omega (arith, c.if-self-eq0.false)) c.in-Some.ensures.some c.f-answer.new.arg3 c.f-answer.new.arg2 _ (g.met.B.Storage.part_written c.self.inside.bytes c.self.inside.head.bytes.read_at c.f-answer.new.arg3) _ c.in-Some.ensures.left _ (c.take.ensures.taken ∙ ap₂ (λ (n k : ℕ). with_slot_taken n k c.in-Some.size c.self.inside.head) (c.count-slot_count.ensures ∙ ap length c.in-Some.ensures.left ∙ length-set _ _ _) c.count-capacity.ensures)).0
 
 pub invariant_of-self-else-is_ok : goal.invariant_of-self-else-is_ok
 invariant_of-self-else-is_ok g c = (handed_back _ _ _ c.self.invariant (without_gap c.args.self.now) (c.self.view_is ∙ c.skip.ensures.skipped) (close_gap c.args.self.now.packets) c.in-Some.size c.in-Some.header (omega (arith, c.if-self-eq0.false)) c.in-Some.ensures.some c.f-answer.new.arg3 c.f-answer.new.arg2 _ (g.met.B.Storage.part_written c.self.inside.bytes c.self.inside.head.bytes.read_at c.f-answer.new.arg3) _ (c.put_header.ensures ∙ ap (λ l. set l c.self.inside.head.slots.read_at (slot c.in-Some.size (Some c.f-answer.new.arg2))) c.in-Some.ensures.left ∙ set_again _ c.self.inside.head.slots.read_at _ _)).0
@@ -85,7 +86,7 @@ returns-clause-handed g c =
     let before : IsFirst q hd now = (close_first c.args.self.now.packets c.in-Some.header (length c.part_mut.result.now) (parts_first_sized _ _ _ c.self.invariant (ap (λ o. first_gap o.packets) (c.self.view_is ∙ c.skip.ensures.skipped) ∙ (close_gap c.args.self.now.packets)) c.in-Some.size c.in-Some.header (omega (arith, c.if-self-eq0.false)) c.in-Some.ensures.some c.part_mut.result.now c.part_mut.ensures.value (without_gap c.args.self.now) (c.self.view_is ∙ c.skip.ensures.skipped)), parts_first_bytes _ _ _ c.self.invariant (ap (λ o. first_gap o.packets) (c.self.view_is ∙ c.skip.ensures.skipped) ∙ (close_gap c.args.self.now.packets)) c.in-Some.size c.in-Some.header (omega (arith, c.if-self-eq0.false)) c.in-Some.ensures.some c.part_mut.result.now c.part_mut.ensures.value (without_gap c.args.self.now) (c.self.view_is ∙ c.skip.ensures.skipped)) in
     let long : length ws ≡ length now = c.f-answer.auto.arg3 in
     let made : c.if-is_ok.self ≡ after_hand_out (is_ok answer) q new ws = elim c.if-is_ok.branch [
-      | then-is_ok w ↦ w.self-is ∙ (handed_gone _ _ _ c.self.invariant (without_gap c.args.self.now) (c.self.view_is ∙ c.skip.ensures.skipped) (close_gap c.args.self.now.packets) c.in-Some.size c.in-Some.header (omega (arith, c.if-self-eq0.false)) c.in-Some.ensures.some c.f-answer.new.arg3 c.f-answer.new.arg2 _ (g.met.B.Storage.part_written c.self.inside.bytes c.self.inside.head.bytes.read_at c.f-answer.new.arg3) _ c.in-Some.ensures.left _ (w.take.ensures.taken ∙ ap₂ (λ (n k : ℕ). with_slot_taken n k c.in-Some.size c.self.inside.head) (w.count-slot_count.ensures ∙ ap length c.in-Some.ensures.left ∙ length-set _ _ _) (w.count-capacity.ensures ∙ ap length (g.met.B.Storage.part_written c.self.inside.bytes c.self.inside.head.bytes.read_at c.f-answer.new.arg3) ∙ length-overwrite _ c.self.inside.head.bytes.read_at c.f-answer.new.arg3))).1 ∙ ap (λ t. after_hand_out t q new ws) w.if-is_ok.ensures.value
+      | then-is_ok w ↦ w.self-is ∙ (handed_gone _ _ _ c.self.invariant (without_gap c.args.self.now) (c.self.view_is ∙ c.skip.ensures.skipped) (close_gap c.args.self.now.packets) c.in-Some.size c.in-Some.header (omega (arith, c.if-self-eq0.false)) c.in-Some.ensures.some c.f-answer.new.arg3 c.f-answer.new.arg2 _ (g.met.B.Storage.part_written c.self.inside.bytes c.self.inside.head.bytes.read_at c.f-answer.new.arg3) _ c.in-Some.ensures.left _ (w.take.ensures.taken ∙ ap₂ (λ (n k : ℕ). with_slot_taken n k c.in-Some.size c.self.inside.head) (c.count-slot_count.ensures ∙ ap length c.in-Some.ensures.left ∙ length-set _ _ _) c.count-capacity.ensures)).1 ∙ ap (λ t. after_hand_out t q new ws) w.if-is_ok.ensures.value
       | else-is_ok w ↦ w.self-is ∙ (handed_back _ _ _ c.self.invariant (without_gap c.args.self.now) (c.self.view_is ∙ c.skip.ensures.skipped) (close_gap c.args.self.now.packets) c.in-Some.size c.in-Some.header (omega (arith, c.if-self-eq0.false)) c.in-Some.ensures.some c.f-answer.new.arg3 c.f-answer.new.arg2 _ (g.met.B.Storage.part_written c.self.inside.bytes c.self.inside.head.bytes.read_at c.f-answer.new.arg3) _ (w.put_header.ensures ∙ ap (λ l. set l c.self.inside.head.slots.read_at (slot c.in-Some.size (Some c.f-answer.new.arg2))) c.in-Some.ensures.left ∙ set_again _ c.self.inside.head.slots.read_at _ _)).1 ∙ ap (λ t. after_hand_out t q new ws) w.if-is_ok.ensures.value
     ] in
     record {
@@ -112,7 +113,7 @@ returns-clause-capacity g c =
       )
       | else-is_ok w ↦ (
         ap (λ q. q.slot_count) w.self-is ∙ ap length w.put_header.ensures ∙ length-set _ _ _ ∙ ap length c.in-Some.ensures.left ∙ length-set _ _ _
-        ∙ ap (λ q. q.slot_count) (c.self.view_is ∙ c.skip.ensures.skipped),
+            ∙ ap (λ q. q.slot_count) (c.self.view_is ∙ c.skip.ensures.skipped),
         ap (λ q. length q.storage) w.self-is ∙ stored,
       )
     ]

@@ -1,4 +1,4 @@
-use Rattle.std.proofs.Common.{◌≡◌, ◌-◌, length, refl, sym, ap, ◌∙◌}
+use Rattle.std.proofs.Common.{◌≡◌, ◌-◌, length, refl, sym, ap, ◌∙◌, arith}
 use Rattle.std.specs.Fn.{FnOnceReturnsAtMut}
 use denote.MutBor.{at_last}
 use Rattle.std.proofs.lemmas.Bool.{false≢true}
@@ -19,6 +19,16 @@ returns-in_default-clause-full g c = (λ _. parts_full _ _ _ c.self.invariant c.
 pub f-count-requires : goal.f-count-requires
 f-count-requires g c = c.requires.callable c.part_mut.result.now (parts_room _ _ _ c.self.invariant c.args.self.now c.self.view_is c.count-slot_count.result c.count-capacity.result c.count-slot_count.ensures c.count-capacity.ensures c.args.max_size c.in-Some.place c.in-Some.ensures.gap c.in-Some.ensures.slots c.in-Some.ensures.from c.args.header c.in-Some.ensures.contiguous c.part_mut.result.now c.part_mut.ensures.value) c.part_mut.result refl
 
+pub prove-unreachable-requires : goal.prove-unreachable-requires
+prove-unreachable-requires g c =
+    let now = c.part_mut.result.now in
+    let room = parts_room _ _ _ c.self.invariant c.args.self.now c.self.view_is c.count-slot_count.result c.count-capacity.result c.count-slot_count.ensures c.count-capacity.ensures c.args.max_size c.in-Some.place c.in-Some.ensures.gap c.in-Some.ensures.slots c.in-Some.ensures.from c.args.header c.in-Some.ensures.contiguous c.part_mut.result.now c.part_mut.ensures.value in
+    let after = c.f-count.new.arg2 in
+    let met : FnOnceReturnsAtMut g.F.FnOnce c.args.f now c.f-count.result after =
+    record { shown = c.part_mut.result; shows = refl; left = at_last c.part_mut.result after; leaves = refl; met = c.f-count.ensures } in
+    let le = c.requires.count now after c.f-count.result room met in
+    omega (arith, le, c.if-prove.true)
+
 pub overflow_sub-max_size : goal.overflow_sub-max_size
 overflow_sub-max_size g c =
     let now = c.part_mut.result.now in
@@ -29,8 +39,8 @@ overflow_sub-max_size g c =
     let le = c.requires.count now after c.f-count.result room met in
     le
 
-pub invariant_of-self-2 : goal.invariant_of-self-2
-invariant_of-self-2 g c =
+pub invariant_of-self : goal.invariant_of-self
+invariant_of-self g c =
     let now = c.part_mut.result.now in
     let room = parts_room _ _ _ c.self.invariant c.args.self.now c.self.view_is c.count-slot_count.result c.count-capacity.result c.count-slot_count.ensures c.count-capacity.ensures c.args.max_size c.in-Some.place c.in-Some.ensures.gap c.in-Some.ensures.slots c.in-Some.ensures.from c.args.header c.in-Some.ensures.contiguous c.part_mut.result.now c.part_mut.ensures.value in
     let after = c.f-count.new.arg2 in
@@ -75,7 +85,8 @@ returns-clause-wrote g c =
     }
 
 pub returns-clause-capacity : goal.returns-clause-capacity
-returns-clause-capacity g c =
-    (ap length c.write_slots.ensures ∙ slots_long c.in-Some.place c.f-count.result c.args.header _ ∙ ap (λ q. q.slot_count) c.self.view_is,
-    ap length (g.met.B.Storage.part_written c.self.inside.bytes c.in-Some.place.from c.f-count.new.arg2) ∙ length-overwrite _ c.in-Some.place.from c.f-count.new.arg2
-    ∙ ap (λ q. length q.storage) c.self.view_is)
+returns-clause-capacity g c = (
+  ap length c.write_slots.ensures ∙ slots_long c.in-Some.place c.f-count.result c.args.header _ ∙ ap (λ q. q.slot_count) c.self.view_is,
+  ap length (g.met.B.Storage.part_written c.self.inside.bytes c.in-Some.place.from c.f-count.new.arg2) ∙ length-overwrite _ c.in-Some.place.from c.f-count.new.arg2
+      ∙ ap (λ q. length q.storage) c.self.view_is,
+)

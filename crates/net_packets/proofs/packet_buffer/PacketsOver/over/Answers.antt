@@ -2,7 +2,7 @@ use Rattle.std.proofs.Common.{◌∙◌, ap}
 use Rattle.net_packets.specs.PacketSlots.{packets_at}
 use Rattle.net_packets.specs.PacketHistory.{contents}
 use Rattle.net_packets.proofs.PacketRuns.{no_contents}
-use Rattle.net_packets.proofs.packet_buffer.PacketsOver.new.Goals as goal
+use Rattle.net_packets.proofs.packet_buffer.PacketsOver.over.Goals as goal
 
 pub returns-clause-empty : goal.returns-clause-empty
 returns-clause-empty g c =

@@ -2,7 +2,6 @@ use Rattle.std.proofs.Common.{refl, sym, ap, ◌∙◌, arith}
 use Rattle.std.proofs.lemmas.Bool.{false≢true}
 use Rattle.std.proofs.lemmas.Option.{none-some}
 use Rattle.net_packets.specs.Packets.{with_packet_if}
-use Rattle.net_packets.specs.PacketSlots.{packets_at}
 use Rattle.net_packets.specs.declared.head.PacketsHead.{PacketsHead}
 use Rattle.net_packets.proofs.HeadParts.{parts_full, parts_gap_is, placed_sound, placed_as, placed_size, parts_placed_is}
 use Rattle.net_packets.proofs.PacketSteps.{well_placed}
@@ -15,11 +14,10 @@ returns-in_default-clause-full g c = (λ _. parts_full _ _ _ c.self.invariant c.
 pub returns-in_default-clause-placed : goal.returns-in_default-clause-placed
 returns-in_default-clause-placed g c =
     let none = parts_full _ _ _ c.self.invariant c.args.self.now c.self.view_is c.count-slot_count.result c.count-capacity.result c.count-slot_count.ensures c.count-capacity.ensures c.args.size (c.in_default.ensures.full.0 refl) in
-    ap (λ h. packets_at h (g.M.Storage.elements c.self.inside.slots) (g.B.Storage.elements c.self.inside.bytes)) (c.in_default.ensures.unchanged refl)
-    ∙ c.self.view_is ∙ sym (ap (λ o. with_packet_if c.args.self.now o c.args.size c.args.header) none)
+    sym (ap (λ o. with_packet_if c.args.self.now o c.args.size c.args.header) none)
 
-pub invariant_of-self-2 : goal.invariant_of-self-2
-invariant_of-self-2 g c = placed_sound _ _ _ c.self.invariant c.args.self.now c.self.view_is c.count-slot_count.result c.count-capacity.result c.count-slot_count.ensures c.count-capacity.ensures c.args.size c.in-Some.place c.in-Some.ensures.gap c.in-Some.ensures.slots c.in-Some.ensures.from c.args.size (omega arith) c.args.header c.place.new.self (ap (λ (o : PacketsHead). o.slots) c.in-Some.ensures.placed) (ap (λ (o : PacketsHead). o.bytes) c.in-Some.ensures.placed) _ c.write_slots.ensures
+pub invariant_of-self : goal.invariant_of-self
+invariant_of-self g c = placed_sound _ _ _ c.self.invariant c.args.self.now c.self.view_is c.count-slot_count.result c.count-capacity.result c.count-slot_count.ensures c.count-capacity.ensures c.args.size c.in-Some.place c.in-Some.ensures.gap c.in-Some.ensures.slots c.in-Some.ensures.from c.args.size (omega arith) c.args.header c.place.new.self (ap (λ (o : PacketsHead). o.slots) c.in-Some.ensures.placed) (ap (λ (o : PacketsHead). o.bytes) c.in-Some.ensures.placed) _ c.write_slots.ensures
 
 pub returns-clause-accepted : goal.returns-clause-accepted
 returns-clause-accepted g c =
