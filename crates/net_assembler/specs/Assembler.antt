@@ -1,22 +1,9 @@
--- The ranges that an assembler refuses, its text, and a set with its bound.
---     BoundedSet      a set and how many runs it may have
+-- The ranges that an assembler refuses, and its text.
 --     makes_too_many_runs most_runs s o n, MakesTooManyRuns most_runs s o n      when a range is refused
 --     display_text s, text_from at runs, hole_text n      the text of a set, of runs, and of a hole
-use Rattle.std.specs.Prelude.{ℕ, ◌-◌, Bool, ◌&&◌, IsTrue, cond, nat_eq, nat_lt, List, [], ◌∷◌, ◌++◌, codes, refl}
-use Rattle.std.specs.Coded.{Coded, code_by, coded×, coded_ℕ}
-use Rattle.std.specs.FinSet as finite
+use Rattle.std.specs.Prelude.{ℕ, ◌-◌, Bool, ◌&&◌, IsTrue, cond, nat_eq, nat_lt, List, [], ◌∷◌, ◌++◌, codes}
 use Rattle.std.specs.Fmt.{decimal}
 use Rattle.net_assembler.specs.Positions.{Positions, runs, with_range, maximal_runs}
-
--- a set, and how many maximal runs it may have: an assembler over a slice
-pub record BoundedSet : Type 0 where
-  pub present : Positions
-  pub most_runs : ℕ
-
-abbrev pub bounded_set_code : Coded BoundedSet
-bounded_set_code =
-    code_by (Positions × ℕ) (coded× (finite.code coded_ℕ) coded_ℕ) (λ b. (b.present, b.most_runs))
-    (λ p. record { present = p.0; most_runs = p.1 }) (λ _. refl)
 
 -- whether the range (o, n) isn't empty, and s with it has more maximal runs than it may have
 abbrev pub makes_too_many_runs : ℕ → Positions → ℕ → ℕ → Bool

@@ -6,6 +6,7 @@
 --     used_runs head rs, runs_of head rs, set_of head rs      what a head and runs represent
 --     HasSoundRuns head rs      that they are those of an assembler
 --     IsCanonical head      that a head without runs is 0 in both numbers
+--     zero_head      the head of two zeros
 --     contig_text c      a hole and the data after it, as text
 use Rattle.std.specs.Prelude.{◌≡◌, ℕ, ◌+◌, ◌-◌, ◌<◌, ◌≤◌, ◌^◌, List, [], ◌∷◌, ◌++◌, length, take, map}
 use Rattle.std.specs.Prelude.{flat_map, get_or, cond, nat_lt, min, max, Result, MatchResult}
@@ -95,6 +96,10 @@ pub record HasSoundRuns (head : AssemblerHead) (rs : List (ℕ × ℕ)) : Type 0
 -- where there is no run, both numbers of a head are 0
 abbrev pub IsCanonical : AssemblerHead → Type 0
 IsCanonical head = head.used ≡ 0 → head.first_start ≡ 0
+
+-- the head whose numbers are 0
+abbrev pub zero_head : AssemblerHead
+zero_head = record { used = 0; first_start = 0 }
 
 -- a hole in parentheses, if there is one, and the data after it
 abbrev pub contig_text : Contig → List ℕ

@@ -19,7 +19,6 @@ pub mod laws;
 mod moves;
 mod run;
 mod search;
-mod slice;
 mod turns;
 
 pub use error::TooManyHolesError;
@@ -27,7 +26,6 @@ pub use head::AssemblerHead;
 pub use holes::HoleIter;
 pub use iter::{IterData, RunIter};
 pub use run::Run;
-pub use slice::SliceAssembler;
 use std::alloc::AllocError;
 use std::marker::Model;
 pub use turns::Turns;
@@ -66,7 +64,7 @@ impl<const N: usize> Model for Assembler<N> {
 }
 
 impl<const N: usize> Assembler<N> {
-    /// Returns an assembler with no position, which has room for `N` maximal runs.
+    /// Returns an assembler with no position, as [`empty`](Assembler::empty) does.
     ///
     /// # Requires
     ///
@@ -77,6 +75,25 @@ impl<const N: usize> Assembler<N> {
         ensures no_run { runs result ≡ 0 }
         ensures bound { runs result ≤ N }
     {
+        Self::empty()
+    }
+}
+
+impl<const N: usize> Assembler<N> {
+    /// Returns an assembler with no position, which has room for `N` maximal runs.
+    ///
+    /// smoltcp has only `new`. In Rust that has 4 runs, and this any number.
+    ///
+    /// # Requires
+    ///
+    /// `N` is at least 1.
+    pub const fn empty() -> Self
+        requires { 1 ≤ N }
+        ensures empty { result ≡ nothing }
+        ensures no_run { runs result ≡ 0 }
+        ensures bound { runs result ≤ N }
+    {
+        prove!(N >= 1, "an assembler has at least one run");
         Assembler {
             head: AssemblerHead::new(),
             runs: [Run { start: 0, end: 0 }; N],
@@ -137,6 +154,14 @@ impl<const N: usize> Assembler<N> {
         ensures { result ≡ front self.now }
     {
         self.head.peek_front(&self.runs)
+    }
+
+    /// Returns how many maximal runs there are, without a loop. smoltcp has no such call.
+    pub fn run_count(&self) -> usize
+        ensures count { result ≡ runs self.now }
+        ensures bound { result ≤ N }
+    {
+        self.head.run_count()
     }
 
     /// Returns whether no position is present.

@@ -5,6 +5,6 @@ pub mod assembler;
 pub mod laws;
 
 pub use assembler::{
-    Assembler, AssemblerHead, HoleIter, IterData, Run, RunIter, SliceAssembler, TooManyHolesError,
+    Assembler, AssemblerHead, HoleIter, IterData, Run, RunIter, TooManyHolesError,
     Turns,
 };

@@ -9,7 +9,7 @@ pub mod laws;
 
 pub use fragments::{FragmentError, FragmentsHead};
 pub use net_assembler::{
-    Assembler, AssemblerHead, HoleIter, IterData, Run, RunIter, SliceAssembler, TooManyHolesError,
+    Assembler, AssemblerHead, HoleIter, IterData, Run, RunIter, TooManyHolesError,
     Turns, assembler,
 };
 pub use net_packets::{

@@ -7,6 +7,8 @@ ghost use Rattle.std.specs.Prelude.{◌≡◌, ◌+◌, ◌-◌, ◌<◌, ◌≤
 ghost use Rattle.std.specs.Prelude.{ℕ, List, length, slice_index_or, if◌then◌else◌, IsTrue};
 ghost use Rattle.std.specs.Prelude.{◌≢◌, ◌∷◌, [], slice_get, slice_set, Some};
 ghost use Rattle.net_ring.specs.Overwrite.{overwrite};
+ghost use Rattle.net_ring.specs.Ring.{ring};
+ghost use Rattle.net_ring.specs.RingHead.{place, ring_at, IsSound};
 
 use crate::error::{Empty, Full};
 use crate::ring_buffer::laws::overwritten;
@@ -39,6 +41,12 @@ pub fn element_set<T>()
         i < length xs → slice_get ys i ≡ Some x }
     ensures others { (xs ys : List T) (i k : ℕ) (x : T) → ys ≡ overwrite xs i (x ∷ []) →
         k ≢ i → slice_get ys k ≡ slice_get xs k }
+{}
+
+/// States that a head of two zeros is that of an empty ring, whatever its storage.
+pub fn head_of_zeros<T>()
+    ensures sound { (capacity : ℕ) → IsSound capacity (place 0 0) }
+    ensures ring { (xs : List T) → ring_at xs (place 0 0) ≡ ring xs 0 0 }
 {}
 
 /// States that refusals of one kind are equal, and that a clone of one is never refused.

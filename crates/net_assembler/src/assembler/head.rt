@@ -85,6 +85,15 @@ impl AssemblerHead {
         *self = AssemblerHead::new();
     }
 
+    /// Returns how many maximal runs there are: `used`.
+    pub fn run_count(&self) -> usize
+        ensures used { result ≡ self.now.used }
+        ensures count { (runs : List (ℕ × ℕ)) → HasSoundRuns self.now runs →
+            result ≡ run_count (set_of self.now runs) }
+    {
+        self.used
+    }
+
     /// Returns whether no position is present.
     pub fn is_empty(&self) -> bool
         ensures used { IsTrue result ↔ (self.now.used ≡ 0) }
@@ -519,6 +528,30 @@ impl AssemblerHead {
         if self.used == 0 {
             return size;
         }
+        self.complete_met(runs, size, turns)
+    }
+
+    /// Does what `complete_front` does where there are runs and the range reaches the first of them.
+    // Most data that comes next meets no run. If this were inline, with its loops, the tests before it
+    // would have fewer registers.
+    #[inline(never)]
+    fn complete_met(&mut self, runs: &mut [Run], size: usize, turns: &mut Turns) -> usize
+        requires sound { HasSoundRuns self.old runs.old }
+        requires some { 0 < self.old.used }
+        requires reaches { self.old.first_start ≤ size }
+        ensures sound { HasSoundRuns self.new runs.new }
+        ensures size { result ≡ front (with_range (set_of self.old runs.old) 0 size) }
+        ensures rest { let all = with_range (set_of self.old runs.old) 0 size in
+            set_of self.new runs.new ≡ shift_down all result }
+        ensures fewer { run_count (set_of self.new runs.new)
+            ≤ run_count (set_of self.old runs.old) }
+        ensures bound { run_count (set_of self.new runs.new) ≤ length runs.old }
+        ensures canonical { IsCanonical self.old → IsCanonical self.new }
+        ensures turns { let n = length runs.old in
+            TurnsWithin (binary_digits n) n turns.old turns.new }
+        ensures waiting { run_count (set_of self.new runs.new)
+            ≡ run_count (set_of self.old runs.old) → turns.new ≡ turns.old }
+    {
         // Nothing is added: the run at 0 is removed.
         if size == 0 {
             return self.remove_front_counted(runs, turns);

@@ -3,7 +3,7 @@
 //! Each function does nothing: its contract is the law, for all sets, ranges and results. The laws
 //! of calls are about everything that the contracts of these calls allow, so they hold of every
 //! body that meets the contracts.
-ghost use Rattle.std.specs.Prelude.{◌≡◌, IsTrue};
+ghost use Rattle.std.specs.Prelude.{◌≡◌, ℕ, List, IsTrue};
 ghost use Rattle.net_assembler.specs.Turns.{binary_digits};
 ghost use Rattle.net_assembler.specs.AssemblerLaws.{EqualSets, MembersOfNothing, MembersOfList};
 ghost use Rattle.net_assembler.specs.AssemblerLaws.{MembersWithRange, MembersShiftedDown};
@@ -15,6 +15,8 @@ ghost use Rattle.net_assembler.specs.AssemblerLaws.{EqualAssemblers, AddingAgain
 ghost use Rattle.net_assembler.specs.AssemblerLaws.{NothingHasNoRun, OneRunMore, AddingInBothOrders};
 ghost use Rattle.net_assembler.specs.AssemblerLaws.{AddingThenRemoving, RangeAtZeroIsNeverRefused};
 ghost use Rattle.net_assembler.specs.AssemblerLaws.{IteratesMaximalRuns, EnoughBinaryDigits};
+ghost use Rattle.net_assembler.specs.Positions.{nothing};
+ghost use Rattle.net_assembler.specs.RunLists.{HasSoundRuns, IsCanonical, set_of, zero_head};
 
 use super::TooManyHolesError;
 
@@ -113,4 +115,11 @@ pub fn counting_binary_digits()
 pub fn too_many_holes(x: &TooManyHolesError, y: &TooManyHolesError)
     ensures equal { IsTrue (⟦<TooManyHolesError as PartialEq>⟧.eq x.now y.now) }
     ensures never_refused { ⟦<TooManyHolesError as Clone>⟧.is_infallible x.now }
+{}
+
+/// States that a head of two zeros is that of an assembler with no position, whatever its runs.
+pub fn head_of_zeros()
+    ensures sound { (runs : List (ℕ × ℕ)) → HasSoundRuns zero_head runs }
+    ensures empty { (runs : List (ℕ × ℕ)) → set_of zero_head runs ≡ nothing }
+    ensures canonical { IsCanonical zero_head }
 {}

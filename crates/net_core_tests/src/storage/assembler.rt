@@ -1,10 +1,10 @@
-//! An assembler over a slice, and one that is kept in parts: a head, and runs elsewhere.
+//! An assembler, and one that is kept in parts: a head, and runs elsewhere.
 use crate::storage::assertions::assert_holds;
-use net_assembler::{Assembler, AssemblerHead, Run, SliceAssembler, Turns};
+use net_assembler::{Assembler, AssemblerHead, Run, Turns};
 
 /// Adds three ranges to an assembler of two runs. Returns whether the third is refused, and what
 /// each call says of the others.
-fn refuses_a_third(assembler: &mut SliceAssembler<'_>) -> bool {
+fn refuses_a_third(assembler: &mut Assembler<2>) -> bool {
     assembler.is_empty()
         && assembler.add(3, 2).is_ok()
         && assembler.add(8, 1).is_ok()
@@ -20,7 +20,7 @@ fn refuses_a_third(assembler: &mut SliceAssembler<'_>) -> bool {
 
 /// Adds what is missing at the front, and removes the front. Returns whether the run that waits is
 /// then counted from its end.
-fn completes_the_front(assembler: &mut SliceAssembler<'_>) -> bool {
+fn completes_the_front(assembler: &mut Assembler<2>) -> bool {
     assembler
         .add_then_remove_front(0, 3)
         .is_ok_and(|front| front == 5)
@@ -31,25 +31,22 @@ fn completes_the_front(assembler: &mut SliceAssembler<'_>) -> bool {
         && assembler.run_at(0) == Some((1, 2))
 }
 
-/// Gives an assembler over these runs the ranges of both functions above, makes one of its parts,
-/// and clears that. Returns whether each call did so.
-fn slice_holds(runs: &mut [Run]) -> bool {
-    let mut assembler = SliceAssembler::new(runs);
-    let holds = assembler.capacity() == 2
-        && refuses_a_third(&mut assembler)
-        && completes_the_front(&mut assembler);
+/// Gives an assembler the ranges of both functions above, makes one of its parts, and clears that.
+/// Returns whether each call did so.
+fn owner_holds(mut assembler: Assembler<2>) -> bool {
+    let holds = refuses_a_third(&mut assembler) && completes_the_front(&mut assembler);
     let (head, shown) = assembler.parts();
     let is_shown = head.run_at(shown, 0) == Some((1, 2));
     let (head, runs) = assembler.into_parts();
-    let mut again = SliceAssembler::from_parts(head, runs);
-    let is_kept = again.run_at(0) == Some((1, 2));
+    let mut again = Assembler::from_parts(head, runs);
+    let is_kept = again.run_at(0) == Some((1, 2)) && again.run_count() == 1;
     again.clear();
-    holds && is_shown && is_kept && again.is_empty() && !SliceAssembler::fits(2, usize::MAX - 1)
+    holds && is_shown && is_kept && again.is_empty() && !Assembler::<2>::fits(2, usize::MAX - 1)
 }
 
 /// Adds three ranges, and counts from position 4 and then from 13 on. Returns whether the run at 4 is
 /// cut, and which holes there are before and after.
-fn counts_from_later(assembler: &mut SliceAssembler<'_>) -> bool {
+fn counts_from_later(assembler: &mut Assembler<3>) -> bool {
     assembler.add(3, 2).is_ok()
         && assembler.add(8, 1).is_ok()
         && assembler.add(13, 2).is_ok()
@@ -62,7 +59,7 @@ fn counts_from_later(assembler: &mut SliceAssembler<'_>) -> bool {
 
 /// Counts from `count` on. Returns whether that is then the first run, and that the first hole.
 fn shifts(
-    assembler: &mut SliceAssembler<'_>,
+    assembler: &mut Assembler<3>,
     count: usize,
     run: (usize, usize),
     hole: Option<(usize, usize)>,
@@ -73,32 +70,13 @@ fn shifts(
 
 #[test]
 fn an_assembler_from_a_later_position(rt: HostRuntime) {
-    let mut runs = [Run { start: 0, end: 0 }; 3];
-    let mut assembler = SliceAssembler::new(&mut runs);
+    let mut assembler = Assembler::<3>::new();
     assert_holds(&rt, counts_from_later(&mut assembler), ("later", 3));
 }
 
-/// Does the same as `counts_from_later` with an assembler of its own runs.
-fn counts_own_from_later(assembler: &mut Assembler<4>) -> bool {
-    assembler.add(3, 2).is_ok()
-        && {
-            assembler.shift(4);
-            assembler.peek_front() == 1
-                && assembler.hole_at(0).is_none()
-                && assembler.holes().count() == 0
-        }
-}
-
 #[test]
-fn an_assembler_of_its_own_runs_from_a_later_position(rt: HostRuntime) {
-    let mut assembler = Assembler::<4>::new();
-    assert_holds(&rt, counts_own_from_later(&mut assembler), ("own", 4));
-}
-
-#[test]
-fn an_assembler_over_a_slice(rt: HostRuntime) {
-    let mut runs = [Run { start: 7, end: 2 }; 2];
-    assert_holds(&rt, slice_holds(&mut runs), ("slice", 2));
+fn an_assembler_of_two_runs(rt: HostRuntime) {
+    assert_holds(&rt, owner_holds(Assembler::empty()), ("runs", 2));
 }
 
 /// Adds two ranges to an assembler in parts. Returns whether its head and runs are as they are

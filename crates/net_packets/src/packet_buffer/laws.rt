@@ -8,6 +8,9 @@ ghost use Rattle.net_packets.specs.Packets.{placement, with_packet_if_room};
 ghost use Rattle.net_packets.specs.Packets.{with_last_bytes, with_last_size, without_gap};
 ghost use Rattle.net_packets.specs.Packets.{first_size, with_first_bytes, without_first, after_hand_out};
 ghost use Rattle.net_packets.specs.Packets.{without_first_and_gap};
+ghost use Rattle.net_ring.specs.RingHead.{place};
+ghost use Rattle.net_packets.specs.PacketSlots.{packets_at};
+ghost use Rattle.net_packets.specs.PacketsHead.{IsSoundHead, packets_head};
 ghost use Rattle.net_packets.specs.PacketHistory.{contents, QueueCall, MakesAll, history};
 
 use crate::packet_buffer::PacketsOver;
@@ -22,6 +25,15 @@ pub fn well_placed<H, M: Storage<PacketMetadata<H>>, B: Storage<u8>>(queue: &Pac
 {
     let _slots = queue.slots.count();
 }
+
+/// States that a head of zeros is that of a queue with no packets, whatever its slots and bytes.
+pub fn head_of_zeros<H>()
+    ensures sound { (slot_count capacity : ℕ) →
+        IsSoundHead slot_count capacity (packets_head (place 0 0) (place 0 0)) }
+    ensures queue { (slots : List (PacketMetadata H)) (bytes : List ℕ) →
+        packets_at (packets_head (place 0 0) (place 0 0)) slots bytes
+        ≡ no_packets (length slots) bytes }
+{}
 
 /// States that a queue's contents have as many entries as it has packets, and so none exactly if it
 /// has no packets.

@@ -11,12 +11,12 @@ returns g c =
     let q = c.args.self.now in
     let size = c.args.size in
     let from = c.last_dequeued_index-from.result in (
-      (refl, λ w. parts_dequeued_written _ _ _ c.self.invariant c.args.self.now c.self.view_is c.count.result c.count.ensures c.args.size c.last_dequeued_index-from.result c.last_dequeued_index-from.ensures w _ (g.met.B.Storage.part_written c.self.inside.bytes from w)),
+      (refl, λ w. parts_dequeued_written _ _ _ c.self.invariant c.args.self.now c.self.view_is c.count-capacity.result c.count-capacity.ensures c.args.size c.last_dequeued_index-from.result c.last_dequeued_index-from.ensures w _ (g.met.B.Storage.part_written c.self.inside.bytes from w)),
       record {
         writes_back = tt;
         unseen = last_dequeued_unseen q (well_placed _ _ c.self.invariant _ c.self.view_is) size c.requires;
-        value = parts_dequeued_shown _ _ _ c.self.invariant c.args.self.now c.self.view_is c.count.result c.count.ensures c.args.size c.last_dequeued_index-from.result c.last_dequeued_index-from.ensures _ c.part_mut.ensures.value;
-        size = parts_dequeued_size _ _ _ c.self.invariant c.args.self.now c.self.view_is c.count.result c.count.ensures c.args.size c.last_dequeued_index-from.result c.last_dequeued_index-from.ensures c.requires _ c.part_mut.ensures.value;
+        value = parts_dequeued_shown _ _ _ c.self.invariant c.args.self.now c.self.view_is c.count-capacity.result c.count-capacity.ensures c.args.size c.last_dequeued_index-from.result c.last_dequeued_index-from.ensures _ c.part_mut.ensures.value;
+        size = parts_dequeued_size _ _ _ c.self.invariant c.args.self.now c.self.view_is c.count-capacity.result c.count-capacity.ensures c.args.size c.last_dequeued_index-from.result c.last_dequeued_index-from.ensures c.requires _ c.part_mut.ensures.value;
         capacity = λ ws. length-overwrite q.storage (last_dequeued_bytes_index q size) ws;
         call = last_dequeued_call q size c.requires;
       },

@@ -1,7 +1,7 @@
 use Rattle.std.proofs.Common.{◌∙◌, ap, arith}
 use Rattle.net_assembler.specs.Positions.{runs}
 use Rattle.net_assembler.proofs.RunLists.{runs-nothing}
-use Rattle.net_assembler.proofs.assembler.Assembler.new.Goals as goal
+use Rattle.net_assembler.proofs.assembler.Assembler.empty.Goals as goal
 
 pub returns-clause-no_run : goal.returns-clause-no_run
 returns-clause-no_run g c = ap runs (c.new.ensures.empty _) ∙ runs-nothing
