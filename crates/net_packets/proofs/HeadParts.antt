@@ -335,6 +335,9 @@ module _ {H : Type 0} where
           let long = ap (λ o. length o.storage) seen in
           shown_size xs from s now is (omega (arith, free, place, long))
 
+      pub parts_dequeued_sound : (w xs2 : List ℕ) → xs2 ≡ overwrite xs from w → AreSoundParts h ms xs2
+      parts_dequeued_sound w xs2 is = subst (AreSoundParts h ms) (sym is) (written_holds m b all v seen from w)
+
       pub parts_dequeued_written : (w xs2 : List ℕ) → xs2 ≡ overwrite xs from w → packets_at h ms xs2 ≡ with_bytes v (last_dequeued_bytes_index v s) w
       parts_dequeued_written w xs2 is =
           ap (packets_at h ms) (is ∙ ap (λ p. overwrite xs p w) parts_dequeued_at) ∙ ap (λ o. with_bytes o (last_dequeued_bytes_index v s) w) seen

@@ -2,9 +2,14 @@ use Rattle.std.proofs.Common.{refl}
 use Rattle.net_packets.specs.Packets.{last_dequeued_bytes_index}
 use Rattle.net_packets.proofs.PacketSteps.{well_placed}
 use Rattle.net_packets.proofs.PacketRuns.{last_dequeued_unseen, last_dequeued_call}
-use Rattle.net_packets.proofs.HeadParts.{parts_dequeued_shown, parts_dequeued_size, parts_dequeued_written}
+use Rattle.net_packets.proofs.HeadParts.{parts_dequeued_shown, parts_dequeued_size, parts_dequeued_sound, parts_dequeued_written}
 use Rattle.net_ring.proofs.Rotations.{length-overwrite}
 use Rattle.net_packets.proofs.packet_buffer.PacketsOver.last_dequeued_mut.Goals as goal
+
+pub invariant_of-self-lent : goal.invariant_of-self-lent
+invariant_of-self-lent g c = λ w.
+    let from = c.last_dequeued_index-from.result in
+    parts_dequeued_sound _ _ _ c.self.invariant c.args.self.now c.self.view_is c.count-capacity.result c.count-capacity.ensures c.args.size from c.last_dequeued_index-from.ensures w _ (g.met.B.Storage.part_written c.self.inside.bytes from w)
 
 pub returns : goal.returns
 returns g c =
