@@ -17,8 +17,20 @@ pub(crate) fn insert_run(runs: &mut [Run], used: usize, at: usize, entry: Run, t
     ensures looks { turns.new.0 ≡ turns.old.0 }
     ensures moves { turns.new.1 + at ≡ turns.old.1 + used + 1 }
 {
+    push_front(&mut runs[at..used + 1], entry, turns);
+}
+
+/// Writes `entry` at 0, moves the others one index up, and drops the last one.
+// A loop over a whole slice: no index is tested in it.
+#[inline(always)]
+fn push_front(runs: &mut [Run], entry: Run, turns: &mut Turns)
+    requires some { 0 < length runs.old }
+    ensures runs { runs.new ≡ entry ∷ take (length runs.old - 1) runs.old }
+    ensures looks { turns.new.0 ≡ turns.old.0 }
+    ensures moves { turns.new.1 ≡ turns.old.1 + length runs.old }
+{
     let mut carried = entry;
-    for k in at..used + 1 {
+    for k in 0..runs.len() {
         let next = runs[k];
         runs[k] = carried;
         carried = next;
@@ -37,8 +49,19 @@ pub(crate) fn remove_runs(runs: &mut [Run], used: usize, at: usize, from: usize,
     ensures looks { turns.new.0 ≡ turns.old.0 }
     ensures moves { turns.new.1 + from ≡ turns.old.1 + used }
 {
-    let count = from - at;
-    for k in from..used {
+    remove_first(&mut runs[at..used], from - at, turns);
+}
+
+/// Takes out the first `count` runs, and moves the others down.
+#[inline(always)]
+fn remove_first(runs: &mut [Run], count: usize, turns: &mut Turns)
+    requires count { count ≤ length runs.old }
+    ensures length { length runs.new ≡ length runs.old }
+    ensures runs { take (length runs.old - count) runs.new ≡ drop count runs.old }
+    ensures looks { turns.new.0 ≡ turns.old.0 }
+    ensures moves { turns.new.1 + count ≡ turns.old.1 + length runs.old }
+{
+    for k in count..runs.len() {
         runs[k - count] = runs[k];
         turns.count_move();
     }

@@ -1,28 +1,5 @@
-use Rattle.std.proofs.Common.{◌≡◌, ◌∙◌, ◌+◌, ℕ, ap, subst, ◌++◌, ◌∷◌, [], take, drop, set, arith}
-use Rattle.std.proofs.lemmas.List.{length-set}
-use Rattle.net_assembler.proofs.RunLists.{read}
-use Rattle.net_assembler.proofs.Moves.{insert_more, insert_end, rest_more}
+use Rattle.net_assembler.proofs.Moves.{part_inserted}
 use Rattle.net_assembler.proofs.assembler.moves.insert_run.Goals as goal
 
-pub loop-k-preserved : goal.loop-k-preserved
-loop-k-preserved c =
-    let xs = c.loop-k.runs in
-    let ys = c.args.runs.now in
-    let k = c.loop-k.k in
-    let inv = c.loop-k.invariant in
-    record {
-      len = length-set xs k _ ∙ inv.len;
-      taken = ap (λ (r : ℕ × ℕ). take (k + 1) (set xs k c.loop-k.carried) ++ r ∷ []) (read xs k _ (omega arith) c.index-runs-k.is)
-          ∙ insert_more xs ys c.args.at k c.loop-k.carried c.args.entry (0, 0) (omega arith) (omega arith) (omega arith) inv.taken inv.rest;
-      rest = rest_more xs ys k k _ (omega arith) inv.rest;
-      looks = omega arith;
-      moves = omega arith;
-    }
-
 pub returns-clause-runs : goal.returns-clause-runs
-returns-clause-runs c =
-    let xs = c.loop-k.runs in
-    let ys = c.args.runs.now in
-    let at_end : c.loop-k.k ≡ c.args.used + 1 = omega arith in
-    insert_end xs ys c.args.at c.args.used c.loop-k.carried c.args.entry (0, 0) (omega arith) (omega arith)
-    (subst (λ (n : ℕ). take n xs ++ c.loop-k.carried ∷ [] ≡ take c.args.at ys ++ c.args.entry ∷ drop c.args.at (take n ys)) at_end c.loop-k.invariant.taken)
+returns-clause-runs c = part_inserted c.args.runs.now c.push_front.new.runs c.args.at c.args.used c.args.entry c.requires.at c.requires.room c.push_front.ensures.runs

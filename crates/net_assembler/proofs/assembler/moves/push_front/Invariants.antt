@@ -1,11 +1,11 @@
 use Rattle.std.proofs.Common.{◌≡◌, ◌+◌, ◌++◌, [], ◌∷◌, length, take, drop}
-use Rattle.net_assembler.proofs.assembler.moves.insert_run.Given as goal
+use Rattle.net_assembler.proofs.assembler.moves.push_front.Given as goal
 
 abbrev pub invariant-loop-k : goal.invariant-loop-k
 invariant-loop-k l = record {
   len : length l.runs ≡ length l.fn.runs;
-  taken : take l.k l.runs ++ l.carried ∷ [] ≡ take l.at l.fn.runs ++ l.fn.entry ∷ drop l.at (take l.k l.fn.runs);
+  taken : take l.k l.runs ++ l.carried ∷ [] ≡ l.fn.entry ∷ take l.k l.fn.runs;
   rest : drop l.k l.runs ≡ drop l.k l.fn.runs;
   looks : l.turns.0 ≡ l.fn.turns.0;
-  moves : l.turns.1 + l.at ≡ l.fn.turns.1 + l.k;
+  moves : l.turns.1 ≡ l.fn.turns.1 + l.k;
 }
