@@ -3,11 +3,12 @@
 --     fragments_of h bytes runs      the buffer that the parts are
 --     IsPlausible c n h, HasSoundParts h bytes runs      what is true of the parts of a buffer of c bytes and n runs
 --     IsExact h      that a head has no number but those that say something
+--     zero_fragments e      the head whose numbers but `expires_at` are 0
 --     meets_one rs o n      whether one of some runs has one of the n positions from o on
-use Rattle.std.specs.Prelude.{ℕ, ◌≡◌, ◌≤◌, ◌-◌, ◌⊎◌, ◌&&◌, ◌||◌, Bool, false, List, [], ◌∷◌, Option, length}
+use Rattle.std.specs.Prelude.{ℕ, ℤ, ◌≡◌, ◌≤◌, ◌-◌, ◌⊎◌, ◌&&◌, ◌||◌, Bool, false, List, [], ◌∷◌, Option, length}
 use Rattle.std.specs.Prelude.{nat_eq, nat_lt, if◌then◌else◌}
 use Rattle.std.specs.declared.option.Option.TheVariants.{Some, None}
-use Rattle.net_assembler.specs.RunLists.{set_of, HasSoundRuns, IsCanonical}
+use Rattle.net_assembler.specs.RunLists.{set_of, HasSoundRuns, IsCanonical, zero_head}
 use Rattle.net_base.specs.Fragments.{FragmentsState}
 use Rattle.net_base.specs.declared.storage.fragments.FragmentsHead.{FragmentsHead}
 
@@ -37,6 +38,10 @@ pub record IsExact (h : FragmentsHead) : Type 0 where
   pub present : IsCanonical h.present
   pub flag : h.has_total ≤ 1
   pub no_total : h.has_total ≡ 0 → h.total ≡ 0
+
+-- the head whose numbers are 0, but for the last moment at which a packet is waited for
+abbrev pub zero_fragments : ℤ → FragmentsHead
+zero_fragments at = record { present = zero_head; has_total = 0; total = 0; expires_at = at }
 
 -- whether one of the runs (start, end) has one of the n positions from o on
 abbrev pub meets_one : List (ℕ × ℕ) → ℕ → ℕ → Bool

@@ -27,6 +27,7 @@ pub mod Device
 pub mod DeviceCapabilities
 pub mod Earliest
 pub mod Fragments
+pub mod FragmentHistory
 pub mod FragmentParts
 pub mod Generator
 pub mod Loopback

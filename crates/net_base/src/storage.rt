@@ -7,10 +7,9 @@
 pub mod fragments;
 pub mod laws;
 
-pub use fragments::{FragmentError, FragmentsHead};
+pub use fragments::{FragmentBuffer, FragmentError, FragmentsHead, FragmentsOver};
 pub use net_assembler::{
-    Assembler, AssemblerHead, HoleIter, IterData, Run, RunIter, TooManyHolesError,
-    Turns, assembler,
+    Assembler, AssemblerHead, HoleIter, IterData, Run, RunIter, TooManyHolesError, Turns, assembler,
 };
 pub use net_packets::{
     PacketBuffer, PacketMetadata, PacketPlace, PacketsHead, PacketsOver, packet_buffer,

@@ -1,0 +1,3 @@
+
+pub mod FrameFacts
+pub mod SocketFacts

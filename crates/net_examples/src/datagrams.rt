@@ -1,11 +1,11 @@
 //! A datagram that a socket sends over a device.
 ghost use Rattle.std.specs.Prelude.{◌≡◌, [], ◌∷◌, ◌++◌, List, ℕ, Ok, OnErr, length, take, true, false};
-ghost use Rattle.net_sockets.specs.declared.Endpoint.{Endpoint};
-ghost use Rattle.net_sockets.specs.Datagrams.{outbound_datagrams};
+ghost use Rattle.net_examples.specs.declared.endpoint.Endpoint.{Endpoint};
+ghost use Rattle.net_examples.specs.Datagrams.{outbound_datagrams};
 
 use crate::send_frame::send_bytes;
 use net_base::phy::Loopback;
-use net_sockets::UdpSocket;
+use crate::udp_socket::UdpSocket;
 use std::alloc::{AllocError, Allocator};
 
 /// Sends the first datagram to be sent as one frame, by way of `buffer`: as many of its bytes as that

@@ -2,6 +2,7 @@
 #![tactic(auto)]
 
 mod acknowledgement;
+mod bridge;
 mod conversation;
 mod counted;
 mod datagram;
@@ -10,8 +11,11 @@ mod descriptor;
 mod descriptors;
 mod device;
 mod drop_oldest;
+mod endpoint;
 mod first_element;
 mod in_order;
+mod inbox;
+pub mod laws;
 mod left_over;
 mod line;
 mod message;
@@ -25,9 +29,11 @@ mod ranges;
 mod samples;
 mod send_frame;
 mod timer;
+mod udp_socket;
 mod why_it_gave_up;
 
 pub use acknowledgement::acknowledge;
+pub use bridge::{forward, forward_lists, forward_one};
 pub use conversation::ask;
 pub use counted::Counted;
 pub use datagram::pass_through;
@@ -36,8 +42,10 @@ pub use descriptor::{Descriptor, FRAME_SIZE};
 pub use descriptors::{DescriptorRings, Frame, Slot, bounce, send_now};
 pub use device::Undamaged;
 pub use drop_oldest::push_newest;
+pub use endpoint::Endpoint;
 pub use first_element::set_first;
 pub use in_order::{receive, receive_halves};
+pub use inbox::Inbox;
 pub use left_over::send_part;
 pub use line::Line;
 pub use message::send;
@@ -51,4 +59,5 @@ pub use ranges::came;
 pub use samples::Samples;
 pub use send_frame::send_bytes;
 pub use timer::{Timer, poll_at};
+pub use udp_socket::UdpSocket;
 pub use why_it_gave_up::copy_or_say_why;

@@ -3,4 +3,5 @@
 mod buffers;
 mod datagrams;
 mod devices;
+mod sockets;
 mod streams;

@@ -1,4 +1,5 @@
-//! A packet that arrives in fragments, in parts: a head, and bytes and runs that are kept elsewhere.
+//! A packet that arrives in fragments: a buffer of its bytes and runs, and the same in parts: a head,
+//! and bytes and runs that are kept elsewhere.
 ghost use Rattle.std.specs.Prelude.{◌≡◌, ◌↔◌, ◌+◌, ◌<◌, ◌≤◌, ◌⊎◌, ◌<ℤ◌, ℕ, List, Err, length};
 ghost use Rattle.std.specs.Prelude.{IsTrue, IsSome, IsErr, IfSome, OnOk, OnErr};
 ghost use Rattle.std.specs.declared.option.Option.TheVariants.{Some, None};
@@ -8,7 +9,11 @@ ghost use Rattle.net_assembler.specs.RunLists.{set_of, HasSoundRuns};
 ghost use Rattle.net_base.specs.Fragments.{with_fragment, IsComplete, DiffersFrom, Meets};
 ghost use Rattle.net_base.specs.FragmentParts.{total_of, fragments_of, HasSoundParts, IsExact};
 
+pub use buffer::{FragmentBuffer, FragmentsOver};
 use net_assembler::{AssemblerHead, Run, assembler};
+
+mod buffer;
+pub mod laws;
 
 /// Why a fragment or a size is refused.
 #[derive(Debug, Clone, Copy, PartialEq, Eq, Drop)]
@@ -45,7 +50,7 @@ pub struct FragmentsHead {
 }
 
 impl FragmentsHead {
-    /// Returns the head of an empty buffer, of which a packet is waited for up to `expires_at`.
+    /// Returns the head of an empty buffer that expires after `expires_at`.
     pub const fn new(expires_at: i64) -> Self
         ensures sound { (bytes : List ℕ) (runs : List (ℕ × ℕ)) → HasSoundParts result bytes runs }
         ensures nothing { (runs : List (ℕ × ℕ)) → set_of result.present runs ≡ nothing }
@@ -75,6 +80,15 @@ impl FragmentsHead {
         ensures exact { IsExact self.new }
     {
         *self = FragmentsHead::new(expires_at);
+    }
+
+    /// Returns whether the head is that of a buffer of `capacity` bytes and of these runs, for any numbers in both. It
+    /// looks at each used run.
+    pub fn is_sound(&self, capacity: usize, runs: &[Run]) -> bool
+        ensures { (bytes : List ℕ) → length bytes ≡ capacity →
+            (IsTrue result ↔ HasSoundParts self.now bytes runs.now) }
+    {
+        self.present.is_sound(runs) && (self.has_total == 0 || self.total <= capacity)
     }
 
     /// Adds a fragment, whose first byte is that of the packet at `offset`.

@@ -83,7 +83,10 @@ impl Instant {
         requires fits_millis { IsMoment (millis *ℤ pos 1_000) }
         ensures { result ≡ millis *ℤ pos 1_000 }
     {
-        prove!(Self::fits_millis(millis), "attempt to multiply with overflow");
+        prove!(
+            Self::fits_millis(millis),
+            "attempt to multiply with overflow"
+        );
         Instant {
             micros: millis * 1_000,
         }

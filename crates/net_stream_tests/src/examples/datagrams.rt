@@ -5,7 +5,7 @@ use net_base::phy::{Loopback, Medium};
 use net_examples::{pass_through, send_datagram};
 use net_packets::{PacketBuffer, PacketMetadata};
 use net_ring::ManagedSlice;
-use net_sockets::{Endpoint, UdpSocket};
+use net_examples::{Endpoint, UdpSocket};
 
 #[test]
 fn a_datagram_passes(rt: HostRuntime) {

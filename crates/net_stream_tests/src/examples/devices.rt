@@ -6,7 +6,7 @@ use net_examples::{
     Counted, Descriptor, DescriptorRings, FRAME_SIZE, Undamaged, bounce, send_bytes, send_now,
 };
 use net_ring::{ManagedSlice, RingBuffer};
-use net_sockets::forward_lists;
+use net_examples::forward_lists;
 use std::alloc::AllocError;
 
 #[test]

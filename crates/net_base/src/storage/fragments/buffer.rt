@@ -1,0 +1,245 @@
+//! A packet that arrives in fragments, with its bytes and runs.
+ghost use Rattle.std.specs.Prelude.{◌≡◌, ◌↔◌, ◌+◌, ◌<◌, ◌≤◌, ◌^◌, ◌⊎◌, ℕ, IsTrue, IsSome, IsErr, IfSome};
+ghost use Rattle.std.specs.Prelude.{OnOk, OnErr, ◌<ℤ◌, Err, length, take};
+ghost use Rattle.std.specs.declared.option.Option.TheVariants.{Some, None};
+ghost use Rattle.net_assembler.specs.Positions.{nothing};
+ghost use Rattle.net_assembler.specs.Assembler.{MakesTooManyRuns};
+ghost use Rattle.net_base.specs.FragmentParts.{fragments_of, HasSoundParts};
+ghost use Rattle.net_base.specs.Fragments.{with_fragment, IsComplete, DiffersFrom, Meets};
+
+use super::{FragmentError, FragmentsHead};
+use crate::time::Instant;
+use net_assembler::Run;
+use net_ring::{ManagedSlice, Storage};
+use std::marker::Model;
+
+/// A packet that arrives in fragments, in any order, as those of IPv4 do, over any storage.
+/// [`FragmentBuffer`] is its usual form. `N` is how many maximal runs of bytes it has room for.
+///
+/// Fragments may overlap: at each position the byte is that of the last fragment there.
+///
+/// Contracts see the bytes of the storage, the set of the positions that arrived, the packet's
+/// size, once it is known, and the moment up to which the packet is waited for.
+pub struct FragmentsOver<B: Storage<u8>, const N: usize> {
+    head: FragmentsHead,
+    bytes: B,
+    runs: [Run; N],
+}
+
+/// Written by hand: with a derived `Drop` a `FragmentBuffer` could not be a local.
+impl<B: Storage<u8> + Drop, const N: usize> Drop for FragmentsOver<B, N> {
+    fn drop(self) {
+        let FragmentsOver {
+            head: _,
+            bytes,
+            runs: _,
+        } = self;
+        drop(bytes);
+    }
+}
+
+/// The last moment at which the packet is waited for.
+fn moment_of(head: &FragmentsHead) -> Instant
+    ensures { result ≡ head.now.expires_at }
+{
+    Instant::from_micros(head.expires_at)
+}
+
+/// A packet that arrives in fragments, over lent or owned bytes.
+pub type FragmentBuffer<'a, const N: usize> = FragmentsOver<ManagedSlice<'a, u8>, N>;
+
+impl<B: Storage<u8>, const N: usize> Model for FragmentsOver<B, N> {
+    ghost use Rattle.std.specs.Prelude.{◌≡◌, length};
+    ghost use Rattle.net_base.specs.Fragments.{FragmentsState, state_code};
+    ghost use Rattle.net_base.specs.FragmentParts.{fragments_of, HasSoundParts};
+
+    ghost Value = { FragmentsState };
+
+    ghost coded = { state_code };
+
+    ghost view = { λ b. fragments_of b.head (B.elements b.bytes) b.runs };
+
+    ghost invariant = { λ b. HasSoundParts b.head (B.elements b.bytes) b.runs × (length b.runs ≡ N) };
+}
+
+impl<'a, const N: usize> FragmentBuffer<'a, N> {
+    ghost use Rattle.net_ring.specs.Managed.{elements};
+
+    /// Returns an empty buffer that expires after `expires_at`.
+    ///
+    /// # Requires
+    ///
+    /// `N` is at least 1.
+    pub fn new(bytes: ManagedSlice<'a, u8>, expires_at: Instant) -> Self
+        requires { 1 ≤ N }
+        ensures bytes { result.bytes ≡ elements bytes.entry }
+        ensures nothing { (result.present ≡ nothing) × (result.total ≡ None) }
+        ensures expires { result.expires_at ≡ expires_at }
+    {
+        FragmentsOver::over(bytes, expires_at)
+    }
+}
+
+impl<B: Storage<u8>, const N: usize> FragmentsOver<B, N> {
+    /// Returns an empty buffer over storage of any type, which expires after `expires_at`.
+    ///
+    /// # Requires
+    ///
+    /// `N` is at least 1.
+    pub const fn over(bytes: B, expires_at: Instant) -> Self
+        requires { 1 ≤ N }
+        ensures bytes { result.bytes ≡ B.elements bytes }
+        ensures nothing { (result.present ≡ nothing) × (result.total ≡ None) }
+        ensures expires { result.expires_at ≡ expires_at }
+    {
+        prove!(N >= 1, "a buffer of fragments has at least one run");
+        FragmentsOver {
+            head: FragmentsHead::new(expires_at.total_micros()),
+            bytes,
+            runs: [Run { start: 0, end: 0 }; N],
+        }
+    }
+
+    /// Returns the buffer that a head, bytes and runs represent. smoltcp has no such call.
+    ///
+    /// # Requires
+    ///
+    /// They are sound: the runs are those of an assembler, and a known size is at most that of `bytes`.
+    pub fn from_parts(head: FragmentsHead, bytes: B, runs: [Run; N]) -> Self
+        requires { HasSoundParts head (B.elements bytes) runs }
+        ensures { result ≡ fragments_of head (B.elements bytes) runs.entry }
+    {
+        let capacity = bytes.count();
+        prove!(
+            head.is_sound(capacity, &runs),
+            "the head is not that of these bytes and runs"
+        );
+        FragmentsOver { head, bytes, runs }
+    }
+
+    /// Returns the head, the bytes and the runs, which represent the buffer. smoltcp has no such call.
+    pub fn into_parts(self) -> (FragmentsHead, B, [Run; N])
+        ensures sound { HasSoundParts result.0 (B.elements result.1) result.2 }
+        ensures state { fragments_of result.0 (B.elements result.1) result.2 ≡ self }
+        ensures runs { length result.2 ≡ N }
+    {
+        let FragmentsOver { head, bytes, runs } = self;
+        (head, bytes, runs)
+    }
+
+    /// Returns the bytes, as fragments were written to them. smoltcp has no such call.
+    pub fn into_storage(self) -> B
+        ensures { B.elements result ≡ self.bytes }
+    {
+        let FragmentsOver {
+            head: _,
+            bytes,
+            runs: _,
+        } = self;
+        bytes
+    }
+
+    /// Returns the number of bytes of the buffer: the size of the longest packet that fits.
+    pub fn capacity(&self) -> usize
+        ensures { result ≡ length self.now.bytes }
+    {
+        self.bytes.count()
+    }
+
+    /// Returns whether no byte has arrived since the buffer was made or reset: no packet is begun. A fragment of no
+    /// bytes begins none.
+    pub fn is_empty(&self) -> bool
+        ensures { IsTrue result ↔ (self.now.present ≡ nothing) }
+    {
+        self.head.present.is_empty()
+    }
+
+    /// Returns the moment up to which the packet is waited for. It is not expired at that moment, but at each later
+    /// one.
+    pub fn expires_at(&self) -> Instant
+        ensures { result ≡ self.now.expires_at }
+    {
+        moment_of(&self.head)
+    }
+
+    /// Adds a fragment, whose first byte is that of the packet at `offset`.
+    ///
+    /// It is refused, and nothing changes, exactly if it reaches past the buffer's end, which is
+    /// `TooLong`, or would leave more than `N` maximal runs. The end of an accepted fragment fits `usize`.
+    pub fn add(&mut self, offset: usize, data: &[u8]) -> Result<(), FragmentError>
+        ensures ok { OnOk result (self.new ≡ with_fragment self.old offset «data».now) }
+        ensures unchanged { OnErr result (self.new ≡ self.old) }
+        ensures fits { OnOk result (offset + length «data».now < 2 ^ 64) }
+        ensures too_long { (result ≡ Err FragmentError.TooLong)
+            ↔ (length self.old.bytes < offset + length «data».now) }
+        ensures refused { IsErr result ↔ ((length self.old.bytes < offset + length «data».now)
+            ⊎ MakesTooManyRuns N self.old.present offset (length «data».now)) }
+    {
+        let count = self.bytes.count();
+        let bytes = self.bytes.part_mut(0, count);
+        self.head.add(bytes, &mut self.runs, offset, data)
+    }
+
+    /// Sets the packet's size to `size` bytes.
+    ///
+    /// It is refused, and nothing changes, exactly if the buffer has fewer bytes, which is `TooLong`, or
+    /// else if another size is known, which is `OtherSize`.
+    pub fn set_total_size(&mut self, size: usize) -> Result<(), FragmentError>
+        ensures ok { OnOk result (self.new ≡ record self.old { total = Some size }) }
+        ensures unchanged { OnErr result (self.new ≡ self.old) }
+        ensures too_long { (result ≡ Err FragmentError.TooLong) ↔ (length self.old.bytes < size) }
+        ensures other_size { (result ≡ Err FragmentError.OtherSize)
+            ↔ ((size ≤ length self.old.bytes) × DiffersFrom self.old.total size) }
+        ensures refused { IsErr result
+            ↔ ((length self.old.bytes < size) ⊎ DiffersFrom self.old.total size) }
+    {
+        self.head.set_total_size(self.bytes.count(), size)
+    }
+
+    /// Returns the packet's size, once it is known. smoltcp has no such call.
+    pub fn total_size(&self) -> Option<usize>
+        ensures { result ≡ self.now.total }
+    {
+        self.head.total_size()
+    }
+
+    /// Returns whether one of the `len` positions from `offset` on has arrived: whether a fragment there
+    /// overlaps bytes that are present. They need not be within the buffer.
+    ///
+    /// It is asked before `add`, by callers who refuse a packet whose fragments overlap (RFC 5722). A
+    /// fragment that arrives twice overlaps too. smoltcp has no such call.
+    pub fn overlaps(&self, offset: usize, len: usize) -> bool
+        ensures { IsTrue result ↔ Meets self.now.present offset len }
+    {
+        self.head.overlaps(&self.runs, offset, len)
+    }
+
+    /// Shows the bytes of the packet. `None` exactly if its size is not known or one of its bytes
+    /// is missing.
+    pub fn assemble(&self) -> Option<&[u8]>
+        ensures complete { IsSome result ↔ ((size : ℕ) × IsComplete self.now size) }
+        ensures bytes { IfSome result
+            (λ r. (size : ℕ) × IsComplete self.now size × (r.now ≡ take size self.now.bytes)) }
+    {
+        match self.head.complete(&self.runs) {
+            Some(size) => Some(self.bytes.part(0, size)),
+            None => None,
+        }
+    }
+
+    /// Returns whether `now` is after the moment up to which the packet is waited for.
+    pub fn is_expired(&self, now: Instant) -> bool
+        ensures { IsTrue result ↔ (self.now.expires_at <ℤ now) }
+    {
+        self.head.is_expired(now.total_micros())
+    }
+
+    /// Starts over for another packet, which is waited for up to `expires_at`.
+    pub fn reset(&mut self, expires_at: Instant)
+        ensures bytes { self.new.bytes ≡ self.old.bytes }
+        ensures nothing { (self.new.present ≡ nothing) × (self.new.total ≡ None) }
+        ensures expires { self.new.expires_at ≡ expires_at }
+    {
+        self.head.reset(expires_at.total_micros());
+    }
+}

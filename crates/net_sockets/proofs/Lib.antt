@@ -1,4 +1,0 @@
-pub mod FragmentFacts
-pub mod FrameFacts
-pub mod LentBytes
-pub mod SocketFacts

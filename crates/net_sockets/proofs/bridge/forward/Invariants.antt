@@ -1,6 +1,0 @@
-use Rattle.net_sockets.specs.Frames.{Forwards}
-use Rattle.net_sockets.proofs.bridge.forward.Given as goal
-
--- as many frames as turns passed
-abbrev pub invariant-loop-count : goal.invariant-loop-count
-invariant-loop-count g l = Forwards g.A.Device.taken g.B.Device.sent l.count l.fn.from l.from l.fn.to l.to

@@ -1,4 +1,0 @@
-pub mod Datagrams
-pub mod FragmentHistory
-pub mod Frames
-pub mod InboxLends
