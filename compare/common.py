@@ -81,12 +81,6 @@ def program(name, words):
     return crate / "out" / name
 
 
-def archive(inlined=False):
-    """The archive that the crate net-base links: of machine code, or of bitcode whose functions are inlined."""
-    file = "libnet_ffi_lto.a" if inlined else "libnet_ffi.a"
-    return Path(os.environ.get("NET_BASE_ARCHIVE") or REPOSITORY / "rust/lib/x86_64" / file).resolve()
-
-
 def allocator():
     """The kit's archive that gives the port's static libraries C's allocator."""
     page = subprocess.run(["rt", "doc"], capture_output=True, text=True, check=True).stdout.strip()

@@ -7,7 +7,7 @@ pub fn main() {
         eprintln!("PORT_LIBS is not set: the two commands set it to the static libraries of the port");
         process::exit(1)
     };
-    for library in libraries.split(':') {
+    for library in libraries.split(':').filter(|library| !library.is_empty()) {
         println!("cargo::rerun-if-changed={library}");
         println!("cargo::rustc-link-arg={library}");
     }

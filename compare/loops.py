@@ -1,9 +1,8 @@
 #!/usr/bin/env python3
 """SMOLTCP=path loops.py
 
-Builds the example `loops` of the crate net-base over the static library, with the library inlined by
-`-C linker-plugin-lto`, and over smoltcp with and without that flag, each in cargo's default profile; and prints the
-instructions that a round of each loop takes, as valgrind counts them, and how many exports are called.
+Builds the example `loops` of the crate net-base, and over smoltcp, in cargo's default profile without flags; and prints
+the instructions that a round of each loop takes, as valgrind counts them.
 """
 import re
 import subprocess
@@ -14,14 +13,12 @@ import common
 
 LOOPS = ["ring", "assembler", "stream"]
 ROUNDS = [10_000, 20_000]
-INLINED = "-C linker-plugin-lto"
 DEFAULT_PROFILE = {"CARGO_PROFILE_RELEASE_LTO": "false", "CARGO_PROFILE_RELEASE_CODEGEN_UNITS": "16"}
 
 
-def built(smoltcp, flags, over_smoltcp):
-    """The path of the example, built with these flags."""
-    target = common.OUT / ("loops_inlined" if flags else "loops")
-    variables = DEFAULT_PROFILE | {"RUSTFLAGS": flags, "CARGO_TARGET_DIR": str(target)}
+def built(smoltcp, over_smoltcp):
+    """The path of the example."""
+    variables = DEFAULT_PROFILE | {"RUSTFLAGS": "", "CARGO_TARGET_DIR": str(common.OUT / "loops")}
     if over_smoltcp:
         return common.cargo("release", ["loops"], smoltcp, **variables) / "loops"
     folder = common.REPOSITORY / "rust"
@@ -38,25 +35,13 @@ def instructions(program, loop):
     return (counts[1] - counts[0]) / (ROUNDS[1] - ROUNDS[0])
 
 
-def exports(program):
-    """How many exports the program has as functions of their own, but for the one of the version."""
-    names = subprocess.run(["nm", program], capture_output=True, text=True, check=True).stdout
-    return len(re.findall(r" [Tt] net_base_(?!abi_)\w+$", names, flags=re.M))
-
-
 def main():
-    smoltcp = common.need(["cargo", "valgrind", "nm"])
-    print("| Build | 16 bytes through a ring | An assembler in order | A segment of 64 bytes, and a read | Exports called |")
-    print("|---|---:|---:|---:|---:|")
-    for title, flags, over_smoltcp in [
-        ("smoltcp", "", True),
-        (f"smoltcp, `{INLINED}`", INLINED, True),
-        ("here, the archive", "", False),
-        (f"here, `{INLINED}`", INLINED, False),
-    ]:
-        program = built(smoltcp, flags, over_smoltcp)
-        counts = " | ".join(f"{instructions(program, loop):.0f}" for loop in LOOPS)
-        print(f"| {title} | {counts} | {exports(program)} |")
+    smoltcp = common.need(["cargo", "valgrind"])
+    print("| Crate | 16 bytes through a ring | An assembler in order | A segment of 64 bytes, and a read |")
+    print("|---|---:|---:|---:|")
+    for title, over_smoltcp in [("smoltcp", True), ("net-base", False)]:
+        program = built(smoltcp, over_smoltcp)
+        print(f"| {title} | {' | '.join(f'{instructions(program, loop):.0f}' for loop in LOOPS)} |")
 
 
 if __name__ == "__main__":

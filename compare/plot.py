@@ -1,9 +1,9 @@
 #!/usr/bin/env python3
 """plot.py [--table] TABLE [TABLE ..] > FILE
 
-Draws what `timing.py` printed, as SVG: TABLE is the output of `timing.py`, and then of `timing.py --rust --inlined` and
-of `timing.py --rust`. A row has a mark for each table: the median of the ratios to smoltcp, in a line from the lowest to
-the highest over placements, above a bar for smoltcp by itself. What is outside the scale is drawn at its edge.
+Draws what `timing.py` printed, as SVG: TABLE is the output of `timing.py`, and then of `timing.py --rust`. A row has a
+mark for each table: the median of the ratios to smoltcp, in a line from the lowest to the highest over placements, above
+a bar for smoltcp by itself. What is outside the scale is drawn at its edge.
 
 With --table it prints the medians and the instructions, as a table in Markdown: of a group of more than two rows its mean,
 and of each group the rows that have its lowest or highest median in one of the tables.
@@ -17,7 +17,7 @@ from pathlib import Path
 
 LEFT, RIGHT, TOP, HEIGHT, WIDTH = 250, 30, 64, 20, 820
 TICKS = [0.1, 0.2, 0.33, 0.5, 0.67, 0.8, 1, 1.25, 1.5, 2, 2.5]
-WAYS = [("in Rattle", "#1f5fbf"), ("from Rust, inlined", "#2a8f4f"), ("from Rust, by the archive", "#c0671a")]
+WAYS = [("in Rattle", "#1f5fbf"), ("in Rust", "#2a8f4f")]
 NOISE = "#c8c8c8"
 
 
@@ -96,7 +96,7 @@ def markdown(tables):
     groups = {}
     for name in tables[0]:
         groups.setdefault(name.split()[0], []).append(name)
-    titles = ["in Rattle", "inlined", "by the archive"][: len(tables)]
+    titles = ["in Rattle", "in Rust"][: len(tables)]
     head = ["Row", *titles, *(f"instructions {title}" for title in titles)]
     lines = [line(head), "|---" + "|---:" * 2 * len(tables) + "|"]
     for title, group in groups.items():

@@ -1,15 +1,14 @@
 #!/usr/bin/env python3
 """SMOLTCP=path timing.py [--once] [--samples N] [--milliseconds N] [--only WORD] [--lines N] [--runs N]
 SMOLTCP=path timing.py --peers [--samples N] [--milliseconds N] [--only WORD]
-SMOLTCP=path timing.py --rust [--inlined] [--once] [--samples N] [--milliseconds N] [--only WORD]
+SMOLTCP=path timing.py --rust [--once] [--samples N] [--milliseconds N] [--only WORD]
 
 Times the workloads of `perf` over the port and over smoltcp in turns, each side linked once for each placement of
 its code, counts instructions and branches if valgrind is there, and times whole runs of net_bench beside a plain
 program over smoltcp. Prints tables in Markdown, which plot.py draws. Status 1 if results differ.
 With --once: one placement. With --peers: the workloads over the port and over types of std in turns, and the memory
-of both. With --rust: the workloads over the crate net-base, whose exports are called, in place of the port; without
-whole runs and the loopback device, and `rt` isn't needed. With --inlined too: both sides are built as a user builds a
-program with `-C linker-plugin-lto`, in cargo's default profile, and rustc's lld inlines the exports.
+of both. With --rust: the workloads over the crate net-base in place of the port, both sides built as a user builds a
+program, in cargo's default profile without flags; without whole runs and the loopback device, and `rt` isn't needed.
 """
 import argparse
 import datetime
@@ -43,22 +42,12 @@ TEXT = 0x400000
 SYSTEM = ["-lgcc_s", "-lutil", "-lrt", "-lpthread", "-lm", "-ldl", "-lc"]
 
 
-def lld():
-    """The words by which `cc` links with the lld that rustc brings."""
-    ask = lambda *words: subprocess.run(["rustc", *words], capture_output=True, text=True, check=True).stdout
-    host = re.search(r"^host: (.*)$", ask("-vV"), flags=re.M)[1]
-    folder = Path(ask("--print", "sysroot").strip()) / "lib/rustlib" / host / "bin/gcc-ld"
-    if not folder.is_dir():
-        sys.exit(f"this rustc brings no lld: there is no {folder}")
-    return [f"-B{folder}", "-fuse-ld=lld", "-Wl,--lto-O3"]
-
-
-def placed(built, name, libraries, placements, linker):
+def placed(built, name, libraries, placements):
     """A side as shared libraries, one for each placement of its code."""
     paths = []
     for pad in placements:
         path = built / f"{name}_{pad}.so"
-        words = ["cc", "-shared", *linker, "-o", path, "-Wl,-Bsymbolic", "-Wl,-u,side_workloads"]
+        words = ["cc", "-shared", "-fuse-ld=bfd", "-o", path, "-Wl,-Bsymbolic", "-Wl,-u,side_workloads"]
         words += [f"-Wl,-Ttext={TEXT + pad:#x}", built / f"lib{name}.a", *libraries, *SYSTEM]
         common.run(words, f"link_{path.stem}")
         paths.append(str(path))
@@ -233,16 +222,10 @@ def machine():
     return f"{name}, {os.cpu_count()} processors, load {os.getloadavg()[0]:.1f}"
 
 
-def rust_sides(smoltcp, libraries, inlined):
+def rust_sides(smoltcp):
     """Builds what times the crate net-base."""
-    variables = {"PORT_LIBS": str(libraries[0]), "RUSTFLAGS": FLAGS}
-    if inlined:
-        variables |= DEFAULT_PROFILE | {"RUSTFLAGS": "-C linker-plugin-lto"}
-    elif os.environ.get("NET_BASE_ARCHIVE"):
-        variables |= {"NET_BASE_ARCHIVE": str(libraries[0])}
-    common.cargo("release", ["side_original", "side_rust"], smoltcp, **variables)
-    variables |= {"RUSTFLAGS": FLAGS, "PORT_LIBS": str(common.archive())}
-    return common.cargo("release", ["driver"], smoltcp, only=["--bin", "driver"], **variables)
+    common.cargo("release", ["side_original", "side_rust"], smoltcp, RUSTFLAGS="", **DEFAULT_PROFILE)
+    return common.cargo("release", ["driver"], smoltcp, only=["--bin", "driver"], PORT_LIBS="", RUSTFLAGS=FLAGS)
 
 
 def main():
@@ -255,23 +238,18 @@ def main():
     parser.add_argument("--runs", type=int, default=9)
     parser.add_argument("--peers", action="store_true")
     parser.add_argument("--rust", action="store_true")
-    parser.add_argument("--inlined", action="store_true")
     arguments = parser.parse_args()
-    if arguments.inlined and not arguments.rust:
-        parser.error("--inlined goes with --rust")
     if arguments.peers or arguments.rust:
         arguments.lines = 0
     smoltcp = common.need(["cargo"] if arguments.rust else ["cargo", "rt"])
     if arguments.rust:
-        side, libraries = "side_rust", [common.archive(arguments.inlined)]
-        built = rust_sides(smoltcp, libraries, arguments.inlined)
+        side, libraries, built = "side_rust", [], rust_sides(smoltcp)
     else:
         side, libraries = "side_port", [common.static_library("net_perf"), common.allocator()]
         packages = ["driver", "side_original", "side_port", "plain"]
         built = common.cargo("release", packages, smoltcp, PORT_LIBS=":".join(map(str, libraries)), RUSTFLAGS=FLAGS)
     placements = PLACEMENTS[:1] if arguments.once or arguments.peers else PLACEMENTS
-    linker = lld() if arguments.inlined else ["-fuse-ld=bfd"]
-    sides = [placed(built, side, libraries, placements, linker), placed(built, "side_original", [], placements, linker)]
+    sides = [placed(built, side, libraries, placements), placed(built, "side_original", [], placements)]
     bench = common.program("net_bench", ["ring", "1"]) if arguments.lines else None
     print(f"{datetime.date.today()}; {machine()}; {len(placements)} placements of each side, "
           f"{arguments.samples} samples of {arguments.milliseconds:g} ms a row and placement\n")

@@ -15,8 +15,10 @@ import re
 import sys
 from pathlib import Path
 
+sys.dont_write_bytecode = True
 import erase_list as given
 import erase_words
+from erase_tokens import SPACE, Refused, Text, words
 
 REPOSITORY = Path(__file__).resolve().parent.parent
 OUT = REPOSITORY / 'rust/src/proved'
@@ -40,27 +42,8 @@ CONTRACT_WORDS = {'ghost', 'requires', 'ensures', 'tactic', 'Model', 'Drop', 'pr
 DROP = re.compile(r'(?<=: )Drop \+ |(?:: | \+ )Drop\b(?=[,>]| \{| for)')      # a bound that all types of Rust meet
 SOME_RUNS = re.compile(r'requires(?: \w+)? { 1 ≤ N }')                        # tested when the program is compiled
 HAS_RUNS = 'const { assert!(N >= 1, "N is at least 1") };'
-
-TOKEN = re.compile(r"""
-    (?P<space>\s+) | (?P<doc>//[/!][^\n]*) | (?P<note>//[^\n]*) | (?P<unread>/\*|b?r\#*"|c")
-  | (?P<text>b?"(?:\\.|[^"\\])*") | (?P<char>b?'(?:\\(?:x..|u\{[^}]*\}|.)|[^\\'])') | (?P<life>'\w+)
-  | (?P<word>[A-Za-z_]\w*) | (?P<number>\d\w*(?:\.\d\w*)?) | (?P<sign>::|->|=>|.)
-""", re.X | re.S)
-CLAUSE = re.compile(r'(?:requires|ensures\*?)(?:\s+[a-z_]\w*)?\s*(?=\{)')
-GHOST = re.compile(r'ghost\s+(?:use\b[^;]*|[A-Za-z_]\w*\s*)(?=[=:;])')     # `= {..};`, `: {..};`, `: {..} = {..};`, or `,`
-LOGIC = re.compile(r'"(?:\\.|[^"\\])*"|//[^\n]*|[(\[{)\]}]')       # in logic ' is part of names
 ANGLES = r'<(?:[^<>]|<(?:[^<>]|<[^<>]*>)*>)*>'
-OPEN, CLOSE, SPACE = '([{', ')]}', ('space', 'doc', 'note')
 GONE, NO_CLAUSE = '\0', '\1'                      # where a form, and where a clause, was
-
-
-class Refused(Exception):
-    pass
-
-
-def words(text):
-    """The tokens of Rust that a text has, without spaces and comments."""
-    return [m.group() for m in TOKEN.finditer(text) if m.lastgroup not in SPACE]
 
 
 def branches(tree):
@@ -71,85 +54,16 @@ def branches(tree):
     return [re.sub(r'::self$', '', root + p) for p in re.findall(r'\w[\w: ]*\b', inner)] or [tree]
 
 
-class Eraser:
+class Eraser(Text):
     """One file of a crate; functions of the types `public` can be called from outside.
 
     `new` has the text that is written for a token, where that is another one; `before` and `after` what is added."""
 
     def __init__(self, text, crate, public=(), unguarded={}, into={}):
-        self.text, self.crate = DROP.sub('', text), crate
-        self.public, self.unguarded, self.into = public, unguarded, into
-        self.tokens, self.new, self.before, self.after = [], {}, {}, {}
+        super().__init__(DROP.sub('', text))
+        self.crate, self.public, self.unguarded, self.into = crate, public, unguarded, into
+        self.new, self.before, self.after = {}, {}, {}
         self.owner, self.used, self.contracts = ('', 0), set(), []
-        self.read()
-
-    def refuse(self, at, message):
-        here = self.text[at:at + 70].split('\n')[0]
-        raise Refused(f'{self.text.count(chr(10), 0, at) + 1}: {message}: {here}')
-
-    def logic(self, i):
-        """The end of the bracket of logic that opens at i."""
-        opened = []
-        for m in LOGIC.finditer(self.text, i):
-            if m.group() in OPEN:
-                opened.append(CLOSE[OPEN.index(m.group())])
-            elif m.group() in CLOSE and opened.pop() != m.group():
-                self.refuse(m.start(), 'another bracket is open')
-            if not opened:
-                return m.end()
-        self.refuse(i, 'a bracket of logic is not closed')
-
-    def read(self, i=0):
-        """Splits the text in tokens (kind, text, start). A clause, or a ghost item or member, is one token."""
-        while i < len(self.text):
-            m = TOKEN.match(self.text, i)
-            kind, end = m.lastgroup, m.end()
-            if m.group() in ('requires', 'ensures'):
-                clause = CLAUSE.match(self.text, i) or self.refuse(i, 'not a clause')
-                kind, end = 'clause', self.logic(clause.end())
-            elif m.group() == 'ghost':
-                kind, end = 'ghost', self.ghost(i)
-            elif kind == 'unread':
-                self.refuse(i, 'a form that the eraser does not read')
-            self.tokens.append((kind, self.text[i:end], i))
-            i = end
-        self.tokens.append(('end', '', i))
-
-    def ghost(self, i):
-        """The end of the ghost item or member that begins at i."""
-        i = (GHOST.match(self.text, i) or self.refuse(i, 'an unknown ghost form')).end()
-        while self.text[i:i + 1] in (':', '='):
-            brace = re.compile(r'[:=]\s*(?=\{)').match(self.text, i) or self.refuse(i, 'a ghost member without braces')
-            i = re.compile(r'\s*').match(self.text, self.logic(brace.end())).end()
-        return i + 1 if self.text[i:i + 1] in (';', ',') else self.refuse(i, 'a ghost member that does not end')
-
-    def next(self, k):
-        """The first token from k on that isn't space or a comment."""
-        while self.tokens[k][0] in SPACE:
-            k += 1
-        return k
-
-    def group(self, k):
-        """The token after the bracket that opens at k."""
-        start, depth = k, 1
-        while depth:
-            k += 1
-            kind, word, _ = self.tokens[k]
-            if kind == 'end':
-                self.refuse(self.tokens[start][2], 'a bracket is not closed')
-            depth += (kind == 'sign') * ((word in OPEN) - (word in CLOSE))
-        return k + 1
-
-    def until(self, k, *signs):
-        """The first token from k on that is one of these and in no bracket, or a clause."""
-        while self.tokens[k][1] not in signs and self.tokens[k][0] != 'clause':
-            if self.tokens[k][0] == 'end':
-                self.refuse(self.tokens[k][2], f'no {signs[0]}')
-            k = self.group(k) if self.tokens[k][1] in ('(', '[') else k + 1
-        return k
-
-    def source(self, start, end):
-        return self.text[self.tokens[start][2]:self.tokens[end][2]]
 
     def put(self, start, end, text):
         """Writes a text for the tokens from start to end."""
@@ -348,7 +262,8 @@ def erased(said):
     """Each file of the result, by its path, with its text; what is refused is appended to `said`."""
     layer = ''.join(file.read_text() for file in OUT.parent.rglob('*.rs') if OUT not in file.parents)
     public = set(re.findall(r'\w+', ' '.join(re.findall(r'pub use crate::proved([^;]*);', layer))))
-    files, contracts = {OUT / 'mod.rs': TOP + ''.join(f'pub mod {name};\n' for name in ('contracts', *given.CRATES))}, []
+    names, contracts = ('contracts', *given.CRATES), []
+    files = {OUT / 'mod.rs': TOP + ''.join(f'pub mod {name};\n' for name in names)}
     unused = {old for pairs in given.REPLACED.values() for old, _ in pairs} | given.UNGUARDED.keys()
     for crate, omitted in given.CRATES.items():
         source = REPOSITORY / 'crates' / crate / 'src'

@@ -1,4 +1,4 @@
-"""The page that explains the words of contracts, for tools/erase.py: signs from docs/NOTATION.md, definitions from specs."""
+"""The page that explains the words of contracts, for tools/erase.py: of docs/NOTATION.md, and of the specs."""
 import re
 
 NAME = re.compile(r"[A-Za-z_][\w'-]*")
@@ -19,7 +19,8 @@ def definitions(specs):
         if name:
             block = block.strip('\n')
             margin = min(len(line) - len(line.lstrip()) for line in block.split('\n'))
-            found[name[1]] = '\n'.join(line[margin:] for line in block.split('\n') if not line.lstrip().startswith('-- ----'))
+            lines = (line[margin:] for line in block.split('\n') if not line.lstrip().startswith('-- ----'))
+            found[name[1]] = '\n'.join(lines)
     return found
 
 

@@ -48,9 +48,9 @@ extern crate alloc;
 #[cfg(any(feature = "std", test))]
 extern crate std;
 
+pub mod finite;
 pub mod managed;
 pub mod phy;
-
 mod proved;
 pub mod rand;
 mod rattle;

@@ -2,13 +2,10 @@
 use core::fmt;
 
 use crate::managed::ManagedSlice;
-use crate::proved::net_receiver::HeldRun;
 use crate::proved::net_ring::Storage;
 use crate::storage::Listed;
 
-pub use crate::proved::net_receiver::{
-    FiniteError, FiniteReceiver, FiniteReceiverOver, Kept, Receiver, ReceiverOver,
-};
+pub use crate::proved::net_receiver::{HeldRun, HeldRuns, Kept, Receiver, ReceiverOver};
 
 impl<'a> Receiver<'a> {
     /// Returns a receiver of a stream whose first byte has position 0, with room for 4 held runs.
@@ -67,20 +64,6 @@ impl<S: Storage<u8>, const N: usize> fmt::Debug for ReceiverOver<S, N> {
             .field("window", &self.window())
             .field("held", &Listed(|| self.held()))
             .finish()
-    }
-}
-
-impl<'a, const N: usize> FiniteReceiver<'a, N> {
-    /// Returns a receiver of a stream that ends, whose first byte has position `first`, with room for `N` held runs.
-    ///
-    /// # Panics
-    ///
-    /// If `first` is `u64::MAX`: no number is left for the end.
-    pub fn empty_at<S>(storage: S, first: u64) -> Self
-    where
-        S: Into<ManagedSlice<'a, u8>>,
-    {
-        FiniteReceiverOver::over_at(storage.into(), first)
     }
 }
 

@@ -6,24 +6,12 @@ mod ring_buffer;
 
 use core::fmt;
 
+use crate::rattle::error_text;
+
 pub use crate::proved::net_assembler::{Assembler, TooManyHolesError};
 pub use crate::proved::net_packets::{PacketBuffer, PacketMetadata, PacketsOver};
 pub use crate::proved::net_ring::{Empty, Full, Resettable, RingBuffer, RingOver, Storage};
 pub use crate::proved::net_sockets::{FragmentBuffer, FragmentError, FragmentsOver};
-
-/// The text of an error, and that it is one: Rattle derives both.
-macro_rules! error_text {
-    ($($error:ty, $this:ident => $text:expr;)*) => { $(
-        impl fmt::Display for $error {
-            fn fmt(&self, f: &mut fmt::Formatter) -> fmt::Result {
-                let $this = self;
-                f.write_str($text)
-            }
-        }
-
-        impl core::error::Error for $error {}
-    )* };
-}
 
 error_text! {
     Full, _error => "buffer full";

@@ -1,0 +1,278 @@
+//! What the public types' traits give: clones, defaults, comparisons, texts, errors, constants, threads, lifetimes.
+//! Values are written by hand.
+use std::collections::hash_map::DefaultHasher;
+use std::error::Error;
+use std::fmt::{Debug, Display};
+use std::hash::{Hash, Hasher};
+
+use net_base::finite::{FiniteError, FiniteReceiver};
+use net_base::managed::ManagedSlice;
+use net_base::phy::{
+    Checksum, ChecksumCapabilities, DeviceCapabilities, Medium, PacketLoopback, PacketMeta,
+    SegmentationCapabilities, IPV4_FRAGMENT_PAYLOAD_ALIGNMENT,
+};
+use net_base::rand::Rand;
+use net_base::receiver::{HeldRun, Kept, Receiver};
+use net_base::scoreboard::Scoreboard;
+use net_base::sender::Sender;
+use net_base::sequence_number::SequenceNumber;
+use net_base::storage::{
+    Assembler, Empty, FragmentBuffer, FragmentError, Full, PacketBuffer, PacketMetadata,
+    RingBuffer, TooManyHolesError,
+};
+use net_base::tcp::{
+    AdvertisedWindow, PartsSum, PeerWindow, RetransmissionTimeout, RttEstimate, TimeoutBounds,
+    Transmission,
+};
+use net_base::time::{Duration, Instant};
+
+fn debug(value: impl Debug) -> String {
+    format!("{value:?}")
+}
+
+#[test]
+fn texts_of_values() {
+    assert_eq!(debug(Checksum::default()), "Both");
+    assert_eq!(debug([Checksum::Rx, Checksum::Tx, Checksum::None]), "[Rx, Tx, None]");
+    assert_eq!(debug(Medium::default()), "Ethernet");
+    assert_eq!(
+        debug(ChecksumCapabilities::ignored()),
+        "ChecksumCapabilities { ipv4: None, udp: None, tcp: None, icmpv4: None, icmpv6: None }"
+    );
+    let text = debug(DeviceCapabilities::default());
+    let start = "DeviceCapabilities { medium: Ethernet, max_transmission_unit: 0, max_burst_size: None, checksum: ";
+    assert!(text.starts_with(start), "{text}");
+    assert_eq!(
+        debug(SegmentationCapabilities::default()),
+        "SegmentationCapabilities { tcpv4: None, tcpv6: None }"
+    );
+    assert_eq!(debug(Rand::new(7)), "Rand { state: 7 }");
+    assert_eq!(debug(Instant::from_micros(-7)), "Instant { micros: -7 }");
+    assert_eq!(debug(Duration::from_micros(7)), "Duration { micros: 7 }");
+    assert_eq!(debug(Kept { kept: 3, queued: 2 }), "Kept { kept: 3, queued: 2 }");
+    assert_eq!(debug(HeldRun { start: 3, end: 5 }), "HeldRun { start: 3, end: 5 }");
+    assert_eq!(
+        debug(PacketMetadata::<u8>::EMPTY),
+        "PacketMetadata { size: 0, header: None }"
+    );
+    assert_eq!(debug(AdvertisedWindow::new(9)), "AdvertisedWindow { edge: 9 }");
+    assert_eq!(debug(PeerWindow::new(1, 2, 3)), "PeerWindow { edge: 5, seq: 1, ack: 2 }");
+    assert_eq!(debug(PartsSum::new()), "PartsSum { sum: 0, odd: false }");
+    assert_eq!(debug(RttEstimate::first(4)), "RttEstimate { srtt_8: 32, rttvar_4: 8 }");
+    assert_eq!(
+        debug(RetransmissionTimeout::new(5)),
+        "RetransmissionTimeout { estimate: None, timeout: 5 }"
+    );
+    assert_eq!(debug([Transmission::Once(6), Transmission::Repeated]), "[Once(6), Repeated]");
+    let bounds = TimeoutBounds { least: 1, most: 2, tick: 3 };
+    assert_eq!(debug(bounds), "TimeoutBounds { least: 1, most: 2, tick: 3 }");
+}
+
+/// Capacities and positions: not what is in storage.
+#[test]
+fn texts_of_what_stores() {
+    let (mut bytes, mut slots) = ([9u8; 16], [PacketMetadata::<u8>::EMPTY; 3]);
+    let mut fragments = FragmentBuffer::<2>::empty(&mut bytes[..], Instant::from_secs(5));
+    assert_eq!(fragments.add(4, b"ab"), Ok(()));
+    assert_eq!(
+        debug(&fragments),
+        "FragmentBuffer { capacity: 16, runs: 1, expires_at: Instant { micros: 5000000 } }"
+    );
+    let mut queue = PacketBuffer::new(&mut slots[..], &mut bytes[..]);
+    assert!(queue.enqueue(5, 1).is_ok());
+    assert_eq!(
+        debug(&queue),
+        "PacketBuffer { metadata_ring: RingBuffer { capacity: 3, read_at: 0, length: 1 }, \
+         payload_ring: RingBuffer { capacity: 16, read_at: 0, length: 5 } }"
+    );
+    let mut receiver = FiniteReceiver::<2>::empty_at(&mut bytes[..], 100);
+    assert!(receiver.segment(103, b"d", true).is_ok());
+    assert_eq!(
+        debug(&receiver),
+        "FiniteReceiver { receiver: Receiver { next: 100, len: 0, window: 16, held: [(103, 104)] }, end: Some(104) }"
+    );
+    let mut scoreboard = Scoreboard::<2>::empty();
+    scoreboard.acknowledge(10);
+    assert_eq!(scoreboard.report(12, 14, 20), Ok(true));
+    assert_eq!(debug(&scoreboard), "Scoreboard { first_unreported: 10, reported: [(12, 14)] }");
+    assert_eq!(debug(ManagedSlice::from(&mut [1u8, 2])), "Borrowed([1, 2])");
+}
+
+/// Each error, with its two texts; options of a text change nothing, and none has a source.
+#[test]
+fn errors() {
+    fn all(error: impl Error, text: &str, name: &str) {
+        assert_eq!((error.to_string(), debug(&error)), (text.to_string(), name.to_string()));
+        assert_eq!(format!("{error:>99}|{error:.2}"), format!("{text}|{text}"));
+        assert!(error.source().is_none());
+    }
+    all(Full, "buffer full", "Full");
+    all(Empty, "buffer empty", "Empty");
+    all(TooManyHolesError, "too many holes", "TooManyHolesError");
+    all(FragmentError::TooLong, "past the end of the buffer", "TooLong");
+    all(FragmentError::TooManyHoles, "too many holes", "TooManyHoles");
+    all(FragmentError::OtherSize, "another size is known", "OtherSize");
+    all(FiniteError::TooManyHoles, "too many holes", "TooManyHoles");
+    all(FiniteError::OtherEnd, "the stream ends elsewhere", "OtherEnd");
+}
+
+/// Equal values have equal hashes; a clone is equal, and another value is not.
+#[test]
+fn comparisons() {
+    fn all<T: PartialEq + Eq + Clone + Debug>(one: T, other: T) {
+        assert_eq!(one.clone(), one);
+        assert_eq!(other.clone(), other);
+        assert_ne!(one, other);
+        assert_ne!(other, one);
+    }
+    all(Medium::Ethernet, Medium::Ip);
+    all(FragmentError::TooLong, FragmentError::OtherSize);
+    all(FiniteError::TooManyHoles, FiniteError::OtherEnd);
+    all(Kept { kept: 1, queued: 2 }, Kept { kept: 2, queued: 1 });
+    all(Kept { kept: 1, queued: 2 }, Kept { kept: 1, queued: 1 });
+    all(HeldRun { start: 1, end: 2 }, HeldRun { start: 1, end: 3 });
+    all(HeldRun { start: 1, end: 3 }, HeldRun { start: 2, end: 3 });
+    all(SequenceNumber::new(3), SequenceNumber::new(4));
+    all(Instant::from_micros(3), Instant::from_micros(4));
+    all(Duration::from_micros(3), Duration::from_micros(4));
+    assert_eq!((Full.clone(), Empty.clone(), TooManyHolesError.clone()), (Full, Empty, TooManyHolesError));
+    let hash = |id| {
+        let (mut meta, mut hasher) = (PacketMeta::default(), DefaultHasher::new());
+        meta.id = id;
+        meta.hash(&mut hasher);
+        (meta, hasher.finish())
+    };
+    assert_eq!(hash(7), hash(7));
+    assert!(hash(7).0 != hash(8).0 && hash(7).1 != hash(8).1);
+}
+
+#[test]
+fn clones_and_defaults() {
+    assert_eq!((Duration::default(), PacketMeta::default().id), (Duration::ZERO, 0));
+    let mut device = DeviceCapabilities::default();
+    device.max_transmission_unit = 99;
+    device.checksum.udp = Checksum::Tx;
+    device.max_burst_size = Some(3);
+    assert_eq!(debug(device.clone()), debug(&device));
+    let mut assembler = Assembler::<2>::default();
+    assert!(assembler.is_empty() && assembler.add(3, 4).is_ok());
+    let copy = assembler.clone();
+    assert_eq!(assembler.add(9, 1), Ok(()));
+    assert_eq!((copy.to_string(), assembler.to_string()), ("[ (3) 4 ]".into(), "[ (3) 4 (2) 1 ]".into()));
+    let mut scoreboard = Scoreboard::<2>::default();
+    assert!(!scoreboard.contains(0) && scoreboard.report(3, 5, 9).is_ok());
+    let copy = scoreboard.clone();
+    scoreboard.acknowledge(9);
+    assert!(!copy.contains(5) && copy.contains(4) && scoreboard.contains(5));
+    let slot = PacketMetadata::<String>::EMPTY.clone();
+    assert_eq!(debug(slot), "PacketMetadata { size: 0, header: None }");
+}
+
+/// What can be called where a constant is made.
+#[test]
+fn constants() {
+    const ASSEMBLER: Assembler<3> = Assembler::empty();
+    const FOUR: Assembler = Assembler::new();
+    const SCOREBOARD: Scoreboard<3> = Scoreboard::empty();
+    const RAND: Rand = Rand::new(3);
+    const NUMBER: u32 = SequenceNumber::new(7).get();
+    const MOMENTS: [Instant; 3] = [
+        Instant::from_micros_const(1),
+        Instant::from_millis_const(1),
+        Instant::ZERO,
+    ];
+    const LENGTHS: [Duration; 4] =
+        [Duration::from_micros(1), Duration::from_millis(1), Duration::from_secs(1), Duration::MAX];
+    const PARTS: [i64; 5] = {
+        let it = Instant::from_micros_const(1_234_567);
+        [it.total_micros(), it.total_millis(), it.secs(), it.millis(), it.micros()]
+    };
+    const LENGTH_PARTS: [u64; 5] = {
+        let it = Duration::from_micros(1_234_567);
+        [it.total_micros(), it.total_millis(), it.secs(), it.millis(), it.micros()]
+    };
+    const FITS: [bool; 2] = [Receiver::<4>::fits(u64::MAX, 0), Receiver::<4>::fits(u64::MAX, 1)];
+    static SLOTS: [PacketMetadata<u8>; 2] = [PacketMetadata::EMPTY; 2];
+    assert!(ASSEMBLER.is_empty() && FOUR.is_empty() && !SCOREBOARD.contains(0) && SLOTS.len() == 2);
+    assert_eq!((debug(RAND), NUMBER), ("Rand { state: 3 }".into(), 7));
+    assert_eq!(MOMENTS.map(|it| it.total_micros()), [1, 1_000, 0]);
+    assert_eq!(LENGTHS.map(|it| it.total_micros()), [1, 1_000, 1_000_000, u64::MAX]);
+    assert_eq!((PARTS, FITS), ([1_234_567, 1_234, 1, 234, 234_567], [true, false]));
+    assert_eq!(LENGTH_PARTS, [1_234_567, 1_234, 1, 234, 234_567]);
+    assert_eq!(IPV4_FRAGMENT_PAYLOAD_ALIGNMENT, 8);
+}
+
+/// A type can be sent to other threads, and shared with them, if what it holds can.
+#[test]
+fn threads() {
+    fn both<T: Send + Sync>() {}
+    both::<ManagedSlice<'_, u8>>();
+    both::<RingBuffer<'_, u32>>();
+    both::<PacketBuffer<'_, u32>>();
+    both::<PacketMetadata<u32>>();
+    both::<Assembler<9>>();
+    both::<FragmentBuffer<'_, 4>>();
+    both::<Receiver<'_, 4>>();
+    both::<FiniteReceiver<'_, 4>>();
+    both::<Sender<'_>>();
+    both::<Scoreboard<4>>();
+    both::<(Rand, SequenceNumber, Instant, Duration, DeviceCapabilities, PacketMeta)>();
+    both::<(PartsSum, PeerWindow, AdvertisedWindow, RetransmissionTimeout)>();
+    both::<PacketLoopback<'_>>();
+    fn sent<T: Send>() {}
+    sent::<RingBuffer<'_, std::cell::Cell<u8>>>();
+}
+
+/// What is lent for longer serves where it is wanted for a shorter time.
+#[test]
+fn lifetimes() {
+    fn ring<'s>(it: RingBuffer<'static, u8>, _: &'s u8) -> RingBuffer<'s, u8> {
+        it
+    }
+    fn queue<'s>(it: PacketBuffer<'static, u8>, _: &'s u8) -> PacketBuffer<'s, u8> {
+        it
+    }
+    fn fragments<'s>(it: FragmentBuffer<'static>, _: &'s u8) -> FragmentBuffer<'s> {
+        it
+    }
+    fn receiver<'s>(it: Receiver<'static>, _: &'s u8) -> Receiver<'s> {
+        it
+    }
+    fn finite<'s>(it: FiniteReceiver<'static>, _: &'s u8) -> FiniteReceiver<'s> {
+        it
+    }
+    fn sender<'s>(it: Sender<'static>, _: &'s u8) -> Sender<'s> {
+        it
+    }
+    fn slice<'s>(it: ManagedSlice<'static, u8>, _: &'s u8) -> ManagedSlice<'s, u8> {
+        it
+    }
+    fn device<'s>(it: PacketLoopback<'static>, _: &'s u8) -> PacketLoopback<'s> {
+        it
+    }
+    let (short, leak) = (7, || Box::leak(vec![0u8; 4].into_boxed_slice()));
+    let slots = Box::leak(vec![PacketMetadata::EMPTY; 2].into_boxed_slice());
+    assert_eq!(ring(RingBuffer::new(leak()), &short).capacity(), 4);
+    assert_eq!(queue(PacketBuffer::new(slots, leak()), &short).payload_capacity(), 4);
+    assert_eq!(fragments(FragmentBuffer::new(leak(), Instant::ZERO), &short).capacity(), 4);
+    assert_eq!(receiver(Receiver::new(leak()), &short).capacity(), 4);
+    assert_eq!(finite(FiniteReceiver::empty_at(leak(), 5), &short).acknowledged(), 5);
+    assert_eq!(sender(Sender::new(leak()), &short).capacity(), 4);
+    assert_eq!(slice(ManagedSlice::from(leak()), &short).len(), 4);
+    let slots = Box::leak(vec![PacketMetadata::EMPTY; 2].into_boxed_slice());
+    let it = PacketLoopback::new(Medium::Ip, PacketBuffer::new(slots, leak()), leak(), leak());
+    assert_eq!(device(it, &short).dropped(), 0);
+    // A part that a closure was lent may live as long as the ring was lent.
+    let mut storage = [1u8, 2, 3];
+    let mut ring = RingBuffer::new(&mut storage[..]);
+    let (count, part) = ring.enqueue_many_with(|part| (part.len(), part));
+    part[0] = 9;
+    assert_eq!((count, ring.get(0)), (3, Some(&9)));
+}
+
+/// A text under options, and through a `dyn`.
+#[test]
+fn texts_of_moments() {
+    let all: [&dyn Display; 2] = [&Instant::from_millis(-1_500), &Duration::from_millis(1_500)];
+    assert_eq!(all.map(|it| format!("{it:>9}|")), ["-1.-500s|", "1.500s|"]);
+}
