@@ -10,6 +10,7 @@ ghost use Rattle.net_assembler.specs.RunLists.{set_of, HasSoundRuns};
 ghost use Rattle.net_assembler.specs.Turns.{TurnsWithin, binary_digits};
 
 mod display;
+mod equality;
 mod error;
 mod head;
 mod holes;
@@ -17,6 +18,7 @@ mod iter;
 mod joins;
 pub mod laws;
 mod moves;
+mod reads;
 mod run;
 mod search;
 mod turns;
@@ -66,6 +68,11 @@ impl<const N: usize> Model for Assembler<N> {
 impl<const N: usize> Assembler<N> {
     /// Returns an assembler with no position, as [`empty`](Assembler::empty) does.
     ///
+    /// ```
+    /// # use net_base::storage::Assembler;
+    /// assert!(Assembler::new().is_empty());
+    /// ```
+    ///
     /// # Requires
     ///
     /// `N` is at least 1.
@@ -83,6 +90,16 @@ impl<const N: usize> Assembler<N> {
     /// Returns an assembler with no position, which has room for `N` maximal runs.
     ///
     /// smoltcp has only `new`. In Rust that has 4 runs, and this any number.
+    ///
+    /// ```
+    /// # use net_base::storage::Assembler;
+    /// assert!(Assembler::<32>::empty().is_empty());
+    /// ```
+    ///
+    /// ```compile_fail
+    /// # use net_base::storage::Assembler;
+    /// let assembler = Assembler::<0>::empty();
+    /// ```
     ///
     /// # Requires
     ///
@@ -134,6 +151,14 @@ impl<const N: usize> Assembler<N> {
     }
 
     /// Removes every position.
+    ///
+    /// ```
+    /// # use net_base::storage::Assembler;
+    /// # let mut assembler = Assembler::new();
+    /// assert_eq!(assembler.add(3, 2), Ok(()));
+    /// assembler.clear();
+    /// assert_eq!(assembler, Assembler::new());
+    /// ```
     pub fn clear(&mut self)
         ensures empty { self.new ≡ nothing }
         ensures no_run { runs self.new ≡ 0 }
@@ -150,6 +175,13 @@ impl<const N: usize> Assembler<N> {
     ///     return None;
     /// }
     /// ```
+    ///
+    /// ```
+    /// # use net_base::storage::Assembler;
+    /// # let mut assembler = Assembler::new();
+    /// assert_eq!(assembler.add(0, 3), Ok(()));
+    /// assert_eq!(assembler.peek_front(), 3);
+    /// ```
     pub fn peek_front(&self) -> usize
         ensures { result ≡ front self.now }
     {
@@ -165,6 +197,13 @@ impl<const N: usize> Assembler<N> {
     }
 
     /// Returns whether no position is present.
+    ///
+    /// ```
+    /// # use net_base::storage::Assembler;
+    /// # let mut assembler = Assembler::new();
+    /// assert_eq!(assembler.add(5, 0), Ok(()));
+    /// assert!(assembler.is_empty());
+    /// ```
     pub fn is_empty(&self) -> bool
         ensures { IsTrue result ↔ (self.now ≡ nothing) }
     {
@@ -189,6 +228,14 @@ impl<const N: usize> Assembler<N> {
     /// ```rust
     /// assembler.add(offset, size)?;
     /// Ok(assembler.peek_front())
+    /// ```
+    ///
+    /// ```
+    /// # use net_base::storage::Assembler;
+    /// # let mut assembler = Assembler::new();
+    /// assert_eq!(assembler.add(4, 4), Ok(()));
+    /// assert_eq!(assembler.add(6, 4), Ok(()));
+    /// assert!(assembler.iter_data().eq([(4, 10)]));
     /// ```
     ///
     /// # Requires
@@ -246,6 +293,14 @@ impl<const N: usize> Assembler<N> {
     ///
     /// If position 0 is missing it returns 0 and changes nothing. Otherwise there is room for one
     /// more run, so the next `add` is accepted.
+    ///
+    /// ```
+    /// # use net_base::storage::Assembler;
+    /// # let mut assembler = Assembler::new();
+    /// assert_eq!((assembler.add(0, 3), assembler.add(5, 1)), (Ok(()), Ok(())));
+    /// assert_eq!(assembler.remove_front(), 3);
+    /// assert!(assembler.iter_data().eq([(2, 3)]));
+    /// ```
     #[inline(always)]
     pub fn remove_front(&mut self) -> usize
         ensures length { result ≡ front self.old }
@@ -281,6 +336,14 @@ impl<const N: usize> Assembler<N> {
     /// no such call.
     ///
     /// It serves a sender whose peer acknowledged `count` positions more, and holds some beyond.
+    ///
+    /// ```
+    /// # use net_base::storage::Assembler;
+    /// # let mut assembler = Assembler::new();
+    /// assert_eq!((assembler.add(0, 3), assembler.add(5, 1)), (Ok(()), Ok(())));
+    /// assembler.shift(2);
+    /// assert!(assembler.iter_data().eq([(0, 1), (3, 4)]));
+    /// ```
     pub fn shift(&mut self, count: usize)
         ensures set { self.new ≡ shift_down self.old count }
         ensures fewer { runs self.new ≤ runs self.old }
@@ -295,6 +358,15 @@ impl<const N: usize> Assembler<N> {
     /// depends on that: if the segment that it waits for were refused, no other could complete the
     /// front, and the connection would stall. A range elsewhere is refused exactly if `add` refuses
     /// it, and then the set stays as it was. With `size` 0 a run can still be removed.
+    ///
+    /// ```
+    /// # use net_base::storage::{Assembler, TooManyHolesError};
+    /// let mut assembler = Assembler::<1>::empty();
+    /// assert_eq!(assembler.add_then_remove_front(4, 2), Ok(0));
+    /// assert_eq!(assembler.add_then_remove_front(8, 2), Err(TooManyHolesError));
+    /// assert_eq!(assembler.add_then_remove_front(0, 2), Ok(2));
+    /// assert!(assembler.iter_data().eq([(2, 4)]));
+    /// ```
     ///
     /// # Requires
     ///
@@ -351,79 +423,6 @@ impl<const N: usize> Assembler<N> {
         self.head
             .add_then_remove_front_counted(runs, offset, size, turns)
     }
-
-    /// Returns the maximal run with number `k`, counted from 0 in rising order, as (start, end),
-    /// the end not included; `None` exactly if there are no more than `k`. smoltcp has no such
-    /// call.
-    ///
-    /// It takes no memory, and reads an array once.
-    pub fn run_at(&self, k: usize) -> Option<(usize, usize)>
-        ensures run { result ≡ slice_get (maximal_runs self.now) k }
-        ensures some { IfSome result (λ r. r.0 < r.1) }
-    {
-        self.head.run_at(&self.runs, k)
-    }
-
-    /// Returns whether `position` is present. smoltcp has no such call.
-    pub fn contains(&self, position: usize) -> bool
-        ensures { result ≡ contains self.now position }
-    {
-        self.head.contains(&self.runs, position)
-    }
-
-    /// Returns the maximal runs as (start, end), the end not included, in rising order.
-    ///
-    /// smoltcp's documentation says offset and size, but its code yields start and end too.
-    pub fn iter_data(&self) -> IterData<'_, N>
-        ensures runs { result ≡ maximal_runs self.now }
-        ensures bound { length result ≤ N }
-    {
-        self.head.iter_data(&self.runs)
-    }
-
-    /// Returns the hole with number `k`, counted from 0 in rising order, as (start, end), the end not
-    /// included; `None` exactly if there are no more than `k`. Holes are the missing ranges below
-    /// the end of the last run, such as those that a sender sends again. smoltcp has no such call.
-    pub fn hole_at(&self, k: usize) -> Option<(usize, usize)>
-        ensures hole { result ≡ slice_get (holes self.now) k }
-        ensures some { IfSome result (λ h. h.0 < h.1) }
-    {
-        self.head.hole_at(&self.runs, k)
-    }
-
-    /// Returns the holes as (start, end), the end not included, in rising order. smoltcp has no such
-    /// call.
-    pub fn holes(&self) -> HoleIter<'_>
-        ensures holes { result ≡ holes self.now }
-        ensures bound { length result ≤ N }
-    {
-        self.head.holes(&self.runs)
-    }
-}
-
-impl<const N: usize> PartialEq for Assembler<N> {
-    ghost use Rattle.std.specs.Cmp.{on_per, partial_equiv_from_equiv};
-    ghost use Rattle.std.specs.Cmp.Lexicographic.{nat_list_eq_equiv};
-    ghost use Rattle.net_assembler.specs.Positions.{positions, are_same};
-
-    ghost eq = { are_same };
-
-    ghost laws = { on_per positions (partial_equiv_from_equiv nat_list_eq_equiv) };
-
-    fn eq(&self, other: &Self) -> bool
-        ensures test { result ≡ are_same self.now other.now }
-        ensures same { IsTrue result ↔ (self.now ≡ other.now) }
-    {
-        self.head.is_same(&self.runs, &other.head, &other.runs)
-    }
-}
-
-impl<const N: usize> Eq for Assembler<N> {
-    ghost use Rattle.std.specs.Cmp.{on_equiv};
-    ghost use Rattle.std.specs.Cmp.Lexicographic.{nat_list_eq_equiv};
-    ghost use Rattle.net_assembler.specs.Positions.{positions};
-
-    ghost laws = { on_equiv positions nat_list_eq_equiv };
 }
 
 /// A clone always succeeds, and is the same set.

@@ -5,6 +5,5 @@ pub mod assembler;
 pub mod laws;
 
 pub use assembler::{
-    Assembler, AssemblerHead, HoleIter, IterData, Run, RunIter, TooManyHolesError,
-    Turns,
+    Assembler, AssemblerHead, HoleIter, IterData, Run, RunIter, TooManyHolesError, Turns,
 };

@@ -33,4 +33,8 @@ pub use segmentation_capabilities::SegmentationCapabilities;
 pub use tx_token::TxToken;
 
 /// The payload of each IPv4 fragment except the last is a multiple of this many bytes.
+///
+/// ```
+/// assert_eq!(net_base::phy::IPV4_FRAGMENT_PAYLOAD_ALIGNMENT, 8);
+/// ```
 pub const IPV4_FRAGMENT_PAYLOAD_ALIGNMENT: usize = 8;

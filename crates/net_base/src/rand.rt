@@ -18,6 +18,14 @@ const LAST_RESERVED_PORT: u16 = 1024;
 ///
 /// It serves for source ports and for tests. Random words are no secret: anyone who knows one state
 /// knows all that follow.
+///
+/// ```
+/// use net_base::rand::Rand;
+///
+/// let mut rand = Rand::new(1);
+/// assert_eq!(rand.rand_u32(), 0x2efcecb1);
+/// assert!(rand.rand_source_port() > 1024);
+/// ```
 #[derive(Debug, Drop)]
 pub struct Rand {
     state: u64,
@@ -37,6 +45,11 @@ impl Rand {
     const INCREMENT: u64 = 0x7590ef39;
 
     /// Returns a generator whose state is the seed. Any seed is allowed.
+    ///
+    /// ```
+    /// # use net_base::rand::Rand;
+    /// assert_eq!(Rand::new(7).rand_u32(), Rand::new(7).rand_u32());
+    /// ```
     pub const fn new(seed: u64) -> Rand
         ensures { result ≡ seed }
     {
@@ -51,6 +64,11 @@ impl Rand {
     }
 
     /// Steps to the next state, and returns its random word.
+    ///
+    /// ```
+    /// # use net_base::rand::Rand;
+    /// assert_eq!(Rand::new(0).rand_u32(), 0x3);
+    /// ```
     pub fn rand_u32(&mut self) -> u32
         ensures state { self.new ≡ successor self.old }
         ensures value { result ≡ random_word self.new }
@@ -66,6 +84,11 @@ impl Rand {
 
     /// Steps to the next state, and returns its draw of 16 bits: the two halves of its random word, combined by
     /// exclusive or.
+    ///
+    /// ```
+    /// # use net_base::rand::Rand;
+    /// assert_eq!(Rand::new(0).rand_u16(), 0x3);
+    /// ```
     pub fn rand_u16(&mut self) -> u16
         ensures state { self.new ≡ successor self.old }
         ensures value { result ≡ draw self.new }
@@ -77,6 +100,11 @@ impl Rand {
     /// Steps to the next state, and returns its random word times `bound`, divided by 2^32 and rounded down: a number
     /// below `bound`, or 0 if `bound` is 0. Each number below `bound` is the result for equally many words, or for one
     /// more. smoltcp has no such call.
+    ///
+    /// ```
+    /// # use net_base::rand::Rand;
+    /// assert_eq!(Rand::new(1).below(1_000), 183);
+    /// ```
     pub fn below(&mut self, bound: u32) -> u32
         ensures state { self.new ≡ successor self.old }
         ensures value { result ≡ random_word self.new * bound / 2 ^ 32 }
@@ -92,6 +120,11 @@ impl Rand {
     ///
     /// It returns from every state, after at most 2^64 draws: by `laws::full_period` each state
     /// leads to every state, including one whose draw is above 1024.
+    ///
+    /// ```
+    /// # use net_base::rand::Rand;
+    /// assert_eq!(Rand::new(0).rand_source_port(), 1_358);
+    /// ```
     pub fn rand_source_port(&mut self) -> u16
         ensures { IsPort self.old result self.new }
     {

@@ -41,6 +41,18 @@ pub struct PacketsOver<H, M: Storage<PacketMetadata<H>>, B: Storage<u8>> {
 /// A queue of packets over lent or owned storage.
 ///
 /// It serves sockets that send and receive whole packets, such as those of UDP and ICMP.
+///
+/// ```
+/// use net_base::storage::{Full, PacketBuffer, PacketMetadata};
+///
+/// let mut slots = [PacketMetadata::EMPTY; 4];
+/// let mut bytes = [0u8; 16];
+/// let mut queue = PacketBuffer::new(&mut slots[..], &mut bytes[..]);
+/// queue.enqueue(3, 53u16)?.copy_from_slice(b"abc");
+/// assert_eq!(queue.enqueue(14, 54), Err(Full));
+/// assert_eq!(queue.dequeue(), Ok((53, &mut b"abc"[..].to_vec()[..])));
+/// # Ok::<(), Full>(())
+/// ```
 pub type PacketBuffer<'a, H> = PacketsOver<
     H,
     ManagedSlice<'a, PacketMetadata<H>>,
@@ -94,6 +106,16 @@ impl<H, M: Storage<PacketMetadata<H>>, B: Storage<u8>> PacketsOver<H, M, B> {
     }
 
     /// Returns whether the queue has no packets.
+    ///
+    /// ```
+    /// # use net_base::storage::{PacketBuffer, PacketMetadata};
+    /// # let mut slots = [PacketMetadata::EMPTY; 4];
+    /// # let mut bytes = [0u8; 16];
+    /// # let mut queue = PacketBuffer::new(&mut slots[..], &mut bytes[..]);
+    /// assert!(queue.is_empty());
+    /// assert!(queue.enqueue(0, ()).is_ok());
+    /// assert!(!queue.is_empty());
+    /// ```
     #[inline]
     pub fn is_empty(&self) -> bool
         ensures empty { IsTrue result ↔ (contents self.now ≡ []) }
@@ -104,6 +126,15 @@ impl<H, M: Storage<PacketMetadata<H>>, B: Storage<u8>> PacketsOver<H, M, B> {
 
     /// Returns whether no slot is free. A queue that is not full still refuses a packet if there
     /// are too few free bytes, or no slot for its gap.
+    ///
+    /// ```
+    /// # use net_base::storage::{PacketBuffer, PacketMetadata};
+    /// # let mut slots = [PacketMetadata::EMPTY; 1];
+    /// # let mut bytes = [0u8; 16];
+    /// # let mut queue = PacketBuffer::new(&mut slots[..], &mut bytes[..]);
+    /// assert!(queue.enqueue(2, ()).is_ok());
+    /// assert!(queue.is_full());
+    /// ```
     #[inline]
     pub fn is_full(&self) -> bool
         ensures { result ≡ (self.now.slot_count - slots_used self.now.packets == 0) }
@@ -113,6 +144,15 @@ impl<H, M: Storage<PacketMetadata<H>>, B: Storage<u8>> PacketsOver<H, M, B> {
 
     /// Returns whether a packet of `size` bytes can be appended: whether [`PacketsOver::place`]
     /// would accept it. smoltcp has no such call.
+    ///
+    /// ```
+    /// # use net_base::storage::{PacketBuffer, PacketMetadata};
+    /// # let mut slots = [PacketMetadata::EMPTY; 4];
+    /// # let mut bytes = [0u8; 16];
+    /// # let mut queue = PacketBuffer::new(&mut slots[..], &mut bytes[..]);
+    /// assert!(queue.enqueue(3, ()).is_ok());
+    /// assert!(queue.has_room(13) && !queue.has_room(14));
+    /// ```
     #[inline]
     pub fn has_room(&self, size: usize) -> bool
         ensures { IsTrue result ↔ IsSome (placement self.now size) }
@@ -121,6 +161,13 @@ impl<H, M: Storage<PacketMetadata<H>>, B: Storage<u8>> PacketsOver<H, M, B> {
     }
 
     /// Returns the number of slots.
+    ///
+    /// ```
+    /// # use net_base::storage::{PacketBuffer, PacketMetadata};
+    /// # let mut slots = [PacketMetadata::<()>::EMPTY; 4];
+    /// # let mut bytes = [0u8; 16];
+    /// assert_eq!(PacketBuffer::new(&mut slots[..], &mut bytes[..]).packet_capacity(), 4);
+    /// ```
     #[inline]
     pub fn packet_capacity(&self) -> usize
         ensures { result ≡ self.now.slot_count }
@@ -129,6 +176,13 @@ impl<H, M: Storage<PacketMetadata<H>>, B: Storage<u8>> PacketsOver<H, M, B> {
     }
 
     /// Returns the number of bytes of the storage, used or not.
+    ///
+    /// ```
+    /// # use net_base::storage::{PacketBuffer, PacketMetadata};
+    /// # let mut slots = [PacketMetadata::<()>::EMPTY; 4];
+    /// # let mut bytes = [0u8; 16];
+    /// assert_eq!(PacketBuffer::new(&mut slots[..], &mut bytes[..]).payload_capacity(), 16);
+    /// ```
     #[inline]
     pub fn payload_capacity(&self) -> usize
         ensures { result ≡ length self.now.storage }
@@ -138,6 +192,15 @@ impl<H, M: Storage<PacketMetadata<H>>, B: Storage<u8>> PacketsOver<H, M, B> {
 
     /// Returns the number of bytes that packets take, gaps included. A call that drops the gap
     /// before the first packet lowers this number.
+    ///
+    /// ```
+    /// # use net_base::storage::{PacketBuffer, PacketMetadata};
+    /// # let mut slots = [PacketMetadata::EMPTY; 4];
+    /// # let mut bytes = [0u8; 16];
+    /// # let mut queue = PacketBuffer::new(&mut slots[..], &mut bytes[..]);
+    /// assert!(queue.enqueue(3, ()).is_ok());
+    /// assert_eq!(queue.payload_bytes_count(), 3);
+    /// ```
     #[inline]
     pub fn payload_bytes_count(&self) -> usize
         ensures { result ≡ bytes_used self.now.packets }
@@ -147,6 +210,15 @@ impl<H, M: Storage<PacketMetadata<H>>, B: Storage<u8>> PacketsOver<H, M, B> {
 
     /// Returns the number of slots used: one for each packet and one for each gap. smoltcp has no
     /// such call.
+    ///
+    /// ```
+    /// # use net_base::storage::{PacketBuffer, PacketMetadata};
+    /// # let mut slots = [PacketMetadata::EMPTY; 4];
+    /// # let mut bytes = [0u8; 16];
+    /// # let mut queue = PacketBuffer::new(&mut slots[..], &mut bytes[..]);
+    /// assert!(queue.enqueue(3, ()).is_ok());
+    /// assert_eq!(queue.slots_used(), 1);
+    /// ```
     #[inline]
     pub fn slots_used(&self) -> usize
         ensures { result ≡ slots_used self.now.packets }
@@ -171,6 +243,16 @@ impl<H, M: Storage<PacketMetadata<H>>, B: Storage<u8>> PacketsOver<H, M, B> {
     /// unspecified.
     ///
     /// In smoltcp this call is private.
+    ///
+    /// ```
+    /// # use net_base::storage::{PacketBuffer, PacketMetadata};
+    /// # let mut slots = [PacketMetadata::EMPTY; 4];
+    /// # let mut bytes = [0u8; 16];
+    /// # let mut queue = PacketBuffer::new(&mut slots[..], &mut bytes[..]);
+    /// assert!(queue.enqueue(3, ()).is_ok());
+    /// queue.reset();
+    /// assert!(queue.is_empty());
+    /// ```
     pub fn reset(&mut self)
         ensures empty { contents self.new ≡ [] }
         ensures made { self.new ≡ no_packets self.old.slot_count self.old.storage }

@@ -1,6 +1,13 @@
 //! The slots of a packet queue.
 
 /// A slot of a packet queue: size and header of a packet, or the size of a gap. A size is in bytes.
+///
+/// ```
+/// use net_base::storage::PacketMetadata;
+///
+/// let slots: [PacketMetadata<u16>; 4] = [PacketMetadata::EMPTY; 4];
+/// # assert_eq!(slots.len(), 4);
+/// ```
 #[derive(Debug, Clone, Copy, Drop)]
 pub struct PacketMetadata<H> {
     pub(crate) size: usize,
@@ -9,6 +16,12 @@ pub struct PacketMetadata<H> {
 
 impl<H> PacketMetadata<H> {
     /// A slot with no header and of size 0, to fill the storage of the slots with.
+    ///
+    /// ```
+    /// # use net_base::storage::PacketMetadata;
+    /// let slots = [PacketMetadata::<()>::EMPTY; 2];
+    /// # assert_eq!(slots.len(), 2);
+    /// ```
     pub const EMPTY: PacketMetadata<H> = PacketMetadata {
         size: 0,
         header: None,

@@ -4,6 +4,13 @@ use thiserror::Error;
 /// The error of a call that enqueues: the ring or the packet queue has no room.
 ///
 /// Its text is "buffer full".
+///
+/// ```
+/// use net_base::storage::{Full, RingBuffer};
+///
+/// let mut storage = [0u8; 0];
+/// assert_eq!(RingBuffer::new(&mut storage[..]).enqueue_one(), Err(Full));
+/// ```
 #[derive(Debug, Clone, Copy, PartialEq, Eq, Drop, Error)]
 #[error("buffer full")]
 pub struct Full;

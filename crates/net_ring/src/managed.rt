@@ -154,6 +154,15 @@ impl<T> Storage<T> for Vec<T> {
 
 /// Storage of a ring or of a packet queue: lent as a slice, or owned as a vector. So the same code
 /// works with a heap and without.
+///
+/// ```
+/// use net_base::managed::ManagedSlice;
+///
+/// let mut bytes = [1u8, 2, 3];
+/// let mut storage = ManagedSlice::from(&mut bytes[..]);
+/// storage[0] = 4;
+/// assert_eq!(&storage[..], [4, 2, 3]);
+/// ```
 #[derive(Debug, Drop)]
 pub enum ManagedSlice<'a, T> {
     /// Elements that are stored elsewhere, and lent.

@@ -41,6 +41,18 @@ pub struct RingOver<T, S: Storage<T>> {
 ///
 /// It serves as a queue, first in and first out, and as the buffer of a stream, which can be written
 /// ahead of what is queued.
+///
+/// ```
+/// use net_base::storage::RingBuffer;
+///
+/// let mut storage = [0u8; 4];
+/// let mut ring = RingBuffer::new(&mut storage[..]);
+/// assert_eq!(ring.enqueue_slice(b"abc"), 3);
+/// let mut into = [0; 2];
+/// assert_eq!((ring.dequeue_slice(&mut into), &into), (2, b"ab"));
+/// assert_eq!(ring.enqueue_slice(b"defg"), 3);
+/// assert_eq!((ring.get_allocated(0, 4), ring.get_allocated(2, 4)), (&b"cd"[..], &b"ef"[..]));
+/// ```
 pub type RingBuffer<'a, T> = RingOver<T, ManagedSlice<'a, T>>;
 
 impl<T, S: Storage<T>> Model for RingOver<T, S> {
@@ -197,6 +209,15 @@ impl<T, S: Storage<T>> RingOver<T, S> {
     }
 
     /// Empties the ring, and leaves the storage as it is.
+    ///
+    /// ```
+    /// # use net_base::storage::RingBuffer;
+    /// # let mut storage = [0u8; 4];
+    /// # let mut ring = RingBuffer::new(&mut storage[..]);
+    /// ring.enqueue_unallocated(3);
+    /// ring.clear();
+    /// assert!(ring.is_empty());
+    /// ```
     #[tactic(auto, unfolding(crate::specs::RingHistory::Makes))]
     pub fn clear(&mut self)
         ensures ring { self.new ≡ ring self.old.storage 0 0 }
@@ -207,6 +228,12 @@ impl<T, S: Storage<T>> RingOver<T, S> {
     }
 
     /// Returns how many elements the ring has room for, queued ones included.
+    ///
+    /// ```
+    /// # use net_base::storage::RingBuffer;
+    /// let mut storage = [0u8; 4];
+    /// assert_eq!(RingBuffer::new(&mut storage[..]).capacity(), 4);
+    /// ```
     #[inline]
     pub fn capacity(&self) -> usize
         ensures capacity { result ≡ capacity self.now }
@@ -217,6 +244,14 @@ impl<T, S: Storage<T>> RingOver<T, S> {
     }
 
     /// Returns how many elements are queued.
+    ///
+    /// ```
+    /// # use net_base::storage::RingBuffer;
+    /// # let mut storage = [0u8; 4];
+    /// # let mut ring = RingBuffer::new(&mut storage[..]);
+    /// ring.enqueue_unallocated(3);
+    /// assert_eq!(ring.len(), 3);
+    /// ```
     #[inline]
     pub fn len(&self) -> usize
         ensures count { result ≡ self.now.count }
@@ -227,6 +262,14 @@ impl<T, S: Storage<T>> RingOver<T, S> {
     }
 
     /// Returns how many elements can still be enqueued.
+    ///
+    /// ```
+    /// # use net_base::storage::RingBuffer;
+    /// # let mut storage = [0u8; 4];
+    /// # let mut ring = RingBuffer::new(&mut storage[..]);
+    /// ring.enqueue_unallocated(3);
+    /// assert_eq!(ring.window(), 1);
+    /// ```
     #[inline]
     pub fn window(&self) -> usize
         ensures window { result ≡ window self.now }
@@ -240,6 +283,15 @@ impl<T, S: Storage<T>> RingOver<T, S> {
     ///
     /// Into an empty ring `enqueue_many` can enqueue more, since it first moves the read index to
     /// the storage's beginning.
+    ///
+    /// ```
+    /// # use net_base::storage::RingBuffer;
+    /// # let mut storage = [0u8; 4];
+    /// # let mut ring = RingBuffer::new(&mut storage[..]);
+    /// ring.enqueue_unallocated(3);
+    /// ring.dequeue_allocated(2);
+    /// assert_eq!((ring.window(), ring.contiguous_window()), (3, 1));
+    /// ```
     pub fn contiguous_window(&self) -> usize
         ensures count { result ≡ contiguous_window self.now }
         ensures within { (result ≤ window self.now)
@@ -249,6 +301,12 @@ impl<T, S: Storage<T>> RingOver<T, S> {
     }
 
     /// Returns whether no element is queued.
+    ///
+    /// ```
+    /// # use net_base::storage::RingBuffer;
+    /// let mut storage = [0u8; 4];
+    /// assert!(RingBuffer::new(&mut storage[..]).is_empty());
+    /// ```
     #[inline]
     pub fn is_empty(&self) -> bool
         ensures count { result ≡ (self.now.count == 0) }
@@ -259,6 +317,12 @@ impl<T, S: Storage<T>> RingOver<T, S> {
     }
 
     /// Returns whether no element can be enqueued.
+    ///
+    /// ```
+    /// # use net_base::storage::RingBuffer;
+    /// let mut storage = [0u8; 0];
+    /// assert!(RingBuffer::new(&mut storage[..]).is_full());
+    /// ```
     #[inline]
     pub fn is_full(&self) -> bool
         ensures room { result ≡ (window self.now == 0) }
@@ -291,6 +355,15 @@ impl<T, S: Storage<T>> RingOver<T, S> {
 /// Emptying a ring and resetting its elements.
 impl<T: Resettable, S: Storage<T>> RingOver<T, S> {
     /// Empties the ring, and resets each element of the storage, which is left as its type states.
+    ///
+    /// ```
+    /// # use net_base::storage::{Resettable, RingBuffer};
+    /// # struct Slot(u32);
+    /// # impl Resettable for Slot { fn reset(&mut self) { self.0 = 0; } }
+    /// let mut slots = [Slot(7), Slot(8)];
+    /// RingBuffer::new(&mut slots[..]).reset();
+    /// assert_eq!((slots[0].0, slots[1].0), (0, 0));
+    /// ```
     #[tactic(auto, unfolding(crate::specs::RingHistory::Makes))]
     pub fn reset(&mut self)
         ensures ring { self.new ≡ ring self.new.storage 0 0 }

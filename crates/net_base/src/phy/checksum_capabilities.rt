@@ -6,6 +6,12 @@ use crate::phy::Checksum;
 
 /// How the stack handles the checksums of each protocol. By default it verifies and computes all of
 /// them.
+///
+/// ```
+/// # use net_base::phy::{Checksum, ChecksumCapabilities};
+/// let mut checksums = ChecksumCapabilities::default();
+/// checksums.udp = Checksum::Tx;
+/// ```
 #[derive(Debug, Clone, Default, Drop)]
 pub struct ChecksumCapabilities {
     /// Of IPv4 headers.
@@ -23,6 +29,11 @@ pub struct ChecksumCapabilities {
 impl ChecksumCapabilities {
     /// Returns the capabilities under which the stack verifies and computes no checksum of any
     /// protocol.
+    ///
+    /// ```
+    /// # use net_base::phy::ChecksumCapabilities;
+    /// assert!(!ChecksumCapabilities::ignored().tcp.rx());
+    /// ```
     pub fn ignored() -> ChecksumCapabilities
         ensures { result ≡ no_checksums }
     {

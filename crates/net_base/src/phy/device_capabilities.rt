@@ -14,6 +14,13 @@ const ETHERNET_HEADER_LEN: usize = 14;
 ///
 /// By default the medium is Ethernet, the longest frame has 0 bytes, bursts have no limit, the
 /// stack handles all checksums and the device cuts no segments.
+///
+/// ```
+/// # use net_base::phy::{DeviceCapabilities, Medium};
+/// let mut capabilities = DeviceCapabilities::default();
+/// capabilities.max_transmission_unit = 1_514;
+/// assert_eq!((capabilities.medium, capabilities.ip_mtu()), (Medium::Ethernet, 1_500));
+/// ```
 #[derive(Debug, Clone, Default, Drop)]
 pub struct DeviceCapabilities {
     /// The kind of the device's frames.
@@ -33,6 +40,11 @@ pub struct DeviceCapabilities {
 impl DeviceCapabilities {
     /// Returns whether the longest frame has room for the header of its medium, which `ip_mtu`
     /// needs.
+    ///
+    /// ```
+    /// # use net_base::phy::DeviceCapabilities;
+    /// assert!(!DeviceCapabilities::default().has_ip_mtu());
+    /// ```
     pub fn has_ip_mtu(&self) -> bool
         ensures { IsTrue result ↔ HasIpMtu self.now }
     {
@@ -43,6 +55,15 @@ impl DeviceCapabilities {
     }
 
     /// Returns the bytes of the longest IP packet: those of the longest frame, less 14 on Ethernet.
+    ///
+    /// ```
+    /// # use net_base::phy::{DeviceCapabilities, Medium};
+    /// let mut capabilities = DeviceCapabilities::default();
+    /// capabilities.max_transmission_unit = 1_500;
+    /// assert_eq!(capabilities.ip_mtu(), 1_486);
+    /// capabilities.medium = Medium::Ip;
+    /// assert_eq!(capabilities.ip_mtu(), 1_500);
+    /// ```
     ///
     /// # Requires
     ///
@@ -61,6 +82,13 @@ impl DeviceCapabilities {
 
     /// Returns whether the longest IP packet has room for an IP header of so many bytes, which
     /// `max_ipv4_fragment_size` needs.
+    ///
+    /// ```
+    /// # use net_base::phy::DeviceCapabilities;
+    /// let mut capabilities = DeviceCapabilities::default();
+    /// capabilities.max_transmission_unit = 34;
+    /// assert!(capabilities.fits_ip_header(20) && !capabilities.fits_ip_header(24));
+    /// ```
     pub fn fits_ip_header(&self, ip_header_len: usize) -> bool
         ensures { IsTrue result ↔ FitsIpHeader self.now ip_header_len }
     {
@@ -69,6 +97,14 @@ impl DeviceCapabilities {
 
     /// Returns the bytes of the longest payload of an IPv4 fragment after an IP header of so many
     /// bytes: the rest of the longest IP packet, down to a multiple of 8.
+    ///
+    /// ```
+    /// # use net_base::phy::{DeviceCapabilities, Medium};
+    /// let mut capabilities = DeviceCapabilities::default();
+    /// capabilities.medium = Medium::Ip;
+    /// capabilities.max_transmission_unit = 1_501;
+    /// assert_eq!(capabilities.max_ipv4_fragment_size(20), 1_480);
+    /// ```
     ///
     /// # Requires
     ///

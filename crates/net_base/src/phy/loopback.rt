@@ -22,6 +22,17 @@ const LONGEST_FRAME: usize = 65_535;
 /// Contracts see its medium and the list of its frames, the next first. It stores its allocator,
 /// from which `send` takes the room in its queue and the bytes of each frame. Frames of any length
 /// are sent, even those longer than the `max_transmission_unit` of its capabilities.
+///
+/// ```
+/// use net_base::phy::{Device, Loopback, Medium, RxToken, TxToken};
+/// use net_base::time::Instant;
+///
+/// let mut device = Loopback::new(Medium::Ethernet);
+/// let token = device.transmit(Instant::ZERO).expect("it always sends");
+/// token.consume(3, |frame| frame.copy_from_slice(b"abc"));
+/// let (frame, _reply) = device.receive(Instant::ZERO).expect("a frame");
+/// frame.consume(|frame| assert_eq!(frame, b"abc"));
+/// ```
 #[derive_where(Debug)]
 #[derive(Drop)]
 pub struct Loopback<A: Allocator + Copy = Global> {
@@ -40,6 +51,12 @@ impl<A: Allocator + Copy> Model for Loopback<A> {
 impl<A: Allocator + Copy> Loopback<A> {
     /// Returns a device with no frames, which stores `alloc` for those to come and takes no memory
     /// yet.
+    ///
+    /// ```
+    /// # use net_base::phy::{Device, Loopback, Medium};
+    /// # use net_base::time::Instant;
+    /// assert!(Loopback::new(Medium::Ip).receive(Instant::ZERO).is_none());
+    /// ```
     pub fn new(alloc: A, medium: Medium) -> Loopback<A>
         ensures { result ≡ record { medium = medium; frames = [] } }
     {

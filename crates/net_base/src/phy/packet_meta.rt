@@ -3,6 +3,11 @@ use crate::phy::NonZeroU16;
 
 /// The metadata of a packet, besides its bytes. By default the identifier is 0, and no segmentation
 /// is asked for.
+///
+/// ```
+/// let mut meta = net_base::phy::PacketMeta::default();
+/// meta.id = 15;
+/// ```
 #[derive(Debug, PartialEq, Eq, Hash, Clone, Copy, Default)]
 pub struct PacketMeta {
     /// The identifier that the user or the device gave to the packet.

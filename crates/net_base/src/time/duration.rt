@@ -5,17 +5,23 @@ ghost use Rattle.std.specs.Fmt.InlineText.{inline_text};
 ghost use Rattle.std.specs.Duration.{as_nanos};
 ghost use Rattle.net_base.specs.Time.{IsLength, length_millis, length_text};
 
+mod operators;
+
 use crate::time::LONGEST_TEXT;
 use std::fmt::{self, InlineText, Write};
 use std::marker::Model;
-use std::ops::{
-    Add, AddAssign, Div, DivAssign, Mul, MulAssign, Shl, ShlAssign, Shr, ShrAssign, Sub, SubAssign,
-};
 
 /// A length of time, in microseconds. By default it is zero. It serves for timeouts, and for the
 /// distance between two moments.
 ///
 /// Contracts see the microseconds, a number from 0 to 2^64 - 1. Quotients are cut to whole numbers.
+///
+/// ```
+/// use net_base::time::Duration;
+///
+/// let timeout = Duration::from_millis(13) * 22;
+/// assert_eq!((timeout.total_micros(), timeout.to_string()), (286_000, "0.286s".into()));
+/// ```
 #[derive(Debug, Default, Copy, Clone, PartialEq, Eq, PartialOrd, Ord)]
 pub struct Duration {
     micros: u64,
@@ -33,12 +39,27 @@ impl Model for Duration {
 
 impl Duration {
     /// No time.
+    ///
+    /// ```
+    /// # use net_base::time::Duration;
+    /// assert_eq!(Duration::ZERO, Duration::default());
+    /// ```
     pub const ZERO: Duration = Duration { micros: 0 };
 
     /// The greatest length, of 2^64 - 1 microseconds.
+    ///
+    /// ```
+    /// # use net_base::time::Duration;
+    /// assert_eq!(Duration::MAX.total_micros(), u64::MAX);
+    /// ```
     pub const MAX: Duration = Duration { micros: u64::MAX };
 
     /// Returns a length of so many microseconds.
+    ///
+    /// ```
+    /// # use net_base::time::Duration;
+    /// assert_eq!(Duration::from_micros(1_500).total_millis(), 1);
+    /// ```
     pub const fn from_micros(micros: u64) -> Duration
         ensures { result ≡ micros }
     {
@@ -53,6 +74,11 @@ impl Duration {
     }
 
     /// Returns a length of so many milliseconds.
+    ///
+    /// ```
+    /// # use net_base::time::Duration;
+    /// assert_eq!(Duration::from_millis(5).total_micros(), 5_000);
+    /// ```
     ///
     /// # Requires
     ///
@@ -77,6 +103,11 @@ impl Duration {
 
     /// Returns a length of so many seconds.
     ///
+    /// ```
+    /// # use net_base::time::Duration;
+    /// assert_eq!(Duration::from_secs(5).total_millis(), 5_000);
+    /// ```
+    ///
     /// # Requires
     ///
     /// So many microseconds fit 64 bits, as `fits_secs` tests.
@@ -92,6 +123,11 @@ impl Duration {
     }
 
     /// Returns the whole milliseconds beyond the whole seconds.
+    ///
+    /// ```
+    /// # use net_base::time::Duration;
+    /// assert_eq!(Duration::from_millis(4_934).millis(), 934);
+    /// ```
     pub const fn millis(&self) -> u64
         ensures { result ≡ length_millis self.now }
     {
@@ -99,6 +135,11 @@ impl Duration {
     }
 
     /// Returns the microseconds beyond the whole seconds.
+    ///
+    /// ```
+    /// # use net_base::time::Duration;
+    /// assert_eq!(Duration::from_millis(4_934).micros(), 934_000);
+    /// ```
     pub const fn micros(&self) -> u64
         ensures { result ≡ self.now % 1_000_000 }
     {
@@ -106,6 +147,11 @@ impl Duration {
     }
 
     /// Returns the whole seconds.
+    ///
+    /// ```
+    /// # use net_base::time::Duration;
+    /// assert_eq!(Duration::from_millis(4_934).secs(), 4);
+    /// ```
     pub const fn secs(&self) -> u64
         ensures { result ≡ self.now / 1_000_000 }
     {
@@ -113,6 +159,11 @@ impl Duration {
     }
 
     /// Returns the whole milliseconds.
+    ///
+    /// ```
+    /// # use net_base::time::Duration;
+    /// assert_eq!(Duration::from_micros(4_934).total_millis(), 4);
+    /// ```
     pub const fn total_millis(&self) -> u64
         ensures { result ≡ self.now / 1_000 }
     {
@@ -120,6 +171,11 @@ impl Duration {
     }
 
     /// Returns all of the microseconds.
+    ///
+    /// ```
+    /// # use net_base::time::Duration;
+    /// assert_eq!(Duration::from_millis(4).total_micros(), 4_000);
+    /// ```
     pub const fn total_micros(&self) -> u64
         ensures { result ≡ self.now }
     {
@@ -172,6 +228,11 @@ impl Duration {
     }
 
     /// Returns the sum, or `None` exactly if it is above the greatest length.
+    ///
+    /// ```
+    /// # use net_base::time::Duration;
+    /// assert_eq!(Duration::MAX.checked_add(Duration::from_micros(1)), None);
+    /// ```
     pub fn checked_add(self, rhs: Duration) -> Option<Duration>
         ensures { SomeIff result (IsLength (self + rhs)) (self + rhs) }
     {
@@ -181,6 +242,11 @@ impl Duration {
     }
 
     /// Returns the difference, or `None` exactly if `rhs` is the longer one.
+    ///
+    /// ```
+    /// # use net_base::time::Duration;
+    /// assert_eq!(Duration::ZERO.checked_sub(Duration::from_micros(1)), None);
+    /// ```
     pub fn checked_sub(self, rhs: Duration) -> Option<Duration>
         ensures { SomeIff result (rhs ≤ self) (self - rhs) }
     {
@@ -190,6 +256,11 @@ impl Duration {
     }
 
     /// Returns the product, or `None` exactly if it is above the greatest length.
+    ///
+    /// ```
+    /// # use net_base::time::Duration;
+    /// assert_eq!(Duration::MAX.checked_mul(2), None);
+    /// ```
     pub fn checked_mul(self, rhs: u32) -> Option<Duration>
         ensures { SomeIff result (IsLength (self * rhs)) (self * rhs) }
     {
@@ -199,6 +270,11 @@ impl Duration {
     }
 
     /// Returns the quotient, or `None` exactly if the divisor is 0.
+    ///
+    /// ```
+    /// # use net_base::time::Duration;
+    /// assert_eq!(Duration::MAX.checked_div(0), None);
+    /// ```
     pub fn checked_div(self, rhs: u32) -> Option<Duration>
         ensures { SomeIff result (0 < rhs) (self / rhs) }
     {
@@ -208,6 +284,11 @@ impl Duration {
     }
 
     /// Returns the sum, or the greatest length if the sum is above it.
+    ///
+    /// ```
+    /// # use net_base::time::Duration;
+    /// assert_eq!(Duration::MAX.saturating_add(Duration::from_micros(1)), Duration::MAX);
+    /// ```
     pub fn saturating_add(self, rhs: Duration) -> Duration
         ensures { result ≡ min (self + rhs) (2 ^ 64 - 1) }
     {
@@ -215,6 +296,11 @@ impl Duration {
     }
 
     /// Returns the difference, or zero if `rhs` is the longer one.
+    ///
+    /// ```
+    /// # use net_base::time::Duration;
+    /// assert_eq!(Duration::ZERO.saturating_sub(Duration::from_micros(1)), Duration::ZERO);
+    /// ```
     pub fn saturating_sub(self, rhs: Duration) -> Duration
         ensures { result ≡ self - rhs }
     {
@@ -226,6 +312,11 @@ impl Duration {
     /// ```rust
     /// self.timeout = self.timeout.saturating_mul(2);
     /// self.deadline = now.saturating_add(self.timeout);
+    /// ```
+    ///
+    /// ```
+    /// # use net_base::time::Duration;
+    /// assert_eq!(Duration::MAX.saturating_mul(2), Duration::MAX);
     /// ```
     pub fn saturating_mul(self, rhs: u32) -> Duration
         ensures { result ≡ min (self * rhs) (2 ^ 64 - 1) }
@@ -255,178 +346,6 @@ impl fmt::Display for Duration {
     fn fmt<W: fmt::Write>(&self, f: &mut fmt::Formatter<W>) -> fmt::Result {
         let text = self.text()?;
         f.write_str(text.as_str())
-    }
-}
-
-/// Returns the sum. `can_add` tells whether it is a length.
-impl Add for Duration {
-    type Output = Duration;
-
-    ghost can_add = { λ d e. IsLength (d + e) };
-
-    ghost add_gives = { λ d e r. r ≡ d + e };
-
-    fn add(self, rhs: Duration) -> Duration {
-        let fits = self.can_add(rhs);
-        prove!(fits, "attempt to add with overflow");
-        Duration {
-            micros: self.micros + rhs.micros,
-        }
-    }
-}
-
-/// Adds a length. `can_add` tells whether the sum is one.
-impl AddAssign for Duration {
-    ghost can_add_assign = { λ d e. IsLength (d + e) };
-
-    ghost add_assign_gives = { λ d e r. r ≡ d + e };
-
-    fn add_assign(&mut self, rhs: Duration) {
-        let fits = self.can_add(rhs);
-        prove!(fits, "attempt to add with overflow");
-        self.micros += rhs.micros;
-    }
-}
-
-/// Returns the difference. `can_sub` tells whether it is a length.
-impl Sub for Duration {
-    type Output = Duration;
-
-    ghost can_sub = { λ d e. e ≤ d };
-
-    ghost sub_gives = { λ d e r. r ≡ d - e };
-
-    fn sub(self, rhs: Duration) -> Duration {
-        let fits = self.can_sub(rhs);
-        prove!(fits, "overflow when subtracting durations");
-        Duration {
-            micros: self.micros - rhs.micros,
-        }
-    }
-}
-
-/// Subtracts a length. `can_sub` tells whether the difference is one.
-impl SubAssign for Duration {
-    ghost can_sub_assign = { λ d e. e ≤ d };
-
-    ghost sub_assign_gives = { λ d e r. r ≡ d - e };
-
-    fn sub_assign(&mut self, rhs: Duration) {
-        let fits = self.can_sub(rhs);
-        prove!(fits, "overflow when subtracting durations");
-        self.micros -= rhs.micros;
-    }
-}
-
-/// Returns the product. `can_mul` tells whether it is a length.
-impl Mul<u32> for Duration {
-    type Output = Duration;
-
-    ghost can_mul = { λ d k. IsLength (d * k) };
-
-    ghost mul_gives = { λ d k r. r ≡ d * k };
-
-    fn mul(self, rhs: u32) -> Duration {
-        let fits = self.can_mul(rhs);
-        prove!(fits, "attempt to multiply with overflow");
-        Duration {
-            micros: self.micros * u64::from(rhs),
-        }
-    }
-}
-
-/// Multiplies the length. `can_mul` tells whether the product is one.
-impl MulAssign<u32> for Duration {
-    ghost can_mul_assign = { λ d k. IsLength (d * k) };
-
-    ghost mul_assign_gives = { λ d k r. r ≡ d * k };
-
-    fn mul_assign(&mut self, rhs: u32) {
-        let fits = self.can_mul(rhs);
-        prove!(fits, "attempt to multiply with overflow");
-        self.micros *= u64::from(rhs);
-    }
-}
-
-/// Returns the quotient. The divisor must not be 0.
-impl Div<u32> for Duration {
-    type Output = Duration;
-
-    ghost can_div = { λ _ k. 0 < k };
-
-    ghost div_gives = { λ d k r. r ≡ d / k };
-
-    fn div(self, rhs: u32) -> Duration {
-        Duration {
-            micros: self.micros / u64::from(rhs),
-        }
-    }
-}
-
-/// Divides the length. The divisor must not be 0.
-impl DivAssign<u32> for Duration {
-    ghost can_div_assign = { λ _ k. 0 < k };
-
-    ghost div_assign_gives = { λ d k r. r ≡ d / k };
-
-    fn div_assign(&mut self, rhs: u32) {
-        self.micros /= u64::from(rhs);
-    }
-}
-
-/// Returns the low 64 bits of the microseconds, shifted left. The shift must be below 64.
-impl Shl<u32> for Duration {
-    type Output = Duration;
-
-    ghost can_shl = { λ _ k. k < 64 };
-
-    ghost shl_gives = { λ d k r. r ≡ d * 2 ^ k % 2 ^ 64 };
-
-    fn shl(self, rhs: u32) -> Duration {
-        prove!(rhs < 64, "attempt to shift left with overflow");
-        Duration {
-            micros: self.micros << rhs,
-        }
-    }
-}
-
-/// Shifts the microseconds left, and keeps the low 64 bits. The shift must be below 64.
-impl ShlAssign<u32> for Duration {
-    ghost can_shl_assign = { λ _ k. k < 64 };
-
-    ghost shl_assign_gives = { λ d k r. r ≡ d * 2 ^ k % 2 ^ 64 };
-
-    fn shl_assign(&mut self, rhs: u32) {
-        prove!(rhs < 64, "attempt to shift left with overflow");
-        self.micros <<= rhs;
-    }
-}
-
-/// Returns the microseconds, shifted right. The shift must be below 64.
-impl Shr<u32> for Duration {
-    type Output = Duration;
-
-    ghost can_shr = { λ _ k. k < 64 };
-
-    ghost shr_gives = { λ d k r. r ≡ d / 2 ^ k };
-
-    fn shr(self, rhs: u32) -> Duration {
-        prove!(rhs < 64, "attempt to shift right with overflow");
-        Duration {
-            micros: self.micros >> rhs,
-        }
-    }
-}
-
-/// Shifts the microseconds right. The shift must be below 64.
-impl ShrAssign<u32> for Duration {
-    ghost can_shr_assign = { λ _ k. k < 64 };
-
-    ghost shr_assign_gives = { λ d k r. r ≡ d / 2 ^ k };
-
-    fn shr_assign(&mut self, rhs: u32) {
-        prove!(rhs < 64, "attempt to shift right with overflow");
-        self.micros >>= rhs;
     }
 }
 

@@ -17,6 +17,14 @@ use std::ops::{Add, AddAssign, Sub, SubAssign};
 ///
 /// Contracts see the microseconds, a whole number from -2^63 to 2^63 - 1. Quotients are cut towards
 /// zero.
+///
+/// ```
+/// use net_base::time::{Duration, Instant};
+///
+/// let start = Instant::from_millis(1_500);
+/// let end = start + Duration::from_secs(2);
+/// assert_eq!((end - start, end.to_string()), (Duration::from_millis(2_000), "3.500s".into()));
+/// ```
 #[derive(Debug, Copy, Clone, PartialEq, Eq, PartialOrd, Ord)]
 pub struct Instant {
     micros: i64,
@@ -34,9 +42,19 @@ impl Model for Instant {
 
 impl Instant {
     /// The origin.
+    ///
+    /// ```
+    /// # use net_base::time::Instant;
+    /// assert_eq!(Instant::ZERO.total_micros(), 0);
+    /// ```
     pub const ZERO: Instant = Instant { micros: 0 };
 
     /// Returns the moment so many microseconds after the origin.
+    ///
+    /// ```
+    /// # use net_base::time::Instant;
+    /// assert_eq!(Instant::from_micros(1_500).total_millis(), 1);
+    /// ```
     pub fn from_micros(micros: i64) -> Instant
         ensures { result ≡ micros }
     {
@@ -45,6 +63,12 @@ impl Instant {
 
     /// Returns the same as `from_micros`. smoltcp's is a `const fn`, this one isn't: it is here for
     /// code that was written for smoltcp.
+    ///
+    /// ```
+    /// # use net_base::time::Instant;
+    /// const LATER: Instant = Instant::from_micros_const(1_500);
+    /// assert_eq!(LATER, Instant::from_micros(1_500));
+    /// ```
     pub const fn from_micros_const(micros: i64) -> Instant
         ensures { result ≡ micros }
     {
@@ -59,6 +83,11 @@ impl Instant {
     }
 
     /// Returns the moment so many milliseconds after the origin.
+    ///
+    /// ```
+    /// # use net_base::time::Instant;
+    /// assert_eq!(Instant::from_millis(-5).total_micros(), -5_000);
+    /// ```
     ///
     /// # Requires
     ///
@@ -75,6 +104,12 @@ impl Instant {
     }
 
     /// Returns the same as `from_millis`. It is no `const fn` either.
+    ///
+    /// ```
+    /// # use net_base::time::Instant;
+    /// const LATER: Instant = Instant::from_millis_const(5);
+    /// assert_eq!(LATER, Instant::from_micros(5_000));
+    /// ```
     ///
     /// # Requires
     ///
@@ -101,6 +136,11 @@ impl Instant {
 
     /// Returns the moment so many seconds after the origin.
     ///
+    /// ```
+    /// # use net_base::time::Instant;
+    /// assert_eq!(Instant::from_secs(5).total_millis(), 5_000);
+    /// ```
+    ///
     /// # Requires
     ///
     /// So many microseconds fit 64 bits with a sign, as `fits_secs` tests.
@@ -116,6 +156,11 @@ impl Instant {
     }
 
     /// Returns the whole milliseconds beyond the whole seconds, with the sign of the moment.
+    ///
+    /// ```
+    /// # use net_base::time::Instant;
+    /// assert_eq!(Instant::from_millis(5_674).millis(), 674);
+    /// ```
     pub const fn millis(&self) -> i64
         ensures { result ≡ moment_millis self.now }
     {
@@ -123,6 +168,11 @@ impl Instant {
     }
 
     /// Returns the microseconds beyond the whole seconds, with the sign of the moment.
+    ///
+    /// ```
+    /// # use net_base::time::Instant;
+    /// assert_eq!(Instant::from_millis(5_674).micros(), 674_000);
+    /// ```
     pub const fn micros(&self) -> i64
         ensures { result ≡ moment_micros self.now }
     {
@@ -130,6 +180,11 @@ impl Instant {
     }
 
     /// Returns the whole seconds since the origin.
+    ///
+    /// ```
+    /// # use net_base::time::Instant;
+    /// assert_eq!(Instant::from_millis(5_674).secs(), 5);
+    /// ```
     pub const fn secs(&self) -> i64
         ensures { result ≡ moment_secs self.now }
     {
@@ -137,6 +192,11 @@ impl Instant {
     }
 
     /// Returns the whole milliseconds since the origin.
+    ///
+    /// ```
+    /// # use net_base::time::Instant;
+    /// assert_eq!(Instant::from_micros(5_674).total_millis(), 5);
+    /// ```
     pub const fn total_millis(&self) -> i64
         ensures { result ≡ int_div self.now (pos 1_000) }
     {
@@ -144,6 +204,11 @@ impl Instant {
     }
 
     /// Returns the microseconds since the origin.
+    ///
+    /// ```
+    /// # use net_base::time::Instant;
+    /// assert_eq!(Instant::from_millis(5).total_micros(), 5_000);
+    /// ```
     pub const fn total_micros(&self) -> i64
         ensures { result ≡ self.now }
     {
@@ -165,6 +230,12 @@ impl Instant {
     }
 
     /// Returns the moment so much later, or `None` exactly if that is after the last moment.
+    ///
+    /// ```
+    /// # use net_base::time::{Duration, Instant};
+    /// let last = Instant::from_micros(i64::MAX);
+    /// assert_eq!(last.checked_add(Duration::from_micros(1)), None);
+    /// ```
     pub fn checked_add(&self, duration: Duration) -> Option<Instant>
         ensures { SomeIff result (IsMoment (self.now +ℤ pos duration)) (self.now +ℤ pos duration) }
     {
@@ -175,6 +246,12 @@ impl Instant {
     }
 
     /// Returns the moment so much earlier, or `None` exactly if that is before the first moment.
+    ///
+    /// ```
+    /// # use net_base::time::{Duration, Instant};
+    /// let first = Instant::from_micros(i64::MIN);
+    /// assert_eq!(first.checked_sub(Duration::from_micros(1)), None);
+    /// ```
     pub fn checked_sub(&self, duration: Duration) -> Option<Instant>
         ensures { SomeIff result (IsMoment (self.now -ℤ pos duration)) (self.now -ℤ pos duration) }
     {
@@ -190,6 +267,12 @@ impl Instant {
     /// self.timeout = self.timeout.saturating_mul(2);
     /// self.deadline = now.saturating_add(self.timeout);
     /// ```
+    ///
+    /// ```
+    /// # use net_base::time::{Duration, Instant};
+    /// let moment = Instant::ZERO.saturating_add(Duration::MAX);
+    /// assert_eq!(moment, Instant::from_micros(i64::MAX));
+    /// ```
     pub fn saturating_add(&self, duration: Duration) -> Instant
         ensures exact { IsMoment (self.now +ℤ pos duration) → result ≡ self.now +ℤ pos duration }
         ensures last { (IsMoment (self.now +ℤ pos duration) → ⊥) → result ≡ pos (2 ^ 63 - 1) }
@@ -201,6 +284,12 @@ impl Instant {
     }
 
     /// Returns the moment so much earlier, or the first moment if that is before it.
+    ///
+    /// ```
+    /// # use net_base::time::{Duration, Instant};
+    /// let moment = Instant::ZERO.saturating_sub(Duration::MAX);
+    /// assert_eq!(moment, Instant::from_micros(i64::MIN));
+    /// ```
     pub fn saturating_sub(&self, duration: Duration) -> Instant
         ensures exact { IsMoment (self.now -ℤ pos duration) → result ≡ self.now -ℤ pos duration }
         ensures first { (IsMoment (self.now -ℤ pos duration) → ⊥) → result ≡ negsuc (2 ^ 63 - 1) }

@@ -78,6 +78,16 @@ impl<H: Drop, M: Storage<PacketMetadata<H>>, B: Storage<u8>> PacketsOver<H, M, B
     /// Returns `Full`, drops the header and changes nothing, if there are no `size` contiguous free
     /// bytes, or no slot for the packet or its gap. If smoltcp refuses, it can leave a gap with no
     /// packet.
+    ///
+    /// ```
+    /// # use net_base::storage::{Full, PacketBuffer, PacketMetadata};
+    /// # let mut slots = [PacketMetadata::EMPTY; 4];
+    /// # let mut bytes = [0u8; 16];
+    /// # let mut queue = PacketBuffer::new(&mut slots[..], &mut bytes[..]);
+    /// queue.enqueue(3, 1)?.copy_from_slice(b"abc");
+    /// assert_eq!(queue.peek().ok(), Some((&1, &b"abc"[..])));
+    /// # Ok::<(), Full>(())
+    /// ```
     pub fn enqueue(&mut self, size: usize, header: H) -> Result<&mut [u8], Full>
         ensures* writes_back { sem 𝓛 (lends_bytes_if H.row M.row B.row M.Storage B.Storage
             self.entry result (with_last_bytes (with_packet_if_room self.old size header))) }

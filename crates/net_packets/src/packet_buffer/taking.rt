@@ -26,6 +26,17 @@ impl<H: Drop, M: Storage<PacketMetadata<H>>, B: Storage<u8>> PacketsOver<H, M, B
     /// let count = copy(into, bytes);
     /// Ok((count, *header))
     /// ```
+    ///
+    /// ```
+    /// # use net_base::storage::{Full, PacketBuffer, PacketMetadata};
+    /// # let mut slots = [PacketMetadata::EMPTY; 4];
+    /// # let mut bytes = [0u8; 16];
+    /// # let mut queue = PacketBuffer::new(&mut slots[..], &mut bytes[..]);
+    /// queue.enqueue(3, 1)?.copy_from_slice(b"abc");
+    /// assert_eq!(queue.peek(), Ok((&1, &b"abc"[..])));
+    /// assert_eq!(queue.peek(), Ok((&1, &b"abc"[..])));
+    /// # Ok::<(), Full>(())
+    /// ```
     pub fn peek(&mut self) -> Result<(&H, &[u8]), Empty>
         ensures* skips { sem 𝓛 (ends_as H.row M.row B.row M.Storage B.Storage
             self.entry (without_gap self.old)) }
@@ -110,6 +121,18 @@ impl<H: Drop, M: Storage<PacketMetadata<H>>, B: Storage<u8>> PacketsOver<H, M, B
     /// Takes the first packet and its gap off, returns its header and lends its bytes.
     ///
     /// Returns `Empty`, and changes nothing, if the queue has no packets.
+    ///
+    /// ```
+    /// # use net_base::storage::{Empty, Full, PacketBuffer, PacketMetadata};
+    /// # let mut slots = [PacketMetadata::EMPTY; 4];
+    /// # let mut bytes = [0u8; 16];
+    /// # let mut queue = PacketBuffer::new(&mut slots[..], &mut bytes[..]);
+    /// queue.enqueue(3, 1)?.copy_from_slice(b"abc");
+    /// let (header, payload) = queue.dequeue().unwrap();
+    /// assert_eq!((header, &payload[..]), (1, &b"abc"[..]));
+    /// assert_eq!(queue.dequeue(), Err(Empty));
+    /// # Ok::<(), Full>(())
+    /// ```
     pub fn dequeue(&mut self) -> Result<(H, &mut [u8]), Empty>
         ensures* writes_back { sem 𝓛 (lends_packet_if H.row M.row B.row M.Storage B.Storage
             self.entry result (with_bytes (without_first_and_gap self.old) (without_gap self.old).read_at)) }

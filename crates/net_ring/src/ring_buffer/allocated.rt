@@ -36,6 +36,14 @@ impl<T, S: Storage<T>> RingOver<T, S> {
     /// ```rust
     /// ring.get_allocated(at, 1).first().copied()
     /// ```
+    ///
+    /// ```
+    /// # use net_base::storage::RingBuffer;
+    /// # let mut storage = [0u8; 4];
+    /// # let mut ring = RingBuffer::new(&mut storage[..]);
+    /// assert_eq!(ring.enqueue_slice(b"abc"), 3);
+    /// assert_eq!((ring.get_allocated(1, 9), ring.get_allocated(4, 9)), (&b"bc"[..], &b""[..]));
+    /// ```
     pub fn get_allocated(&self, offset: usize, size: usize) -> &[T]
         ensures count { length result.now ≡ contiguous_allocated self.now offset size }
         ensures not_empty { offset < self.now.count → 0 < size → 0 < length result.now }
@@ -60,6 +68,16 @@ impl<T, S: Storage<T>> RingOver<T, S> {
     /// ```rust
     /// let (first, second) = ring.as_slices();
     /// newline_in(first, second)
+    /// ```
+    ///
+    /// ```
+    /// # use net_base::storage::RingBuffer;
+    /// # let mut storage = [0u8; 4];
+    /// # let mut ring = RingBuffer::new(&mut storage[..]);
+    /// assert_eq!(ring.enqueue_slice(b"abc"), 3);
+    /// ring.dequeue_allocated(2);
+    /// assert_eq!(ring.enqueue_slice(b"def"), 3);
+    /// assert_eq!(ring.as_slices(), (&b"cd"[..], &b"ef"[..]));
     /// ```
     pub fn as_slices(&self) -> (&[T], &[T])
         ensures queue { result.0.now ++ result.1.now ≡ queue self.now }
@@ -151,6 +169,15 @@ impl<T, S: Storage<T>> RingOver<T, S> {
     ///
     /// At least `count` elements must be queued, as `len` tells; otherwise smoltcp panics.
     ///
+    /// ```
+    /// # use net_base::storage::RingBuffer;
+    /// # let mut storage = [0u8; 4];
+    /// # let mut ring = RingBuffer::new(&mut storage[..]);
+    /// assert_eq!(ring.enqueue_slice(b"abc"), 3);
+    /// ring.dequeue_allocated(2);
+    /// assert_eq!(ring.get_allocated(0, 4), b"c");
+    /// ```
+    ///
     /// # Requires
     ///
     /// `count` is at most `len()`.
@@ -172,6 +199,15 @@ impl<T: Copy, S: Storage<T>> RingOver<T, S> {
     /// Copies as many elements of the queue as `data` has room for, from the one at `offset` on, to
     /// the beginning of `data`, and returns how many; 0 if `offset` is past the queue. The rest of
     /// `data` stays as it is, and nothing is dequeued.
+    ///
+    /// ```
+    /// # use net_base::storage::RingBuffer;
+    /// # let mut storage = [0u8; 4];
+    /// # let mut ring = RingBuffer::new(&mut storage[..]);
+    /// assert_eq!(ring.enqueue_slice(b"abc"), 3);
+    /// let mut into = *b"----";
+    /// assert_eq!((ring.read_allocated(1, &mut into), &into), (2, b"bc--"));
+    /// ```
     pub fn read_allocated(&mut self, offset: usize, data: &mut [T]) -> usize
         ensures count { result ≡ min (length «data».old) (self.old.count - offset) }
         ensures given { «data».new

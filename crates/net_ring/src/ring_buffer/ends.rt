@@ -12,6 +12,14 @@ use crate::managed::Storage;
 /// Calls that show one element of the queue. smoltcp doesn't have them; std's `VecDeque` does.
 impl<T, S: Storage<T>> RingOver<T, S> {
     /// Shows the element of the queue at `index`; `None` if there is none.
+    ///
+    /// ```
+    /// # use net_base::storage::RingBuffer;
+    /// # let mut storage = [0u8; 4];
+    /// # let mut ring = RingBuffer::new(&mut storage[..]);
+    /// assert_eq!(ring.enqueue_slice(b"abc"), 3);
+    /// assert_eq!((ring.get(0), ring.get(2), ring.get(3)), (Some(&b'a'), Some(&b'c'), None));
+    /// ```
     pub fn get(&self, index: usize) -> Option<&T>
         ensures value { option_copied result ≡ slice_get (queue self.now) index }
         ensures some { IsSome result ↔ (index < self.now.count) }
@@ -22,6 +30,14 @@ impl<T, S: Storage<T>> RingOver<T, S> {
     }
 
     /// Shows the first element of the queue, the next one to be dequeued; `None` if it is empty.
+    ///
+    /// ```
+    /// # use net_base::storage::RingBuffer;
+    /// # let mut storage = [0u8; 4];
+    /// # let mut ring = RingBuffer::new(&mut storage[..]);
+    /// assert_eq!(ring.enqueue_slice(b"abc"), 3);
+    /// assert_eq!(ring.front(), Some(&b'a'));
+    /// ```
     pub fn front(&self) -> Option<&T>
         ensures value { option_copied result ≡ slice_get (queue self.now) 0 }
         ensures some { IsSome result ↔ (0 < self.now.count) }
@@ -32,6 +48,14 @@ impl<T, S: Storage<T>> RingOver<T, S> {
     }
 
     /// Shows the last element of the queue, the one that was enqueued last; `None` if it is empty.
+    ///
+    /// ```
+    /// # use net_base::storage::RingBuffer;
+    /// # let mut storage = [0u8; 4];
+    /// # let mut ring = RingBuffer::new(&mut storage[..]);
+    /// assert_eq!(ring.enqueue_slice(b"abc"), 3);
+    /// assert_eq!(ring.back(), Some(&b'c'));
+    /// ```
     pub fn back(&self) -> Option<&T>
         ensures value { option_copied result
             ≡ slice_get (queue self.now) (length (queue self.now) - 1) }

@@ -29,6 +29,16 @@ impl<T, S: Storage<T>> RingOver<T, S> {
     /// Returns an iterator over the queue, which shows the elements in order.
     ///
     /// smoltcp has no such call; std's `VecDeque` has it.
+    ///
+    /// ```
+    /// # use net_base::storage::RingBuffer;
+    /// # let mut storage = [0u8; 4];
+    /// # let mut ring = RingBuffer::new(&mut storage[..]);
+    /// assert_eq!(ring.enqueue_slice(b"abc"), 3);
+    /// ring.dequeue_allocated(2);
+    /// assert_eq!(ring.enqueue_slice(b"def"), 3);
+    /// assert!(ring.iter().eq(b"cdef") && ring.iter().rev().eq(b"fedc"));
+    /// ```
     pub fn iter(&self) -> Iter<'_, T>
         ensures queue { result ≡ queue self.now }
         ensures count { length result ≡ self.now.count }

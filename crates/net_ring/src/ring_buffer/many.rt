@@ -23,6 +23,14 @@ impl<T, S: Storage<T>> RingOver<T, S> {
     /// the storage, even past the elements that it counted. It must count no more than the elements
     /// that it is lent.
     ///
+    /// ```
+    /// # use net_base::storage::RingBuffer;
+    /// # let mut storage = [0u8; 4];
+    /// # let mut ring = RingBuffer::new(&mut storage[..]);
+    /// assert_eq!(ring.enqueue_many_with(|free| { free[..2].copy_from_slice(b"ab"); (2, free.len()) }), (2, 4));
+    /// assert_eq!(ring.get_allocated(0, 4), b"ab");
+    /// ```
+    ///
     /// # Requires
     ///
     /// `f` may be called on the part that it is lent, and counts at most its length.
@@ -48,6 +56,14 @@ impl<T, S: Storage<T>> RingOver<T, S> {
     /// Enqueues at most `size` elements, as they are, and lends them: as many as are contiguous.
     ///
     /// An empty ring first moves its read index to the storage's beginning.
+    ///
+    /// ```
+    /// # use net_base::storage::RingBuffer;
+    /// # let mut storage = [0u8; 4];
+    /// # let mut ring = RingBuffer::new(&mut storage[..]);
+    /// ring.enqueue_many(3).copy_from_slice(b"abc");
+    /// assert_eq!(ring.enqueue_many(3).len(), 1);
+    /// ```
     pub fn enqueue_many(&mut self, size: usize) -> &mut [T]
         ensures* writes_back { sem 𝓛 (lends_many T.row S.row S.Storage self.entry
             (with_enqueued (min size (contiguous_window (rewind_if_empty self.old))) (rewind_if_empty self.old))
@@ -80,6 +96,15 @@ impl<T, S: Storage<T>> RingOver<T, S> {
     /// What `f` wrote stays in the storage. It must count no more than the elements that it is
     /// lent.
     ///
+    /// ```
+    /// # use net_base::storage::RingBuffer;
+    /// # let mut storage = [0u8; 4];
+    /// # let mut ring = RingBuffer::new(&mut storage[..]);
+    /// assert_eq!(ring.enqueue_slice(b"abc"), 3);
+    /// assert_eq!(ring.dequeue_many_with(|queued| (2, queued.len())), (2, 3));
+    /// assert_eq!(ring.get_allocated(0, 4), b"c");
+    /// ```
+    ///
     /// # Requires
     ///
     /// `f` may be called on the part that it is lent, and counts at most its length.
@@ -102,6 +127,15 @@ impl<T, S: Storage<T>> RingOver<T, S> {
     }
 
     /// Dequeues at most `size` elements, and lends them: as many as are contiguous.
+    ///
+    /// ```
+    /// # use net_base::storage::RingBuffer;
+    /// # let mut storage = [0u8; 4];
+    /// # let mut ring = RingBuffer::new(&mut storage[..]);
+    /// assert_eq!(ring.enqueue_slice(b"abc"), 3);
+    /// assert_eq!(ring.dequeue_many(2), b"ab");
+    /// assert_eq!(ring.dequeue_many(2), b"c");
+    /// ```
     pub fn dequeue_many(&mut self, size: usize) -> &mut [T]
         ensures* writes_back { sem 𝓛 (lends_many T.row S.row S.Storage self.entry
             (with_dequeued (min size (contiguous_queued self.old)) self.old)

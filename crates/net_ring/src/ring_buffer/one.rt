@@ -22,6 +22,15 @@ impl<T, S: Storage<T>> RingOver<T, S> {
     /// What `f` wrote stays in the storage in both cases. A full ring returns `Full`, stays as it
     /// is and does not call `f`.
     ///
+    /// ```
+    /// # use net_base::storage::RingBuffer;
+    /// # let mut storage = [0u8; 4];
+    /// # let mut ring = RingBuffer::new(&mut storage[..]);
+    /// assert_eq!(ring.enqueue_one_with(|byte| { *byte = 7; Ok::<_, ()>(*byte) }), Ok(Ok(7)));
+    /// assert_eq!(ring.enqueue_one_with(|_| Err::<(), _>("no")), Ok(Err("no")));
+    /// assert_eq!(ring.len(), 1);
+    /// ```
+    ///
     /// # Requires
     ///
     /// `f` may be called on the next free element, if there is one.
@@ -55,6 +64,15 @@ impl<T, S: Storage<T>> RingOver<T, S> {
     /// Enqueues the next free element, as it is, and lends it.
     ///
     /// A full ring returns `Full` and stays as it is.
+    ///
+    /// ```
+    /// # use net_base::storage::{Full, RingBuffer};
+    /// # let mut storage = [0u8; 1];
+    /// # let mut ring = RingBuffer::new(&mut storage[..]);
+    /// *ring.enqueue_one()? = 7;
+    /// assert_eq!(ring.enqueue_one(), Err(Full));
+    /// # Ok::<(), Full>(())
+    /// ```
     pub fn enqueue_one(&mut self) -> Result<&mut T, Full>
         ensures* writes_back { sem 𝓛 (lends_one_if T.row S.row S.Storage self.entry
             (with_enqueued 1 self.old) (write_at self.old) result) }
@@ -104,6 +122,16 @@ impl<T, S: Storage<T>> RingOver<T, S> {
     /// What `f` wrote stays in the storage in both cases. An empty ring returns `Empty`, stays as
     /// it is and does not call `f`.
     ///
+    /// ```
+    /// # use net_base::storage::{Empty, RingBuffer};
+    /// # let mut storage = [0u8; 4];
+    /// # let mut ring = RingBuffer::new(&mut storage[..]);
+    /// assert_eq!(ring.enqueue_slice(b"a"), 1);
+    /// assert_eq!(ring.dequeue_one_with(|_| Err::<(), _>("later")), Ok(Err("later")));
+    /// assert_eq!(ring.dequeue_one_with(|byte| Ok::<_, ()>(*byte)), Ok(Ok(b'a')));
+    /// assert_eq!(ring.dequeue_one_with(|byte| Ok::<_, ()>(*byte)), Err(Empty));
+    /// ```
+    ///
     /// # Requires
     ///
     /// `f` may be called on the first element, if there is one.
@@ -142,6 +170,15 @@ impl<T, S: Storage<T>> RingOver<T, S> {
     ///     Ok(descriptor) => Some(*descriptor),
     ///     Err(Empty) => None,
     /// }
+    /// ```
+    ///
+    /// ```
+    /// # use net_base::storage::{Empty, RingBuffer};
+    /// # let mut storage = [0u8; 4];
+    /// # let mut ring = RingBuffer::new(&mut storage[..]);
+    /// assert_eq!(ring.enqueue_slice(b"a"), 1);
+    /// assert_eq!(ring.dequeue_one(), Ok(&mut b'a'));
+    /// assert_eq!(ring.dequeue_one(), Err(Empty));
     /// ```
     pub fn dequeue_one(&mut self) -> Result<&mut T, Empty>
         ensures* writes_back { sem 𝓛 (lends_one_if T.row S.row S.Storage self.entry

@@ -20,6 +20,14 @@ impl<T: Copy, S: Storage<T>> RingOver<T, S> {
     /// let count = ring.enqueue_slice(bytes);
     /// bytes.len() - count
     /// ```
+    ///
+    /// ```
+    /// # use net_base::storage::RingBuffer;
+    /// # let mut storage = [0u8; 4];
+    /// # let mut ring = RingBuffer::new(&mut storage[..]);
+    /// assert_eq!(ring.enqueue_slice(b"abcdef"), 4);
+    /// assert_eq!(ring.get_allocated(0, 4), b"abcd");
+    /// ```
     pub fn enqueue_slice(&mut self, data: &[T]) -> usize
         ensures count { result ≡ min (length «data».now) (window self.old) }
         ensures ring { let g = rewind_if_empty self.old in self.new
@@ -42,6 +50,15 @@ impl<T: Copy, S: Storage<T>> RingOver<T, S> {
     /// ```rust
     /// ring.dequeue_slice(&mut into[..length + 1]);
     /// Some(length)
+    /// ```
+    ///
+    /// ```
+    /// # use net_base::storage::RingBuffer;
+    /// # let mut storage = [0u8; 4];
+    /// # let mut ring = RingBuffer::new(&mut storage[..]);
+    /// assert_eq!(ring.enqueue_slice(b"abc"), 3);
+    /// let mut into = *b"-----";
+    /// assert_eq!((ring.dequeue_slice(&mut into), &into), (3, b"abc--"));
     /// ```
     #[tactic(auto, unfolding(crate::specs::RingHistory::Makes))]
     pub fn dequeue_slice(&mut self, data: &mut [T]) -> usize

@@ -40,6 +40,16 @@ impl<T, S: Storage<T>> RingOver<T, S> {
     /// }
     /// ring.get_unallocated(offset, 1)[0] = byte;
     /// ```
+    ///
+    /// ```
+    /// # use net_base::storage::RingBuffer;
+    /// # let mut storage = [0u8; 4];
+    /// # let mut ring = RingBuffer::new(&mut storage[..]);
+    /// ring.get_unallocated(1, 2).copy_from_slice(b"bc");
+    /// ring.enqueue_unallocated(3);
+    /// assert_eq!(ring.get_allocated(1, 2), b"bc");
+    /// assert_eq!(ring.get_unallocated(2, 1), b"");
+    /// ```
     pub fn get_unallocated(&mut self, offset: usize, size: usize) -> &mut [T]
         ensures* writes_back { sem 𝓛 (lends_many T.row S.row S.Storage self.entry
             self.old (spare_index self.old offset) result) }
@@ -98,6 +108,14 @@ impl<T, S: Storage<T>> RingOver<T, S> {
     ///
     /// At least `count` elements must be free, as `window` tells; otherwise smoltcp panics.
     ///
+    /// ```
+    /// # use net_base::storage::RingBuffer;
+    /// # let mut storage = *b"abcd";
+    /// # let mut ring = RingBuffer::new(&mut storage[..]);
+    /// ring.enqueue_unallocated(2);
+    /// assert_eq!(ring.get_allocated(0, 4), b"ab");
+    /// ```
+    ///
     /// # Requires
     ///
     /// `count` is at most `window()`.
@@ -119,6 +137,16 @@ impl<T, S: Storage<T>> RingOver<T, S> {
 impl<T: Copy, S: Storage<T>> RingOver<T, S> {
     /// Writes as many elements of `data` as there is room for to the free elements from the one at
     /// `offset` on, and returns how many; 0 if `offset` is past the window. Nothing is enqueued.
+    ///
+    /// ```
+    /// # use net_base::storage::RingBuffer;
+    /// # let mut storage = [0u8; 4];
+    /// # let mut ring = RingBuffer::new(&mut storage[..]);
+    /// assert_eq!(ring.write_unallocated(2, b"cdef"), 2);
+    /// assert_eq!(ring.write_unallocated(0, b"ab"), 2);
+    /// ring.enqueue_unallocated(4);
+    /// assert_eq!(ring.get_allocated(0, 4), b"abcd");
+    /// ```
     #[tactic(auto, unfolding(crate::specs::RingHistory::Makes))]
     pub fn write_unallocated(&mut self, offset: usize, data: &[T]) -> usize
         ensures count { result ≡ min (length «data».now) (window self.old - offset) }

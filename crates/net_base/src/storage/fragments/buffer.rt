@@ -140,6 +140,13 @@ impl<B: Storage<u8>, const N: usize> FragmentsOver<B, N> {
     }
 
     /// Returns the number of bytes of the buffer: the size of the longest packet that fits.
+    ///
+    /// ```
+    /// # use net_base::storage::FragmentBuffer;
+    /// # use net_base::time::Instant;
+    /// # let mut bytes = [0u8; 8];
+    /// assert_eq!(FragmentBuffer::new(&mut bytes[..], Instant::ZERO).capacity(), 8);
+    /// ```
     pub fn capacity(&self) -> usize
         ensures { result ≡ length self.now.bytes }
     {
@@ -148,6 +155,15 @@ impl<B: Storage<u8>, const N: usize> FragmentsOver<B, N> {
 
     /// Returns whether no byte has arrived since the buffer was made or reset: no packet is begun. A fragment of no
     /// bytes begins none.
+    ///
+    /// ```
+    /// # use net_base::storage::FragmentBuffer;
+    /// # use net_base::time::Instant;
+    /// # let mut bytes = [0u8; 8];
+    /// # let mut buffer = FragmentBuffer::new(&mut bytes[..], Instant::ZERO);
+    /// assert!(buffer.add(2, b"").is_ok() && buffer.is_empty());
+    /// assert!(buffer.add(2, b"c").is_ok() && !buffer.is_empty());
+    /// ```
     pub fn is_empty(&self) -> bool
         ensures { IsTrue result ↔ (self.now.present ≡ nothing) }
     {
@@ -156,6 +172,14 @@ impl<B: Storage<u8>, const N: usize> FragmentsOver<B, N> {
 
     /// Returns the moment up to which the packet is waited for. It is not expired at that moment, but at each later
     /// one.
+    ///
+    /// ```
+    /// # use net_base::storage::FragmentBuffer;
+    /// # use net_base::time::Instant;
+    /// # let mut bytes = [0u8; 8];
+    /// let buffer = FragmentBuffer::new(&mut bytes[..], Instant::from_millis(5));
+    /// assert_eq!(buffer.expires_at(), Instant::from_millis(5));
+    /// ```
     pub fn expires_at(&self) -> Instant
         ensures { result ≡ self.now.expires_at }
     {
@@ -166,6 +190,16 @@ impl<B: Storage<u8>, const N: usize> FragmentsOver<B, N> {
     ///
     /// It is refused, and nothing changes, exactly if it reaches past the buffer's end, which is
     /// `TooLong`, or would leave more than `N` maximal runs. The end of an accepted fragment fits `usize`.
+    ///
+    /// ```
+    /// # use net_base::storage::{FragmentBuffer, FragmentError};
+    /// # use net_base::time::Instant;
+    /// # let mut bytes = [0u8; 8];
+    /// let mut buffer = FragmentBuffer::<1>::empty(&mut bytes[..], Instant::ZERO);
+    /// assert_eq!(buffer.add(6, b"ghi"), Err(FragmentError::TooLong));
+    /// assert_eq!(buffer.add(6, b"gh"), Ok(()));
+    /// assert_eq!(buffer.add(0, b"ab"), Err(FragmentError::TooManyHoles));
+    /// ```
     pub fn add(&mut self, offset: usize, data: &[u8]) -> Result<(), FragmentError>
         ensures ok { OnOk result (self.new ≡ with_fragment self.old offset «data».now) }
         ensures unchanged { OnErr result (self.new ≡ self.old) }
@@ -184,6 +218,16 @@ impl<B: Storage<u8>, const N: usize> FragmentsOver<B, N> {
     ///
     /// It is refused, and nothing changes, exactly if the buffer has fewer bytes, which is `TooLong`, or
     /// else if another size is known, which is `OtherSize`.
+    ///
+    /// ```
+    /// # use net_base::storage::{FragmentBuffer, FragmentError};
+    /// # use net_base::time::Instant;
+    /// # let mut bytes = [0u8; 8];
+    /// # let mut buffer = FragmentBuffer::new(&mut bytes[..], Instant::ZERO);
+    /// assert_eq!(buffer.set_total_size(9), Err(FragmentError::TooLong));
+    /// assert_eq!(buffer.set_total_size(0), Ok(()));
+    /// assert_eq!(buffer.assemble(), Some(&b""[..]));
+    /// ```
     pub fn set_total_size(&mut self, size: usize) -> Result<(), FragmentError>
         ensures ok { OnOk result (self.new ≡ record self.old { total = Some size }) }
         ensures unchanged { OnErr result (self.new ≡ self.old) }
@@ -216,6 +260,18 @@ impl<B: Storage<u8>, const N: usize> FragmentsOver<B, N> {
 
     /// Shows the bytes of the packet. `None` exactly if its size is not known or one of its bytes
     /// is missing.
+    ///
+    /// ```
+    /// # use net_base::storage::{FragmentBuffer, FragmentError};
+    /// # use net_base::time::Instant;
+    /// # let mut bytes = [0u8; 8];
+    /// # let mut buffer = FragmentBuffer::new(&mut bytes[..], Instant::ZERO);
+    /// buffer.add(0, b"abc")?;
+    /// assert_eq!(buffer.assemble(), None);
+    /// buffer.set_total_size(2)?;
+    /// assert_eq!(buffer.assemble(), Some(&b"ab"[..]));
+    /// # Ok::<(), FragmentError>(())
+    /// ```
     pub fn assemble(&self) -> Option<&[u8]>
         ensures complete { IsSome result ↔ ((size : ℕ) × IsComplete self.now size) }
         ensures bytes { IfSome result
@@ -228,6 +284,15 @@ impl<B: Storage<u8>, const N: usize> FragmentsOver<B, N> {
     }
 
     /// Returns whether `now` is after the moment up to which the packet is waited for.
+    ///
+    /// ```
+    /// # use net_base::storage::FragmentBuffer;
+    /// # use net_base::time::Instant;
+    /// # let mut bytes = [0u8; 8];
+    /// let buffer = FragmentBuffer::new(&mut bytes[..], Instant::from_millis(5));
+    /// assert!(!buffer.is_expired(Instant::from_millis(5)));
+    /// assert!(buffer.is_expired(Instant::from_micros(5_001)));
+    /// ```
     pub fn is_expired(&self, now: Instant) -> bool
         ensures { IsTrue result ↔ (self.now.expires_at <ℤ now) }
     {
@@ -235,6 +300,18 @@ impl<B: Storage<u8>, const N: usize> FragmentsOver<B, N> {
     }
 
     /// Starts over for another packet, which is waited for up to `expires_at`.
+    ///
+    /// ```
+    /// # use net_base::storage::{FragmentBuffer, FragmentError};
+    /// # use net_base::time::Instant;
+    /// # let mut bytes = [0u8; 8];
+    /// # let mut buffer = FragmentBuffer::new(&mut bytes[..], Instant::ZERO);
+    /// buffer.add(0, b"abc")?;
+    /// buffer.set_total_size(0)?;
+    /// buffer.reset(Instant::from_millis(5));
+    /// assert!(buffer.is_empty() && buffer.assemble().is_none());
+    /// # Ok::<(), FragmentError>(())
+    /// ```
     pub fn reset(&mut self, expires_at: Instant)
         ensures bytes { self.new.bytes ≡ self.old.bytes }
         ensures nothing { (self.new.present ≡ nothing) × (self.new.total ≡ None) }
