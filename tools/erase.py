@@ -168,6 +168,8 @@ class Eraser(Text):
             return self.put(head, self.next(body + 1) + 1, GONE)
         owner = self.owner[0] if k < self.owner[1] else ''
         name = f'{owner}::{self.tokens[self.next(k + 1)][1]}'.removeprefix('::')
+        if name in given.BY_HAND:
+            return self.put(head, self.group(body), GONE)
         pub = next((j for j in range(head, k) if self.tokens[j][1] == 'pub' and self.tokens[j + 1][1] != '('), None)
         if pub is not None and name.split('::')[0] in self.public:
             if re.search(r'Head\b', self.source(k, begin)):                 # a head has no guards: it stays inside

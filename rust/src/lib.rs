@@ -63,3 +63,7 @@ pub mod tcp;
 pub mod time;
 
 pub use proved::contracts;
+
+#[cfg(doctest)]
+#[doc = include_str!("../tests/refused.md")]
+struct Refused;

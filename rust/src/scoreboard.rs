@@ -1,7 +1,9 @@
 //! What a sender knows of the positions that the other end has.
+use core::fmt;
+
 use crate::proved::net_assembler::Run;
 use crate::proved::net_receiver::ScoreboardHead;
-use crate::storage::TooManyHolesError;
+use crate::storage::{Listed, TooManyHolesError};
 
 /// A scoreboard: the positions that acknowledgements and their SACK blocks report, kept as at most `N`
 /// runs, of which one may be that of what is acknowledged.
@@ -19,10 +21,19 @@ use crate::storage::TooManyHolesError;
 /// assert_eq!(scoreboard.next_hole(120, 200), Some((120, 140)));
 /// assert_eq!(scoreboard.next_hole(140, 200), Some((160, 200)));
 /// ```
-#[derive(Debug, Clone)]
+#[derive(Clone)]
 pub struct Scoreboard<const N: usize> {
     head: ScoreboardHead,
     runs: [Run; N],
+}
+
+impl<const N: usize> fmt::Debug for Scoreboard<N> {
+    fn fmt(&self, f: &mut fmt::Formatter) -> fmt::Result {
+        f.debug_struct("Scoreboard")
+            .field("first_unreported", &self.head.first_unreported(&self.runs))
+            .field("reported", &Listed(|| self.head.reported(&self.runs)))
+            .finish()
+    }
 }
 
 impl<const N: usize> Default for Scoreboard<N> {

@@ -76,14 +76,13 @@ fn texts_of_what_stores() {
     assert_eq!(fragments.add(4, b"ab"), Ok(()));
     assert_eq!(
         debug(&fragments),
-        "FragmentBuffer { capacity: 16, runs: 1, expires_at: Instant { micros: 5000000 } }"
+        "FragmentBuffer { capacity: 16, total_size: None, expires_at: Instant { micros: 5000000 } }"
     );
     let mut queue = PacketBuffer::new(&mut slots[..], &mut bytes[..]);
-    assert!(queue.enqueue(5, 1).is_ok());
+    assert!(queue.enqueue(5, 1u8).is_ok());
     assert_eq!(
         debug(&queue),
-        "PacketBuffer { metadata_ring: RingBuffer { capacity: 3, read_at: 0, length: 1 }, \
-         payload_ring: RingBuffer { capacity: 16, read_at: 0, length: 5 } }"
+        "PacketBuffer { packet_capacity: 3, slots_used: 1, payload_capacity: 16, payload_bytes_count: 5 }"
     );
     let mut receiver = FiniteReceiver::<2>::empty_at(&mut bytes[..], 100);
     assert!(receiver.segment(103, b"d", true).is_ok());

@@ -307,6 +307,56 @@
 //! # net_packets, PacketCalls
 //!
 //! ```text
+//! module _ {F H : Type 0}
+//!     (g : Once F (MutBor (List ℕ) × Unit {0}) (ℕ × (MutBor (List ℕ) × Unit {0}))) where
+//!   -- f may be called once at the bytes that a packet of s bytes is given
+//!   abbrev pub TakesRoom : F → PacketsState H → ℕ → H → Type 0
+//!   TakesRoom f q s h = (room : List ℕ) → IsRoom q s h room → FnOnceTakesAtMut g f room
+//!
+//! -- and there it returns at most s
+//! abbrev pub CountsAtMost : F → PacketsState H → ℕ → H → Type 0
+//! CountsAtMost f q s h =
+//!     (room ws : List ℕ) (k : ℕ) → IsRoom q s h room → FnOnceReturnsAtMut g f room k ws → k ≤ s
+//!
+//! -- f was lent the bytes room, wrote ws there and returned k: the first k bytes of ws were appended
+//! -- as a packet, which made r of q
+//! pub record WritesPacket (f : F) (q : PacketsState H) (s : ℕ) (h : H) (k : ℕ)
+//!     (r : PacketsState H) : Type 0 where
+//!   pub room : List ℕ
+//!   pub bytes : List ℕ
+//!   pub is_room : IsRoom q s h room
+//!   pub met : FnOnceReturnsAtMut g f room k bytes
+//!   pub size : length bytes ≡ s
+//!   pub at_most : k ≤ s
+//!   pub accepted : contents r ≡ contents q ++ ((h, take k bytes) ∷ [])
+//!   pub made : r ≡ with_last_size k (with_last_bytes (with_packet_if_room q s h) bytes)
+//!   pub call : Makes (EnqueueWith h bytes k) q r
+//!
+//! module _ {F H R E : Type 0}
+//!     (g : Once F (MutBor H × (MutBor (List ℕ) × Unit {0}))
+//!     (Result R E × (MutBor H × (MutBor (List ℕ) × Unit {0})))) where
+//!   -- f may be called once at the first packet
+//!   abbrev pub TakesFirstPacket : F → PacketsState H → Type 0
+//!   TakesFirstPacket f q = (h : H) (bytes : List ℕ) → IsFirst q h bytes → TakesPacket g f h bytes
+//!
+//! -- f was handed the first packet, overwrote its header and bytes and returned: the packet is gone
+//! -- from r if f returned `Ok`, and otherwise stays as f wrote it
+//! pub record HandsPacket (f : F) (q : PacketsState H) (answer : Result R E)
+//!     (r : PacketsState H) : Type 0 where
+//!   pub header : H
+//!   pub bytes : List ℕ
+//!   pub new_header : H
+//!   pub new_bytes : List ℕ
+//!   pub first : IsFirst q header bytes
+//!   pub gives : GivesAtPacket g f header bytes answer new_header new_bytes
+//!   pub size : length new_bytes ≡ length bytes
+//!   pub shown : contents q ≡ (header, bytes) ∷ drop 1 (contents q)
+//!   pub left : contents r
+//!       ≡ (if is_ok answer then drop 1 (contents q)
+//!       else ((new_header, new_bytes) ∷ drop 1 (contents q)))
+//!   pub made : r ≡ after_hand_out (is_ok answer) q new_header new_bytes
+//!   pub call : Makes (DequeueWith (is_ok answer) header bytes new_header new_bytes) q r
+//!
 //! -- the first of the packets ps, with the header h, is gone from rest, and as many of its bytes as xs has room for, k of
 //! -- them, were written over the first of xs, which made ys
 //! pub record CopiesOut {H : Type 0} (ps : List (H × List ℕ)) (h : H) (xs : List ℕ) (k : ℕ)

@@ -7,5 +7,4 @@ pub mod net_packets;
 pub mod net_assembler;
 pub mod net_receiver;
 pub mod net_base;
-pub mod net_sockets;
 pub mod net_tcp;

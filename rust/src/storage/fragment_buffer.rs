@@ -4,7 +4,7 @@ use core::fmt;
 use super::FragmentBuffer;
 use crate::managed::ManagedSlice;
 use crate::proved::net_ring::Storage;
-use crate::proved::net_sockets::FragmentsOver;
+use crate::proved::net_base::storage::FragmentsOver;
 use crate::time::Instant;
 
 impl<'a> FragmentBuffer<'a> {
@@ -31,7 +31,7 @@ impl<B: Storage<u8>, const N: usize> fmt::Debug for FragmentsOver<B, N> {
     fn fmt(&self, f: &mut fmt::Formatter) -> fmt::Result {
         f.debug_struct("FragmentBuffer")
             .field("capacity", &self.capacity())
-            .field("runs", &self.head.present.iter_data(&self.runs).count())
+            .field("total_size", &self.total_size())
             .field("expires_at", &self.expires_at())
             .finish()
     }

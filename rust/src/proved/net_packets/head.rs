@@ -62,7 +62,7 @@ impl PacketsHead {
     /// ensures { result ≡ packets_head (place 0 0) (place 0 0) }
     /// ```
     #[inline]
-    pub fn new() -> Self {
+    pub const fn new() -> Self {
         PacketsHead {
             slots: RingHead {
                 read_at: 0,

@@ -5,9 +5,10 @@ use crate::proved::net_packets::packet_metadata::PacketMetadata;
 use crate::proved::net_ring::{Empty, Full, ManagedSlice, Storage};
 use core::marker::PhantomData;
 
+mod closures;
 mod placing;
 mod slices;
-pub(crate) mod slots;
+mod slots;
 mod taking;
 
 /// A queue of packets over any storage: `M` has the slots and `B` the bytes. [`PacketBuffer`] is
@@ -22,9 +23,9 @@ mod taking;
 /// number of slots, the storage, the read index and the list of packets (header, size, gap)
 /// determine which packets are refused.
 pub struct PacketsOver<H, M: Storage<PacketMetadata<H>>, B: Storage<u8>> {
-    pub(crate) head: PacketsHead,
-    pub(crate) slots: M,
-    pub(crate) bytes: B,
+    head: PacketsHead,
+    slots: M,
+    bytes: B,
     headers: PhantomData<H>,
 }
 
@@ -37,7 +38,7 @@ pub type PacketBuffer<'a, H> = PacketsOver<
     ManagedSlice<'a, u8>,
 >;
 
-impl<H, M: Storage<PacketMetadata<H>>, B: Storage<u8>> PacketsOver<H, M, B> {
+impl<'a, H> PacketBuffer<'a, H> {
     /// Returns a queue with no packets, which has as many slots as `slots` has elements, and room
     /// for as many bytes as `bytes` has.
     ///
@@ -54,9 +55,28 @@ impl<H, M: Storage<PacketMetadata<H>>, B: Storage<u8>> PacketsOver<H, M, B> {
     ///
     /// ```text
     /// ensures empty { contents result ≡ [] }
+    /// ensures made { result ≡ no_packets (length (elements slots.entry)) (elements bytes.entry) }
+    /// ```
+    pub fn new<A: Into<ManagedSlice<'a, PacketMetadata<H>>>, B: Into<ManagedSlice<'a, u8>>>(slots: A, bytes: B) -> Self {
+        let slots = slots.into();
+        let bytes = bytes.into();
+        PacketsOver::over(slots, bytes)
+    }
+}
+
+impl<H, M: Storage<PacketMetadata<H>>, B: Storage<u8>> PacketsOver<H, M, B> {
+    /// Returns a queue with no packets over storages of any type. smoltcp has no such call:
+    /// [`PacketBuffer::new`] is the one for two [`ManagedSlice`].
+    ///
+    /// # Contract
+    ///
+    /// In the words of [`contracts`](crate::contracts):
+    ///
+    /// ```text
+    /// ensures empty { contents result ≡ [] }
     /// ensures made { result ≡ no_packets (length (M.elements slots)) (B.elements bytes) }
     /// ```
-    pub fn over(slots: M, bytes: B) -> Self {
+    pub const fn over(slots: M, bytes: B) -> Self {
         PacketsOver {
             head: PacketsHead::new(),
             slots,
@@ -93,6 +113,21 @@ impl<H, M: Storage<PacketMetadata<H>>, B: Storage<u8>> PacketsOver<H, M, B> {
     #[inline]
     pub fn is_full(&self) -> bool {
         self.head.slots.length == self.slots.count()
+    }
+
+    /// Returns whether a packet of `size` bytes can be appended: whether [`PacketsOver::place`]
+    /// would accept it. smoltcp has no such call.
+    ///
+    /// # Contract
+    ///
+    /// In the words of [`contracts`](crate::contracts):
+    ///
+    /// ```text
+    /// ensures { IsTrue result ↔ IsSome (placement self.now size) }
+    /// ```
+    #[inline]
+    pub fn has_room(&self, size: usize) -> bool {
+        self.placement(size).is_some()
     }
 
     /// Returns the number of slots.
@@ -204,7 +239,7 @@ impl<H, M: Storage<PacketMetadata<H>>, B: Storage<u8>> PacketsOver<H, M, B> {
     /// ensures well_placed { IsWellPlaced self.now }
     /// ```
     #[inline]
-    pub(crate) fn placement(&self, size: usize) -> Option<usize> {
+    fn placement(&self, size: usize) -> Option<usize> {
         self.head
             .placement(self.slots.count(), self.bytes.count(), size)
     }
@@ -264,7 +299,7 @@ impl<H, M: Storage<PacketMetadata<H>>, B: Storage<u8>> PacketsOver<H, M, B> {
     /// ensures well_placed { IsWellPlaced self.old }
     /// ```
     #[inline]
-    pub(crate) fn skip(&mut self) {
+    fn skip(&mut self) {
         let gap = self.first_gap();
         if gap > 0 {
             self.head.take(self.slots.count(), self.bytes.count(), gap);

@@ -1,6 +1,10 @@
-//! A packet that arrives in fragments, in parts: a head, and bytes and runs that are kept elsewhere.
+//! A packet that arrives in fragments: a buffer of its bytes and runs, and the same in parts: a head,
+//! and bytes and runs that are kept elsewhere.
 
+pub use buffer::{FragmentBuffer, FragmentsOver};
 use crate::proved::net_assembler::{AssemblerHead, Run, assembler};
+
+mod buffer;
 
 /// Why a fragment or a size is refused.
 #[derive(Debug, Clone, Copy, PartialEq, Eq)]
@@ -37,7 +41,7 @@ pub struct FragmentsHead {
 }
 
 impl FragmentsHead {
-    /// Returns the head of an empty buffer, of which a packet is waited for up to `expires_at`.
+    /// Returns the head of an empty buffer that expires after `expires_at`.
     ///
     /// # Contract
     ///
@@ -79,6 +83,21 @@ impl FragmentsHead {
     /// ```
     pub fn reset(&mut self, expires_at: i64) {
         *self = FragmentsHead::new(expires_at);
+    }
+
+    /// Returns whether the head is that of a buffer of `capacity` bytes and of these runs, for any numbers in both. It
+    /// looks at each used run.
+    ///
+    /// # Contract
+    ///
+    /// In the words of [`contracts`](crate::contracts):
+    ///
+    /// ```text
+    /// ensures { (bytes : List ℕ) → length bytes ≡ capacity →
+    ///     (IsTrue result ↔ HasSoundParts self.now bytes runs.now) }
+    /// ```
+    pub fn is_sound(&self, capacity: usize, runs: &[Run]) -> bool {
+        self.present.is_sound(runs) && (self.has_total == 0 || self.total <= capacity)
     }
 
     /// Adds a fragment, whose first byte is that of the packet at `offset`.

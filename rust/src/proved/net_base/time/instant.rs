@@ -102,7 +102,10 @@ impl Instant {
     /// ```
     #[track_caller]
     pub const fn from_millis_const(millis: i64) -> Instant {
-        assert!(Self::fits_millis(millis), "attempt to multiply with overflow");
+        assert!(
+            Self::fits_millis(millis),
+            "attempt to multiply with overflow"
+        );
         Instant {
             micros: millis * 1_000,
         }

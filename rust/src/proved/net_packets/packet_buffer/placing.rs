@@ -44,6 +44,8 @@ impl<H, M: Storage<PacketMetadata<H>>, B: Storage<u8>> PacketsOver<H, M, B> {
         let Some(place) = head.place(slot_count, capacity, size) else {
             return Err(Full);
         };
+        // The head is written last: if the drop of a header that was in a slot panics, as in Rust it
+        // may, the queue is as it was.
         write_slots(&mut self.slots, place, size, header);
         self.head = head;
         Ok(())

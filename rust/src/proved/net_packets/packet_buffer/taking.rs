@@ -104,8 +104,15 @@ impl<H, M: Storage<PacketMetadata<H>>, B: Storage<u8>> PacketsOver<H, M, B> {
     /// ensures call { (ws : List ℕ) → length ws ≡ size → Makes (WriteLastDequeued ws) self.old
     ///     (with_bytes self.old (last_dequeued_bytes_index self.old size) ws) }
     /// ```
+    #[track_caller]
     pub fn last_dequeued_mut(&mut self, size: usize) -> &mut [u8] {
-        let from = self.head.bytes.last_dequeued_index(self.bytes.count(), size);
+        let capacity = self.bytes.count();
+        assert!(
+            size <= capacity - self.head.bytes.length,
+            "the bytes are not free"
+        );
+        let from = self.head.bytes.last_dequeued_index(capacity, size);
+        assert!(size <= capacity - from, "the bytes are not contiguous");
         self.bytes.part_mut(from, from + size)
     }
 

@@ -1,9 +1,8 @@
-//! A packet that arrives in fragments.
+//! A packet that arrives in fragments, with its bytes and runs.
 
-use crate::proved::net_assembler::Run;
-pub use crate::proved::net_base::storage::FragmentError;
-use crate::proved::net_base::storage::FragmentsHead;
+use super::{FragmentError, FragmentsHead};
 use crate::proved::net_base::time::Instant;
+use crate::proved::net_assembler::Run;
 use crate::proved::net_ring::{ManagedSlice, Storage};
 
 /// A packet that arrives in fragments, in any order, as those of IPv4 do, over any storage.
@@ -14,9 +13,9 @@ use crate::proved::net_ring::{ManagedSlice, Storage};
 /// Contracts see the bytes of the storage, the set of the positions that arrived, the packet's
 /// size, once it is known, and the moment up to which the packet is waited for.
 pub struct FragmentsOver<B: Storage<u8>, const N: usize> {
-    pub(crate) head: FragmentsHead,
+    head: FragmentsHead,
     bytes: B,
-    pub(crate) runs: [Run; N],
+    runs: [Run; N],
 }
 
 /// The last moment at which the packet is waited for.
@@ -35,8 +34,11 @@ fn moment_of(head: &FragmentsHead) -> Instant {
 /// A packet that arrives in fragments, over lent or owned bytes.
 pub type FragmentBuffer<'a, const N: usize = 4> = FragmentsOver<ManagedSlice<'a, u8>, N>;
 
+impl<'a, const N: usize> FragmentBuffer<'a, N> {
+}
+
 impl<B: Storage<u8>, const N: usize> FragmentsOver<B, N> {
-    /// An empty buffer that expires after `expires_at`.
+    /// Returns an empty buffer over storage of any type, which expires after `expires_at`.
     ///
     /// # Requires, else it panics
     ///
@@ -52,8 +54,8 @@ impl<B: Storage<u8>, const N: usize> FragmentsOver<B, N> {
     /// ensures nothing { (result.present ≡ nothing) × (result.total ≡ None) }
     /// ensures expires { result.expires_at ≡ expires_at }
     /// ```
-    pub fn over(bytes: B, expires_at: Instant) -> Self {
-        const { assert!(N >= 1, "N is at least 1") };
+    pub const fn over(bytes: B, expires_at: Instant) -> Self {
+        const { assert!(N >= 1, "a buffer of fragments has at least one run") };
         FragmentsOver {
             head: FragmentsHead::new(expires_at.total_micros()),
             bytes,
@@ -75,7 +77,13 @@ impl<B: Storage<u8>, const N: usize> FragmentsOver<B, N> {
     /// requires { HasSoundParts head (B.elements bytes) runs }
     /// ensures { result ≡ fragments_of head (B.elements bytes) runs.entry }
     /// ```
+    #[track_caller]
     pub(crate) fn from_parts(head: FragmentsHead, bytes: B, runs: [Run; N]) -> Self {
+        let capacity = bytes.count();
+        assert!(
+            head.is_sound(capacity, &runs),
+            "the head is not that of these bytes and runs"
+        );
         FragmentsOver { head, bytes, runs }
     }
 
@@ -93,6 +101,24 @@ impl<B: Storage<u8>, const N: usize> FragmentsOver<B, N> {
     pub(crate) fn into_parts(self) -> (FragmentsHead, B, [Run; N]) {
         let FragmentsOver { head, bytes, runs } = self;
         (head, bytes, runs)
+    }
+
+    /// Returns the bytes, as fragments were written to them. smoltcp has no such call.
+    ///
+    /// # Contract
+    ///
+    /// In the words of [`contracts`](crate::contracts):
+    ///
+    /// ```text
+    /// ensures { B.elements result ≡ self.bytes }
+    /// ```
+    pub fn into_storage(self) -> B {
+        let FragmentsOver {
+            head: _,
+            bytes,
+            runs: _,
+        } = self;
+        bytes
     }
 
     /// Returns the number of bytes of the buffer: the size of the longest packet that fits.
