@@ -1,5 +1,5 @@
 #!/usr/bin/env python3
-"""overlay.py CHECKOUT [--into COPY] [--small] [--dry-run] [--net-base PATH]
+"""overlay.py CHECKOUT [--into COPY] [--dry-run] [--net-base PATH]
 overlay.py CHECKOUT --undo
 
 Makes `storage`, `time` and `rand` of a checkout of smoltcp 0.14.0 the proved text of net-base, so that smoltcp's sockets
@@ -7,7 +7,6 @@ and interfaces run over it. No dependency is added: `src/proved` is new, `src/st
 become what is written by hand around it, and `src/lib.rs` gets one item more.
 
 --into      changes a copy of the checkout, which is made.
---small     for less code: nothing is always inline.
 --dry-run   prints what would change.
 --net-base  the folder of net-base's Cargo.toml, if it isn't that of this script.
 --undo      puts back what was there, byte for byte, unless a file has been edited since.
@@ -18,6 +17,7 @@ a net-base that doesn't fit. Then one line says so, the status is 1, and nothing
 import argparse
 import hashlib
 import json
+import os
 import re
 import shutil
 import sys
@@ -113,8 +113,8 @@ def check(root):
         sys.exit(f"{root} isn't as smoltcp {VERSION} was released: {', '.join(edited)}")
 
 
-def proved_files(net_base, small):
-    """The files of src/proved."""
+def proved_files(net_base):
+    """The files of src/proved. What is always inline there only may be here, which is less code for firmware."""
     source, new = net_base / "src/proved", {}
     for part in PROVED:
         for path in [source / part] if part.endswith(".rs") else sorted((source / part).rglob("*.rs")):
@@ -125,8 +125,7 @@ def proved_files(net_base, small):
     for name, pattern, by, count in CHANGES:
         new[name] = changed(new.get(name, ""), pattern, by, count, f"{source / name}")
     for name, text in new.items():
-        text = text.replace("crate::rattle", "crate::proved::rattle")
-        new[name] = text.replace("#[inline(always)]", "#[inline]") if small else text
+        new[name] = text.replace("crate::rattle", "crate::proved::rattle").replace("#[inline(always)]", "#[inline]")
     new["mod.rs"] = (MODULES / "proved/mod.rs").read_text()
     return {f"src/proved/{name}": text for name, text in new.items()}
 
@@ -151,22 +150,24 @@ def other_files(root):
 def put_back(root, record):
     """Puts back what was there, as far as it was changed."""
     for name in record["now"]:
-        path, saved = root / name, root / SAVED / name
+        path, was = root / name, root / SAVED / "was" / name
         if name in record["added"]:
             path.unlink(missing_ok=True)
-        elif saved.is_file() and path.read_bytes() != saved.read_bytes():
-            shutil.copy(saved, path)
+        elif path.read_bytes() != was.read_bytes():
+            os.replace(was, path)
+            os.utime(path)
     for folder in sorted({folder for name in record["added"] for folder in Path(name).parents}, reverse=True):
         if (root / folder).is_dir() and not any((root / folder).iterdir()):
             (root / folder).rmdir()
-    shutil.rmtree(root / SAVED, ignore_errors=True)
+    shutil.rmtree(root / SAVED)
 
 
 def undo(root):
     if not (root / SAVED / "files.json").is_file():
         sys.exit(f"{root} has no overlay")
     record = json.loads(read(root / SAVED / "files.json"))
-    edited = [name for name, now in record["now"].items() if not (root / name).is_file() or digest((root / name).read_bytes()) != now]
+    there = {name: digest((root / name).read_bytes()) if (root / name).is_file() else None for name in record["now"]}
+    edited = [name for name in there if there[name] != record["now"][name]]
     if edited:
         sys.exit(f"edited since: {', '.join(edited)}; what was there is in {root / SAVED}")
     put_back(root, record)
@@ -174,21 +175,30 @@ def undo(root):
 
 
 def write(root, new):
-    record = {"added": [name for name in new if not (root / name).exists()]}
-    record["now"] = {name: digest(text.encode()) for name, text in new.items()}
+    """Writes all texts beside what is there, then moves them into place."""
+    saved, added = root / SAVED, [name for name in new if not (root / name).exists()]
+    record = {"added": added, "now": {name: digest(text.encode()) for name, text in new.items()}}
+    try:
+        for name, text in new.items():
+            for folder in ["new", "was"]:
+                (saved / folder / name).parent.mkdir(parents=True, exist_ok=True)
+            (saved / "new" / name).write_bytes(text.encode())
+            if name not in added:
+                shutil.copy(root / name, saved / "was" / name)
+                shutil.copymode(root / name, saved / "new" / name)
+        (saved / "files.json").write_text(json.dumps(record, indent=1) + "\n")
+    except OSError:
+        shutil.rmtree(saved, ignore_errors=True)
+        raise
     try:
         for name in new:
-            if name not in record["added"]:
-                (root / SAVED / name).parent.mkdir(parents=True, exist_ok=True)
-                shutil.copy(root / name, root / SAVED / name)
-        (root / SAVED / "files.json").write_text(json.dumps(record, indent=1) + "\n")
-        for name, text in new.items():
             (root / name).parent.mkdir(parents=True, exist_ok=True)
-            (root / name).write_bytes(text.encode())
+            os.replace(saved / "new" / name, root / name)
     except OSError:
         put_back(root, record)
         raise
-    print(f"{root}: {len(record['added'])} files added, {len(new) - len(record['added'])} changed; --undo puts them back")
+    shutil.rmtree(saved / "new")
+    print(f"{root}: {len(added)} files added, {len(new) - len(added)} changed; --undo puts them back")
 
 
 def main():
@@ -196,7 +206,7 @@ def main():
     parser.add_argument("checkout", type=Path)
     parser.add_argument("--into", type=Path, metavar="COPY")
     parser.add_argument("--net-base", type=Path, metavar="PATH", default=HERE.parent / "rust")
-    for flag in ["--small", "--dry-run", "--undo"]:
+    for flag in ["--dry-run", "--undo"]:
         parser.add_argument(flag, action="store_true")
     arguments = parser.parse_args()
     root = arguments.checkout
@@ -204,17 +214,27 @@ def main():
         return undo(root)
     check(root)
     # All texts are made before anything is written.
-    new = proved_files(arguments.net_base, arguments.small) | other_files(root)
+    new = proved_files(arguments.net_base) | other_files(root)
     if arguments.dry_run:
         return print("\n".join(f"{'changed' if (root / name).is_file() else 'added'}: {name}" for name in new))
-    if arguments.into:
+    if not arguments.into:
+        return write(root, new)
+    if arguments.into.exists():
+        sys.exit(f"{arguments.into} exists")
+    try:
         shutil.copytree(root, arguments.into, symlinks=True, ignore=shutil.ignore_patterns("target"))
-        root = arguments.into
-    write(root, new)
+        write(arguments.into, new)
+    except OSError:
+        shutil.rmtree(arguments.into, ignore_errors=True)
+        raise
 
 
-if __name__ == "__main__":
+def start():
     try:
         main()
     except OSError as error:
         sys.exit(f"nothing was changed: {error}")
+
+
+if __name__ == "__main__":
+    start()

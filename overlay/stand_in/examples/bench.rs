@@ -1,8 +1,12 @@
 //! bench tcp BYTES CHUNK: sends so many bytes from one TCP socket to another, so many a call.
 //! bench udp COUNT: sends so many datagrams of 100 bytes.
+//! bench asm COUNT PLACES: adds so many ranges of 100 bytes to an assembler, each at one of so many places: of two, the
+//! second and then the first; of more, any.
+//! bench sizes: the bytes of a ring, a packet queue, an assembler and a TCP socket.
 use smoltcp::iface::{Config, Interface, SocketHandle, SocketSet};
 use smoltcp::phy::{Device, DeviceCapabilities, Medium, RxToken, TxToken};
 use smoltcp::socket::{tcp, udp};
+use smoltcp::storage::Assembler;
 use smoltcp::time::{Duration, Instant};
 use smoltcp::wire::{IpAddress, IpEndpoint};
 use std::cell::RefCell;
@@ -107,10 +111,28 @@ impl<'w> Host<'w> {
     }
 }
 
+fn assemble(count: usize, places: usize) {
+    let (mut assembler, mut word, mut sum) = (Assembler::new(), 1u64, 0);
+    for at in 0..count {
+        word = word.wrapping_mul(6364136223846793005).wrapping_add(1442695040888963407);
+        let place = if places == 2 { (at + 1) % 2 } else { (word >> 33) as usize % places };
+        sum += assembler.add_then_remove_front(100 * place, 100).unwrap_or(1);
+    }
+    println!("{sum}");
+}
+
 fn main() {
     let words: Vec<String> = std::env::args().collect();
     let number = |at: usize| words.get(at).map_or(1000, |word| word.parse::<usize>().unwrap());
     let (tcp, total, chunk) = (words[1] == "tcp", number(2), number(3));
+    if words[1] == "asm" {
+        return assemble(total, chunk);
+    }
+    if words[1] == "sizes" {
+        let ring = size_of::<tcp::SocketBuffer>();
+        let (queue, assembler) = (size_of::<udp::PacketBuffer>(), size_of::<Assembler>());
+        return println!("{ring} {queue} {assembler} {}", size_of::<tcp::Socket>());
+    }
     let wires = [(); 2].map(|_| RefCell::new(Wire { frames: [(0, [0; 1500]); 8], from: 0, count: 0 }));
     let mut here = Host::new(End { out: &wires[0], into: &wires[1] }, 1, 2, &words[1]);
     let mut there = Host::new(End { out: &wires[1], into: &wires[0] }, 2, 1, &words[1]);

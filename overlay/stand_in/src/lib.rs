@@ -1,4 +1,5 @@
-//! A stand-in of smoltcp: its own storage, time, phy and rand, and stand-ins of the layers above.
+//! A stand-in of smoltcp, written from memory: layers above `storage`, `time` and `rand` that call them as smoltcp's do.
+//! Of these three there is as much here as `overlay.py` looks for; smoltcp's own are put over them where there is a checkout.
 #![cfg_attr(not(any(test, feature = "std")), no_std)]
 #![deny(unsafe_code)]
 #![cfg_attr(
@@ -38,8 +39,6 @@ pub mod config {
 #[macro_use]
 mod macros;
 mod rand;
-#[cfg(test)]
-mod tests;
 
 pub mod iface;
 pub mod phy;

@@ -1,0 +1,86 @@
+#!/usr/bin/env python3
+"""SMOLTCP=path [RUST_KIT=folder] python3 overlay/costs.py
+
+Prints what the overlay costs, beside smoltcp of the checkout that SMOLTCP names, both below the layers of `stand_in`:
+instructions, counted by valgrind, of `examples/bench.rs` in cargo's release profile, and the bytes of code of `no_std` at
+opt-level "s". The Cortex-M4's are there if RUST_KIT names the folder that `sh rust/targets.sh FOLDER` fills.
+"""
+import os
+import re
+import shutil
+import subprocess
+import sys
+import tempfile
+from pathlib import Path
+
+import test
+
+THUMB = "thumbv7em-none-eabihf"
+CALLS = [
+    ("instructions for 1,000 bytes of TCP, 1,000 a call", "tcp {} 1000", 100_000, 500_000, 1000),
+    ("the same, 100 a call", "tcp {} 100", 100_000, 500_000, 1000),
+    ("the same, 10 a call", "tcp {} 10", 100_000, 300_000, 1000),
+    ("for a datagram of 100 bytes", "udp {}", 1000, 5000, 1),
+    ("for a segment in the assembler, in order", "asm {} 1", 1000, 21_000, 1),
+    ("the second of two first", "asm {} 2", 1000, 21_000, 1),
+    ("at any of 8 places", "asm {} 8", 1000, 21_000, 1),
+]
+
+
+def instructions(tests, checkout, words):
+    program = tests.folder / "target" / checkout / "release/examples/bench"
+    words = ["valgrind", "--tool=callgrind", "--callgrind-out-file=/dev/null", program, *words.split()]
+    return int(re.search(r"Collected : (\d+)", subprocess.run(words, capture_output=True, text=True, check=True).stderr)[1])
+
+
+def text(tests, checkout, target, linker):
+    """Bytes of code that `entry` reaches."""
+    shutil.rmtree(tests.folder / "no_std", ignore_errors=True)
+    shutil.copytree(test.HERE / "no_std", tests.folder / "no_std", ignore=shutil.ignore_patterns("target", "Cargo.lock"))
+    manifest = tests.folder / "no_std/Cargo.toml"
+    manifest.write_text(manifest.read_text().replace("../stand_in", f"../{checkout}"))
+    variables = {"CARGO_TARGET_DIR": str(tests.folder / "target/no_std" / checkout)}
+    words = "build -q --release --ignore-rust-version"
+    if target:
+        variables["RUSTC"] = tests.compiler()
+        words += f" --target {target}"
+    tests.cargo("no_std", words, variables)
+    library = Path(variables["CARGO_TARGET_DIR"]) / target / "release/libno_std.a"
+    out = tests.folder / "no_std/linked"
+    flags = ["--gc-sections", "-e", "entry", "--unresolved-symbols=ignore-all", "-static", "-o", out, library]
+    subprocess.run([f"{linker}ld", *flags], check=True)
+    sections = subprocess.run([f"{linker}size", "-A", out], capture_output=True, text=True, check=True).stdout
+    return sum(int(bytes) for bytes in re.findall(r"^\.text\S*\s+(\d+)", sections, flags=re.M))
+
+
+def rows(tests):
+    tests.made(tests.folder / "original", "--into", tests.folder / "overlaid")
+    sides = ["original", "overlaid"]
+    for checkout in sides:
+        tests.cargo(checkout, "build -q --release --example bench")
+    for what, words, few, many, unit in CALLS:
+        counts = [[instructions(tests, side, words.format(count)) for count in [few, many]] for side in sides]
+        yield what, [(after - before) * unit / (many - few) for before, after in counts]
+    yield 'bytes of code without std, x86-64, "s"', [text(tests, side, "", "") for side in sides]
+    if os.environ.get("RUST_KIT") and shutil.which("arm-none-eabi-ld"):
+        yield 'Cortex-M4, "s"', [text(tests, side, THUMB, "arm-none-eabi-") for side in sides]
+    sizes = [map(int, tests.program(side, "bench", "sizes", "release").split()) for side in sides]
+    names = ["bytes of a ring", "of a packet queue", "of an assembler", "of a TCP socket"]
+    yield from zip(names, zip(*sizes))
+
+
+def main():
+    if not os.environ.get("SMOLTCP") or not shutil.which("valgrind"):
+        print("costs: not run: it wants SMOLTCP, the folder of a checkout of smoltcp 0.14.0, and valgrind", file=sys.stderr)
+        sys.exit(2)
+    with tempfile.TemporaryDirectory() as folder:
+        tests = test.Tests(Path(folder).resolve(), Path(os.environ["SMOLTCP"]).resolve())
+        print("| Over the stand-in | smoltcp | overlay | ratio |\n|---|---:|---:|---:|")
+        for what, (theirs, ours) in rows(tests):
+            print(f"| {what} | {theirs:.0f} | {ours:.0f} | {ours / theirs:.3f} |", flush=True)
+    lines = [line for path in (test.HERE / "modules").rglob("*.rs") for line in path.read_text().splitlines()]
+    print(f"\nLines of code by hand: {sum(not re.match(r' *(//|$)', line) for line in lines)}")
+
+
+if __name__ == "__main__":
+    main()

@@ -1,0 +1,344 @@
+#!/usr/bin/env python3
+"""[SMOLTCP=path] [RUST_KIT=folder] python3 overlay/test.py [--record]
+
+Tests overlay.py and what it makes of a checkout. The layers above are those of `stand_in`. SMOLTCP names the folder of a
+checkout of smoltcp 0.14.0, whose `storage`, `time` and `rand` are put below them; then its own tests run too, and what is
+printed over the overlay is compared with what is printed over smoltcp, its two mended faults aside. Without it, digests of
+what smoltcp printed are compared (`expected.txt`, which --record writes), and the status is 2 if nothing else is wrong.
+RUST_KIT names the folder that `sh rust/targets.sh FOLDER` fills: a compiler for ARMv7, if `rustc` is none.
+"""
+import argparse
+import hashlib
+import os
+import re
+import resource
+import shutil
+import subprocess
+import sys
+import tempfile
+from pathlib import Path
+
+HERE = Path(__file__).resolve().parent
+FILES = ["storage/mod.rs", "storage/assembler.rs", "storage/packet_buffer.rs", "storage/ring_buffer.rs", "time.rs", "rand.rs"]
+SMALL = "--no-default-features --features medium-ip,proto-ipv4,socket-tcp"
+FEATURES = [
+    SMALL,
+    "--no-default-features --features medium-ip,proto-ipv6,socket-udp,alloc",
+    "--no-default-features --features medium-ethernet,proto-ipv4,proto-ipv4-fragmentation,socket-tcp,socket-udp,async",
+    "--no-default-features --features medium-ieee802154,proto-ipv6,socket-icmp",
+    "--no-default-features --features medium-ethernet,medium-ip,medium-ieee802154,socket-raw,socket-dns,socket-dhcpv4,defmt",
+    "--no-default-features --features std,medium-ip,proto-ipv4-fragmentation,packetmeta-id,socket-tcp,socket-udp",
+    "--features defmt",
+    "--features log,verbose",
+    f"{SMALL},assembler-max-segment-count-8,defmt",
+]
+API = ["", "--features defmt", f"{SMALL},assembler-max-segment-count-8,defmt"]
+
+# Edits of smoltcp's text that mend the two faults of its packet queue: a refusal leaves a gap, and a queue without bytes
+# isn't rewound.
+FULL = "if self.payload_ring.capacity() < max_size || self.metadata_ring.is_full() {\n            return Err(Full);\n        }\n"
+MENDED = [
+    ("if window - contig_window < size {", "if window - contig_window < size || self.metadata_ring.window() < 2 {"),
+    ("if window - contig_window < max_size {", "if window - contig_window < max_size || self.metadata_ring.window() < 2 {"),
+    (FULL, f"{FULL}        if self.payload_ring.is_empty() {{\n            self.payload_ring.clear();\n        }}\n"),
+]
+
+# Faults of what is written by hand: a file, what is there, what is put there. Random calls show each.
+FAULTS = [
+    ("proved/net_ring/managed.rs", "&self[from..to]", "&self[from..to.max(from + 1) - 1]"),
+    ("proved/net_ring/managed.rs", "&mut self[from..to]", "&mut self[..to - from]"),
+    ("proved/net_ring/managed.rs", "&mut self[at]", "&mut self[at / 2]"),
+    ("proved/net_ring/managed.rs", "&self[at]", "&self[at / 2]"),
+    ("storage/assembler.rs", "runs: self.runs,", "runs: Runs::<N>::empty().runs,"),
+    ("storage/assembler.rs", "from = end;\n            Contig", "from = start;\n            Contig"),
+    ("storage/packet_buffer.rs", "&Shown(&self.bytes, self.head.bytes)", "&Shown(&self.bytes, self.head.slots)"),
+    ("time.rs", "val.total_micros() as", "val.total_millis() as"),
+]
+
+
+def stop(text):
+    sys.exit(f"overlay: {text}")
+
+
+def tree(folder):
+    """Each file of a folder, and a digest of its bytes."""
+    files = [path for path in folder.rglob("*") if path.is_file()]
+    return {path.relative_to(folder): hashlib.sha256(path.read_bytes()).hexdigest() for path in files}
+
+
+class Tests:
+    def __init__(self, folder, smoltcp):
+        self.folder, self.smoltcp, self.refusals = folder, smoltcp, 0
+        shutil.copytree(HERE / "vendor", folder / "vendor")
+        shutil.copytree(HERE / "stand_in", folder / "original", ignore=shutil.ignore_patterns("target", "Cargo.lock"))
+        for file in FILES if smoltcp else []:
+            shutil.copy(smoltcp / "src" / file, folder / "original/src" / file)
+        # A user who isn't root reads this copy.
+        for part in ["overlay/overlay.py", "overlay/modules", "rust/Cargo.toml", "rust/src"]:
+            (folder / "net-base" / part).parent.mkdir(parents=True, exist_ok=True)
+            copy = shutil.copytree if (HERE.parent / part).is_dir() else shutil.copy
+            copy(HERE.parent / part, folder / "net-base" / part)
+        # The stand-in's own files have digests of their own.
+        script = "import overlay; "
+        if not smoltcp:
+            script += "from pathlib import Path; source = Path(%r); " % str(folder / "original")
+            script += "overlay.DIGESTS = {name: overlay.digest(overlay.parts(overlay.read(source / name))[0].encode()) for name in overlay.DIGESTS}; "
+        self.script_text = script
+
+    def overlay(self, *words, nobody=False, **options):
+        user = "import locale, os; os.geteuid() or os.setuid(65534); " if nobody else ""
+        words = [sys.executable, "-B", "-c", f"{self.script_text}{user}overlay.start()", *map(str, words)]
+        return subprocess.run(words, cwd=self.folder / "net-base/overlay", capture_output=True, text=True, **options)
+
+    def made(self, *words):
+        done = self.overlay(*words)
+        if done.returncode:
+            stop(f"{words}: {done.stderr}")
+        return done.stdout
+
+    def copy(self, name, source="original"):
+        shutil.rmtree(self.folder / name, ignore_errors=True)
+        return Path(shutil.copytree(self.folder / source, self.folder / name))
+
+    def refused(self, what, words, **options):
+        """What is refused by one line and status 1, and changes nothing."""
+        self.refusals += 1
+        before = tree(self.folder)
+        done = self.overlay(*words, **options)
+        if done.returncode != 1 or done.stdout or not re.fullmatch(rf"[^\n]*{what}[^\n]*\n", done.stderr):
+            stop(f"{what} {words}: status {done.returncode}, {done.stdout}{done.stderr}")
+        if tree(self.folder) != before:
+            stop(f"{what} {words}: something was changed")
+
+    def script(self):
+        """The script: what it makes, takes back and refuses."""
+        original, before = self.folder / "original", tree(self.folder / "original")
+        listed = self.made(original, "--dry-run").splitlines()
+        self.made(original, "--into", self.folder / "overlaid")
+        if tree(original) != before:
+            stop("--dry-run or --into changed the checkout")
+        after = tree(self.folder / "overlaid")
+        differ = {str(path) for path in after if before.get(path) != after[path] and path.parts[0] == "src"}
+        if differ != {line.split(": ")[1] for line in listed} or set(before) - set(after):
+            stop("--dry-run doesn't list what is changed")
+        checkout = self.copy("checkout")
+        self.refused("has no overlay", [checkout, "--undo"])
+        for _ in range(2):
+            self.made(checkout)
+            if tree(checkout) != after:
+                stop("an overlay in place isn't that of a copy")
+            self.refused("has an overlay already", [checkout])
+            self.made(checkout, "--undo")
+            if tree(checkout) != before or [path for path in checkout.rglob("*") if path.is_dir() and not any(path.iterdir())]:
+                stop("--undo doesn't give back what was there")
+        self.refused("checkout exists", [original, "--into", checkout])
+        self.refused("has no Cargo.toml of smoltcp", [self.folder / "none"])
+        self.refused("has no Cargo.toml of smoltcp", [self.folder / "vendor/managed"])
+        edits = [
+            ("is smoltcp 0.13.0", "Cargo.toml", 'version = "0.14.0"', 'version = "0.13.0"'),
+            ("0.14.0 was released: src/time.rs", "src/time.rs", "use core::", "use  core::"),
+            ("0.14.0 was released: src/rand.rs", "src/rand.rs", "\n", "\n\x80"),
+            ("src/lib.rs doesn't fit", "src/lib.rs", "mod rand;", "pub mod rand;"),
+        ]
+        for what, file, old, new in edits:
+            path = self.copy("checkout") / file
+            path.write_bytes(path.read_bytes().replace(old.encode(), new.encode("latin-1"), 1))
+            self.refused(re.escape(what), [checkout])
+        checkout = self.copy("checkout")
+        self.refused("isn't the folder of net-base's Cargo.toml", [checkout, "--net-base", self.folder])
+        other = self.folder / "other"
+        shutil.copytree(self.folder / "net-base/rust", other)
+        path = other / "src/proved/net_ring/error.rs"
+        path.write_text(path.read_text().replace("struct Full", "struct  Full"))
+        self.refused("error.rs doesn't fit", [checkout, "--net-base", other])
+        path.unlink()
+        self.refused("error.rs doesn't fit", [checkout, "--net-base", other])
+        self.made(checkout)
+        path = checkout / "src/proved/net_ring/head.rs"
+        path.write_text(path.read_text() + "\n")
+        self.refused("edited since: src/proved/net_ring/head.rs", [checkout, "--undo"])
+        path.unlink()
+        self.refused("edited since: src/proved/net_ring/head.rs", [checkout, "--undo"])
+        checkout = self.copy("checkout")
+        limit = lambda: resource.setrlimit(resource.RLIMIT_FSIZE, (8000, 8000))
+        self.refused("nothing was changed: .*File too large", [checkout], preexec_fn=limit)
+        self.refused("nothing was changed: .*File too large", [original, "--into", self.folder / "none"], preexec_fn=limit)
+        for path in [checkout, *checkout.rglob("*")]:
+            path.chmod(0o777 if path.is_dir() else 0o666)
+        for name in ["src/storage", "src", ""]:
+            (checkout / name).chmod(0o555)
+            self.refused("nothing was changed: .*Permission denied", [checkout], nobody=True)
+            (checkout / name).chmod(0o777)
+        print(f"script: {len(listed)} files; made, listed, taken back, and {self.refusals} refusals, which change nothing")
+
+    def cargo(self, checkout, words, variables=(), check=True):
+        environment = os.environ | {"CARGO_TARGET_DIR": str(self.folder / "target" / checkout), "CARGO_NET_OFFLINE": "true"}
+        words = ["cargo", *words.split()]
+        done = subprocess.run(words, cwd=self.folder / checkout, env=environment | dict(variables), capture_output=True, text=True)
+        if check and done.returncode:
+            stop(f"{checkout}: {' '.join(words)}\n{done.stdout[-3000:]}{done.stderr[-3000:]}")
+        return done
+
+    def program(self, checkout, name, words, profile="debug", target=""):
+        path = self.folder / "target" / checkout / target / profile / "examples" / name
+        runner = ["qemu-arm-static"] if target else []
+        return subprocess.run([*runner, path, *words.split()], capture_output=True, text=True, check=True).stdout
+
+    def printed(self, checkout):
+        """What the programs print over a checkout, with so many runs, in debug and in release builds."""
+        texts = {}
+        for count in [1, 2, 4, 8, 32]:
+            words = "" if count in (2, 4) else f"--features assembler-max-segment-count-{count}"
+            variables = {"SMOLTCP_ASSEMBLER_MAX_SEGMENT_COUNT": "2"} if count == 2 else {}
+            self.cargo(checkout, f"build -q --example run --example calls {words}", variables)
+            texts[f"run, {count} runs"] = self.program(checkout, "run", "")
+            texts[f"calls, {count} runs"] = self.program(checkout, "calls", "0 100")
+        self.cargo(checkout, "build -q --release --example run")
+        texts["run, release"] = self.program(checkout, "run", "", "release")
+        self.cargo(checkout, "build -q --profile checked --example calls")
+        texts["calls"] = self.program(checkout, "calls", "0 3000", "checked")
+        return texts
+
+    def compiler(self):
+        """The compiler for other processors."""
+        kit = os.environ.get("RUST_KIT")
+        if not kit:
+            return "rustc"
+        path, libraries = self.folder / "rustc", [f"{kit}/usr/lib/x86_64-linux-gnu", f"{kit}/usr/lib", f"{kit}/usr/lib/llvm-19/lib"]
+        path.write_text(f'#!/bin/sh\nLD_LIBRARY_PATH={":".join(libraries)} exec "{kit}/usr/bin/rustc" --sysroot "{kit}/usr" "$@"\n')
+        path.chmod(0o755)
+        return str(path)
+
+    def armv7(self, ours):
+        """The same texts on 32 bits, if there is a compiler and an emulator."""
+        target, compiler = "armv7-unknown-linux-gnueabihf", self.compiler()
+        library = subprocess.run([compiler, "--print", "target-libdir", "--target", target], capture_output=True, text=True)
+        for what, is_there in [
+            (f"std for {target}", any(Path(library.stdout.strip() or "none").glob("libstd*"))),
+            ("arm-linux-gnueabihf-gcc", shutil.which("arm-linux-gnueabihf-gcc")),
+            ("qemu-arm-static", shutil.which("qemu-arm-static")),
+        ]:
+            if not is_there:
+                return print(f"ARMv7: not run: no {what}")
+        variables = {
+            "RUSTC": compiler,
+            "CARGO_TARGET_ARMV7_UNKNOWN_LINUX_GNUEABIHF_LINKER": "arm-linux-gnueabihf-gcc",
+            "CARGO_TARGET_ARMV7_UNKNOWN_LINUX_GNUEABIHF_RUSTFLAGS": "-C target-feature=+crt-static",
+        }
+        self.cargo("overlaid", f"build -q --ignore-rust-version --target {target} --example run --example calls", variables)
+        for name, words in [("run", ""), ("calls", "0 100")]:
+            if self.program("overlaid", name, words, target=target) != ours[f"{name}, 4 runs"]:
+                stop(f"ARMv7: {name} prints something else")
+        print("ARMv7: the same texts, where usize has 32 bits")
+
+    def never(self):
+        """A timeout or a keep-alive of a length that has no sum is none."""
+        self.cargo("overlaid", "build -q --example never")
+        lines = self.program("overlaid", "never", "").splitlines()
+        if [line for line in lines[:6] if not line.endswith(": Established, sent 0")] or "Closed" not in lines[6]:
+            stop("\n".join(lines))
+        print("timeouts: the longest lengths are never")
+
+    def compiles(self):
+        """Each visible item, in three sets of features; and each set compiles, with no more warnings."""
+        for checkout in ["original", "overlaid"] if self.smoltcp else ["overlaid"]:
+            with (self.copy("api", checkout) / "src/lib.rs").open("a") as file:
+                file.write(f'#[path = "{HERE / "api_check.rs"}"]\nmod api_check;\n')
+            for words in API:
+                self.cargo("api", f"check -q --lib {words}")
+        for words in FEATURES:
+            warnings = self.cargo("overlaid", f"check -q --lib {words}").stderr.count("warning")
+            if self.smoltcp and warnings > self.cargo("original", f"check -q --lib {words}").stderr.count("warning"):
+                stop(f"{words}: a new warning")
+        print(f"items: each visible one, in {len(API)} sets of features; {len(FEATURES)} sets compile")
+
+    def shadowed(self):
+        """The methods that the proved types have and smoltcp's hadn't: none is one of a trait's that Rust imports, or derives."""
+        traits = "add sub mul div shl shr add_assign sub_assign mul_assign div_assign shl_assign shr_assign eq ne cmp partial_cmp lt le gt ge "
+        traits += "min max clamp clone clone_from into try_into to_string to_owned borrow borrow_mut as_ref as_mut hash fmt deref deref_mut drop "
+        traits += "next into_iter type_id"
+        names = set()
+        for path in (self.folder / "overlaid/src/proved").rglob("*.rs"):
+            for body in re.findall(r"^impl\b(?![^{]* for )[^{]*\{\n.*?^\}$", path.read_text(), flags=re.M | re.S):
+                names |= set(re.findall(r"^    pub (?:const )?fn (\w+)", body, flags=re.M))
+        known = {"add"}  # of Assembler: smoltcp's too
+        if names & set(traits.split()) - known:
+            stop(f"methods shadow those of traits: {names & set(traits.split()) - known}")
+        print(f"methods: of {len(names)} names none is one of a trait's that is always in scope")
+
+    def own_tests(self):
+        texts = [(self.folder / "original/src" / file).read_text() for file in FILES]
+        count = sum(text.count("#[test]") for text in texts)
+        done = self.cargo("overlaid", "test -q --lib")
+        passed = int(re.search(r"(\d+) passed; 0 failed", done.stdout)[1])
+        if passed <= count or (self.smoltcp and not count):
+            stop(f"{passed} tests passed, smoltcp has {count}")
+        print(f"tests: smoltcp's {count} and {passed - count} of the stand-in, passed")
+
+    def faults(self, good):
+        good = "".join(good.splitlines(keepends=True)[:1500])
+        self.copy("faulty", "overlaid")
+        for file, old, new in FAULTS:
+            path = self.folder / "faulty/src" / file
+            text = path.read_text()
+            if text.count(old) != 1:
+                stop(f"a fault: {file} has {text.count(old)} times {old}")
+            path.write_text(text.replace(old, new))
+            self.cargo("faulty", "build -q --profile checked --example calls")
+            if self.program("faulty", "calls", "0 300", "checked") == good:
+                stop(f"a fault isn't seen: {file}, {new}")
+            path.write_text(text)
+        print(f"faults: {len(FAULTS)} of what is written by hand, each seen by random calls")
+
+    def all(self, record):
+        self.script()
+        self.compiles()
+        self.shadowed()
+        self.own_tests()
+        ours = self.printed("overlaid")
+        expected = HERE / "expected.txt"
+        if self.smoltcp:
+            path = self.copy("mended") / "src/storage/packet_buffer.rs"
+            text = path.read_text()
+            for old, new in MENDED:
+                if text.count(old) != 1:
+                    stop(f"a fault to mend: {old}")
+                text = text.replace(old, new)
+            path.write_text(text)
+            theirs = self.printed("mended")
+            for name in theirs:
+                for our, their in zip(ours[name].splitlines(), theirs[name].splitlines()):
+                    if our != their:
+                        stop(f"{name}\n{our}\n{their}")
+            if record:
+                expected.write_text("".join(f"{name}: {hashlib.sha256(text.encode()).hexdigest()}\n" for name, text in theirs.items()))
+        digests = "".join(f"{name}: {hashlib.sha256(text.encode()).hexdigest()}\n" for name, text in ours.items())
+        if digests != expected.read_text():
+            stop(f"this is not what smoltcp printed:\n{digests}")
+        calls = ours["calls"].split()
+        print(f"printed: the same as over smoltcp, {len(ours)} texts; 3,000 seeds of 5 kinds, {sum(map(int, calls[2::4]))} calls panic")
+        self.faults(ours["calls"])
+        self.never()
+        self.armv7(ours)
+
+
+def main():
+    parser = argparse.ArgumentParser(description=__doc__, formatter_class=argparse.RawDescriptionHelpFormatter)
+    parser.add_argument("--record", action="store_true")
+    arguments = parser.parse_args()
+    smoltcp = os.environ.get("SMOLTCP") and Path(os.environ["SMOLTCP"]).resolve()
+    missing = [file for file in FILES if smoltcp and not (smoltcp / "src" / file).is_file()]
+    if missing:
+        stop(f"SMOLTCP has no file src/{missing[0]}")
+    if arguments.record and not smoltcp:
+        stop("--record wants SMOLTCP")
+    with tempfile.TemporaryDirectory() as folder:
+        Path(folder).chmod(0o755)
+        Tests(Path(folder).resolve(), smoltcp).all(arguments.record)
+    if not smoltcp:
+        print("overlay: not run: smoltcp's own tests, and the script on its own files; SMOLTCP names no checkout", file=sys.stderr)
+        sys.exit(2)
+
+
+if __name__ == "__main__":
+    main()
