@@ -110,11 +110,8 @@ static void use_receiver(void) {
 }
 
 static void use_time(void) {
-    int64_t now = 1000000, later = 0;
-    uint64_t timeout = 0;
-    if (net_base_duration_mul(250000, 3, &timeout) && net_base_instant_add(now, timeout, &later)) {
-        printf("three timeouts after %lld us: %lld us\n", (long long)now, (long long)later);
-    }
+    int64_t now = 1000000, later = net_base_instant_saturating_add(now, 3 * UINT64_C(250000));
+    printf("three timeouts after %lld us: %lld us\n", (long long)now, (long long)later);
     uint64_t state = 7;
     printf("a port: %u\n", (unsigned)net_base_rand_source_port(&state));
 }

@@ -84,6 +84,9 @@ extern "C" {
 /* The fragment or the size reaches past the end of the buffer. Nothing changes. */
 #define NET_BASE_TOO_LONG UINT32_C(5)
 
+/* Another size of the packet is known. Nothing changes. */
+#define NET_BASE_OTHER_SIZE UINT32_C(6)
+
 /* No count, index or position of a right call: what was passed is nonsense, or there is none. */
 #define NET_BASE_NONE UINT64_MAX
 
@@ -114,12 +117,6 @@ struct net_base_span {
     uint64_t contiguous;
 };
 
-/* Contiguous elements: `count` of them, from the index `from` on. */
-struct net_base_part {
-    uint64_t from;
-    uint64_t count;
-};
-
 /* Returns whether `place` is that of a ring of `capacity` elements: its read index is an index of
  * the storage, or 0, and it has no more elements than the storage.
  */
@@ -128,7 +125,8 @@ bool net_base_ring_is_sound(const struct net_base_ring *place, uint64_t capacity
 /* Returns where at most `size` free elements are, from the one at `offset` on; none if `offset` is
  * past the free elements.
  *
- * A place that isn't sound is refused: then `from` is `UINT64_MAX`, and `count` is 0.
+ * It is refused if `place` isn't that of a ring of `capacity` elements: `from` is `NET_BASE_NONE`,
+ * `count` and `contiguous` are 0.
  */
 struct net_base_span net_base_ring_unallocated(
     const struct net_base_ring *place, uint64_t capacity, uint64_t offset, uint64_t size);
@@ -136,127 +134,136 @@ struct net_base_span net_base_ring_unallocated(
 /* Returns where at most `size` elements of the queue are, from the one at `offset` on; none if
  * `offset` is past the queue.
  *
- * A place that isn't sound is refused: then `from` is `UINT64_MAX`, and `count` is 0.
+ * It is refused if `place` isn't that of a ring of `capacity` elements: `from` is `NET_BASE_NONE`,
+ * `count` and `contiguous` are 0.
  */
 struct net_base_span net_base_ring_allocated(
     const struct net_base_ring *place, uint64_t capacity, uint64_t offset, uint64_t size);
 
-/* Returns how many elements can be enqueued before the storage's end.
- *
- * A place that isn't sound is refused, and so is a capacity of `UINT64_MAX`, which no storage has:
- * `UINT64_MAX`.
- */
-uint64_t net_base_ring_contiguous_window(const struct net_base_ring *place, uint64_t capacity);
-
-/* Empties the queue, and moves the read index to the storage's beginning. No place is refused: this
- * makes one sound for every capacity.
- */
+/* Empties the queue, and moves the read index to the storage's beginning. */
 void net_base_ring_clear(struct net_base_ring *place);
 
-/* Moves the read index of an empty ring to the storage's beginning, so that all its elements are
- * contiguous. Otherwise nothing changes. No place is refused.
+/* Moves the read index of an empty ring to the storage's beginning: then all its free elements are
+ * contiguous. Otherwise the numbers stay as they are.
  */
 void net_base_ring_rewind_if_empty(struct net_base_ring *place);
 
-/* Returns whether `count` elements are free, and if so enqueues these, with what the storage holds
- * there.
+/* Enqueues `count` elements, with what the storage holds there, and returns true.
  *
- * A place that isn't sound is refused: false, and nothing changes.
+ * It is refused if `place` isn't that of a ring of `capacity` elements, or if fewer than `count`
+ * elements are free: false, and nothing changes.
  */
 bool net_base_ring_enqueue(struct net_base_ring *place, uint64_t capacity, uint64_t count);
 
-/* Returns whether `count` elements are queued, and if so dequeues them.
+/* Dequeues `count` elements, and returns true.
  *
- * A place that isn't sound is refused: false, and nothing changes.
+ * It is refused if `place` isn't that of a ring of `capacity` elements, or if fewer than `count`
+ * elements are queued: false, and nothing changes.
  */
 bool net_base_ring_dequeue(struct net_base_ring *place, uint64_t capacity, uint64_t count);
 
-/* Enqueues one element, and returns its index in the storage.
+/* Takes the last `count` elements off the queue, so that they are the first free ones, and returns
+ * true.
  *
- * If none is free, or the place isn't sound: `UINT64_MAX`, and nothing changes.
+ * It is refused if fewer than `count` elements are queued: false, and nothing changes.
  */
-uint64_t net_base_ring_enqueue_one(struct net_base_ring *place, uint64_t capacity);
+bool net_base_ring_drop_last(struct net_base_ring *place, uint64_t count);
 
-/* Dequeues one element, and returns its index in the storage.
+/* Enqueues as many elements as there is room for, at most `size`, and returns where they are.
  *
- * If none is queued, or the place isn't sound: `UINT64_MAX`, and nothing changes.
- */
-uint64_t net_base_ring_dequeue_one(struct net_base_ring *place, uint64_t capacity);
-
-/* Enqueues as many elements as are free, at most `size`, and returns where they are. An empty ring
- * first moves its read index to the storage's beginning.
+ * An empty ring first moves its read index to the storage's beginning.
  *
- * A place that isn't sound is refused: then `from` is `UINT64_MAX`, `count` is 0, and nothing
- * changes.
+ * It is refused if `place` isn't that of a ring of `capacity` elements: `from` is `NET_BASE_NONE`,
+ * `count` and `contiguous` are 0, and nothing changes.
  */
 struct net_base_span net_base_ring_enqueue_span(
     struct net_base_ring *place, uint64_t capacity, uint64_t size);
 
-/* Enqueues contiguous elements, at most `size`, and returns where they are. An empty ring first
- * moves its read index to the storage's beginning.
+/* Enqueues contiguous elements, at most `size`, and returns where they are: the span has no others.
  *
- * A place that isn't sound is refused: then `from` is `UINT64_MAX`, `count` is 0, and nothing
- * changes.
+ * An empty ring first moves its read index to the storage's beginning.
+ *
+ * It is refused if `place` isn't that of a ring of `capacity` elements: `from` is `NET_BASE_NONE`,
+ * `count` and `contiguous` are 0, and nothing changes.
  */
-struct net_base_part net_base_ring_enqueue_many(
+struct net_base_span net_base_ring_enqueue_many(
     struct net_base_ring *place, uint64_t capacity, uint64_t size);
 
 /* Dequeues as many elements as are queued, at most `size`, and returns where they are.
  *
- * A place that isn't sound is refused: then `from` is `UINT64_MAX`, `count` is 0, and nothing
- * changes.
+ * It is refused if `place` isn't that of a ring of `capacity` elements: `from` is `NET_BASE_NONE`,
+ * `count` and `contiguous` are 0, and nothing changes.
  */
 struct net_base_span net_base_ring_dequeue_span(
     struct net_base_ring *place, uint64_t capacity, uint64_t size);
 
-/* Dequeues contiguous elements, at most `size`, and returns where they are.
+/* Dequeues contiguous elements, at most `size`, and returns where they are: the span has no others.
  *
- * A place that isn't sound is refused: then `from` is `UINT64_MAX`, `count` is 0, and nothing
- * changes.
+ * It is refused if `place` isn't that of a ring of `capacity` elements: `from` is `NET_BASE_NONE`,
+ * `count` and `contiguous` are 0, and nothing changes.
  */
-struct net_base_part net_base_ring_dequeue_many(
+struct net_base_span net_base_ring_dequeue_many(
     struct net_base_ring *place, uint64_t capacity, uint64_t size);
 
-/* Writes as many bytes of `data` as there is room for to the free bytes from the one at `offset`
- * on, and returns how many; 0 if `offset` is past the free bytes. Nothing is enqueued.
+/* Writes as many elements of `data` as there is room for to the free elements from the one at
+ * `offset` on, and returns how many; 0 if `offset` is past the free elements. Nothing is enqueued.
  *
- * A place that isn't sound for the storage is refused: `UINT64_MAX`, and nothing changes.
+ * It is refused if `place` isn't that of a ring of `storage_length` elements: `NET_BASE_NONE`, and
+ * nothing changes.
  */
 uint64_t net_base_ring_write_unallocated(
     const struct net_base_ring *place, uint8_t *storage, uint64_t storage_length, uint64_t offset,
     const uint8_t *data, uint64_t data_length);
 
-/* Copies as many bytes of the queue as `into` has room for, from the one at `offset` on, to the
+/* Copies as many elements of the queue as `into` has room for, from the one at `offset` on, to the
  * beginning of `into`, and returns how many; 0 if `offset` is past the queue. The rest of `into`
  * stays as it is, and nothing is dequeued.
  *
- * A place that isn't sound for the storage is refused: `UINT64_MAX`, and nothing changes.
+ * It is refused if `place` isn't that of a ring of `storage_length` elements: `NET_BASE_NONE`, and
+ * nothing changes.
  */
 uint64_t net_base_ring_read_allocated(
     const struct net_base_ring *place, const uint8_t *storage, uint64_t storage_length,
     uint64_t offset, uint8_t *into, uint64_t into_length);
 
-/* Enqueues as many bytes of `data` as there is room for, and returns how many. An empty ring first
- * moves its read index to the storage's beginning, even if nothing is enqueued.
+/* Enqueues as many elements of `data` as there is room for, and returns how many.
  *
- * A place that isn't sound for the storage is refused: `UINT64_MAX`, and nothing changes.
+ * An empty ring first moves its read index to the storage's beginning, even if nothing is enqueued.
+ *
+ * It is refused if `place` isn't that of a ring of `storage_length` elements: `NET_BASE_NONE`, and
+ * nothing changes.
  */
 uint64_t net_base_ring_enqueue_slice(
     struct net_base_ring *place, uint8_t *storage, uint64_t storage_length, const uint8_t *data,
     uint64_t data_length);
 
-/* Dequeues as many bytes as are queued and `into` has room for, copies them to the beginning of
+/* Dequeues as many elements as `into` has room for and are queued, copies them to the beginning of
  * `into`, and returns how many. The rest of `into` stays as it is.
  *
- * A place that isn't sound for the storage is refused: `UINT64_MAX`, and nothing changes.
+ * It is refused if `place` isn't that of a ring of `storage_length` elements: `NET_BASE_NONE`, and
+ * nothing changes.
  */
 uint64_t net_base_ring_dequeue_slice(
     struct net_base_ring *place, const uint8_t *storage, uint64_t storage_length, uint8_t *into,
     uint64_t into_length);
 
-/* Assemblers: sets of positions, stored as runs in memory that the caller keeps.
+/* Enqueues one element, and returns its index in the storage.
  *
- * At most as many runs are stored as the slice has elements.
+ * If none is free, or the place isn't sound: `NET_BASE_NONE`, and nothing changes.
+ */
+uint64_t net_base_ring_enqueue_one(struct net_base_ring *place, uint64_t capacity);
+
+/* Dequeues one element, and returns its index in the storage.
+ *
+ * If none is queued, or the place isn't sound: `NET_BASE_NONE`, and nothing changes.
+ */
+uint64_t net_base_ring_dequeue_one(struct net_base_ring *place, uint64_t capacity);
+
+/* Packets that arrive in fragments, as those of IPv4 do, over bytes and runs that the caller keeps.
+ *
+ * A head of zeros, but for `expires_at`, is that of an empty buffer. The longest packet has as many
+ * bytes as the storage. Fragments may overlap: at each position the byte is that of the last
+ * fragment there. `present` is an assembler.
  */
 
 /* What an assembler has besides its runs: how many there are, and where the first of them starts.
@@ -264,6 +271,18 @@ uint64_t net_base_ring_dequeue_slice(
 struct net_base_assembler {
     uint64_t used;
     uint64_t first_start;
+};
+
+/* What a buffer of fragments has besides its bytes and runs. */
+struct net_base_fragments {
+    /* The positions that arrived: the head of an assembler. */
+    struct net_base_assembler present;
+    /* Not 0 once the packet's size is known; this library writes 1 then. */
+    uint64_t has_total;
+    /* The packet's size in bytes, once it is known. */
+    uint64_t total;
+    /* The last moment at which the packet is waited for, in microseconds. */
+    int64_t expires_at;
 };
 
 /* A range of positions that is stored as a run: from `start` on, up to `end`, which is not
@@ -284,146 +303,6 @@ struct net_base_front_length {
     uint64_t length;
 };
 
-/* Returns whether `assembler` and `runs` are those of an assembler: there are `used` runs, which
- * rise, with a hole between neighbours; the first starts at 0; and each end fits 64 bits also with
- * `first_start` added. It looks at each run.
- */
-bool net_base_assembler_is_sound(
-    const struct net_base_assembler *assembler, const struct net_base_run *runs,
-    uint64_t runs_length);
-
-/* Removes every position: `used` and `first_start` are 0 then. Nothing is refused: this makes an
- * assembler of any memory.
- *
- * `first_start` is 0 whenever there is no run, as long as the head is changed only by calls. Runs
- * that aren't in use aren't read, and may be anything.
- */
-void net_base_assembler_clear(struct net_base_assembler *assembler);
-
-/* Adds the positions from `offset` to `offset + size - 1`; none if `size` is 0. Ranges that touch
- * form one run.
- *
- * Returns `NET_BASE_DONE`, or `NET_BASE_TOO_MANY_RUNS` if there would be more runs than the slice
- * has elements, or `NET_BASE_REFUSED` if `offset + size` doesn't fit 64 bits or `used` is above
- * `runs_length`. If it isn't `NET_BASE_DONE`, nothing changes.
- *
- * Requires: head and runs are sound, as `net_base_assembler_is_sound` tests.
- */
-uint32_t net_base_assembler_add(
-    struct net_base_assembler *assembler, struct net_base_run *runs, uint64_t runs_length,
-    uint64_t offset, uint64_t size);
-
-/* Adds the positions from `offset` to `offset + size - 1`, then removes the run at position 0,
- * returns its length, and counts all later positions from its end. If position 0 is missing,
- * nothing is removed, and the length is 0.
- *
- * The status is `NET_BASE_DONE`, or `NET_BASE_TOO_MANY_RUNS` if `offset` isn't 0 and there would be
- * more runs than the slice has elements, or `NET_BASE_REFUSED` if `offset + size` doesn't fit 64
- * bits or `used` is above `runs_length`. If it isn't `NET_BASE_DONE`, the length is 0, and nothing
- * changes.
- *
- * Requires: head and runs are sound, as `net_base_assembler_is_sound` tests.
- */
-struct net_base_front_length net_base_assembler_add_then_remove_front(
-    struct net_base_assembler *assembler, struct net_base_run *runs, uint64_t runs_length,
-    uint64_t offset, uint64_t size);
-
-/* Removes the run at position 0, returns its length, and counts all later positions from its end.
- * If position 0 is missing, nothing is removed, and the length is 0.
- *
- * The status is `NET_BASE_DONE`, or `NET_BASE_REFUSED` if `used` is above `runs_length`: then the
- * length is 0, and nothing changes.
- *
- * Requires: head and runs are sound, as `net_base_assembler_is_sound` tests.
- */
-struct net_base_front_length net_base_assembler_remove_front(
-    struct net_base_assembler *assembler, struct net_base_run *runs, uint64_t runs_length);
-
-/* Removes the positions below `count`, and counts the others from there, so that position `count`
- * is position 0 then. A run that `count` cuts keeps what is at or after it.
- *
- * Returns true, or false if `used` is above `runs_length`: then nothing changes.
- *
- * Requires: head and runs are sound, as `net_base_assembler_is_sound` tests.
- */
-bool net_base_assembler_shift(
-    struct net_base_assembler *assembler, struct net_base_run *runs, uint64_t runs_length,
-    uint64_t count);
-
-/* Returns the length of the run at position 0, which is 0 if position 0 is missing.
- *
- * The status is `NET_BASE_DONE`, or `NET_BASE_REFUSED` if `used` is above `runs_length`: then the
- * length is 0.
- *
- * Requires: head and runs are sound, as `net_base_assembler_is_sound` tests.
- */
-struct net_base_front_length net_base_assembler_peek_front(
-    const struct net_base_assembler *assembler, const struct net_base_run *runs,
-    uint64_t runs_length);
-
-/* Returns `NET_BASE_PRESENT` if `position` is present, and `NET_BASE_MISSING` if it isn't;
- * `NET_BASE_REFUSED` if `used` is above `runs_length`.
- *
- * Requires: head and runs are sound, as `net_base_assembler_is_sound` tests.
- */
-uint32_t net_base_assembler_contains(
-    const struct net_base_assembler *assembler, const struct net_base_run *runs,
-    uint64_t runs_length, uint64_t position);
-
-/* Returns the run with number `index`, counted from 0 in rising order: its start, and its end,
- * which isn't included. If there are no more than `index` runs, both are 0.
- *
- * If `used` is above `runs_length`, it is refused: both are `UINT64_MAX`.
- *
- * Requires: head and runs are sound, as `net_base_assembler_is_sound` tests.
- */
-struct net_base_run net_base_assembler_run_at(
-    const struct net_base_assembler *assembler, const struct net_base_run *runs,
-    uint64_t runs_length, uint64_t index);
-
-/* Returns the hole with number `index`, counted from 0 in rising order: its start, and its end,
- * which isn't included. Holes are the missing ranges below the end of the last run. If there are no
- * more than `index` holes, both are 0.
- *
- * If `used` is above `runs_length`, it is refused: both are `NET_BASE_NONE`.
- *
- * Requires: head and runs are sound, as `net_base_assembler_is_sound` tests.
- */
-struct net_base_run net_base_assembler_hole_at(
-    const struct net_base_assembler *assembler, const struct net_base_run *runs,
-    uint64_t runs_length, uint64_t index);
-
-/* Returns whether the same positions are present in another assembler. It may look at each run.
- *
- * If `used` is above `runs_length`, or that of `other` above `other_runs_length`, it is refused:
- * false.
- *
- * Requires: both heads are sound with their runs, as `net_base_assembler_is_sound` tests.
- */
-bool net_base_assembler_is_same(
-    const struct net_base_assembler *assembler, const struct net_base_run *runs,
-    uint64_t runs_length, const struct net_base_assembler *other,
-    const struct net_base_run *other_runs, uint64_t other_runs_length);
-
-/* Packets that arrive in fragments, as those of IPv4 do, over bytes and runs that the caller keeps.
- *
- * A head of zeros, but for `expires_at`, is that of an empty buffer. The longest packet has as many
- * bytes as the storage. Fragments may overlap: at each position the byte is that of the last
- * fragment there. `present` is an assembler.
- */
-
-/* What a buffer of fragments has besides its bytes and runs. */
-struct net_base_fragments {
-    /* The positions that arrived: the head of an assembler. */
-    struct net_base_assembler present;
-    /* Not 0 once the packet's size is known. */
-    uint64_t has_total;
-    /* The packet's size in bytes, once it is known. */
-    uint64_t total;
-    /* The last moment at which the packet is waited for, in microseconds. */
-    int64_t expires_at;
-};
-
 /* Starts over for a packet that is waited for up to `expires_at`, in microseconds. No head is
  * refused: this makes one sound for any memory.
  */
@@ -431,10 +310,12 @@ void net_base_fragments_reset(struct net_base_fragments *fragments, int64_t expi
 
 /* Adds a fragment, whose first byte is that of the packet at `offset`.
  *
- * Returns `NET_BASE_DONE`, or `NET_BASE_TOO_LONG` if the fragment reaches past the storage's end,
- * or `NET_BASE_TOO_MANY_RUNS` if there would be more runs than the slice has elements, or
- * `NET_BASE_REFUSED` if `present.used` is above `runs_length` or a known size above
- * `storage_length`. If it isn't `NET_BASE_DONE`, nothing changes.
+ * Returns `NET_BASE_DONE`; or, and nothing changes, `NET_BASE_TOO_LONG` if the fragment reaches
+ * past the storage's end, or else `NET_BASE_TOO_MANY_RUNS` if there would be more runs than the
+ * slice has elements. A fragment past a known size is kept, and one without bytes too.
+ *
+ * It is refused if `present.used` is above `runs_length`, or a known size above `storage_length`:
+ * `NET_BASE_REFUSED`, and nothing changes.
  *
  * Requires: head and runs of `present` are sound, as `net_base_assembler_is_sound` tests.
  */
@@ -443,14 +324,28 @@ uint32_t net_base_fragments_add(
     struct net_base_run *runs, uint64_t runs_length, uint64_t offset, const uint8_t *data,
     uint64_t data_length);
 
-/* Sets the packet's size to `size` bytes, in a storage of `capacity` bytes. A size that was set
- * before is replaced.
+/* Sets the packet's size to `size` bytes, in a storage of `capacity` bytes.
  *
- * Returns `NET_BASE_DONE`, or `NET_BASE_TOO_LONG`, and nothing changes, if the storage has fewer
- * bytes.
+ * Returns `NET_BASE_DONE`, also if bytes past that size have arrived; or, and nothing changes,
+ * `NET_BASE_TOO_LONG` if the storage has fewer bytes, or else `NET_BASE_OTHER_SIZE` if another size
+ * is known.
  */
 uint32_t net_base_fragments_set_total_size(
     struct net_base_fragments *fragments, uint64_t capacity, uint64_t size);
+
+/* Returns `NET_BASE_PRESENT` if one of the `count` positions from `offset` on has arrived, so that
+ * a fragment there overlaps bytes that are present, and `NET_BASE_MISSING` if none has.
+ *
+ * It is refused if `present.used` is above `runs_length`: `NET_BASE_REFUSED`.
+ *
+ * Requires: head and runs of `present` are sound, as `net_base_assembler_is_sound` tests.
+ */
+uint32_t net_base_fragments_overlaps(
+    const struct net_base_fragments *fragments, const struct net_base_run *runs,
+    uint64_t runs_length, uint64_t offset, uint64_t count);
+
+/* Returns whether `now` is after the last moment at which the packet is waited for. */
+bool net_base_fragments_is_expired(const struct net_base_fragments *fragments, int64_t now);
 
 /* Returns the packet's size, if it is known and all its bytes have arrived: they are the first ones
  * of the storage, which has `capacity` bytes.
@@ -464,9 +359,6 @@ uint32_t net_base_fragments_set_total_size(
 struct net_base_front_length net_base_fragments_complete(
     const struct net_base_fragments *fragments, uint64_t capacity, const struct net_base_run *runs,
     uint64_t runs_length);
-
-/* Returns whether `now` is after the last moment at which the packet is waited for. */
-bool net_base_fragments_is_expired(const struct net_base_fragments *fragments, int64_t now);
 
 /* Packet queues: where a packet has its slots and its bytes, in storages that the caller keeps.
  *
@@ -531,6 +423,29 @@ bool net_base_packets_is_sound(
 /* Empties the queue. No head is refused: this makes one sound for all storages. */
 void net_base_packets_clear(struct net_base_packets *packets);
 
+/* Takes the first slot in use, which the caller passes as `first`, off with its bytes, and returns
+ * the index of the first of these bytes. `first` is the slot of the gap before the first packet, or
+ * that of the first packet if it has no gap.
+ *
+ * A slot can be the first one if one is in use, if its bytes are in use and contiguous, and if it
+ * is a packet's or has bytes and ends at the storage's end.
+ *
+ * It is refused if `packets` isn't that of a queue of `slot_count` slots and `capacity` bytes, or
+ * if `first` can't be the first slot in use: `NET_BASE_NONE`, and nothing changes.
+ */
+uint64_t net_base_packets_take_slot(
+    struct net_base_packets *packets, uint64_t slot_count, uint64_t capacity,
+    const struct net_base_packet_slot *first);
+
+/* Takes the last `count` bytes off the last packet, lowers the size in `last`, its slot, and
+ * returns true.
+ *
+ * It is refused if `last` can't be the slot of a packet of `count` bytes or more: false, and
+ * nothing changes.
+ */
+bool net_base_packets_shorten_slot(
+    struct net_base_packets *packets, struct net_base_packet_slot *last, uint64_t count);
+
 /* Appends a packet of `size` bytes, writes its slot and that of its gap, and returns where they and
  * the packet's bytes are. An empty queue begins at the beginning of the storage of bytes.
  *
@@ -583,51 +498,13 @@ bool net_base_packets_shorten_last(
 struct net_base_packet_place net_base_packets_place(
     struct net_base_packets *packets, uint64_t slot_count, uint64_t capacity, uint64_t size);
 
-/* Removes the first slot in use, which the caller passes as `first`, with its bytes, and returns
- * the index of the first of these bytes. `first` is the slot of the gap before the first packet, or
- * that of the first packet if it has no gap.
- *
- * A head whose numbers aren't those of rings is refused, and so is a slot that can't be the first
- * one: if none is in use, if its size is above the number of bytes in use, if its bytes aren't
- * contiguous, or if it is a gap's that has no bytes or doesn't end at the storage's end. Then
- * `NET_BASE_NONE` is returned, and nothing changes.
- */
-uint64_t net_base_packets_take_slot(
-    struct net_base_packets *packets, uint64_t slot_count, uint64_t capacity,
-    const struct net_base_packet_slot *first);
-
-/* Takes the last `count` bytes off the last packet, lowers the size in `last`, its slot, and
- * returns true.
- *
- * Returns false, and changes nothing, if no slot is in use, if `last` is a gap's, if its size is
- * below `count` or above the number of bytes in use, or if the head's numbers aren't those of
- * rings.
- */
-bool net_base_packets_shorten_slot(
-    struct net_base_packets *packets, uint64_t slot_count, uint64_t capacity,
-    struct net_base_packet_slot *last, uint64_t count);
-
-/* Devices: the longest packets of one, and whether the stack handles a checksum, from numbers that
- * the caller keeps.
- */
+/* Devices: the longest packets of one, from numbers that the caller keeps. */
 
 /* Each frame is an Ethernet frame, and begins with a header of 14 bytes. */
 #define NET_BASE_ETHERNET UINT32_C(0)
 
 /* Each frame is an IP packet. */
 #define NET_BASE_IP UINT32_C(1)
-
-/* The stack verifies checksums when receiving, and computes them when sending. */
-#define NET_BASE_CHECKSUM_BOTH UINT32_C(0)
-
-/* The stack verifies checksums when receiving. */
-#define NET_BASE_CHECKSUM_RX UINT32_C(1)
-
-/* The stack computes checksums when sending. */
-#define NET_BASE_CHECKSUM_TX UINT32_C(2)
-
-/* The stack leaves checksums alone. */
-#define NET_BASE_CHECKSUM_NONE UINT32_C(3)
 
 /* Returns whether the longest frame of a device has room for the header of its medium, and if so
  * writes the bytes of its longest IP packet to `mtu`: those of the longest frame, less 14 if
@@ -644,29 +521,12 @@ bool net_base_ip_mtu(uint32_t medium, uint64_t max_transmission_unit, uint64_t *
 bool net_base_max_ipv4_fragment_size(
     uint32_t medium, uint64_t max_transmission_unit, uint64_t ip_header_len, uint64_t *size);
 
-/* Returns whether the stack verifies checksums when receiving, where it handles them as `checksum`
- * says: `NET_BASE_PRESENT` or `NET_BASE_MISSING`. A number that isn't one of `NET_BASE_CHECKSUM_..`
- * is `NET_BASE_REFUSED`.
- */
-uint32_t net_base_checksum_rx(uint32_t checksum);
-
-/* Returns whether the stack computes checksums when sending, where it handles them as `checksum`
- * says: `NET_BASE_PRESENT` or `NET_BASE_MISSING`. A number that isn't one of `NET_BASE_CHECKSUM_..`
- * is `NET_BASE_REFUSED`.
- */
-uint32_t net_base_checksum_tx(uint32_t checksum);
-
 /* Random words, drawn from a state that the caller keeps. Any state is allowed; the words are not
  * fit for cryptography.
  */
 
 /* Steps `state` to the next one, and returns its random word, of 32 bits. */
 uint32_t net_base_rand_u32(uint64_t *state);
-
-/* Steps `state` to the next one, and returns its draw of 16 bits: the two halves of its random
- * word, combined by exclusive or.
- */
-uint16_t net_base_rand_u16(uint64_t *state);
 
 /* Draws 16 bits until a draw is above 1024, and returns it. It returns from every state, after at
  * most 2^64 draws.
@@ -701,6 +561,12 @@ struct net_base_receiver {
     struct net_base_assembler held;
 };
 
+/* A held run, by absolute positions: from `start` on, up to `end`, which is not included. */
+struct net_base_held_run {
+    uint64_t start;
+    uint64_t end;
+};
+
 /* How many bytes of a segment were kept, and how many joined the queue. */
 struct net_base_kept_counts {
     /* How many bytes were kept: those of the segment whose positions are in the free window. */
@@ -710,18 +576,93 @@ struct net_base_kept_counts {
     uint64_t queued;
 };
 
-/* A held run, by absolute positions: from `start` on, up to `end`, which is not included. */
-struct net_base_held_run {
-    uint64_t start;
-    uint64_t end;
-};
-
 /* Returns whether these are the head, the storage and the runs of a receiver. It looks at each run,
  * and at no byte.
  */
 bool net_base_receiver_is_sound(
     const struct net_base_receiver *receiver, const uint8_t *storage, uint64_t storage_length,
     const struct net_base_run *runs, uint64_t runs_length);
+
+/* Writes the first missing position to `next`: the first position, plus the bytes read, plus those
+ * queued. Returns true.
+ *
+ * It is refused if `next` doesn't fit 64 bits: false, and nothing changes.
+ */
+bool net_base_receiver_next(const struct net_base_receiver *receiver, uint64_t *next);
+
+/* Returns the window, where the storage has `capacity` bytes: how many bytes have room after the
+ * queue, held ones among them.
+ *
+ * It is refused if `capacity` is `NET_BASE_NONE`, or if more than `capacity` elements are queued:
+ * `NET_BASE_NONE`.
+ */
+uint64_t net_base_receiver_window(const struct net_base_receiver *receiver, uint64_t capacity);
+
+/* Moves bytes from the head of the queue to the beginning of `into`, and returns how many: as many
+ * as are queued and as `into` has room for. The rest of `into` stays as it is.
+ *
+ * It is refused if `receiver.place` isn't that of a ring of `storage_length` elements, or if `next`
+ * doesn't fit 64 bits: `NET_BASE_NONE`, and nothing changes.
+ */
+uint64_t net_base_receiver_read(
+    struct net_base_receiver *receiver, const uint8_t *storage, uint64_t storage_length,
+    uint8_t *into, uint64_t into_length);
+
+/* Copies bytes from the head of the queue to the beginning of `into`, and returns how many: as many
+ * as are queued and as `into` has room for. The rest of `into` stays as it is, and the queue too.
+ *
+ * It is refused if `receiver.place` isn't that of a ring of `storage_length` elements:
+ * `NET_BASE_NONE`, and nothing changes.
+ */
+uint64_t net_base_receiver_peek_slice(
+    const struct net_base_receiver *receiver, const uint8_t *storage, uint64_t storage_length,
+    uint8_t *into, uint64_t into_length);
+
+/* Removes `count` bytes from the head of the queue, as `net_base_receiver_read` does, but copies
+ * none, and returns true; `net_base_ring_allocated` of `place` tells where they are.
+ *
+ * It is refused if `receiver.place` isn't that of a ring of `capacity` elements, or if fewer than
+ * `count` elements are queued, or if `next` doesn't fit 64 bits: false, and nothing changes.
+ */
+bool net_base_receiver_remove(
+    struct net_base_receiver *receiver, uint64_t capacity, uint64_t count);
+
+/* Lists held runs at the beginning of `into`, the newest first, and returns how many: as many as
+ * are held, or as `into` has elements. The rest of `into` stays as it is.
+ *
+ * The first is the run that has `position`, that of the segment just taken, if it is held; then
+ * come the runs last listed, which `recent` remembers, and then the others, in rising order; each
+ * comes once. The call writes the starts of the runs that it lists to the beginning of `recent`, as
+ * many as there is room for. The caller sets `recent` to zeros before the first call, and doesn't
+ * change it afterwards. It is enough if `recent` has as many elements as an acknowledgement has
+ * SACK blocks. RFC 2018, section 4, wants this order of them. The time grows with the number of
+ * runs times the number of runs and of elements of `recent` together.
+ *
+ * It is refused if `place` isn't that of a ring of `storage_length` bytes, `next` doesn't fit 64
+ * bits, or `held.used` is above `runs_length`: `NET_BASE_NONE`, and nothing changes.
+ *
+ * Requires: head, storage and runs are sound, as `net_base_receiver_is_sound` tests.
+ */
+uint64_t net_base_receiver_newest_runs(
+    const struct net_base_receiver *receiver, const uint8_t *storage, uint64_t storage_length,
+    const struct net_base_run *runs, uint64_t runs_length, uint64_t position, uint64_t *recent,
+    uint64_t recent_length, struct net_base_held_run *into, uint64_t into_length);
+
+/* Returns how many bytes of a segment of `len` bytes at `position` would be new: those in the free
+ * window whose positions are not held. Call it before `net_base_receiver_segment`, which also keeps
+ * the segment's bytes whose positions are held already, and counts them. The result is 0 for a
+ * duplicate, which TCP may report; it is also 0 for a segment that is beyond the free window or has
+ * no byte. It looks at each run.
+ *
+ * It is refused if `place` isn't that of a ring of `storage_length` bytes, `next` doesn't fit 64
+ * bits, or `held.used` is above `runs_length`, or if the segment doesn't end within 64 bits:
+ * `NET_BASE_NONE`.
+ *
+ * Requires: head, storage and runs are sound, as `net_base_receiver_is_sound` tests.
+ */
+uint64_t net_base_receiver_count_new(
+    const struct net_base_receiver *receiver, const uint8_t *storage, uint64_t storage_length,
+    const struct net_base_run *runs, uint64_t runs_length, uint64_t position, uint64_t len);
 
 /* Keeps the bytes of a segment that are in the free window, and writes to `counts` how many. The
  * segment's first byte is at `position`.
@@ -742,41 +683,6 @@ uint32_t net_base_receiver_segment(
     struct net_base_run *runs, uint64_t runs_length, uint64_t position, const uint8_t *bytes,
     uint64_t bytes_length, struct net_base_kept_counts *counts);
 
-/* Moves bytes from the head of the queue to the beginning of `into`, and returns how many: as many
- * as are queued and as `into` has room for. The rest of `into` stays as it is, and so do the runs.
- *
- * If `place` isn't that of a ring of `storage_length` bytes, or `next` doesn't fit 64 bits, it is
- * refused: `UINT64_MAX`, and nothing changes.
- */
-uint64_t net_base_receiver_read(
-    struct net_base_receiver *receiver, const uint8_t *storage, uint64_t storage_length,
-    uint8_t *into, uint64_t into_length);
-
-/* Copies bytes from the head of the queue as `net_base_receiver_read` does, and leaves the queue as
- * it is.
- *
- * If `place` isn't that of a ring of `storage_length` bytes, it is refused: `UINT64_MAX`, and
- * nothing changes.
- */
-uint64_t net_base_receiver_peek_slice(
-    const struct net_base_receiver *receiver, const uint8_t *storage, uint64_t storage_length,
-    uint8_t *into, uint64_t into_length);
-
-/* Returns whether `count` bytes are queued, and if so removes them from the head of the queue, as
- * `net_base_receiver_read` does, but copies none; `net_base_ring_allocated` of `place` tells where
- * they are.
- *
- * If `place` isn't that of a ring of `capacity` bytes, or `next` doesn't fit 64 bits, it is
- * refused: false, and nothing changes.
- */
-bool net_base_receiver_remove(
-    struct net_base_receiver *receiver, uint64_t capacity, uint64_t count);
-
-/* Returns whether the first missing position fits 64 bits, and if so writes it to `next`: the first
- * position, plus the bytes read, plus those queued.
- */
-bool net_base_receiver_next(const struct net_base_receiver *receiver, uint64_t *next);
-
 /* Returns whether the end of the free window fits 64 bits, where the storage has `capacity` bytes,
  * and if so writes it to `end`: the first position for which there is no room, `next` plus the
  * window. No segment and no read lowers it.
@@ -785,14 +691,6 @@ bool net_base_receiver_next(const struct net_base_receiver *receiver, uint64_t *
  */
 bool net_base_receiver_window_end(
     const struct net_base_receiver *receiver, uint64_t capacity, uint64_t *end);
-
-/* Returns the window, where the storage has `capacity` bytes: how many bytes have room after the
- * queue, held ones among them.
- *
- * If more than `capacity` bytes are queued, it is refused, and so is a capacity of `UINT64_MAX`,
- * which no storage has: `UINT64_MAX`.
- */
-uint64_t net_base_receiver_window(const struct net_base_receiver *receiver, uint64_t capacity);
 
 /* Returns the held run with number `index`, counted from 0 in rising order. If there are no more
  * than `index`, start and end are 0.
@@ -806,56 +704,19 @@ struct net_base_held_run net_base_receiver_run_at(
     const struct net_base_receiver *receiver, const uint8_t *storage, uint64_t storage_length,
     const struct net_base_run *runs, uint64_t runs_length, uint64_t index);
 
-/* Lists held runs at the beginning of `into`, the newest first, and returns how many: as many as
- * are held, or as `into` has elements. The rest of `into` stays as it is.
- *
- * The first is the run that has `position`, that of the segment just taken, if it is held; then
- * come the runs last listed, which `recent` remembers, and then the others, in rising order; each
- * comes once. The call writes the starts of the runs that it lists to the beginning of `recent`, as
- * many as there is room for. The caller sets `recent` to zeros before the first call, and doesn't
- * change it afterwards. It is enough if `recent` has as many elements as an acknowledgement has
- * SACK blocks. RFC 2018, section 4, wants this order of them. The time grows with the number of
- * runs times the number of runs and of elements of `recent` together.
- *
- * If `place` isn't that of a ring of `storage_length` bytes, `next` doesn't fit 64 bits, or
- * `held.used` is above `runs_length`, it is refused: `UINT64_MAX`, and nothing changes.
- *
- * Requires: head, storage and runs are sound, as `net_base_receiver_is_sound` tests.
- */
-uint64_t net_base_receiver_newest_runs(
-    const struct net_base_receiver *receiver, const uint8_t *storage, uint64_t storage_length,
-    const struct net_base_run *runs, uint64_t runs_length, uint64_t position, uint64_t *recent,
-    uint64_t recent_length, struct net_base_held_run *into, uint64_t into_length);
-
-/* Returns how many bytes of a segment of `len` bytes at `position` would be new: those in the free
- * window whose positions are not held. Call it before `net_base_receiver_segment`, which also keeps
- * the segment's bytes whose positions are held already, and counts them. The result is 0 for a
- * duplicate, which TCP may report; it is also 0 for a segment that is beyond the free window or has
- * no byte. It looks at each run.
- *
- * If the segment doesn't end within 64 bits, `place` isn't that of a ring of `storage_length`
- * bytes, `next` doesn't fit 64 bits, or `held.used` is above `runs_length`, it is refused:
- * `UINT64_MAX`.
- *
- * Requires: head, storage and runs are sound, as `net_base_receiver_is_sound` tests.
- */
-uint64_t net_base_receiver_count_new(
-    const struct net_base_receiver *receiver, const uint8_t *storage, uint64_t storage_length,
-    const struct net_base_run *runs, uint64_t runs_length, uint64_t position, uint64_t len);
-
 /* Scoreboards: what a sender knows of the positions that the other end has, in runs that the caller
  * keeps.
  *
- * At most as many runs are stored as the slice has elements; one may be that of what is
- * acknowledged. Each call but `net_base_scoreboard_clear` looks at each run, and refuses a
- * scoreboard that isn't sound.
+ * At most as many runs are stored, beyond the first position that wasn't reported, as the slice has
+ * elements. Each call but `net_base_scoreboard_reset` looks at each run, and refuses a scoreboard
+ * that isn't sound.
  */
 
-/* What a sender knows of the positions that the other end has, as acknowledgements and their SACK
- * blocks report them: a scoreboard.
- */
+/* What a scoreboard has besides its runs. */
 struct net_base_scoreboard {
-    /* The positions that were reported. */
+    /* The first position that wasn't reported. */
+    uint64_t base;
+    /* The positions beyond that were, counted from `base`: the head of an assembler. */
     struct net_base_assembler reported;
 };
 
@@ -869,53 +730,236 @@ struct net_base_hole {
     uint64_t end;
 };
 
+/* What was reported beyond the first position that wasn't, and whether the call was done. */
+struct net_base_reported {
+    /* `NET_BASE_DONE` or `NET_BASE_REFUSED`. */
+    uint32_t status;
+    /* The position after the last one that was reported; 0 if none was. */
+    uint64_t end;
+    /* How many positions were reported beyond the first one that wasn't. */
+    uint64_t count;
+};
+
 /* Returns whether the scoreboard is sound with these runs: `reported` and they are those of an
- * assembler.
+ * assembler, `base` isn't reported, and each end fits 64 bits.
  */
 bool net_base_scoreboard_is_sound(
     const struct net_base_scoreboard *scoreboard, const struct net_base_run *runs,
     uint64_t runs_length);
 
-/* Forgets all that was reported. Nothing is refused: this makes a scoreboard of any memory. */
-void net_base_scoreboard_clear(struct net_base_scoreboard *scoreboard);
-
-/* Reports the positions from `start` on and below `end`, as a SACK block of an acknowledgement
- * does. Blocks may overlap. `sent` is the position after the last byte that was ever sent.
+/* Reports all positions below `next`, whatever the number of runs, and returns true.
  *
- * Returns `NET_BASE_DONE`, or `NET_BASE_TOO_MANY_RUNS` if there would be more runs than the slice
- * has elements, or `NET_BASE_REFUSED` if `start` isn't below `end`, if `end` is above `sent`, or if
- * the scoreboard isn't sound. If it isn't `NET_BASE_DONE`, nothing changes.
+ * It is refused if `scoreboard` isn't sound with `runs`: false, and nothing changes.
  */
-uint32_t net_base_scoreboard_report(
-    struct net_base_scoreboard *scoreboard, struct net_base_run *runs, uint64_t runs_length,
-    uint64_t start, uint64_t end, uint64_t sent);
-
-/* Reports all positions below `next`, so that the runs below it become one.
- *
- * Returns `NET_BASE_DONE`, or `NET_BASE_TOO_MANY_RUNS` if there would be more runs than the slice
- * has elements, which is only so while no position below `next` is reported. `NET_BASE_REFUSED` if
- * the scoreboard isn't sound. If it isn't `NET_BASE_DONE`, nothing changes.
- */
-uint32_t net_base_scoreboard_acknowledge(
+bool net_base_scoreboard_acknowledge(
     struct net_base_scoreboard *scoreboard, struct net_base_run *runs, uint64_t runs_length,
     uint64_t next);
 
-/* Returns `NET_BASE_PRESENT` if `position` was reported, and `NET_BASE_MISSING` if it wasn't;
- * `NET_BASE_REFUSED` if the scoreboard isn't sound.
+/* Returns `NET_BASE_PRESENT` if `position` was reported, and `NET_BASE_MISSING` if it wasn't.
+ *
+ * It is refused if `scoreboard` isn't sound with `runs`: `NET_BASE_REFUSED`.
  */
 uint32_t net_base_scoreboard_contains(
     const struct net_base_scoreboard *scoreboard, const struct net_base_run *runs,
     uint64_t runs_length, uint64_t position);
 
-/* Returns the next range to send again: it begins at the first position from `position` on that
- * wasn't reported, and ends at the next one that was, or at `limit`. If there is none below
- * `limit`, start and end are `limit`.
+/* Returns the next range to send again, as a start and an end: it begins at the first position from
+ * `pos` on that wasn't reported, and ends at the next one that was, or at `limit`. If there is none
+ * below `limit`, both are `limit`.
  *
- * If the scoreboard isn't sound, the status is `NET_BASE_REFUSED`, and both are 0.
+ * It is refused if `scoreboard` isn't sound with `runs`: the status is `NET_BASE_REFUSED`, and
+ * start and end 0.
  */
 struct net_base_hole net_base_scoreboard_next_hole(
     const struct net_base_scoreboard *scoreboard, const struct net_base_run *runs,
     uint64_t runs_length, uint64_t position, uint64_t limit);
+
+/* Forgets all that was reported, for a stream that begins at position `first`: all positions below
+ * it count as reported. Nothing is refused: this makes a scoreboard of any memory.
+ */
+void net_base_scoreboard_reset(struct net_base_scoreboard *scoreboard, uint64_t first);
+
+/* Reports the positions from `start` on and below `end`, as a SACK block of an acknowledgement
+ * does. Blocks may overlap. `sent` is the position after the last byte that was ever sent.
+ *
+ * Returns `NET_BASE_DONE`, or `NET_BASE_TOO_MANY_RUNS` if the block begins beyond the first
+ * position that wasn't reported, and there would be more runs beyond it than the slice has
+ * elements; or `NET_BASE_REFUSED` if `start` isn't below `end`, if `end` is above `sent`, or if the
+ * scoreboard isn't sound. If it isn't `NET_BASE_DONE`, nothing changes.
+ */
+uint32_t net_base_scoreboard_report(
+    struct net_base_scoreboard *scoreboard, struct net_base_run *runs, uint64_t runs_length,
+    uint64_t start, uint64_t end, uint64_t sent);
+
+/* Returns the position after the last one that was reported, and how many were beyond the first one
+ * that wasn't, which is `base`.
+ *
+ * If the scoreboard isn't sound, the status is `NET_BASE_REFUSED`, and both are 0.
+ */
+struct net_base_reported net_base_scoreboard_reported(
+    const struct net_base_scoreboard *scoreboard, const struct net_base_run *runs,
+    uint64_t runs_length);
+
+/* Sequence numbers of 32 bits, which wrap, and the positions of 64 bits, which don't.
+ *
+ * A receiver and a sender count in positions; TCP's segments have numbers. If position 0 has the
+ * number `initial`, each position has one number, and a number has one position near a given one.
+ * In TCP segments with numbers before that of the first byte arrive too, as old duplicates. If the
+ * first byte has position 0, no position has such a number. If it has the position 2^32 + its
+ * number, each has one: then `initial` is 0, and the low 32 bits of a position are its number.
+ */
+
+/* Returns whether a position near `next` has a number, if position 0 has the number `initial`, and
+ * if so writes it to `position`: it is less than 2^31 after `next`, or at most 2^31 before it.
+ */
+bool net_base_sequence_number_position(
+    uint32_t number, uint32_t initial, uint64_t next, uint64_t *position);
+
+/* Returns whether another number is ahead of this one by less than 2^31, and is not the same. */
+bool net_base_sequence_number_is_before(uint32_t number, uint32_t other);
+
+/* Moments (signed, from an origin of the caller's own) and lengths of time, in microseconds.
+ *
+ * Both are numbers: C adds and compares them, and divides by 1,000 and 1,000,000. Here is what
+ * overflows if C computes it, and what takes a loop.
+ */
+
+/* Returns the moment so much later, or `INT64_MAX` if that is above it. */
+int64_t net_base_instant_saturating_add(int64_t instant, uint64_t duration);
+
+/* Returns how far apart two moments are, whichever is the later one. Any two have a distance. */
+uint64_t net_base_instant_distance(int64_t instant, int64_t other);
+
+/* Writes the earliest of the moments to `earliest`: when to look again at several timers.
+ *
+ * Returns whether there is one: false if there are no moments, and then nothing changes.
+ */
+bool net_base_instant_earliest(const int64_t *moments, uint64_t moments_length, int64_t *earliest);
+
+/* The version of this interface. */
+
+/* Returns the version of this interface, which is in the name too: a program that calls this
+ * doesn't link with an archive of another version. The Cargo crate refers to it; a program in C has
+ * to call it. Each version whose structs or functions differ has another number.
+ */
+uint32_t net_base_abi_1(void);
+
+/* Assemblers: sets of positions, stored as runs in memory that the caller keeps.
+ *
+ * At most as many runs are stored as the slice has elements.
+ */
+
+/* Returns whether `assembler` and `runs` are those of an assembler: there are `used` runs, which
+ * rise, with a hole between neighbours; the first starts at 0; and each end fits 64 bits also with
+ * `first_start` added. It looks at each run.
+ */
+bool net_base_assembler_is_sound(
+    const struct net_base_assembler *assembler, const struct net_base_run *runs,
+    uint64_t runs_length);
+
+/* Removes every position: `used` and `first_start` are 0 then. Nothing is refused: this makes an
+ * assembler of any memory.
+ *
+ * `first_start` is 0 whenever there is no run, as long as the head is changed only by calls. Runs
+ * that aren't in use aren't read, and may be anything.
+ */
+void net_base_assembler_clear(struct net_base_assembler *assembler);
+
+/* Adds the positions from `offset` to `offset + size - 1`; none if `size` is 0. Ranges that touch
+ * form one run.
+ *
+ * Returns `NET_BASE_DONE`, or `NET_BASE_TOO_MANY_RUNS`, and nothing changes, if there would be more
+ * runs than the slice has elements.
+ *
+ * It is refused if `used` is above `runs_length`, or if `offset + size` doesn't fit 64 bits:
+ * `NET_BASE_REFUSED`, and nothing changes.
+ *
+ * Requires: head and runs are sound, as `net_base_assembler_is_sound` tests.
+ */
+uint32_t net_base_assembler_add(
+    struct net_base_assembler *assembler, struct net_base_run *runs, uint64_t runs_length,
+    uint64_t offset, uint64_t size);
+
+/* Adds the positions from `offset` to `offset + size - 1`, then removes the run at position 0,
+ * returns its length, and counts all later positions from its end. If position 0 is missing,
+ * nothing is removed, and the length is 0.
+ *
+ * The status is `NET_BASE_DONE`, or `NET_BASE_TOO_MANY_RUNS` if `offset` isn't 0 and there would be
+ * more runs than the slice has elements: then the length is 0, and nothing changes.
+ *
+ * It is refused if `used` is above `runs_length`, or if `offset + size` doesn't fit 64 bits: the
+ * status is `NET_BASE_REFUSED`, and the length 0, and nothing changes.
+ *
+ * Requires: head and runs are sound, as `net_base_assembler_is_sound` tests.
+ */
+struct net_base_front_length net_base_assembler_add_then_remove_front(
+    struct net_base_assembler *assembler, struct net_base_run *runs, uint64_t runs_length,
+    uint64_t offset, uint64_t size);
+
+/* Removes the run at position 0, returns its length, and counts all later positions from its end.
+ * If position 0 is missing, nothing is removed, and the length is 0.
+ *
+ * It is refused if `used` is above `runs_length`: the status is `NET_BASE_REFUSED`, and length 0,
+ * and nothing changes.
+ *
+ * Requires: head and runs are sound, as `net_base_assembler_is_sound` tests.
+ */
+struct net_base_front_length net_base_assembler_remove_front(
+    struct net_base_assembler *assembler, struct net_base_run *runs, uint64_t runs_length);
+
+/* Removes the positions below `count`, counts the others from there, so that position `count` is
+ * position 0 then, and returns true. A run that `count` cuts keeps what is at or after it.
+ *
+ * It is refused if `used` is above `runs_length`: false, and nothing changes.
+ *
+ * Requires: head and runs are sound, as `net_base_assembler_is_sound` tests.
+ */
+bool net_base_assembler_shift(
+    struct net_base_assembler *assembler, struct net_base_run *runs, uint64_t runs_length,
+    uint64_t count);
+
+/* Returns the length of the run at position 0, which is 0 if position 0 is missing.
+ *
+ * It is refused if `used` is above `runs_length`: the status is `NET_BASE_REFUSED`, and length 0.
+ *
+ * Requires: head and runs are sound, as `net_base_assembler_is_sound` tests.
+ */
+struct net_base_front_length net_base_assembler_peek_front(
+    const struct net_base_assembler *assembler, const struct net_base_run *runs,
+    uint64_t runs_length);
+
+/* Returns `NET_BASE_PRESENT` if `position` is present, and `NET_BASE_MISSING` if it isn't.
+ *
+ * It is refused if `used` is above `runs_length`: `NET_BASE_REFUSED`.
+ *
+ * Requires: head and runs are sound, as `net_base_assembler_is_sound` tests.
+ */
+uint32_t net_base_assembler_contains(
+    const struct net_base_assembler *assembler, const struct net_base_run *runs,
+    uint64_t runs_length, uint64_t position);
+
+/* Returns the run with number `index`, counted from 0 in rising order: its start, and its end,
+ * which isn't included. If there are no more than `index` runs, both are 0.
+ *
+ * It is refused if `used` is above `runs_length`: both are `NET_BASE_NONE`.
+ *
+ * Requires: head and runs are sound, as `net_base_assembler_is_sound` tests.
+ */
+struct net_base_run net_base_assembler_run_at(
+    const struct net_base_assembler *assembler, const struct net_base_run *runs,
+    uint64_t runs_length, uint64_t index);
+
+/* Returns the hole with number `index`, counted from 0 in rising order: its start, and its end,
+ * which isn't included. Holes are the missing ranges below the end of the last run. If there are no
+ * more than `index` holes, both are 0.
+ *
+ * It is refused if `used` is above `runs_length`: both are `NET_BASE_NONE`.
+ *
+ * Requires: head and runs are sound, as `net_base_assembler_is_sound` tests.
+ */
+struct net_base_run net_base_assembler_hole_at(
+    const struct net_base_assembler *assembler, const struct net_base_run *runs,
+    uint64_t runs_length, uint64_t index);
 
 /* Senders of one stream of bytes, over a storage that the caller keeps.
  *
@@ -933,173 +977,70 @@ struct net_base_sender {
 };
 
 /* Returns whether this is the head of a sender over a storage of `capacity` bytes: `place` is that
- * of a ring of so many, and the position after the queue fits 64 bits.
+ * of a ring of as many, and the position after the queue fits 64 bits.
  */
 bool net_base_sender_is_sound(const struct net_base_sender *sender, uint64_t capacity);
 
-/* Returns whether the position after the last byte that was written fits 64 bits, and if so writes
- * it to `end`.
+/* Writes the position after the last byte that was written to `end`, and returns true.
+ *
+ * It is refused if the segment doesn't end within 64 bits: false, and nothing changes.
  */
 bool net_base_sender_end(const struct net_base_sender *sender, uint64_t *end);
 
 /* Returns how many bytes `net_base_sender_write` would take: as many as have room in a storage of
  * `capacity` bytes and below the last position, 2^64 - 1.
  *
- * A head that isn't sound is refused, and so is a capacity of `UINT64_MAX`, which no storage has:
- * `UINT64_MAX`.
+ * It is refused if `capacity` is `NET_BASE_NONE`, or if `sender` isn't that of a sender over
+ * `capacity` bytes: `NET_BASE_NONE`.
  */
 uint64_t net_base_sender_room(const struct net_base_sender *sender, uint64_t capacity);
 
 /* Enqueues the first of these bytes, as many as there is room for, and returns how many.
  *
- * A head that isn't sound for the storage is refused: `UINT64_MAX`, and nothing changes.
+ * It is refused if `sender` isn't that of a sender over `storage_length` bytes: `NET_BASE_NONE`,
+ * and nothing changes.
  */
 uint64_t net_base_sender_write(
     struct net_base_sender *sender, uint8_t *storage, uint64_t storage_length, const uint8_t *bytes,
     uint64_t bytes_length);
 
-/* Returns where at most `max` queued bytes are, from the one at `position` on; none if that byte
- * isn't queued. The caller copies or sends them.
+/* Returns where at most `max` queued bytes are, from the one at `pos` on; none if the byte at `pos`
+ * isn't queued. The storage has `capacity` bytes.
  *
- * A head that isn't sound is refused: then `from` is `UINT64_MAX`, and `count` is 0.
+ * It is refused if `sender` isn't that of a sender over `capacity` bytes: `from` is
+ * `NET_BASE_NONE`, `count` and `contiguous` are 0.
  */
 struct net_base_span net_base_sender_peek_at(
     const struct net_base_sender *sender, uint64_t capacity, uint64_t position, uint64_t max);
 
 /* Drops the bytes below `next`, and returns whether it did: false, and nothing changes, if `next`
- * is below `first_unacknowledged` or above the position after the last byte, or if the head isn't
- * sound.
+ * is below `first_unacknowledged` or above the position after the last byte.
+ *
+ * It is refused if `sender` isn't that of a sender over `capacity` bytes: false, and nothing
+ * changes.
  */
 bool net_base_sender_acknowledge(struct net_base_sender *sender, uint64_t capacity, uint64_t next);
 
 /* Moves the mark `sent`, the position after the last byte that was ever sent, up to `position`, if
- * that is above it, and returns whether `position` is one that can have been sent.
+ * that is above it, and returns true; false, and nothing changes, if `sent` or `position` is above
+ * the position after the last byte that was written. The caller keeps the mark, which begins as the
+ * position of the stream's first byte.
  *
- * False, and nothing changes, if `sent` or `position` is above the position after the last byte
- * that was written, or that position doesn't fit 64 bits. The caller keeps the mark, which begins
- * as the position of the stream's first byte.
+ * It is refused if the segment doesn't end within 64 bits: false, and nothing changes.
  */
 bool net_base_sender_mark_sent(
     const struct net_base_sender *sender, uint64_t *sent, uint64_t position);
 
-/* Drops the bytes below `next`, if they were sent, and returns whether it did. `sent` is the
- * position after the last byte that was ever sent, as `net_base_sender_mark_sent` keeps it.
+/* Drops the bytes below `next`, if they were sent, and returns whether it did: false, and nothing
+ * changes, if `next` is below `first_unacknowledged` or above `sent`, or `sent` is above the
+ * position after the last byte. `sent` is the position after the last byte that was ever sent, as
+ * `net_base_sender_mark_sent` keeps it.
  *
- * False, and nothing changes, if `next` is below `first_unacknowledged` or above `sent`, if `sent`
- * is above the position after the last byte, or if the head isn't sound.
+ * It is refused if `sender` isn't that of a sender over `capacity` bytes: false, and nothing
+ * changes.
  */
 bool net_base_sender_acknowledge_sent(
     struct net_base_sender *sender, uint64_t capacity, uint64_t next, uint64_t sent);
-
-/* Sequence numbers of 32 bits, which wrap, and the positions of 64 bits, which don't.
- *
- * A receiver and a sender count in positions; TCP's segments have numbers. If position 0 has the
- * number `initial`, each position has one number, and a number has one position near a given one.
- * In TCP segments with numbers before that of the first byte arrive too, as old duplicates. If the
- * first byte has position 0, no position has such a number. If it has the position 2^32 + its
- * number, each has one: then `initial` is 0, and the low 32 bits of a position are its number.
- */
-
-/* Returns the number of a position, if position 0 has the number `initial`. */
-uint32_t net_base_sequence_number_at(uint32_t initial, uint64_t position);
-
-/* Returns whether a position near `next` has a number, if position 0 has the number `initial`, and
- * if so writes it to `position`: it is less than 2^31 after `next`, or at most 2^31 before it.
- */
-bool net_base_sequence_number_position(
-    uint32_t number, uint32_t initial, uint64_t next, uint64_t *position);
-
-/* Returns how far a number is ahead of another one, modulo 2^32. */
-uint32_t net_base_sequence_number_ahead_of(uint32_t number, uint32_t other);
-
-/* Returns whether another number is ahead of this one by less than 2^31, and is not the same. */
-bool net_base_sequence_number_is_before(uint32_t number, uint32_t other);
-
-/* Returns a number plus a count of bytes, modulo 2^32. */
-uint32_t net_base_sequence_number_add(uint32_t number, uint32_t count);
-
-/* Moments (signed, from an origin of the caller's own) and lengths of time, in microseconds.
- *
- * A call whose result might not fit 64 bits returns whether it does, and writes it down only then.
- */
-
-/* Returns whether there is a moment so many milliseconds after the origin, and if so writes it to
- * `instant`.
- */
-bool net_base_instant_from_millis(int64_t millis, int64_t *instant);
-
-/* Returns whether there is a moment so many seconds after the origin, and if so writes it to
- * `instant`.
- */
-bool net_base_instant_from_secs(int64_t secs, int64_t *instant);
-
-/* Returns whether there is a moment so much later, and if so writes it to `sum`. */
-bool net_base_instant_add(int64_t instant, uint64_t duration, int64_t *sum);
-
-/* Returns whether there is a moment so much earlier, and if so writes it to `difference`. */
-bool net_base_instant_sub(int64_t instant, uint64_t duration, int64_t *difference);
-
-/* Returns the moment so much later, or `INT64_MAX` if that is above it. */
-int64_t net_base_instant_saturating_add(int64_t instant, uint64_t duration);
-
-/* Returns the moment so much earlier, or `INT64_MIN` if that is below it. */
-int64_t net_base_instant_saturating_sub(int64_t instant, uint64_t duration);
-
-/* Returns how far apart two moments are, whichever is the later one. Any two have a distance. */
-uint64_t net_base_instant_distance(int64_t instant, int64_t other);
-
-/* Writes the earliest of the moments to `earliest`: when to look again at several timers.
- *
- * Returns whether there is one: false if there are no moments, and then nothing changes.
- */
-bool net_base_instant_earliest(const int64_t *moments, uint64_t moments_length, int64_t *earliest);
-
-/* Returns whether so many milliseconds are a length, and if so writes it to `duration`. */
-bool net_base_duration_from_millis(uint64_t millis, uint64_t *duration);
-
-/* Returns whether so many seconds are a length, and if so writes it to `duration`. */
-bool net_base_duration_from_secs(uint64_t secs, uint64_t *duration);
-
-/* Returns whether the sum is a length, and if so writes it to `sum`. */
-bool net_base_duration_add(uint64_t duration, uint64_t other, uint64_t *sum);
-
-/* Returns whether `duration` is not below `other`, and if so writes the difference to `difference`.
- */
-bool net_base_duration_sub(uint64_t duration, uint64_t other, uint64_t *difference);
-
-/* Returns whether the product is a length, and if so writes it to `product`. */
-bool net_base_duration_mul(uint64_t duration, uint32_t factor, uint64_t *product);
-
-/* Returns whether `divisor` is not 0, and if so writes the quotient, rounded down, to `quotient`.
- */
-bool net_base_duration_div(uint64_t duration, uint32_t divisor, uint64_t *quotient);
-
-/* Returns whether `bits` is below 64, and if so writes the low 64 bits of the microseconds, shifted
- * left by so many bits, to `shifted`.
- */
-bool net_base_duration_shl(uint64_t duration, uint32_t bits, uint64_t *shifted);
-
-/* Returns whether `bits` is below 64, and if so writes the microseconds, shifted right by so many
- * bits, to `shifted`.
- */
-bool net_base_duration_shr(uint64_t duration, uint32_t bits, uint64_t *shifted);
-
-/* Returns the sum, or `UINT64_MAX` if it is above that. */
-uint64_t net_base_duration_saturating_add(uint64_t duration, uint64_t other);
-
-/* Returns the difference, or 0 if `other` is above `duration`. */
-uint64_t net_base_duration_saturating_sub(uint64_t duration, uint64_t other);
-
-/* Returns the product, or `UINT64_MAX` if it is above that. */
-uint64_t net_base_duration_saturating_mul(uint64_t duration, uint32_t factor);
-
-/* The version of this interface. */
-
-/* Returns the version of this interface, which is in the name too: a program that calls this
- * doesn't link with an archive of another version. The Cargo crate refers to it; a program in C has
- * to call it. Each version whose structs or functions differ has another number.
- */
-uint32_t net_base_abi_1(void);
 
 /* END */
 

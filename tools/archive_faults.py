@@ -21,13 +21,11 @@ import tempfile
 
 import archive
 import ffi
-import kit
 import retarget
 import sequence
-import shim
-from targets import TARGETS
+from archive import TARGETS
 
-sys.path.insert(0, str(kit.ROOT / "c/targets"))
+sys.path.insert(0, str(archive.ROOT / "c/targets"))
 import run  # noqa: E402
 
 LOAD = r"^  (%\w+) = load ptr, ptr (%\w+), align 8, !noundef !1\n"
@@ -143,15 +141,15 @@ def layouts(folder):
     """Data layouts of processors that can't have an archive."""
     (folder / "empty.c").write_text("int x;\n")
     for triple in ("i686-unknown-none", "armebv7-unknown-none-eabi", "powerpc64-unknown-linux-gnu"):
-        kit.clang([f"--target={triple}", "-S", "-emit-llvm", folder / "empty.c", "-o", folder / "empty.ll"])
+        archive.clang([f"--target={triple}", "-S", "-emit-llvm", folder / "empty.c", "-o", folder / "empty.ll"])
         layout = re.search(r'^target datalayout = "(.*)"$', (folder / "empty.ll").read_text(), flags=re.M)[1]
         report(f"the layout of {triple}", refusal(retarget.check_layout, layout))
 
 
 def shims(build, folder):
     """A shim that swaps two arguments of one type, in several exports."""
-    library = ffi.Library(kit.CRATE)
-    right = shim.shim(library)
+    library = ffi.Library(archive.CRATE)
+    right = archive.shim(library)
     (folder / "sequence.c").write_text(sequence.sequence(library))
     way = next(way for way in run.WAYS if way.target == "x86_64-none")
     for name in ("ring_allocated", "assembler_add", "receiver_remove", "duration_saturating_sub", "sender_peek_at"):
@@ -176,7 +174,7 @@ def archives(folder):
         place, digest = archive.kept(TARGETS[name])
         place.write_bytes(data)
         if with_digest:
-            digest.write_text(kit.digest_line(place))
+            digest.write_text(archive.digest_line(place))
         said = refusal(lambda: archive.compare(TARGETS[name], place))
         shutil.rmtree(archive.LIB / name)
         shutil.copytree(right / name, archive.LIB / name)
@@ -185,11 +183,11 @@ def archives(folder):
     def bytes_of(name):
         return (right / name / archive.ARCHIVE).read_bytes()
 
-    kit_root = kit.ROOT
+    root = archive.ROOT
     try:
-        kit.ROOT = folder  # so that places are named below it
+        archive.ROOT = folder  # so that places are named below it
         (folder / "c").mkdir()
-        shutil.copy(kit_root / "c/net_base.h", folder / "c")
+        shutil.copy(root / "c/net_base.h", folder / "c")
         data = bytearray(bytes_of("thumbv7em"))
         data[-20] ^= 1
         report("an archive with a changed byte", put("thumbv7em", bytes(data), False))
@@ -197,7 +195,7 @@ def archives(folder):
                             ("x86_64", "aarch64"), ("riscv64gc", "riscv32imac")):
             report(f"the archive and digest of {other} in the folder of {name}", put(name, bytes_of(other), True))
     finally:
-        kit.ROOT, archive.LIB = kit_root, right
+        archive.ROOT, archive.LIB = root, right
 
 
 def interrupts(folder):
@@ -210,7 +208,7 @@ def interrupts(folder):
 def rust_choices(folder):
     """What rust/build.rs chooses for each target of rustc, and what it says to an archive that is wrong."""
     program, crate, out = folder / "build", folder / "crate", folder / "out"
-    subprocess.run(["rustc", "--edition", "2021", kit.ROOT / "rust/build.rs", "-o", program], check=True)
+    subprocess.run(["rustc", "--edition", "2021", archive.ROOT / "rust/build.rs", "-o", program], check=True)
     (crate / "lib").mkdir(parents=True)
     out.mkdir()
 

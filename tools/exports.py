@@ -1,4 +1,4 @@
-"""The tests of the exports in both languages, from the rows of exports.txt: part of ffi.py, which writes them.
+"""Writes the program in C that calls each export at the values of exports.txt: part of ffi.py.
 
 The first lines of exports.txt say what a row is. Each export has one, and so has each constant.
 """
@@ -9,10 +9,36 @@ import sys
 import ffi
 
 TABLE = pathlib.Path(__file__).resolve().parent / "exports.txt"
-TESTS = ffi.ROOT / "rust/src/sys/tests.rs"
-CHECKS = ffi.ROOT / "c/exports.c"
 TOKEN = re.compile(r'"[^"]*"|[\[\]{}]|[^\s\[\]{}"]+')
 ANY, SAME = "_", "="
+HEAD = r"""/* Calls each export at the values of tools/exports.txt. Written by `python3 tools/ffi.py --tests`. */
+#include "net_base.h"
+#include <stdio.h>
+#include <stdlib.h>
+#include <string.h>
+
+static int checks;
+
+static void check(bool holds, const char *text, int line) {
+    checks++;
+    if (holds) return;
+    printf("exports.c:%d: %s is false\n", line, text);
+    exit(1);
+}
+
+#define CHECK(condition) check((condition), #condition, __LINE__)
+
+static const uint8_t *text(const char *bytes) {
+    return (const uint8_t *)bytes;
+}
+"""
+TAIL = r"""
+int main(void) {
+    check_exports();
+    printf("exports: %d checks passed\n", checks);
+    return 0;
+}
+"""
 
 
 def stop(line, message):
@@ -87,16 +113,9 @@ class Table:
             sys.exit(f"exports.txt: {text} is no {kind}")
         return value
 
-    def is_wide(self, row):
-        """Whether an argument is a number that a processor of 32 bits doesn't have."""
-        return any(
-            member.type == "usize" and self.number(row.arguments[member.name], "usize") >= 2**32
-            for member in row.item.members
-        )
 
-
-class Language:
-    """How a language writes values of a type, and compares them."""
+class C:
+    """How C writes values of a type, and compares them; and the program."""
 
     def __init__(self, table):
         self.table, self.structs = table, table.library.structs
@@ -128,16 +147,11 @@ class Language:
             return [it for field, part in fields for it in self.compared(f"{name}.{field.name}", part, field.type)]
         return [f"{name} == {self.value(tree, kind)}"]
 
-    def left(self, row, skipped=()):
-        members = [it for it in row.item.members if it.name in row.left and it.name not in skipped]
+    def left(self, row):
+        members = [it for it in row.item.members if it.name in row.left]
         return [it for member in members for it in self.compared(member.name, row.left[member.name], pointee(member))]
 
 
-def pointee(member):
-    return re.sub(r"^&(mut )?", "", member.type)
-
-
-class C(Language):
     def literal(self, number, kind):
         bits = 64 if kind.endswith("size") else int(re.sub(r"\D", "", kind))
         sign = "U" if kind[0] == "u" else ""
@@ -192,8 +206,8 @@ class C(Language):
         lines += [f"CHECK({' && '.join(left)});"] if left else []
         return [f"    {lines[0]}"] if len(lines) == 1 else ["    {"] + [f"        {line}" for line in lines] + ["    }"]
 
-    def part(self):
-        lines = [ffi.BEGIN, ""]
+    def program(self):
+        lines = [HEAD]
         wrong = " || ".join(f"NET_BASE_{name} != {self.literal(it, 'u64')}" for name, it in self.table.numbers.items())
         lines += [f"#if {wrong}".replace(" || ", " \\\n    || "), '#error "a number of net_base.h isn\'t that of the table"', "#endif"]
         for name in sorted({item.type for item in self.table.exports.values()} & set(self.structs)):
@@ -206,95 +220,17 @@ class C(Language):
             lines += [line for row in rows for line in self.row(row)] + ["}"]
         lines += ["", "static void check_exports(void) {"]
         lines += [f"    check_{name.removeprefix('net_base_')}();" for name in self.table.rows] + ["}"]
-        return "\n".join(lines + ["", ffi.END]) + "\n"
+        return "\n".join(lines) + "\n" + TAIL
+
+
+def pointee(member):
+    return re.sub(r"^&(mut )?", "", member.type)
 
 
 def is_name(struct):
     return ffi.c_struct(struct).removeprefix("struct net_base_") + "_is"
 
 
-class Rust(Language):
-    def __init__(self, table):
-        super().__init__(table)
-        self.own = {item.name for item in ffi.rust_own(table.library)}
-
-    def literal(self, number, kind):
-        bits = int(re.sub(r"\D", "", kind) or 64)
-        least = -(2 ** (bits - 1)) if kind[0] == "i" else 0
-        greatest = least + 2**bits - 1
-        if greatest - number < 100:
-            return f"{kind}::MAX" + f" - {greatest - number}" * (number < greatest)
-        if least < 0 and number - least < 100:
-            return f"{kind}::MIN" + f" + {number - least}" * (number > least)
-        return str(number)
-
-    def struct(self, kind, fields):
-        wide = kind not in self.own
-        parts = [f"{field.name}: {value.replace('usize::', 'u64::') if wide else value}" for field, value in fields]
-        return f"{kind} {{ {', '.join(parts)} }}"
-
-    def compared(self, name, tree, kind):
-        # The numbers of heads and of runs have 64 bits here.
-        return [it.replace("usize::", "u64::") for it in super().compared(name, tree, kind)]
-
-    def bytes_equal(self, name, text):
-        return f"{name} == *b{text}"
-
-    def argument(self, member, tree):
-        kind, mutable = pointee(member), member.type.startswith("&mut")
-        if slice_of := re.fullmatch(r"\[(.+)\]", kind):
-            if isinstance(tree, str):
-                return [f"let mut {member.name} = *b{tree};"] if mutable else [], f"&mut {member.name}" if mutable else f"b{tree}"
-            array = f"[{', '.join(self.value(part, slice_of[1]) for part in tree[1:])}]"
-            return [f"let mut {member.name} = {array};"] if mutable else [], f"&mut {member.name}" if mutable else f"&{array}"
-        value = self.value(tree, kind)
-        if mutable:
-            return [f"let mut {member.name} = {value};"], f"&mut {member.name}"
-        return [], f"&{value}" if member.type.startswith("&") else value
-
-    def row(self, row):
-        item, members = row.item, list(row.item.members)
-        owner, name = ffi.method_of(item, self.structs)
-        written = members.pop() if ffi.is_option(item) else None
-        arguments = [self.argument(member, row.arguments[member.name]) for member in members]
-        lines = [line for variable, _ in arguments for line in variable]
-        passed = [it for _, it in arguments]
-        if owner:
-            call = f"{passed[0].removeprefix('&mut ').removeprefix('&')}.{name}({', '.join(passed[1:])})"
-        else:
-            call = f"{name}({', '.join(passed)})"
-        call = f"unsafe {{ {call} }}" if item.requires else call
-        if written:
-            value = self.value(row.left[written.name], pointee(written))
-            lines.append(f"assert_eq!({call}, {f'Some({value})' if row.result == 'true' else 'None'});")
-        elif not item.type:
-            lines.append(f"{call};")
-        elif item.type == "bool":
-            lines.append(f"assert!({'' if row.result == 'true' else '!'}{call});")
-        else:
-            lines.append(f"assert_eq!({call}, {self.value(row.result, item.type)});")
-        left = self.left(row, [written.name] if written else [])
-        lines += [f"assert!({' && '.join(left)});"] if left else []
-        wide = ['    #[cfg(target_pointer_width = "64")]'] if self.table.is_wide(row) else []
-        if len(lines) == 1:
-            return wide + [f"    {lines[0]}"]
-        return wide + ["    {"] + [f"        {line}" for line in lines] + ["    }"]
-
-    def file(self):
-        lines = ["//! Each export at the values of tools/exports.txt: a test has the export's name.", "//!"]
-        lines += ["//! Written by `python3 tools/ffi.py`.", "use super::calls::*;"]
-        lines += [f"use super::calls::{{{', '.join(sorted(self.own))}}};"]
-        lines += ["use super::declarations::*;", ""]
-        lines += ["#[test]", "fn constants() {"]
-        lines += [f"    assert_eq!(NET_BASE_{name}, {self.literal(it, 'u64')});" for name, it in self.table.numbers.items()]
-        lines += ["}"]
-        for name, rows in self.table.rows.items():
-            lines += ["", "#[test]", f"fn {name}() {{"] + [line for row in rows for line in self.row(row)] + ["}"]
-        return "\n".join(lines) + "\n"
-
-
-def written(library):
-    """The files of tests, with their texts."""
-    table = Table(library)
-    before, rest = CHECKS.read_text().split(ffi.BEGIN + "\n", 1)
-    return [(CHECKS, before + C(table).part() + rest.split(ffi.END + "\n", 1)[1]), (TESTS, Rust(table).file())]
+def program(library):
+    """The source of the program."""
+    return C(Table(library)).program()

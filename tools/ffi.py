@@ -1,10 +1,10 @@
 #!/usr/bin/env python3
-"""Writes the declarations of the library for C and Rust from the exports of crates/net_ffi.
+"""Writes the declarations of the library for C from the exports of crates/net_ffi.
 
-    python3 tools/ffi.py            writes c/net_base.h, declarations.rs, calls.rs and tests.rs of rust/src/sys, and
-                                    the tests of c/exports.c
-    python3 tools/ffi.py --check    compares the files with what it would write; status 1 if one is stale
-    python3 tools/ffi.py --names    prints the names of the exports
+    python3 tools/ffi.py               writes c/net_base.h, and the duties and refusals in docs/FFI.md
+    python3 tools/ffi.py --check       compares the files with what it would write; status 1 if one is stale
+    python3 tools/ffi.py --tests FILE  writes the program that calls each export at the values of exports.txt
+    python3 tools/ffi.py --names       prints the names of the exports
 
 It reads, in the order of the modules in lib.rt, but those in FIRST before,
 - each `#[unsafe(no_mangle)] pub extern "C" fn`, with its doc comment;
@@ -13,9 +13,8 @@ It reads, in the order of the modules in lib.rt, but those in FIRST before,
 
 A slice is a pointer and then a length, with `_length` after the slice's name; `&T` and `&mut T` are pointers. In
 C a struct's name is in snake case, without `Net` before and `Head` after it, and has the prefix `net_base_`. The doc
-comment of a module heads its section; of a struct of another crate only its first paragraph is taken. Of
-c/exports.c only the part between two lines is written. The duties and refusals in the crate's own comment are in the
-header and in docs/FFI.md. The tests are the rows of exports.txt.
+comment of a module heads its section; of a struct of another crate only its first paragraph is taken. The duties and
+refusals in the crate's own comment are in the header and in docs/FFI.md.
 """
 import argparse
 import dataclasses
@@ -27,10 +26,8 @@ import textwrap
 ROOT = pathlib.Path(__file__).resolve().parent.parent
 EXPORTS = ROOT / "crates/net_ffi"
 HEADER = ROOT / "c/net_base.h"
-DECLARATIONS = ROOT / "rust/src/sys/declarations.rs"
-CALLS = ROOT / "rust/src/sys/calls.rs"
 # Modules whose sections come first: what the others refer to.
-FIRST = ["refusals", "ring"]
+FIRST = ["refusals", "ring", "results"]
 PAGE = ROOT / "docs/FFI.md"
 PAGE_BEGIN = "<!-- Written by tools/ffi.py from crates/net_ffi/src/lib.rt, up to the line END. -->"
 PAGE_END = "<!-- END -->"
@@ -149,18 +146,22 @@ def first_paragraph(lines):
 
 def module_doc(path):
     """The lines of a file's own doc comment."""
-    lines = re.match(r"(?:^//!.*\n)*", path.read_text(), flags=re.M)[0].splitlines()
+    lines = re.match(r"(?://!.*\n)*", path.read_text())[0].splitlines()
     return [line[3:].strip() for line in lines]
 
 
 def modules_of(crate):
-    """The files of a crate: those in FIRST, then in the order of `mod` in its root."""
+    """The files of a crate by section: those in FIRST, then in the order of `mod` in its root. One of src/heads and one
+    by hand of the same name are one section."""
     files = [crate / "src/lib.rt"]
     for path in files:
         folder = path.parent if path.name == "lib.rt" else path.with_suffix("")
         for name in re.findall(r"^(?:pub )?mod (\w+);", path.read_text(), flags=re.M):
             files.append(folder / f"{name}.rt")
-    return sorted(files, key=lambda path: (FIRST + [path.stem]).index(path.stem))
+    sections = {}
+    for path in sorted(files, key=lambda path: (FIRST + [path.stem]).index(path.stem)):
+        sections.setdefault(path.stem, []).append(path)
+    return [sorted(paths, key=lambda path: path.parent.name != "heads") for paths in sections.values()]
 
 
 def core_type(kind):
@@ -181,16 +182,16 @@ class Library:
     def __init__(self, crate):
         self.structs = self.all_structs(crate)
         self.sections, self.done = [], set()
-        for path in modules_of(crate):
+        for paths in modules_of(crate):
             section = []
-            for item in items_of(path):
+            for item in [item for path in paths for item in items_of(path)]:
                 if item.kind == "fn":
                     self.need(section, [member.type for member in item.members] + [item.type])
                 if item.kind != "struct":
                     section.append(item)
             if section:
                 section.sort(key=lambda item: ["struct", "const", "fn"].index(item.kind))
-                self.sections.append((module_doc(path), section))
+                self.sections.append((module_doc(paths[0]), section))
 
     def all_structs(self, crate):
         """Each `#[repr(C)]` struct of the crates, by name; the export crate's own take precedence."""
@@ -344,172 +345,6 @@ def c_part(library, crate):
     return "\n".join(lines + ["", END, "", "#ifdef __cplusplus", "}", "#endif", "#endif"]) + "\n"
 
 
-def rust_comment(lines, indent=""):
-    rows = wrapped_text(re.sub(r"\busize::", "u64::", plain_text(lines)), WIDTH - len(indent) - 4)
-    return [f"{indent}/// {line}".rstrip() for line in rows]
-
-
-def rust_type(kind):
-    """A type of the declarations for Rust: numbers that cross have 64 bits."""
-    return re.sub(r"\busize\b", "u64", re.sub(r"\bisize\b", "i64", kind))
-
-
-def rust_members(member):
-    """How Rust declares a parameter: two of them for a slice."""
-    if slice_of := re.fullmatch(r"&(mut )?\[([^;]+)\]", member.type):
-        kind = "mut" if slice_of[1] else "const"
-        return [f"{member.name}: *{kind} {rust_type(slice_of[2])}", f"{member.name}_length: u64"]
-    return [f"{member.name}: {rust_type(member.type)}"]
-
-
-def rust_filled(head, parts, tail, indent):
-    """A declaration as rustfmt lays it out."""
-    line = indent + head + ", ".join(parts) + tail
-    if len(line) <= WIDTH:
-        return [line]
-    return [indent + head] + [f"{indent}    {part}," for part in parts] + [indent + tail]
-
-
-def rust_item(item):
-    """The lines that declare a struct or a constant in Rust."""
-    lines = rust_comment(item.doc)
-    if item.kind == "const":
-        return lines + [f"pub const {item.name}: {rust_type(item.type)} = {rust_type(item.text)};"]
-    lines += ["#[repr(C)]", "#[derive(Debug, Clone, Copy, PartialEq, Eq)]", f"pub struct {item.name} {{"]
-    for field in item.members:
-        lines += rust_comment(field.doc, "    ") + [f"    pub {field.name}: {rust_type(field.type)},"]
-    return lines + ["}"]
-
-
-def rust_file(library):
-    """The file of declarations for Rust."""
-    lines = ["//! Structs, constants and exports of the archive.", "//!", "//! Written by `python3 tools/ffi.py`.", ""]
-    for _, section in library.sections:
-        for item in section:
-            if item.kind != "fn":
-                lines += rust_item(item) + [""]
-    lines += ['extern "C" {']
-    for item in library.exports():
-        lines += [""] * (lines[-1] != 'extern "C" {') + rust_comment(item.doc, "    ")
-        parameters = [part for member in item.members for part in rust_members(member)]
-        result = f" -> {rust_type(item.type)}" if item.type else ""
-        lines += rust_filled(f"pub fn {item.name}(", parameters, f"){result};", "    ")
-    return "\n".join(lines + ["}"]) + "\n"
-
-
-def rust_own(library):
-    """The structs that calls only return, and whose numbers have this processor's width in Rust."""
-    lent = {structs_of(member.type) for item in library.exports() for member in item.members}
-    returned = {item.type for item in library.exports()} & set(library.structs) - lent
-    items = [item for _, section in library.sections for item in section if item.name in returned]
-    return [item for item in items if any(field.type == "usize" for field in item.members)]
-
-
-def own_struct(item):
-    """The lines of such a struct, and its conversion."""
-    lines = [f"/// [`declarations::{item.name}`] in this processor's numbers.", "#[derive(Debug, Clone, Copy, PartialEq, Eq)]"]
-    lines += [f"pub(crate) struct {item.name} {{"]
-    lines += [f"    pub {field.name}: {field.type}," for field in item.members]
-    lines += ["}", "", f"impl From<declarations::{item.name}> for {item.name} {{", "    #[inline]"]
-    lines += [f"    fn from(it: declarations::{item.name}) -> {item.name} {{", f"        {item.name} {{"]
-    for field in item.members:
-        value = f"narrow(it.{field.name})" if field.type == "usize" else f"it.{field.name}"
-        lines.append(f"            {field.name}: {value},")
-    return lines + ["        }", "    }", "}"]
-
-
-def method_of(item, structs):
-    """The struct whose method a call is, and its name: no struct if it is a free function."""
-    name = item.name.removeprefix("net_base_")
-    owner = structs_of(item.members[0].type) if item.members else ""
-    prefix = c_struct(owner).removeprefix("struct net_base_") + "_" if owner in structs else " "
-    return (owner, name.removeprefix(prefix)) if name.startswith(prefix) else ("", name)
-
-
-def is_option(item):
-    """Whether an export says by its result whether it wrote a number, its last parameter."""
-    return item.type == "bool" and item.members[-1].type in ("&mut i64", "&mut u64", "&mut usize")
-
-
-def call_arguments(member, is_self):
-    """What a call passes to its export for a parameter."""
-    name = "self" if is_self else member.name
-    if slice_of := re.fullmatch(r"&(mut )?\[([^;]+)\]", member.type):
-        return [f"{name}.as{'_mut' * bool(slice_of[1])}_ptr()", f"wide({name}.len())"]
-    return [f"wide({name})" if member.type == "usize" else name]
-
-
-def rust_call(item, library, own):
-    """The lines of the function that calls an export, and the struct whose method it is."""
-    owner, name = method_of(item, library.structs)
-    members = list(item.members)
-    written = members.pop() if is_option(item) else None
-    parameters = [f"{member.name}: {member.type}" for member in members]
-    if owner:
-        parameters[0] = "&mut self" if members[0].type.startswith("&mut") else "&self"
-    arguments = [part for member in members for part in call_arguments(member, bool(owner) and member is members[0])]
-    arguments += [f"&mut {written.name}"] if written else []
-    result = f"Option<{core_type(written.type)}>" if written else item.type
-    lines = []
-    if item.requires:
-        text = item.doc[item.doc.index(REQUIRES) + 1 :]
-        lines += ["/// # Safety", "///"] + rust_comment(["\n".join(text).strip()])
-    unsafe = "unsafe " * item.requires
-    lines += ["#[inline]"]
-    lines += call_filled(f"pub(crate) {unsafe}fn {name}(", parameters, f"){f' -> {result}' * bool(result)} {{")
-    block = call_filled(f"{item.name}(", arguments, ")")
-    if written:
-        lines.append(f"    let mut {written.name} = 0;")
-        number = f"narrow({written.name})" if written.type == "&mut usize" else written.name
-        before, after = "", f".then_some({number})"
-    elif item.type == "usize":
-        before, after = "narrow(", ")"
-    elif item.type in own:
-        before, after = "", ".into()"
-    else:
-        before, after = "", ""
-    if len(block) == 1 and len(one := f"    {before}unsafe {{ {block[0]} }}{after}") <= WIDTH - 4:
-        lines.append(one)
-    else:
-        lines += [f"    {before}unsafe {{"] + [f"        {row}" for row in block] + [f"    }}{after}"]
-    return owner, lines + ["}"]
-
-
-def call_filled(head, parts, tail):
-    """A head, parts and a tail on one line, or with the parts on lines of their own, as far as they fit."""
-    line = head + ", ".join(parts) + tail
-    if len(line) <= WIDTH - 16:
-        return [line]
-    kept = ", ".join(part.replace(" ", "\0") for part in parts) + ","
-    return [head] + [f"    {row}".replace("\0", " ") for row in textwrap.wrap(kept, WIDTH - 20)] + [tail]
-
-
-def calls_file(library):
-    """The file of calls for Rust."""
-    own = rust_own(library)
-    names = {item.name for item in own}
-    lines = ["//! Each export as a function of slices and references.", "//!", "//! Written by `python3 tools/ffi.py`."]
-    lines += ["//!", "//! Why each `unsafe` block is sound: it calls an export of the archive whose declarations these are, and"]
-    lines += ["//! passes only numbers, references, and pointers with the lengths of slices, which live during the call; a"]
-    lines += ["//! reference or slice for writing overlaps no other. An export requires no more, but where the function is"]
-    lines += ["//! `unsafe` and says what."]
-    owned, free = {}, []
-    for item in library.exports():
-        owner, rows = rust_call(item, library, names)
-        (owned.setdefault(owner, []) if owner else free).append(rows)
-    lines += ["use super::declarations::{self, *};", "use super::{narrow, wide};"]
-    for item in own:
-        lines += [""] + own_struct(item)
-    for owner, functions in owned.items():
-        lines += ["", f"impl {owner} {{"]
-        for at, rows in enumerate(functions):
-            lines += [""] * (at > 0) + [f"    {row}".rstrip() for row in rows]
-        lines += ["}"]
-    for rows in free:
-        lines += [""] + rows
-    return "\n".join(lines) + "\n"
-
-
 def page(crate, path):
     """The page with its duties and refusals written anew."""
     before, rest = path.read_text().split(PAGE_BEGIN + "\n", 1)
@@ -526,27 +361,22 @@ def main():
 
     parser = argparse.ArgumentParser(description=__doc__.split("\n")[0])
     parser.add_argument("--check", action="store_true", help="compare, write nothing")
+    parser.add_argument("--tests", type=pathlib.Path, help="write the program of exports.txt to a file")
     parser.add_argument("--names", action="store_true", help="print the names of the exports")
-    parser.add_argument("--exports", type=pathlib.Path, default=EXPORTS, help="the crate of exports")
-    parser.add_argument("--header", type=pathlib.Path, default=HEADER)
-    parser.add_argument("--rust", type=pathlib.Path, default=DECLARATIONS)
-    parser.add_argument("--calls", type=pathlib.Path, default=CALLS)
     options = parser.parse_args()
-    library = Library(options.exports)
+    library = Library(EXPORTS)
     if options.names:
         print("\n".join(item.name for item in library.exports()))
         return
+    if options.tests:
+        options.tests.write_text(exports.program(library))
+        return
     stale = False
-    written = [(options.header, c_part(library, options.exports)), (options.rust, rust_file(library))]
-    written.append((options.calls, calls_file(library)))
-    if options.exports == EXPORTS:
-        written += [(PAGE, page(EXPORTS, PAGE))] + exports.written(library)
-    for path, text in written:
+    for path, text in ((HEADER, c_part(library, EXPORTS)), (PAGE, page(EXPORTS, PAGE))):
         if not options.check:
-            path.parent.mkdir(parents=True, exist_ok=True)
             path.write_text(text)
-        elif not path.exists() or path.read_text() != text:
-            print(f"{path.relative_to(ROOT) if path.is_relative_to(ROOT) else path}: stale, run python3 tools/ffi.py")
+        elif path.read_text() != text:
+            print(f"{path.relative_to(ROOT)}: stale, run python3 tools/ffi.py")
             stale = True
     sys.exit(stale)
 

@@ -1,4 +1,4 @@
-/* Moments, durations, devices, sequence numbers and the generator, by numbers of 128 bits and by
+/* Moments, devices, sequence numbers and the generator, by numbers of 128 bits and by
  * their definitions. */
 #include "fuzz.h"
 
@@ -18,48 +18,11 @@ static void expect_result(bool done, bool right, const uint64_t *at, uint64_t be
     EXPECT(room_is_whole(&room));
 }
 
-static bool is_moment(wide micros) {
-    return INT64_MIN <= micros && micros <= INT64_MAX;
-}
-
-static bool is_length(wide micros) {
-    return 0 <= micros && micros <= UINT64_MAX;
-}
-
-static wide clamped(wide number, wide least, wide most) {
-    return number < least ? least : number > most ? most : number;
-}
-
-static void fuzz_instant_of(void) {
-    uint64_t size = any_number() >> below(64);
-    int64_t count = (int64_t)(once_in(2) ? size : -size);
-    uint64_t *at = take_number(), before = *at;
-    bool secs = once_in(2);
-    bool done = secs ? net_base_instant_from_secs(count, (int64_t *)at)
-                     : net_base_instant_from_millis(count, (int64_t *)at);
-    wide wanted = (wide)count * (secs ? 1000000 : 1000);
-    expect_result(done, is_moment(wanted), at, before, wanted);
-}
-
-static void fuzz_instant_sum(void) {
-    int64_t instant = (int64_t)any_number();
-    uint64_t duration = any_number(), *at = take_number(), before = *at;
-    bool add = once_in(2);
-    bool done = add ? net_base_instant_add(instant, duration, (int64_t *)at)
-                    : net_base_instant_sub(instant, duration, (int64_t *)at);
-    wide wanted = add ? (wide)instant + duration : (wide)instant - duration;
-    expect_result(done, is_moment(wanted), at, before, wanted);
-}
-
-static void fuzz_instant_saturating(void) {
+static void fuzz_instant_saturating_add(void) {
     int64_t instant = (int64_t)any_number();
     uint64_t duration = any_number();
-    wide sum = clamped((wide)instant + duration, INT64_MIN, INT64_MAX);
-    wide difference = clamped((wide)instant - duration, INT64_MIN, INT64_MAX);
-    if (once_in(2))
-        EXPECT(net_base_instant_saturating_add(instant, duration) == sum);
-    else
-        EXPECT(net_base_instant_saturating_sub(instant, duration) == difference);
+    wide sum = (wide)instant + duration;
+    EXPECT(net_base_instant_saturating_add(instant, duration) == (sum > INT64_MAX ? INT64_MAX : sum));
 }
 
 static void fuzz_instant_distance(void) {
@@ -81,85 +44,9 @@ static void fuzz_instant_earliest(void) {
     EXPECT(earliest == wanted);
 }
 
-static void fuzz_duration_of(void) {
-    uint64_t count = any_number() >> below(64), *at = take_number(), before = *at;
-    bool secs = once_in(2);
-    bool done = secs ? net_base_duration_from_secs(count, at) : net_base_duration_from_millis(count, at);
-    wide wanted = (wide)count * (secs ? 1000000 : 1000);
-    expect_result(done, is_length(wanted), at, before, wanted);
-}
-
-static void fuzz_duration_sum(void) {
-    uint64_t one = any_number(), other = any_number(), *at = take_number(), before = *at;
-    bool add = once_in(2);
-    bool done = add ? net_base_duration_add(one, other, at) : net_base_duration_sub(one, other, at);
-    wide wanted = add ? (wide)one + other : (wide)one - other;
-    expect_result(done, is_length(wanted), at, before, wanted);
-}
-
-static void fuzz_duration_mul(void) {
-    uint64_t one = any_number(), *at = take_number(), before = *at;
-    uint32_t factor = (uint32_t)any_number();
-    wide wanted = (wide)one * factor;
-    expect_result(net_base_duration_mul(one, factor, at), is_length(wanted), at, before, wanted);
-}
-
-static void fuzz_duration_saturating(void) {
-    uint64_t one = any_number(), other = any_number();
-    uint32_t factor = (uint32_t)other;
-    switch (below(3)) {
-    case 0:
-        EXPECT(net_base_duration_saturating_add(one, other)
-               == (uint64_t)clamped((wide)one + other, 0, UINT64_MAX));
-        break;
-    case 1:
-        EXPECT(net_base_duration_saturating_sub(one, other)
-               == (uint64_t)clamped((wide)one - other, 0, UINT64_MAX));
-        break;
-    default:
-        EXPECT(net_base_duration_saturating_mul(one, factor)
-               == (uint64_t)clamped((wide)one * factor, 0, UINT64_MAX));
-    }
-}
-
-static void fuzz_duration_div(void) {
-    uint64_t one = any_number(), *at = take_number(), before = *at;
-    uint32_t divisor = (uint32_t)mostly_within(3);
-    bool right = divisor != 0;
-    uint64_t wanted = 0;
-    if (right) wanted = one / divisor;
-    expect_result(net_base_duration_div(one, divisor, at), right, at, before, wanted);
-}
-
-static uint64_t power_of_two(uint32_t exponent) {
-    uint64_t power = 1;
-    while (exponent-- > 0) power *= 2;
-    return power;
-}
-
-static void fuzz_duration_shift(void) {
-    uint64_t one = any_number(), *at = take_number(), before = *at, wanted = 0;
-    uint32_t bits = (uint32_t)mostly_within(66);
-    bool right = bits < 64, left = once_in(2);
-    if (right) wanted = left ? one * power_of_two(bits) : one / power_of_two(bits);
-    bool done = left ? net_base_duration_shl(one, bits, at) : net_base_duration_shr(one, bits, at);
-    expect_result(done, right, at, before, wanted);
-}
-
 void fuzz_time(void) {
     static void (*const calls[])(void) = {
-        fuzz_instant_of,
-        fuzz_instant_sum,
-        fuzz_instant_saturating,
-        fuzz_instant_distance,
-        fuzz_instant_earliest,
-        fuzz_duration_of,
-        fuzz_duration_sum,
-        fuzz_duration_mul,
-        fuzz_duration_saturating,
-        fuzz_duration_div,
-        fuzz_duration_shift,
-    };
+        fuzz_instant_saturating_add, fuzz_instant_distance, fuzz_instant_earliest};
     calls[below(sizeof calls / sizeof calls[0])]();
 }
 
@@ -169,26 +56,18 @@ static wide ip_mtu(uint32_t medium, uint64_t frame) {
     return medium == 0 ? (wide)frame - 14 : frame;
 }
 
-static uint32_t present_if(uint32_t checksum, bool present) {
-    if (checksum > 3) return NET_BASE_REFUSED;
-    return present ? NET_BASE_PRESENT : NET_BASE_MISSING;
-}
-
 void fuzz_devices(void) {
-    uint32_t medium = (uint32_t)mostly_within(2), checksum = (uint32_t)mostly_within(4);
+    uint32_t medium = (uint32_t)mostly_within(2);
     uint64_t frame = once_in(2) ? below(64) : any_number();
     uint64_t header = once_in(2) ? below(64) : any_number();
     uint64_t *at = take_number(), before = *at;
     wide packet = ip_mtu(medium, frame), rest = packet - header;
-    switch (below(4)) {
-    case 0: expect_result(net_base_ip_mtu(medium, frame, at), packet >= 0, at, before, packet); break;
-    case 1:
-        expect_result(net_base_max_ipv4_fragment_size(medium, frame, header, at), rest >= 0, at,
-                      before, rest - rest % 8);
-        break;
-    case 2: EXPECT(net_base_checksum_rx(checksum) == present_if(checksum, checksum < 2)); break;
-    default: EXPECT(net_base_checksum_tx(checksum) == present_if(checksum, checksum % 2 == 0));
+    if (once_in(2)) {
+        expect_result(net_base_ip_mtu(medium, frame, at), packet >= 0, at, before, packet);
+        return;
     }
+    bool done = net_base_max_ipv4_fragment_size(medium, frame, header, at);
+    expect_result(done, rest >= 0, at, before, rest - rest % 8);
 }
 
 static const uint64_t NUMBERS = (uint64_t)1 << 32;
@@ -211,25 +90,14 @@ void fuzz_sequence_number(void) {
     if (once_in(4)) other = one + (uint32_t)(NUMBERS / 2) + (uint32_t)below(5) - 2;
     uint64_t near = any_number(), *at = take_number(), before = *at;
     uint64_t ahead = (one + NUMBERS - other) % NUMBERS;
-    switch (below(5)) {
-    case 0:
-        EXPECT(net_base_sequence_number_at(one, near)
-               == (uint32_t)(((wide)one + (wide)near) % (wide)NUMBERS));
-        break;
-    case 1: EXPECT(net_base_sequence_number_ahead_of(one, other) == ahead); break;
-    case 2:
+    if (once_in(2)) {
         EXPECT(net_base_sequence_number_is_before(other, one)
                == (0 < ahead && ahead < NUMBERS / 2));
-        break;
-    case 3:
-        EXPECT(net_base_sequence_number_add(one, other) == ((uint64_t)one + other) % NUMBERS);
-        break;
-    default: {
-        wide wanted = position_of(one, other, near);
-        expect_result(net_base_sequence_number_position(one, other, near, at), wanted >= 0, at,
-            before, wanted);
+        return;
     }
-    }
+    wide wanted = position_of(one, other, near);
+    bool done = net_base_sequence_number_position(one, other, near, at);
+    expect_result(done, wanted >= 0, at, before, wanted);
 }
 
 static uint64_t successor(uint64_t state) {
@@ -261,10 +129,9 @@ void fuzz_rand(void) {
     if (once_in(4)) *state = state_before_draw((uint16_t)(1022 + below(6)));
     uint64_t before = *state, wanted = successor(before);
     uint32_t bound = once_in(4) ? (uint32_t)below(3) : (uint32_t)any_number();
-    switch (below(4)) {
+    switch (below(3)) {
     case 0: EXPECT(net_base_rand_u32(state) == random_word(wanted)); break;
-    case 1: EXPECT(net_base_rand_u16(state) == draw_of(wanted)); break;
-    case 2:
+    case 1:
         if (bound == 0) wanted = before;
         EXPECT(net_base_rand_below(state, bound)
                == (bound == 0 ? UINT64_MAX : (uint64_t)random_word(wanted) * bound >> 32));

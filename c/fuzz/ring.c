@@ -87,15 +87,11 @@ static void fuzz_one(void) {
         EXPECT(place_is(index_at(&list, 1), before.length - 1));
 }
 
-static struct net_base_span span_of_part(struct net_base_part part) {
-    return (struct net_base_span){part.from, part.count, part.count};
-}
-
 static void fuzz_put(void) {
     uint64_t size = mostly_within(MOST_BYTES);
     bool whole = once_in(2);
     struct net_base_span span = whole ? net_base_ring_enqueue_span(place, capacity, size)
-                                 : span_of_part(net_base_ring_enqueue_many(place, capacity, size));
+                                      : net_base_ring_enqueue_many(place, capacity, size);
     if (!is_sound_place(before, capacity)) {
         EXPECT(is_refusal(span));
         EXPECT(is_unchanged());
@@ -113,7 +109,7 @@ static void fuzz_take(void) {
     uint64_t size = mostly_within(MOST_BYTES);
     bool whole = once_in(2);
     struct net_base_span span = whole ? net_base_ring_dequeue_span(place, capacity, size)
-                                 : span_of_part(net_base_ring_dequeue_many(place, capacity, size));
+                                      : net_base_ring_dequeue_many(place, capacity, size);
     if (!is_sound_place(before, capacity)) {
         EXPECT(is_refusal(span));
         EXPECT(is_unchanged());
@@ -126,15 +122,11 @@ static void fuzz_take(void) {
     EXPECT(place_is(index_at(&list, wanted.count), before.length - wanted.count));
 }
 
-static void fuzz_contiguous_window(void) {
-    uint64_t count = net_base_ring_contiguous_window(place, capacity);
-    EXPECT(is_unchanged());
-    if (!is_sound_place(before, capacity)) {
-        EXPECT(count == UINT64_MAX);
-        return;
-    }
-    struct list list = list_of(before, capacity);
-    EXPECT(count == span_of(&list, list.queued, list.all, capacity).contiguous);
+static void fuzz_drop_last(void) {
+    uint64_t count = mostly_within(capacity);
+    bool done = net_base_ring_drop_last(place, count);
+    EXPECT(done == (count <= before.length));
+    EXPECT(place_is(before.read_at, before.length - (done ? count : 0)));
 }
 
 static void fuzz_clear(void) {
@@ -292,7 +284,7 @@ void fuzz_ring(void) {
         fuzz_dequeue_slice,
         fuzz_write_unallocated,
         fuzz_read_allocated,
-        fuzz_contiguous_window,
+        fuzz_drop_last,
         fuzz_clear,
         fuzz_any_capacity,
     };

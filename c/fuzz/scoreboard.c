@@ -1,4 +1,5 @@
-/* Scoreboards, as sets of reported positions. */
+/* Scoreboards, as sets of reported positions: bit p of the set is position base + p, and bit 0 is
+ * missing. All positions below the base are reported. */
 #include "sets.h"
 #include <string.h>
 
@@ -6,94 +7,136 @@ static struct room board_room, runs_room;
 static struct net_base_scoreboard *board, board_before;
 static struct net_base_run *runs, runs_before[MOST_RUNS];
 static uint64_t most, base;
-static set reported;
+static set beyond;
 static bool sound;
 
-/* Draws a scoreboard of at most `most` runs, counted from `base`, now and then one that isn't sound. */
+/* Makes a drawn scoreboard one that isn't sound. */
+static void spoil(void) {
+    uint64_t used = board->reported.used;
+    switch (used > 0 ? below(4) : 0) {
+    case 0: board->reported.used = most + 1 + below(3); break;
+    case 1: runs[0].start = 1 + below(3); break;
+    case 2: board->reported.first_start = 0; break;
+    default: board->base = UINT64_MAX - board->reported.first_start - runs[used - 1].end + 1 + below(2);
+    }
+}
+
+/* Draws a scoreboard of at most `most` runs, now and then one that isn't sound. */
 static void draw_scoreboard(void) {
     most = below(MOST_RUNS + 1);
-    base = once_in(4) ? any_number() : 0;
+    base = once_in(4) ? any_number() : below(POSITIONS);
     if (base > UINT64_MAX - POSITIONS) base = UINT64_MAX - POSITIONS;
     board = (struct net_base_scoreboard *)(void *)take_room(&board_room, sizeof *board);
     runs = (struct net_base_run *)(void *)take_room(&runs_room, most * sizeof *runs);
-    reported = draw_set(POSITIONS, most);
-    write_runs(reported, base, &board->reported, runs);
+    beyond = draw_set(POSITIONS - 1, most) << 1;
+    board->base = base;
+    write_runs(beyond, 0, &board->reported, runs);
     sound = !once_in(8);
-    if (!sound && board->reported.used > 0 && once_in(2)) {
-        runs[0].start = 1 + below(3);
-    } else if (!sound) {
-        board->reported.used = most + 1 + below(3);
-    }
+    if (!sound) spoil();
     board_before = *board;
     memcpy(runs_before, runs, most * sizeof *runs);
 }
 
 static bool is_unchanged(void) {
-    return board->reported.used == board_before.reported.used
-           && board->reported.first_start == board_before.reported.first_start
+    return memcmp(board, &board_before, sizeof *board) == 0
            && memcmp(runs, runs_before, most * sizeof *runs) == 0;
 }
 
-/* What a call that adds positions returns, and whether it leaves what it should. */
-static bool adds(uint32_t status, bool is_right, set added, uint64_t from) {
-    if (!is_right) return status == NET_BASE_REFUSED && is_unchanged();
-    set all = reported | added;
-    if (added != 0 && run_count(all) > most) return status == NET_BASE_TOO_MANY_RUNS && is_unchanged();
-    return status == NET_BASE_DONE && stores(&board->reported, runs, all, from);
+/* Whether all positions are reported that are below the base or in a set, which is counted from it. */
+static bool has_reported(set positions) {
+    uint64_t front = front_of(positions);
+    return board->base == base + front && stores(&board->reported, runs, shifted_down(positions, front), 0);
+}
+
+/* A position: most often near the base, or one below it. */
+static uint64_t draw_position(void) {
+    if (base > 0 && once_in(4)) return base - 1 - below(base < POSITIONS ? base : POSITIONS);
+    return base + below(POSITIONS + 1);
+}
+
+/* The positions from the base on and below an end. */
+static set below_end(uint64_t end) {
+    return end > base ? range_set(0, end - base) : 0;
 }
 
 static void fuzz_is_sound(void) {
     EXPECT(net_base_scoreboard_is_sound(board, runs, most) == sound && is_unchanged());
 }
 
-static void fuzz_clear(void) {
-    net_base_scoreboard_clear(board);
-    EXPECT(net_base_scoreboard_is_sound(board, runs, most));
-    struct net_base_hole hole = net_base_scoreboard_next_hole(board, runs, most, 3, UINT64_MAX);
-    EXPECT(hole.status == NET_BASE_DONE && hole.start == 3 && hole.end == UINT64_MAX);
+static void fuzz_reset(void) {
+    base = any_number();
+    net_base_scoreboard_reset(board, base);
+    EXPECT(has_reported(0) && net_base_scoreboard_is_sound(board, runs, most));
 }
 
 static void fuzz_report(void) {
-    uint64_t start = below(POSITIONS + 1), end = below(POSITIONS + 1), sent = below(POSITIONS + 1);
-    if (once_in(2)) sent = POSITIONS;
-    bool is_right = sound && start < end && end <= sent;
-    uint32_t status =
-        net_base_scoreboard_report(board, runs, most, base + start, base + end, base + sent);
-    EXPECT(adds(status, is_right, is_right ? range_set(start, end - start) : 0, base));
+    uint64_t start = draw_position(), end = draw_position();
+    uint64_t sent = once_in(2) ? base + POSITIONS : draw_position();
+    uint32_t status = net_base_scoreboard_report(board, runs, most, start, end, sent);
+    if (!sound || start >= end || end > sent) {
+        EXPECT(status == NET_BASE_REFUSED && is_unchanged());
+        return;
+    }
+    set all = beyond | (below_end(end) & ~below_end(start));
+    if (start > base && run_count(all) > most) {
+        EXPECT(status == NET_BASE_TOO_MANY_RUNS && is_unchanged());
+        return;
+    }
+    EXPECT(status == NET_BASE_DONE && has_reported(all));
 }
 
 static void fuzz_acknowledge(void) {
-    uint64_t next = base == 0 ? below(POSITIONS + 1) : 0;
-    uint32_t status = net_base_scoreboard_acknowledge(board, runs, most, next);
-    EXPECT(adds(status, sound, range_set(0, next), base));
+    uint64_t next = draw_position();
+    EXPECT(net_base_scoreboard_acknowledge(board, runs, most, next) == sound);
+    if (!sound) {
+        EXPECT(is_unchanged());
+        return;
+    }
+    EXPECT(next <= base ? is_unchanged() : has_reported(beyond | below_end(next)));
 }
 
 static void fuzz_contains(void) {
-    uint64_t at = below(POSITIONS);
-    uint32_t wanted = reported >> at & 1 ? NET_BASE_PRESENT : NET_BASE_MISSING;
-    uint32_t status = net_base_scoreboard_contains(board, runs, most, base + at);
-    EXPECT(status == (sound ? wanted : NET_BASE_REFUSED) && is_unchanged());
+    uint64_t at = once_in(8) ? any_number() : draw_position();
+    bool has = at < base || (at - base < POSITIONS && (beyond >> (at - base) & 1));
+    uint32_t status = net_base_scoreboard_contains(board, runs, most, at);
+    EXPECT(status == (!sound ? NET_BASE_REFUSED : has ? NET_BASE_PRESENT : NET_BASE_MISSING));
+    EXPECT(is_unchanged());
 }
 
 static void fuzz_next_hole(void) {
-    uint64_t start = below(POSITIONS + 1), limit = below(POSITIONS + 1);
-    struct net_base_hole hole =
-        net_base_scoreboard_next_hole(board, runs, most, base + start, base + limit);
+    uint64_t position = draw_position(), limit = draw_position();
+    struct net_base_hole hole = net_base_scoreboard_next_hole(board, runs, most, position, limit);
     EXPECT(is_unchanged());
     if (!sound) {
         EXPECT(hole.status == NET_BASE_REFUSED && hole.start == 0 && hole.end == 0);
         return;
     }
-    while (start < limit && reported >> start & 1) start++;
+    uint64_t start = position < base ? base : position;
+    while (start < limit && beyond >> (start - base) & 1) start++;
     if (start > limit) start = limit;
     uint64_t end = start;
-    while (end < limit && (reported >> end & 1) == 0) end++;
-    EXPECT(hole.status == NET_BASE_DONE && hole.start == base + start && hole.end == base + end);
+    while (end < limit && (beyond >> (end - base) & 1) == 0) end++;
+    EXPECT(hole.status == NET_BASE_DONE && hole.start == start && hole.end == end);
+}
+
+static void fuzz_reported(void) {
+    struct net_base_reported reported = net_base_scoreboard_reported(board, runs, most);
+    EXPECT(is_unchanged());
+    if (!sound) {
+        EXPECT(reported.status == NET_BASE_REFUSED && reported.end == 0 && reported.count == 0);
+        return;
+    }
+    uint64_t end = base;
+    for (uint64_t at = 0; at < POSITIONS; at++) {
+        if (beyond >> at & 1) end = base + at + 1;
+    }
+    EXPECT(reported.status == NET_BASE_DONE && reported.end == end);
+    EXPECT(reported.count == (uint64_t)__builtin_popcountll(beyond));
 }
 
 void fuzz_scoreboard(void) {
-    static void (*const calls[])(void) = {
-        fuzz_is_sound, fuzz_clear, fuzz_report, fuzz_acknowledge, fuzz_contains, fuzz_next_hole};
+    static void (*const calls[])(void) = {fuzz_is_sound, fuzz_reset, fuzz_report, fuzz_acknowledge,
+                                          fuzz_contains, fuzz_next_hole, fuzz_reported};
     draw_scoreboard();
     calls[below(sizeof calls / sizeof calls[0])]();
     EXPECT(room_is_whole(&board_room) && room_is_whole(&runs_room));

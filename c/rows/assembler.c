@@ -75,9 +75,11 @@ static void show(void) {
     say_digest(mix_text(sum));
 }
 
-/* Whether the clone has the same positions, by an export and by its runs. */
+/* Whether the clone has the same positions: both numbers and the runs in use are equal if and only if all runs are. */
 static bool is_equal(void) {
-    bool is_same = net_base_assembler_is_same(&now.head, now.runs, most, &kept.head, kept.runs, most);
+    bool is_same = now.head.used == kept.head.used && now.head.first_start == kept.head.first_start;
+    for (uint64_t i = 0; is_same && i < now.head.used; i++)
+        is_same = now.runs[i].start == kept.runs[i].start && now.runs[i].end == kept.runs[i].end;
     bool has_same_runs = true;
     for (uint64_t i = 0; has_run(&now, i) || has_run(&kept, i); i++) {
         struct net_base_run one = run_at(&now, i), other = run_at(&kept, i);

@@ -80,7 +80,7 @@ static void enqueue_with(const uint64_t *numbers) {
     say_lent(storage + last_from, numbers[0]);
     fill(storage + last_from, numbers[0], numbers[3]);
     bool is_done =
-        places ? net_base_packets_shorten_slot(&head, slot_count, capacity, &slots[last_slot], less)
+        places ? net_base_packets_shorten_slot(&head, &slots[last_slot], less)
                : net_base_packets_shorten_last(&head, slots, slot_count, capacity, less);
     if (!is_done) say(" refused");
 }

@@ -38,8 +38,7 @@ static uint64_t mix_span(uint64_t sum, struct net_base_span span) {
  */
 static void show_ring(void) {
     struct net_base_span queue = allocated(0, UINT64_MAX), spare = unallocated(0, UINT64_MAX);
-    uint64_t counts[] = {
-        queue.count, spare.count, net_base_ring_contiguous_window(&ring, capacity), capacity};
+    uint64_t counts[] = {queue.count, spare.count, spare.contiguous, capacity};
     for (int i = 0; i < 4; i++) {
         say_number(counts[i]);
         say(" ");
@@ -107,10 +106,10 @@ static bool make_change(const struct call *call) {
     } else if (is(call, "dequeue_one_with")) {
         one_with(allocated(0, 1), call, "empty", net_base_ring_dequeue);
     } else if (is(call, "enqueue_many")) {
-        struct net_base_part part = net_base_ring_enqueue_many(&ring, capacity, numbers[0]);
+        struct net_base_span part = net_base_ring_enqueue_many(&ring, capacity, numbers[0]);
         lend(storage + part.from, part.count, numbers[1]);
     } else if (is(call, "dequeue_many")) {
-        struct net_base_part part = net_base_ring_dequeue_many(&ring, capacity, numbers[0]);
+        struct net_base_span part = net_base_ring_dequeue_many(&ring, capacity, numbers[0]);
         lend(storage + part.from, part.count, numbers[1]);
     } else if (is(call, "enqueue_many_with")) {
         net_base_ring_rewind_if_empty(&ring);

@@ -19,9 +19,10 @@ sys.path.insert(0, str(ROOT / "tools"))
 
 import archive  # noqa: E402
 import elf  # noqa: E402
+import exports  # noqa: E402
 import ffi  # noqa: E402
 import sequence  # noqa: E402
-from targets import TARGETS  # noqa: E402
+from archive import TARGETS  # noqa: E402
 
 FLAGS = ["-std=gnu11", "-O2", "-Wall", "-Wextra", "-Werror", "-ffunction-sections"]
 IS_X86_64 = platform.machine() == "x86_64"
@@ -233,7 +234,7 @@ def last(said):
 def tests(programs, generated, options):
     """Runs the tests. Returns what is printed of them, and the digest of the sequence."""
     way = programs.way
-    checks = re.search(r"(\d+) checks", programs.run("exports", [C / "exports.c"]))
+    checks = re.search(r"(\d+) checks", programs.run("exports", [generated / "exports.c"]))
     if not checks:
         raise Failed("exports.c counts no checks")
     done = [f"{checks[1]} checks"]
@@ -352,6 +353,7 @@ def main():
         generated = pathlib.Path(folder) / "generated"
         generated.mkdir()
         library = ffi.Library(ROOT / "crates/net_ffi")
+        (generated / "exports.c").write_text(exports.program(library))
         (generated / "sequence.c").write_text(sequence.sequence(library))
         (generated / "empty.c").write_text(sequence.empty(library))
 

@@ -46,16 +46,16 @@
 //! say.
 #![tactic(auto)]
 
-mod assembler;
 mod fragments;
+mod heads;
 mod packets;
 mod phy;
 mod rand;
 mod receiver;
 mod refusals;
+mod results;
 mod ring;
 mod scoreboard;
-mod sender;
 mod sequence_number;
 mod time;
 mod version;

@@ -1,11 +1,4 @@
-//! Packet queues: where a packet has its slots and its bytes, in storages that the caller keeps.
-//!
-//! A packet's bytes are contiguous. If it doesn't fit before the storage's end, it is placed at its
-//! beginning, and the bytes before the end are a gap. A packet uses one slot, and a gap before it
-//! one more. `enqueue`, `dequeue`, `peek` and `shorten_last` take the slots, which `enqueue` and
-//! `shorten_last` write. `place`, `take_slot` and `shorten_slot` are for a caller that keeps its slots
-//! in another form: `place` takes none, and the caller writes those of the packet; the others take
-//! one slot. What is refused changes nothing.
+//! Packets that are placed, taken and looked at.
 ghost use Rattle.std.specs.Prelude.{◌≡◌, ◌↔◌, ◌≤◌, ◌⊎◌, ◌-◌, ◌+◌, ◌^◌, ℕ, List, IsTrue, IsFalse};
 ghost use Rattle.std.specs.Prelude.{length, set, slice_get};
 ghost use Rattle.std.specs.declared.option.Option.TheVariants.{Some, None};
@@ -55,29 +48,6 @@ const NONSENSE_FIRST: FirstPacket = FirstPacket {
     from: NET_BASE_NONE,
     size: 0,
 };
-
-/// Returns whether head and slots are those of a queue over `capacity` bytes: the numbers are those
-/// of a ring of the slots and of one of the bytes; the packets and gaps of the slots in use take the
-/// bytes in use; each packet is contiguous; and a gap has bytes, ends at the storage's end and has a
-/// packet after it. It looks at each slot in use.
-#[unsafe(no_mangle)]
-pub extern "C" fn net_base_packets_is_sound(
-    packets: &PacketsHead,
-    slots: &[PacketSlot],
-    capacity: usize,
-) -> bool
-    ensures { IsTrue result ↔ HasSoundSlots capacity packets.now slots.now }
-{
-    packets.has_sound_slots(slots, capacity)
-}
-
-/// Empties the queue. No head is refused: this makes one sound for all storages.
-#[unsafe(no_mangle)]
-pub extern "C" fn net_base_packets_clear(packets: &mut PacketsHead)
-    ensures { packets.new ≡ packets_head (place 0 0) (place 0 0) }
-{
-    packets.clear();
-}
 
 /// Appends a packet of `size` bytes, writes its slot and that of its gap, and returns where they and
 /// the packet's bytes are. An empty queue begins at the beginning of the storage of bytes.
@@ -259,83 +229,4 @@ pub extern "C" fn net_base_packets_place(
         Some(place) => place,
         None => NO_PLACE,
     }
-}
-
-/// Removes the first slot in use, which the caller passes as `first`, with its bytes, and returns the
-/// index of the first of these bytes. `first` is the slot of the gap before the first packet, or that
-/// of the first packet if it has no gap.
-///
-/// A head whose numbers aren't those of rings is refused, and so is a slot that can't be the first
-/// one: if none is in use, if its size is above the number of bytes in use, if its bytes aren't
-/// contiguous, or if it is a gap's that has no bytes or doesn't end at the storage's end. Then
-/// `NET_BASE_NONE` is returned, and nothing changes.
-#[unsafe(no_mangle)]
-pub extern "C" fn net_base_packets_take_slot(
-    packets: &mut PacketsHead,
-    slot_count: usize,
-    capacity: usize,
-    first: &PacketSlot,
-) -> usize
-    ensures taken { IsSoundHead slot_count capacity packets.old →
-        CanTake capacity packets.old first.now → (result ≡ packets.old.bytes.read_at)
-        × (packets.new ≡ with_slot_taken slot_count capacity first.now.size packets.old) }
-    ensures refused { (IsSoundHead slot_count capacity packets.old
-        × CanTake capacity packets.old first.now → ⊥) →
-        (result ≡ 2 ^ 64 - 1) × (packets.new ≡ packets.old) }
-    ensures first { (slots : List PacketSlot) → length slots ≡ slot_count →
-        HasSoundSlots capacity packets.old slots → 1 ≤ packets.old.slots.length →
-        slice_get slots packets.old.slots.read_at ≡ Some first.now →
-        CanTake capacity packets.old first.now }
-    ensures state { (slots : List PacketSlot) (xs : List ℕ) → length slots ≡ slot_count →
-        length xs ≡ capacity → HasSoundSlots capacity packets.old slots →
-        1 ≤ packets.old.slots.length →
-        slice_get slots packets.old.slots.read_at ≡ Some first.now →
-        queue_of packets.new slots xs ≡ after_slot first.now (queue_of packets.old slots xs) }
-    ensures sound { (slots : List PacketSlot) → length slots ≡ slot_count →
-        HasSoundSlots capacity packets.old slots → 1 ≤ packets.old.slots.length →
-        slice_get slots packets.old.slots.read_at ≡ Some first.now →
-        HasSoundSlots capacity packets.new slots }
-{
-    if !packets.is_sound(slot_count, capacity) || !packets.can_take(slot_count, capacity, first) {
-        return NET_BASE_NONE;
-    }
-    packets.take_slot(slot_count, capacity, first)
-}
-
-/// Takes the last `count` bytes off the last packet, lowers the size in `last`, its slot, and returns
-/// true.
-///
-/// Returns false, and changes nothing, if no slot is in use, if `last` is a gap's, if its size is below
-/// `count` or above the number of bytes in use, or if the head's numbers aren't those of rings.
-#[unsafe(no_mangle)]
-pub extern "C" fn net_base_packets_shorten_slot(
-    packets: &mut PacketsHead,
-    slot_count: usize,
-    capacity: usize,
-    last: &mut PacketSlot,
-    count: usize,
-) -> bool
-    ensures done { IsTrue result ↔ (IsSoundHead slot_count capacity packets.old
-        × CanShorten packets.old last.old count) }
-    ensures packets { IsTrue result → (packets.new.slots ≡ packets.old.slots)
-        × (packets.new.bytes
-        ≡ place packets.old.bytes.read_at (packets.old.bytes.length - count)) }
-    ensures slot { IsTrue result → last.new ≡ packet_slot (last.old.size - count) }
-    ensures unchanged { IsFalse result → (packets.new ≡ packets.old) × (last.new ≡ last.old) }
-    ensures state { IsTrue result → (slots : List PacketSlot) (xs : List ℕ) →
-        length xs ≡ capacity → HasSoundSlots capacity packets.old slots →
-        slice_get slots (last_slot_index packets.old slots) ≡ Some last.old →
-        queue_of packets.new (set slots (last_slot_index packets.old slots) last.new) xs
-        ≡ with_last_size (last.old.size - count) (queue_of packets.old slots xs) }
-    ensures sound { IsTrue result → (slots : List PacketSlot) →
-        HasSoundSlots capacity packets.old slots →
-        slice_get slots (last_slot_index packets.old slots) ≡ Some last.old →
-        HasSoundSlots capacity packets.new
-        (set slots (last_slot_index packets.old slots) last.new) }
-{
-    if !packets.is_sound(slot_count, capacity) || !packets.can_shorten(last, count) {
-        return false;
-    }
-    packets.shorten_slot(last, count);
-    true
 }

@@ -1,33 +1,16 @@
-//! Devices: the longest packets of one, and whether the stack handles a checksum, from numbers that
-//! the caller keeps.
+//! Devices: the longest packets of one, from numbers that the caller keeps.
 ghost use Rattle.std.specs.Prelude.{◌≡◌, ◌↔◌, IsTrue, IsFalse};
-ghost use Rattle.net_base.specs.Checksum.{is_verified, is_computed};
 ghost use Rattle.net_base.specs.DeviceCapabilities.{HasIpMtu, ip_mtu_of};
 ghost use Rattle.net_base.specs.DeviceCapabilities.{FitsIpHeader, fragment_size_of};
-ghost use Rattle.net_ffi.specs.Devices.{IsMedium, device, IsChecksum, checksum_of};
+ghost use Rattle.net_ffi.specs.Devices.{IsMedium, device};
 
-use crate::refusals::{NET_BASE_MISSING, NET_BASE_PRESENT, NET_BASE_REFUSED};
-use net_base::phy::{
-    Checksum, ChecksumCapabilities, DeviceCapabilities, Medium, SegmentationCapabilities,
-};
+use net_base::phy::{ChecksumCapabilities, DeviceCapabilities, Medium, SegmentationCapabilities};
 
 /// Each frame is an Ethernet frame, and begins with a header of 14 bytes.
 pub const NET_BASE_ETHERNET: u32 = 0;
 
 /// Each frame is an IP packet.
 pub const NET_BASE_IP: u32 = 1;
-
-/// The stack verifies checksums when receiving, and computes them when sending.
-pub const NET_BASE_CHECKSUM_BOTH: u32 = 0;
-
-/// The stack verifies checksums when receiving.
-pub const NET_BASE_CHECKSUM_RX: u32 = 1;
-
-/// The stack computes checksums when sending.
-pub const NET_BASE_CHECKSUM_TX: u32 = 2;
-
-/// The stack leaves checksums alone.
-pub const NET_BASE_CHECKSUM_NONE: u32 = 3;
 
 /// Returns the capabilities of a device of which its medium and its longest frame are known.
 fn capabilities(medium: u32, max_transmission_unit: usize) -> DeviceCapabilities
@@ -99,59 +82,4 @@ pub extern "C" fn net_base_max_ipv4_fragment_size(
     }
     *size = device.max_ipv4_fragment_size(ip_header_len);
     true
-}
-
-/// Returns the handling of checksums with a number.
-fn checksum_numbered(checksum: u32) -> Checksum
-    requires checksum { IsChecksum checksum }
-    ensures { result ≡ checksum_of checksum }
-{
-    match checksum {
-        0 => Checksum::Both,
-        1 => Checksum::Rx,
-        2 => Checksum::Tx,
-        _ => Checksum::None,
-    }
-}
-
-/// Returns whether the stack verifies checksums when receiving, where it handles them as `checksum`
-/// says: `NET_BASE_PRESENT` or `NET_BASE_MISSING`. A number that isn't one of
-/// `NET_BASE_CHECKSUM_..` is `NET_BASE_REFUSED`.
-#[unsafe(no_mangle)]
-pub extern "C" fn net_base_checksum_rx(checksum: u32) -> u32
-    ensures present { IsChecksum checksum → IsTrue (is_verified (checksum_of checksum)) →
-        result ≡ NET_BASE_PRESENT }
-    ensures missing { IsChecksum checksum → IsFalse (is_verified (checksum_of checksum)) →
-        result ≡ NET_BASE_MISSING }
-    ensures refused { (IsChecksum checksum → ⊥) → result ≡ NET_BASE_REFUSED }
-{
-    if checksum > NET_BASE_CHECKSUM_NONE {
-        return NET_BASE_REFUSED;
-    }
-    if checksum_numbered(checksum).rx() {
-        NET_BASE_PRESENT
-    } else {
-        NET_BASE_MISSING
-    }
-}
-
-/// Returns whether the stack computes checksums when sending, where it handles them as `checksum`
-/// says: `NET_BASE_PRESENT` or `NET_BASE_MISSING`. A number that isn't one of
-/// `NET_BASE_CHECKSUM_..` is `NET_BASE_REFUSED`.
-#[unsafe(no_mangle)]
-pub extern "C" fn net_base_checksum_tx(checksum: u32) -> u32
-    ensures present { IsChecksum checksum → IsTrue (is_computed (checksum_of checksum)) →
-        result ≡ NET_BASE_PRESENT }
-    ensures missing { IsChecksum checksum → IsFalse (is_computed (checksum_of checksum)) →
-        result ≡ NET_BASE_MISSING }
-    ensures refused { (IsChecksum checksum → ⊥) → result ≡ NET_BASE_REFUSED }
-{
-    if checksum > NET_BASE_CHECKSUM_NONE {
-        return NET_BASE_REFUSED;
-    }
-    if checksum_numbered(checksum).tx() {
-        NET_BASE_PRESENT
-    } else {
-        NET_BASE_MISSING
-    }
 }

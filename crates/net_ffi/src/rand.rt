@@ -17,19 +17,6 @@ pub extern "C" fn net_base_rand_u32(state: &mut u64) -> u32
     word
 }
 
-/// Steps `state` to the next one, and returns its draw of 16 bits: the two halves of its random
-/// word, combined by exclusive or.
-#[unsafe(no_mangle)]
-pub extern "C" fn net_base_rand_u16(state: &mut u64) -> u16
-    ensures state { state.new ≡ successor state.old }
-    ensures value { result ≡ draw state.new }
-{
-    let mut rand = Rand::new(*state);
-    let drawn = rand.rand_u16();
-    *state = rand.state();
-    drawn
-}
-
 /// Draws 16 bits until a draw is above 1024, and returns it. It returns from every state, after at
 /// most 2^64 draws.
 #[unsafe(no_mangle)]

@@ -2,8 +2,8 @@
 ghost use Rattle.std.specs.Prelude.{◌≡◌, ◌-◌, ◌^◌};
 ghost use Rattle.net_ffi.specs.Refusals.{nowhere};
 
-use crate::assembler::FrontLength;
-use crate::ring::Part;
+use crate::results::FrontLength;
+use net_assembler::Run;
 use net_ring::Span;
 
 /// The call was done.
@@ -37,10 +37,10 @@ pub(crate) const NO_SPAN: Span = Span {
     contiguous: 0,
 };
 
-/// The part of a refused call.
-pub(crate) const NO_PART: Part = Part {
-    from: NET_BASE_NONE,
-    count: 0,
+/// The run of a refused call.
+pub(crate) const NO_RUN: Run = Run {
+    start: NET_BASE_NONE,
+    end: NET_BASE_NONE,
 };
 
 /// The front of a refused call.

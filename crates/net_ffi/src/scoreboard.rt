@@ -1,9 +1,4 @@
-//! Scoreboards: what a sender knows of the positions that the other end has, in runs that the caller
-//! keeps.
-//!
-//! At most as many runs are stored, beyond the first position that wasn't reported, as the slice has
-//! elements. Each call but `net_base_scoreboard_reset` looks at each run, and refuses a scoreboard that
-//! isn't sound.
+//! What is reported to a scoreboard, and what of it is told.
 ghost use Rattle.std.specs.Prelude.{◌≡◌, ◌↔◌, ◌-◌, ◌<◌, ◌≤◌, ℕ, List, length, IsTrue};
 ghost use Rattle.std.specs.Prelude.{if◌then◌else◌};
 ghost use Rattle.net_assembler.specs.Positions.{contains, nothing, positions, with_range};
@@ -16,27 +11,6 @@ use crate::refusals::{
 };
 use net_assembler::Run;
 use net_receiver::ScoreboardHead;
-
-/// A range of positions to send again, and whether the call was done.
-#[repr(C)]
-#[derive(Debug, Clone, Copy)]
-pub struct Hole {
-    /// `NET_BASE_DONE` or `NET_BASE_REFUSED`.
-    pub status: u32,
-    /// The first position; 0 if the call was refused.
-    pub start: u64,
-    /// The position after the last one; 0 if the call was refused.
-    pub end: u64,
-}
-
-/// Returns whether the scoreboard is sound with these runs: `reported` and they are those of an
-/// assembler.
-#[unsafe(no_mangle)]
-pub extern "C" fn net_base_scoreboard_is_sound(scoreboard: &ScoreboardHead, runs: &[Run]) -> bool
-    ensures { IsTrue result ↔ IsSoundBoard scoreboard.now runs.now }
-{
-    scoreboard.is_sound(runs)
-}
 
 /// Forgets all that was reported, for a stream that begins at position `first`: all positions below it
 /// count as reported. Nothing is refused: this makes a scoreboard of any memory.
@@ -89,85 +63,6 @@ pub extern "C" fn net_base_scoreboard_report(
     match scoreboard.report(runs, start, end) {
         Ok(()) => NET_BASE_DONE,
         Err(_) => NET_BASE_TOO_MANY_RUNS,
-    }
-}
-
-/// Reports all positions below `next`, whatever the number of runs.
-///
-/// Returns `NET_BASE_DONE`, or `NET_BASE_REFUSED`, and nothing changes, if the scoreboard isn't sound.
-#[unsafe(no_mangle)]
-pub extern "C" fn net_base_scoreboard_acknowledge(
-    scoreboard: &mut ScoreboardHead,
-    runs: &mut [Run],
-    next: u64,
-) -> u32
-    ensures done { IsSoundBoard scoreboard.old runs.old → (result ≡ NET_BASE_DONE)
-        × (reported_by scoreboard.new runs.new ≡ with_range (reported_by scoreboard.old runs.old) 0 next) }
-    ensures refused { (IsSoundBoard scoreboard.old runs.old → ⊥) → (result ≡ NET_BASE_REFUSED)
-        × (scoreboard.new ≡ scoreboard.old) × (runs.new ≡ runs.old) }
-    ensures sound { IsSoundBoard scoreboard.old runs.old → IsSoundBoard scoreboard.new runs.new }
-    ensures canonical { IsCanonical scoreboard.old.reported → IsCanonical scoreboard.new.reported }
-{
-    if !scoreboard.is_sound(runs) {
-        return NET_BASE_REFUSED;
-    }
-    scoreboard.acknowledge(runs, next);
-    NET_BASE_DONE
-}
-
-/// Returns `NET_BASE_PRESENT` if `position` was reported, and `NET_BASE_MISSING` if it wasn't;
-/// `NET_BASE_REFUSED` if the scoreboard isn't sound.
-#[unsafe(no_mangle)]
-pub extern "C" fn net_base_scoreboard_contains(
-    scoreboard: &ScoreboardHead,
-    runs: &[Run],
-    position: u64,
-) -> u32
-    ensures done { IsSoundBoard scoreboard.now runs.now → result
-        ≡ (if contains (reported_by scoreboard.now runs.now) position
-        then NET_BASE_PRESENT else NET_BASE_MISSING) }
-    ensures refused { (IsSoundBoard scoreboard.now runs.now → ⊥) →
-        result ≡ NET_BASE_REFUSED }
-{
-    if !scoreboard.is_sound(runs) {
-        return NET_BASE_REFUSED;
-    }
-    if scoreboard.contains(runs, position) {
-        NET_BASE_PRESENT
-    } else {
-        NET_BASE_MISSING
-    }
-}
-
-/// Returns the next range to send again: it begins at the first position from `position` on that
-/// wasn't reported, and ends at the next one that was, or at `limit`. If there is none below `limit`,
-/// start and end are `limit`.
-///
-/// If the scoreboard isn't sound, the status is `NET_BASE_REFUSED`, and both are 0.
-#[unsafe(no_mangle)]
-pub extern "C" fn net_base_scoreboard_next_hole(
-    scoreboard: &ScoreboardHead,
-    runs: &[Run],
-    position: u64,
-    limit: u64,
-) -> Hole
-    ensures hole { IsSoundBoard scoreboard.now runs.now → (result.status ≡ NET_BASE_DONE)
-        × IsNextHole (reported_by scoreboard.now runs.now) position limit result.start result.end }
-    ensures refused { (IsSoundBoard scoreboard.now runs.now → ⊥) →
-        (result.status ≡ NET_BASE_REFUSED) × (result.start ≡ 0) × (result.end ≡ 0) }
-{
-    if !scoreboard.is_sound(runs) {
-        return Hole {
-            status: NET_BASE_REFUSED,
-            start: 0,
-            end: 0,
-        };
-    }
-    let (start, end) = scoreboard.next_hole(runs, position, limit);
-    Hole {
-        status: NET_BASE_DONE,
-        start,
-        end,
     }
 }
 

@@ -10,14 +10,6 @@ ghost use Rattle.net_receiver.specs.SequenceNumbers.{number_at, ahead_of, ComesB
 
 use net_receiver::SequenceNumber;
 
-/// Returns the number of a position, if position 0 has the number `initial`.
-#[unsafe(no_mangle)]
-pub extern "C" fn net_base_sequence_number_at(initial: u32, position: u64) -> u32
-    ensures { result ≡ number_at initial position }
-{
-    SequenceNumber::at(SequenceNumber::new(initial), position).get()
-}
-
 /// Returns whether a position near `next` has a number, if position 0 has the number `initial`, and
 /// if so writes it to `position`: it is less than 2^31 after `next`, or at most 2^31 before it.
 #[unsafe(no_mangle)]
@@ -43,26 +35,10 @@ pub extern "C" fn net_base_sequence_number_position(
     }
 }
 
-/// Returns how far a number is ahead of another one, modulo 2^32.
-#[unsafe(no_mangle)]
-pub extern "C" fn net_base_sequence_number_ahead_of(number: u32, other: u32) -> u32
-    ensures { result ≡ ahead_of other number }
-{
-    SequenceNumber::new(number).ahead_of(SequenceNumber::new(other))
-}
-
 /// Returns whether another number is ahead of this one by less than 2^31, and is not the same.
 #[unsafe(no_mangle)]
 pub extern "C" fn net_base_sequence_number_is_before(number: u32, other: u32) -> bool
     ensures { IsTrue result ↔ ComesBefore number other }
 {
     SequenceNumber::new(number).is_before(SequenceNumber::new(other))
-}
-
-/// Returns a number plus a count of bytes, modulo 2^32.
-#[unsafe(no_mangle)]
-pub extern "C" fn net_base_sequence_number_add(number: u32, count: u32) -> u32
-    ensures { result ≡ (number + count) % 2 ^ 32 }
-{
-    (SequenceNumber::new(number) + count).get()
 }

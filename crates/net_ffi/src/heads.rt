@@ -1,0 +1,8 @@
+//! Exports that are methods of heads: each is a line of tools/heads.txt. Written by tools/heads.py.
+mod ring;
+mod packets;
+mod assembler;
+mod fragments;
+mod receiver;
+mod sender;
+mod scoreboard;

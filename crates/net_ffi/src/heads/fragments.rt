@@ -1,0 +1,148 @@
+//! Packets that arrive in fragments, as those of IPv4 do, over bytes and runs that the caller
+//! keeps.
+//!
+//! A head of zeros, but for `expires_at`, is that of an empty buffer. The longest packet has as
+//! many bytes as the storage. Fragments may overlap: at each position the byte is that of the last
+//! fragment there. `present` is an assembler.
+// Written by tools/heads.py.
+ghost use Rattle.net_assembler.specs.Assembler.{MakesTooManyRuns};
+ghost use Rattle.net_assembler.specs.Positions.{nothing};
+ghost use Rattle.net_assembler.specs.RunLists.{HasSoundRuns, set_of};
+ghost use Rattle.net_base.specs.FragmentParts.{HasSoundParts, IsExact, IsPlausible, fragments_of, total_of};
+ghost use Rattle.net_base.specs.Fragments.{DiffersFrom, Meets, with_fragment};
+ghost use Rattle.net_base.specs.declared.storage.fragments.FragmentError.TheVariants.{OtherSize, TooLong};
+ghost use Rattle.net_ffi.specs.Results.{IsStatus, done_or_error};
+ghost use Rattle.std.specs.Prelude.{Err, IsErr, IsTrue, List, OnErr, OnOk, length, ℕ, ◌+◌, ◌<ℤ◌, ◌<◌, ◌↔◌, ◌≡◌, ◌≤◌, ◌⊎◌};
+ghost use Rattle.std.specs.declared.option.Option.TheVariants.{None, Some};
+
+use crate::fragments::{is_plausible};
+use crate::refusals::{NET_BASE_MISSING, NET_BASE_PRESENT, NET_BASE_REFUSED};
+use crate::results::{presence_of, status_of_fragment};
+use net_assembler::{Run};
+use net_base::storage::{FragmentsHead};
+
+/// Starts over for a packet that is waited for up to `expires_at`, in microseconds. No head is
+/// refused: this makes one sound for any memory.
+#[unsafe(no_mangle)]
+pub extern "C" fn net_base_fragments_reset(fragments: &mut FragmentsHead, expires_at: i64)
+    ensures sound { (storage : List ℕ) (runs : List (ℕ × ℕ)) → HasSoundParts fragments.new storage runs }
+    ensures nothing { (runs : List (ℕ × ℕ)) → set_of fragments.new.present runs ≡ nothing }
+    ensures total { total_of fragments.new ≡ None }
+    ensures expires { fragments.new.expires_at ≡ expires_at }
+    ensures zeros { (fragments.new.present.used ≡ 0) × (fragments.new.present.first_start ≡ 0) ×
+        (fragments.new.has_total ≡ 0) × (fragments.new.total ≡ 0) }
+    ensures exact { IsExact fragments.new }
+{
+    fragments.reset(expires_at);
+}
+
+/// Adds a fragment, whose first byte is that of the packet at `offset`.
+///
+/// Returns `NET_BASE_DONE`; or, and nothing changes, `NET_BASE_TOO_LONG` if the fragment reaches
+/// past the storage's end, or else `NET_BASE_TOO_MANY_RUNS` if there would be more runs than the
+/// slice has elements. A fragment past a known size is kept, and one without bytes too.
+///
+/// It is refused if `present.used` is above `runs.len()`, or a known size above `storage.len()`:
+/// `NET_BASE_REFUSED`, and nothing changes.
+///
+/// # Requires
+///
+/// Head and runs of `present` are sound, as `net_base_assembler_is_sound` tests.
+#[unsafe(no_mangle)]
+pub extern "C" fn net_base_fragments_add(
+    fragments: &mut FragmentsHead,
+    storage: &mut [u8],
+    runs: &mut [Run],
+    offset: usize,
+    data: &[u8],
+) -> u32
+    requires sound { IsPlausible (length storage.old) (length runs.old) fragments.old → HasSoundParts fragments.old
+        storage.old runs.old }
+    ensures sound { IsPlausible (length storage.old) (length runs.old) fragments.old → HasSoundParts fragments.new
+        storage.new runs.new }
+    ensures ok { IsPlausible (length storage.old) (length runs.old) fragments.old → OnOk (done_or_error result)
+        (fragments_of fragments.new storage.new runs.new ≡ with_fragment (fragments_of fragments.old storage.old
+        runs.old) offset «data».now) }
+    ensures unchanged { IsPlausible (length storage.old) (length runs.old) fragments.old → OnErr (done_or_error
+        result) ((fragments.new ≡ fragments.old) × (storage.new ≡ storage.old) × (runs.new ≡ runs.old)) }
+    ensures too_long { IsPlausible (length storage.old) (length runs.old) fragments.old → ((done_or_error result) ≡
+        Err TooLong) ↔ (length storage.old < offset + length «data».now) }
+    ensures refused { IsPlausible (length storage.old) (length runs.old) fragments.old → IsErr (done_or_error
+        result) ↔ ((length storage.old < offset + length «data».now) ⊎ MakesTooManyRuns (length runs.old) (set_of
+        fragments.old.present runs.old) offset (length «data».now)) }
+    ensures others { (fragments.new.has_total ≡ fragments.old.has_total) × (fragments.new.total ≡
+        fragments.old.total) × (fragments.new.expires_at ≡ fragments.old.expires_at) }
+    ensures exact { IsExact fragments.old → IsExact fragments.new }
+    ensures status { IsPlausible (length storage.old) (length runs.old) fragments.old → IsStatus result }
+    ensures unsound { (IsPlausible (length storage.old) (length runs.old) fragments.old → ⊥) → (result ≡
+        NET_BASE_REFUSED) × (fragments.new ≡ fragments.old) × (storage.new ≡ storage.old) × (runs.new ≡ runs.old) }
+{
+    if !is_plausible(fragments, storage.len(), runs.len()) {
+        return NET_BASE_REFUSED;
+    }
+    status_of_fragment(fragments.add(storage, runs, offset, data))
+}
+
+/// Sets the packet's size to `size` bytes, in a storage of `capacity` bytes.
+///
+/// Returns `NET_BASE_DONE`, also if bytes past that size have arrived; or, and nothing changes,
+/// `NET_BASE_TOO_LONG` if the storage has fewer bytes, or else `NET_BASE_OTHER_SIZE` if another
+/// size is known.
+#[unsafe(no_mangle)]
+pub extern "C" fn net_base_fragments_set_total_size(
+    fragments: &mut FragmentsHead,
+    capacity: usize,
+    size: usize,
+) -> u32
+    ensures ok { OnOk (done_or_error result) ((fragments.new.has_total ≡ 1) × (fragments.new.total ≡ size) ×
+        (fragments.new.present ≡ fragments.old.present) × (fragments.new.expires_at ≡ fragments.old.expires_at)) }
+    ensures total { OnOk (done_or_error result) (total_of fragments.new ≡ Some size) }
+    ensures sound { OnOk (done_or_error result) ((storage : List ℕ) (runs : List (ℕ × ℕ)) → length storage ≡
+        capacity → HasSoundParts fragments.old storage runs → HasSoundParts fragments.new storage runs) }
+    ensures unchanged { OnErr (done_or_error result) (fragments.new ≡ fragments.old) }
+    ensures too_long { ((done_or_error result) ≡ Err TooLong) ↔ (capacity < size) }
+    ensures other_size { ((done_or_error result) ≡ Err OtherSize) ↔ ((size ≤ capacity) × DiffersFrom (total_of
+        fragments.old) size) }
+    ensures refused { IsErr (done_or_error result) ↔ ((capacity < size) ⊎ DiffersFrom (total_of fragments.old) size)
+        }
+    ensures exact { IsExact fragments.old → IsExact fragments.new }
+    ensures status { IsStatus result }
+{
+    status_of_fragment(fragments.set_total_size(capacity, size))
+}
+
+/// Returns `NET_BASE_PRESENT` if one of the `count` positions from `offset` on has arrived, so that
+/// a fragment there overlaps bytes that are present, and `NET_BASE_MISSING` if none has.
+///
+/// It is refused if `present.used` is above `runs.len()`: `NET_BASE_REFUSED`.
+///
+/// # Requires
+///
+/// Head and runs of `present` are sound, as `net_base_assembler_is_sound` tests.
+#[unsafe(no_mangle)]
+pub extern "C" fn net_base_fragments_overlaps(
+    fragments: &FragmentsHead,
+    runs: &[Run],
+    offset: usize,
+    count: usize,
+) -> u32
+    requires sound { fragments.now.present.used ≤ length runs.now → HasSoundRuns fragments.now.present runs.now }
+    ensures present { fragments.now.present.used ≤ length runs.now → Meets (set_of fragments.now.present runs.now)
+        offset count → result ≡ NET_BASE_PRESENT }
+    ensures missing { fragments.now.present.used ≤ length runs.now → (Meets (set_of fragments.now.present runs.now)
+        offset count → ⊥) → result ≡ NET_BASE_MISSING }
+    ensures refused { (fragments.now.present.used ≤ length runs.now → ⊥) → result ≡ NET_BASE_REFUSED }
+{
+    if fragments.present.used > runs.len() {
+        return NET_BASE_REFUSED;
+    }
+    presence_of(fragments.overlaps(runs, offset, count))
+}
+
+/// Returns whether `now` is after the last moment at which the packet is waited for.
+#[unsafe(no_mangle)]
+pub extern "C" fn net_base_fragments_is_expired(fragments: &FragmentsHead, now: i64) -> bool
+    ensures { IsTrue result ↔ (fragments.now.expires_at <ℤ now) }
+{
+    fragments.is_expired(now)
+}

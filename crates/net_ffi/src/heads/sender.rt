@@ -1,0 +1,217 @@
+//! Senders of one stream of bytes, over a storage that the caller keeps.
+//!
+//! A head of zeros, but for `first_unacknowledged`, is that of a sender of a stream that begins
+//! there, to which nothing was written. The queue, of bytes that are not acknowledged, is the ring
+//! of `place`. These calls take no SACK blocks: what these report is kept in a scoreboard.
+// Written by tools/heads.py.
+ghost use Rattle.net_ffi.specs.Refusals.{nowhere};
+ghost use Rattle.net_receiver.specs.OneStream.{MatchesStream};
+ghost use Rattle.net_receiver.specs.SenderHeads.{IsSoundHead, sender_of};
+ghost use Rattle.net_receiver.specs.SenderState.{Sends, contiguous_end, room_of, sender_from, with_written};
+ghost use Rattle.net_ring.specs.Ring.{queue, rewind_if_empty, with_elements_wrapping, with_enqueued, write_at};
+ghost use Rattle.net_ring.specs.RingHead.{dequeued_place, queued_index, ring_at};
+ghost use Rattle.std.specs.Prelude.{IsFalse, IsTrue, List, drop, length, max, min, take, ℕ, ◌++◌, ◌+◌, ◌-◌, ◌<◌, ◌^◌, ◌↔◌, ◌≡◌, ◌≤◌};
+
+use crate::refusals::{NET_BASE_NONE, NO_SPAN};
+use net_receiver::{SenderHead};
+use net_ring::{Span};
+
+/// Returns whether this is the head of a sender over a storage of `capacity` bytes: `place` is that
+/// of a ring of as many, and the position after the queue fits 64 bits.
+#[unsafe(no_mangle)]
+pub extern "C" fn net_base_sender_is_sound(sender: &SenderHead, capacity: usize) -> bool
+    ensures { IsTrue result ↔ IsSoundHead capacity sender.now }
+{
+    sender.is_sound(capacity)
+}
+
+/// Writes the position after the last byte that was written to `end`, and returns true.
+///
+/// It is refused if the segment doesn't end within 64 bits: false, and nothing changes.
+#[unsafe(no_mangle)]
+pub extern "C" fn net_base_sender_end(sender: &SenderHead, end: &mut u64) -> bool
+    ensures done { IsTrue result ↔ (sender.now.first_unacknowledged + sender.now.place.length < 2 ^ 64) }
+    ensures value { IsTrue result → end.new ≡ sender.now.first_unacknowledged + sender.now.place.length }
+    ensures unchanged { IsFalse result → (end.new ≡ end.old) }
+{
+    if sender.place.length as u64 > u64::MAX - sender.first_unacknowledged {
+        return false;
+    }
+    *end = sender.end();
+    true
+}
+
+/// Returns how many bytes `net_base_sender_write` would take: as many as have room in a storage of
+/// `capacity` bytes and below the last position, 2^64 - 1.
+///
+/// It is refused if `capacity` is `NET_BASE_NONE`, or if `sender` isn't that of a sender over
+/// `capacity` bytes: `NET_BASE_NONE`.
+#[unsafe(no_mangle)]
+pub extern "C" fn net_base_sender_room(sender: &SenderHead, capacity: usize) -> usize
+    ensures value { (capacity < 2 ^ 64 - 1) × (IsSoundHead capacity sender.now) → result ≡ min (capacity -
+        sender.now.place.length) (2 ^ 64 - 1 - (sender.now.first_unacknowledged + sender.now.place.length)) }
+    ensures refused { ((capacity < 2 ^ 64 - 1) × (IsSoundHead capacity sender.now) → ⊥) → result ≡ 2 ^ 64 - 1 }
+{
+    if capacity == usize::MAX || !sender.is_sound(capacity) {
+        return NET_BASE_NONE;
+    }
+    sender.room(capacity)
+}
+
+/// Enqueues the first of these bytes, as many as there is room for, and returns how many.
+///
+/// It is refused if `sender` isn't that of a sender over `storage.len()` bytes: `NET_BASE_NONE`,
+/// and nothing changes.
+#[unsafe(no_mangle)]
+pub extern "C" fn net_base_sender_write(
+    sender: &mut SenderHead,
+    storage: &mut [u8],
+    bytes: &[u8],
+) -> usize
+    ensures sound { IsSoundHead (length storage.old) sender.old → IsSoundHead (length storage.old) sender.new }
+    ensures count { IsSoundHead (length storage.old) sender.old → (blocks : List (ℕ × ℕ)) → result ≡ min (length
+        bytes.now) (room_of (sender_of sender.old storage.old blocks)) }
+    ensures state { IsSoundHead (length storage.old) sender.old → (blocks : List (ℕ × ℕ)) → sender_of sender.new
+        storage.new blocks ≡ with_written (sender_of sender.old storage.old blocks) (take result bytes.now) }
+    ensures ring { let g = rewind_if_empty (ring_at storage.old sender.old.place) in IsSoundHead (length
+        storage.old) sender.old → ring_at storage.new sender.new.place ≡ with_enqueued result
+        (with_elements_wrapping g (write_at g) (take result bytes.now)) }
+    ensures sends { IsSoundHead (length storage.old) sender.old → (blocks : List (ℕ × ℕ)) (f : ℕ) (w : List ℕ) →
+        Sends f w (sender_of sender.old storage.old blocks) → Sends f (w ++ take result bytes.now) (sender_of
+        sender.new storage.new blocks) }
+    ensures refused { (IsSoundHead (length storage.old) sender.old → ⊥) → (result ≡ 2 ^ 64 - 1) × (sender.new ≡
+        sender.old) × (storage.new ≡ storage.old) }
+{
+    if !sender.is_sound(storage.len()) {
+        return NET_BASE_NONE;
+    }
+    sender.write(storage, bytes)
+}
+
+/// Returns where at most `max` queued bytes are, from the one at `pos` on; none if the byte at
+/// `pos` isn't queued. The storage has `capacity` bytes.
+///
+/// It is refused if `sender` isn't that of a sender over `capacity` bytes: `from` is
+/// `NET_BASE_NONE`, `count` and `contiguous` are 0.
+#[unsafe(no_mangle)]
+pub extern "C" fn net_base_sender_peek_at(
+    sender: &SenderHead,
+    capacity: usize,
+    position: u64,
+    max: usize,
+) -> Span
+    ensures from { IsSoundHead capacity sender.now → sender.now.first_unacknowledged ≤ position → result.from ≡
+        queued_index capacity sender.now.place (position - sender.now.first_unacknowledged) }
+    ensures count { IsSoundHead capacity sender.now → sender.now.first_unacknowledged ≤ position → result.count ≡
+        min max (sender.now.place.length - (position - sender.now.first_unacknowledged)) }
+    ensures contiguous { IsSoundHead capacity sender.now → sender.now.first_unacknowledged ≤ position →
+        result.contiguous ≡ min result.count (capacity - result.from) }
+    ensures before { IsSoundHead capacity sender.now → position < sender.now.first_unacknowledged → (result.from ≡
+        0) × (result.count ≡ 0) × (result.contiguous ≡ 0) }
+    ensures within { IsSoundHead capacity sender.now → result.from + result.contiguous ≤ capacity }
+    ensures end { IsSoundHead capacity sender.now → (storage : List ℕ) (blocks : List (ℕ × ℕ)) → length storage ≡
+        capacity → sender.now.first_unacknowledged ≤ position → result.contiguous ≡ min max (contiguous_end
+        (sender_of sender.now storage blocks) position - position) }
+    ensures bytes { IsSoundHead capacity sender.now → (storage : List ℕ) → length storage ≡ capacity → take
+        result.contiguous (drop result.from storage) ≡ take result.contiguous (drop (position -
+        sender.now.first_unacknowledged) (queue (ring_at storage sender.now.place))) }
+    ensures says { IsSoundHead capacity sender.now → (storage : List ℕ) (blocks : List (ℕ × ℕ)) → length storage ≡
+        capacity → sender.now.first_unacknowledged ≤ position → (f : ℕ) (w : List ℕ) → Sends f w (sender_of
+        sender.now storage blocks) → MatchesStream f w position (take result.contiguous (drop result.from storage))
+        }
+    ensures refused { (IsSoundHead capacity sender.now → ⊥) → result ≡ nowhere }
+{
+    if !sender.is_sound(capacity) {
+        return NO_SPAN;
+    }
+    sender.peek_at(capacity, position, max)
+}
+
+/// Drops the bytes below `next`, and returns whether it did: false, and nothing changes, if `next`
+/// is below `first_unacknowledged` or above the position after the last byte.
+///
+/// It is refused if `sender` isn't that of a sender over `capacity` bytes: false, and nothing
+/// changes.
+#[unsafe(no_mangle)]
+pub extern "C" fn net_base_sender_acknowledge(
+    sender: &mut SenderHead,
+    capacity: usize,
+    next: u64,
+) -> bool
+    ensures sound { IsSoundHead capacity sender.old → IsSoundHead capacity sender.new }
+    ensures accepted { IsSoundHead capacity sender.old → IsTrue result ↔ ((sender.old.first_unacknowledged ≤ next) ×
+        (next ≤ sender.old.first_unacknowledged + sender.old.place.length)) }
+    ensures first { IsTrue result → sender.new.first_unacknowledged ≡ next }
+    ensures place { IsTrue result → sender.new.place ≡ dequeued_place capacity (next -
+        sender.old.first_unacknowledged) sender.old.place }
+    ensures state { IsTrue result → (storage : List ℕ) (old new : List (ℕ × ℕ)) → length storage ≡ capacity →
+        sender_of sender.new storage new ≡ sender_from (sender_of sender.old storage old) next new }
+    ensures sends { (storage : List ℕ) (old new : List (ℕ × ℕ)) → length storage ≡ capacity → (f : ℕ) (w : List ℕ) →
+        Sends f w (sender_of sender.old storage old) → Sends f w (sender_of sender.new storage new) }
+    ensures refused { IsFalse result → sender.new ≡ sender.old }
+    ensures unsound { (IsSoundHead capacity sender.old → ⊥) → (IsFalse result) × (sender.new ≡ sender.old) }
+{
+    if !sender.is_sound(capacity) {
+        return false;
+    }
+    sender.acknowledge(capacity, next)
+}
+
+/// Moves the mark `sent`, the position after the last byte that was ever sent, up to `position`, if
+/// that is above it, and returns true; false, and nothing changes, if `sent` or `position` is above
+/// the position after the last byte that was written. The caller keeps the mark, which begins as
+/// the position of the stream's first byte.
+///
+/// It is refused if the segment doesn't end within 64 bits: false, and nothing changes.
+#[unsafe(no_mangle)]
+pub extern "C" fn net_base_sender_mark_sent(
+    sender: &SenderHead,
+    sent: &mut u64,
+    position: u64,
+) -> bool
+    ensures accepted { sender.now.first_unacknowledged + sender.now.place.length < 2 ^ 64 → IsTrue result ↔
+        ((sent.old ≤ sender.now.first_unacknowledged + sender.now.place.length) × (position ≤
+        sender.now.first_unacknowledged + sender.now.place.length)) }
+    ensures mark { IsTrue result → sent.new ≡ max sent.old position }
+    ensures refused { IsFalse result → sent.new ≡ sent.old }
+    ensures unsound { (sender.now.first_unacknowledged + sender.now.place.length < 2 ^ 64 → ⊥) → (IsFalse result) ×
+        (sent.new ≡ sent.old) }
+{
+    if sender.place.length as u64 > u64::MAX - sender.first_unacknowledged {
+        return false;
+    }
+    sender.mark_sent(sent, position)
+}
+
+/// Drops the bytes below `next`, if they were sent, and returns whether it did: false, and nothing
+/// changes, if `next` is below `first_unacknowledged` or above `sent`, or `sent` is above the
+/// position after the last byte. `sent` is the position after the last byte that was ever sent, as
+/// `net_base_sender_mark_sent` keeps it.
+///
+/// It is refused if `sender` isn't that of a sender over `capacity` bytes: false, and nothing
+/// changes.
+#[unsafe(no_mangle)]
+pub extern "C" fn net_base_sender_acknowledge_sent(
+    sender: &mut SenderHead,
+    capacity: usize,
+    next: u64,
+    sent: u64,
+) -> bool
+    ensures sound { IsSoundHead capacity sender.old → IsSoundHead capacity sender.new }
+    ensures accepted { IsSoundHead capacity sender.old → IsTrue result ↔ ((sender.old.first_unacknowledged ≤ next) ×
+        (next ≤ sent) × (sent ≤ sender.old.first_unacknowledged + sender.old.place.length)) }
+    ensures first { IsTrue result → sender.new.first_unacknowledged ≡ next }
+    ensures place { IsTrue result → sender.new.place ≡ dequeued_place capacity (next -
+        sender.old.first_unacknowledged) sender.old.place }
+    ensures state { IsTrue result → (storage : List ℕ) (old new : List (ℕ × ℕ)) → length storage ≡ capacity →
+        sender_of sender.new storage new ≡ sender_from (sender_of sender.old storage old) next new }
+    ensures sends { (storage : List ℕ) (old new : List (ℕ × ℕ)) → length storage ≡ capacity → (f : ℕ) (w : List ℕ) →
+        Sends f w (sender_of sender.old storage old) → Sends f w (sender_of sender.new storage new) }
+    ensures refused { IsFalse result → sender.new ≡ sender.old }
+    ensures unsound { (IsSoundHead capacity sender.old → ⊥) → (IsFalse result) × (sender.new ≡ sender.old) }
+{
+    if !sender.is_sound(capacity) {
+        return false;
+    }
+    sender.acknowledge_sent(capacity, next, sent)
+}

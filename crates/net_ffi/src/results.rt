@@ -1,0 +1,103 @@
+//! Results of methods, as exports return them.
+ghost use Rattle.std.specs.Prelude.{◌≡◌, ◌<◌, ◌⊎◌, IsTrue, IsFalse, if◌then◌else◌, unwrap_or};
+ghost use Rattle.net_ffi.specs.Results.{done_or_many, length_or_many, done_or_error, IsStatus};
+
+use crate::refusals::{
+    NET_BASE_DONE, NET_BASE_MISSING, NET_BASE_OTHER_SIZE, NET_BASE_PRESENT, NET_BASE_TOO_LONG,
+    NET_BASE_TOO_MANY_RUNS,
+};
+use net_assembler::{Run, TooManyHolesError};
+use net_base::storage::FragmentError;
+
+/// The length of the run at position 0, and whether the call was done.
+#[repr(C)]
+#[derive(Debug, Clone, Copy)]
+pub struct FrontLength {
+    /// `NET_BASE_DONE`, `NET_BASE_TOO_MANY_RUNS` or `NET_BASE_REFUSED`, and of
+    /// `net_base_fragments_complete` also `NET_BASE_MISSING`.
+    pub status: u32,
+    /// How many positions the run has; 0 if position 0 is missing, or the call wasn't done.
+    pub length: usize,
+}
+
+/// A range of positions to send again, and whether the call was done.
+#[repr(C)]
+#[derive(Debug, Clone, Copy)]
+pub struct Hole {
+    /// `NET_BASE_DONE` or `NET_BASE_REFUSED`.
+    pub status: u32,
+    /// The first position; 0 if the call was refused.
+    pub start: u64,
+    /// The position after the last one; 0 if the call was refused.
+    pub end: u64,
+}
+
+/// Returns the status of a call that adds positions.
+#[inline(always)]
+pub(crate) fn status_of(done: Result<(), TooManyHolesError>) -> u32
+    ensures same { done_or_many result ≡ done }
+    ensures small { result < 2 }
+{
+    match done {
+        Ok(()) => NET_BASE_DONE,
+        Err(_) => NET_BASE_TOO_MANY_RUNS,
+    }
+}
+
+/// Returns status and length of a call that adds positions and removes the front.
+#[inline(always)]
+pub(crate) fn front_length(front: Result<usize, TooManyHolesError>) -> FrontLength
+    ensures same { length_or_many result.status result.length ≡ front }
+    ensures small { result.status < 2 }
+    ensures none { result.status ≡ 1 → result.length ≡ 0 }
+{
+    match front {
+        Ok(length) => FrontLength {
+            status: NET_BASE_DONE,
+            length,
+        },
+        Err(_) => FrontLength {
+            status: NET_BASE_TOO_MANY_RUNS,
+            length: 0,
+        },
+    }
+}
+
+/// Returns the status of a call that takes a fragment or a size.
+#[inline(always)]
+pub(crate) fn status_of_fragment(done: Result<(), FragmentError>) -> u32
+    ensures same { done_or_error result ≡ done }
+    ensures status { IsStatus result }
+{
+    match done {
+        Ok(()) => NET_BASE_DONE,
+        Err(FragmentError::TooManyHoles) => NET_BASE_TOO_MANY_RUNS,
+        Err(FragmentError::TooLong) => NET_BASE_TOO_LONG,
+        Err(FragmentError::OtherSize) => NET_BASE_OTHER_SIZE,
+    }
+}
+
+/// Returns the run that was found; both ends are 0 if none was.
+#[inline(always)]
+pub(crate) fn run_of(found: Option<(usize, usize)>) -> Run
+    ensures { result ≡ unwrap_or found (0, 0) }
+{
+    match found {
+        Some((start, end)) => Run { start, end },
+        None => Run { start: 0, end: 0 },
+    }
+}
+
+/// Returns the number of an answer that is yes or no.
+#[inline(always)]
+pub(crate) fn presence_of(is_present: bool) -> u32
+    ensures value { result ≡ (if is_present then NET_BASE_PRESENT else NET_BASE_MISSING) }
+    ensures present { IsTrue is_present → result ≡ NET_BASE_PRESENT }
+    ensures missing { IsFalse is_present → result ≡ NET_BASE_MISSING }
+{
+    if is_present {
+        NET_BASE_PRESENT
+    } else {
+        NET_BASE_MISSING
+    }
+}

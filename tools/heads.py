@@ -1,0 +1,453 @@
+#!/usr/bin/env python3
+"""Writes the exports of net_ffi that are methods of heads: a test of what the method requires, then the call.
+
+    python3 tools/heads.py            writes crates/net_ffi/src/heads
+    python3 tools/heads.py --check    compares the files with what it would write; status 1 if one is stale
+
+An export is a line of heads.txt, whose first lines say what the line says. Of the method it has the comment, or another
+that follows the line; the parameters, where elements are bytes; and each clause `ensures`, after the test that it was
+not refused. What the method requires is tested, and where that isn't so, the clause `refused` says what is returned, and
+that nothing changes. What would cost a look at each run isn't tested: that is the export's own `requires`, where the
+tests hold. `TESTS` says how each is tested, `RESULTS` how a result of the method is returned.
+"""
+import dataclasses
+import pathlib
+import re
+import sys
+import textwrap
+
+import ffi
+
+TABLE = pathlib.Path(__file__).with_name("heads.txt")
+WRITTEN = ffi.EXPORTS / "src/heads"
+# A value in a clause: a name, perhaps of a field, or what is in brackets.
+TERM = r"(\([^()]*\)|\S+)"
+# What a method requires: what is tested of it as a clause and as code, the words where it isn't so, and whether that is
+# all of it; else the whole is a duty. The parts of the pattern are {0}, {1} ..; as code {c0}, {c1} ...
+TESTS = [
+    (rf"IsSound(?:Place)? {TERM} {TERM}", "{all}", "!{c1}.is_sound({c0})",
+     "`{c1}` isn't that of a ring of `{c0}` elements", True),
+    (rf"IsSoundHead {TERM} {TERM}", "{all}", "!{c1}.is_sound({c0})",
+     "`{c1}` isn't that of a sender over `{c0}` bytes", True),
+    (rf"IsSoundHead {TERM} {TERM} {TERM}", "{all}", "!{c2}.is_sound({c0}, {c1})",
+     "`{c2}` isn't that of a queue of `{c0}` slots and `{c1}` bytes", True),
+    (rf"IsSoundBoard {TERM} {TERM}", "{all}", "!{c0}.is_sound({c1})", "`{c0}` isn't sound with `{c1}`", True),
+    (rf"CanTake {TERM} {TERM} {TERM}", "{all}", "!{c1}.can_take(slot_count, {c0}, {c2})",
+     "`{c2}` can't be the first slot in use", True),
+    (rf"CanShorten {TERM} {TERM} {TERM}", "{all}", "!{c0}.can_shorten({c1}, {c2})",
+     "`{c1}` can't be the slot of a packet of `{c2}` bytes or more", True),
+    (rf"RangeFits {TERM} {TERM}", "{all}", "!AssemblerHead::fits({c0}, {c1})", "`{c0} + {c1}` doesn't fit 64 bits", True),
+    (rf"{TERM} \+ length {TERM} < 2 \^ 64", "{all}", "{c1}.len() as u64 > u64::MAX - {c0}",
+     "the segment doesn't end within 64 bits", True),
+    (rf"{TERM} \+ {TERM} < 2 \^ 64", "{all}", "{c1} as u64 > u64::MAX - {c0}", "the segment doesn't end within 64 bits",
+     True),
+    (r"(receiver\.\w+)\.first \+ \S+ \+ \S+ < 2 \^ 64", "{all}", "!has_next({c0})", "`next` doesn't fit 64 bits", True),
+    (r"(sender\.\w+)\.first_unacknowledged \+ \S+ < 2 \^ 64", "{all}", "!{c0}.end_fits()",
+     "the position after the queue doesn't fit 64 bits", True),
+    (rf"count ≤ {TERM} - {TERM}", "{all}", "count > {c0} - {c1}", "fewer than `count` elements are free", True),
+    (rf"count ≤ {TERM}", "{all}", "count > {c0}", "fewer than `count` elements are queued", True),
+    (rf"{TERM} ≤ capacity", "{all}", "{c0} > capacity", "more than `capacity` elements are queued", True),
+    (rf"HasSoundRuns {TERM} {TERM}", "{0}.used ≤ length {1}", "{c0}.used > {c1}.len()", "`{f0}used` is above `{c1}.len()`",
+     False),
+    (rf"HasSoundParts (fragments\S+) {TERM} {TERM}", "IsPlausible (length {1}) (length {2}) {0}",
+     "!is_plausible({c0}, {c1}.len(), {c2}.len())",
+     "`present.used` is above `{c2}.len()`, or a known size above `{c1}.len()`", False),
+    (rf"HasSoundParts (receiver\S+) {TERM} {TERM}", "IsPlausible (length {1}) (length {2}) {0}",
+     "!is_plausible({c0}, {c1}.len(), {c2}.len())",
+     "`place` isn't that of a ring of `{c1}.len()` bytes, `next` doesn't fit 64 bits, or `held.used` is above `{c2}.len()`",
+     False),
+]
+# Clauses of what a call leaves, which hold too where nothing changes; the last where the call counts no bytes.
+STAY = {"canonical", "exact", "others", "sends"}
+SOUND = {"AssemblerHead": "Head and runs are sound, as `net_base_assembler_is_sound` tests.",
+         "FragmentsHead": "Head and runs of `present` are sound, as `net_base_assembler_is_sound` tests.",
+         "ReceiverHead": "Head, storage and runs are sound, as `net_base_receiver_is_sound` tests."}
+NONE = "NET_BASE_NONE"
+
+
+@dataclasses.dataclass
+class Result:
+    """How a result is returned: its type; the code of the call, {call}; what `result` of the method's clauses is; what a
+    refused call returns, as code, as clauses and in words; and clauses besides."""
+
+    type: str
+    body: str
+    refusal: str
+    refused: str
+    words: str
+    value: str = "result"
+    more: tuple = ()
+
+
+DONE = Result("bool", "{call};\n    true", "false", "IsFalse result", "false")
+STATUS = "NET_BASE_REFUSED", "result ≡ NET_BASE_REFUSED", "`NET_BASE_REFUSED`"
+RESULTS = {
+    "bool": Result("bool", "{call}", "false", "IsFalse result", "false"),
+    "usize": Result("usize", "{call}", NONE, "result ≡ 2 ^ 64 - 1", f"`{NONE}`"),
+    "Span": Result("Span", "{call}", "NO_SPAN", "result ≡ nowhere",
+                   f"`from` is `{NONE}`, `count` and `contiguous` are 0"),
+    "Result<(), TooManyHolesError>": Result(
+        "u32", "status_of({call})", *STATUS, "(done_or_many result)", (("status", "result < 2"),)),
+    "Result<(), FragmentError>": Result(
+        "u32", "status_of_fragment({call})", *STATUS, "(done_or_error result)", (("status", "IsStatus result"),)),
+    "Result<usize, TooManyHolesError>": Result(
+        "FrontLength", "front_length({call})", "NO_FRONT",
+        "(result.status ≡ NET_BASE_REFUSED) × (result.length ≡ 0)", "the status is `NET_BASE_REFUSED`, and the length 0",
+        "(length_or_many result.status result.length)",
+        (("status", "result.status < 2"), ("none", "result.status ≡ 1 → result.length ≡ 0"))),
+    "Option<(usize, usize)>": Result(
+        "Run", "run_of({call})", "NO_RUN", "result ≡ (2 ^ 64 - 1, 2 ^ 64 - 1)", f"both are `{NONE}`",
+        "unwrap_or"),
+}
+
+
+@dataclasses.dataclass
+class Head:
+    """A head of the table: its section, its type, its parameter, new names of parameters, and its methods."""
+
+    section: str
+    type: str
+    name: str
+    names: dict
+    methods: dict
+    uses: dict
+    doc: list
+
+
+@dataclasses.dataclass
+class Method:
+    doc: list
+    parameters: list
+    result: str
+    requires: list
+    ensures: list
+
+
+def stop(message):
+    sys.exit(f"heads: {message}")
+
+
+def methods_of(path):
+    """The public methods of a file by name."""
+    text, found = path.read_text(), {}
+    head = re.compile(r"((?:^    ///.*\n)+)(?:^    #\[.*\n)*^    pub (?:const )?fn (\w+)(?:<T: Copy>)?(\()", flags=re.M)
+    for match in head.finditer(text):
+        end = ffi.closing(text, match.start(3))
+        body = re.compile(r"^    \{$", flags=re.M).search(text, end).start()
+        parameters = [" ".join(it.split()) for it in ffi.split_top(text[match.end(3) : end])]
+        result = re.match(r"\s*->\s*(.+?)\s*(?=\n)", text[end + 1 :])
+        clauses = {"requires": [], "ensures": []}
+        for clause in re.finditer(r"^        (requires|ensures) ?(\w*) ?\{", text[end:body], flags=re.M):
+            opening = end + clause.end() - 1
+            clauses[clause[1]].append((clause[2], " ".join(text[opening + 1 : ffi.closing(text, opening)].split())))
+        found[match[2]] = Method(ffi.doc_of(match[1]), parameters, result[1] if result else "", **clauses)
+    return found
+
+
+def uses_of(path):
+    """The names that clauses of a file may cite, each with the path that it is from."""
+    found = {}
+    for module, names in re.findall(r"^ghost use ([\w.]+)\.\{(.*?)\};", path.read_text(), flags=re.M):
+        for name in names.split(", "):
+            found[name.split(" as ")[-1]] = (module, name)
+    return found
+
+
+class Export:
+    """The export of a row: METHOD or NAME = METHOD, perhaps `-> RESULT`, perhaps `if CODE : CLAUSE`."""
+
+    def __init__(self, head, row, doc):
+        words = re.fullmatch(r"(\w+)(?: = (\w+))?(?: -> (.+?))?(?: if (.+?) : (.+?) : (.+))?", row)
+        if not words or (words[2] or words[1]) not in head.methods:
+            stop(f"{head.section}: no method: {row}")
+        self.head, self.name, self.method = head, words[1], words[2] or words[1]
+        of = head.methods[self.method]
+        self.doc = doc or (of.doc[: of.doc.index("# Requires")] if "# Requires" in of.doc else list(of.doc))
+        self.self = of.parameters[0]
+        writes = self.self == "&mut self"
+        self.parameters = [(head.name, f"&{'mut ' * writes}{head.type}")]
+        for it in of.parameters[1:]:
+            name, kind = it.split(": ", 1)
+            self.parameters.append((head.names.get(name, name), kind.replace("[T]", "[u8]")))
+        self.requires = [self.named(clause) for _, clause in of.requires]
+        self.ensures = [(name, self.named(clause)) for name, clause in of.ensures]
+        self.tests, self.duties = [], []
+        for clause in self.requires:
+            self.take(clause)
+        if words[4]:
+            self.tests.insert(0, (words[5], words[4], words[6], True))
+        self.returned(words[3], of.result)
+
+    def named(self, clause):
+        """A clause of the method with the export's names."""
+        if self.head.name in self.head.uses:
+            clause = re.sub(rf"(?<![\w.]){self.head.name}(?=[ )])", f"{self.head.name}_of", clause)
+        clause = clause.replace("FragmentError.", "")
+        for old, new in self.head.names.items():
+            clause = re.sub(rf"(?<![\w.]){old}\b", new, clause)
+        clause = re.sub(r"\bself(?=\.(?:old|new|now)\b)", self.head.name, clause)
+        return re.sub(r"\bself\b", f"{self.head.name}.now", clause)
+
+    def take(self, clause):
+        """The test of a clause that the method requires."""
+        for pattern, tested, code, words, is_all in TESTS:
+            match = re.fullmatch(pattern, clause)
+            if match:
+                parts = match.groups()
+                given = {f"c{at}": code_of(it) for at, it in enumerate(parts)}
+                given |= {f"f{at}": it.split(".", 2)[2] + "." if it.count(".") > 1 else "" for at, it in enumerate(parts)}
+                self.tests.append([it.format(*parts, all=clause, **given) for it in (tested, code, words)] + [is_all])
+                if not is_all:
+                    self.duties.append((self.tests[-1][0], clause))
+                return
+        stop(f"{self.name}: no test of {clause}")
+
+    def returned(self, word, kind):
+        """How the result is returned."""
+        self.more = []
+        if word == "present":
+            self.result = Result("u32", "presence_of({call})", *STATUS, "present")
+        elif word and word.startswith("out "):
+            name = word[4:]
+            self.parameters.append((name, f"&mut {kind}"))
+            self.result = Result("bool", f"*{name} = {{call}};\n    true", "false", "IsFalse result", "false", f"{name}.new")
+        elif word:
+            struct, *fields = re.findall(r"\w+", word)
+            made = ", ".join(["status: NET_BASE_DONE", *fields])
+            given = fields[0] if len(fields) == 1 else f"({', '.join(fields)})"
+            none = ", ".join(["status: NET_BASE_REFUSED", *[f"{it}: 0" for it in fields]])
+            zeros = " × ".join(["(result.status ≡ NET_BASE_REFUSED)", *[f"(result.{it} ≡ 0)" for it in fields]])
+            self.result = Result(struct, f"let {given} = {{call}};\n    {struct} {{ {made} }}", f"{struct} {{ {none} }}",
+                                 zeros, f"the status is `NET_BASE_REFUSED`, and {' and '.join(fields)} 0", fields,
+                                 (("status", "result.status ≡ NET_BASE_DONE"),))
+        elif kind:
+            self.result = RESULTS.get(kind) or stop(f"{self.name}: no way to return {kind}")
+        else:
+            self.result = DONE if self.tests else Result("", "{call};", "", "", "")
+
+    def guard(self, tests):
+        return " × ".join(f"({it[0]})" for it in tests) if len(tests) > 1 else tests[0][0] if tests else ""
+
+    def changed(self):
+        """Clauses that nothing changes."""
+        return [f"({quoted(name)}.new ≡ {quoted(name)}.old)" for name, kind in self.parameters if kind.startswith("&mut")]
+
+    def clauses(self):
+        """The clauses of the contract, each with its name and its word."""
+        guard, value = self.guard(self.tests), self.result.value
+        found = [("requires", f"sound{'_of_other' * at}", f"{test} → {clause}")
+                 for at, (test, clause) in enumerate(self.duties)]
+        is_done = self.result.type == "bool" and (self.result is DONE or value != "result")
+        if is_done and guard:
+            found.append(("ensures", "done", f"IsTrue result ↔ ({guard})"))
+        for name, clause in [*self.ensures, *self.result.more]:
+            if value == "present":
+                found += present(name, clause, guard)
+                continue
+            if value == "unwrap_or":
+                match = re.fullmatch(r"result ≡ (.*)", clause)
+                if not match:
+                    continue
+                clause = f"result ≡ unwrap_or ({match[1]}) (0, 0)"
+            elif isinstance(value, list):
+                if (name, clause) not in self.result.more:
+                    clause = with_fields(clause, value)
+            elif (name, clause) not in self.result.more:
+                clause = re.sub(r"\bresult\b", value, clause)
+            found.append(("ensures", name, self.guarded(name, clause, guard, is_done)))
+        if guard:
+            name = "unsound" if "refused" in dict(self.ensures) else "refused"
+            changed = self.changed()
+            if is_done:
+                found += [("ensures", "unchanged", f"IsFalse result → {' × '.join(changed)}")] * bool(changed)
+            else:
+                refused = self.result.refused if "×" in self.result.refused or not changed else f"({self.result.refused})"
+                found.append(("ensures", name, f"({guard} → ⊥) → {' × '.join([refused, *changed])}"))
+        is_one = sum(word == "ensures" for word, _, _ in found) == 1
+        return [(word, name or "" if is_one else name or "value", clause) for word, name, clause in found]
+
+    def guarded(self, name, clause, guard, is_done):
+        """A clause after the test that the call isn't refused."""
+        if not guard or name in STAY and (name, self.result.type) != ("sends", "usize"):
+            return clause
+        if self.result.type == "bool" and re.match(r"Is(?:True|False) result →", clause):
+            return clause
+        if is_done:
+            return f"IsTrue result → {clause}"
+        if name == "sound" and self.duties:
+            guard = self.guard([it for it in self.tests if not it[3]])
+        let = re.match(r"let .*? in ", clause)
+        return f"{guard} → {clause}" if not let else f"{let[0]}{guard} → {clause[let.end():]}"
+
+    def text(self):
+        """The lines of the export."""
+        lines = [f"/// {it}".rstrip() for it in rows(self.comment())]
+        lines += ["#[unsafe(no_mangle)]"]
+        result = f" -> {self.result.type}" if self.result.type else ""
+        head = f'pub extern "C" fn net_base_{self.head.section}_{self.name}('
+        parameters = [f"{name}: {kind}" for name, kind in self.parameters]
+        line = f"{head}{', '.join(parameters)}){result}"
+        lines += [line] if len(line) <= 100 else [head, *[f"    {it}," for it in parameters], f"){result}"]
+        for word, name, clause in self.clauses():
+            begin = f"{word} {name} {{" if name else f"{word} {{"
+            lines += textwrap.wrap(f"{begin} {clause} }}", 116, initial_indent="    ", subsequent_indent="        ", break_long_words=False,
+                                   break_on_hyphens=False)
+        lines.append("{")
+        if self.tests:
+            lines += [f"    if {' || '.join(it[1] for it in self.tests)} {{", f"        return {self.result.refusal};", "    }"]
+        call = f"{self.head.name}.{self.method}({', '.join(name for name, _ in self.given())})"
+        lines += [f"    {it}" for it in self.result.body.replace("{call}", call).split("\n    ")]
+        return lines + ["}"]
+
+    def given(self):
+        """The parameters that the method gets."""
+        return [it for it in self.parameters[1:] if not (isinstance(self.result.value, str) and f"{it[0]}.new" == self.result.value)]
+
+    def comment(self):
+        """The comment: what the call does, when it is refused, and its duty."""
+        doc = list(self.doc)
+        while doc and not doc[-1]:
+            doc.pop()
+        if self.tests:
+            words = list(dict.fromkeys(it[2] for it in self.tests))
+            either = ", or if ".join(words)
+            doc += ["", f"It is refused if {either}: {self.result.words}{', and nothing changes' * bool(self.changed())}."]
+        if self.duties:
+            doc += ["", "# Requires", "", SOUND[self.head.type]]
+        return doc
+
+
+def rows(lines):
+    return ffi.wrapped_text("\n".join(lines), 96)
+
+
+def quoted(name):
+    """A name that is one of Rattle's words too."""
+    return f"«{name}»" if name in ("data", "into") else name
+
+
+def code_of(term):
+    """A value of a clause as code."""
+    term = re.sub(r"^\(length (.*)\)$", r"\1.len()", term)
+    return re.sub(r"[«»]|\.(?:old|now|new)\b", "", term)
+
+
+def present(name, clause, guard):
+    """The clauses of an answer that is yes or no."""
+    if match := re.fullmatch(r"IsTrue result ↔ (.*)", clause):
+        return [("ensures", "present", f"{guard} → {match[1]} → result ≡ NET_BASE_PRESENT"),
+                ("ensures", "missing", f"{guard} → ({match[1]} → ⊥) → result ≡ NET_BASE_MISSING")]
+    match = re.fullmatch(r"result ≡ (.*)", clause) or stop(f"{name}: not a clause of yes or no: {clause}")
+    return [("ensures", "done", f"{guard} → result ≡ (if {match[1]} then NET_BASE_PRESENT else NET_BASE_MISSING)")]
+
+
+def with_fields(clause, fields):
+    """A clause of a number or of a pair, about the fields of a struct."""
+    if len(fields) == 1:
+        return re.sub(r"\bresult\b", f"result.{fields[0]}", clause)
+    return re.sub(r"\bresult\.([01])\b", lambda it: f"result.{fields[int(it[1])]}", clause)
+
+
+def heads_of(text):
+    """The heads of the table, with the exports of each."""
+    found, head = [], None
+    lines = [it for it in text.splitlines() if it and not it.startswith("#")]
+    for at, line in enumerate(lines):
+        if line.startswith("head "):
+            _, section, kind, name, *words = line.split()
+            paths = [ffi.ROOT / "crates" / it for it in words if "=" not in it]
+            names = dict(it.split("=") for it in words if "=" in it)
+            methods = {it: method for path in paths for it, method in methods_of(path).items()}
+            uses = {it: use for path in paths for it, use in uses_of(path).items()}
+            head = Head(section, kind, name, names, methods, uses, comment_after(lines, at))
+            found.append((head, []))
+        elif not line.startswith("  "):
+            found[-1][1].append(Export(head, line, comment_after(lines, at)))
+    return found
+
+
+def comment_after(lines, at):
+    """The comment in the lines after one."""
+    end = next((k for k in range(at + 1, len(lines)) if not lines[k].startswith("  ")), len(lines))
+    return [it.strip() if it.strip() != "." else "" for it in lines[at + 1 : end]]
+
+
+# Names of clauses that no head's file cites.
+OWN = {
+    "Rattle.std.specs.Prelude": "◌≡◌ ◌↔◌ ◌≤◌ ◌<◌ ◌-◌ ◌+◌ ◌^◌ ◌++◌ ◌⊎◌ IsTrue IsFalse length unwrap_or if◌then◌else◌",
+    "Rattle.net_ffi.specs.Refusals": "nowhere",
+    "Rattle.net_base.specs.declared.storage.fragments.FragmentError.TheVariants": "TooLong OtherSize",
+    "Rattle.net_ffi.specs.Results": "done_or_many length_or_many done_or_error IsStatus",
+}
+SYMBOL = re.compile(r"◌?([^\w◌\s(){},;]+)◌?")
+
+
+def is_cited(name, text):
+    """Whether a text has a name; that of an operator is between blanks."""
+    short = name.split(" as ")[-1]
+    if short == "if◌then◌else◌":
+        return " then " in text
+    if "◌" in short:
+        return f" {short.strip('◌')} " in text
+    return bool(re.search(rf"(?<![\w.]){re.escape(short)}\b", text))
+
+
+def file_of(head, exports):
+    """The file of a head's exports."""
+    body = [line for it in exports for line in ["", *it.text()]]
+    clauses = "\n".join(clause for it in exports for _, _, clause in it.clauses())
+    clauses = f" {clauses} ".replace("(", "( ").replace(")", " )")
+    uses = {}
+    own = {name: (module, name) for module, names in OWN.items() for name in names.split()}
+    if head.name in head.uses:
+        own[head.name] = (head.uses[head.name][0], f"{head.name} as {head.name}_of")
+    plausible = {"FragmentsHead": "Rattle.net_base.specs.FragmentParts", "ReceiverHead": "Rattle.net_ffi.specs.ReceiverParts"}
+    if head.type in plausible:
+        own["IsPlausible"] = (plausible[head.type], "IsPlausible")
+    for module, name in (head.uses | own).values():
+        if is_cited(name, clauses):
+            uses.setdefault(module, []).append(name)
+    lines = [f"//! {it}".rstrip() for it in rows(head.doc)] + ["// Written by tools/heads.py."]
+    lines += [f"ghost use {module}.{{{', '.join(sorted(set(names)))}}};" for module, names in sorted(uses.items())]
+    code = "\n".join(line for line in body if not line.startswith("///"))
+    imports = {}
+    for name, module in (CODE | {"is_plausible": f"crate::{head.section}"}).items():
+        if re.search(rf"\b{name}\b", code):
+            imports.setdefault(module, []).append(name)
+    lines += [""] + [f"use {module}::{{{', '.join(sorted(names))}}};" for module, names in sorted(imports.items())]
+    return "\n".join(lines + body) + "\n"
+
+
+CODE = {name: module for module, names in {
+    "crate::refusals": "NET_BASE_DONE NET_BASE_MISSING NET_BASE_NONE NET_BASE_PRESENT NET_BASE_REFUSED NO_FRONT NO_RUN NO_SPAN",
+    "crate::results": "FrontLength Hole front_length presence_of run_of status_of status_of_fragment",
+    "crate::receiver": "has_next",
+    "net_assembler": "AssemblerHead Run", "net_ring": "RingHead Span", "net_base::storage": "FragmentsHead",
+    "net_packets": "PacketSlot PacketsHead", "net_receiver": "HeldRun ReceiverHead ScoreboardHead SenderHead",
+}.items() for name in names.split()}
+
+
+def written():
+    """The files, with their texts."""
+    found = heads_of(TABLE.read_text())
+    files = {WRITTEN / f"{head.section}.rt": file_of(head, exports) for head, exports in found}
+    files[ffi.EXPORTS / "src/heads.rt"] = "\n".join(
+        ["//! Exports that are methods of heads: each is a line of tools/heads.txt. Written by tools/heads.py.",
+         *[f"mod {head.section};" for head, _ in found]]) + "\n"
+    return files
+
+
+def main():
+    stale = False
+    for path, text in written().items():
+        if "--check" not in sys.argv:
+            path.parent.mkdir(exist_ok=True)
+            path.write_text(text)
+        elif not path.exists() or path.read_text() != text:
+            print(f"{path.relative_to(ffi.ROOT)}: stale, run python3 tools/heads.py")
+            stale = True
+    sys.exit(stale)
+
+
+if __name__ == "__main__":
+    main()
