@@ -4,15 +4,20 @@ Each answer to each question of a model's rules must have a case: the questions 
 """
 import assembler
 import branches
+import closing
 import drawing
+import ending
+import fragments
 import link_words
 import modes
 import moments
 import packets
 import receiver
 import ring
+import scoreboard
 import sender
 import small
+import tcp
 import texts
 import worked
 
@@ -33,6 +38,11 @@ PARTS = [
     (modes.draw, 2100),
     (link_words.draw, 450),
     (sender.draw, 3200),
+    (fragments.draw, 1800),
+    (scoreboard.draw, 1800),
+    (ending.draw, 1800),
+    (tcp.draw, 1800),
+    (closing.draw, 1500),
 ]
 
 

@@ -6,13 +6,17 @@ test expects. A row without a name is worked out by hand from the pages: CALLING
 for lines of modes.
 """
 import assembler
+import ending
+import fragments
 import modes
 import moments
 import packets
 import receiver
 import ring
+import scoreboard
 import sender
 import small
+import tcp
 
 # The test of smoltcp, if there is one; and calls of a ring of so many bytes, each with how its reply begins: counts, and
 # what is lent or refused.
@@ -492,6 +496,52 @@ NO_LINES = [
     ("stream 8 4", ["s 0;", "s 0 6;", "s 18446744073709551616 61;", "s 18446744073709551615 616;", "r -;", "? ;", "---;", "a 0 1;"]),
 ]
 
+# Buffers of fragments: bytes, runs, deadline, and calls.
+FRAGMENTS = [
+    (8, 4, 50, "add 5 0 1: ok|0 0 1 0 0 50; set_total_size 6: ok|0 0 1 6 1 50; set_total_size 6: ok; "
+     "set_total_size 5: other_size|0 0 1 6 1 50; set_total_size 9: too_long; add 0 2 1: ok|1 0 0; add 4 2 2: ok|2 0 0; "
+     "assemble: none; overlaps 2 2: 0; overlaps 1 1: 1; overlaps 0 0: 0; add 2 2 3: ok|1 0 0 6 1; assemble: 6:; "
+     "is_expired 50: 0; is_expired 51: 1; reset 9: done|0 0 1 0 0 9; assemble: none; set_total_size 0: ok; assemble: 0:"),
+    (8, 1, -5, "add 3 1 1: ok|1 3 0 0 0 -5; add 5 1 1: refused|1 3 0; add 4 1 1: ok|1 3 0; add 7 2 1: too_long; "
+     "add 8 0 1: ok|1 3 0; add 9 0 1: too_long; is_expired -5: 0; is_expired -4: 1"),
+]
+# Scoreboards: runs, first position, and calls.
+SCOREBOARDS = [
+    (1, 100, "report 103 104: ok|0 4 1 1; report 106 107: refused|0 4 1 1; report 100 102: ok|2 4 1 1; "
+     "next_hole 100 120: 102-103; next_hole 103 120: 104-120; next_hole 119 110: 110-110; acknowledge 103: done|4 4 0 0; "
+     "report 90 101: ok|4 4 0 0; report 9 8: forbidden; contains 99: 1; contains 104: 0; first_missing 7: 104"),
+]
+# Receivers of streams that end: bytes, runs, first position, and calls.
+ENDINGS = [
+    (1, 1, 0, "segment 0 1 7 1: 1 1|1 1 0 0 1 2 1; segment 1 1 8 0: 0 0|1 1 0 0 1 2 1; "
+     "segment 2 0 0 1: other_end|1 1 0 0 1 2 1; read 4: 1:; segment 0 1 9 1: 0 0|1 0 1 0 1 2 2"),
+    (4, 1, 0, "segment 4 0 0 1: 0 0|0 0 4 0 4 0 0; segment 0 4 1 0: 4 4|4 4 0 0 4 5 1; can_end 4: 1; can_end 3: 0; "
+     "read 9: 4:; segment 4 0 0 1: 0 0|4 0 4 0 4 5 2"),
+    (4, 1, 0, "segment 5 0 0 1: 0 0|0 0 4 0 - 0 0; segment 2 2 1 0: 2 0|0 0 4 1 - 0 0; segment 3 0 0 1: other_end; "
+     "segment 4 0 0 1: 0 0|0 0 4 1 4 0 0"),
+]
+# RFC 9293's table of acceptable segments; the window, the estimate and the sum of the RFCs that tcp.py names. The update
+# of a checksum is RFC 1624's example.
+TCP = [
+    ("is_acceptable", [100, 0, 100, 0], "1"), ("is_acceptable", [100, 0, 101, 0], "0"),
+    ("is_acceptable", [100, 0, 100, 1], "0"), ("is_acceptable", [100, 10, 109, 0], "1"),
+    ("is_acceptable", [100, 10, 110, 0], "0"), ("is_acceptable", [100, 10, 95, 5], "0"),
+    ("is_acceptable", [100, 10, 95, 6], "1"), ("is_acceptable", [100, 10, 95, 99], "1"),
+    ("scale_for", [65_535], "0"), ("scale_for", [65_536], "1"), ("scale_for", [65_536 << 14], "14"),
+    ("announce", [0, 2, 1, 100], "24 97"), ("announce", [100, 2, 1, 100], "24 100"),
+    ("announce", [0, 15, 1, 100], "forbidden"), ("announce", [0, 0, 5, 4], "forbidden"),
+    ("announce_in_steps", [100, 0, 100, 150, 100, 50], "50 150"), ("announce_in_steps", [100, 0, 100, 149, 100, 50], "0 100"),
+    ("peer_update", [200, 10, 100, 100, 150, 10, 120, 30], "1 150 10 120"),
+    ("peer_update", [200, 10, 100, 100, 150, 9, 120, 30], "0 200 10 100"),
+    ("peer_update", [200, 10, 100, 110, 150, 10, 109, 30], "0 200 10 100"),
+    ("peer_update", [200, 10, 100, 110, 150, 10, 151, 30], "0 200 10 100"),
+    ("updated_checksum", [0xdd2f, 0x5555, 0x3285], "0"),
+    ("first_sample", [100_000], "800000 200000"), ("next_sample", [800_000, 200_000, 100_000], "800000 150000"),
+    ("timeout", [800_000, 200_000, 0, 60_000_000, 1], "300000"),
+    ("timeout", [800_000, 200_000, 1_000_000, 60_000_000, 1], "1000000"),
+    ("expired", [1_000_000, 1_000_000, 60_000_000], "2000000"), ("expired", [40_000_000, 0, 60_000_000], "60000000"),
+]
+
 
 def tests_of_smoltcp():
     """The tests that rows name."""
@@ -551,9 +601,29 @@ def add(cases):
         play(cases, f"rand {seed}", subject, text, lambda name, numbers: getattr(subject, name)(*numbers))
     add_values(cases)
     add_lines(cases)
+    add_ends(cases)
     for _, slots, count, text in LONG_PACKETS:
         subject = packets.Packets(slots, count, 0)
         play(cases, f"packets {slots} {count} 0", subject, text, subject.call)
+
+
+def add_ends(cases):
+    """What a TCP, or whoever joins fragments, needs beside queues."""
+    for capacity, most, expires_at, text in FRAGMENTS:
+        subject = fragments.Buffer(capacity, most, expires_at)
+        play(cases, f"fragments {capacity} {most} {expires_at}", subject, text,
+             lambda name, numbers: getattr(subject, name)(*numbers))
+    for most, first, text in SCOREBOARDS:
+        subject = scoreboard.Scoreboard(most, first)
+        play(cases, f"scoreboard {most} {first}", subject, text, lambda name, numbers: getattr(subject, name)(*numbers))
+    for capacity, most, first, text in ENDINGS:
+        subject = ending.Ending(capacity, most, first)
+        play(cases, f"ending {capacity} {most} {first}", subject, text,
+             lambda name, numbers: getattr(subject, name)(*numbers))
+    cases.begin("tcp")
+    for name, numbers, reply in TCP:
+        agree(f"{name} {numbers}", tcp.CALLS[name](*numbers), reply)
+        cases.add(name, numbers, tcp.CALLS[name](*numbers))
 
 
 def add_ranges(cases):

@@ -2,13 +2,18 @@
 use crate::assembler::Pair as Assemblers;
 use crate::call::Call;
 use crate::cells::cells;
+use crate::closing::closing;
+use crate::ending::Ending;
 use crate::error::CaseError;
+use crate::fragments::Buffer;
 use crate::packets::packets;
 use crate::receiver::Pair as Receivers;
 use crate::ring::ring;
+use crate::scoreboard::Board;
 use crate::sender::sender;
 use crate::storage::storage;
 use crate::subject::Subject;
+use crate::tcp::Tcp;
 use crate::text::Texts;
 use crate::time::Times;
 use crate::words;
@@ -81,6 +86,7 @@ fn answer_named(
     match name {
         "times" => play(alloc, &mut Times, lines, replies),
         "texts" => play(alloc, &mut Texts, lines, replies),
+        "tcp" => play(alloc, &mut Tcp, lines, replies),
         "rand" => play(alloc, &mut Rand::new(one), lines, replies),
         "storage" => play_storage(alloc, (one, two), lines, replies),
         "ring" => play_ring(alloc, (one, two), lines, replies),
@@ -89,6 +95,10 @@ fn answer_named(
         "sender" => play_sender(alloc, (one, two), lines, replies),
         "assembler" => assemble(alloc, one, lines, replies),
         "receiver" => receive(alloc, (one, two, three), lines, replies),
+        "fragments" => join_fragments(alloc, (one, two, three), lines, replies),
+        "scoreboard" => score(alloc, (one, two), lines, replies),
+        "ending" => receive_to_end(alloc, (one, two, three), lines, replies),
+        "closing" => play_closing(alloc, (one, two), lines, replies),
         _ => Ok(false),
     }
 }
@@ -186,6 +196,92 @@ fn receive(
         }
         _ => Ok(false),
     }
+}
+
+/// Appends the replies of a buffer of this capacity and number of runs, and of a deadline.
+fn join_fragments(
+    alloc: Global,
+    (capacity, runs, expires_at): (u64, u64, u64),
+    lines: &str,
+    replies: &mut String,
+) -> Result<bool, CaseError> {
+    match runs {
+        1 => {
+            let mut buffer = Buffer::<1>::new(alloc, capacity, expires_at)?;
+            play(alloc, &mut buffer, lines, replies)
+        }
+        4 => {
+            let mut buffer = Buffer::<4>::new(alloc, capacity, expires_at)?;
+            play(alloc, &mut buffer, lines, replies)
+        }
+        _ => Ok(false),
+    }
+}
+
+/// Appends the replies of a scoreboard of this number of runs and first position.
+fn score(
+    alloc: Global,
+    (runs, first): (u64, u64),
+    lines: &str,
+    replies: &mut String,
+) -> Result<bool, CaseError> {
+    match runs {
+        1 => play(alloc, &mut Board::<1>::new(first), lines, replies),
+        4 => play(alloc, &mut Board::<4>::new(first), lines, replies),
+        32 => play(alloc, &mut Board::<32>::new(first), lines, replies),
+        _ => Ok(false),
+    }
+}
+
+/// Appends the replies of a receiver of a stream that ends, of this capacity, number of runs and first position.
+fn receive_to_end(
+    alloc: Global,
+    (capacity, runs, first): (u64, u64, u64),
+    lines: &str,
+    replies: &mut String,
+) -> Result<bool, CaseError> {
+    match runs {
+        1 => play_ending(
+            alloc,
+            Ending::<1>::new(alloc, capacity, first)?,
+            lines,
+            replies,
+        ),
+        4 => play_ending(
+            alloc,
+            Ending::<4>::new(alloc, capacity, first)?,
+            lines,
+            replies,
+        ),
+        _ => Ok(false),
+    }
+}
+
+/// Appends the replies of such a receiver, if there is one.
+fn play_ending<const N: usize>(
+    alloc: Global,
+    ending: Option<Ending<N>>,
+    lines: &str,
+    replies: &mut String,
+) -> Result<bool, CaseError> {
+    match ending {
+        Some(ending) => {
+            let mut ending = ending;
+            play(alloc, &mut ending, lines, replies)
+        }
+        None => Ok(false),
+    }
+}
+
+/// Appends the replies of a sender of a stream that ends, of a capacity and of a first position.
+fn play_closing(
+    alloc: Global,
+    (capacity, first): (u64, u64),
+    lines: &str,
+    replies: &mut String,
+) -> Result<bool, CaseError> {
+    let mut closing = closing(alloc, capacity, first)?;
+    play(alloc, &mut closing, lines, replies)
 }
 
 /// Makes the calls of lines on a subject. Each reply is the result of the call, and what can be seen of the

@@ -27,23 +27,17 @@ impl<'a> Call<'a> {
         Ok(Some(Call { name, numbers }))
     }
 
+    /// Returns the number at an index, or 0 if there is none.
+    pub fn at(&self, index: usize) -> u64 {
+        match self.numbers.get(index) {
+            Some(number) => *number,
+            None => 0,
+        }
+    }
+
     /// Returns the first four numbers, or 0 in place of those that the call doesn't have.
     pub fn four(&self) -> [u64; 4] {
-        let numbers = self.numbers.as_slice();
-        [
-            at(numbers, 0),
-            at(numbers, 1),
-            at(numbers, 2),
-            at(numbers, 3),
-        ]
-    }
-}
-
-/// Returns the number at an index, or 0 if there is none.
-fn at(numbers: &[u64], index: usize) -> u64 {
-    match numbers.get(index) {
-        Some(number) => *number,
-        None => 0,
+        [self.at(0), self.at(1), self.at(2), self.at(3)]
     }
 }
 

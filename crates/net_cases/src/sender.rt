@@ -1,16 +1,18 @@
-//! The calls of a sender.
+//! The calls of senders, one with SACK blocks and one without: what is acknowledged, and what can be seen, is the
+//! latter's, other results are the former's.
 use crate::bytes::{START, mix_bytes, pattern};
 use crate::call::{ANY, Call, Entry, find};
 use crate::reply::{Part, Reply};
 use crate::subject::Subject;
-use net_receiver::{MOST_SACK_BLOCKS, SackBlocks, SackSender};
+use net_receiver::{MOST_SACK_BLOCKS, SackBlocks, SackSender, Sender};
 use net_ring::ManagedSlice;
 use std::alloc::{AllocError, Global};
 
-/// A sender, and its stream's first position.
+/// Two senders of the same bytes, and their stream's first position.
 #[derive(Drop)]
 pub struct Source {
     sender: SackSender<'static>,
+    plain: Sender<'static>,
     first: u64,
 }
 
@@ -45,11 +47,13 @@ static CALLS: [Entry<Kind>; 9] = [
     ("send_limit", 0, Kind::SendLimit),
 ];
 
-/// Returns a sender over so many bytes, of a stream that begins at `first`.
+/// Returns senders over `capacity` bytes each, of a stream that begins at `first`.
 pub fn sender(alloc: Global, capacity: u64, first: u64) -> Result<Source, AllocError> {
     let storage = pattern(alloc, capacity, 0)?;
+    let other = pattern(alloc, capacity, 0)?;
     Ok(Source {
         sender: SackSender::new_at(ManagedSlice::from(storage), first),
+        plain: Sender::over_at(ManagedSlice::from(other), first),
         first,
     })
 }
@@ -60,15 +64,23 @@ impl Subject for Source {
         let Some(kind) = find(&CALLS, call) else {
             return Ok(None);
         };
-        let sender = &mut self.sender;
+        let (sender, plain) = (&mut self.sender, &mut self.plain);
         let reply = match kind {
-            Kind::Write => write(alloc, sender, one, two)?,
+            Kind::Write => {
+                let bytes = pattern(alloc, one, two)?;
+                plain.write(&bytes);
+                Reply::new().count(sender.write(&bytes))
+            }
             Kind::PeekAt => Reply::new().bytes(sender.peek_at(one, two as usize)),
-            Kind::Acknowledge => acknowledge(sender, one, blocks_of(&call.numbers, 1)),
+            Kind::Acknowledge => {
+                sender.acknowledge(one, blocks_of(&call.numbers, 1));
+                done(plain.acknowledge(one))
+            }
             Kind::AcknowledgeSent => {
+                plain.acknowledge_sent(one, two);
                 done(sender.acknowledge_sent(one, two, blocks_of(&call.numbers, 2)))
             }
-            Kind::MarkSent => mark_sent(sender, one, two),
+            Kind::MarkSent => mark_sent(plain, one, two),
             Kind::SparedFrom => Reply::new().number(sender.spared_from(one)),
             Kind::NextBlock => Reply::new().number(sender.next_block(one)),
             Kind::AreSackBlocksFull => Reply::new().truth(sender.are_sack_blocks_full()),
@@ -80,41 +92,24 @@ impl Subject for Source {
     /// Shows the first unacknowledged position and the end, counted from the stream's first position; how many
     /// bytes are queued, and for how many there is room; whether none is queued; and the digest of the queue.
     fn show(&mut self, _: Global) -> Result<Reply, AllocError> {
-        let (sender, first) = (&self.sender, self.first);
+        let (plain, first) = (&self.plain, self.first);
         let reply = Reply::new()
-            .number(sender.first_unacknowledged().wrapping_sub(first))
-            .number(sender.end().wrapping_sub(first))
-            .count(sender.len())
-            .count(sender.room())
-            .truth(sender.is_empty());
-        Ok(reply.and(Part::Digest(digest_of(sender))))
+            .number(plain.first_unacknowledged().wrapping_sub(first))
+            .number(plain.end().wrapping_sub(first))
+            .count(plain.len())
+            .count(plain.window())
+            .truth(plain.is_empty());
+        Ok(reply.and(Part::Digest(digest_of(plain))))
     }
 }
 
 /// Returns the digest of the queue.
-fn digest_of(sender: &SackSender<'_>) -> u64 {
+fn digest_of(sender: &Sender<'_>) -> u64 {
     let begin = sender.first_unacknowledged();
     let part = sender.peek_at(begin, usize::MAX);
     let next = begin.saturating_add(part.len() as u64);
     let sum = mix_bytes(START, part);
     mix_bytes(sum, sender.peek_at(next, usize::MAX))
-}
-
-fn write(
-    alloc: Global,
-    sender: &mut SackSender<'_>,
-    size: u64,
-    seed: u64,
-) -> Result<Reply, AllocError> {
-    let bytes = pattern(alloc, size, seed)?;
-    Ok(Reply::new().count(sender.write(&bytes)))
-}
-
-/// Accepts an acknowledgement, and returns a reply of whether its position is one that the queue has, or its end.
-fn acknowledge(sender: &mut SackSender<'_>, next: u64, blocks: SackBlocks) -> Reply {
-    let is_done = sender.first_unacknowledged() <= next && next <= sender.end();
-    sender.acknowledge(next, blocks);
-    done(is_done)
 }
 
 /// Returns a reply of whether a call was done.
@@ -123,7 +118,7 @@ fn done(is_done: bool) -> Reply {
 }
 
 /// Moves a mark of what was sent, and returns a reply of whether it was done, and of the mark.
-fn mark_sent(sender: &SackSender<'_>, sent: u64, pos: u64) -> Reply {
+fn mark_sent(sender: &Sender<'_>, sent: u64, pos: u64) -> Reply {
     let mut mark = sent;
     let is_done = sender.mark_sent(&mut mark, pos);
     done(is_done).number(mark)

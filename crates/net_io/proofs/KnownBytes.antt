@@ -1,5 +1,6 @@
 -- What writes and reads that follow one another do to known bytes.
-use Rattle.std.proofs.Common.{◌≡◌, ℕ, List, [], ◌++◌, length, take, Option, refl, ◌∙◌, ap, arith, length-append, ◌<◌, length-take}
+use Rattle.std.proofs.Common.{◌≡◌, ℕ, List, [], ◌++◌, length, take, Option, refl, ◌∙◌, ap, arith, length-append, ◌<◌}
+use Rattle.std.proofs.Common.{length-take}
 use Rattle.std.specs.Io.{StartsWith}
 use Rattle.std.specs.Io.KnownBytes.{Appends, Keeps, Consumes}
 use Rattle.std.proofs.KnownBytes.{Appends-nil, Appends-trans, Consumes-nil, Consumes-kept}
@@ -9,7 +10,8 @@ use Rattle.net_io.specs.Writer.{AppendsPrefix}
 pub use Rattle.std.proofs.KnownBytes.{Appends-kept, Consumes-trans as Consumes-two, Keeps-refl as Keeps-same}
 
 -- two writes are one
-pub Appends-two : (a b c : Option (List ℕ)) (xs ys zs : List ℕ) → Appends a b xs → Appends b c ys → xs ++ ys ≡ zs → Appends a c zs
+pub Appends-two : (a b c : Option (List ℕ)) (xs ys zs : List ℕ) → Appends a b xs → Appends b c ys → xs ++ ys ≡ zs →
+    Appends a c zs
 Appends-two a b c xs ys zs h k e = rw (← e) (Appends-trans a b c xs ys h k)
 
 -- nothing was written

@@ -1,5 +1,6 @@
 -- Numerals, and the numbers that they write.
-use Rattle.std.proofs.Common.{◌≡◌, ℕ, ◌+◌, ◌-◌, ◌*◌, ◌^◌, ◌<◌, ◌≤◌, List, length, take, get_or, true, false, nat_lt, Some, None, refl, ap, sym, arith}
+use Rattle.std.proofs.Common.{◌≡◌, ℕ, ◌+◌, ◌-◌, ◌*◌, ◌^◌, ◌<◌, ◌≤◌, List, length, take, get_or, true, false, nat_lt}
+use Rattle.std.proofs.Common.{Some, None, refl, ap, sym, arith}
 use Rattle.std.specs.List.{list_all}
 use Rattle.std.specs.Char.{is_ascii_digit, digit_value}
 use Rattle.std.specs.Str.Parse.{digits_value}
@@ -24,7 +25,8 @@ pub number-large : (word : List ℕ) (i value : ℕ) → i < length word → val
 number-large word i value inside written digit large =
     let most = digits_value-take-le 10 word (i + 1) (omega arith) in
     let more = digits-more word i value inside written digit in
-    let small : nat_lt (digits_value 10 word) (2 ^ 64) ≡ false = le-ltb (digits_value 10 word) (2 ^ 64) (omega (arith, most, more, large)) in
+    let small : nat_lt (digits_value 10 word) (2 ^ 64) ≡ false =
+    le-ltb (digits_value 10 word) (2 ^ 64) (omega (arith, most, more, large)) in
     cond-false _ _ _ (and_right _ _ small)
 
 -- a numeral whose number 64 bits hold

@@ -100,7 +100,8 @@ Helps writer writer' errors errors' ended =
     ⊎ (AppendsPrefix writer writer' usage_text × FailsToWrite errors errors' ended)
 
 -- wrong words: nothing is read or written, and standard error says what is wrong with them, if it took that
-pub record Refuses (numbers : List (List ℕ)) (error : UsageError) (reader reader' writer writer' errors errors' : Option (List ℕ))
+pub record Refuses (numbers : List (List ℕ)) (error : UsageError)
+    (reader reader' writer writer' errors errors' : Option (List ℕ))
     (ended : Ended) : Type 0 where
   pub unread : Keeps reader reader'
   pub unwritten : Keeps writer writer'
@@ -111,6 +112,7 @@ abbrev pub ComesOf : List (List ℕ) → Result Command UsageError → Option (L
     Option (List ℕ) → Option (List ℕ) → Option (List ℕ) → Ended → Type 0
 ComesOf words (Ok (Copy args)) reader reader' writer writer' errors errors' ended =
     CopiesOver args reader reader' writer writer' errors errors' ended
-ComesOf words (Ok Help) reader reader' writer writer' errors errors' ended = Keeps reader reader' × Helps writer writer' errors errors' ended
+ComesOf words (Ok Help) reader reader' writer writer' errors errors' ended =
+    Keeps reader reader' × Helps writer writer' errors errors' ended
 ComesOf words (Err error) reader reader' writer writer' errors errors' ended =
     Refuses (numbers words) error reader reader' writer writer' errors errors' ended

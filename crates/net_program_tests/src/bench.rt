@@ -2,6 +2,7 @@
 
 mod endings;
 mod failures;
+mod flushes;
 mod long_inputs;
 mod memory;
 mod program;

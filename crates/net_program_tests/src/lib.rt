@@ -15,3 +15,5 @@ mod io;
 mod link;
 #[cfg(test)]
 mod testing;
+#[cfg(test)]
+mod words;

@@ -1,5 +1,7 @@
 -- The steps of a copier are those of a copy.
-use Rattle.std.proofs.Common.{◌≡◌, ◌&&◌, ℕ, suc, ◌+◌, ◌-◌, ◌*◌, ◌≤◌, ◌<◌, ◌^◌, min, not, nat_lt, Bool, true, false, Option, Result, Ok, Err, List, [], ◌∷◌, ◌++◌, length, take, drop, refl, sym, ap, subst, ◌∙◌, arith, inl, inr, ⊎_elim, append_assoc, length-take, length-append}
+use Rattle.std.proofs.Common.{◌≡◌, ◌&&◌, ℕ, suc, ◌+◌, ◌-◌, ◌*◌, ◌≤◌, ◌<◌, ◌^◌, min, not, nat_lt, Bool, true, false}
+use Rattle.std.proofs.Common.{Option, Result, Ok, Err, List, [], ◌∷◌, ◌++◌, length, take, drop, refl, sym, ap, subst}
+use Rattle.std.proofs.Common.{◌∙◌, arith, inl, inr, ⊎_elim, append_assoc, length-take, length-append}
 use Rattle.std.specs.Io.KnownBytes.{Consumes, Appends, Keeps, IsAtEnd}
 use Rattle.std.proofs.lemmas.Bool.{both_ways, cond-false, le-ltb}
 use Rattle.std.proofs.lemmas.List.{append-nil}
@@ -11,10 +13,13 @@ use Rattle.net_io.specs.Writer.{FlushesAfter}
 use Rattle.net_stream_model.specs.declared.error.CopyError.{CopyError}
 use Rattle.net_stream_model.specs.declared.error.CopyError.TheVariants as errors
 use Rattle.net_stream_model.specs.LinkState.{times}
-use Rattle.net_stream_model.specs.CopyState.{Setup, CopyState, Status, Running, Done, GaveUp, ReadFailed, after, final, outcome, concat, is_written, room_for, rest_of, read_of, with_read, feed, decide, pass, while_running, turn}
+use Rattle.net_stream_model.specs.CopyState.{Setup, CopyState, Status, Running, Done, GaveUp, ReadFailed, after, final}
+use Rattle.net_stream_model.specs.CopyState.{outcome, concat, is_written, room_for, rest_of, read_of, with_read, feed}
+use Rattle.net_stream_model.specs.CopyState.{decide, pass, while_running, turn}
 use Rattle.net_stream_model.specs.Counts.{more, no_counts}
 use Rattle.net_stream_model.specs.Promises.{FinalIs}
-use Rattle.net_stream_model.specs.CopyResult.{before_pass, EndsRound, Copied, CopiedPart, HasCopied, HasNotBegun, counts_after, counts_each}
+use Rattle.net_stream_model.specs.CopyResult.{before_pass, EndsRound, Copied, CopiedPart, HasCopied, HasNotBegun}
+use Rattle.net_stream_model.specs.CopyResult.{counts_after, counts_each}
 use Rattle.net_stream.specs.Each.{Each, EndsReads, GivesReads}
 use Rattle.net_stream.specs.Known.{EndsFrom, StopsFrom, HasOutcome, Foretells}
 use Rattle.net_stream.specs.Turns.{copy_state_of, counts_of, Begins, IsFresh, Feeds, Passes, Breaks, CopiedSoFar}
@@ -29,7 +34,8 @@ pub unfed : {room : ℕ} {may : Bool} (chunk : ℕ) (c : CopyState) → room ≡
     may ≡ (c.more && nat_lt 0 room && is_written c.link) → may ≡ false → feed chunk c ≡ c
 unfed chunk c at is on = grind arith
 
-pub may_some : {may : Bool} (more written : Bool) (room : ℕ) → may ≡ (more && nat_lt 0 room && written) → may ≡ true → (more ≡ true) × (0 < room)
+pub may_some : {may : Bool} (more written : Bool) (room : ℕ) → may ≡ (more && nat_lt 0 room && written) → may ≡ true →
+    (more ≡ true) × (0 < room)
 may_some more written room is on = grind arith
 
 -- a read that gave some bytes, and one that gave all
@@ -65,10 +71,12 @@ turned : (rounds chunk : ℕ) (s t : CopyState) → while_running (feed chunk) s
 unfolding turn
 turned rounds chunk s t e = ap (λ x. while_running (pass chunk) (while_running (decide rounds) x)) e
 
-goes_on : (rounds : ℕ) (c : CopyState) → (not c.more && is_written c.link) ≡ false → c.stalled < rounds → decide rounds c ≡ c
+goes_on : (rounds : ℕ) (c : CopyState) → (not c.more && is_written c.link) ≡ false → c.stalled < rounds →
+    decide rounds c ≡ c
 goes_on rounds c on few = grind arith
 
-pub is_over : (rounds : ℕ) (c : CopyState) → (not c.more && is_written c.link) ≡ true → decide rounds c ≡ record c { status = Done }
+pub is_over : (rounds : ℕ) (c : CopyState) → (not c.more && is_written c.link) ≡ true →
+    decide rounds c ≡ record c { status = Done }
 is_over rounds c done = grind arith
 
 pub gives_up : (rounds : ℕ) (c : CopyState) → (not c.more && is_written c.link) ≡ false → rounds ≤ c.stalled →
@@ -80,15 +88,18 @@ concat_both [] ys = refl
 concat_both (x ∷ xs) ys = ap (λ l. x ++ l) (concat_both xs ys) ∙ sym (append_assoc x (concat xs) (concat ys))
 
 -- a count of both
-both_counted : (n : ℕ) (xs ys : List ℕ) → n ≡ min (length xs + length ys) (2 ^ 64 - 1) → n ≡ min (length (xs ++ ys)) (2 ^ 64 - 1)
+both_counted : (n : ℕ) (xs ys : List ℕ) → n ≡ min (length xs + length ys) (2 ^ 64 - 1) →
+    n ≡ min (length (xs ++ ys)) (2 ^ 64 - 1)
 both_counted n xs ys is = omega (arith, is, length-append xs ys)
 
 -- a copy of a setup, from the copier before its first turn
-begun : {A : Type 0} {rounds chunk : ℕ} {old : Copier A} {s : Setup} → Begins s rounds chunk old → (reads : List (List ℕ)) (n : ℕ) →
+begun : {A : Type 0} {rounds chunk : ℕ} {old : Copier A} {s : Setup} → Begins s rounds chunk old →
+    (reads : List (List ℕ)) (n : ℕ) →
     after s reads n ≡ times n (turn rounds chunk) (copy_state_of old reads [] [] Running)
 begun begins reads n i = times n (turn (begins.rounds_are i) (begins.chunk_is i)) (begins.state reads i)
 
-pub none_yet : {A : Type 0} {rounds chunk : ℕ} {old : Copier A} {reader writer : Option (List ℕ)} {comes : List (List ℕ) → Type 0} → IsFresh old →
+pub none_yet : {A : Type 0} {rounds chunk : ℕ} {old : Copier A} {reader writer : Option (List ℕ)}
+    {comes : List (List ℕ) → Type 0} → IsFresh old →
     CopiedSoFar rounds chunk old old [] [] reader reader writer writer comes comes
 none_yet {A} {rounds} {chunk} {old} {reader} {writer} {comes} fresh = record {
   turns = 0;
@@ -105,7 +116,8 @@ none_yet {A} {rounds} {chunk} {old} {reader} {writer} {comes} fresh = record {
 
 -- the turns so far, and the read of the next one
 pub record FedSoFar {A : Type 0} (rounds chunk : ℕ) (old new : Copier A) (reads : List (List ℕ)) (told : List Counts)
-    (reader reader' writer writer' : Option (List ℕ)) (comes comes' : List (List ℕ) → Type 0) (ended : Status) : Type 0 where
+    (reader reader' writer writer' : Option (List ℕ)) (comes comes' : List (List ℕ) → Type 0)
+    (ended : Status) : Type 0 where
   turns : ℕ
   written : List ℕ
   consumed : Consumes reader reader' (concat reads)
@@ -125,7 +137,8 @@ pub record FedSoFar {A : Type 0} (rounds chunk : ℕ) (old new : Copier A) (read
   end : new.more ≡ false → IsAtEnd reader'
 
 module _ {A : Type 0} {rounds chunk k : ℕ} {old a b : Copier A} {reads next : List (List ℕ)} {told : List Counts}
-    {reader reader' reader'' writer writer' : Option (List ℕ)} {comes comes' comes'' : List (List ℕ) → Type 0} {ended : Status} where
+    {reader reader' reader'' writer writer' : Option (List ℕ)} {comes comes' comes'' : List (List ℕ) → Type 0}
+    {ended : Status} where
   -- a read into a chunk of this length
   pub fed_more : CopiedSoFar rounds chunk old a reads told reader reader' writer writer' comes comes' → k ≡ chunk →
       Feeds k a b next reader' reader'' comes' comes'' ended →
@@ -140,12 +153,14 @@ module _ {A : Type 0} {rounds chunk k : ℕ} {old a b : Copier A} {reads next : 
         consumed = subst (Consumes reader reader'') (sym all)
             (Consumes-two reader reader' reader'' (concat reads) (concat next) so_far.consumed f.consumed);
         appended = so_far.appended;
-        bytes_read = both_counted b.bytes_read (concat reads) (concat next) (f.bytes_read (length (concat reads)) so_far.bytes_read)
+        bytes_read = both_counted b.bytes_read (concat reads) (concat next)
+            (f.bytes_read (length (concat reads)) so_far.bytes_read)
             ∙ ap (λ xs. min (length xs) (2 ^ 64 - 1)) (sym all);
         bytes_written = f.bytes_written ∙ so_far.bytes_written;
         runs = ap (λ (c : CopyState). c.status) (so_far.state next);
         state = λ before later is none.
-            ap (λ rs. while_running (feed chunk) (times so_far.turns (turn rounds chunk) (copy_state_of old rs [] [] Running)))
+            ap (λ rs. while_running (feed chunk)
+            (times so_far.turns (turn rounds chunk) (copy_state_of old rs [] [] Running)))
             (is ∙ append_assoc reads next later)
             ∙ ap (while_running (feed chunk)) (so_far.state (next ++ later))
             ∙ f.step later (concat reads) so_far.written none
@@ -173,21 +188,25 @@ module _ {A : Type 0} {rounds chunk k : ℕ} {old b d : Copier A} {reads : List 
   one_more fed on few same passes =
       let p : Passes chunk b d writer' keeps = subst (λ n. Passes n b d writer' keeps) same passes in
       let bytes_read = p.bytes_read ∙ fed.bytes_read in
-      let bytes_written = both_counted d.bytes_written fed.written p.written (p.bytes_written (length fed.written) fed.bytes_written) in
+      let bytes_written = both_counted d.bytes_written fed.written p.written
+      (p.bytes_written (length fed.written) fed.bytes_written) in
       let state : (before later : List (List ℕ)) →
       while_running (feed chunk) (times fed.turns (turn rounds chunk) (copy_state_of old before [] [] Running))
       ≡ copy_state_of b later (concat reads) fed.written Running →
       times (suc fed.turns) (turn rounds chunk) (copy_state_of old before [] [] Running)
       ≡ copy_state_of d later (concat reads) (fed.written ++ p.written) Running =
       λ before later is. turned rounds chunk _ _ is
-      ∙ ap (while_running (pass chunk)) (goes_on rounds (copy_state_of b later (concat reads) fed.written Running) on few)
+      ∙ ap (while_running (pass chunk)) (goes_on rounds
+      (copy_state_of b later (concat reads) fed.written Running) on few)
       ∙ p.step later (concat reads) fed.written in
-      let own = λ (later : List (List ℕ)). state (reads ++ later) later (fed.state (reads ++ later) later refl (λ e. cc)) in
+      let own = λ (later : List (List ℕ)). state (reads ++ later) later
+      (fed.state (reads ++ later) later refl (λ e. cc)) in
       record {
         turns = suc fed.turns;
         written = fed.written ++ p.written;
         consumed = fed.consumed;
-        appended = Appends-two writer writer' keeps fed.written p.written (fed.written ++ p.written) fed.appended p.appended refl;
+        appended = Appends-two writer writer' keeps fed.written p.written
+            (fed.written ++ p.written) fed.appended p.appended refl;
         bytes_read = bytes_read;
         bytes_written = bytes_written;
         state = own;
@@ -199,14 +218,17 @@ module _ {A : Type 0} {rounds chunk k : ℕ} {old b d : Copier A} {reads : List 
       }
 
 module _ {A : Type 0} {rounds chunk : ℕ} {old b : Copier A} {reads : List (List ℕ)} {told : List Counts}
-    {reader reader' writer writer' : Option (List ℕ)} {comes comes' : List (List ℕ) → Type 0} {s : Setup} (begins : Begins s rounds chunk old) where
-  told_of : {ended : Status} (fed : FedSoFar rounds chunk old b reads told reader reader' writer writer' comes comes' ended) →
+    {reader reader' writer writer' : Option (List ℕ)} {comes comes' : List (List ℕ) → Type 0} {s : Setup}
+    (begins : Begins s rounds chunk old) where
+  told_of : {ended : Status} (fed : FedSoFar rounds chunk old b reads told reader reader' writer writer' comes comes'
+      ended) →
       told ≡ counts_each s reads fed.turns
   told_of fed = fed.each reads [] (sym (append-nil reads))
       ∙ sym (λ i. counts_after (turn (begins.rounds_are i) (begins.chunk_is i)) (begins.state reads i) fed.turns)
 
   -- the last turn, which ends so
-  pub last : {ended : Status} → FinalIs → FedSoFar rounds chunk old b reads told reader reader' writer writer' comes comes' ended → (status : Status) →
+  pub last : {ended : Status} → FinalIs → FedSoFar rounds chunk old b reads told reader reader' writer writer' comes
+      comes' ended → (status : Status) →
       ((later : List (List ℕ)) (given written : List ℕ) →
       while_running (pass chunk) (while_running (decide rounds) (copy_state_of b later given written ended))
       ≡ copy_state_of b later given written status) → (status ≡ Running → ⊥) → (status ≡ Done → b.more ≡ false) →
@@ -217,10 +239,13 @@ module _ {A : Type 0} {rounds chunk : ℕ} {old b : Copier A} {reads : List (Lis
       while_running (feed chunk) (times fed.turns (turn rounds chunk) (copy_state_of old before [] [] Running))
       ≡ copy_state_of b later (concat reads) fed.written ended →
       after s before (suc fed.turns) ≡ copy_state_of b later (concat reads) fed.written status =
-      λ before later is. begun begins before (suc fed.turns) ∙ turned rounds chunk _ _ is ∙ ends later (concat reads) fed.written in
-      let at_last : (before later : List (List ℕ)) → after s before (suc fed.turns) ≡ copy_state_of b later (concat reads) fed.written status →
+      λ before later is. begun begins before (suc fed.turns) ∙ turned rounds chunk _ _ is ∙
+      ends later (concat reads) fed.written in
+      let at_last : (before later : List (List ℕ)) →
+      after s before (suc fed.turns) ≡ copy_state_of b later (concat reads) fed.written status →
       final s before ≡ copy_state_of b later (concat reads) fed.written status =
-      λ before later is. law s before (suc fed.turns) begins.first_fits (λ r. over (sym (ap (λ (c : CopyState). c.status) is) ∙ r)) ∙ is in
+      λ before later is. law s before (suc fed.turns) begins.first_fits
+      (λ r. over (sym (ap (λ (c : CopyState). c.status) is) ∙ r)) ∙ is in
       let counted : (later : List (List ℕ)) → outcome (copy_state_of b later (concat reads) fed.written status)
       ≡ record { status = status; written = fed.written; counts = counts_of b } =
       λ later i. record (outcome (copy_state_of b later (concat reads) fed.written status)) {
@@ -252,29 +277,44 @@ module _ {A : Type 0} {rounds chunk : ℕ} {old b : Copier A} {reads : List (Lis
       CopiedPart s error reads told reader reader' writer keeps (counts_of d)
       × Foretells comes writer keeps (λ coming written. StopsFrom s error coming written (counts_of d))
   part_of {k} {error} {d} {keeps} fed on few same breaks =
-      let p : Breaks s.chunk error b d writer' keeps = subst (λ n. Breaks n error b d writer' keeps) (same ∙ sym begins.chunk_is) breaks in
+      let p : Breaks s.chunk error b d writer' keeps =
+      subst (λ n. Breaks n error b d writer' keeps) (same ∙ sym begins.chunk_is) breaks in
       let state : (before later : List (List ℕ)) →
       while_running (feed chunk) (times fed.turns (turn rounds chunk) (copy_state_of old before [] [] Running))
       ≡ copy_state_of b later (concat reads) fed.written Running →
       before_pass s before fed.turns ≡ copy_state_of b later (concat reads) fed.written Running =
       λ before later is.
-      (λ i. while_running (decide (begins.rounds_are i)) (while_running (feed (begins.chunk_is i)) (begun begins before fed.turns i)))
-      ∙ ap (while_running (decide rounds)) is ∙ goes_on rounds (copy_state_of b later (concat reads) fed.written Running) on few in
+      (λ i. while_running (decide (begins.rounds_are i))
+      (while_running (feed (begins.chunk_is i)) (begun begins before fed.turns i)))
+      ∙ ap (while_running (decide rounds)) is ∙ goes_on rounds
+      (copy_state_of b later (concat reads) fed.written Running) on few in
       let bytes_read = p.bytes_read ∙ fed.bytes_read in
-      let bytes_written = both_counted d.bytes_written fed.written p.written (p.bytes_written (length fed.written) fed.bytes_written) in
-      let stops : (before later : List (List ℕ)) → before_pass s before fed.turns ≡ copy_state_of b later (concat reads) fed.written Running →
+      let bytes_written = both_counted d.bytes_written fed.written p.written
+      (p.bytes_written (length fed.written) fed.bytes_written) in
+      let stops : (before later : List (List ℕ)) →
+      before_pass s before fed.turns ≡ copy_state_of b later (concat reads) fed.written Running →
       StopsFrom s error before (fed.written ++ p.written) (counts_of d) = λ before later is. record {
         turns = fed.turns;
         link = p.link;
         last = p.written;
         runs = ap (λ (c : CopyState). c.status) is;
-        part = subst (λ (c : CopyState). EndsRound error s.chunk c p.link p.written) (sym is) (p.part later (concat reads) fed.written);
+        part = subst (λ (c : CopyState). EndsRound error s.chunk c p.link p.written) (sym is)
+            (p.part later (concat reads) fed.written);
         all = ap (λ (c : CopyState). c.written ++ p.written) (sym is);
         counted =
-            (λ i. record { bytes_read = bytes_read i; bytes_written = bytes_written i; rounds = p.rounds i; micros = p.micros i; frames = p.frames i })
-            ∙ ap (λ (c : CopyState). (outcome (record c { link = p.link; written = fed.written ++ p.written; rounds = more c.rounds })).counts) (sym is);
+            (λ i. record {
+              bytes_read = bytes_read i;
+              bytes_written = bytes_written i;
+              rounds = p.rounds i;
+              micros =
+                  p.micros i;
+              frames = p.frames i;
+            })
+            ∙ ap (λ (c : CopyState). (outcome (record c
+            { link = p.link; written = fed.written ++ p.written; rounds = more c.rounds })).counts) (sym is);
       } in
-      let appended = Appends-two writer writer' keeps fed.written p.written (fed.written ++ p.written) fed.appended p.appended refl in
+      let appended = Appends-two writer writer' keeps fed.written p.written
+      (fed.written ++ p.written) fed.appended p.appended refl in
       let own = state reads [] (fed.state reads [] (sym (append-nil reads)) (λ _. refl)) in
       let q = stops reads [] own in (
         record {
@@ -293,20 +333,24 @@ module _ {A : Type 0} {rounds chunk : ℕ} {old b : Copier A} {reads : List (Lis
           consumed = fed.consumed;
           appended = subst (Appends writer keeps) q.all appended;
         },
-        λ coming h. (let r = fed.known coming h in (fed.written ++ p.written, appended, stops coming r.0 (state coming r.0 r.1))),
+        λ coming h. (let r = fed.known coming h in
+            (fed.written ++ p.written, appended, stops coming r.0 (state coming r.0 r.1))),
       )
 
 -- ---- by the result
 -- what a copy did, also where it is known which reads come
-abbrev Did : {T : Type 0} → Setup → List (List ℕ) → List Counts → (reader reader' writer writer' : Option (List ℕ)) → Counts →
+abbrev Did : {T : Type 0} → Setup → List (List ℕ) → List Counts → (reader reader' writer writer' : Option (List ℕ)) →
+    Counts →
     (List (List ℕ) → Type 0) → Result T CopyError → Type 0
-Did s reads told reader reader' writer writer' counts comes r = HasCopied s r reads told reader reader' writer writer' counts
+Did s reads told reader reader' writer writer' counts comes r =
+    HasCopied s r reads told reader reader' writer writer' counts
     × Foretells comes writer writer' (λ coming written. HasOutcome s r coming written counts)
 
 module _ {T : Type 0} {s : Setup} {r : Result T CopyError} {e : CopyError} {reads : List (List ℕ)} {told : List Counts}
     {reader reader' writer writer' : Option (List ℕ)} {counts : Counts} (comes : List (List ℕ) → Type 0) where
   -- a read failed
-  pub read_failed : r ≡ Err e → e ≡ errors.ReadFailed → Copied s ReadFailed reads told reader reader' writer writer' counts
+  pub read_failed : r ≡ Err e → e ≡ errors.ReadFailed →
+      Copied s ReadFailed reads told reader reader' writer writer' counts
       × Foretells comes writer writer' (λ coming written. EndsFrom s ReadFailed coming written counts) →
       Did s reads told reader reader' writer writer' counts comes r
   read_failed was is p = subst (Did s reads told reader reader' writer writer' counts comes) (sym (was ∙ ap Err is)) p
@@ -327,13 +371,15 @@ module _ {T : Type 0} {s : Setup} {r : Result T CopyError} {e : CopyError} {read
 
 -- what holds of work over a writer, and of a failed write after work that was done, holds once that is flushed
 after_flush : {T : Type 0} (P : Result T CopyError → Type 0) (ended result : Result T CopyError) →
-    FlushesAfter errors.WriteFailed ended result → P ended → ((t : T) → P (Ok t) → P (Err errors.WriteFailed)) → P result
+    FlushesAfter errors.WriteFailed ended result → P ended → ((t : T) → P (Ok t) → P (Err errors.WriteFailed)) →
+    P result
 after_flush P ended result (inl e) p done = subst P (sym e) p
 after_flush P (Ok t) result (inr e) p done = subst P (sym e.1) (done t p)
 after_flush P (Err x) result (inr e) p done = absurd (both_ways false refl e.0)
 
 -- a flush changes nothing of what was written
-module _ (s : Setup) (reads : List (List ℕ)) (told : List Counts) (reader reader' writer writer' keeps : Option (List ℕ))
+module _ (s : Setup) (reads : List (List ℕ)) (told : List Counts)
+    (reader reader' writer writer' keeps : Option (List ℕ))
     (counts : Counts) (k : Keeps writer' keeps) where
   copied_kept : {status : Status} → Copied s status reads told reader reader' writer writer' counts →
       Copied s status reads told reader reader' writer keeps counts
@@ -375,12 +421,16 @@ module _ (s : Setup) (reads : List (List ℕ)) (told : List Counts) (reader read
   kept (Err errors.WriteFailed) (inr p) = inr (copied_kept p)
 
   pub flushed : {T : Type 0} (ended result : Result T CopyError) → FlushesAfter errors.WriteFailed ended result →
-      HasCopied s ended reads told reader reader' writer writer' counts → HasCopied s result reads told reader reader' writer keeps counts
+      HasCopied s ended reads told reader reader' writer writer' counts →
+      HasCopied s result reads told reader reader' writer keeps counts
   flushed ended result flush p =
-      after_flush (λ r. HasCopied s r reads told reader reader' writer keeps counts) ended result flush (kept ended p) (λ t q. inr q)
+      after_flush (λ r. HasCopied s r reads told reader reader' writer keeps counts) ended result flush (kept ended p)
+      (λ t q. inr q)
 
-pub outcome_flushed : {T : Type 0} (s : Setup) (reads : List (List ℕ)) (written : List ℕ) (counts : Counts) (ended result : Result T CopyError) →
-    FlushesAfter errors.WriteFailed ended result → HasOutcome s ended reads written counts → HasOutcome s result reads written counts
+pub outcome_flushed : {T : Type 0} (s : Setup) (reads : List (List ℕ)) (written : List ℕ) (counts : Counts)
+    (ended result : Result T CopyError) →
+    FlushesAfter errors.WriteFailed ended result → HasOutcome s ended reads written counts →
+    HasOutcome s result reads written counts
 outcome_flushed s reads written counts ended result flush p =
     after_flush (λ r. HasOutcome s r reads written counts) ended result flush p (λ t q. inr q)
 
@@ -398,15 +448,18 @@ not_begun result reader writer writer' counts k flushed none = (
 )
 
 -- ---- calls, one after another
-pub each_both : {S X : Type 0} (step : S → X → S → Type 0) (s t u : S) (xs ys : List X) → Each step s xs t → Each step t ys u →
+pub each_both : {S X : Type 0} (step : S → X → S → Type 0) (s t u : S) (xs ys : List X) → Each step s xs t →
+    Each step t ys u →
     Each step s (xs ++ ys) u
 each_both step s t u [] ys is each = subst (λ v. Each step v ys u) is each
 each_both step s t u (x ∷ xs) ys first each = (first.0, first.1, each_both step first.0 t u xs ys first.2 each)
 
 -- an error that ended a round isn't a failed read
-pub no_read : {S T A : Type 0} {r : Result T CopyError} {e : CopyError} {chunk : ℕ} {a d : Copier A} {writer writer' : Option (List ℕ)}
+pub no_read : {S T A : Type 0} {r : Result T CopyError} {e : CopyError} {chunk : ℕ} {a d : Copier A}
+    {writer writer' : Option (List ℕ)}
     (fails : S → S → Type 0) (last : S) → r ≡ Err e → Breaks chunk e a d writer writer' → EndsReads fails r last last
-no_read {S} {T} {A} {r} {e} {chunk} {a} {d} {writer} {writer'} fails last was p = subst (λ x. EndsReads fails x last last) (sym was) (by e p)
+no_read {S} {T} {A} {r} {e} {chunk} {a} {d} {writer} {writer'} fails last was p =
+    subst (λ x. EndsReads fails x last last) (sym was) (by e p)
   where
     by : (e : CopyError) → Breaks chunk e a d writer writer' → EndsReads {T = T} fails (Err e) last last
     by errors.OutOfMemory p = refl
@@ -415,7 +468,8 @@ no_read {S} {T} {A} {r} {e} {chunk} {a} {d} {writer} {writer'} fails last was p 
     by errors.ReadFailed p = absurd (p.part [] [] [])
 
 -- a flush makes no read of an error
-pub reads_flushed : {S T : Type 0} (gives : S → List ℕ → S → Type 0) (fails : S → S → Type 0) (old new : S) (reads : List (List ℕ))
+pub reads_flushed : {S T : Type 0} (gives : S → List ℕ → S → Type 0) (fails : S → S → Type 0) (old new : S)
+    (reads : List (List ℕ))
     (ended result : Result T CopyError) → FlushesAfter errors.WriteFailed ended result →
     GivesReads gives fails ended old reads new → GivesReads gives fails result old reads new
 reads_flushed gives fails old new reads ended result flush p =
@@ -424,4 +478,5 @@ reads_flushed gives fails old new reads ended result flush p =
 -- nothing was read
 pub was_refused : {S T : Type 0} (fails : S → S → Type 0) (last : S) (result : Result T CopyError) →
     FlushesAfter errors.WriteFailed (Err errors.OutOfMemory) result → EndsReads fails result last last
-was_refused fails last result flush = after_flush (λ r. EndsReads fails r last last) (Err errors.OutOfMemory) result flush refl (λ t q. q)
+was_refused fails last result flush = after_flush (λ r. EndsReads fails r last last)
+    (Err errors.OutOfMemory) result flush refl (λ t q. q)

@@ -13,7 +13,8 @@ none_yet step left s = record { steps = 0; is = refl; less = omega arith }
 
 pub one_more : {S : Type 0} (step : S → S) (left : S → ℕ) (s t u : S) → SoFar step left s t → left t ≡ left u + 1 →
     u ≡ step t → SoFar step left s u
-one_more step left s t u so_far one is = (let less = so_far.less in record { steps = suc so_far.steps; is = is ∙ ap step so_far.is; less = omega arith })
+one_more step left s t u so_far one is = (let less = so_far.less in
+    record { steps = suc so_far.steps; is = is ∙ ap step so_far.is; less = omega arith })
 
 pub all_done : {S : Type 0} (step : S → S) (left : S → ℕ) (s t u : S) → SoFar step left s t → (u ≡ t) × (left t ≡ 0) →
     u ≡ times (left s) step s

@@ -1,5 +1,6 @@
 -- Why a copy gave up.
-use Rattle.std.proofs.Common.{◌≡◌, ℕ, zero, suc, ◌-◌, ◌<◌, ◌^◌, min, inl, inr, ◌∷◌, [], length, Ok, Err, sym, ap, ◌∙◌, arith, length-append, subst, refl}
+use Rattle.std.proofs.Common.{◌≡◌, ℕ, zero, suc, ◌-◌, ◌<◌, ◌^◌, min, inl, inr, ◌∷◌, [], length, Ok, Err, sym, ap, ◌∙◌}
+use Rattle.std.proofs.Common.{arith, length-append, subst, refl}
 use Rattle.net_stream_model.specs.declared.error.CopyError.TheVariants.{GaveUp}
 use Rattle.net_stream_model.specs.LinkState.{times}
 use Rattle.net_stream_model.specs.CopyState.{CopyState, begin, turn, after, outcome}
@@ -14,24 +15,33 @@ use Rattle.net_stream_model.proofs.StuckRounds.{counts_rounds, gives_up_if_faile
 counts_told : (step : CopyState → CopyState) (c : CopyState) (n : ℕ) → length (counts_after step c n) ≡ n
 counts_told step c zero = refl
 counts_told step c (suc n) =
-    omega (arith, counts_told step c n, length-append (counts_after step c n) ((outcome (times (suc n) step c)).counts ∷ []))
+    omega (
+      arith,
+      counts_told step c n,
+      length-append (counts_after step c n)
+          ((outcome (times (suc n) step c)).counts ∷ []),
+    )
 
 module _ (known : RoundFacts) where
   pub rounds_fail : GaveUpByFailing
   rounds_fail s reads told reader reader' writer writer' counts c left outgoing incoming chunk =
       let n = c.rounds in
       let x = after s reads n in
-      let made : length told ≡ n = ap length c.each ∙ counts_told (turn s.max_stalled_rounds s.chunk) (begin s reads) n in
+      let made : length told ≡ n = ap length c.each ∙
+      counts_told (turn s.max_stalled_rounds s.chunk) (begin s reads) n in
       let fits : s.first < 2 ^ 64 = omega arith in
-      let is = ap outcome (sym (final_is known.stream s reads (suc n) fits (λ r. (let e = sym c.last ∙ r in cc)))) ∙ c.ends in
+      let is = ap outcome (sym (final_is known.stream s reads (suc n) fits (λ r. (let e = sym c.last ∙ r in cc)))) ∙
+      c.ends in
       let read = ap (λ o. o.counts.bytes_read) is in
       let counted = ap (λ o. o.counts.rounds) is in
-      let stop = ap (λ d. d.rounds) (stops s.max_stalled_rounds s.chunk x c.runs c.last).is ∙ (fed_leaves s.chunk x).rounds in
+      let stop = ap (λ d. d.rounds) (stops s.max_stalled_rounds s.chunk x c.runs c.last).is ∙
+      (fed_leaves s.chunk x).rounds in
       subst (λ m. LastRoundsFail s reads m × (counts.rounds ≡ min m (2 ^ 64 - 1))) (sym made) (
         record {
           enough = (gives_up_after s reads n c.runs c.last).0;
           fails = gives_up_if_failed known s reads n
-              (record { outgoing = outgoing; incoming = incoming; chunk = chunk; positions = omega arith }) c.runs c.last;
+              (record { outgoing = outgoing; incoming = incoming; chunk = chunk; positions = omega arith }) c.runs
+              c.last;
         },
         sym counted ∙ stop ∙ counts_rounds s reads n c.runs,
       )

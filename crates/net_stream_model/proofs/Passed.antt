@@ -1,5 +1,7 @@
 -- What a round sends and passes, and what is counted of it.
-use Rattle.std.proofs.Common.{◌≡◌, ℕ, zero, suc, ◌+◌, ◌^◌, nat_lt, List, length, Option, Some, None, refl, ap, ◌∙◌, arith, Bool, true, false, cond, [], ◌∷◌, ◌++◌, sym, append_assoc, ◌⊎◌, length-append, ◌-◌, ◌≤◌, ◌<◌, min, subst, inl, inr}
+use Rattle.std.proofs.Common.{◌≡◌, ℕ, zero, suc, ◌+◌, ◌^◌, nat_lt, List, length, Option, Some, None, refl, ap, ◌∙◌}
+use Rattle.std.proofs.Common.{arith, Bool, true, false, cond, [], ◌∷◌, ◌++◌, sym, append_assoc, ◌⊎◌, length-append, ◌-◌}
+use Rattle.std.proofs.Common.{◌≤◌, ◌<◌, min, subst, inl, inr}
 use Rattle.net_receiver.specs.ReceiverState.{ReceiverState}
 use Rattle.net_stream_model.specs.declared.counts.FrameCounts.{FrameCounts}
 use Rattle.net_stream_model.specs.declared.fate.Fate.{Fate}
@@ -14,7 +16,11 @@ use Rattle.net_stream_model.specs.SackBytes.{count_outside}
 use Rattle.net_stream_model.specs.PathState.{PathState, ack_of, with_ack}
 use Rattle.net_stream_model.specs.Arrivals.{coming_of, delayed_of, receiver_after_all, ack_to, acks_of}
 use Rattle.net_stream_model.specs.Reach.{acknowledge_frames}
-use Rattle.net_stream_model.specs.LinkState.{LinkState, times, arrive, apply_fate, take_frame, pass_frame_of, pass_frame, delayed_frame_of, delayed_frame, acknowledge, delayed_ack_of, delayed_ack, apply_ack_fate, take_ack, pass_ack_of, pass_ack, Cursor, start, frame_len, send, part, transmit, delayed_frames, pass_frames, acknowledge_all, delayed_acks, pass_acks, with_burst, round}
+use Rattle.net_stream_model.specs.LinkState.{LinkState, times, arrive, apply_fate, take_frame, pass_frame_of}
+use Rattle.net_stream_model.specs.LinkState.{pass_frame, delayed_frame_of, delayed_frame, acknowledge, delayed_ack_of}
+use Rattle.net_stream_model.specs.LinkState.{delayed_ack, apply_ack_fate, take_ack, pass_ack_of, pass_ack, Cursor}
+use Rattle.net_stream_model.specs.LinkState.{start, frame_len, send, part, transmit, delayed_frames, pass_frames}
+use Rattle.net_stream_model.specs.LinkState.{acknowledge_all, delayed_acks, pass_acks, with_burst, round}
 use Rattle.net_stream_model.specs.Round.{Passes, RoundPasses}
 use Rattle.net_stream_model.specs.FateCounts.{fates_only, CountsFates}
 use Rattle.std.proofs.lemmas.Bool.{cond-true, cond-false}
@@ -23,7 +29,8 @@ use Rattle.net_receiver.specs.SenderState.{end_of, contiguous_end, send_limit, s
 use Rattle.net_stream_model.specs.Transmission.{at_least_one}
 use Rattle.net_stream_model.specs.Transmission.{IsSackedIf, SendsPart, SendsRound}
 use Rattle.net_receiver.proofs.Senders.{count_inside, count_none, next_above, next_between}
-use Rattle.net_stream_model.proofs.Sent.{SentSoFar, none_sent, sent_more, round_sent, stop_within, row_above, row_within}
+use Rattle.net_stream_model.proofs.Sent.{SentSoFar, none_sent, sent_more, round_sent, stop_within, row_above}
+use Rattle.net_stream_model.proofs.Sent.{row_within}
 use Rattle.net_stream_model.proofs.Kept.{count_marked, counted_more, counted_none}
 use Rattle.net_stream_model.specs.Promises.{acks_sent}
 
@@ -34,23 +41,28 @@ same_equal c d e = λ i. record (e i) { refused = 0 }
 same_one : (lot : Fate) (c d : FrameCounts) → SameButRefused c d → SameButRefused (with_fate lot c) (with_fate lot d)
 same_one lot c d same = grind arith
 
-pub same_met : (n : ℕ) (v : FatesState) (c d : FrameCounts) → SameButRefused c d → SameButRefused (with_fates n v c) (with_fates n v d)
+pub same_met : (n : ℕ) (v : FatesState) (c d : FrameCounts) → SameButRefused c d →
+    SameButRefused (with_fates n v c) (with_fates n v d)
 same_met zero v c d same = same
-same_met (suc n) v c d same = same_met n (after_fate v) (with_fate (next_fate v) c) (with_fate (next_fate v) d) (same_one (next_fate v) c d same)
+same_met (suc n) v c d same = same_met n (after_fate v) (with_fate (next_fate v) c) (with_fate (next_fate v) d)
+    (same_one (next_fate v) c d same)
 
 -- a frame that comes changes no other count
-refusing_is : (most : ℕ) (r : ReceiverState) (o : Option (ℕ × List ℕ)) (c : FrameCounts) → SameButRefused (with_refusal most r o c) c
+refusing_is : (most : ℕ) (r : ReceiverState) (o : Option (ℕ × List ℕ)) (c : FrameCounts) →
+    SameButRefused (with_refusal most r o c) c
 refusing_is most r o c = grind arith
 
 -- ======== What frames and acknowledgements leave that come one after another, as folds of lists
 -- an acknowledgement of a frame, if it has one, and then others
 with_acks : (r : ReceiverState) (o : Option (ℕ × List ℕ)) (reverse : PathState) (acks : List (List ℕ)) →
-    ◌≡◌ {A = PathState} (record (with_ack r o reverse) { in_flight = (with_ack r o reverse).in_flight ++ acks }) (record reverse { in_flight = reverse.in_flight ++ (ack_to r o ++ acks) })
+    ◌≡◌ {A = PathState} (record (with_ack r o reverse) { in_flight = (with_ack r o reverse).in_flight ++ acks })
+    (record reverse { in_flight = reverse.in_flight ++ (ack_to r o ++ acks) })
 with_acks r None reverse acks = refl
 with_acks r (Some (pos, xs)) reverse acks = both (nat_lt (pos + length xs) (2 ^ 64))
   where
     both : (b : Bool) → (let p = cond b (record reverse { in_flight = reverse.in_flight ++ ack_of r ∷ [] }) reverse in
-        ◌≡◌ {A = PathState} (record p { in_flight = p.in_flight ++ acks }) (record reverse { in_flight = reverse.in_flight ++ (cond b (ack_of r ∷ []) [] ++ acks) }))
+        ◌≡◌ {A = PathState} (record p { in_flight = p.in_flight ++ acks })
+        (record reverse { in_flight = reverse.in_flight ++ (cond b (ack_of r ∷ []) [] ++ acks) }))
     both true = λ i. record reverse { in_flight = append_assoc reverse.in_flight (ack_of r ∷ []) acks i }
     both false = refl
 
@@ -65,19 +77,23 @@ left s arrived delayed fates counts = record s {
 
 -- of frames that are all in flight
 pub record PassedAll (s : LinkState) (frames : List (List ℕ)) (u : LinkState) : Type 0 where
-  pub same : u ≡ left s (coming_of s.forward.fates frames) (delayed_of s.forward.fates frames) (fates_after (length frames) s.forward.fates) u.counts
+  pub same : u ≡ left s (coming_of s.forward.fates frames) (delayed_of s.forward.fates frames)
+      (fates_after (length frames) s.forward.fates) u.counts
   pub counted : SameButRefused u.counts (with_fates (length frames) s.forward.fates s.counts)
 
 -- a frame that was taken off meets this fate, and then others
-met_then : (lot : Fate) (s : LinkState) (frame : List ℕ) (arrived delayed : List (List ℕ)) (fates : FatesState) (c : FrameCounts) →
-    left (apply_fate lot s frame) arrived delayed fates c ≡ left s (cond (arrives lot) (frame ∷ arrived) arrived) (cond (arrives_later lot) (frame ∷ delayed) delayed) fates c
+met_then : (lot : Fate) (s : LinkState) (frame : List ℕ) (arrived delayed : List (List ℕ)) (fates : FatesState)
+    (c : FrameCounts) →
+    left (apply_fate lot s frame) arrived delayed fates c ≡ left s (cond (arrives lot) (frame ∷ arrived) arrived)
+    (cond (arrives_later lot) (frame ∷ delayed) delayed) fates c
 met_then Delivered s frame arrived delayed fates c = simp with_acks
 met_then Lost s frame arrived delayed fates c = refl
 met_then Duplicated s frame arrived delayed fates c = simp (with_acks, append_assoc)
 met_then Delayed s frame arrived delayed fates c = simp append_assoc
 
 met_left : (lot : Fate) (s : LinkState) (frame : List ℕ) →
-    ((apply_fate lot s frame).forward.in_flight ≡ s.forward.in_flight) × ((apply_fate lot s frame).forward.fates ≡ s.forward.fates)
+    ((apply_fate lot s frame).forward.in_flight ≡ s.forward.in_flight) ×
+    ((apply_fate lot s frame).forward.fates ≡ s.forward.fates)
     × SameButRefused (apply_fate lot s frame).counts s.counts
 met_left Lost s frame = (refl, refl, refl)
 met_left Delayed s frame = (refl, refl, refl)
@@ -104,8 +120,10 @@ passed_all (frame ∷ rest) s is =
     record {
       same = reached ∙ more.same
           ∙ ap (λ w. left v (coming_of w rest) (delayed_of w rest) (fates_after (length rest) w) u.counts) kept.1
-          ∙ met_then lot t frame (coming_of after rest) (delayed_of after rest) (fates_after (length rest) after) u.counts
-          ∙ ap (λ w. left s (coming_of s.forward.fates (frame ∷ rest)) (delayed_of s.forward.fates (frame ∷ rest)) (fates_after (length rest) after) w.counts) (sym reached);
+          ∙ met_then lot t frame (coming_of after rest) (delayed_of after rest)
+          (fates_after (length rest) after) u.counts
+          ∙ ap (λ w. left s (coming_of s.forward.fates (frame ∷ rest)) (delayed_of s.forward.fates (frame ∷ rest))
+          (fates_after (length rest) after) w.counts) (sym reached);
       counted = ap (λ w. record w.counts { refused = 0 }) reached ∙ more.counted
           ∙ ap (λ w. record (with_fates (length rest) w v.counts) { refused = 0 }) kept.1
           ∙ same_met (length rest) after v.counts t.counts kept.2;
@@ -127,13 +145,18 @@ pub record CameDelayed (s : LinkState) (frames : List (List ℕ)) (u : LinkState
 
 -- one comes, and then others
 came_then : (s : LinkState) (frame : List ℕ) (rest : List (List ℕ)) (c : FrameCounts) →
-    came_delayed (arrive (record s { forward = record s.forward { delayed = rest } }) frame) rest c ≡ came_delayed s (frame ∷ rest) c
+    came_delayed (arrive (record s { forward = record s.forward { delayed = rest } }) frame) rest c ≡ came_delayed s
+    (frame ∷ rest) c
 came_then s frame rest c = simp with_acks
 
 pub delayed_came : (frames : List (List ℕ)) (s : LinkState) → s.forward.delayed ≡ frames →
     CameDelayed s frames (times (length frames) delayed_frame s)
 delayed_came [] s is = record {
-  same = λ i. record s { forward = record s.forward { delayed = is i }; reverse = record s.reverse { in_flight = sym (append-nil s.reverse.in_flight) i } };
+  same = λ i. record s {
+    forward = record s.forward { delayed = is i };
+    reverse =
+        record s.reverse { in_flight = sym (append-nil s.reverse.in_flight) i };
+  };
   counted = refl;
 }
 delayed_came (frame ∷ rest) s is =
@@ -142,7 +165,8 @@ delayed_came (frame ∷ rest) s is =
     let reached = times_front (length rest) delayed_frame s v (ap (delayed_frame_of s) is) in
     let u = times (length rest) delayed_frame v in
     record {
-      same = reached ∙ more.same ∙ came_then s frame rest u.counts ∙ ap (λ w. came_delayed s (frame ∷ rest) w.counts) (sym reached);
+      same = reached ∙ more.same ∙ came_then s frame rest u.counts ∙
+          ap (λ w. came_delayed s (frame ∷ rest) w.counts) (sym reached);
       counted = ap (λ w. record w.counts { refused = 0 }) reached ∙ more.counted
           ∙ refusing_is most_sack_blocks s.receiver (segment_of frame) s.counts;
     }
@@ -150,7 +174,11 @@ delayed_came (frame ∷ rest) s is =
 -- ---- acknowledgements
 -- the link, where these delayed ones came
 abbrev pub acked_delayed : LinkState → List (List ℕ) → LinkState
-acked_delayed s frames = record s { sender = acknowledge_frames s.sender frames; reverse = record s.reverse { delayed = [] } }
+acked_delayed s frames = record s {
+  sender = acknowledge_frames s.sender frames;
+  reverse =
+      record s.reverse { delayed = [] };
+}
 
 pub delayed_acked : (frames : List (List ℕ)) (s : LinkState) → s.reverse.delayed ≡ frames →
     times (length frames) delayed_ack s ≡ acked_delayed s frames
@@ -168,23 +196,30 @@ acked s arrived delayed fates counts = record s {
 }
 
 abbrev pub all_acked : LinkState → List (List ℕ) → LinkState
-all_acked s frames = acked s (coming_of s.reverse.fates frames) (delayed_of s.reverse.fates frames) (fates_after (length frames) s.reverse.fates)
+all_acked s frames = acked s (coming_of s.reverse.fates frames) (delayed_of s.reverse.fates frames)
+    (fates_after (length frames) s.reverse.fates)
     (with_fates (length frames) s.reverse.fates s.counts)
 
-acked_then : (lot : Fate) (s : LinkState) (frame : List ℕ) (arrived delayed : List (List ℕ)) (fates : FatesState) (c : FrameCounts) →
-    acked (apply_ack_fate lot s frame) arrived delayed fates c ≡ acked s (cond (arrives lot) (frame ∷ arrived) arrived) (cond (arrives_later lot) (frame ∷ delayed) delayed) fates c
+acked_then : (lot : Fate) (s : LinkState) (frame : List ℕ) (arrived delayed : List (List ℕ)) (fates : FatesState)
+    (c : FrameCounts) →
+    acked (apply_ack_fate lot s frame) arrived delayed fates c ≡ acked s (cond (arrives lot) (frame ∷ arrived) arrived)
+    (cond (arrives_later lot) (frame ∷ delayed) delayed) fates c
 acked_then Delivered s frame arrived delayed fates c = refl
 acked_then Lost s frame arrived delayed fates c = refl
 acked_then _ s frame arrived delayed fates c = simp append_assoc
 
-acked_left : (lot : Fate) (s : LinkState) (frame : List ℕ) → ((apply_ack_fate lot s frame).reverse.in_flight ≡ s.reverse.in_flight)
+acked_left : (lot : Fate) (s : LinkState) (frame : List ℕ) →
+    ((apply_ack_fate lot s frame).reverse.in_flight ≡ s.reverse.in_flight)
     × ((apply_ack_fate lot s frame).reverse.fates ≡ s.reverse.fates) × ((apply_ack_fate lot s frame).counts ≡ s.counts)
 acked_left Delivered s frame = (refl, refl, refl)
 acked_left _ s frame = (refl, refl, refl)
 
 pub acks_passed : (frames : List (List ℕ)) (s : LinkState) → s.reverse.in_flight ≡ frames →
     times (length frames) pass_ack s ≡ all_acked s frames
-acks_passed [] s is = λ i. record s { reverse = record { in_flight = is i; delayed = sym (append-nil s.reverse.delayed) i; fates = s.reverse.fates } }
+acks_passed [] s is = λ i. record s {
+  reverse = record
+      { in_flight = is i; delayed = sym (append-nil s.reverse.delayed) i; fates = s.reverse.fates };
+}
 acks_passed (frame ∷ rest) s is =
     let lot = next_fate s.reverse.fates in
     let t = take_ack s rest in
@@ -192,41 +227,51 @@ acks_passed (frame ∷ rest) s is =
     let kept = acked_left lot t frame in
     let after = after_fate s.reverse.fates in
     times_front (length rest) pass_ack s v (ap (pass_ack_of s) is) ∙ acks_passed rest v kept.0
-    ∙ (λ i. acked v (coming_of (kept.1 i) rest) (delayed_of (kept.1 i) rest) (fates_after (length rest) (kept.1 i)) (with_fates (length rest) (kept.1 i) (kept.2 i)))
-    ∙ acked_then lot t frame (coming_of after rest) (delayed_of after rest) (fates_after (length rest) after) (with_fates (length rest) after t.counts)
+    ∙ (λ i. acked v (coming_of (kept.1 i) rest) (delayed_of (kept.1 i) rest) (fates_after (length rest) (kept.1 i))
+    (with_fates (length rest) (kept.1 i) (kept.2 i)))
+    ∙ acked_then lot t frame (coming_of after rest) (delayed_of after rest) (fates_after (length rest) after)
+    (with_fates (length rest) after t.counts)
 
 -- ======== What is counted of the frames of several rounds
 -- ---- fates in another order are counted alike
 met_met : (a b : Fate) (c : FrameCounts) → with_fate a (with_fate b c) ≡ with_fate b (with_fate a c)
 met_met a b c = grind arith
 
-met_past : (n : ℕ) (v : FatesState) (a : Fate) (c : FrameCounts) → with_fate a (with_fates n v c) ≡ with_fates n v (with_fate a c)
+met_past : (n : ℕ) (v : FatesState) (a : Fate) (c : FrameCounts) →
+    with_fate a (with_fates n v c) ≡ with_fates n v (with_fate a c)
 met_past zero v a c = refl
-met_past (suc n) v a c = met_past n (after_fate v) a (with_fate (next_fate v) c) ∙ ap (with_fates n (after_fate v)) (met_met a (next_fate v) c)
+met_past (suc n) v a c = met_past n (after_fate v) a (with_fate (next_fate v) c) ∙
+    ap (with_fates n (after_fate v)) (met_met a (next_fate v) c)
 
-all_past : (m n : ℕ) (v u : FatesState) (c : FrameCounts) → with_fates m v (with_fates n u c) ≡ with_fates n u (with_fates m v c)
+all_past : (m n : ℕ) (v u : FatesState) (c : FrameCounts) →
+    with_fates m v (with_fates n u c) ≡ with_fates n u (with_fates m v c)
 all_past zero n v u c = refl
-all_past (suc m) n v u c = ap (with_fates m (after_fate v)) (met_past n u (next_fate v) c) ∙ all_past m n (after_fate v) u (with_fate (next_fate v) c)
+all_past (suc m) n v u c = ap (with_fates m (after_fate v)) (met_past n u (next_fate v) c) ∙
+    all_past m n (after_fate v) u (with_fate (next_fate v) c)
 
 -- ---- and so are those of one direction, one after the other
-met_more : (m n : ℕ) (v : FatesState) (c : FrameCounts) → with_fates n (fates_after m v) (with_fates m v c) ≡ with_fates (m + n) v c
+met_more : (m n : ℕ) (v : FatesState) (c : FrameCounts) →
+    with_fates n (fates_after m v) (with_fates m v c) ≡ with_fates (m + n) v c
 met_more zero n v c = ap (λ j. with_fates j v c) (let e : n ≡ 0 + n = omega arith in e)
 met_more (suc m) n v c = met_more m n (after_fate v) (with_fate (next_fate v) c)
     ∙ ap (λ j. with_fates j v c) (let e : suc (m + n) ≡ suc m + n = omega arith in e)
 
 pub after_more : (m n : ℕ) (v : FatesState) → fates_after n (fates_after m v) ≡ fates_after (m + n) v
 after_more zero n v = ap (λ j. fates_after j v) (let e : n ≡ 0 + n = omega arith in e)
-after_more (suc m) n v = after_more m n (after_fate v) ∙ ap (λ j. fates_after j v) (let e : suc (m + n) ≡ suc m + n = omega arith in e)
+after_more (suc m) n v = after_more m n (after_fate v) ∙
+    ap (λ j. fates_after j v) (let e : suc (m + n) ≡ suc m + n = omega arith in e)
 
 -- ---- counts that are the same but for bytes, refused segments, rounds and time
-same_fate : (lot : Fate) (c d : FrameCounts) → fates_only c ≡ fates_only d → fates_only (with_fate lot c) ≡ fates_only (with_fate lot d)
+same_fate : (lot : Fate) (c d : FrameCounts) → fates_only c ≡ fates_only d →
+    fates_only (with_fate lot c) ≡ fates_only (with_fate lot d)
 same_fate Delivered c d same = ap (with_fate Delivered) same
 same_fate lot c d same = ap (with_fate lot) same
 
 same_fates : (n : ℕ) (v : FatesState) (c d : FrameCounts) → fates_only c ≡ fates_only d →
     fates_only (with_fates n v c) ≡ fates_only (with_fates n v d)
 same_fates zero v c d same = same
-same_fates (suc n) v c d same = same_fates n (after_fate v) (with_fate (next_fate v) c) (with_fate (next_fate v) d) (same_fate (next_fate v) c d same)
+same_fates (suc n) v c d same = same_fates n (after_fate v) (with_fate (next_fate v) c) (with_fate (next_fate v) d)
+    (same_fate (next_fate v) c d same)
 
 -- ---- one round more
 more_met : (v v' u u' : FatesState) (c d : FrameCounts) (bytes frames acks : ℕ) →
@@ -236,13 +281,17 @@ more_met v v' u u' c d bytes frames acks same h =
     let before = with_fates h.frames v no_frames in
     let both = with_fates h.acks v' before in
     let reached = with_fates (h.frames + frames) v no_frames in
-    let framed : with_fates frames u both ≡ with_fates h.acks v' reached = cc (all_past frames h.acks u v' before, met_more h.frames frames v no_frames) in
-    let acked : with_fates acks u' (with_fates h.acks v' reached) ≡ with_fates (h.acks + acks) v' reached = cc (met_more h.acks acks v' reached) in
+    let framed : with_fates frames u both ≡ with_fates h.acks v' reached =
+    cc (all_past frames h.acks u v' before, met_more h.frames frames v no_frames) in
+    let acked : with_fates acks u' (with_fates h.acks v' reached) ≡ with_fates (h.acks + acks) v' reached =
+    cc (met_more h.acks acks v' reached) in
     ap fates_only same
-    ∙ same_fates acks u' (with_fates frames u (with_payload bytes c)) (with_fates frames u both) (same_fates frames u (with_payload bytes c) both h.counted)
+    ∙ same_fates acks u' (with_fates frames u (with_payload bytes c)) (with_fates frames u both)
+    (same_fates frames u (with_payload bytes c) both h.counted)
     ∙ ap (λ x. fates_only (with_fates acks u' x)) framed ∙ ap fates_only acked
 
-pub round_met : (v v' : FatesState) (old new : LinkState) → Passes old new → CountsFates v v' old.forward.fates old.reverse.fates old.counts →
+pub round_met : (v v' : FatesState) (old new : LinkState) → Passes old new →
+    CountsFates v v' old.forward.fates old.reverse.fates old.counts →
     CountsFates v v' new.forward.fates new.reverse.fates new.counts
 round_met v v' old new round h =
     let s = old.sender in
@@ -251,16 +300,23 @@ round_met v v' old new round h =
     record {
       frames = h.frames + frames;
       acks = h.acks + acks;
-      left = ap (λ p. p.fates) round.left ∙ ap (λ p. fates_after frames p.fates) round.all.prefix.sent ∙ ap (fates_after frames) h.left
+      left = ap (λ p. p.fates) round.left ∙ ap (λ p. fates_after frames p.fates) round.all.prefix.sent ∙
+          ap (fates_after frames) h.left
           ∙ after_more h.frames frames v;
-      left_reverse = ap (λ p. p.fates) round.left_reverse ∙ ap (fates_after acks) h.left_reverse ∙ after_more h.acks acks v';
-      counted = more_met v v' old.forward.fates old.reverse.fates old.counts new.counts (count_outside s.sack_blocks s.first_unacknowledged round.n) frames acks round.counted h;
+      left_reverse = ap (λ p. p.fates) round.left_reverse ∙ ap (fates_after acks) h.left_reverse ∙
+          after_more h.acks acks v';
+      counted = more_met v v' old.forward.fates old.reverse.fates old.counts new.counts
+          (count_outside s.sack_blocks s.first_unacknowledged round.n) frames acks round.counted h;
     }
 
 -- ======== What `transmit` sends, as parts of the sender's queue
 -- the link with these frames in flight, and so many bytes counted
 abbrev pub with_sent : LinkState → List (List ℕ) → ℕ → LinkState
-with_sent s in_flight bytes = record s { forward = record s.forward { in_flight = in_flight }; counts = record s.counts { payload = bytes } }
+with_sent s in_flight bytes = record s {
+  forward = record s.forward { in_flight = in_flight };
+  counts =
+      record s.counts { payload = bytes };
+}
 
 -- what was sent so far changed nothing else, and one frame was sent for each that may not be sent any more
 pub record OnlySent (s : LinkState) (c : Cursor) : Type 0 where
@@ -272,19 +328,23 @@ part_only s c h =
     by_part (OnlySent s) c (λ _. h) (λ _ _ _. record { same = h.same; few = h.few })
     (λ _ some _.
     let u = send c.link c.pos (frame_len c.link c.pos) in
-    let one : length u.forward.in_flight ≡ length c.link.forward.in_flight + 1 = length-append c.link.forward.in_flight _ in
+    let one : length u.forward.in_flight ≡ length c.link.forward.in_flight + 1 =
+    length-append c.link.forward.in_flight _ in
     record { same = λ i. with_sent (h.same i) u.forward.in_flight u.counts.payload; few = omega arith })
 
 pub only_sent : (s : LinkState) → OnlySent s (times (length s.sender.queue) part (start s))
-only_sent s = keeps (OnlySent s) part (part_only s) (length s.sender.queue) (start s) (record { same = refl; few = refl })
+only_sent s = keeps (OnlySent s) part (part_only s) (length s.sender.queue) (start s)
+    (record { same = refl; few = refl })
 
 module _ (s : LinkState) (fits : s.counts.payload < 2 ^ 64) where
   -- a cursor that has come so far
   pub record SentAt (c : Cursor) : Type 0 where
     pub same : c.link ≡ record s { forward = c.link.forward; counts = c.link.counts }
     pub from : s.sender.first_unacknowledged ≤ c.pos
-    pub so_far : SentSoFar s.sender (at_least_one s.payload) (at_least_one s.burst) c.left (c.pos - s.sender.first_unacknowledged) s.forward c.link.forward
-    pub counted : c.link.counts ≡ with_payload (count_outside s.sender.sack_blocks s.sender.first_unacknowledged (c.pos - s.sender.first_unacknowledged)) s.counts
+    pub so_far : SentSoFar s.sender (at_least_one s.payload) (at_least_one s.burst) c.left
+        (c.pos - s.sender.first_unacknowledged) s.forward c.link.forward
+    pub counted : c.link.counts ≡ with_payload (count_outside s.sender.sack_blocks s.sender.first_unacknowledged
+        (c.pos - s.sender.first_unacknowledged)) s.counts
 
   -- the link but for what was sent
   abbrev at : Cursor → Cursor
@@ -292,7 +352,8 @@ module _ (s : LinkState) (fits : s.counts.payload < 2 ^ 64) where
 
   -- after n parts nothing more can be sent, or n bytes are sent or spared at least
   abbrev Reaches : ℕ → Cursor → Type 0
-  Reaches n c = SentAt c × (((send_limit s.sender ≤ c.pos) ⊎ (c.left ≡ 0)) ⊎ (s.sender.first_unacknowledged + n ≤ c.pos))
+  Reaches n c = SentAt c × (((send_limit s.sender ≤ c.pos) ⊎ (c.left ≡ 0)) ⊎
+      (s.sender.first_unacknowledged + n ≤ c.pos))
 
   step : (k : ℕ) (c : Cursor) → Reaches k c → Reaches (suc k) (part c)
   step k c g =
@@ -323,9 +384,12 @@ module _ (s : LinkState) (fits : s.counts.payload < 2 ^ 64) where
         record {
           same = refl;
           from = omega arith;
-          so_far = sent_more v most burst c.left p n 0 c.left s.forward c.link.forward c.link.forward h.so_far one from below some (omega arith);
-          counted = counted_more v.sack_blocks v.first_unacknowledged p n s.counts c.link.counts c.link.counts from h.counted
-              (counted_none (count_outside v.sack_blocks p n) c.link.counts word (count_marked v.sack_blocks p n true marked));
+          so_far = sent_more v most burst c.left p n 0 c.left s.forward c.link.forward c.link.forward h.so_far one from
+              below some (omega arith);
+          counted = counted_more v.sack_blocks v.first_unacknowledged p n s.counts c.link.counts c.link.counts from
+              h.counted
+              (counted_none (count_outside v.sack_blocks p n) c.link.counts word
+              (count_marked v.sack_blocks p n true marked));
         },
         inr (omega arith),
       ))
@@ -335,22 +399,26 @@ module _ (s : LinkState) (fits : s.counts.payload < 2 ^ 64) where
       let row = row_above v p (omega arith) in
       let within = row_within v p in
       let n = frame_len s p in
-      let marked : IsSackedIf v.sack_blocks p n false = λ r low high. next_between v.sack_blocks p (end_of v) r here low (omega arith) in
+      let marked : IsSackedIf v.sack_blocks p n false =
+      λ r low high. next_between v.sack_blocks p (end_of v) r here low (omega arith) in
       let one : SendsPart v most p n 1 c.link.forward (send (at c).link p n).forward = record {
         some = omega arith;
         within = omega arith;
         spared = false;
         short = λ _. omega arith;
         marked = marked;
-        ends = (let e : p + n ≡ marked_end = omega arith in e) ∙ sym (cond-false (is_sacked v.sack_blocks p) (p + spared_from v p) marked_end here);
+        ends = (let e : p + n ≡ marked_end = omega arith in e) ∙
+            sym (cond-false (is_sacked v.sack_blocks p) (p + spared_from v p) marked_end here);
         frames = refl;
         sent = refl;
       } in (
         record {
           same = refl;
           from = omega arith;
-          so_far = sent_more v most burst c.left p n 1 (c.left - 1) s.forward c.link.forward (send (at c).link p n).forward h.so_far one from below some refl;
-          counted = counted_more v.sack_blocks v.first_unacknowledged p n s.counts c.link.counts (with_payload n c.link.counts) from h.counted
+          so_far = sent_more v most burst c.left p n 1 (c.left - 1) s.forward c.link.forward
+              (send (at c).link p n).forward h.so_far one from below some refl;
+          counted = counted_more v.sack_blocks v.first_unacknowledged p n s.counts c.link.counts
+              (with_payload n c.link.counts) from h.counted
               (ap (λ k. with_payload k c.link.counts) (sym (count_marked v.sack_blocks p n false marked)));
         },
         inr (omega arith),
@@ -382,7 +450,8 @@ module _ (s : LinkState) (in_flight : List (List ℕ)) (c0 c1 c2 : FrameCounts) 
   coming = coming_of s.forward.fates in_flight
 
   abbrev pub after_frames : LinkState
-  after_frames = left after_delayed coming (delayed_of s.forward.fates in_flight) (fates_after (length in_flight) s.forward.fates) c2
+  after_frames = left after_delayed coming (delayed_of s.forward.fates in_flight)
+      (fates_after (length in_flight) s.forward.fates) c2
 
   abbrev pub after_delayed_acks : LinkState
   after_delayed_acks = acked_delayed (acknowledge_all after_frames) s.reverse.delayed
@@ -394,7 +463,8 @@ module _ (s : LinkState) (in_flight : List (List ℕ)) (c0 c1 c2 : FrameCounts) 
   acknowledge_each = all_acked after_delayed_acks acks
 
   passes_by : (n : ℕ) → SendsRound s.sender (at_least_one s.payload) (at_least_one s.burst) n s.forward sent →
-      c0 ≡ with_payload (count_outside s.sender.sack_blocks s.sender.first_unacknowledged n) s.counts → SameButRefused c1 c0 →
+      c0 ≡ with_payload (count_outside s.sender.sack_blocks s.sender.first_unacknowledged n) s.counts →
+      SameButRefused c1 c0 →
       SameButRefused c2 (with_fates (length in_flight) s.forward.fates c1) → Passes s (with_burst acknowledge_each)
   passes_by n all counted0 counted1 counted2 = record {
     sent = sent;
@@ -405,7 +475,8 @@ module _ (s : LinkState) (in_flight : List (List ℕ)) (c0 c1 c2 : FrameCounts) 
     received = sym (brought_append most_sack_blocks s.receiver s.forward.delayed coming);
     acks = acks;
     acks_are = ap (λ l. l ++ ack_of after_frames.receiver ∷ [])
-        (append_assoc s.reverse.in_flight _ _ ∙ ap (λ l. s.reverse.in_flight ++ l) (sym (acks_append most_sack_blocks s.receiver s.forward.delayed coming)));
+        (append_assoc s.reverse.in_flight _ _ ∙ ap (λ l. s.reverse.in_flight ++ l)
+        (sym (acks_append most_sack_blocks s.receiver s.forward.delayed coming)));
     acked = sym (acked_append s.sender s.reverse.delayed (coming_of s.reverse.fates acks));
     left = refl;
     left_reverse = refl;
@@ -427,7 +498,8 @@ pub record RoundSends (s z : LinkState) : Type 0 where
 
 -- a round as a function of the frames that it sends, and of the counts after its first three steps
 pub record RoundIs (s : LinkState) (c1 c2 : FrameCounts) : Type 0 where
-  pub frames : pass_frames (delayed_frames (transmit s)) ≡ after_frames s (transmit s).forward.in_flight (transmit s).counts c1 c2
+  pub frames : pass_frames (delayed_frames (transmit s)) ≡ after_frames s (transmit s).forward.in_flight
+      (transmit s).counts c1 c2
   pub same : round s ≡ with_burst (acknowledge_each s (transmit s).forward.in_flight (transmit s).counts c1 c2)
   pub delayed : SameButRefused c1 (transmit s).counts
   pub passed : SameButRefused c2 (with_fates (length (transmit s).forward.in_flight) s.forward.fates c1)
@@ -468,12 +540,15 @@ round_sends s fits =
     let c = times (length s.sender.queue) part (start s) in
     let all = after s fits (length s.sender.queue) in
     let stop = stop_within s.sender in
-    let sent = round_sent s.sender (at_least_one s.payload) (at_least_one s.burst) c.left c.pos s.forward t.forward all.0.so_far all.0.from
+    let sent = round_sent s.sender (at_least_one s.payload)
+    (at_least_one s.burst) c.left c.pos s.forward t.forward all.0.so_far all.0.from
     (either all.1 (λ end. end) (λ far. inl (omega arith))) in
     let is = (round_is s).2 in
     subst (RoundSends s) (sym is.same) (record {
-      passes = passes_by s t.forward.in_flight t.counts (round_is s).0 (round_is s).1 (c.pos - s.sender.first_unacknowledged)
-          (subst (SendsRound s.sender (at_least_one s.payload) (at_least_one s.burst) (c.pos - s.sender.first_unacknowledged) s.forward)
+      passes = passes_by s t.forward.in_flight t.counts (round_is s).0 (round_is s).1
+          (c.pos - s.sender.first_unacknowledged)
+          (subst (SendsRound s.sender (at_least_one s.payload) (at_least_one s.burst)
+          (c.pos - s.sender.first_unacknowledged) s.forward)
           (ap (λ (l : LinkState). l.forward) (only_sent s).same) sent)
           all.0.counted is.delayed is.passed;
       in_flight = refl;

@@ -1,5 +1,6 @@
 -- How many frames and acknowledgements a round sends, and how many of them are delayed after it.
-use Rattle.std.proofs.Common.{◌≡◌, ℕ, zero, suc, ◌+◌, ◌-◌, ◌*◌, ◌^◌, ◌≤◌, List, [], ◌∷◌, length, take, Option, refl, sym, ap, subst, arith, length-append}
+use Rattle.std.proofs.Common.{◌≡◌, ℕ, zero, suc, ◌+◌, ◌-◌, ◌*◌, ◌^◌, ◌≤◌, List, [], ◌∷◌, length, take, Option, refl}
+use Rattle.std.proofs.Common.{sym, ap, subst, arith, length-append}
 use Rattle.net_receiver.specs.ReceiverState.{ReceiverState}
 use Rattle.net_stream_model.specs.declared.counts.FrameCounts.{FrameCounts}
 use Rattle.net_stream_model.specs.declared.fate.Fate.{Fate}
@@ -39,7 +40,12 @@ acks_few : (r : ReceiverState) (frames : List (List ℕ)) → length (acks_of mo
 acks_few r [] = omega arith
 acks_few r (x ∷ xs) =
     let u = receiver_after most_sack_blocks r (segment_of x) in
-    omega (arith, acked_once u (segment_of x), acks_few u xs, length-append (ack_to u (segment_of x)) (acks_of most_sack_blocks u xs))
+    omega (
+      arith,
+      acked_once u (segment_of x),
+      acks_few u xs,
+      length-append (ack_to u (segment_of x)) (acks_of most_sack_blocks u xs),
+    )
 
 -- ---- a round
 -- what it leaves that began with nothing in flight
@@ -65,7 +71,8 @@ sized_round l none none_reverse =
     omega (arith, acks_few, passing_few, length-append {A = List ℕ}, ap length none_reverse) in
     let c0 : t.counts.sent ≡ l.counts.sent = ap (λ (k : LinkState). k.counts.sent) (only_sent l).same in
     let one : c1.sent ≡ t.counts.sent = ap (λ (c : FrameCounts). c.sent) is.delayed in
-    let two : c2.sent ≡ (with_fates (length frames) l.forward.fates c1).sent = ap (λ (c : FrameCounts). c.sent) is.passed in
+    let two : c2.sent ≡ (with_fates (length frames) l.forward.fates c1).sent =
+    ap (λ (c : FrameCounts). c.sent) is.passed in
     let forward = sent_few (length frames) l.forward.fates c1 in
     let reverse = sent_few (length told) l.reverse.fates c2 in
     subst (Sized l) (sym is.same) (search (arith, passing_few))
@@ -77,7 +84,8 @@ round_keeps l h = (let s = sized_round l h.in_flight h.in_flight_reverse in sear
 module _ (s : Setup) where
   -- what is true after each turn: of the delayed frames, and of those that were sent
   abbrev SizedSoFar : CopyState → Type 0
-  SizedSoFar c = FewDelayed c.link × (c.link.counts.sent ≤ c.rounds * (3 * c.link.max_burst + 1)) × (c.link.counts.sent ≤ 2 ^ 64 - 1)
+  SizedSoFar c = FewDelayed c.link × (c.link.counts.sent ≤ c.rounds * (3 * c.link.max_burst + 1)) ×
+      (c.link.counts.sent ≤ 2 ^ 64 - 1)
 
   -- the sender, the receiver and the time don't matter
   few_still : (l : LinkState) (sender : SenderState) (receiver : ReceiverState) (elapsed : ℕ) → FewDelayed l →
@@ -92,14 +100,20 @@ module _ (s : Setup) where
       let one = sized_round l g.in_flight g.in_flight_reverse in (
         few_still m m.sender (pass s.chunk c).link.receiver m.elapsed (round_keeps l g),
         subst (λ k. m.counts.sent ≤ more c.rounds * (3 * k + 1)) (sym one.max_burst)
-            (more_taken c.link.counts.sent m.counts.sent c.rounds (more c.rounds) (3 * c.link.max_burst + 1) h.1 (omega arith) (omega (arith, one.within h.2)) refl),
+            (more_taken c.link.counts.sent m.counts.sent c.rounds (more c.rounds) (3 * c.link.max_burst + 1) h.1
+            (omega arith) (omega (arith, one.within h.2)) refl),
         one.within h.2,
       )
 
   pub sized : (reads : List (List ℕ)) (n : ℕ) → SizedSoFar (after s reads n)
   sized reads = after_turns SizedSoFar (λ c status h. h) s reads
       (λ c h. fed_by SizedSoFar s.chunk c (λ _ _. h) (λ _ _ _. h)
-      (λ x xs rest _ _. (few_still c.link (with_written c.link.sender (take (room_for s.chunk c.link) (x ∷ xs))) c.link.receiver c.link.elapsed h.0, h.1, h.2)) (λ _. h))
+      (λ x xs rest _ _. (
+        few_still c.link (with_written c.link.sender (take (room_for s.chunk c.link) (x ∷ xs)))
+            c.link.receiver c.link.elapsed h.0,
+        h.1,
+        h.2,
+      )) (λ _. h))
       sized_pass (search arith, omega arith, omega arith)
 
 pub copy_keeps : CopyDelaysFew

@@ -1,11 +1,20 @@
 -- Iterated functions, and states after arrivals.
-use Rattle.std.proofs.Common.{◌≡◌, ◌⊎◌, ◌&&◌, ℕ, zero, suc, ◌+◌, ◌-◌, ◌≤◌, ◌<◌, nat_lt, Bool, true, false, cond, List, [], ◌∷◌, length, refl, sym, ap, subst, ◌∙◌, arith, inl, inr, ◌^◌, nat_le, Option, Some, None, All, ◌++◌, append_assoc, max, get_or, slice_get, le_of_suc-le-suc, lt_of_not-le, length-drop}
+use Rattle.std.proofs.Common.{◌≡◌, ◌⊎◌, ◌&&◌, ℕ, zero, suc, ◌+◌, ◌-◌, ◌≤◌, ◌<◌, nat_lt, Bool, true, false, cond, List}
+use Rattle.std.proofs.Common.{[], ◌∷◌, length, refl, sym, ap, subst, ◌∙◌, arith, inl, inr, ◌^◌, nat_le, Option, Some}
+use Rattle.std.proofs.Common.{None, All, ◌++◌, append_assoc, max, get_or, slice_get, le_of_suc-le-suc, lt_of_not-le}
+use Rattle.std.proofs.Common.{length-drop}
 use Rattle.std.proofs.lemmas.Bool.{cond-true, cond-false, and_parts, ltb-true, ltb-false, leb-true, cases_lt, le-leb}
 use Rattle.std.proofs.lemmas.Bool.Decides.{nat_tests}
 use Rattle.net_receiver.specs.SenderState.{send_limit, spared_from, SenderState, end_of, sender_from}
 use Rattle.net_stream_model.specs.SackBytes.{acknowledge_frame}
-use Rattle.net_stream_model.specs.Fates.{next_fate, FatesState, after_fate, next_of, after_of, arrives, AllCome, NextCome}
-use Rattle.net_stream_model.specs.LinkState.{LinkState, times, Cursor, start, frame_len, send, part, transmit_part, transmit, take_in, arrive, delayed_frame_of, delayed_frame, delayed_frames, arrived, apply_fate, take_frame, pass_frame_of, pass_frame, pass_frames, acknowledge_all, acknowledge, delayed_ack_of, delayed_ack, delayed_acks, arrived_ack, apply_ack_fate, take_ack, pass_ack_of, pass_ack, pass_acks, with_burst, round, StopsDelayed, StopsFrame, StopsAck, StopsRound}
+use Rattle.net_stream_model.specs.Fates.{next_fate, FatesState, after_fate, next_of, after_of, arrives, AllCome}
+use Rattle.net_stream_model.specs.Fates.{NextCome}
+use Rattle.net_stream_model.specs.LinkState.{LinkState, times, Cursor, start, frame_len, send, part, transmit_part}
+use Rattle.net_stream_model.specs.LinkState.{transmit, take_in, arrive, delayed_frame_of, delayed_frame, delayed_frames}
+use Rattle.net_stream_model.specs.LinkState.{arrived, apply_fate, take_frame, pass_frame_of, pass_frame, pass_frames}
+use Rattle.net_stream_model.specs.LinkState.{acknowledge_all, acknowledge, delayed_ack_of, delayed_ack, delayed_acks}
+use Rattle.net_stream_model.specs.LinkState.{arrived_ack, apply_ack_fate, take_ack, pass_ack_of, pass_ack, pass_acks}
+use Rattle.net_stream_model.specs.LinkState.{with_burst, round, StopsDelayed, StopsFrame, StopsAck, StopsRound}
 use Rattle.std.proofs.lemmas.List.Elements.{All-cons, All-head, All-tail}
 use Rattle.net_receiver.specs.Rules.{Segment}
 use Rattle.net_receiver.specs.ReceiverState.{ReceiverState, receiver_after_command, next_position, IsSound}
@@ -27,13 +36,16 @@ use Rattle.net_stream_model.specs.LinkInvariant.{HasAllOf}
 use Rattle.net_stream_model.specs.Transmission.{IsSackedIf}
 
 -- once a step changes nothing, no more of them do
-pub enough : {S : Type 0} (f : S → S) (s : S) (n m : ℕ) → n ≤ m → f (times n f s) ≡ times n f s → times m f s ≡ times n f s
+pub enough : {S : Type 0} (f : S → S) (s : S) (n m : ℕ) → n ≤ m → f (times n f s) ≡ times n f s →
+    times m f s ≡ times n f s
 enough f s n zero few same = ap (λ j. times j f s) (let e : zero ≡ n = omega arith in e)
 enough f s n (suc m) few same =
-    either (cases_lt m n) (λ l. ap (λ j. times j f s) (let e : suc m ≡ n = omega arith in e)) (λ l. ap f (enough f s n m l same) ∙ same)
+    either (cases_lt m n) (λ l. ap (λ j. times j f s) (let e : suc m ≡ n = omega arith in e))
+    (λ l. ap f (enough f s n m l same) ∙ same)
 
 -- what each step keeps, all do
-pub keeps : {S : Type 0} (P : S → Type 0) (f : S → S) → ((s : S) → P s → P (f s)) → (n : ℕ) (s : S) → P s → P (times n f s)
+pub keeps : {S : Type 0} (P : S → Type 0) (f : S → S) → ((s : S) → P s → P (f s)) → (n : ℕ) (s : S) → P s →
+    P (times n f s)
 keeps P f step zero s h = h
 keeps P f step (suc n) s h = step (times n f s) (keeps P f step n s h)
 
@@ -70,9 +82,15 @@ by_first P (frame ∷ rest) none some = some frame rest refl
 -- ---- a part of the queue
 -- what is true where no frame may begin, where bytes are spared and where a frame is sent
 pub by_part : (P : Cursor → Type 0) (c : Cursor) → ((send_limit c.link.sender ≤ c.pos) ⊎ (c.left ≡ 0) → P c) →
-    (c.pos < send_limit c.link.sender → 0 < c.left → 0 < spared_from c.link.sender c.pos → P (record c { pos = c.pos + spared_from c.link.sender c.pos })) →
+    (c.pos < send_limit c.link.sender → 0 < c.left → 0 < spared_from c.link.sender c.pos →
+    P (record c { pos = c.pos + spared_from c.link.sender c.pos })) →
     (c.pos < send_limit c.link.sender → 0 < c.left → spared_from c.link.sender c.pos ≡ 0 →
-    P (record { pos = c.pos + frame_len c.link c.pos; left = c.left - 1; link = send c.link c.pos (frame_len c.link c.pos) })) → P (part c)
+    P (record {
+      pos = c.pos + frame_len c.link c.pos;
+      left = c.left - 1;
+      link =
+          send c.link c.pos (frame_len c.link c.pos);
+    })) → P (part c)
 by_part P c same spared sent =
     either (cases_lt c.pos (send_limit c.link.sender))
     (λ below. either (cases_lt 0 c.left)
@@ -88,26 +106,32 @@ module _ (P : LinkState → Type 0) where
   pub record StepsKeep : Type 0 where
     pub sent : (n : ℕ) (s : LinkState) → P s → P (times n part (start s)).link
     pub delayed : (s : LinkState) (frame : List ℕ) (rest : List (List ℕ)) → s.forward.delayed ≡ frame ∷ rest → P s →
-        P (take_in (record s { forward = record s.forward { delayed = rest } }) frame) × P (arrive (record s { forward = record s.forward { delayed = rest } }) frame)
+        P (take_in (record s { forward = record s.forward { delayed = rest } }) frame) ×
+        P (arrive (record s { forward = record s.forward { delayed = rest } }) frame)
     pub passed : (s : LinkState) (frame : List ℕ) (rest : List (List ℕ)) → s.forward.in_flight ≡ frame ∷ rest → P s →
-        P (take_in (take_frame s rest) frame) × P (arrived (next_fate s.forward.fates) (take_frame s rest) frame) × P (apply_fate (next_fate s.forward.fates) (take_frame s rest) frame)
+        P (take_in (take_frame s rest) frame) × P (arrived (next_fate s.forward.fates) (take_frame s rest) frame) ×
+        P (apply_fate (next_fate s.forward.fates) (take_frame s rest) frame)
     pub told : (s : LinkState) → P s → P (acknowledge_all s)
     pub ack_delayed : (s : LinkState) (frame : List ℕ) (rest : List (List ℕ)) → s.reverse.delayed ≡ frame ∷ rest → P s →
         P (acknowledge (record s { reverse = record s.reverse { delayed = rest } }) frame)
-    pub ack_passed : (s : LinkState) (frame : List ℕ) (rest : List (List ℕ)) → s.reverse.in_flight ≡ frame ∷ rest → P s →
-        P (arrived_ack (next_fate s.reverse.fates) (take_ack s rest) frame) × P (apply_ack_fate (next_fate s.reverse.fates) (take_ack s rest) frame)
+    pub ack_passed : (s : LinkState) (frame : List ℕ) (rest : List (List ℕ)) → s.reverse.in_flight ≡ frame ∷ rest →
+        P s →
+        P (arrived_ack (next_fate s.reverse.fates) (take_ack s rest) frame) ×
+        P (apply_ack_fate (next_fate s.reverse.fates) (take_ack s rest) frame)
     pub burst : (s : LinkState) → P s → P (with_burst s)
 
   module _ (k : StepsKeep) where
     -- so many delayed frames, or frames, of a round, and so many acknowledgements
     delayed_kept : (n : ℕ) (s : LinkState) → P s → P (times n delayed_frame (transmit s))
     delayed_kept n s h = keeps P delayed_frame
-        (λ u g. by_first (λ l. P (delayed_frame_of u l)) u.forward.delayed g (λ frame rest is. (k.delayed u frame rest is g).1))
+        (λ u g. by_first (λ l. P (delayed_frame_of u l)) u.forward.delayed g
+        (λ frame rest is. (k.delayed u frame rest is g).1))
         n (transmit s) (k.sent (length s.sender.queue) s h)
 
     passed_kept : (n : ℕ) (s : LinkState) → P s → P (times n pass_frame (delayed_frames (transmit s)))
     passed_kept n s h = keeps P pass_frame
-        (λ u g. by_first (λ l. P (pass_frame_of u l)) u.forward.in_flight g (λ frame rest is. (k.passed u frame rest is g).2))
+        (λ u g. by_first (λ l. P (pass_frame_of u l)) u.forward.in_flight g
+        (λ frame rest is. (k.passed u frame rest is g).2))
         n (delayed_frames (transmit s)) (delayed_kept (length (transmit s).forward.delayed) s h)
 
     frames_kept : (s : LinkState) → P s → P (pass_frames (delayed_frames (transmit s)))
@@ -119,9 +143,11 @@ module _ (P : LinkState → Type 0) where
         let u = acknowledge_all (pass_frames (delayed_frames (transmit s))) in
         let told = k.told (pass_frames (delayed_frames (transmit s))) (frames_kept s h) in
         let delayed = keeps P delayed_ack
-        (λ v g. by_first (λ l. P (delayed_ack_of v l)) v.reverse.delayed g (λ frame rest is. k.ack_delayed v frame rest is g))
+        (λ v g. by_first (λ l. P (delayed_ack_of v l)) v.reverse.delayed g
+        (λ frame rest is. k.ack_delayed v frame rest is g))
         (length u.reverse.delayed) u told in
-        keeps P pass_ack (λ v g. by_first (λ l. P (pass_ack_of v l)) v.reverse.in_flight g (λ frame rest is. (k.ack_passed v frame rest is g).1))
+        keeps P pass_ack (λ v g. by_first (λ l. P (pass_ack_of v l)) v.reverse.in_flight g
+        (λ frame rest is. (k.ack_passed v frame rest is g).1))
         n (delayed_acks u) delayed
 
     pub round_kept : (s : LinkState) → P s → P (round s)
@@ -130,7 +156,8 @@ module _ (P : LinkState → Type 0) where
         let u = delayed_acks (acknowledge_all (pass_frames (delayed_frames (transmit s)))) in
         k.burst (pass_acks u) (acked_kept (length u.reverse.in_flight) s h)
 
-    stop_frame : (u v : LinkState) (frames : List (List ℕ)) → u.forward.in_flight ≡ frames → StopsFrame u frames v → P u → P v
+    stop_frame : (u v : LinkState) (frames : List (List ℕ)) → u.forward.in_flight ≡ frames → StopsFrame u frames v →
+        P u → P v
     stop_frame u v [] is e h = absurd e
     stop_frame u v (frame ∷ rest) is (inl e) h = subst P (sym e.1) (k.passed u frame rest is h).0
     stop_frame u v (frame ∷ rest) is (inr e) h = subst P (sym e.1) (k.passed u frame rest is h).1
@@ -141,7 +168,8 @@ module _ (P : LinkState → Type 0) where
         let u = times n delayed_frame (transmit s) in
         by_first (λ l. StopsDelayed u l v → P v) u.forward.delayed absurd
         (λ frame rest is d. subst P (sym d) (k.delayed u frame rest is (delayed_kept n s h)).0) e
-    stop_kept s v (inr (inr (inl (n, e)))) h = let u = times n pass_frame (delayed_frames (transmit s)) in stop_frame u v u.forward.in_flight refl e (passed_kept n s h)
+    stop_kept s v (inr (inr (inl (n, e)))) h = let u = times n pass_frame (delayed_frames (transmit s)) in
+        stop_frame u v u.forward.in_flight refl e (passed_kept n s h)
     stop_kept s v (inr (inr (inr (inl e)))) h = subst P (sym e) (frames_kept s h)
     stop_kept s v (inr (inr (inr (inr (n, e))))) h =
         let u = times n pass_ack (delayed_acks (acknowledge_all (pass_frames (delayed_frames (transmit s))))) in
@@ -152,21 +180,25 @@ module _ (P : LinkState → Type 0) where
 -- ---- a receiver
 -- what is true where a frame is a segment, and where it changes nothing
 pub taken_in : (P : ReceiverState → Type 0) (N : ℕ) (r : ReceiverState) (o : Option (ℕ × List ℕ)) →
-    ((pos : ℕ) (xs : List ℕ) → o ≡ Some (pos, xs) → P (receiver_after_command N r (Segment pos xs))) → P r → P (receiver_after N r o)
+    ((pos : ℕ) (xs : List ℕ) → o ≡ Some (pos, xs) → P (receiver_after_command N r (Segment pos xs))) → P r →
+    P (receiver_after N r o)
 taken_in P N r None took same = same
 taken_in P N r (Some (pos, xs)) took same =
-    split P (nat_lt (pos + length xs) (2 ^ 64)) (receiver_after_command N r (Segment pos xs)) r (λ _. took pos xs refl) (λ _. same)
+    split P (nat_lt (pos + length xs) (2 ^ 64)) (receiver_after_command N r (Segment pos xs)) r (λ _. took pos xs refl)
+    (λ _. same)
 
 pub all_arrive : (P : ReceiverState → Type 0) (N : ℕ) →
     ((r : ReceiverState) (pos : ℕ) (xs : List ℕ) → P r → P (receiver_after_command N r (Segment pos xs))) →
     (r : ReceiverState) (frames : List (List ℕ)) → P r → P (receiver_after_all N r frames)
 all_arrive P N took r [] h = h
-all_arrive P N took r (x ∷ xs) h = all_arrive P N took (receiver_after N r (segment_of x)) xs (taken_in P N r (segment_of x) (λ pos ys _. took r pos ys h) h)
+all_arrive P N took r (x ∷ xs) h = all_arrive P N took (receiver_after N r (segment_of x)) xs
+    (taken_in P N r (segment_of x) (λ pos ys _. took r pos ys h) h)
 
 -- ---- a sender
 -- what is true where it keeps the rest of its queue, and where an acknowledgement changes nothing
 pub heard : (P : SenderState → Type 0) (s : SenderState) (o : Option (ℕ × List ℕ)) →
-    ((n : ℕ) (xs : List ℕ) → o ≡ Some (n, xs) → s.first_unacknowledged ≤ n → n ≤ end_of s → P (sender_from s n (blocks_of most_sack_blocks xs))) →
+    ((n : ℕ) (xs : List ℕ) → o ≡ Some (n, xs) → s.first_unacknowledged ≤ n → n ≤ end_of s →
+    P (sender_from s n (blocks_of most_sack_blocks xs))) →
     P s → P (acknowledge_frame s o)
 heard P s None took same = same
 heard P s (Some (n, xs)) took same =
@@ -177,10 +209,12 @@ heard P s (Some (n, xs)) took same =
     (λ _. same)
 
 pub all_heard : (P : SenderState → Type 0) →
-    ((s : SenderState) (n : ℕ) (xs : List ℕ) → s.first_unacknowledged ≤ n → n ≤ end_of s → P s → P (sender_from s n (blocks_of most_sack_blocks xs))) →
+    ((s : SenderState) (n : ℕ) (xs : List ℕ) → s.first_unacknowledged ≤ n → n ≤ end_of s → P s →
+    P (sender_from s n (blocks_of most_sack_blocks xs))) →
     (s : SenderState) (frames : List (List ℕ)) → P s → P (acknowledge_frames s frames)
 all_heard P took s [] h = h
-all_heard P took s (x ∷ xs) h = all_heard P took (acknowledge_frame s (segment_of x)) xs (heard P s (segment_of x) (λ n ys _ low high. took s n ys low high h) h)
+all_heard P took s (x ∷ xs) h = all_heard P took (acknowledge_frame s (segment_of x)) xs
+    (heard P s (segment_of x) (λ n ys _ low high. took s n ys low high h) h)
 
 -- ---- some frames, and then others
 pub brought_append : (N : ℕ) (r : ReceiverState) (xs ys : List (List ℕ)) →
@@ -205,18 +239,21 @@ passing_all P test v (x ∷ xs) all =
     split (All P) (test (next_fate v)) (x ∷ passing test (after_fate v) xs) (passing test (after_fate v) xs)
     (λ _. All-cons P x (passing test (after_fate v) xs) (All-head P x xs all) rest) (λ _. rest)
 
-pub passing_few : (test : Fate → Bool) (v : FatesState) (frames : List (List ℕ)) → length (passing test v frames) ≤ length frames
+pub passing_few : (test : Fate → Bool) (v : FatesState) (frames : List (List ℕ)) →
+    length (passing test v frames) ≤ length frames
 passing_few test v [] = omega arith
 passing_few test v (x ∷ xs) =
     let few = passing_few test (after_fate v) xs in grind arith
 
-pub none_passes : (test : Fate → Bool) (v : FatesState) (x : List ℕ) (xs : List (List ℕ)) → passing test v (x ∷ xs) ≡ [] →
+pub none_passes : (test : Fate → Bool) (v : FatesState) (x : List ℕ) (xs : List (List ℕ)) →
+    passing test v (x ∷ xs) ≡ [] →
     (test (next_fate v) ≡ false) × (passing test (after_fate v) xs ≡ [])
 none_passes test v x xs e = grind arith
 
 -- ======== How far frames and acknowledgements bring a receiver and a sender
 -- ---- where a truthful segment ends
-pub says_ends : (f : ℕ) (w : List ℕ) (pos : ℕ) (xs : List ℕ) → MatchesStream f w pos xs → pos + length xs ≤ max pos (f + length w)
+pub says_ends : (f : ℕ) (w : List ℕ) (pos : ℕ) (xs : List ℕ) → MatchesStream f w pos xs →
+    pos + length xs ≤ max pos (f + length w)
 unfolding MatchesStream
 says_ends f w pos [] says = omega arith
 says_ends f w pos (x ∷ xs) says =
@@ -225,7 +262,8 @@ says_ends f w pos (x ∷ xs) says =
     let last = get_or (x ∷ xs) (length xs) 0 in
     let place : pos + length xs - pos ≡ length xs = omega arith in
     let at : piece_byte_at (piece pos (x ∷ xs)) (pos + length xs) ≡ Some last =
-    cond-true _ _ _ (le-leb pos (pos + length xs) (omega arith)) ∙ ap (slice_get (x ∷ xs)) place ∙ slice_get-get_or (x ∷ xs) (length xs) 0 (omega arith) in
+    cond-true _ _ _ (le-leb pos (pos + length xs) (omega arith)) ∙ ap (slice_get (x ∷ xs)) place ∙
+    slice_get-get_or (x ∷ xs) (length xs) 0 (omega arith) in
     let within = slice_get_within w (pos + length xs - f) last (says (pos + length xs) last l at) in
     omega arith)
 
@@ -239,18 +277,27 @@ missing most r sound (inr h) = omega (arith, sound.above (next_position r) h)
 pub no_gap : (most : ℕ) (r : ReceiverState) (ranges : List (ℕ × ℕ)) (pos : ℕ) → IsSound most r → HasAllOf r ranges →
     IsSackedIf ranges (next_position r) (pos - next_position r) true → pos ≤ next_position r
 no_gap most r ranges pos sound had marked =
-    le_of_suc-le-suc (lt_of_not-le (λ (l : next_position r < pos). missing most r sound (had (next_position r) (marked (next_position r) (omega arith) (omega arith)))))
+    le_of_suc-le-suc (lt_of_not-le (λ (l : next_position r < pos). missing most r sound
+    (had (next_position r) (marked (next_position r) (omega arith) (omega arith)))))
 
 -- ---- fates
 drawn_comes : (rates : Rates) (a b c : ℕ) → rates.lost ≡ 0 → rates.delayed ≡ 0 →
-    arrives (cond (nat_lt a rates.lost) Lost (cond (nat_lt b rates.duplicated) Duplicated (cond (nat_lt c rates.delayed) Delayed Delivered))) ≡ true
+    arrives (cond (nat_lt a rates.lost) Lost (cond (nat_lt b rates.duplicated) Duplicated
+    (cond (nat_lt c rates.delayed) Delayed Delivered))) ≡ true
 drawn_comes rates a b c lost delayed = grind (arith, nat_tests)
 
-come_one : (rates : Rates) (state : ℕ) (listed : List Fate) → rates.lost ≡ 0 → rates.delayed ≡ 0 → All (λ y. arrives y ≡ true) listed →
+come_one : (rates : Rates) (state : ℕ) (listed : List Fate) → rates.lost ≡ 0 → rates.delayed ≡ 0 →
+    All (λ y. arrives y ≡ true) listed →
     (arrives (next_of rates state listed) ≡ true) × AllCome (after_of rates state listed)
-come_one rates state [] lost delayed all = (drawn_comes rates _ _ _ lost delayed, record { listed = all; lost = lost; delayed = delayed })
-come_one rates state (x ∷ xs) lost delayed all =
-    (All-head (λ y. arrives y ≡ true) x xs all, record { listed = All-tail (λ y. arrives y ≡ true) x xs all; lost = lost; delayed = delayed })
+come_one rates state [] lost delayed all = (
+  drawn_comes rates _ _ _ lost delayed,
+  record { listed = all; lost = lost; delayed = delayed },
+)
+come_one rates state (x ∷ xs) lost delayed all = (
+  All-head (λ y. arrives y ≡ true) x xs all,
+  record
+      { listed = All-tail (λ y. arrives y ≡ true) x xs all; lost = lost; delayed = delayed },
+)
 
 pub come_next : (v : FatesState) → AllCome v → (arrives (next_fate v) ≡ true) × AllCome (after_fate v)
 come_next v h = come_one v.rates v.state v.listed h.lost h.delayed h.listed
@@ -262,12 +309,15 @@ next_come (suc n) v all = (let both = come_next v all in (both.0, next_come n (a
 
 -- ---- acknowledgements
 pub by_keeps_end : (s : SenderState) (o : Option (ℕ × List ℕ)) → end_of (acknowledge_frame s o) ≡ end_of s
-by_keeps_end s o = heard (λ u. end_of u ≡ end_of s) s o (λ n xs _ low high. omega (arith, length-drop (n - s.first_unacknowledged) s.queue)) refl
+by_keeps_end s o = heard (λ u. end_of u ≡ end_of s) s o
+    (λ n xs _ low high. omega (arith, length-drop (n - s.first_unacknowledged) s.queue)) refl
 
 pub all_keep_end : (s : SenderState) (frames : List (List ℕ)) → end_of (acknowledge_frames s frames) ≡ end_of s
-all_keep_end s frames = all_heard (λ u. end_of u ≡ end_of s) (λ u n xs low high h. omega (arith, length-drop (n - u.first_unacknowledged) u.queue)) s frames refl
+all_keep_end s frames = all_heard (λ u. end_of u ≡ end_of s)
+    (λ u n xs low high h. omega (arith, length-drop (n - u.first_unacknowledged) u.queue)) s frames refl
 
-pub acked_append : (s : SenderState) (xs ys : List (List ℕ)) → acknowledge_frames s (xs ++ ys) ≡ acknowledge_frames (acknowledge_frames s xs) ys
+pub acked_append : (s : SenderState) (xs ys : List (List ℕ)) →
+    acknowledge_frames s (xs ++ ys) ≡ acknowledge_frames (acknowledge_frames s xs) ys
 acked_append s [] ys = refl
 acked_append s (x ∷ xs) ys = acked_append (acknowledge_frame s (segment_of x)) xs ys
 

@@ -1,21 +1,27 @@
 -- The turns of a copy, and when it gives up.
-use Rattle.std.proofs.Common.{◌≡◌, ◌&&◌, ℕ, ◌<◌, ◌≤◌, nat_eq, nat_lt, nat_le, not, Bool, true, false, List, [], ◌∷◌, length, refl, arith, ◌⊎◌, ◌||◌, ◌+◌, ◌-◌, ◌^◌, min, cond, ◌++◌, take, sym, ap, subst, ◌∙◌, inl, inr, length-append, length-take, zero, suc}
+use Rattle.std.proofs.Common.{◌≡◌, ◌&&◌, ℕ, ◌<◌, ◌≤◌, nat_eq, nat_lt, nat_le, not, Bool, true, false, List, [], ◌∷◌}
+use Rattle.std.proofs.Common.{length, refl, arith, ◌⊎◌, ◌||◌, ◌+◌, ◌-◌, ◌^◌, min, cond, ◌++◌, take, sym, ap, subst, ◌∙◌}
+use Rattle.std.proofs.Common.{inl, inr, length-append, length-take, zero, suc}
 use Rattle.std.proofs.lemmas.Bool.Decides.{nat_tests}
 use Rattle.std.proofs.lemmas.Bool.{and_parts, not-true, leb-true, leb-false, both_ways, cases_lt}
 use Rattle.net_assembler.proofs.Positions.{either}
 use Rattle.net_receiver.specs.ReceiverState.{next_position}
 use Rattle.net_receiver.specs.SenderState.{end_of}
 use Rattle.net_stream_model.specs.LinkState.{LinkState, times, round}
-use Rattle.net_stream_model.specs.CopyState.{Setup, CopyState, Status, Running, Done, GaveUp, ReadFailed, begin, is_written, room_for, with_read, read_of, feed, decide, pass, while_running, turn, after, waited}
+use Rattle.net_stream_model.specs.CopyState.{Setup, CopyState, Status, Running, Done, GaveUp, ReadFailed, begin}
+use Rattle.net_stream_model.specs.CopyState.{is_written, room_for, with_read, read_of, feed, decide, pass}
+use Rattle.net_stream_model.specs.CopyState.{while_running, turn, after, waited}
 use Rattle.net_stream_model.proofs.Steps.{keeps, split}
 use Rattle.std.proofs.lemmas.List.{append-nil, nil_from_length}
 use Rattle.net_stream_model.specs.Promises.{MakesNoProgress, GivesUpAfter, NeverLater, NoMoreRounds}
 
 -- all that was read is written, in numbers
-pub written_parts : (l : LinkState) → is_written l ≡ true → (next_position l.receiver ≡ end_of l.sender) × (length l.receiver.queue ≡ 0)
+pub written_parts : (l : LinkState) → is_written l ≡ true → (next_position l.receiver ≡ end_of l.sender) ×
+    (length l.receiver.queue ≡ 0)
 written_parts l all = grind arith
 
-pub written_from : (l : LinkState) → next_position l.receiver ≡ end_of l.sender → length l.receiver.queue ≡ 0 → is_written l ≡ true
+pub written_from : (l : LinkState) → next_position l.receiver ≡ end_of l.sender → length l.receiver.queue ≡ 0 →
+    is_written l ≡ true
 written_from l reached none = grind arith
 
 -- a step that is made as long as a copy goes on
@@ -23,7 +29,8 @@ pub while : (P : CopyState → Type 0) (f : CopyState → CopyState) (c : CopySt
     ((c.status ≡ Running → ⊥) → P c) → P (while_running f c)
 while P f c goes stays = by c.status refl
   where
-    by : (st : Status) → c.status ≡ st → P (elim st as (λ _. CopyState) [ Running ↦ f c | Done ↦ c | GaveUp ↦ c | ReadFailed ↦ c ])
+    by : (st : Status) → c.status ≡ st → P (elim st as
+        (λ _. CopyState) [ Running ↦ f c | Done ↦ c | GaveUp ↦ c | ReadFailed ↦ c ])
     by Running e = goes e
     by status e = stays (λ r. cc)
 
@@ -41,12 +48,15 @@ pub asks_from : (chunk : ℕ) (c : CopyState) → MayRead chunk c → asks chunk
 asks_from chunk c may = grind arith
 
 -- a read fails, meets the input's end or gives bytes, or none is made
-pub fed_by : (P : CopyState → Type 0) (chunk : ℕ) (c : CopyState) → (MayRead chunk c → c.reads ≡ [] → P (record c { status = ReadFailed })) →
+pub fed_by : (P : CopyState → Type 0) (chunk : ℕ) (c : CopyState) →
+    (MayRead chunk c → c.reads ≡ [] → P (record c { status = ReadFailed })) →
     ((rest : List (List ℕ)) → MayRead chunk c → c.reads ≡ [] ∷ rest → P (record c { reads = rest; more = false })) →
-    ((x : ℕ) (xs : List ℕ) (rest : List (List ℕ)) → MayRead chunk c → c.reads ≡ (x ∷ xs) ∷ rest → P (with_read (room_for chunk c.link) c (x ∷ xs) rest)) →
+    ((x : ℕ) (xs : List ℕ) (rest : List (List ℕ)) → MayRead chunk c → c.reads ≡ (x ∷ xs) ∷ rest →
+    P (with_read (room_for chunk c.link) c (x ∷ xs) rest)) →
     (asks chunk c ≡ false → P c) → P (feed chunk c)
 fed_by P chunk c failed ended gave none =
-    split P (asks chunk c) (read_of (room_for chunk c.link) c c.reads) c (λ on. by c.reads refl (may_read chunk c on)) none
+    split P (asks chunk c) (read_of (room_for chunk c.link) c c.reads) c
+    (λ on. by c.reads refl (may_read chunk c on)) none
   where
     by : (reads : List (List ℕ)) → c.reads ≡ reads → MayRead chunk c → P (read_of (room_for chunk c.link) c reads)
     by [] is may = failed may is
@@ -60,10 +70,12 @@ pub decides : (P : CopyState → Type 0) (rounds : ℕ) (c : CopyState) →
 decides P rounds c done up on =
     split P (not c.more && is_written c.link) (record c { status = Done }) _
     (λ e. (let both = and_parts (not c.more) (is_written c.link) e in done (not-true c.more both.0) both.1))
-    (λ _. split P (nat_le rounds c.stalled) (record c { status = GaveUp }) c (λ e. up (leb-true rounds c.stalled e)) (λ e. on (leb-false rounds c.stalled e)))
+    (λ _. split P (nat_le rounds c.stalled) (record c { status = GaveUp }) c (λ e. up (leb-true rounds c.stalled e))
+    (λ e. on (leb-false rounds c.stalled e)))
 
 -- what each step keeps, a turn keeps, and so do all turns
-module _ (P : CopyState → Type 0) (rounds chunk : ℕ) (fed : (c : CopyState) → c.status ≡ Running → P c → P (feed chunk c))
+module _ (P : CopyState → Type 0) (rounds chunk : ℕ)
+    (fed : (c : CopyState) → c.status ≡ Running → P c → P (feed chunk c))
     (decided : (c : CopyState) → c.status ≡ Running → P c → P (decide rounds c)) where
   pub to_pass : (c : CopyState) → P c → P (while_running (decide rounds) (while_running (feed chunk) c))
   to_pass c h =
@@ -71,7 +83,8 @@ module _ (P : CopyState → Type 0) (rounds chunk : ℕ) (fed : (c : CopyState) 
       let one : P d = while P (feed chunk) c (λ r. fed c r h) (λ _. h) in
       while P (decide rounds) d (λ r. decided d r one) (λ _. one)
 
-  pub turned : ((c : CopyState) → c.status ≡ Running → P c → P (pass chunk c)) → (c : CopyState) → P c → P (turn rounds chunk c)
+  pub turned : ((c : CopyState) → c.status ≡ Running → P c → P (pass chunk c)) → (c : CopyState) → P c →
+      P (turn rounds chunk c)
   unfolding turn
   turned passed c h =
       let e = while_running (decide rounds) (while_running (feed chunk) c) in
@@ -82,22 +95,25 @@ module _ (P : CopyState → Type 0) (rounds chunk : ℕ) (fed : (c : CopyState) 
   all_turned passed = keeps P (turn rounds chunk) (turned passed)
 
 -- the same of what holds however a copy ends
-module _ (P : CopyState → Type 0) (ending : (c : CopyState) (status : Status) → P c → P (record c { status = status })) where
-  pub decided_too : (rounds : ℕ) (c : CopyState) → P c → P (decide rounds c)
-  decided_too rounds c h = decides P rounds c (λ _ _. ending c Done h) (λ _. ending c GaveUp h) (λ _. h)
+module _ (P : CopyState → Type 0) (ending : (c : CopyState) (status : Status) → P c → P (record c { status = status }))
+  where
+    pub decided_too : (rounds : ℕ) (c : CopyState) → P c → P (decide rounds c)
+    decided_too rounds c h = decides P rounds c (λ _ _. ending c Done h) (λ _. ending c GaveUp h) (λ _. h)
 
-  pub after_turns : (s : Setup) (reads : List (List ℕ)) → ((c : CopyState) → P c → P (feed s.chunk c)) →
-      ((c : CopyState) → P c → P (pass s.chunk c)) →
-      P (begin s reads) → (n : ℕ) → P (after s reads n)
-  after_turns s reads fed passed first n =
-      all_turned P s.max_stalled_rounds s.chunk (λ c _. fed c) (λ c _. decided_too s.max_stalled_rounds c) (λ c _. passed c) n (begin s reads) first
+    pub after_turns : (s : Setup) (reads : List (List ℕ)) → ((c : CopyState) → P c → P (feed s.chunk c)) →
+        ((c : CopyState) → P c → P (pass s.chunk c)) →
+        P (begin s reads) → (n : ℕ) → P (after s reads n)
+    after_turns s reads fed passed first n =
+        all_turned P s.max_stalled_rounds s.chunk (λ c _. fed c) (λ c _. decided_too s.max_stalled_rounds c)
+        (λ c _. passed c) n (begin s reads) first
 
 -- a copy that has ended stays as it is
 pub ended : (rounds chunk : ℕ) (c : CopyState) → (c.status ≡ Running → ⊥) → turn rounds chunk c ≡ c
 unfolding turn
 ended rounds chunk c over =
     while (λ x. while_running (pass chunk) (while_running (decide rounds) x) ≡ c) (feed chunk) c (λ r. absurd (over r))
-    (λ _. while (λ x. while_running (pass chunk) x ≡ c) (decide rounds) c (λ r. absurd (over r)) (λ _. while (λ x. x ≡ c) (pass chunk) c (λ r. absurd (over r)) (λ _. refl)))
+    (λ _. while (λ x. while_running (pass chunk) x ≡ c) (decide rounds) c (λ r. absurd (over r))
+    (λ _. while (λ x. x ≡ c) (pass chunk) c (λ r. absurd (over r)) (λ _. refl)))
 
 -- ======== What a turn does to a copy that goes on
 -- ---- steps of a copy that goes on, and of one that has ended
@@ -135,9 +151,11 @@ fed_leaves chunk c = fed_by (FedLeaves c) chunk c (λ _ _. search arith) (λ res
 abbrev pub ends : CopyState → Bool
 ends c = not c.more && is_written c.link
 
-fed_status : (chunk : ℕ) (c : CopyState) → c.status ≡ Running → ((feed chunk c).status ≡ Running → ⊥) → (feed chunk c).status ≡ ReadFailed
+fed_status : (chunk : ℕ) (c : CopyState) → c.status ≡ Running → ((feed chunk c).status ≡ Running → ⊥) →
+    (feed chunk c).status ≡ ReadFailed
 fed_status chunk c on =
-    fed_by (λ d. (d.status ≡ Running → ⊥) → d.status ≡ ReadFailed) chunk c (λ _ _ _. refl) (λ _ _ _ over. absurd (over on)) (λ _ _ _ _ _ over. absurd (over on)) (λ _ over. absurd (over on))
+    fed_by (λ d. (d.status ≡ Running → ⊥) → d.status ≡ ReadFailed) chunk c (λ _ _ _. refl)
+    (λ _ _ _ over. absurd (over on)) (λ _ _ _ _ _ over. absurd (over on)) (λ _ over. absurd (over on))
 
 -- a read fails, all is done, the copy gives up, or it makes a round
 pub turns : (P : CopyState → Type 0) (rounds chunk : ℕ) (c : CopyState) → c.status ≡ Running → (let e = feed chunk c in
@@ -179,10 +197,18 @@ pub record Stops (rounds chunk : ℕ) (c : CopyState) : Type 0 where
   pub many : rounds ≤ c.stalled
   pub is : turn rounds chunk c ≡ record (feed chunk c) { status = GaveUp }
 
-pub stops : (rounds chunk : ℕ) (c : CopyState) → c.status ≡ Running → (turn rounds chunk c).status ≡ GaveUp → Stops rounds chunk c
-stops rounds chunk c on = turns (λ d. turn rounds chunk c ≡ d → d.status ≡ GaveUp → Stops rounds chunk c) rounds chunk c on
+pub stops : (rounds chunk : ℕ) (c : CopyState) → c.status ≡ Running → (turn rounds chunk c).status ≡ GaveUp →
+    Stops rounds chunk c
+stops rounds chunk c on = turns (λ d. turn rounds chunk c ≡ d → d.status ≡ GaveUp → Stops rounds chunk c) rounds chunk c
+    on
     (λ failed is r. cc) (λ done is r. cc)
-    (λ fed more many is r. record { fed = fed; on = more; many = subst (λ n. rounds ≤ n) (fed_leaves chunk c).stalled many; is = is })
+    (λ fed more many is r. record {
+      fed = fed;
+      on = more;
+      many =
+          subst (λ n. rounds ≤ n) (fed_leaves chunk c).stalled many;
+      is = is;
+    })
     (λ fed more few is r. cc) refl
 
 -- ---- the progress of a round
@@ -190,16 +216,21 @@ stops rounds chunk c on = turns (λ d. turn rounds chunk c ≡ d → d.status �
 abbrev pub Still : CopyState → CopyState → Type 0
 Still c d = (d.link.sender.first_unacknowledged ≡ c.link.sender.first_unacknowledged) × (d.written ≡ c.written)
 
-pub still_from : (chunk : ℕ) (c : CopyState) → (round (waited c)).sender.first_unacknowledged ≡ c.link.sender.first_unacknowledged →
+pub still_from : (chunk : ℕ) (c : CopyState) → (round (waited c)).sender.first_unacknowledged ≡
+    c.link.sender.first_unacknowledged →
     min chunk (length (round (waited c)).receiver.queue) ≡ 0 → Still c (pass chunk c)
 still_from chunk c same none =
-    let q = (round (waited c)).receiver.queue in
-    (same, ap (λ l. c.written ++ l) (nil_from_length (take chunk q) (omega (arith, length-take chunk q))) ∙ append-nil c.written)
+    let q = (round (waited c)).receiver.queue in (
+      same,
+      ap (λ l. c.written ++ l) (nil_from_length (take chunk q) (omega (arith, length-take chunk q))) ∙
+          append-nil c.written,
+    )
 
 -- a turn makes as much progress as its round
 pub still_turn : (rounds chunk : ℕ) (c : CopyState) → GoesOn rounds chunk c →
     Still (feed chunk c) (pass chunk (feed chunk c)) → Still c (turn rounds chunk c)
-still_turn rounds chunk c one h = (let f = fed_leaves chunk c in subst (Still c) (sym one.is) (h.0 ∙ f.first_unacknowledged, h.1 ∙ f.written))
+still_turn rounds chunk c one h = (let f = fed_leaves chunk c in
+    subst (Still c) (sym one.is) (h.0 ∙ f.first_unacknowledged, h.1 ∙ f.written))
 
 pub still_round : (rounds chunk : ℕ) (c : CopyState) → GoesOn rounds chunk c → Still c (turn rounds chunk c) →
     Still (feed chunk c) (pass chunk (feed chunk c))
@@ -223,13 +254,15 @@ brought chunk c =
     let m = round (waited c) in
     let q = m.receiver.queue in
     elim (progress_is m.sender.first_unacknowledged c.link.sender.first_unacknowledged (min chunk (length q)) c.stalled) [
-      | inl p ↦ Some p.0 (λ still. (let l = p.1 still.0 in omega (arith, length-append c.written (take chunk q), length-take chunk q, ap length still.1)))
+      | inl p ↦ Some p.0 (λ still. (let l = p.1 still.0 in
+          omega (arith, length-append c.written (take chunk q), length-take chunk q, ap length still.1)))
       | inr p ↦ Nothing p.0 (still_from chunk c p.1 p.2) p.2
     ]
 
 -- a copy that goes on without a read has no room for one, or has bytes to write
 abbrev Busy : ℕ → CopyState → Type 0
-Busy chunk d = d.status ≡ Running → ends d ≡ false → 0 < chunk → length d.link.sender.queue < d.link.sender.capacity → end_of d.link.sender < 2 ^ 64 - 1 →
+Busy chunk d = d.status ≡ Running → ends d ≡ false → 0 < chunk → length d.link.sender.queue < d.link.sender.capacity →
+    end_of d.link.sender < 2 ^ 64 - 1 →
     next_position d.link.receiver ≡ end_of d.link.sender → length d.link.receiver.queue ≡ 0 → ⊥
 
 may_more : (more written : Bool) → (not more && written) ≡ false → written ≡ true → more ≡ true
@@ -241,7 +274,11 @@ asked chunk c = fed_by (Busy chunk) chunk c (λ _ _ fed on some kept left reache
     (λ rest _ _ fed on some kept left reached none. both_ways (is_written c.link) on (written_from c.link reached none))
     (λ x xs rest may _ fed on some kept left reached none.
     let before = written_parts c.link may.2 in
-    omega (arith, length-append c.link.sender.queue (take (room_for chunk c.link) (x ∷ xs)), length-take (room_for chunk c.link) (x ∷ xs)))
+    omega (
+      arith,
+      length-append c.link.sender.queue (take (room_for chunk c.link) (x ∷ xs)),
+      length-take (room_for chunk c.link) (x ∷ xs),
+    ))
     (λ off fed on some kept left reached none.
     let all = written_from c.link reached none in
     both_ways (asks chunk c) off (asks_from chunk c (may_more c.more (is_written c.link) on all, omega arith, all)))
@@ -266,20 +303,30 @@ module _ (s : Setup) (reads : List (List ℕ)) where
           within = omega arith;
           still = λ k far below. absurd (omega arith);
           all = λ j h few. either (cases_lt 0 j)
-              (λ l. absurd (some (still_round s.max_stalled_rounds s.chunk c one (h n (omega arith) (omega arith))))) (λ l. omega arith);
+              (λ l. absurd (some (still_round s.max_stalled_rounds s.chunk c one (h n (omega arith) (omega arith)))))
+              (λ l. omega arith);
         }
         | Nothing more none empty ↦ record {
           few = omega arith;
           within = omega arith;
           still = λ k far below. either (cases_lt k n) (λ l. before.still k (omega arith) l)
-              (λ l. subst (MakesNoProgress s reads) (let is : n ≡ k = omega arith in is) (still_turn s.max_stalled_rounds s.chunk c one none));
-          all = λ j h few. (let rest = before.all (j - 1) (λ k far below. h k (omega arith) (omega arith)) (omega arith) in omega arith);
+              (λ l. subst (MakesNoProgress s reads) (let is : n ≡ k = omega arith in is)
+              (still_turn s.max_stalled_rounds s.chunk c one none));
+          all = λ j h few. (let rest = before.all (j - 1) (λ k far below. h k (omega arith) (omega arith))
+              (omega arith) in omega arith);
         }
       ]
 
   counted : (n : ℕ) → (after s reads n).status ≡ Running → Counted n
-  counted zero on = record { few = omega arith; within = omega arith; still = λ k far below. absurd (omega arith); all = λ j h few. omega arith }
-  counted (suc n) on = (let one = goes_on s.max_stalled_rounds s.chunk (after s reads n) on in one_more n one (counted n one.before))
+  counted zero on = record {
+    few = omega arith;
+    within = omega arith;
+    still = λ k far below. absurd (omega arith);
+    all =
+        λ j h few. omega arith;
+  }
+  counted (suc n) on = (let one = goes_on s.max_stalled_rounds s.chunk (after s reads n) on in
+      one_more n one (counted n one.before))
 
 pub gives_up_after : GivesUpAfter
 gives_up_after s reads n on gave =
@@ -288,9 +335,14 @@ gives_up_after s reads n on gave =
     (omega arith, λ k far below. so_far.still k (omega arith) below)
 
 pub never_later : NeverLater
-never_later s reads n on many nothing = (let so_far = counted s reads n on in omega (arith, so_far.all (suc s.max_stalled_rounds) nothing (omega arith)))
+never_later s reads n on many nothing = (let so_far = counted s reads n on in
+    omega (arith, so_far.all (suc s.max_stalled_rounds) nothing (omega arith)))
 
 pub no_more_rounds : NoMoreRounds
 no_more_rounds s reads n many nothing on =
     let one = goes_on s.max_stalled_rounds s.chunk (after s reads n) on in
-    omega (arith, (counted s reads n one.before).all s.max_stalled_rounds nothing many, (fed_leaves s.chunk (after s reads n)).stalled)
+    omega (
+      arith,
+      (counted s reads n one.before).all s.max_stalled_rounds nothing many,
+      (fed_leaves s.chunk (after s reads n)).stalled,
+    )

@@ -31,7 +31,8 @@ delayed_of v frames = passing arrives_later v frames
 -- what a receiver stores once frames have arrived, one after another
 abbrev pub receiver_after_all : ℕ → ReceiverState → List (List ℕ) → ReceiverState
 receiver_after_all most_runs r [] = r
-receiver_after_all most_runs r (frame ∷ frames) = receiver_after_all most_runs (receiver_after most_runs r (segment_of frame)) frames
+receiver_after_all most_runs r (frame ∷ frames) =
+    receiver_after_all most_runs (receiver_after most_runs r (segment_of frame)) frames
 
 -- the acknowledgement of a frame that arrived, if it has one, if the receiver stores r
 abbrev pub ack_to : ReceiverState → Option (ℕ × List ℕ) → List (List ℕ)

@@ -132,7 +132,9 @@ decide rounds c =
 -- whether a round that led from the link l to m made progress: bytes were acknowledged, or there
 -- are some to write
 abbrev pub makes_progress : ℕ → LinkState → LinkState → Bool
-makes_progress chunk l m = not (nat_eq m.sender.first_unacknowledged l.sender.first_unacknowledged) || nat_lt 0 (min chunk (length m.receiver.queue))
+makes_progress chunk l m =
+    not (nat_eq m.sender.first_unacknowledged l.sender.first_unacknowledged)
+    || nat_lt 0 (min chunk (length m.receiver.queue))
 
 -- from the state `c` a round led to the link m: the bytes that the receiver has queued are written, and the
 -- next wait depends on the round's progress

@@ -81,7 +81,8 @@ frame_len s p =
 abbrev pub send : LinkState → ℕ → ℕ → LinkState
 send s p n = record s {
   forward = record s.forward {
-    in_flight = s.forward.in_flight ++ frame_of p (take n (drop (p - s.sender.first_unacknowledged) s.sender.queue)) ∷ [];
+    in_flight = s.forward.in_flight
+        ++ frame_of p (take n (drop (p - s.sender.first_unacknowledged) s.sender.queue)) ∷ [];
   };
   counts = with_payload n s.counts;
 }
@@ -249,5 +250,6 @@ StopsRound s v =
     ⊎ ((n : ℕ) × (let u = times n delayed_frame (transmit s) in StopsDelayed u u.forward.delayed v))
     ⊎ ((n : ℕ) × (let u = times n pass_frame (delayed_frames (transmit s)) in StopsFrame u u.forward.in_flight v))
     ⊎ (v ≡ pass_frames (delayed_frames (transmit s)))
-    ⊎ ((n : ℕ) × (let u = times n pass_ack (delayed_acks (acknowledge_all (pass_frames (delayed_frames (transmit s))))) in
+    ⊎ ((n : ℕ) × (let u =
+    times n pass_ack (delayed_acks (acknowledge_all (pass_frames (delayed_frames (transmit s))))) in
     StopsAck u u.reverse.in_flight v))

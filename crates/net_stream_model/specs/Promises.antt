@@ -24,7 +24,8 @@
 --     EndsInOneTurn      it ended in the turn after those in which it went on
 --     Fills s reads      each read fills its room, except the last one before the input's end
 --     SameBytes, AllAtOnce      then the outcome of a copy depends only on the bytes
-use Rattle.std.specs.Prelude.{Bool, true, false, ◌≡◌, ℕ, suc, ◌+◌, ◌-◌, ◌*◌, ◌<◌, ◌≤◌, ◌^◌, ◌⊎◌, min, List, [], ◌∷◌, ◌++◌, length}
+use Rattle.std.specs.Prelude.{Bool, true, false, ◌≡◌, ℕ, suc, ◌+◌, ◌-◌, ◌*◌, ◌<◌, ◌≤◌, ◌^◌, ◌⊎◌, min, List, [], ◌∷◌}
+use Rattle.std.specs.Prelude.{◌++◌, length}
 use Rattle.std.specs.Io.{StartsWith}
 use Rattle.net_stream_model.specs.Fates.{FatesState, next_fate, fates_after, AllCome}
 use Rattle.net_stream_model.specs.declared.fate.Fate.TheVariants.{Lost}

@@ -87,5 +87,6 @@ abbrev pub ProgressesOrIsStuck : ℕ → ℕ → LinkState → LinkState → Typ
 ProgressesOrIsStuck frames acks old new = (f : ℕ) (w : List ℕ) → LinkInvariant f w old
     → old.forward.in_flight ≡ [] → old.reverse.in_flight ≡ [] → 0 < length old.sender.queue
     → next_position old.receiver < limit_of old.receiver
-    → next_position new.receiver ≡ next_position old.receiver → new.sender.first_unacknowledged ≡ old.sender.first_unacknowledged
+    → next_position new.receiver ≡ next_position old.receiver
+    → new.sender.first_unacknowledged ≡ old.sender.first_unacknowledged
     → IsStuck frames acks old new

@@ -81,4 +81,5 @@ pub record SendsPrefix (s : SenderState) (most burst n : ℕ) (old new : PathSta
 -- frames were sent like this; and there are `burst` frames, or no part begins after them
 pub record SendsRound (s : SenderState) (most burst n : ℕ) (old new : PathState) : Type 0 where
   pub prefix : SendsPrefix s most burst n old new
-  pub stop : (send_limit s ≤ s.first_unacknowledged + n) ⊎ (length (frames_from s.first_unacknowledged prefix.parts) ≡ burst)
+  pub stop : (send_limit s ≤ s.first_unacknowledged + n)
+      ⊎ (length (frames_from s.first_unacknowledged prefix.parts) ≡ burst)

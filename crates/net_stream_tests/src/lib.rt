@@ -1,7 +1,7 @@
 //! The tests of `net_stream` and of `net_examples`, which uses it, each through its public calls.
 //!
-//! They are in a crate of their own, so that crates that use `net_stream` don't wait for them and link nothing that only
-//! tests need.
+//! They are in a crate of their own, so that crates that use `net_stream` don't wait for them and link nothing that
+//! only tests need.
 #![tactic(auto)]
 
 #[cfg(test)]
@@ -24,8 +24,12 @@ mod links;
 #[cfg(test)]
 mod order;
 #[cfg(test)]
+mod prefix;
+#[cfg(test)]
 mod slices;
 #[cfg(test)]
 mod stated;
+#[cfg(test)]
+mod sums;
 #[cfg(test)]
 mod watched;

@@ -1,48 +1,21 @@
 //! The statuses, what standard error says, and how often streams are called.
-ghost use Rattle.std.specs.Prelude.{None};
-
 use super::long_inputs::long_reply;
+use crate::assertions::{Place, assert_bytes, assert_count};
+use crate::words::words_of;
 use net_bench_lib::serve;
 use net_io::testing::{NEVER, Refusing, Sink, Source};
 use net_io::{Ended, Status};
 use std::alloc::{AllocError, Allocator, Global};
-use std::cell::Cell;
-use std::io;
-use std::io::{ErrorKind, Write};
+use std::io::ErrorKind;
 use std::process::Abort;
 use std::test::Fail;
 
 /// The usage line.
 const USAGE_LINE: &[u8] = b"usage: net_bench ring CAP | asm N | stream CAP N [FIRST]\n";
 
-/// Where a test is: the words of a mode or a name, and the number of a row, a call or a request.
-type Place<'a> = (&'a str, usize);
-
-/// Returns the words of a line.
-fn words_of(alloc: Global, line: &str) -> Result<Vec<String>, AllocError> {
-    let mut words = Vec::new(alloc);
-    for word in line.split(' ') {
-        words.push(String::from_str(alloc, word)?)?;
-    }
-    Ok(words)
-}
-
-/// Stops the test unless these counts are equal.
-fn assert_count(rt: &impl Abort, found: usize, wanted: usize, (name, number): Place<'_>) {
-    assert!(rt; found == wanted, "{name}, {number}: {found}, not {wanted}");
-}
-
 /// Stops the test if a count is above this.
 fn assert_at_most(rt: &impl Abort, found: usize, most: usize, (name, number): Place<'_>) {
     assert!(rt; found <= most, "{name}, {number}: {found}, above {most}");
-}
-
-/// Stops the test unless these bytes are equal.
-fn assert_bytes(rt: &impl Abort, found: &[u8], wanted: &[u8], (name, number): Place<'_>) {
-    assert!(rt;
-        found == wanted,
-        "{name}, {number}: {found:?}, not {wanted:?}"
-    );
 }
 
 /// Stops the test unless a run ended like this.
@@ -419,70 +392,6 @@ fn check_first_refused(rt: &impl Abort, alloc: Global, words: &str) -> Result<()
 fn asks_its_allocator_in_each_mode(rt: HostRuntime) -> Result<(), Fail> {
     for words in MODES {
         check_first_refused(&rt, rt.alloc(), words)?;
-    }
-    Ok(())
-}
-
-/// A writer that takes all, and notes its last flush. If it is of errors, its bytes come too early unless another
-/// writer was flushed before.
-#[derive(Drop)]
-struct Noting<'c> {
-    flushed: &'c Cell<bool>,
-    of_errors: bool,
-    is_early: bool,
-}
-
-impl Write for Noting<'_> {
-    ghost contents = { λ _. None };
-
-    fn write(&mut self, buf: &[u8]) -> io::Result<usize> {
-        if self.of_errors && !self.flushed.get() {
-            self.is_early = true;
-        }
-        Ok(buf.len())
-    }
-
-    fn flush(&mut self) -> io::Result<()> {
-        self.flushed.set(true);
-        Ok(())
-    }
-}
-
-/// Returns whether the output is flushed before an error is said, so that a terminal shows the replies first: after
-/// this input, of which so many reads succeed, in memory that refuses a request.
-fn flushes_first(
-    alloc: Global,
-    (input, reads, refused): (&[u8], usize, usize),
-) -> Result<bool, Fail> {
-    let words = words_of(alloc, "ring 8")?;
-    let flushed = Cell::new(false);
-    let mut output = Noting {
-        flushed: &flushed,
-        of_errors: false,
-        is_early: false,
-    };
-    let mut errors = Noting {
-        flushed: &flushed,
-        of_errors: true,
-        is_early: false,
-    };
-    let mut source = Source::failing(input, usize::MAX, reads, ErrorKind::Other);
-    let heap = Refusing::new(alloc, refused);
-    let ended = serve(&heap, &words, &mut source, &mut output, &mut errors);
-    Ok(ended.status == Status::Failed && ended.is_told && !errors.is_early)
-}
-
-#[test]
-fn flushes_before_it_says_an_error(rt: HostRuntime) -> Result<(), Fail> {
-    let rows: [(&[u8], usize, usize); 4] = [
-        (b"w 61\nx\n", NEVER, NEVER),
-        (b"w 61\n", 1, NEVER),
-        (b"w 61\n", NEVER, 4),
-        (b"", NEVER, 0),
-    ];
-    for (number, row) in rows.iter().enumerate() {
-        let first = flushes_first(rt.alloc(), *row)?;
-        assert_count(&rt, first as usize, 1, ("ring 8", number));
     }
     Ok(())
 }

@@ -1,6 +1,7 @@
 //! How often a copy reads, writes and flushes, and its lines of progress. The counts are those of a second
 //! program, written from docs/LINK.md.
-use crate::link::causes::{assert_holds, has_text, words_of};
+use crate::link::causes::{assert_holds, has_text};
+use crate::words::words_of;
 use net_io::Status;
 use net_io::testing::{NEVER, Refusing, Sink, Source};
 use net_link_lib::{ProgressWriter, Recording, serve};

@@ -1,5 +1,6 @@
 //! What standard error says of streams that fail in two ways, of long causes, and of causes for which there is
 //! no memory; and how much memory `serve` asks for.
+use crate::words::words_of;
 use net_io::testing::{KINDS, NEVER, Refusing, Sink, Source};
 use net_io::{Ended, Status};
 use net_link_lib::{ProgressWriter, Recording, serve};
@@ -11,15 +12,6 @@ use std::process::Abort;
 /// Stops the test unless this holds, and says the number of its row.
 pub fn assert_holds(rt: &impl Abort, fact: bool, row: usize) {
     assert!(rt; fact, "row {row}");
-}
-
-/// Returns the words of a line.
-pub fn words_of(alloc: Global, line: &str) -> Result<Vec<String>, AllocError> {
-    let mut words = Vec::new(alloc);
-    for word in line.split(' ') {
-        words.push(String::from_str(alloc, word)?)?;
-    }
-    Ok(words)
 }
 
 /// The words; the number of the read that fails, and its kind; the number of the write that fails, and its

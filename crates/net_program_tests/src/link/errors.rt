@@ -1,5 +1,6 @@
 //! Errors of the system, at writes and flushes too; and what streams remember before and after a call.
-use crate::link::causes::{ENDED, Failing, assert_holds, is_so, words_of, wordy};
+use crate::link::causes::{ENDED, Failing, assert_holds, is_so, wordy};
+use crate::words::words_of;
 use net_io::Status;
 use net_io::testing::{NEVER, Sink, Source};
 use net_link_lib::{ProgressWriter, Recording, serve};

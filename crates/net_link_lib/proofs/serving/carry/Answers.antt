@@ -9,7 +9,8 @@ returns-then-args g c =
     let p = c.copy_watched.ensures.exact in (
       p.0,
       p.1,
-      λ told. rw c.if-args.true (shown (λ (m : ProgressWriter g.row.E.Denot). m.is_told ≡ true) (λ m. g.E.Write.contents m.stream) progress_line
+      λ told. rw c.if-args.true (shown (λ (m : ProgressWriter g.row.E.Denot). m.is_told ≡ true)
+          (λ m. g.E.Write.contents m.stream) progress_line
           c.args.errors.now c.copy_watched.new.watch p.1 p.2 told).1,
       rw (c.config.ensures, c.new.ensures, c.new-2.ensures, c.rates.ensures, c.rates-2.ensures) at p.3,
     )

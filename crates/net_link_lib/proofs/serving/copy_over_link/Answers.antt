@@ -17,7 +17,8 @@ returns g c =
       status = c.status.ensures;
       says = λ on. elim c.if-errors.branch [
         | then-errors w ↦ Appends-two _ _ _ _ _ _ (p.2 w.if-errors.true)
-            (if_told _ c.write_summary-told.result w.is_ok.ensures.value c.write_summary-told.ensures (sym w.result-is ∙ on)) refl
+            (if_told _ c.write_summary-told.result w.is_ok.ensures.value c.write_summary-told.ensures
+            (sym w.result-is ∙ on)) refl
         | else-errors w ↦ cc
       ];
     }

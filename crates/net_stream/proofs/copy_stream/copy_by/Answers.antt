@@ -15,7 +15,8 @@ returns-in_default g c =
       exact = ([], [], (refl, (_, refl, was_refused g.M.Reading.fails _ flush.result flush.ensures.ended)), inr none);
       outcome = λ reads h. ([], none.4, inr (none.0, refl, none.5));
       copied = unbegun _ _ _ _ _ _ _ _ none;
-      gave_up = enough c.gives_up_counted.ensures.failed c.args.config c.args.fates.frames c.args.fates.acks (omega arith) _ _ _ _ _ _ _ _ (inr none);
+      gave_up = enough c.gives_up_counted.ensures.failed c.args.config c.args.fates.frames c.args.fates.acks
+          (omega arith) _ _ _ _ _ _ _ _ (inr none);
     }
 
 pub returns : goal.returns
@@ -25,7 +26,8 @@ returns g c =
     let chunk = ap length c.deref_mut-3.ensures.value ∙ c.in-Ok.ensures.2 in
     let p = c.run_copy.ensures.exact in
     let copied = subst (λ (s : Setup). HasCopied s c.run_copy.result.0 p.0 p.1 (g.M.Reading.remaining c.args.reader.now)
-    (g.M.Reading.remaining c.run_copy.new.reader) (g.W.Write.contents c.args.writer.now) (g.W.Write.contents c.run_copy.new.writer) c.run_copy.result.1)
+    (g.M.Reading.remaining c.run_copy.new.reader) (g.W.Write.contents c.args.writer.now)
+    (g.W.Write.contents c.run_copy.new.writer) c.run_copy.result.1)
     (λ i. setup_over c.args.config (outgoing i) (incoming i) (chunk i) c.args.fates.frames c.args.fates.acks) p.3 in
     record {
       exact = (p.0, p.1, p.2, inl copied);
@@ -33,8 +35,10 @@ returns g c =
         q.0,
         q.1,
         inl (subst (λ (s : Setup). HasOutcome s c.run_copy.result.0 reads q.0 c.run_copy.result.1)
-            (λ i. setup_over c.args.config (outgoing i) (incoming i) (chunk i) c.args.fates.frames c.args.fates.acks) q.2),
+            (λ i. setup_over c.args.config (outgoing i) (incoming i) (chunk i) c.args.fates.frames c.args.fates.acks)
+            q.2),
       );
       copied = c.run_copy.ensures.copied;
-      gave_up = enough c.gives_up_counted.ensures.failed c.args.config c.args.fates.frames c.args.fates.acks (omega arith) _ _ _ _ _ _ _ _ (inl copied);
+      gave_up = enough c.gives_up_counted.ensures.failed c.args.config c.args.fates.frames c.args.fates.acks
+          (omega arith) _ _ _ _ _ _ _ _ (inl copied);
     }

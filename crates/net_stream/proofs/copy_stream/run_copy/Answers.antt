@@ -10,7 +10,8 @@ use Rattle.net_stream.proofs.copy_stream.run_copy.Goals as goal
 pub returns : goal.returns
 returns g c =
     let b = c.args.buffers in
-    let s = setup_over c.args.config (length b.outgoing.now) (length b.incoming.now) (length b.chunk.now) c.args.fates.frames c.args.fates.acks in
+    let s = setup_over c.args.config (length b.outgoing.now) (length b.incoming.now)
+    (length b.chunk.now) c.args.fates.frames c.args.fates.acks in
     let reader = g.M.Reading.remaining c.args.reader.now in
     let reader' = g.M.Reading.remaining c.run-ended.new.reader in
     let writer = g.W.Write.contents c.args.writer.now in
@@ -19,10 +20,20 @@ returns g c =
     let ended = c.run-ended.result in
     let flush = c.flush_after in
     let p = c.run-ended.ensures s (c.new-copier.ensures.begins (length b.chunk.now)) in
-    let all = flushed s p.0 p.1 reader reader' writer writer' keeps c.counts.result flush.ensures.kept ended flush.result flush.ensures.ended
+    let all = flushed s p.0 p.1 reader reader' writer writer' keeps c.counts.result flush.ensures.kept ended
+    flush.result flush.ensures.ended
     (subst (λ (n : Counts). HasCopied s ended p.0 p.1 reader reader' writer writer' n) (sym c.counts.ensures) p.4) in
     record {
-      exact = (p.0, p.1, (p.2, reads_flushed g.M.Reading.gives g.M.Reading.fails _ _ p.0 ended flush.result flush.ensures.ended p.3), all);
+      exact = (
+        p.0,
+        p.1,
+        (
+          p.2,
+          reads_flushed g.M.Reading.gives g.M.Reading.fails _ _ p.0 ended flush.result
+              flush.ensures.ended p.3,
+        ),
+        all,
+      );
       outcome = λ reads h. let q = p.5 reads h in
           let ends = outcome_flushed s reads q.0 c.counts.result ended flush.result flush.ensures.ended
           (subst (λ (n : Counts). HasOutcome s ended reads q.0 n) (sym c.counts.ensures) q.2) in

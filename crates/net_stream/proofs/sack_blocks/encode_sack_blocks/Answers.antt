@@ -13,7 +13,13 @@ returns-in_default g c =
     let i = c.loop-i.invariant in
     let all = maximal_runs (domain c.args.receiver.now.held) in
     let same = take_same c.loop-i.i most_sack_blocks all (sym i.left ∙ c.in_default.ensures.steps.0) (omega arith) in
-    record { len = i.len; bound = omega arith; listed = i.listed ∙ ap block_bytes same; fit = subst (All IsWords) same i.words }
+    record {
+      len = i.len;
+      bound = omega arith;
+      listed = i.listed ∙ ap block_bytes same;
+      fit =
+          subst (All IsWords) same i.words;
+    }
 
 pub loop-i-preserved : goal.loop-i-preserved
 loop-i-preserved g c =

@@ -1,4 +1,5 @@
-use Rattle.std.proofs.Common.{◌≡◌, ◌≤◌, ◌++◌, ◌<◌, ◌∷◌, [], ℕ, List, false, length, take, sym, ap, subst, refl, ◌∙◌, arith, length-take}
+use Rattle.std.proofs.Common.{◌≡◌, ◌≤◌, ◌++◌, ◌<◌, ◌∷◌, [], ℕ, List, false, length, take, sym, ap, subst, refl, ◌∙◌}
+use Rattle.std.proofs.Common.{arith, length-take}
 use Rattle.std.specs.Io.KnownBytes.{Consumes}
 use Rattle.std.proofs.lemmas.Bool.{both_ways}
 use Rattle.std.proofs.lemmas.List.{take_all, append-nil, nil_from_length}
@@ -13,9 +14,11 @@ pub returns-then-not-may_read-clause-ok : goal.returns-then-not-may_read-clause-
 returns-then-not-may_read-clause-ok g c =
     let copy = c.args.self.now in
     let now = g.M.Reading.remaining c.args.reader.now in
-    let step : (later : List (List ℕ)) (given written : List ℕ) → feed (length c.args.chunk.now) (copy_state_of copy later given written Running)
+    let step : (later : List (List ℕ)) (given written : List ℕ) →
+    feed (length c.args.chunk.now) (copy_state_of copy later given written Running)
     ≡ copy_state_of copy later (given ++ []) written Running =
-    λ later given written. unfed _ (copy_state_of copy later given written Running) c.room-room.ensures c.may_read.ensures c.if-not-may_read.true
+    λ later given written. unfed _ (copy_state_of copy later given written Running) c.room-room.ensures
+    c.may_read.ensures c.if-not-may_read.true
     ∙ ap (λ gs. copy_state_of copy later gs written Running) (sym (append-nil given)) in (
       [],
       refl,
@@ -38,24 +41,29 @@ returns-in-Ok-eq0-clause-ok g c =
     let some : 0 < c.room-room.result = may.1 in
     let none = c.in-Ok-eq0.field-0-test in
     let bytes = c.in-Ok-eq0.ensures.bytes in
-    let step : (later : List (List ℕ)) (given written : List ℕ) → feed (length c.args.chunk.now) (copy_state_of copy ([] ∷ later) given written Running)
+    let step : (later : List (List ℕ)) (given written : List ℕ) →
+    feed (length c.args.chunk.now) (copy_state_of copy ([] ∷ later) given written Running)
     ≡ record (copy_state_of copy later (given ++ []) written Running) { more = false } =
-    λ later given written. fed _ (copy_state_of copy ([] ∷ later) given written Running) c.room-room.ensures c.may_read.ensures c.if-not-may_read.false
+    λ later given written. fed _ (copy_state_of copy ([] ∷ later) given written Running) c.room-room.ensures
+    c.may_read.ensures c.if-not-may_read.false
     ∙ ap (λ gs. record (copy_state_of copy later gs written Running) { more = false }) (sym (append-nil given)) in (
       [] ∷ [],
       (next, subst (λ n. g.M.Reading.gives now (take n c.read.new.buf) next) none c.in-Ok-eq0.ensures.gives, refl),
       record {
-        consumed = subst (λ n. Consumes (g.M.Reading.remaining now) (g.M.Reading.remaining next) (take n c.read.new.buf)) none bytes.0;
+        consumed = subst (λ n. Consumes (g.M.Reading.remaining now) (g.M.Reading.remaining next)
+            (take n c.read.new.buf)) none bytes.0;
         bytes_read = λ n is. omega (arith, is);
         bytes_written = refl;
         step = λ later given written _. step later given written;
         known = λ coming h.
             let p = c.in-Ok-eq0.ensures.comes coming (h may.0) (omega (arith, some)) in
             let gave = length-take c.in-Ok-eq0.field-0 c.read.new.buf in
-            let none_left : p.0 ≡ [] = nil_from_length p.0 (omega (arith, some, none, gave, ap length p.3, length-take (length c.read.new.buf) p.0)) in (
+            let none_left : p.0 ≡ [] = nil_from_length p.0
+            (omega (arith, some, none, gave, ap length p.3, length-take (length c.read.new.buf) p.0)) in (
               p.1,
               λ given written.
-                  ap (λ rs. feed (length c.args.chunk.now) (copy_state_of copy rs given written Running)) (p.2 ∙ ap (λ xs. xs ∷ p.1) none_left)
+                  ap (λ rs. feed (length c.args.chunk.now) (copy_state_of copy rs given written Running))
+                  (p.2 ∙ ap (λ xs. xs ∷ p.1) none_left)
                   ∙ step p.1 given written,
               λ m. absurd (both_ways false refl m),
             );
@@ -80,10 +88,13 @@ returns-in-Ok-clause-ok g c =
     feed (length c.args.chunk.now) (copy_state_of copy (first ∷ rest) given written Running)
     ≡ copy_state_of new (rest_of c.room-room.result first rest) (given ++ (xs ++ [])) written Running =
     λ first rest took given written.
-    fed _ (copy_state_of copy (first ∷ rest) given written Running) c.room-room.ensures c.may_read.ensures c.if-not-may_read.false
-    ∙ read_first c.room-room.result (copy_state_of copy (first ∷ rest) given written Running) first rest (omega (arith, size, ap length took))
+    fed _ (copy_state_of copy (first ∷ rest) given written Running) c.room-room.ensures c.may_read.ensures
+    c.if-not-may_read.false
+    ∙ read_first c.room-room.result (copy_state_of copy (first ∷ rest) given written Running) first rest
+    (omega (arith, size, ap length took))
     ∙ (λ i. record (copy_state_of copy (rest_of c.room-room.result first rest) given written Running) {
-      link = (ap (λ ys. record copy.link { sender = with_written copy.link.sender ys }) (sym took ∙ sym all) ∙ sym c.write.ensures.state) i;
+      link = (ap (λ ys. record copy.link { sender = with_written copy.link.sender ys }) (sym took ∙ sym all) ∙
+          sym c.write.ensures.state) i;
       given = given ++ (sym took ∙ sym (append-nil xs)) i;
     }) in (
       xs ∷ [],
@@ -93,11 +104,13 @@ returns-in-Ok-clause-ok g c =
         bytes_read = λ n is. omega (arith, is, size, ap length (append-nil xs));
         bytes_written = refl;
         step = λ later given written _. step xs later (sym (take_all c.room-room.result xs few)) given written
-            ∙ ap (λ rs. copy_state_of new rs (given ++ (xs ++ [])) written Running) (read_all c.room-room.result xs later few);
+            ∙ ap (λ rs. copy_state_of new rs (given ++ (xs ++ [])) written Running)
+            (read_all c.room-room.result xs later few);
         known = λ coming h.
             let p = c.in-Ok.ensures.comes coming (h may.0) (omega (arith, may)) in (
               rest_of c.room-room.result p.0 p.1,
-              λ given written. ap (λ rs. feed (length c.args.chunk.now) (copy_state_of copy rs given written Running)) p.2
+              λ given written. ap (λ rs. feed (length c.args.chunk.now) (copy_state_of copy rs given written Running))
+                  p.2
                   ∙ step p.0 p.1 (p.3 ∙ ap (λ n. take n p.0) (sym room)) given written,
               λ _. subst (λ n. g.M.Reading.comes c.read.new.reader (rest_of n p.0 p.1)) (sym room) (p.4 (omega arith)),
             );
@@ -112,12 +125,15 @@ returns-in-Err-clause-err g c =
     let may = may_some copy.more _ c.room-room.result c.may_read.ensures c.if-not-may_read.false in (
       c.in-Err.ensures.fails,
       record {
-        consumed = Consumes-none (g.M.Reading.remaining c.args.reader.now) (g.M.Reading.remaining c.read.new.reader) c.in-Err.ensures.bytes;
+        consumed = Consumes-none (g.M.Reading.remaining c.args.reader.now)
+            (g.M.Reading.remaining c.read.new.reader) c.in-Err.ensures.bytes;
         bytes_read = λ n is. omega (arith, is);
         bytes_written = refl;
         step = λ later given written none.
-            subst (λ rs. feed chunk (copy_state_of copy rs given written Running) ≡ copy_state_of copy rs (given ++ []) written ReadFailed) (sym (none refl))
-            (fed _ (copy_state_of copy [] given written Running) c.room-room.ensures c.may_read.ensures c.if-not-may_read.false
+            subst (λ rs. feed chunk (copy_state_of copy rs given written Running) ≡ copy_state_of copy rs
+            (given ++ []) written ReadFailed) (sym (none refl))
+            (fed _ (copy_state_of copy [] given written Running) c.room-room.ensures c.may_read.ensures
+            c.if-not-may_read.false
             ∙ ap (λ gs. copy_state_of copy [] gs written ReadFailed) (sym (append-nil given)));
         known = λ coming h. absurd (c.in-Err.ensures.comes coming (h may.0) (omega (arith, may)));
         end = λ h e. absurd (both_ways copy.more e may.0);

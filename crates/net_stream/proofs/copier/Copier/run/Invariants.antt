@@ -9,8 +9,10 @@ abbrev pub invariant-turns : goal.invariant-turns
 invariant-turns g l = record {
   reads : List (List ℕ);
   told : List Counts;
-  so_far : CopiedSoFar l.fn.rounds (length l.fn.chunk) l.fn.self l.self reads told (g.M.Reading.remaining l.fn.reader) (g.M.Reading.remaining l.reader)
-      (g.W.Write.contents l.fn.writer) (g.W.Write.contents l.writer) (g.M.Reading.comes l.fn.reader) (g.M.Reading.comes l.reader);
+  so_far : CopiedSoFar l.fn.rounds (length l.fn.chunk) l.fn.self l.self reads told (g.M.Reading.remaining l.fn.reader)
+      (g.M.Reading.remaining l.reader)
+      (g.W.Write.contents l.fn.writer) (g.W.Write.contents l.writer) (g.M.Reading.comes l.fn.reader)
+      (g.M.Reading.comes l.reader);
   watched : Each g.T.Watch.tells l.fn.watch told l.watch;
   gave : Each g.M.Reading.gives l.fn.reader reads l.reader;
   chunk : length l.chunk ≡ length l.fn.chunk;

@@ -5,7 +5,11 @@ pub delayed-init : goal.delayed-init
 delayed-init g c = none_yet _ _ _
 
 pub delayed-preserved : goal.delayed-preserved
-delayed-preserved g c = one_more _ _ _ _ _ c.delayed.invariant (c.delayed_ack.ensures.some c.if-not-delayed_ack.false) c.delayed_ack.ensures.state
+delayed-preserved g c = one_more _ _ _ _ _ c.delayed.invariant
+    (c.delayed_ack.ensures.some c.if-not-delayed_ack.false) c.delayed_ack.ensures.state
 
 pub returns-then-not-delayed_ack : goal.returns-then-not-delayed_ack
-returns-then-not-delayed_ack g c = record { state = all_done _ _ _ _ _ c.delayed.invariant (c.delayed_ack.ensures.empty c.if-not-delayed_ack.true) }
+returns-then-not-delayed_ack g c = record {
+  state =
+      all_done _ _ _ _ _ c.delayed.invariant (c.delayed_ack.ensures.empty c.if-not-delayed_ack.true);
+}

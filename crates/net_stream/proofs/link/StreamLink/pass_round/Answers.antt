@@ -15,7 +15,8 @@ returns-clause-state g c =
 
 pub returns-clause-carries : goal.returns-clause-carries
 returns-clause-carries g c = λ f w h.
-    subst (LinkInvariant f w) (sym (returns-clause-state g c)) (c.keeps_invariant.ensures.round f w c.args.self.now (record { way = h; fits = c.steps.ensures.fits })).way
+    subst (LinkInvariant f w) (sym (returns-clause-state g c))
+    (c.keeps_invariant.ensures.round f w c.args.self.now (record { way = h; fits = c.steps.ensures.fits })).way
 
 pub returns-clause-read : goal.returns-clause-read
 returns-clause-read g c =
@@ -25,9 +26,11 @@ returns-clause-read g c =
 
 pub returns-in_err-steps-clause-carries : goal.returns-in_err-steps-clause-carries
 returns-in_err-steps-clause-carries g c = λ f w h.
-    (c.keeps_invariant.ensures.stop f w c.args.self.now c.steps.new.self (search rules) (record { way = h; fits = c.steps.ensures.fits })).way
+    (c.keeps_invariant.ensures.stop f w c.args.self.now c.steps.new.self (search rules)
+    (record { way = h; fits = c.steps.ensures.fits })).way
 
 pub returns-in_err-steps-clause-read : goal.returns-in_err-steps-clause-read
 returns-in_err-steps-clause-read g c =
     let l = c.args.self.now in
-    (stopped c.numbers.ensures.read l.sender.first_unacknowledged l.receiver.read l c.steps.new.self (search rules) (omega arith, refl)).1
+    (stopped c.numbers.ensures.read l.sender.first_unacknowledged l.receiver.read l c.steps.new.self (search rules)
+    (omega arith, refl)).1

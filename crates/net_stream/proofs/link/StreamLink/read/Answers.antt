@@ -11,12 +11,14 @@ returns-clause-carries g c = λ f w h.
     let l = c.self.inside in
     let more : next_position l.receiver ≤ next_position c.read.new.self = omega arith in
     took f w l.sender l.receiver c.read.new.self l.forward l.reverse (c.read.ensures.receives f w) more
-    (λ p has. subst (λ r. HasByteAt r p) (sym c.read.ensures.state) ((c.reads.ensures.has l.receiver (length c.args.into.now) p).1 has))
+    (λ p has. subst (λ r. HasByteAt r p) (sym c.read.ensures.state)
+    ((c.reads.ensures.has l.receiver (length c.args.into.now) p).1 has))
     (subst (LinkInvariant f w) (sym c.self.view_is) h)
 
 pub returns-clause-bytes : goal.returns-clause-bytes
 returns-clause-bytes g c = λ f w h.
     let here : LinkInvariant f w c.args.self.now = h in
     let carried = subst (LinkInvariant f w) (sym c.self.view_is) here in
-    subst (λ (l : LinkState). take c.read.result c.read.new.into ≡ slice_range w l.receiver.read (l.receiver.read + c.read.result)) c.self.view_is
+    subst (λ (l : LinkState). take c.read.result c.read.new.into ≡ slice_range w l.receiver.read
+    (l.receiver.read + c.read.result)) c.self.view_is
     (c.read.ensures.bytes f w carried.receives)

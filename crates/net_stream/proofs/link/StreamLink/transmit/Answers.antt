@@ -12,13 +12,19 @@ parts-preserved g c =
     let same : c.transmit_part.new.self.sender ≡ s = c.transmit_part.ensures.sender in
     let head = ap (λ v. v.first_unacknowledged) same in
     let end = ap end_of same in
-    let limit : c.send_limit-limit.result ≡ send_limit s = c.send_limit-limit.ensures ∙ ap (λ (l : LinkState). send_limit l.sender) c.self.view_is ∙ ap send_limit (sym i.sender) in
+    let limit : c.send_limit-limit.result ≡ send_limit s = c.send_limit-limit.ensures ∙
+    ap (λ (l : LinkState). send_limit l.sender) c.self.view_is ∙ ap send_limit (sym i.sender) in
     let here : Cursor = record { pos = c.parts.pos; left = c.parts.left; link = c.parts.self } in
     record {
       from = omega arith;
       within = omega arith;
       sender = same ∙ i.sender;
-      so_far = (suc i.so_far.0, c.in_ok-pos.ensures.ok ∙ sym (goes_on here (omega arith) (omega arith)) ∙ ap part i.so_far.1, omega arith);
+      so_far = (
+        suc i.so_far.0,
+        c.in_ok-pos.ensures.ok ∙ sym (goes_on here (omega arith) (omega arith)) ∙
+            ap part i.so_far.1,
+        omega arith,
+      );
     }
 
 pub returns-else-left-gt0-clause-ok : goal.returns-else-left-gt0-clause-ok
@@ -31,5 +37,6 @@ pub returns-after-parts-clause-ok : goal.returns-after-parts-clause-ok
 returns-after-parts-clause-ok g c =
     let i = c.parts.invariant in
     let size = ap (λ v. length v.queue) i.sender in
-    let limit : c.send_limit-limit.result ≡ send_limit c.parts.self.sender = c.send_limit-limit.ensures ∙ ap (λ (l : LinkState). send_limit l.sender) c.self.view_is ∙ ap send_limit (sym i.sender) in
+    let limit : c.send_limit-limit.result ≡ send_limit c.parts.self.sender = c.send_limit-limit.ensures ∙
+    ap (λ (l : LinkState). send_limit l.sender) c.self.view_is ∙ ap send_limit (sym i.sender) in
     all_sent c.args.self.now _ i.so_far.0 i.so_far.1 (omega arith) (stops _ (inl (omega arith)))

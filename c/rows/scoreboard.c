@@ -1,0 +1,63 @@
+/* Scoreboards. */
+#include "rows.h"
+
+static struct net_base_scoreboard head;
+static struct net_base_run *runs;
+static uint64_t run_count, first_position;
+
+static void begin(const struct call *first) {
+    run_count = first->numbers[0];
+    first_position = first->numbers[1];
+    runs = take_memory(run_count * sizeof runs[0]);
+    net_base_scoreboard_reset(&head, first_position);
+}
+
+static struct net_base_hole hole(uint64_t position, uint64_t limit) {
+    return net_base_scoreboard_next_hole(&head, runs, run_count, position, limit);
+}
+
+/* The first position that wasn't reported, and the highest one that was, both counted from the stream's first; how many
+ * runs and positions are between these; the digest of the runs, which are between holes.
+ */
+static void show(void) {
+    struct net_base_reported reported = net_base_scoreboard_reported(&head, runs, run_count);
+    struct net_base_hole at = hole(0, UINT64_MAX);
+    uint64_t counts[] = {at.start - first_position, reported.end - first_position, 0, reported.count}, sum = START;
+    while (at.status == NET_BASE_DONE && at.end < UINT64_MAX) {
+        struct net_base_hole next = hole(at.end, UINT64_MAX);
+        sum = mix(mix(sum, at.end), next.start);
+        at = next;
+        counts[2]++;
+    }
+    for (int i = 0; i < 4; i++) {
+        say_number(counts[i]);
+        say(" ");
+    }
+    say_digest(sum);
+}
+
+static bool make(const struct call *call) {
+    uint64_t one = call->numbers[0], two = call->numbers[1];
+    if (is(call, "report")) {
+        /* A block without a position is refused, and changes nothing. */
+        uint32_t status = net_base_scoreboard_report(&head, runs, run_count, one, two, UINT64_MAX);
+        say(status == NET_BASE_DONE || one == two ? "ok"
+            : status == NET_BASE_TOO_MANY_RUNS    ? "refused"
+                                                  : "forbidden");
+    } else if (is(call, "acknowledge")) {
+        if (net_base_scoreboard_acknowledge(&head, runs, run_count, one) != NET_BASE_DONE) return false;
+        say("done");
+    } else if (is(call, "contains")) {
+        say_truth(net_base_scoreboard_contains(&head, runs, run_count, one) == NET_BASE_PRESENT);
+    } else if (is(call, "first_missing")) {
+        say_number(hole(one, UINT64_MAX).start);
+    } else if (is(call, "next_hole")) {
+        struct net_base_hole next = hole(one, two);
+        say_run(next.start, next.end);
+    } else {
+        return false;
+    }
+    return net_base_scoreboard_is_sound(&head, runs, run_count);
+}
+
+const struct subject SCOREBOARD = {"scoreboard", begin, make, show};

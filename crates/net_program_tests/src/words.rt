@@ -1,0 +1,11 @@
+//! Words of a command line.
+use std::alloc::{AllocError, Global};
+
+/// Returns the words of a line.
+pub fn words_of(alloc: Global, line: &str) -> Result<Vec<String>, AllocError> {
+    let mut words = Vec::new(alloc);
+    for word in line.split(' ') {
+        words.push(String::from_str(alloc, word)?)?;
+    }
+    Ok(words)
+}

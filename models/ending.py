@@ -1,0 +1,146 @@
+"""Receivers of a stream that ends: its end has a number, as a byte has, and needs no room."""
+import receiver
+from branches import Order, Test
+from drawing import TOP
+from showing import START, mix, pattern, show_bytes, show_digest, truth
+
+SIZES = (1, 4)
+NUMBER = Order("ending: position after a segment and the greatest number")
+LAST = Test("ending: a segment is the last one")
+KNOWN = Test("ending: the end is known when a last segment comes")
+OTHER = Test("ending: a last segment says another end")
+BELOW = Test("ending: a last segment ends below a byte that came")
+CUT = Order("ending: end of a last segment and of the free window")
+BEYOND = Test("ending: a segment has bytes beyond the end")
+ALONE = Test("ending: an end comes without bytes")
+SHUT = Test("ending: an end comes when nothing is free")
+REFUSED = Test("ending: the bytes of a last segment are refused")
+COMPLETE = Test("ending: all bytes and the end have come")
+READ_ALL = Test("ending: all bytes were read, up to the end")
+HELD_END = Test("ending: the end has come, and bytes before it are missing")
+WINDOW = Test("ending: is_acceptable finds a window")
+COUNT = Test("ending: is_acceptable has a number")
+FIRST_IN = Test("ending: is_acceptable, the first number may come")
+LAST_IN = Test("ending: is_acceptable, the last number may come")
+
+
+class Ending:
+    def __init__(self, capacity, most, first):
+        self.bytes, self.end = receiver.Receiver(most, capacity, first), None
+
+    @property
+    def is_complete(self):
+        return self.bytes.next == self.end
+
+    @property
+    def acknowledged(self):
+        return self.bytes.next + 1 if self.is_complete else self.bytes.next
+
+    def show(self):
+        """The first missing position; how many bytes are queued and free; how many runs are held; the end, or `-`; the
+        acknowledged number; 0, 1 once all has come, and 2 once all was read; the digest of the queue. Positions are
+        counted from the stream's first."""
+        bytes_, first = self.bytes, self.bytes.first
+        COMPLETE(self.is_complete)
+        HELD_END(self.end is not None and not self.is_complete)
+        has_read = READ_ALL(self.end is not None and bytes_.first + bytes_.read_count == self.end)
+        end = "-" if self.end is None else self.end - first
+        return (f"{bytes_.next - first} {len(bytes_.queue)} {bytes_.window} {len(bytes_.held)} {end} "
+                f"{self.acknowledged - first} {self.is_complete + has_read} "
+                f"{show_digest(mix(START, bytes_.queue))}")
+
+    def top(self):
+        """The position after the last byte that came."""
+        held = self.bytes.held_runs()
+        return held[-1][1] if held else self.bytes.next
+
+    def segment(self, pos, size, seed, last):
+        NUMBER.least(pos + size, TOP)
+        if pos + size >= TOP:
+            return "forbidden"
+        data, end = pattern(size, seed), pos + size
+        if LAST(last == 1):
+            if KNOWN(self.end is not None):
+                if OTHER(end != self.end):
+                    return "other_end"
+            elif BELOW(end < self.top()):
+                return "other_end"
+        window_end = self.bytes.next + self.bytes.window
+        if self.end is not None and BEYOND(end > self.end):
+            data = data[:max(0, self.end - pos)]
+        kept = self.bytes.segment(pos, data)
+        if kept is None:
+            REFUSED(last == 1)
+            return "refused"
+        if last:
+            CUT.least(end, window_end)
+            ALONE(size == 0)
+            SHUT(self.bytes.window == 0)
+            if end <= window_end:
+                self.end = end
+        return f"{kept[0]} {kept[1]}"
+
+    def read(self, room):
+        return show_bytes(self.bytes.read(room))
+
+    def can_end(self, pos):
+        return truth(pos == self.end if self.end is not None else pos >= self.top())
+
+    def is_acceptable(self, pos, count):
+        """The four rows of RFC 9293's table, section 3.10.7.4."""
+        next_, window = self.acknowledged, self.bytes.window
+        if pos + count > TOP:
+            return "forbidden"
+        if not WINDOW(window > 0):
+            return truth(count == 0 and pos == next_)
+        first_in = FIRST_IN(next_ <= pos < next_ + window)
+        if not COUNT(count > 0):
+            return truth(first_in)
+        last_in = LAST_IN(next_ <= pos + count - 1 < next_ + window)
+        return truth(first_in or last_in)
+
+
+def position(random, ending):
+    """A position about what came, or an end of the window, or the end, or any at all."""
+    bytes_ = ending.bytes
+    if random.one_in(16):
+        return random.wide()
+    known = [ending.end] if ending.end is not None else []
+    near = [bytes_.next, bytes_.next + bytes_.window, ending.top(), bytes_.first, *known]
+    if random.one_in(2):
+        return min(TOP, max(0, random.of(near) - 1 + random.below(3)))
+    return min(TOP, bytes_.next + random.below(bytes_.capacity + 2))
+
+
+def numbers_of(random, ending, name):
+    if name == "segment":
+        pos, last = position(random, ending), int(random.one_in(3))
+        if random.one_in(3):
+            pos = ending.bytes.next
+        size = random.below(ending.bytes.capacity // 2 + 2)
+        if last and ending.end is not None and not random.one_in(3):
+            pos = max(0, ending.end - size)
+            size = ending.end - pos
+        return [pos, size, random.below(1000), last]
+    if name == "read":
+        return [random.below(ending.bytes.capacity + 2)]
+    if name == "is_acceptable":
+        return [position(random, ending), random.below(ending.bytes.capacity + 3)]
+    return [position(random, ending)]
+
+
+CALLS = ["segment"] * 9 + ["read"] * 4 + ["can_end"] * 2 + ["is_acceptable"] * 4
+
+
+def draw(random, cases, lines):
+    """So many lines of receivers of 0 to 40 bytes."""
+    until = len(cases.lines) + lines
+    while len(cases.lines) < until:
+        capacity, most = random.of([0, 1, 2, 3, 5, 8, 12, 40]), random.of(SIZES)
+        first = random.of([0, TOP - 1 - random.below(40), random.of_digits(63, "ending")])
+        ending = Ending(capacity, most, first)
+        cases.begin(f"ending {capacity} {most} {first}", ending.show())
+        for _ in range(10 + random.below(24)):
+            name = random.of(CALLS)
+            numbers = numbers_of(random, ending, name)
+            cases.add(name, numbers, getattr(ending, name)(*numbers), ending.show())

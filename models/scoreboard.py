@@ -1,0 +1,119 @@
+"""Scoreboards: the positions of a stream that were reported to its sender, and the holes that it sends again."""
+from assembler import with_range
+from branches import Count, Order, Size, Test
+from drawing import TOP
+from showing import START, mix, show_digest, truth
+
+SIZES = (1, 4, 32)
+FIRST = Size("scoreboard: first position", 64, by=32)
+ORDER = Order("scoreboard: start and end of a block")
+START_OF = Order("scoreboard: start of a block and first position that wasn't reported")
+RUNS = {most: Count(f"scoreboard of {most}: runs", min(most, 8)) for most in SIZES}
+REFUSED = {most: Test(f"scoreboard of {most}: a block would make too many runs") for most in SIZES}
+MOVES = Test("scoreboard: a block moves the first position that wasn't reported")
+NEXT = Order("scoreboard: acknowledge, position and first one that wasn't reported")
+NEXT_IN = Test("scoreboard: acknowledge ends in a run, or before one that touches it")
+HIGH = Order("scoreboard: acknowledge, position and highest reported one")
+HELD = Test("scoreboard: contains")
+MISSING = Order("scoreboard: first_missing, position and result", ("below", "equal"))
+HOLE = Order("scoreboard: next_hole, start and limit", ("below", "equal"))
+HOLE_END = Order("scoreboard: next_hole, end and limit", ("below", "equal"))
+
+
+class Scoreboard:
+    def __init__(self, most, first):
+        self.most, self.first, self.runs = most, FIRST(first), with_range([], 0, first)
+
+    def front(self, runs):
+        return runs[0][1] if runs and runs[0][0] == 0 else 0
+
+    def beyond(self, runs):
+        return [run for run in runs if run[0] > 0]
+
+    def show(self):
+        """The first position that wasn't reported, and the highest one that was, both counted from the stream's first;
+        how many runs and positions are between these; the digest of the runs."""
+        beyond = self.beyond(self.runs)
+        RUNS[self.most](len(beyond))
+        highest = self.runs[-1][1] if self.runs else 0
+        digest = show_digest(mix(START, [end for run in beyond for end in run]))
+        return (f"{self.front(self.runs) - self.first} {highest - self.first} {len(beyond)} "
+                f"{sum(end - start for start, end in beyond)} {digest}")
+
+    def report(self, start, end):
+        ORDER.least(start, end)
+        if start > end:
+            return "forbidden"
+        front = self.front(self.runs)
+        START_OF.least(start, front)
+        runs = with_range(self.runs, start, end)
+        if REFUSED[self.most](start > front and len(self.beyond(runs)) > self.most):
+            return "refused"
+        MOVES(self.front(runs) > front)
+        self.runs = runs
+        return "ok"
+
+    def acknowledge(self, pos):
+        NEXT.least(pos, self.front(self.runs))
+        NEXT_IN(any(start <= pos <= end for start, end in self.beyond(self.runs)))
+        HIGH.least(pos, self.runs[-1][1] if self.runs else 0)
+        self.runs = with_range(self.runs, 0, pos)
+        return "done"
+
+    def contains(self, pos):
+        return truth(HELD(any(start <= pos < end for start, end in self.runs)))
+
+    def missing_from(self, pos):
+        return next((end for start, end in self.runs if start <= pos < end), pos)
+
+    def first_missing(self, pos):
+        found = self.missing_from(pos)
+        MISSING.least(pos, found)
+        return str(found)
+
+    def next_hole(self, pos, limit):
+        start = min(self.missing_from(pos), limit)
+        end = min([limit] + [run[0] for run in self.runs if run[0] > start])
+        HOLE.least(start, limit)
+        HOLE_END.least(end, limit)
+        return f"{start}-{end}"
+
+
+def position(random, board):
+    """A position about an end of a run, or a little beyond, or any at all."""
+    choice = random.below(8)
+    if choice == 0:
+        return random.wide()
+    if board.runs and choice < 4:
+        return min(TOP, max(0, random.of(random.of(board.runs)) - 1 + random.below(3)))
+    return min(TOP, board.first + random.below(40 if board.most < 32 else 200))
+
+
+def numbers_of(random, board, name):
+    if name == "report":
+        start, end = position(random, board), position(random, board)
+        if not random.one_in(8):
+            start, end = min(start, end), max(start, end)
+        if random.one_in(2):
+            end = min(TOP, start + random.below(4))
+        return [start, end]
+    return [position(random, board) for _ in range(2 if name == "next_hole" else 1)]
+
+
+CALLS = ["report"] * 10 + ["next_hole"] * 4 + ["contains"] * 2 + ["first_missing"] * 2 + ["acknowledge"] * 2
+
+
+def draw(random, cases, lines):
+    """So many lines of scoreboards of 1, 4 and 32 runs."""
+    until = len(cases.lines) + lines
+    while len(cases.lines) < until:
+        most = random.of(SIZES)
+        first = random.of([0, 0, TOP - random.below(60), random.of_digits(64, "scoreboard")])
+        board = Scoreboard(most, first)
+        cases.begin(f"scoreboard {most} {first}", board.show())
+        starts = range(first + 1, min(TOP - 1, first + 4 * most + 6), 3) if random.one_in(2) else []
+        calls = [("report", [start, start + 1]) for start in random.shuffled(starts)]
+        for _ in range(16 + random.below(40)):
+            name = random.of(CALLS)
+            name, numbers = calls.pop() if calls else (name, numbers_of(random, board, name))
+            cases.add(name, numbers, getattr(board, name)(*numbers), board.show())

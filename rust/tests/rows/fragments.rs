@@ -1,0 +1,71 @@
+//! Buffers of fragments.
+use crate::show::{bytes, pattern, truth};
+use crate::{Call, Subject};
+use net_base::storage::{FragmentBuffer, FragmentError};
+use net_base::time::Instant;
+
+struct Buffer<'a, const N: usize>(FragmentBuffer<'a, N>);
+
+/// The moment of a number of microseconds, whose sum with 2^64 stands for one below zero.
+fn moment(micros: u64) -> Instant {
+    Instant::from_micros(micros as i64)
+}
+
+pub fn with_buffer<const N: usize>(
+    first: &Call,
+    is_owned: bool,
+    f: &mut dyn FnMut(&mut dyn Subject) -> usize,
+) -> usize {
+    let (mut storage, expires_at) = (pattern(first.size(0), 0), moment(first.at(2)));
+    let buffer = if is_owned {
+        FragmentBuffer::empty(storage, expires_at)
+    } else {
+        FragmentBuffer::empty(&mut storage[..], expires_at)
+    };
+    f(&mut Buffer::<'_, N>(buffer))
+}
+
+fn taken(result: Result<(), FragmentError>) -> String {
+    match result {
+        Ok(()) => "ok",
+        Err(FragmentError::TooLong) => "too_long",
+        Err(FragmentError::TooManyHoles) => "refused",
+        Err(FragmentError::OtherSize) => "other_size",
+    }
+    .to_string()
+}
+
+impl<const N: usize> Subject for Buffer<'_, N> {
+    fn make(&mut self, call: &Call) -> String {
+        let buffer = &mut self.0;
+        match call.name {
+            "add" => taken(buffer.add(call.size(0), &pattern(call.size(1), call.at(2)))),
+            "set_total_size" => taken(buffer.set_total_size(call.size(0))),
+            "overlaps" => truth(buffer.overlaps(call.size(0), call.size(1))).to_string(),
+            "assemble" => buffer.assemble().map_or("none".to_string(), bytes),
+            "is_expired" => truth(buffer.is_expired(moment(call.at(0)))).to_string(),
+            "reset" => {
+                buffer.reset(moment(call.at(0)));
+                "done".to_string()
+            }
+            name => panic!("no call {name}"),
+        }
+    }
+
+    /// How many runs there are, and where the first one starts, or 0; whether there is none; the size, or 0, and whether
+    /// it is known; the deadline.
+    fn show(&mut self) -> String {
+        let buffer = &self.0;
+        let came: Vec<bool> = (0..buffer.capacity()).map(|pos| buffer.overlaps(pos, 1)).collect();
+        let starts = (0..came.len()).filter(|&pos| came[pos] && (pos == 0 || !came[pos - 1]));
+        let (runs, total) = (starts.clone().count(), buffer.total_size());
+        format!(
+            "{runs} {} {} {} {} {}",
+            starts.min().unwrap_or(0),
+            truth(buffer.is_empty()),
+            total.unwrap_or(0),
+            truth(total.is_some()),
+            buffer.expires_at().total_micros()
+        )
+    }
+}

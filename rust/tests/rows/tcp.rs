@@ -1,0 +1,91 @@
+//! What a TCP needs beside its queues. No call changes what another sees.
+use crate::show::{pattern, truth};
+use crate::{unless_panics, Call, Subject};
+use net_base::tcp::{
+    checksum, is_acceptable, is_valid, scale_for, scaled, updated_checksum, AdvertisedWindow, PartsSum, PeerWindow,
+    RetransmissionTimeout, RttEstimate, TimeoutBounds,
+};
+
+pub struct Tcp;
+
+impl Subject for Tcp {
+    fn make(&mut self, call: &Call) -> String {
+        let [one, two, three, four] = [0, 1, 2, 3].map(|index| call.at(index));
+        match call.name {
+            "is_acceptable" => truth(is_acceptable(one, two, three, four)).to_string(),
+            "scale_for" => scale_for(one).to_string(),
+            "announce" | "announce_in_steps" | "is_update_due" => {
+                unless_panics("forbidden", || announce(call))
+            }
+            "peer_update" => peer_update(call),
+            "peer_room" => {
+                let peer = PeerWindow { edge: one, seq: 0, ack: 0 };
+                format!("{} {}", peer.usable(two), truth(peer.is_probe_allowed(two, three)))
+            }
+            "scaled" => unless_panics("forbidden", || scaled(one as u16, two as u8).to_string()),
+            "checksum" => checksum(&pattern(call.size(0), two)).to_string(),
+            "checksum_parts" => parts(&pattern(call.size(0), two), call.size(2), call.size(3)),
+            "is_valid" => valid(&mut pattern(call.size(0), two), call.size(2)),
+            "updated_checksum" => {
+                updated_checksum(one as u16, two as u16, three as u16).to_string()
+            }
+            "first_sample" => estimate(RttEstimate::first(one)),
+            "next_sample" => unless_panics("forbidden", || {
+                estimate(RttEstimate { srtt_8: one, rttvar_4: two }.with_sample(three))
+            }),
+            "timeout" => {
+                let bounds = TimeoutBounds { least: three, most: four, tick: call.at(4) };
+                RttEstimate { srtt_8: one, rttvar_4: two }.timeout(bounds).to_string()
+            }
+            "expired" => {
+                let mut timer = RetransmissionTimeout::new(one);
+                timer.expired(TimeoutBounds { least: two, most: three, tick: 0 });
+                timer.timeout.to_string()
+            }
+            name => panic!("no call {name}"),
+        }
+    }
+
+    fn show(&mut self) -> String {
+        String::new()
+    }
+}
+
+/// The calls of a window of which numbers were announced.
+fn announce(call: &Call) -> String {
+    let mut window = AdvertisedWindow { edge: call.at(0) };
+    let (scale, next, end) = (call.at(1) as u8, call.at(2), call.at(3));
+    let (capacity, mss) = (call.at(4), call.at(5) as u16);
+    let field = match call.name {
+        "announce" => window.announce(scale, next, end),
+        "announce_in_steps" => window.announce_in_steps(scale, next, end, capacity, mss),
+        _ => return truth(window.is_update_due(scale, next, end, capacity, mss)).to_string(),
+    };
+    format!("{field} {}", window.edge)
+}
+
+fn peer_update(call: &Call) -> String {
+    let mut peer = PeerWindow { edge: call.at(0), seq: call.at(1), ack: call.at(2) };
+    let is_new = peer.update(call.at(3), call.at(4), call.at(5), call.at(6), call.at(7));
+    format!("{} {} {} {}", truth(is_new), peer.edge, peer.seq, peer.ack)
+}
+
+fn parts(bytes: &[u8], one: usize, other: usize) -> String {
+    let mut sum = PartsSum::new();
+    sum.add(&bytes[..one]);
+    let after = PartsSum::new().with(&bytes[one..other]).with(&bytes[other..]);
+    sum.joined(after).checksum().to_string()
+}
+
+fn valid(bytes: &mut [u8], at: usize) -> String {
+    bytes[at..at + 2].fill(0);
+    let sum = checksum(bytes);
+    bytes[at..at + 2].copy_from_slice(&sum.to_be_bytes());
+    let right = is_valid(bytes);
+    bytes[at] ^= 1;
+    format!("{} {}", truth(right), truth(is_valid(bytes)))
+}
+
+fn estimate(estimate: RttEstimate) -> String {
+    format!("{} {}", estimate.srtt_8, estimate.rttvar_4)
+}
