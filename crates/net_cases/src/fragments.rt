@@ -7,7 +7,7 @@ use crate::reply::{Part, Reply};
 use crate::subject::Subject;
 use net_base::time::Instant;
 use net_ring::ManagedSlice;
-use net_sockets::{FragmentBuffer, FragmentError};
+use net_base::storage::{FragmentBuffer, FragmentError};
 use std::alloc::{AllocError, Global};
 
 /// A buffer.
