@@ -8,10 +8,11 @@ use Rattle.std.proofs.lemmas.Bool.{both_ways, cases_lt, false≢true, or_left}
 use Rattle.std.proofs.lemmas.List.{append_assoc, take-append-drop, drop-take, drop-drop, drop_at, take-take}
 use Rattle.net_assembler.specs.declared.assembler.error.TooManyHolesError.{TooManyHolesError}
 use Rattle.net_receiver.specs.declared.receiver.kept.Kept.{Kept}
+use Rattle.net_receiver.specs.declared.receiver.kept_bytes.KeptBytes.{KeptBytes}
 use Rattle.net_receiver.specs.KeptList.{Piece, piece, piece_within, byte_at, next}
 use Rattle.std.proofs.lemmas.List.Elements.{All-head}
 use Rattle.net_receiver.proofs.Stream.{agrees_at}
-use Rattle.net_receiver.specs.Rules.{Show, CommandValue, ReplyValue, Segment, Read, verdict, state_after, segment_result}
+use Rattle.net_receiver.specs.Rules.{Show, CommandValue, ReplyValue, Segment, Read, verdict, state_after, numbers, segment_result}
 use Rattle.net_receiver.specs.Schedule.{KeptState, kept_after_commands, Follows, EndsBy, bytes_read}
 use Rattle.net_receiver.specs.ReceiverState.{receiver_reply, setting, Refines, ReceiverState, HeldBytes, domain, held_with_piece, first_lacking, held_bytes_at, next_position, receiver_ops, receiver_after_read, receiver_after_command, fresh_receiver, IsSound, StaysInSetting}
 use Rattle.net_receiver.specs.Segments.{KeepsOrRefuses, JoinsQueue}
@@ -154,6 +155,33 @@ any_order N v u pos xs r state told =
     (record { read = refl; refused = tt; kept = refl; queued = omega arith; grows = omega arith }) in
     subst (λ z. KeepsOrRefuses v part.bytes z r) (sym state)
     (subst (KeepsOrRefuses v part.bytes (state_after receiver_ops v (verdict receiver_ops N v (piece pos xs)))) (sym told) all)
+
+-- the same of what `keep` returns
+pub kept_any : (N : ℕ) (v u : ReceiverState) (pos : ℕ) (xs : List ℕ) (r : Result KeptBytes TooManyHolesError) →
+    u ≡ state_after receiver_ops v (verdict receiver_ops N v (piece pos xs)) →
+    r ≡ numbers receiver_ops v (verdict receiver_ops N v (piece pos xs)) →
+    OnErr r (u ≡ v) × IfOk r (λ k. k.kept ≡ length (window_part v pos xs)) × IfOk r (λ k. next_position u ≡ next_position v + k.queued)
+kept_any N v u pos xs r state told =
+    let n = next_position v in
+    let part = piece_within n (v.first + v.read + v.capacity) (piece pos xs) in
+    let more = next_joined v part in
+    let from = (lacking v part).from in
+    let all = any_verdict (λ y. OnErr (numbers receiver_ops v y) (state_after receiver_ops v y ≡ v) × IfOk (numbers receiver_ops v y) (λ k. k.kept ≡ length part.bytes)
+    × IfOk (numbers receiver_ops v y) (λ k. next_position (state_after receiver_ops v y) ≡ next_position v + k.queued)) n N (domain v.held) part
+    (λ none. (tt, sym none, omega arith))
+    (refl, tt, tt)
+    (tt, refl, omega arith) in
+    subst (λ z. OnErr r (z ≡ v) × IfOk r (λ k. k.kept ≡ length part.bytes) × IfOk r (λ k. next_position z ≡ next_position v + k.queued)) (sym state)
+    (subst (λ z. OnErr z (state_after receiver_ops v (verdict receiver_ops N v (piece pos xs)) ≡ v) × IfOk z (λ k. k.kept ≡ length part.bytes)
+    × IfOk z (λ k. next_position (state_after receiver_ops v (verdict receiver_ops N v (piece pos xs))) ≡ next_position v + k.queued)) (sym told) all)
+
+pub kept_in_order : (N : ℕ) (v : ReceiverState) (pos : ℕ) (xs : List ℕ) (r : Result KeptBytes TooManyHolesError) →
+    r ≡ numbers receiver_ops v (verdict receiver_ops N v (piece pos xs)) → pos ≤ next_position v → IsOk r
+kept_in_order N v pos xs r told h =
+    let n = next_position v in
+    let part = piece_within n (v.first + v.read + v.capacity) (piece pos xs) in
+    let at : part.start ≡ n = omega arith in
+    subst IsOk (sym told) (follows_verdict (λ y. IsOk (numbers receiver_ops v y)) n N (domain v.held) part at (λ none. refl) (λ some. refl))
 
 -- ---- what is held
 pub held_of_stream : HeldIsOfStream

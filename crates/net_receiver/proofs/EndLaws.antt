@@ -13,7 +13,7 @@ use Rattle.net_receiver.specs.Finite.{FiniteState, no_end, fresh_finite, top_of,
 use Rattle.net_receiver.specs.FiniteLaws.{AcknowledgedGrows, EndIsTaken, AllBytesComplete, SameEndConverges, FiniteCommand, Arrives, Reads, finite_after_command, finite_after_commands, bytes_of, bytes_taken, CommandFits, CommandMatches, ReceivesFinite, SoundEndStays, EndStays, SegmentOfStream, ReadsTheStream}
 use Rattle.std.specs.Prelude.{IsOk, is_ok, Result, Ok, Err}
 use Rattle.net_assembler.specs.declared.assembler.error.TooManyHolesError.{TooManyHolesError}
-use Rattle.net_receiver.specs.declared.receiver.kept.Kept.{Kept}
+use Rattle.net_receiver.specs.declared.receiver.kept_bytes.KeptBytes.{KeptBytes}
 use Rattle.net_receiver.specs.declared.finite.error.FiniteError.TheVariants as errors
 use Rattle.net_receiver.specs.ReceiverState.{limit_of}
 use Rattle.net_receiver.specs.Finite.{with_error, bytes_result, has_other_end}
@@ -206,7 +206,7 @@ acknowledged_grows N s (c ∷ cs) sound fit =
     let rest = acknowledged_grows N (finite_after_command N s c) cs (sound_end_stays N s c sound here) (All-tail CommandFits c cs fit) in
     omega (arith, one_acknowledged N s c sound here)
 
-ok_of : (r : Result Kept TooManyHolesError) → IsOk (with_error r) → is_ok r ≡ true
+ok_of : (r : Result KeptBytes TooManyHolesError) → IsOk (with_error r) → is_ok r ≡ true
 ok_of (Ok k) h = refl
 ok_of (Err e) h = absurd (both_ways false refl h)
 

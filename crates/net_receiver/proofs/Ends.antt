@@ -8,12 +8,12 @@ use Rattle.std.proofs.lemmas.Grind.{common_steps}
 use Rattle.net_assembler.specs.Positions.{bound_of, positions, contains}
 use Rattle.net_assembler.proofs.Positions.{has, contains-positions}
 use Rattle.net_receiver.specs.KeptList.{Piece, piece, piece_byte_at, piece_within}
-use Rattle.net_receiver.specs.Rules.{Segment, ReplyValue, SegmentReply, ReadReply, ShowReply, state_after, verdict, segment_result}
+use Rattle.net_receiver.specs.Rules.{Segment, ReplyValue, SegmentReply, ReadReply, ShowReply, state_after, verdict, numbers}
 use Rattle.net_receiver.specs.ReceiverState.{ReceiverState, domain, next_position, limit_of, receiver_ops, receiver_with_piece, receiver_after_command, receiver_after_read, fresh_receiver}
 use Rattle.net_receiver.specs.Finite.{FiniteState, no_end, top_of, knows_end, can_end, below_end, end_after, has_other_end, finite_after, finite_after_read, bytes_result, finite_result, with_error, fresh_finite, IsSoundEnd}
 use Rattle.net_receiver.specs.declared.receiver.head.ReceiverHead.{ReceiverHead}
 use Rattle.net_assembler.specs.declared.assembler.error.TooManyHolesError.{TooManyHolesError}
-use Rattle.net_receiver.specs.declared.receiver.kept.Kept.{Kept}
+use Rattle.net_receiver.specs.declared.receiver.kept_bytes.KeptBytes.{KeptBytes}
 use Rattle.net_receiver.specs.declared.finite.error.FiniteError.TheVariants as errors
 use Rattle.net_receiver.specs.Head.{receiver_of, HasSoundParts}
 use Rattle.net_ring.specs.Ring.{RingState, queue, spare}
@@ -168,18 +168,18 @@ module _ (N : ℕ) (s : FiniteState) (pos : ℕ) (xs : List ℕ) (last : Bool) w
   })
 
   module _ (other : has_other_end s (pos + length xs) last ≡ false) (cut : List ℕ) (cut_is : cut ≡ below_end s pos xs) (u : ReceiverState)
-      (u_is : u ≡ receiver_after_command N s.receiver (Segment pos cut)) (r : Result Kept TooManyHolesError)
-      (r_is : r ≡ segment_result receiver_ops s.receiver (verdict receiver_ops N s.receiver (piece pos cut)))
+      (u_is : u ≡ receiver_after_command N s.receiver (Segment pos cut)) (r : Result KeptBytes TooManyHolesError)
+      (r_is : r ≡ numbers receiver_ops s.receiver (verdict receiver_ops N s.receiver (piece pos cut)))
     where
       result_is : r ≡ bytes_result N s pos xs last
-      result_is = r_is ∙ ap (λ ys. segment_result receiver_ops s.receiver (verdict receiver_ops N s.receiver (piece pos ys))) cut_is
+      result_is = r_is ∙ ap (λ ys. numbers receiver_ops s.receiver (verdict receiver_ops N s.receiver (piece pos ys))) cut_is
 
       state_is : u ≡ receiver_after_command N s.receiver (Segment pos (below_end s pos xs))
       state_is = u_is ∙ ap (λ ys. receiver_after_command N s.receiver (Segment pos ys)) cut_is
 
       pub left_state : (e : ℕ) → e ≡ cond (is_ok r) (end_after s (pos + length xs) last) s.end → record { receiver = u; end = e } ≡ finite_after N s pos xs last
       left_state e e_is =
-          (λ i. record { receiver = state_is i; end = (e_is ∙ ap (λ (q : Result Kept TooManyHolesError). cond (is_ok q) (end_after s (pos + length xs) last) s.end) result_is) i })
+          (λ i. record { receiver = state_is i; end = (e_is ∙ ap (λ (q : Result KeptBytes TooManyHolesError). cond (is_ok q) (end_after s (pos + length xs) last) s.end) result_is) i })
           ∙ (λ i. cond (sym other i) s (record {
             receiver = receiver_after_command N s.receiver (Segment pos (below_end s pos xs));
             end = cond (is_ok (bytes_result N s pos xs last)) (end_after s (pos + length xs) last) s.end;
@@ -193,13 +193,3 @@ pub fresh_sound_end : (first capacity : ℕ) → first < no_end → IsSoundEnd (
 fresh_sound_end first capacity h =
     let none : top_of (fresh_receiver first capacity) ≤ first = top_le (fresh_receiver first capacity) first (omega arith) (λ p there. absurd (both_ways _ (ap is_some (fin.get-empty nat_cmp p)) there)) in
     record { below = omega arith; number = omega arith }
-
--- the result in the reply to a segment
-result_in : ReplyValue → Result Kept TooManyHolesError
-result_in (SegmentReply r) = r
-result_in (ReadReply xs) = Err (record {})
-result_in (ShowReply n q w h) = Err (record {})
-
-pub same_result : (a b : Result Kept TooManyHolesError) → SegmentReply a ≡ SegmentReply b → a ≡ b
-unfolding result_in
-same_result a b e = ap result_in e

@@ -141,7 +141,7 @@ module _ {h : ReceiverHead} {xs : List ℕ} {rs : List (ℕ × ℕ)} (s : HasSou
         abbrev IsKept : List ℕ → RingHead → Type 0
         IsKept ys to =
             (receiver_of (left to) ys rs' ≡ state_after receiver_ops v (verdict receiver_ops (length rs) v (piece pos bytes)))
-            × (Ok (kept, m) ≡ numbers receiver_ops v (verdict receiver_ops (length rs) v (piece pos bytes))) × HasSoundParts (left to) ys rs'
+            × (Ok (record { kept = kept; queued = m }) ≡ numbers receiver_ops v (verdict receiver_ops (length rs) v (piece pos bytes))) × HasSoundParts (left to) ys rs'
 
         pub kept_is : HasSoundRuns held rs' → runs (set_of held rs') ≤ length rs → length rs' ≡ length rs →
             (ahead ≡ 0) ⊎ (runs (with_range (set_of h.held rs) ahead kept) ≤ length rs) → (ys arg : List ℕ) (wrote : ℕ) →

@@ -21,9 +21,9 @@ use Rattle.net_assembler.specs.declared.assembler.error.TooManyHolesError.{TooMa
 use Rattle.net_assembler.specs.Positions.{bound_of, positions}
 use Rattle.net_receiver.specs.declared.finite.error.FiniteError.{FiniteError}
 use Rattle.net_receiver.specs.declared.finite.error.FiniteError.TheVariants as errors
-use Rattle.net_receiver.specs.declared.receiver.kept.Kept.{Kept}
+use Rattle.net_receiver.specs.declared.receiver.kept_bytes.KeptBytes.{KeptBytes}
 use Rattle.net_receiver.specs.KeptList.{piece}
-use Rattle.net_receiver.specs.Rules.{Segment, verdict, segment_result}
+use Rattle.net_receiver.specs.Rules.{Segment, verdict, numbers}
 use Rattle.net_receiver.specs.ReceiverState.{ReceiverState, domain, fresh_receiver, next_position, limit_of}
 use Rattle.net_receiver.specs.ReceiverState.{receiver_ops, receiver_after_command, receiver_after_read, IsSameState}
 
@@ -66,18 +66,18 @@ abbrev pub has_other_end : FiniteState → ℕ → Bool → Bool
 has_other_end s e last = last && not (can_end s e)
 
 -- the result of the bytes, with the errors of this receiver
-abbrev pub with_error : Result Kept TooManyHolesError → Result Kept FiniteError
+abbrev pub with_error : Result KeptBytes TooManyHolesError → Result KeptBytes FiniteError
 with_error (Ok kept) = Ok kept
 with_error (Err e) = Err errors.TooManyHoles
 
 module _ (most_runs : ℕ) (s : FiniteState) (pos : ℕ) (xs : List ℕ) (last : Bool) where
   -- the result of the bytes below the end
-  abbrev pub bytes_result : Result Kept TooManyHolesError
+  abbrev pub bytes_result : Result KeptBytes TooManyHolesError
   bytes_result =
-      segment_result receiver_ops s.receiver (verdict receiver_ops most_runs s.receiver (piece pos (below_end s pos xs)))
+      numbers receiver_ops s.receiver (verdict receiver_ops most_runs s.receiver (piece pos (below_end s pos xs)))
 
   -- the result of the segment
-  abbrev pub finite_result : Result Kept FiniteError
+  abbrev pub finite_result : Result KeptBytes FiniteError
   finite_result =
       if has_other_end s (pos + length xs) last then Err errors.OtherEnd else with_error bytes_result
 

@@ -13,6 +13,7 @@ use Rattle.net_assembler.specs.declared.assembler.error.TooManyHolesError.{TooMa
 use Rattle.net_assembler.specs.Assembler.{makes_too_many_runs}
 use Rattle.net_assembler.specs.Positions.{Positions, maximal_runs}
 use Rattle.net_receiver.specs.declared.receiver.kept.Kept.{Kept}
+use Rattle.net_receiver.specs.declared.receiver.kept_bytes.KeptBytes.{KeptBytes}
 use Rattle.net_receiver.specs.KeptList.{Piece, piece, piece_byte_at, piece_within}
 
 -- commands
@@ -46,9 +47,9 @@ abbrev pub first_three : List (ℕ × ℕ) → List (Option (ℕ × ℕ))
 first_three rs = slice_get rs 0 ∷ slice_get rs 1 ∷ slice_get rs 2 ∷ []
 
 -- the numbers, with the first three held runs after the segment
-abbrev pub with_sack : Result (ℕ × ℕ) TooManyHolesError → Positions → Result Kept TooManyHolesError
+abbrev pub with_sack : Result KeptBytes TooManyHolesError → Positions → Result Kept TooManyHolesError
 with_sack (Ok n) held =
-    Ok (record { kept = n.0; queued = n.1; sack = first_three (maximal_runs held) })
+    Ok (record { kept = n.kept; queued = n.queued; sack = first_three (maximal_runs held) })
 with_sack (Err e) held = Err e
 
 -- the operations of a receiver whose states are of type S: what a state tells, and what a kept piece and
@@ -83,11 +84,11 @@ module _ {S : Type 0} (ops : ReceiverOps S) where
   state_after s (Keeps part) = ops.with_piece s part
 
   -- how many bytes are kept, and how many join the queue, or the refusal
-  abbrev pub numbers : S → Verdict → Result (ℕ × ℕ) TooManyHolesError
-  numbers s KeepsNone = Ok (0, 0)
+  abbrev pub numbers : S → Verdict → Result KeptBytes TooManyHolesError
+  numbers s KeepsNone = Ok (record { kept = 0; queued = 0 })
   numbers s Refuses = Err (record {})
   numbers s (Keeps part) =
-      Ok (length part.bytes, ops.next (ops.with_piece s part) - ops.next s)
+      Ok (record { kept = length part.bytes; queued = ops.next (ops.with_piece s part) - ops.next s })
 
   -- the result of a segment
   abbrev pub segment_result : S → Verdict → Result Kept TooManyHolesError

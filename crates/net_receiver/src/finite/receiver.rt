@@ -10,7 +10,7 @@ ghost use Rattle.net_receiver.specs.FiniteLaws.{MatchesFinite, ReceivesFinite};
 
 use super::error::FiniteError;
 use super::receiver_head::NO_END;
-use crate::receiver::{Kept, ReceiverOver};
+use crate::receiver::{KeptBytes, ReceiverOver};
 use net_ring::{ManagedSlice, Storage};
 use std::marker::Model;
 
@@ -62,12 +62,12 @@ impl<S: Storage<u8>, const N: usize> FiniteReceiverOver<S, N> {
     {
         prove!(first < NO_END, "no number is left for an end");
         FiniteReceiverOver {
-            receiver: ReceiverOver::new_at(storage, first),
+            receiver: ReceiverOver::over_at(storage, first),
             end: NO_END,
         }
     }
 
-    /// Returns whether a segment fits: its bytes and an end after them have positions, as `segment`
+    /// Returns whether a segment fits: its bytes and an end after them have positions, as `keep`
     /// requires.
     pub fn fits(pos: u64, len: usize) -> bool
         ensures { IsTrue result ↔ (pos + len < no_end) }
@@ -118,7 +118,7 @@ impl<S: Storage<u8>, const N: usize> FiniteReceiverOver<S, N> {
     }
 
     /// Keeps the bytes of a segment that are in the free window and below the end, as
-    /// `ReceiverOver::segment` does. `is_last` says that the stream ends after the segment.
+    /// `ReceiverOver::keep` does. `is_last` says that the stream ends after the segment.
     ///
     /// The end is taken if it is at most the end of the free window: an end beyond that is cut off,
     /// as the bytes before it are, and is sent again. A segment is refused, and nothing changes, if
@@ -127,7 +127,7 @@ impl<S: Storage<u8>, const N: usize> FiniteReceiverOver<S, N> {
     /// # Requires
     ///
     /// The segment fits, as `fits` tests.
-    pub fn segment(&mut self, pos: u64, bytes: &[u8], is_last: bool) -> Result<Kept, FiniteError>
+    pub fn keep(&mut self, pos: u64, bytes: &[u8], is_last: bool) -> Result<KeptBytes, FiniteError>
         requires { pos + length bytes.now < no_end }
         ensures state { self.new ≡ finite_after N self.old pos bytes.now is_last }
         ensures value { result ≡ finite_result N self.old pos bytes.now is_last }
@@ -141,7 +141,7 @@ impl<S: Storage<u8>, const N: usize> FiniteReceiverOver<S, N> {
         }
         let end = self.end_after(last, is_last);
         let count = (bytes.len() as u64).min(self.end.saturating_sub(pos)) as usize;
-        match self.receiver.segment(pos, &bytes[..count]) {
+        match self.receiver.keep(pos, &bytes[..count]) {
             Ok(kept) => {
                 self.end = end;
                 Ok(kept)

@@ -13,7 +13,7 @@ ghost use Rattle.net_receiver.specs.Head.{receiver_of, HasSoundParts};
 ghost use Rattle.net_receiver.specs.FiniteHead.{finite_of, HasSoundFinite, next_of};
 
 use super::error::FiniteError;
-use crate::receiver::{Kept, ReceiverHead};
+use crate::receiver::{KeptBytes, ReceiverHead};
 use net_assembler::Run;
 
 /// What stands for the end's position while that isn't known.
@@ -66,7 +66,7 @@ impl FiniteReceiverHead {
                 .has_all_below(storage, runs, self.end.min(NO_END - 1))
     }
 
-    /// Returns whether a segment fits: its bytes and an end after them have positions, as `segment`
+    /// Returns whether a segment fits: its bytes and an end after them have positions, as `keep`
     /// requires.
     pub fn fits(pos: u64, len: usize) -> bool
         ensures { IsTrue result ↔ (pos + len < no_end) }
@@ -137,7 +137,7 @@ impl FiniteReceiverHead {
     }
 
     /// Keeps the bytes of a segment that are in the free window and below the end, as
-    /// `ReceiverOver::segment` does. `is_last` says that the stream ends after the segment.
+    /// `ReceiverOver::keep` does. `is_last` says that the stream ends after the segment.
     ///
     /// The end is taken if it is at most the end of the free window: an end beyond that is cut off,
     /// as the bytes are before it, and is sent again. A segment is refused, and nothing changes, if
@@ -147,14 +147,14 @@ impl FiniteReceiverHead {
     ///
     /// Head, storage and runs are sound, as `is_sound` tests, and the segment fits, as `fits` tests.
     #[inline]
-    pub fn segment(
+    pub fn keep(
         &mut self,
         storage: &mut [u8],
         runs: &mut [Run],
         pos: u64,
         bytes: &[u8],
         is_last: bool,
-    ) -> Result<Kept, FiniteError>
+    ) -> Result<KeptBytes, FiniteError>
         requires sound { HasSoundFinite self.old storage.old runs.old }
         requires fits { pos + length bytes.now < no_end }
         ensures sound { HasSoundFinite self.new storage.new runs.new }
@@ -176,7 +176,7 @@ impl FiniteReceiverHead {
         }
         let end = self.end_after(storage, runs, last, is_last);
         let count = self.count_below(pos, bytes.len());
-        match self.receiver.segment(storage, runs, pos, &bytes[..count]) {
+        match self.receiver.keep(storage, runs, pos, &bytes[..count]) {
             Ok(kept) => {
                 self.end = end;
                 Ok(kept)

@@ -1,23 +1,21 @@
 //! A receiver in parts: a head of numbers, a storage, and runs that are kept elsewhere.
-ghost use Rattle.std.specs.Prelude.{◌≡◌, ◌↔◌, ℕ, ◌+◌, ◌-◌, ◌<◌, ◌≤◌, ◌^◌, ◌%◌, min, List, ◌++◌, length};
-ghost use Rattle.std.specs.Prelude.{take, drop, slice_range, All, IsTrue, OnErr, Some, None};
-ghost use Rattle.net_ring.specs.Ring.{queue, contiguous_allocated, contiguous_queued};
-ghost use Rattle.net_ring.specs.RingHead.{IsSound as IsSoundPlace, ring_at};
-ghost use Rattle.net_assembler.specs.Positions.{contains, maximal_runs};
+ghost use Rattle.std.specs.Prelude.{◌≡◌, ◌↔◌, ℕ, ◌+◌, ◌-◌, ◌<◌, ◌≤◌, ◌^◌, ◌%◌, List, length};
+ghost use Rattle.std.specs.Prelude.{All, IsTrue, OnErr, Some, None};
+ghost use Rattle.net_assembler.specs.Positions.{contains, maximal_runs, runs as run_count};
 ghost use Rattle.net_assembler.specs.RunLists.{HasSoundRuns, IsCanonical, set_of};
 ghost use Rattle.net_receiver.specs.KeptList.{piece};
-ghost use Rattle.net_receiver.specs.Rules.{first_three, verdict, state_after, numbers};
-ghost use Rattle.net_receiver.specs.Rules.{segment_result};
-ghost use Rattle.net_receiver.specs.Rules.{Segment, SegmentReply, Read, ReadReply};
+ghost use Rattle.net_receiver.specs.Rules.{verdict, state_after, numbers};
 ghost use Rattle.net_receiver.specs.ReceiverState.{fresh_receiver, domain, limit_of};
 ghost use Rattle.net_receiver.specs.ReceiverState.{next_position};
-ghost use Rattle.net_receiver.specs.ReceiverState.{receiver_ops, receiver_after_read, IsSameState};
-ghost use Rattle.net_receiver.specs.ReceiverState.{StepRefines};
+ghost use Rattle.net_receiver.specs.ReceiverState.{receiver_ops};
 ghost use Rattle.net_receiver.specs.OneStream.{ReceivesFrom, MatchesStream};
-ghost use Rattle.net_receiver.specs.Head.{receiver_of, HasSoundParts, storage_after, head_after_read};
+ghost use Rattle.net_receiver.specs.Head.{receiver_of, HasSoundParts, storage_after};
+
+mod comparison;
+mod reads;
 
 use super::held_runs::HeldRunIter;
-use super::kept::Kept;
+use super::kept_bytes::KeptBytes;
 use net_assembler::assembler::laws;
 use net_assembler::{AssemblerHead, Run, TooManyHolesError};
 use net_ring::RingHead;
@@ -63,6 +61,19 @@ impl ReceiverHead {
             },
             held: AssemblerHead::new(),
         }
+    }
+
+    /// Begins again: the head of a receiver of a stream that begins at position `first`, as `new`
+    /// returns it.
+    #[inline]
+    pub fn reset_at(&mut self, first: u64)
+        ensures sound { (storage : List ℕ) (runs : List (ℕ × ℕ)) →
+            HasSoundParts self.new storage runs }
+        ensures state { (storage : List ℕ) (runs : List (ℕ × ℕ)) →
+            receiver_of self.new storage runs ≡ fresh_receiver first (length storage) }
+        ensures canonical { IsCanonical self.new.held }
+    {
+        *self = ReceiverHead::new(first);
     }
 
     /// Returns whether this head, a storage and runs are sound: those of a receiver. It takes a look
@@ -177,59 +188,6 @@ impl ReceiverHead {
         read.checked_add(capacity as u64)
     }
 
-    /// Keeps the bytes of a segment that are in the free window, as `ReceiverOver::segment` does. If
-    /// it is refused, head, storage and runs stay as they were, with the runs that aren't in use.
-    ///
-    /// # Requires
-    ///
-    /// Head, storage and runs are sound, as `is_sound` tests, and the segment ends within 64 bits,
-    /// as `ReceiverOver::fits` tests.
-    #[inline(always)]
-    pub fn segment(
-        &mut self,
-        storage: &mut [u8],
-        runs: &mut [Run],
-        pos: u64,
-        bytes: &[u8],
-    ) -> Result<Kept, TooManyHolesError>
-        requires sound { HasSoundParts self.old storage.old runs.old }
-        requires fits { pos + length bytes.now < 2 ^ 64 }
-        ensures sound { HasSoundParts self.new storage.new runs.new }
-        ensures state { let v = receiver_of self.old storage.old runs.old in
-            receiver_of self.new storage.new runs.new ≡ state_after receiver_ops v
-            (verdict receiver_ops (length runs.old) v (piece pos bytes.now)) }
-        ensures step { StepRefines (length runs.old) (receiver_of self.old storage.old runs.old)
-            (receiver_of self.new storage.new runs.new)
-            (Segment pos bytes.now) (SegmentReply result) }
-        ensures receives { (f : ℕ) (x : List ℕ) →
-            ReceivesFrom f x (receiver_of self.old storage.old runs.old) →
-            MatchesStream f x pos bytes.now →
-            ReceivesFrom f x (receiver_of self.new storage.new runs.new) }
-        ensures stored { let v = receiver_of self.old storage.old runs.old in
-            storage.new ≡ storage_after self.old storage.old
-            (verdict receiver_ops (length runs.old) v (piece pos bytes.now)) }
-        ensures value { let v = receiver_of self.old storage.old runs.old in
-            result ≡ segment_result receiver_ops v
-            (verdict receiver_ops (length runs.old) v (piece pos bytes.now)) }
-        ensures unchanged { OnErr result ((self.new ≡ self.old) × (storage.new ≡ storage.old)
-            × (runs.new ≡ runs.old)) }
-        ensures canonical { IsCanonical self.old.held → IsCanonical self.new.held }
-    {
-        let (kept, queued) = self.keep(storage, runs, pos, bytes)?;
-        let sack = self.first_runs(storage, runs);
-        Ok(Kept { kept, queued, sack })
-    }
-
-    /// Returns the first three held runs. The storage is for the contract only.
-    #[inline(always)]
-    fn first_runs(&self, storage: &[u8], runs: &[Run]) -> [Option<(u64, u64)>; 3]
-        requires { HasSoundParts self.now storage.now runs.now }
-        ensures { result ≡ first_three (maximal_runs (domain (receiver_of self.now storage.now runs.now).held)) }
-    {
-        let mut held = self.held(storage, runs);
-        [held.next(), held.next(), held.next()]
-    }
-
     /// Returns the held runs as absolute (start, end), the end not included, in rising order, at
     /// most as many as `runs` has elements. Each begins above `next` and ends within the free
     /// window. The storage is for the contract only.
@@ -253,16 +211,37 @@ impl ReceiverHead {
         HeldRunIter::over(self.held.iter_data(runs), self.next())
     }
 
-    /// Keeps what `segment` keeps, and returns how many bytes are kept, and how many joined the
-    /// queue.
+    /// Returns how many runs are held, without a look at them. Storage and runs are for the contract
+    /// only.
+    ///
+    /// # Requires
+    ///
+    /// Head, storage and runs are sound, as `is_sound` tests.
     #[inline(always)]
-    fn keep(
+    pub fn held_count(&self, storage: &[u8], runs: &[Run]) -> usize
+        requires { HasSoundParts self.now storage.now runs.now }
+        ensures { result ≡ run_count (domain (receiver_of self.now storage.now runs.now).held) }
+    {
+        // Taken only for the precondition.
+        let _parts = (storage.len(), runs.len());
+        self.held.used
+    }
+
+    /// Keeps the bytes of a segment that are in the free window, as `ReceiverOver::keep` does. If it is
+    /// refused, head, storage and runs stay as they were, with the runs that aren't in use.
+    ///
+    /// # Requires
+    ///
+    /// Head, storage and runs are sound, as `is_sound` tests, and the segment ends within 64 bits,
+    /// as `ReceiverOver::fits` tests.
+    #[inline(always)]
+    pub fn keep(
         &mut self,
         storage: &mut [u8],
         runs: &mut [Run],
         pos: u64,
         bytes: &[u8],
-    ) -> Result<(usize, usize), TooManyHolesError>
+    ) -> Result<KeptBytes, TooManyHolesError>
         requires sound { HasSoundParts self.old storage.old runs.old }
         requires fits { pos + length bytes.now < 2 ^ 64 }
         ensures sound { HasSoundParts self.new storage.new runs.new }
@@ -278,13 +257,17 @@ impl ReceiverHead {
         ensures unchanged { OnErr result ((self.new ≡ self.old) × (storage.new ≡ storage.old)
             × (runs.new ≡ runs.old)) }
         ensures canonical { IsCanonical self.old.held → IsCanonical self.new.held }
+        ensures receives { (f : ℕ) (x : List ℕ) →
+            ReceivesFrom f x (receiver_of self.old storage.old runs.old) →
+            MatchesStream f x pos bytes.now →
+            ReceivesFrom f x (receiver_of self.new storage.new runs.new) }
     {
         let next = self.next();
         let window = self.window(storage.len());
         let late = next.saturating_sub(pos);
         let ahead = pos.saturating_sub(next);
         if late >= bytes.len() as u64 || ahead >= window as u64 {
-            return Ok((0, 0));
+            return Ok(KeptBytes { kept: 0, queued: 0 });
         }
         let rest = &bytes[late as usize..];
         let offset = ahead as usize;
@@ -292,186 +275,6 @@ impl ReceiverHead {
         let queued = self.held.add_then_remove_front(runs, offset, kept)?;
         self.place.write_unallocated(storage, offset, &rest[..kept]);
         self.place.enqueue(storage.len(), queued);
-        Ok((kept, queued))
-    }
-}
-
-/// Reading: bytes at the head of the queue, copied out or shown. These calls need no runs.
-impl ReceiverHead {
-    /// Moves bytes from the head of the queue to the beginning of `into`, and returns how many: as
-    /// many as are queued and as `into` has room for. The rest of `into` stays as it is.
-    ///
-    /// # Requires
-    ///
-    /// The queue is in the storage, and the first missing position fits 64 bits, as they do where
-    /// head, storage and runs are sound.
-    #[inline]
-    pub fn read(&mut self, storage: &[u8], into: &mut [u8]) -> usize
-        requires place { IsSoundPlace (length storage.now) self.old.place }
-        requires fits { self.old.first + self.old.count_read + self.old.place.length < 2 ^ 64 }
-        ensures count { result ≡ min (length into.old) self.old.place.length }
-        ensures into { let queued = queue (ring_at storage.now self.old.place) in
-            into.new ≡ take (length into.old) queued ++ drop (length queued) into.old }
-        ensures head { self.new ≡ head_after_read (length storage.now) result self.old }
-        ensures sound { (runs : List (ℕ × ℕ)) → HasSoundParts self.old storage.now runs →
-            HasSoundParts self.new storage.now runs }
-        ensures state { (runs : List (ℕ × ℕ)) → HasSoundParts self.old storage.now runs →
-            receiver_of self.new storage.now runs
-            ≡ receiver_after_read (receiver_of self.old storage.now runs) (length into.old) }
-        ensures step { (runs : List (ℕ × ℕ)) → HasSoundParts self.old storage.now runs →
-            StepRefines (length runs) (receiver_of self.old storage.now runs)
-            (receiver_of self.new storage.now runs)
-            (Read (length into.old)) (ReadReply (take result into.new)) }
-        ensures receives { (runs : List (ℕ × ℕ)) → HasSoundParts self.old storage.now runs →
-            (f : ℕ) (x : List ℕ) → ReceivesFrom f x (receiver_of self.old storage.now runs) →
-            ReceivesFrom f x (receiver_of self.new storage.now runs)
-            × (take result into.new
-            ≡ slice_range x self.old.count_read (self.old.count_read + result)) }
-    {
-        let count = self.place.dequeue_slice(storage, into);
-        self.count_read += count as u64;
-        count
-    }
-
-    /// Removes the first `count` bytes of the queue, as `read` does, and copies none. `capacity` is
-    /// how many bytes the storage has.
-    ///
-    /// # Requires
-    ///
-    /// The queue is in the storage, it has `count` bytes, and the first missing position fits 64
-    /// bits.
-    #[inline]
-    pub fn remove(&mut self, capacity: usize, count: usize)
-        requires place { IsSoundPlace capacity self.old.place }
-        requires queued { count ≤ self.old.place.length }
-        requires fits { self.old.first + self.old.count_read + self.old.place.length < 2 ^ 64 }
-        ensures head { self.new ≡ head_after_read capacity count self.old }
-        ensures sound { (storage : List ℕ) (runs : List (ℕ × ℕ)) → length storage ≡ capacity →
-            HasSoundParts self.old storage runs → HasSoundParts self.new storage runs }
-        ensures state { (storage : List ℕ) (runs : List (ℕ × ℕ)) → length storage ≡ capacity →
-            HasSoundParts self.old storage runs → receiver_of self.new storage runs
-            ≡ receiver_after_read (receiver_of self.old storage runs) count }
-        ensures step { (storage : List ℕ) (runs : List (ℕ × ℕ)) → length storage ≡ capacity →
-            HasSoundParts self.old storage runs →
-            StepRefines (length runs) (receiver_of self.old storage runs)
-            (receiver_of self.new storage runs)
-            (Read count) (ReadReply (take count (queue (ring_at storage self.old.place)))) }
-        ensures receives { (storage : List ℕ) (runs : List (ℕ × ℕ)) → length storage ≡ capacity →
-            HasSoundParts self.old storage runs → (f : ℕ) (x : List ℕ) →
-            ReceivesFrom f x (receiver_of self.old storage runs) →
-            ReceivesFrom f x (receiver_of self.new storage runs)
-            × (take count (queue (ring_at storage self.old.place))
-            ≡ slice_range x self.old.count_read (self.old.count_read + count)) }
-    {
-        self.place.dequeue(capacity, count);
-        self.count_read += count as u64;
-    }
-
-    /// Shows bytes of the queue that are contiguous, from its byte `offset` on: `size`, or as many
-    /// as there are up to the end of the queue or of the storage.
-    ///
-    /// # Requires
-    ///
-    /// The queue is in the storage.
-    #[inline]
-    pub fn peek<'a>(&self, storage: &'a [u8], offset: usize, size: usize) -> &'a [u8]
-        requires { IsSoundPlace (length storage.now) self.now.place }
-        ensures count { let g = ring_at storage.now self.now.place in
-            length result.now ≡ contiguous_allocated g offset size }
-        ensures not_empty { offset < self.now.place.length → 0 < size → 0 < length result.now }
-        ensures value { let g = ring_at storage.now self.now.place in
-            result.now ≡ take (length result.now) (drop offset (queue g)) }
-    {
-        let span = self.place.allocated(storage.len(), offset, size);
-        &storage[span.from..span.from + span.contiguous]
-    }
-
-    /// Copies bytes from the head of the queue to the beginning of `into`, and returns how many: as
-    /// many as are queued and as `into` has room for. The rest of `into` stays as it is, and the
-    /// queue too.
-    ///
-    /// # Requires
-    ///
-    /// The queue is in the storage.
-    #[inline]
-    pub fn peek_slice(&self, storage: &[u8], into: &mut [u8]) -> usize
-        requires { IsSoundPlace (length storage.now) self.now.place }
-        ensures count { result ≡ min (length into.old) self.now.place.length }
-        ensures into { let queued = queue (ring_at storage.now self.now.place) in
-            into.new ≡ take (length into.old) queued ++ drop (length queued) into.old }
-    {
-        self.place.read_allocated(storage, 0, into)
-    }
-
-    /// Shows the queue, in order, in two parts: the bytes up to the storage's end, and those from
-    /// its beginning on. The second part is empty unless the queue wraps.
-    ///
-    /// # Requires
-    ///
-    /// The queue is in the storage.
-    #[inline]
-    pub fn as_slices<'a>(&self, storage: &'a [u8]) -> (&'a [u8], &'a [u8])
-        requires { IsSoundPlace (length storage.now) self.now.place }
-        ensures queue { result.0.now ++ result.1.now ≡ queue (ring_at storage.now self.now.place) }
-        ensures cut { length result.0.now ≡ contiguous_queued (ring_at storage.now self.now.place) }
-    {
-        let span = self.place.allocated(storage.len(), 0, self.place.length);
-        (
-            &storage[span.from..span.from + span.contiguous],
-            &storage[..span.count - span.contiguous],
-        )
-    }
-}
-
-/// Comparing what two receivers store.
-impl ReceiverHead {
-    /// Returns whether first position, count of bytes read, queued bytes and held runs are equal.
-    /// The held bytes are not compared, nor are the capacities.
-    ///
-    /// # Requires
-    ///
-    /// Both heads are sound with their storages and runs, as `is_sound` tests.
-    pub fn is_same_state(
-        &self,
-        storage: &[u8],
-        runs: &[Run],
-        other: &ReceiverHead,
-        other_storage: &[u8],
-        other_runs: &[Run],
-    ) -> bool
-        requires sound { HasSoundParts self.now storage.now runs.now }
-        requires other_sound { HasSoundParts other.now other_storage.now other_runs.now }
-        ensures { IsTrue result ↔ IsSameState (receiver_of self.now storage.now runs.now)
-            (receiver_of other.now other_storage.now other_runs.now) }
-    {
-        laws::equal_maximal_runs();
-        self.first == other.first
-            && self.count_read == other.count_read
-            && self.is_same_queue(storage, other, other_storage)
-            && self.held.is_same(runs, &other.held, other_runs)
-    }
-
-    /// Returns whether two receivers have equal queues, compared slice by slice.
-    fn is_same_queue(&self, storage: &[u8], other: &ReceiverHead, other_storage: &[u8]) -> bool
-        requires place { IsSoundPlace (length storage.now) self.now.place }
-        requires other_place { IsSoundPlace (length other_storage.now) other.now.place }
-        ensures { IsTrue result ↔ (queue (ring_at storage.now self.now.place)
-            ≡ queue (ring_at other_storage.now other.now.place)) }
-    {
-        let length = self.place.length;
-        if length != other.place.length {
-            return false;
-        }
-        let mut at = 0;
-        while at < length {
-            let here = self.peek(storage, at, length - at);
-            let there = other.peek(other_storage, at, here.len());
-            let here = &here[..there.len()];
-            if here != there {
-                return false;
-            }
-            at += there.len();
-        }
-        true
+        Ok(KeptBytes { kept, queued })
     }
 }

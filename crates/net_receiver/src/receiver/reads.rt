@@ -67,20 +67,30 @@ impl<S: Storage<u8>, const N: usize> ReceiverOver<S, N> {
         self.head.peek(whole(&self.storage), offset, size)
     }
 
+    /// Shows at most `size` bytes of the queue, from its byte `offset` on, in two parts: those up to the
+    /// storage's end, and those from its beginning on. The second part is empty unless the bytes wrap.
+    ///
+    /// `peek` shows the first of them alone. smoltcp has no such call.
+    pub fn peek_slices(&self, offset: usize, size: usize) -> (&[u8], &[u8])
+        ensures bytes { result.0.now ++ result.1.now ≡ take size (drop offset self.now.queue) }
+        ensures cut { length result.0.now ≡ contiguous_count_from self.now offset size }
+    {
+        self.head.peek_slices(whole(&self.storage), offset, size)
+    }
+
     /// Copies bytes from the head of the queue to the beginning of `into`, and returns how many:
     /// as many as are queued and as `into` has room for. The rest of `into` stays as it is, and
     /// the queue too: the bytes are those that a `read` would take.
-    pub fn peek_slice(&mut self, into: &mut [u8]) -> usize
-        ensures unchanged { self.new ≡ self.old }
-        ensures count { result ≡ min (length into.old) (length self.old.queue) }
+    pub fn peek_slice(&self, into: &mut [u8]) -> usize
+        ensures count { result ≡ min (length into.old) (length self.now.queue) }
         ensures into { into.new ≡
-            take (length into.old) self.old.queue ++ drop (length self.old.queue) into.old }
+            take (length into.old) self.now.queue ++ drop (length self.now.queue) into.old }
         ensures reply { ReadReply (take result into.new)
-            ≡ receiver_reply N self.old (Read (length into.old)) }
-        ensures step { (s : KeptState) → Refines self.old s → ReadReply (take result into.new)
-            ≡ kept_reply (setting N self.old) s (Read (length into.old)) }
-        ensures bytes { (f : ℕ) (x : List ℕ) → ReceivesFrom f x self.old → take result into.new
-            ≡ slice_range x self.old.read (self.old.read + result) }
+            ≡ receiver_reply N self.now (Read (length into.old)) }
+        ensures step { (s : KeptState) → Refines self.now s → ReadReply (take result into.new)
+            ≡ kept_reply (setting N self.now) s (Read (length into.old)) }
+        ensures bytes { (f : ℕ) (x : List ℕ) → ReceivesFrom f x self.now → take result into.new
+            ≡ slice_range x self.now.read (self.now.read + result) }
     {
         self.head.peek_slice(whole(&self.storage), into)
     }

@@ -5,4 +5,4 @@ use Rattle.net_receiver.proofs.finite.receiver.FiniteReceiverOver.new_at.Goals a
 
 pub invariant_of-result : goal.invariant_of-result
 invariant_of-result g c =
-    subst (λ v. IsSoundEnd (record { receiver = v; end = no_end })) (sym c.new_at.ensures.state) (fresh_sound_end c.args.first _ c.requires.number)
+    subst (λ v. IsSoundEnd (record { receiver = v; end = no_end })) (sym c.over_at.ensures.state) (fresh_sound_end c.args.first _ c.requires.number)

@@ -9,6 +9,7 @@ use Rattle.net_receiver.specs.KeptList.{piece}
 use Rattle.net_receiver.specs.Rules.{verdict, state_after, numbers}
 use Rattle.net_receiver.specs.ReceiverState.{receiver_ops}
 use Rattle.net_receiver.specs.Head.{receiver_of, HasSoundParts}
+use Rattle.net_receiver.proofs.Called.{segment_receives}
 use Rattle.net_receiver.proofs.Heads.{cut_of, refused, refused_stores, joined_fits, kept_is, kept_stores}
 use Rattle.net_receiver.proofs.Placed.{front_removed}
 use Rattle.net_receiver.proofs.Segment.{only_err, accepted_cases}
@@ -64,7 +65,7 @@ all : (c : goal.After-enqueue) →
     let v = receiver_of c.args.self.now c.args.storage.now c.args.runs.now in
     let x = verdict receiver_ops (length c.args.runs.now) v (piece c.args.pos c.args.bytes.now) in
     (receiver_of h c.write_unallocated.new.storage c.add_then_remove_front.new.runs ≡ state_after receiver_ops v x)
-    × (Ok (c.min-kept.result, c.in_ok-queued.queued) ≡ numbers receiver_ops v x)
+    × (Ok (record { kept = c.min-kept.result; queued = c.in_ok-queued.queued }) ≡ numbers receiver_ops v x)
     × HasSoundParts h c.write_unallocated.new.storage c.add_then_remove_front.new.runs
 all c =
     let cut = cut_of c.requires.sound c.next-next.ensures c.window-window.ensures c.saturating_sub-late.ensures c.saturating_sub-ahead.ensures
@@ -90,3 +91,10 @@ returns-clause-stored c =
     c.if-late-bytes.false c.if-ahead-window.false c.min-kept.ensures in
     kept_stores c.requires.sound cut c.requires.fits (added c) _ _ _ c.write_unallocated.ensures.ring
     (ap (take c.min-kept.result) (take_rest c.args.bytes.now c.saturating_sub-late.result)) c.write_unallocated.ensures.count
+
+pub returns-clause-receives : goal.returns-clause-receives
+returns-clause-receives c = λ f x r h. segment_receives (length c.args.runs.now) f x _ _ c.args.pos c.args.bytes.now (returns-clause-state c) r h
+
+pub returns-in_err-queued-clause-receives : goal.returns-in_err-queued-clause-receives
+returns-in_err-queued-clause-receives c =
+    λ f x r h. segment_receives (length c.args.runs.now) f x _ _ c.args.pos c.args.bytes.now (returns-in_err-queued-clause-state c) r h

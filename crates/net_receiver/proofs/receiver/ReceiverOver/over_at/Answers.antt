@@ -5,7 +5,7 @@ use Rattle.net_receiver.specs.ReceiverState.{Refines}
 use Rattle.net_receiver.specs.OneStream.{ReceivesFrom}
 use Rattle.net_receiver.proofs.Called.{fresh_receives_from}
 use Rattle.net_receiver.proofs.Whole.{fresh_refines}
-use Rattle.net_receiver.proofs.receiver.ReceiverOver.new_at.Goals as goal
+use Rattle.net_receiver.proofs.receiver.ReceiverOver.over_at.Goals as goal
 
 pub invariant_of-result : goal.invariant_of-result
 invariant_of-result g c = (c.new.ensures.sound (g.S.Storage.elements c.args.storage) _, length-replicate g.row.N (0, 0))

@@ -1,0 +1,20 @@
+use Rattle.std.proofs.Common.{length, sym, subst}
+use Rattle.net_receiver.specs.Schedule.{fresh_kept}
+use Rattle.net_receiver.specs.ReceiverState.{Refines}
+use Rattle.net_receiver.specs.OneStream.{ReceivesFrom}
+use Rattle.net_receiver.proofs.Called.{fresh_receives_from}
+use Rattle.net_receiver.proofs.Whole.{fresh_refines}
+use Rattle.net_receiver.proofs.receiver.ReceiverOver.reset_at.Goals as goal
+
+pub invariant_of-self : goal.invariant_of-self
+invariant_of-self g c = (c.reset_at.ensures.sound (g.S.Storage.elements c.self.inside.storage) c.self.inside.runs, c.self.invariant.1)
+
+pub returns-clause-refines : goal.returns-clause-refines
+returns-clause-refines g c =
+    let xs = g.S.Storage.elements c.self.inside.storage in
+    subst (λ v. Refines v fresh_kept) (sym (c.reset_at.ensures.state xs c.self.inside.runs)) (fresh_refines c.args.first (length xs))
+
+pub returns-clause-receives : goal.returns-clause-receives
+returns-clause-receives g c = λ x.
+    let xs = g.S.Storage.elements c.self.inside.storage in
+    subst (ReceivesFrom c.args.first x) (sym (c.reset_at.ensures.state xs c.self.inside.runs)) (fresh_receives_from x c.args.first (length xs))
