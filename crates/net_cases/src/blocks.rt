@@ -2,7 +2,7 @@
 use crate::assembler::Pair as Assemblers;
 use crate::call::Call;
 use crate::cells::cells;
-use crate::closing::closing;
+use crate::closing::finite_sender;
 use crate::ending::Ending;
 use crate::error::CaseError;
 use crate::fragments::Buffer;
@@ -280,8 +280,8 @@ fn play_closing(
     lines: &str,
     replies: &mut String,
 ) -> Result<bool, CaseError> {
-    let mut closing = closing(alloc, capacity, first)?;
-    play(alloc, &mut closing, lines, replies)
+    let mut sender = finite_sender(alloc, capacity, first)?;
+    play(alloc, &mut sender, lines, replies)
 }
 
 /// Makes the calls of lines on a subject. Each reply is the result of the call, and what can be seen of the

@@ -38,7 +38,7 @@ static CALLS: [Entry<Kind>; 6] = [
 ];
 
 /// Returns a sender over `capacity` bytes, of a stream that begins at `first`.
-pub fn closing(alloc: Global, capacity: u64, first: u64) -> Result<Closing, AllocError> {
+pub fn finite_sender(alloc: Global, capacity: u64, first: u64) -> Result<Closing, AllocError> {
     Ok(Closing {
         head: FiniteSenderHead::new(first),
         storage: pattern(alloc, capacity, 0)?,

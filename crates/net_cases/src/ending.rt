@@ -104,7 +104,7 @@ fn segment<const N: usize>(
     if !FiniteReceiver::<N>::fits(pos, bytes.len()) {
         return allowed(false);
     }
-    match receiver.segment(pos, bytes, is_last) {
+    match receiver.keep(pos, bytes, is_last) {
         Ok(kept) => Reply::new().count(kept.kept).count(kept.queued),
         Err(FiniteError::TooManyHoles) => Reply::word("refused"),
         Err(FiniteError::OtherEnd) => Reply::word("other_end"),

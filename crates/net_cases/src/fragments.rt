@@ -5,9 +5,9 @@ use crate::bytes::pattern;
 use crate::call::{Call, Entry, find};
 use crate::reply::{Part, Reply};
 use crate::subject::Subject;
+use net_base::storage::{FragmentBuffer, FragmentError};
 use net_base::time::Instant;
 use net_ring::ManagedSlice;
-use net_base::storage::{FragmentBuffer, FragmentError};
 use std::alloc::{AllocError, Global};
 
 /// A buffer.
