@@ -1,7 +1,7 @@
 //! Receivers of a stream that ends.
 use crate::show::{bytes, digest, mix_bytes, pattern, truth, START};
 use crate::{unless_panics, Call, Subject};
-use net_base::receiver::{FiniteError, FiniteReceiver};
+use net_base::finite::{FiniteError, FiniteReceiver};
 
 /// A receiver, and its stream's first position.
 struct Ending<'a, const N: usize> {
