@@ -45,7 +45,7 @@ static bool make(const struct call *call) {
             : status == NET_BASE_TOO_MANY_RUNS    ? "refused"
                                                   : "forbidden");
     } else if (is(call, "acknowledge")) {
-        if (net_base_scoreboard_acknowledge(&head, runs, run_count, one) != NET_BASE_DONE) return false;
+        if (!net_base_scoreboard_acknowledge(&head, runs, run_count, one)) return false;
         say("done");
     } else if (is(call, "contains")) {
         say_truth(net_base_scoreboard_contains(&head, runs, run_count, one) == NET_BASE_PRESENT);
