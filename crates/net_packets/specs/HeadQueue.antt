@@ -15,7 +15,8 @@ use Rattle.std.specs.declared.option.Option.TheVariants.{Some, None}
 use Rattle.net_ring.specs.Ring.{RingState, index_after, queue}
 use Rattle.net_ring.specs.RingHead.{ring_at}
 use Rattle.net_ring.specs.declared.head.RingHead.{RingHead}
-use Rattle.net_packets.specs.Packets.{PacketsState, bytes_used, ArePlaced, first_gap, first_size, without_gap, without_first}
+use Rattle.net_packets.specs.Packets.{PacketsState, bytes_used, ArePlaced, first_gap, first_size}
+use Rattle.net_packets.specs.Packets.{without_gap, without_first}
 use Rattle.net_packets.specs.PacketSlots.{slot, gap_slot, packet_slots, packets_in, packets_state}
 use Rattle.net_packets.specs.PacketsHead.{IsSoundHead, with_slot_taken}
 use Rattle.net_packets.specs.declared.head.PacketsHead.{PacketsHead}

@@ -79,7 +79,7 @@ static STEPS: [Step<'static>; 24] = [
 #[test]
 fn fragments_in_any_order_make_a_packet(rt: HostRuntime) {
     let mut bytes = [0u8; 8];
-    let mut packet = FragmentsOver::<&mut [u8], 2>::new(&mut bytes, Instant::from_micros(30));
+    let mut packet = FragmentsOver::<&mut [u8], 2>::over(&mut bytes, Instant::from_micros(30));
     for index in 0..STEPS.len() {
         assert_holds(&rt, does(&mut packet, &STEPS[index]), ("step", index));
     }

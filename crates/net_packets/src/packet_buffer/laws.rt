@@ -108,8 +108,8 @@ pub fn accepted_packets_leave_in_turn<H>()
         → (history calls).left ++ contents r ≡ (history calls).accepted }
 {}
 
-/// States how a queue changes in a loop that drops its oldest packets until a new one has room, for the invariant of that
-/// loop: by contents, and by states, in words of `Drops.antt` that a caller's proof keeps as names.
+/// States how a queue changes in a loop that drops its oldest packets until a new one has room, for the
+/// invariant of that loop: by contents, and by states, in words of `Drops.antt` that a caller's proof keeps as names.
 pub fn drops<H>()
     ensures contents { (k : ℕ) (p q r : PacketsState H) → contents q ≡ drop k (contents p)
         → contents r ≡ drop 1 (contents q) → contents r ≡ drop (k + 1) (contents p) }

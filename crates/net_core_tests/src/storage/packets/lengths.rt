@@ -23,6 +23,7 @@ fn gaps_are_no_packets(rt: HostRuntime) {
         ManagedSlice::Borrowed(&mut bytes),
     );
     assert!(rt; has(&queue, 0, 0) && takes(&mut queue, 3) && takes(&mut queue, 3));
-    assert!(rt; has(&queue, 2, 2) && queue.take().is_ok());
+    assert!(rt; has(&queue, 2, 2) && !queue.has_room(3) && queue.take().is_ok());
+    assert!(rt; queue.has_room(3));
     assert!(rt; takes(&mut queue, 3) && has(&queue, 2, 3));
 }

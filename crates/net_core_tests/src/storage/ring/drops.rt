@@ -64,7 +64,7 @@ fn a_ring_drops_its_storage(rt: HostRuntime) -> Result<(), Fail> {
 /// Makes a ring over a vector itself, enqueues so many elements, and drops it; returns how many values were dropped.
 fn drops_of_vector(alloc: Global, count: u32, first: usize) -> Result<u32, Fail> {
     let drops = Cell::new(0);
-    let mut ring = RingOver::<Counted<'_>, Vec<Counted<'_>>>::new(many(alloc, &drops, count)?);
+    let mut ring = RingOver::<Counted<'_>, Vec<Counted<'_>>>::over(many(alloc, &drops, count)?);
     ring.enqueue_many(first);
     drop(ring);
     Ok(drops.get())
@@ -116,7 +116,7 @@ fn drops_of_pushes(alloc: Global, count: u32, read_at: usize) -> Result<bool, Fa
     let ring = RingBuffer::from(many(alloc, &drops, count)?);
     let owned = drops_what_it_pushes(ring, &drops, count, read_at);
     let drops = Cell::new(0);
-    let ring = RingOver::<Counted<'_>, Vec<Counted<'_>>>::new(many(alloc, &drops, count)?);
+    let ring = RingOver::<Counted<'_>, Vec<Counted<'_>>>::over(many(alloc, &drops, count)?);
     Ok(owned && drops_what_it_pushes(ring, &drops, count, read_at))
 }
 

@@ -55,6 +55,25 @@ fn elements_one_after_another(rt: HostRuntime) {
     assert!(rt; shown(&ring, 3) == (3, Some(2)) && shown(&ring, 7) == (3, None));
 }
 
+/// Returns whether the queue 1, 2, 3 is iterated from the back, and its part from index 0 on is shown in two slices.
+fn shows_both_ways(ring: &RingBuffer<'_, u8>) -> bool {
+    let mut from_back = ring.iter();
+    let (first, second) = ring.allocated_slices(0, 2);
+    from_back.next_back().copied() == Some(3)
+        && from_back.next().copied() == Some(1)
+        && from_back.next_back().copied() == Some(2)
+        && from_back.next_back().is_none()
+        && first == [1u8].as_slice()
+        && second == [2u8].as_slice()
+}
+
+#[test]
+fn elements_from_the_back_and_in_two_parts(rt: HostRuntime) {
+    let mut elements = [7u8; 3];
+    let mut ring = RingBuffer::from(&mut elements);
+    assert!(rt; fills(&mut ring) && shows_both_ways(&ring));
+}
+
 #[test]
 fn the_last_element_leaves(rt: HostRuntime) {
     let mut elements = [7u8; 3];
