@@ -10,12 +10,15 @@ use Rattle.net_assembler.specs.Positions.{Positions, contains, positions, front,
 use Rattle.net_assembler.proofs.Positions.{either, Rises, positions-set_of_list, same_positions, contains-nothing, contains-with_range, contains-shift_up, contains-shift_down, first_missing-is, first_missing-misses, first_missing-has, first_missing-le, maximal_runs-shift_up}
 use Rattle.net_assembler.specs.AssemblerLaws.{Adds}
 use Rattle.net_assembler.specs.declared.assembler.error.TooManyHolesError.{TooManyHolesError}
-use Rattle.net_assembler.specs.RunLists.{IsRising, run_positions, set_of_runs}
+use Rattle.net_assembler.specs.RunLists.{IsRising, run_positions, set_of, set_of_runs}
 use Rattle.net_assembler.proofs.Runs.{rising_from}
 use Rattle.net_assembler.proofs.RunLists.{with_range-none}
 use Rattle.net_assembler.proofs.MaximalRuns.{are_maximal_runs, rising-maximal_runs, set_of_maximal_runs}
 use Rattle.net_receiver.specs.SackBlocks.{greatest_end, is_sacked}
-use Rattle.net_receiver.specs.Scoreboards.{board, sizes, offsets_of, beyond, IsEnd, IsNextHole, HasNoRoom}
+use Rattle.net_assembler.proofs.Heads.{maximal_runs-set_of, length-runs_of}
+use Rattle.net_assembler.proofs.ShiftedRuns.{length-up}
+use Rattle.net_receiver.specs.declared.scoreboard.head.ScoreboardHead.{ScoreboardHead}
+use Rattle.net_receiver.specs.Scoreboards.{board, reported_by, sizes, offsets_of, beyond, IsEnd, IsNextHole, HasNoRoom, IsSoundBoard}
 use Rattle.net_receiver.proofs.Runs.{IsShiftedUp, runs_shifted, ends_within}
 use Rattle.net_receiver.proofs.Scoreboards.{sacked}
 
@@ -345,7 +348,7 @@ positions_are : (rs : List (ℕ × ℕ)) → IsRising 0 rs → positions (set_of
 unfolding set_of_runs
 positions_are rs h = positions-set_of_list (run_positions rs) (runs_rise 0 rs h)
 
-number_of : (s : Positions) → length (positions s) ≡ sizes (maximal_runs s)
+pub number_of : (s : Positions) → length (positions s) ≡ sizes (maximal_runs s)
 number_of s =
     ap (λ t. length (positions t)) (sym (set_of_maximal_runs s))
     ∙ ap (λ ks. length ks) (positions_are (maximal_runs s) (rising-maximal_runs s)) ∙ sizes_are (maximal_runs s)
@@ -372,3 +375,10 @@ sizes_fit b s fits =
     let all = ends_within are_maximal_runs (2 ^ 64 - 1) s (λ p has. let l = fits p has in omega (arith, l)) in
     let few = sizes_within 0 (2 ^ 64 - 1) (maximal_runs s) (rising-maximal_runs s) all (omega arith) in
     omega (arith, few)
+
+-- as many runs as are stored
+pub as_many : (h : ScoreboardHead) (rs : List (ℕ × ℕ)) → IsSoundBoard h rs → h.reported.used ≡ length (maximal_runs (beyond (reported_by h rs)))
+as_many h rs sound =
+    let s = set_of h.reported rs in
+    sym (ap (λ t. length (maximal_runs t)) (beyond_board h.base s sound.begins) ∙ ap length (maximal_runs-shift_up s h.base)
+    ∙ length-up h.base (maximal_runs s) ∙ ap length (maximal_runs-set_of h.reported rs sound.runs) ∙ length-runs_of h.reported rs sound.runs)

@@ -27,6 +27,7 @@ pub mod WorkedExample
 pub mod Senders
 pub mod Represents
 pub mod Boards
+pub mod Losses
 pub mod Scoreboards
 pub mod NewestRuns
 pub mod NewBytes

@@ -1,10 +1,10 @@
 -- Facts of senders: the SACK block that begins next, and what is lent.
 use Rattle.std.proofs.Common.{cond, min, ◌≡◌, ℕ, suc, ◌+◌, ◌-◌, ◌<◌, ◌≤◌, nat_lt, true, false, refl, List, [], ◌∷◌, length, take, drop, get_or, drop-cons, length-take, length-append, length-drop, ◌++◌, ◌∙◌, arith, sym, ap}
 use Rattle.std.proofs.lemmas.Bool.Decides.{nat_tests}
-use Rattle.std.proofs.lemmas.List.{get_or-take, drop-drop, get_or-drop, drop-append-le}
+use Rattle.std.proofs.lemmas.List.{drop_all, get_or-take, drop-drop, get_or-drop, drop-append-le}
 use Rattle.net_receiver.specs.SackBlocks.{next_start, count_from, is_sacked}
 use Rattle.net_receiver.specs.OneStream.{MatchesStream, MatchesWhatIsThere}
-use Rattle.net_receiver.specs.SenderState.{SenderState, Sends, end_of, with_written, sender_from}
+use Rattle.net_receiver.specs.SenderState.{SenderState, sender_state, Sends, end_of, with_written, sender_from}
 
 -- of the first n elements, those from one on are it and those after it
 pub rest_of_first : {X : Type 0} (n i : ℕ) (xs : List X) (d : X) → i < n → n ≤ length xs →
@@ -82,3 +82,7 @@ sends_from f w v n ranges low high s =
       end = omega (arith, length-drop (n - v.first_unacknowledged) v.queue, s.end);
       queue = ap (drop (n - v.first_unacknowledged)) s.queue ∙ drop-drop (n - v.first_unacknowledged) (v.first_unacknowledged - f) w ∙ ap (λ k. drop k w) place;
     }
+
+-- nothing was written
+pub fresh_sends : (f capacity : ℕ) → Sends f [] (sender_state capacity f [] [] (f + capacity))
+fresh_sends f capacity = record { from = omega arith; end = omega arith; queue = sym (drop_all (f - f) [] (omega arith)) }

@@ -13,7 +13,7 @@ use Rattle.std.specs.FinMap as fin
 use Rattle.net_receiver.specs.KeptList.{piece}
 use Rattle.net_receiver.specs.Rules.{CommandValue, Segment, Read, Show}
 use Rattle.net_receiver.specs.Schedule.{Setting, KeptState, kept_after_commands, PieceAgrees, Agrees}
-use Rattle.net_receiver.specs.ReceiverState.{ReceiverState, fresh_receiver, next_position, receiver_after_command}
+use Rattle.net_receiver.specs.ReceiverState.{ReceiverState, fresh_receiver, next_position, receiver_after_command, IsSound}
 use Rattle.net_receiver.specs.ReceiverState.{limit_of, Refines}
 
 -- ---- the relations
@@ -136,6 +136,10 @@ NextGrows = (most_runs : ℕ) (v : ReceiverState) (c : CommandValue) →
 abbrev pub LimitGrows : Type 0
 LimitGrows = (most_runs : ℕ) (v : ReceiverState) (c : CommandValue) →
     limit_of v ≤ limit_of (receiver_after_command most_runs v c)
+
+-- the free window doesn't end before the first missing position
+abbrev pub LimitIsAfterNext : Type 0
+LimitIsAfterNext = (most_runs : ℕ) (v : ReceiverState) → IsSound most_runs v → next_position v ≤ limit_of v
 
 -- a segment reads nothing
 abbrev pub SegmentReadsNothing : Type 0

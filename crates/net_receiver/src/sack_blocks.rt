@@ -49,6 +49,7 @@ impl SackBlocks {
         requires { length self.old < most_sack_blocks }
         ensures { self.new ≡ self.old ++ (start, end) ∷ [] }
     {
+        prove!(self.count < MOST_SACK_BLOCKS, "there are 32 blocks");
         self.ranges[self.count] = (start, end);
         self.count += 1;
     }

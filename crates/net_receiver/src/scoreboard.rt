@@ -1,9 +1,9 @@
 //! A scoreboard: which positions a sender knows that the other end has.
-ghost use Rattle.std.specs.Prelude.{◌≡◌, ◌↔◌, ◌-◌, ◌≤◌, length, IsErr, OnOk, OnErr};
+ghost use Rattle.std.specs.Prelude.{◌≡◌, ◌↔◌, ◌-◌, ◌<◌, ◌≤◌, ℕ, length, true, Ok, IsTrue, IfOk, IsErr};
 ghost use Rattle.net_assembler.specs.Positions.{contains, first_missing, front, maximal_runs, nothing};
 ghost use Rattle.net_assembler.specs.Positions.{positions, with_range};
-ghost use Rattle.net_receiver.specs.Scoreboards.{HasNoRoom, IsEnd, IsNextHole, IsSoundBoard, beyond};
-ghost use Rattle.net_receiver.specs.Scoreboards.{reported_by};
+ghost use Rattle.net_receiver.specs.Losses.{IsHole, IsLossBound};
+ghost use Rattle.net_receiver.specs.Scoreboards.{HasNoRoom, IsEnd, IsSoundBoard, beyond, reported_by};
 
 mod head;
 
@@ -17,10 +17,10 @@ use std::marker::Model;
 ///
 /// Positions are absolute. Contracts see the set of those that were reported. At most `N` runs are
 /// stored beyond the first position that wasn't reported; what is below that needs none. No call takes
-/// memory. `next_hole` gives what isn't reported, range by range; what is sent again, and when, is the
-/// caller's choice. smoltcp has no such type: its TCP socket sends again from the first unacknowledged
-/// position on.
-#[derive(Debug, Drop)]
+/// memory. `next_lost` gives what is lost, range by range, and `next_hole` all that isn't reported, of
+/// which most may only be in flight; when it is sent again is the caller's choice. smoltcp has no such
+/// type: its TCP socket sends again from the first unacknowledged position on.
+#[derive(Clone, Drop)]
 pub struct Scoreboard<const N: usize> {
     head: ScoreboardHead,
     runs: [Run; N],
@@ -48,7 +48,7 @@ impl<const N: usize> Scoreboard<N> {
     /// # Requires
     ///
     /// `N` is at least 1.
-    pub fn new() -> Self
+    pub const fn empty() -> Self
         requires { 1 ≤ N }
         ensures { result ≡ nothing }
     {
@@ -64,7 +64,7 @@ impl<const N: usize> Scoreboard<N> {
     /// # Requires
     ///
     /// `N` is at least 1.
-    pub fn new_at(first: u64) -> Self
+    pub const fn empty_at(first: u64) -> Self
         requires { 1 ≤ N }
         ensures { result ≡ with_range nothing 0 first }
     {
@@ -83,6 +83,7 @@ impl<const N: usize> Scoreboard<N> {
         requires { IsSoundBoard head runs }
         ensures { result ≡ reported_by head runs.entry }
     {
+        prove!(head.is_sound(&runs), "the head is not that of these runs");
         Scoreboard { head, runs }
     }
 
@@ -96,22 +97,43 @@ impl<const N: usize> Scoreboard<N> {
         (head, runs)
     }
 
-    /// Reports the positions from `start` on and below `end`, as a SACK block does. Blocks may overlap.
-    ///
-    /// Returns an error, and changes nothing, exactly if the block begins beyond the first position that
-    /// wasn't reported, and there would be more than `N` runs beyond it. Then the block isn't known, and
-    /// its bytes are sent again.
-    ///
-    /// # Requires
-    ///
-    /// `start` is at most `end`, as `ScoreboardHead::is_block` tests.
-    pub fn report(&mut self, start: u64, end: u64) -> Result<(), TooManyHolesError>
-        requires { start ≤ end }
-        ensures ok { OnOk result (self.new ≡ with_range self.old start (end - start)) }
-        ensures unchanged { OnErr result (self.new ≡ self.old) }
-        ensures refused { IsErr result ↔ HasNoRoom N self.old start (end - start) }
+    /// Begins again: a stream that begins at position `first`, to which nothing was reported. All
+    /// positions below `first` count as reported.
+    pub fn reset_at(&mut self, first: u64)
+        ensures { self.new ≡ with_range nothing 0 first }
     {
-        self.head.report(&mut self.runs, start, end)
+        self.head.reset_at(first);
+    }
+
+    /// Forgets all that was reported, as when a retransmission timer ends (RFC 2018, section 8): then
+    /// `acknowledge` is called with what was acknowledged.
+    pub fn clear(&mut self)
+        ensures { self.new ≡ nothing }
+    {
+        self.head.reset_at(0);
+    }
+
+    /// Reports the positions from `start` on and below `end`, as a SACK block of an acknowledgement
+    /// does, and returns true. Blocks may overlap. `sent` is the position after the last byte that was
+    /// ever sent, as `Sender::mark_sent` keeps it.
+    ///
+    /// Returns false, and changes nothing, if it is no block of bytes that were sent: if `start` isn't
+    /// below `end`, or `end` is above `sent`. Returns an error, and changes nothing, exactly if the block
+    /// begins beyond the first position that wasn't reported, and there would be more than `N` runs
+    /// beyond it: then the block isn't known, and its bytes are sent again. On a processor of 32 bits it
+    /// is refused too if `end` is 2^32 or more above the first position that wasn't reported.
+    pub fn report(&mut self, start: u64, end: u64, sent: u64) -> Result<bool, TooManyHolesError>
+        ensures block { IfOk result (λ taken. IsTrue taken ↔ ((start < end) × (end ≤ sent))) }
+        ensures ok { result ≡ Ok true → self.new ≡ with_range self.old start (end - start) }
+        ensures unchanged { (result ≡ Ok true → ⊥) → self.new ≡ self.old }
+        ensures refused { IsErr result ↔ ((start < end) × (end ≤ sent)
+            × HasNoRoom N self.old start (end - start)) }
+    {
+        if !ScoreboardHead::is_block(start, end, sent) {
+            return Ok(false);
+        }
+        self.head.report(&mut self.runs, start, end)?;
+        Ok(true)
     }
 
     /// Reports all positions below `next`. It is never refused.
@@ -165,12 +187,38 @@ impl<const N: usize> Scoreboard<N> {
         self.head.first_missing(&self.runs, pos)
     }
 
-    /// Returns the next range to send again, as a start and an end: it begins at the first position
-    /// from `pos` on that wasn't reported, and ends at the next one that was, or at `limit`. If there
-    /// is none below `limit`, both are `limit`.
-    pub fn next_hole(&self, pos: u64, limit: u64) -> (u64, u64)
-        ensures { IsNextHole self.now pos limit result.0 result.1 }
+    /// Returns the next range that wasn't reported, as a start and an end, the end not included: it
+    /// begins at the first position from `pos` on that wasn't, and ends at the next one that was, or at
+    /// `limit`. `None` if there is none below `limit`. Of these bytes most may only be in flight.
+    pub fn next_hole(&self, pos: u64, limit: u64) -> Option<(u64, u64)>
+        ensures { IsHole self.now pos limit result }
     {
-        self.head.next_hole(&self.runs, pos, limit)
+        let (start, end) = self.head.next_hole(&self.runs, pos, limit);
+        if start < end {
+            Some((start, end))
+        } else {
+            None
+        }
+    }
+
+    /// Returns the position below which all that wasn't reported is lost, by the rule of RFC 6675,
+    /// section 4: above it `duplicates` runs were reported (3 in TCP; 0 counts as 1), or more bytes than
+    /// `duplicates - 1` segments of `segment_size` bytes have. It is 0 if nothing is lost.
+    pub fn lost_below(&self, duplicates: usize, segment_size: usize) -> u64
+        ensures { IsLossBound duplicates segment_size self.now result }
+    {
+        self.head.lost_below(&self.runs, duplicates, segment_size)
+    }
+
+    /// Returns the next range to send again, as `next_hole` does, of that which is lost, as `lost_below`
+    /// says: it begins at `pos` or above. `None` if nothing from `pos` on is lost.
+    ///
+    /// A caller sends it, passes its end as the next `pos`, and begins again at the first unacknowledged
+    /// position with the next recovery.
+    pub fn next_lost(&self, pos: u64, duplicates: usize, segment_size: usize) -> Option<(u64, u64)>
+        ensures { (limit : ℕ) → IsLossBound duplicates segment_size self.now limit →
+            IsHole self.now pos limit result }
+    {
+        self.next_hole(pos, self.lost_below(duplicates, segment_size))
     }
 }

@@ -99,8 +99,16 @@ impl<S: Storage<u8>> SenderOver<S> {
         (head, storage)
     }
 
-    /// Begins again: a stream that begins at position `first`, to which nothing was written, over the
-    /// same storage.
+    /// Returns the storage, of which the bytes can be any.
+    pub fn into_storage(self) -> S
+        ensures { length (S.elements result) ≡ self.capacity }
+    {
+        let SenderOver { head: _, storage } = self;
+        storage
+    }
+
+    /// Begins again over the same storage: a sender of a stream that begins at position `first`, to
+    /// which nothing was written.
     pub fn reset_at(&mut self, first: u64)
         ensures state { self.new
             ≡ sender_state self.old.capacity first [] [] (first + self.old.capacity) }
@@ -188,6 +196,28 @@ impl<S: Storage<u8>> SenderOver<S> {
         laws::matches_stream();
         let span = self.head.peek_at(self.storage.count(), pos, max);
         self.storage.part(span.from, span.from + span.contiguous)
+    }
+
+    /// Lends at most `max` of the queued bytes, from the one at `pos` on, in two parts: those up to the
+    /// storage's end, and those from its beginning on. The second part is empty unless the bytes wrap.
+    /// No byte is lent if the byte at `pos` isn't queued.
+    pub fn peek_slices_at(&self, pos: u64, max: usize) -> (&[u8], &[u8])
+        ensures bytes { self.now.first_unacknowledged ≤ pos → result.0.now ++ result.1.now
+            ≡ take max (drop (pos - self.now.first_unacknowledged) self.now.queue) }
+        ensures cut { self.now.first_unacknowledged ≤ pos
+            → length result.0.now ≡ min max (contiguous_end self.now pos - pos) }
+        ensures before { pos < self.now.first_unacknowledged →
+            (result.0.now ≡ []) × (result.1.now ≡ []) }
+        ensures says { (f : ℕ) (w : List ℕ) → Sends f w self.now → self.now.first_unacknowledged ≤ pos
+            → MatchesStream f w pos (result.0.now ++ result.1.now) }
+    {
+        laws::matches_stream();
+        let span = self.head.peek_at(self.storage.count(), pos, max);
+        let first = self
+            .storage
+            .part(span.from, span.from + span.contiguous);
+        let second = self.storage.part(0, span.count - span.contiguous);
+        (first, second)
     }
 
     /// Accepts an acknowledgement: dequeues all bytes below `next`, and returns true. A position below

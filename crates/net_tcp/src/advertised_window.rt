@@ -26,7 +26,7 @@ pub struct AdvertisedWindow {
 
 impl AdvertisedWindow {
     /// Returns a window of which nothing was announced, before the byte at `first`.
-    pub fn new(first: u64) -> Self
+    pub const fn new(first: u64) -> Self
         ensures { result.edge ≡ first }
     {
         AdvertisedWindow { edge: first }

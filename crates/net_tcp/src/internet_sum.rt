@@ -16,7 +16,7 @@ pub struct PartsSum {
 
 impl PartsSum {
     /// Returns the sum of no bytes.
-    pub fn new() -> Self
+    pub const fn new() -> Self
         ensures { Sums result [] }
     {
         PartsSum { sum: 0, odd: false }

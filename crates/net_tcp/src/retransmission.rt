@@ -1,5 +1,5 @@
 //! The time until a retransmission, in whole microseconds.
-ghost use Rattle.std.specs.Prelude.{◌≡◌, ◌≤◌, ◌/◌, ◌*◌, ◌^◌, ◌<◌, ◌↔◌, min, IsTrue};
+ghost use Rattle.std.specs.Prelude.{◌≡◌, ◌≤◌, ◌/◌, ◌*◌, ◌^◌, ◌<◌, ◌↔◌, min, IsTrue, None};
 ghost use Rattle.net_tcp.specs.RetransmissionTimeout.{sample, first_estimate, next_estimate};
 ghost use Rattle.net_tcp.specs.RetransmissionTimeout.{IsSmall, IsSmallIfAny, timeout_of, doubled};
 ghost use Rattle.net_tcp.specs.RetransmissionTimeout.{after_acknowledgement, after_sample};
@@ -106,8 +106,9 @@ pub struct RetransmissionTimeout {
 
 impl RetransmissionTimeout {
     /// Returns a timeout before any sample. The RFC has 1 second.
-    pub fn new(timeout: u64) -> Self
+    pub const fn new(timeout: u64) -> Self
         ensures value { result.timeout ≡ timeout }
+        ensures none { result.estimate ≡ None }
         ensures small { IsSmallIfAny result.estimate }
     {
         RetransmissionTimeout {
@@ -120,15 +121,27 @@ impl RetransmissionTimeout {
     ///
     /// # Requires
     ///
-    /// The estimate, if there is one, was made by samples.
+    /// The estimate, if there is one, was made by samples, as `is_small` tests.
     pub fn acknowledged(&mut self, bounds: TimeoutBounds, sent: Transmission, now: u64)
         requires { IsSmallIfAny self.old.estimate }
         ensures state { self.new ≡ after_acknowledgement bounds sent now self.old }
         ensures small { IsSmallIfAny self.new.estimate }
     {
+        prove!(self.is_small(), "an estimate that was not made by samples");
         match sent {
             Transmission::Once(at) => self.take_sample(bounds, now.saturating_sub(at)),
             Transmission::Repeated => {}
+        }
+    }
+
+    /// Returns whether the estimate, if there is one, has room for a sample, as any has that was made
+    /// by samples.
+    pub fn is_small(&self) -> bool
+        ensures { IsTrue result ↔ IsSmallIfAny self.now.estimate }
+    {
+        match self.estimate {
+            Some(estimate) => estimate.is_small(),
+            None => true,
         }
     }
 

@@ -34,7 +34,7 @@ fn arrive<const N: usize>(
     if !FiniteReceiver::<N>::fits(pos, bytes.len()) {
         return None;
     }
-    Some(match receiver.segment(pos, bytes, is_last) {
+    Some(match receiver.keep(pos, bytes, is_last) {
         Ok(kept) => Outcome::Keeps(kept.kept),
         Err(FiniteError::TooManyHoles) => Outcome::Holes,
         Err(FiniteError::OtherEnd) => Outcome::Other,
@@ -97,7 +97,7 @@ static STEPS: [Step; 22] = [
 #[test]
 fn the_end_arrives_in_any_order(rt: HostRuntime) {
     let mut storage = [0u8; 8];
-    let mut receiver = FiniteReceiver::<2>::new_at(ManagedSlice::Borrowed(&mut storage), 100);
+    let mut receiver = FiniteReceiver::<2>::over_at(ManagedSlice::Borrowed(&mut storage), 100);
     for (number, step) in STEPS.iter().enumerate() {
         assert_holds(&rt, does(&mut receiver, step), ("step", number));
     }
@@ -118,7 +118,7 @@ static NARROW: [Step; 7] = [
 #[test]
 fn the_end_needs_no_room(rt: HostRuntime) {
     let mut storage = [0u8; 4];
-    let mut receiver = FiniteReceiver::<1>::new_at(ManagedSlice::Borrowed(&mut storage), 0);
+    let mut receiver = FiniteReceiver::<1>::over_at(ManagedSlice::Borrowed(&mut storage), 0);
     for (number, step) in NARROW.iter().enumerate() {
         assert_holds(&rt, does(&mut receiver, step), ("step", number));
     }
@@ -133,7 +133,7 @@ fn accepts<const N: usize>(receiver: &FiniteReceiver<'_, N>, pos: u64, count: u6
 #[test]
 fn a_window_of_one(rt: HostRuntime) {
     let mut storage = [0u8; 1];
-    let mut receiver = FiniteReceiver::<1>::new_at(ManagedSlice::Borrowed(&mut storage), 7);
+    let mut receiver = FiniteReceiver::<1>::over_at(ManagedSlice::Borrowed(&mut storage), 7);
     assert_holds(&rt, accepts(&receiver, 7, 2), ("data", 0));
     assert_holds(&rt, !accepts(&receiver, 8, 0), ("early", 0));
     let kept = arrive(&mut receiver, 7, b"a", true);

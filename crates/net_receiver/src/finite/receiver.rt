@@ -5,12 +5,15 @@ ghost use Rattle.net_receiver.specs.Finite.{no_end, fresh_finite, can_end, end_a
 ghost use Rattle.net_receiver.specs.Finite.{finite_after, finite_result, finite_after_read};
 ghost use Rattle.net_receiver.specs.Finite.{is_complete, acknowledged, has_read_all};
 ghost use Rattle.net_receiver.specs.Finite.{in_window, is_acceptable};
-ghost use Rattle.net_receiver.specs.Finite.{IsSoundEnd};
+ghost use Rattle.net_receiver.specs.Finite.{IsSameFinite, IsSoundEnd};
+ghost use Rattle.net_receiver.specs.FiniteHead.{finite_of, HasSoundFinite};
+ghost use Rattle.net_receiver.specs.Segments.{new_count};
 ghost use Rattle.net_receiver.specs.FiniteLaws.{MatchesFinite, ReceivesFinite};
 
 use super::error::FiniteError;
-use super::receiver_head::NO_END;
+use super::receiver_head::{FiniteReceiverHead, NO_END};
 use crate::receiver::{KeptBytes, ReceiverOver};
+use net_assembler::Run;
 use net_ring::{ManagedSlice, Storage};
 use std::marker::Model;
 
@@ -49,12 +52,25 @@ impl<S: Storage<u8> + Drop, const N: usize> Drop for FiniteReceiverOver<S, N> {
 }
 
 impl<S: Storage<u8>, const N: usize> FiniteReceiverOver<S, N> {
+    /// Returns a receiver of a stream that begins at position 0: `over_at` with 0.
+    ///
+    /// # Requires
+    ///
+    /// `N` is at least 1.
+    pub const fn over(storage: S) -> Self
+        requires { 1 ≤ N }
+        ensures state { result ≡ fresh_finite 0 (length (S.elements storage)) }
+        ensures receives { (x : List ℕ) → ReceivesFinite 0 x result }
+    {
+        Self::over_at(storage, 0)
+    }
+
     /// Returns a receiver of a stream that begins at position `first`; nothing has arrived.
     ///
     /// # Requires
     ///
     /// `N` is at least 1, and `first` is not the greatest number of 64 bits.
-    pub fn new_at(storage: S, first: u64) -> Self
+    pub const fn over_at(storage: S, first: u64) -> Self
         requires runs { 1 ≤ N }
         requires number { first < no_end }
         ensures state { result ≡ fresh_finite first (length (S.elements storage)) }
@@ -65,6 +81,59 @@ impl<S: Storage<u8>, const N: usize> FiniteReceiverOver<S, N> {
             receiver: ReceiverOver::over_at(storage, first),
             end: NO_END,
         }
+    }
+
+    /// Returns the receiver that a head, a storage and runs represent.
+    ///
+    /// # Requires
+    ///
+    /// They are sound, as `FiniteReceiverHead::is_sound` tests.
+    pub fn from_parts(head: FiniteReceiverHead, storage: S, runs: [Run; N]) -> Self
+        requires { HasSoundFinite head (S.elements storage) runs }
+        ensures { result ≡ finite_of head (S.elements storage) runs.entry }
+    {
+        let capacity = storage.count();
+        let sound = head.is_sound(storage.part(0, capacity), &runs);
+        prove!(sound, "the head is not that of these parts");
+        FiniteReceiverOver {
+            receiver: ReceiverOver::from_parts(head.receiver, storage, runs),
+            end: head.end,
+        }
+    }
+
+    /// Returns the head, the storage and the runs, which represent the receiver.
+    pub fn into_parts(self) -> (FiniteReceiverHead, S, [Run; N])
+        ensures sound { HasSoundFinite result.0 (S.elements result.1) result.2 }
+        ensures state { finite_of result.0 (S.elements result.1) result.2 ≡ self }
+        ensures runs { length result.2 ≡ N }
+    {
+        let FiniteReceiverOver { receiver, end } = self;
+        let (receiver, storage, runs) = receiver.into_parts();
+        (FiniteReceiverHead { receiver, end }, storage, runs)
+    }
+
+    /// Returns the storage, of which the bytes can be any.
+    pub fn into_storage(self) -> S
+        ensures { length (S.elements result) ≡ self.receiver.capacity }
+    {
+        let FiniteReceiverOver { receiver, end: _ } = self;
+        receiver.into_storage()
+    }
+
+    /// Begins again over the same storage: a receiver of a stream that begins at position `first`;
+    /// nothing has arrived.
+    ///
+    /// # Requires
+    ///
+    /// `first` is not the greatest number of 64 bits.
+    pub fn reset_at(&mut self, first: u64)
+        requires { first < no_end }
+        ensures state { self.new ≡ fresh_finite first self.old.receiver.capacity }
+        ensures receives { (x : List ℕ) → ReceivesFinite first x self.new }
+    {
+        prove!(first < NO_END, "no number is left for an end");
+        self.receiver.reset_at(first);
+        self.end = NO_END;
     }
 
     /// Returns whether a segment fits: its bytes and an end after them have positions, as `keep`
@@ -163,6 +232,47 @@ impl<S: Storage<u8>, const N: usize> FiniteReceiverOver<S, N> {
             ≡ slice_range x self.old.receiver.read (self.old.receiver.read + result) }
     {
         self.receiver.read(into)
+    }
+
+    /// Takes the first `count` bytes off the queue and copies none, as `ReceiverOver::remove` does.
+    ///
+    /// # Requires
+    ///
+    /// At least `count` bytes are queued.
+    pub fn remove(&mut self, count: usize)
+        requires { count ≤ length self.old.receiver.queue }
+        ensures state { self.new ≡ finite_after_read self.old count }
+        ensures receives { (f : ℕ) (x : List ℕ) → ReceivesFinite f x self.old →
+            ReceivesFinite f x self.new }
+        ensures bytes { (f : ℕ) (x : List ℕ) → ReceivesFinite f x self.old →
+            take count self.old.receiver.queue
+            ≡ slice_range x self.old.receiver.read (self.old.receiver.read + count) }
+    {
+        prove!(count <= self.receiver.queued(), "more bytes than are queued");
+        self.receiver.remove(count);
+    }
+
+    /// Returns how many bytes of a segment of `len` bytes at `position` would be new: those in the
+    /// free window and below the end whose positions are not held.
+    ///
+    /// # Requires
+    ///
+    /// The segment fits, as `fits` tests.
+    pub fn count_new(&self, position: u64, len: usize) -> usize
+        requires { position + len < no_end }
+        ensures { result ≡ new_count self.now.receiver position (min len (self.now.end - position)) }
+    {
+        prove!(Self::fits(position, len), "the segment ends too high");
+        let count = (len as u64).min(self.end.saturating_sub(position)) as usize;
+        self.receiver.count_new(position, count)
+    }
+
+    /// Returns whether two receivers of a stream that ends are equal in first position, count of
+    /// bytes read, queued bytes, held runs and end.
+    pub fn same_state<O: Storage<u8>>(&self, other: &FiniteReceiverOver<O, N>) -> bool
+        ensures { IsTrue result ↔ IsSameFinite self.now other.now }
+    {
+        self.end == other.end && self.receiver.same_state(&other.receiver)
     }
 
     /// Returns whether all bytes and the end have arrived. Once it is so it stays so.

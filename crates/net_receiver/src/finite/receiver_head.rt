@@ -43,7 +43,7 @@ impl FiniteReceiverHead {
     /// # Requires
     ///
     /// `first` is not the greatest number of 64 bits.
-    pub fn new(first: u64) -> Self
+    pub const fn new(first: u64) -> Self
         requires { first < no_end }
         ensures sound { (storage : List ℕ) (runs : List (ℕ × ℕ)) → HasSoundFinite result storage runs }
         ensures state { (storage : List ℕ) (runs : List (ℕ × ℕ)) →

@@ -3,9 +3,10 @@ ghost use Rattle.std.specs.Prelude.{◌≡◌, ◌↔◌, ◌⊎◌, ◌+◌, �
 ghost use Rattle.std.specs.Prelude.{length, take, drop, min, max, nat_eq, IsTrue, IsFalse};
 ghost use Rattle.net_ring.specs.Ring.{queue};
 ghost use Rattle.net_ring.specs.RingHead.{ring_at};
-ghost use Rattle.net_receiver.specs.SenderState.{Sends};
+ghost use Rattle.net_receiver.specs.SenderState.{contiguous_end, Sends};
 ghost use Rattle.net_receiver.specs.FiniteLaws.{MatchesFinite};
 ghost use Rattle.net_receiver.specs.Finite.{no_end};
+ghost use Rattle.net_receiver.specs.NewHeads.{finite_sender_head};
 ghost use Rattle.net_receiver.specs.FiniteSender.{finite_sender_of, IsSoundFiniteSender};
 ghost use Rattle.net_receiver.specs.FiniteSender.{fresh_finite_sender, first_number, numbers_end};
 ghost use Rattle.net_receiver.specs.FiniteSender.{finite_room, with_bytes, closed_sender, has_end_at};
@@ -34,10 +35,11 @@ pub struct FiniteSenderHead {
 impl FiniteSenderHead {
     /// Returns the head of a sender of a stream that begins at position `first`; nothing was
     /// written. It is sound for every storage.
-    pub fn new(first: u64) -> Self
+    pub const fn new(first: u64) -> Self
         ensures sound { (capacity : ℕ) → IsSoundFiniteSender capacity result }
         ensures state { (storage : List ℕ) →
             finite_sender_of result storage [] ≡ fresh_finite_sender (length storage) first }
+        ensures numbers { result ≡ finite_sender_head first }
     {
         FiniteSenderHead {
             sender: SenderHead::new(first),
@@ -155,6 +157,10 @@ impl FiniteSenderHead {
     pub fn peek_at(&self, capacity: usize, pos: u64, max: usize) -> (Span, bool)
         requires { IsSoundFiniteSender capacity self.now }
         ensures within { result.0.from + result.0.contiguous ≤ capacity }
+        ensures count { (storage : List ℕ) (blocks : List (ℕ × ℕ)) → length storage ≡ capacity →
+            self.now.sender.first_unacknowledged ≤ pos → result.0.contiguous ≡ min max
+            (contiguous_end (finite_sender_of self.now storage blocks).sender pos - pos) }
+        ensures before { pos < self.now.sender.first_unacknowledged → result.0.contiguous ≡ 0 }
         ensures end { IsTrue result.1 ↔ ((self.now.closed ≡ 1) × (pos + result.0.contiguous
             ≡ self.now.sender.first_unacknowledged + self.now.sender.place.length)) }
         ensures bytes { (storage : List ℕ) → length storage ≡ capacity →

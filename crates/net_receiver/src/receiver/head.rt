@@ -9,6 +9,7 @@ ghost use Rattle.net_receiver.specs.ReceiverState.{fresh_receiver, domain, limit
 ghost use Rattle.net_receiver.specs.ReceiverState.{next_position};
 ghost use Rattle.net_receiver.specs.ReceiverState.{receiver_ops};
 ghost use Rattle.net_receiver.specs.OneStream.{ReceivesFrom, MatchesStream};
+ghost use Rattle.net_receiver.specs.NewHeads.{receiver_head};
 ghost use Rattle.net_receiver.specs.Head.{receiver_of, HasSoundParts, storage_after};
 
 mod comparison;
@@ -51,6 +52,7 @@ impl ReceiverHead {
         ensures state { (storage : List ℕ) (runs : List (ℕ × ℕ)) →
             receiver_of result storage runs ≡ fresh_receiver first (length storage) }
         ensures canonical { IsCanonical result.held }
+        ensures numbers { result ≡ receiver_head first }
     {
         ReceiverHead {
             first,

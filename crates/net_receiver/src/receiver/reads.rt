@@ -151,6 +151,28 @@ impl<S: Storage<u8>, const N: usize> ReceiverOver<S, N> {
         answer
     }
 
+    /// Takes the first `count` bytes off the queue, as `read` does, and copies none: `peek` and
+    /// `as_slices` show them before.
+    ///
+    /// # Requires
+    ///
+    /// At least `count` bytes are queued.
+    pub fn remove(&mut self, count: usize)
+        requires { count ≤ length self.old.queue }
+        ensures state { self.new ≡ receiver_after_read self.old count }
+        ensures step { StepRefines N self.old self.new
+            (Read count) (ReadReply (take count self.old.queue)) }
+        ensures setting { StaysInSetting N self.old self.new }
+        ensures next { next_position self.new ≡ next_position self.old }
+        ensures receives { (f : ℕ) (x : List ℕ) → ReceivesFrom f x self.old →
+            ReceivesFrom f x self.new }
+        ensures bytes { (f : ℕ) (x : List ℕ) → ReceivesFrom f x self.old → take count self.old.queue
+            ≡ slice_range x self.old.read (self.old.read + count) }
+    {
+        prove!(count <= self.head.queued(), "more bytes than are queued");
+        self.head.remove(self.storage.count(), count);
+    }
+
     /// Shows the first part of the queue.
     fn first_slice(&self) -> &[u8]
         ensures { result.now ≡ first_part self.now }

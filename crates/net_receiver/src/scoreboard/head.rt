@@ -5,6 +5,8 @@ ghost use Rattle.net_assembler.specs.Positions.{positions, runs as run_count, wi
 ghost use Rattle.net_assembler.specs.RunLists.{HasSoundRuns, IsCanonical, set_of};
 ghost use Rattle.net_receiver.specs.Scoreboards.{HasNoRoom, IsEnd, IsNextHole, IsSoundBoard, beyond};
 ghost use Rattle.net_receiver.specs.Scoreboards.{reported_by};
+ghost use Rattle.net_receiver.specs.NewHeads.{scoreboard_head};
+ghost use Rattle.net_receiver.specs.Losses.{IsLossBound};
 
 use crate::receiver::HeldRunIter;
 use crate::sack_blocks::nearer;
@@ -33,13 +35,14 @@ pub struct ScoreboardHead {
 impl ScoreboardHead {
     /// Returns a scoreboard of a stream that begins at position `first`, to which nothing was reported,
     /// whatever its runs. All positions below `first` count as reported.
-    pub fn new_at(first: u64) -> Self
+    pub const fn new_at(first: u64) -> Self
         ensures base { result.base ≡ first }
         ensures no_run { result.reported.used ≡ 0 }
         ensures no_start { result.reported.first_start ≡ 0 }
         ensures sound { (runs : List (ℕ × ℕ)) → IsSoundBoard result runs }
         ensures empty { (runs : List (ℕ × ℕ)) →
             reported_by result runs ≡ with_range nothing 0 first }
+        ensures numbers { result ≡ scoreboard_head first }
     {
         ScoreboardHead {
             base: first,
@@ -48,14 +51,27 @@ impl ScoreboardHead {
     }
 
     /// Returns a scoreboard to which nothing was reported, whatever its runs: `new_at` with 0.
-    pub fn new() -> Self
+    pub const fn new() -> Self
         ensures base { result.base ≡ 0 }
         ensures no_run { result.reported.used ≡ 0 }
         ensures no_start { result.reported.first_start ≡ 0 }
         ensures sound { (runs : List (ℕ × ℕ)) → IsSoundBoard result runs }
         ensures empty { (runs : List (ℕ × ℕ)) → reported_by result runs ≡ nothing }
+        ensures numbers { result ≡ scoreboard_head 0 }
     {
         ScoreboardHead::new_at(0)
+    }
+
+    /// Begins again: a scoreboard of a stream that begins at position `first`, as `new_at` returns it.
+    pub fn reset_at(&mut self, first: u64)
+        ensures base { self.new.base ≡ first }
+        ensures no_run { self.new.reported.used ≡ 0 }
+        ensures no_start { self.new.reported.first_start ≡ 0 }
+        ensures sound { (runs : List (ℕ × ℕ)) → IsSoundBoard self.new runs }
+        ensures empty { (runs : List (ℕ × ℕ)) →
+            reported_by self.new runs ≡ with_range nothing 0 first }
+    {
+        *self = ScoreboardHead::new_at(first);
     }
 
     /// Returns whether the scoreboard is sound with these runs, for any numbers in both. It looks at
@@ -232,6 +248,32 @@ impl ScoreboardHead {
             }
         }
         from
+    }
+
+    /// Returns the position below which all that wasn't reported is lost, by the rule of RFC 6675,
+    /// section 4: above it `duplicates` runs were reported (3 in TCP; 0 counts as 1), or more bytes than
+    /// `duplicates - 1` segments of `segment_size` bytes have. It is 0 if nothing is lost.
+    ///
+    /// # Requires
+    ///
+    /// The scoreboard is sound with the runs.
+    pub fn lost_below(&self, runs: &[Run], duplicates: usize, segment_size: usize) -> u64
+        requires { IsSoundBoard self.now runs.now }
+        ensures { IsLossBound duplicates segment_size (reported_by self.now runs.now) result }
+    {
+        let most = duplicates.saturating_sub(1).saturating_mul(segment_size);
+        let mut count = self.reported.used;
+        let mut bytes = self.count_beyond(runs);
+        let mut limit = 0;
+        for (start, end) in self.reported(runs) {
+            if count < duplicates.max(1) && bytes <= most {
+                return limit;
+            }
+            limit = start;
+            count = count.saturating_sub(1);
+            bytes = bytes.saturating_sub((end - start) as usize);
+        }
+        limit
     }
 
     /// Returns the next range to send again, as a start and an end: it begins at the first position

@@ -7,6 +7,7 @@ ghost use Rattle.net_ring.specs.RingHead.{ring_at, queued_index, dequeued_place}
 ghost use Rattle.net_receiver.specs.OneStream.{MatchesStream};
 ghost use Rattle.net_receiver.specs.SenderState.{sender_state, room_of, contiguous_end, Sends};
 ghost use Rattle.net_receiver.specs.SenderState.{with_written, sender_from};
+ghost use Rattle.net_receiver.specs.NewHeads.{sender_head};
 ghost use Rattle.net_receiver.specs.SenderHeads.{sender_of, IsSoundHead};
 
 use crate::laws;
@@ -36,6 +37,7 @@ impl SenderHead {
         ensures sound { (capacity : ℕ) → IsSoundHead capacity result }
         ensures state { (storage : List ℕ) (blocks : List (ℕ × ℕ)) → sender_of result storage blocks
             ≡ sender_state (length storage) first [] blocks (first + length storage) }
+        ensures numbers { result ≡ sender_head first }
     {
         SenderHead {
             first_unacknowledged: first,

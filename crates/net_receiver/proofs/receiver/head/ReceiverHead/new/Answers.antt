@@ -24,3 +24,11 @@ returns-clause-sound c = λ storage list.
       fits = subst Fits64Bits (sym same) (fresh_fits c.args.first (length storage) c.ranges.first.fits);
       read_at = fresh_read_at (ring_at storage (record { read_at = 0; length = 0 })) storage refl;
     }
+
+pub returns-clause-numbers : goal.returns-clause-numbers
+returns-clause-numbers c = λ i. record {
+  first = c.args.first;
+  count_read = 0;
+  place = record { read_at = 0; length = 0 };
+  held = record { used = c.new.ensures.no_run i; first_start = c.new.ensures.no_start i };
+}

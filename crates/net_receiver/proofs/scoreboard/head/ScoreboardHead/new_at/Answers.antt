@@ -19,3 +19,9 @@ returns-clause-sound c = λ runs. record {
 
 pub returns-clause-empty : goal.returns-clause-empty
 returns-clause-empty c = λ runs. empty_board c.args.first _ (c.new.ensures.empty runs)
+
+pub returns-clause-numbers : goal.returns-clause-numbers
+returns-clause-numbers c = λ i. record {
+  base = c.args.first;
+  reported = record { used = c.new.ensures.no_run i; first_start = c.new.ensures.no_start i };
+}

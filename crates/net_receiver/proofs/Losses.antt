@@ -1,0 +1,112 @@
+-- Up to where what isn't reported is lost, run by run.
+use Rattle.std.proofs.Common.{◌≡◌, ℕ, ◌+◌, ◌-◌, ◌*◌, ◌<◌, ◌≤◌, ◌↔◌, ◌||◌, max, min, true, false, List, [], ◌∷◌, length, refl, sym, ap, subst, ◌∙◌, arith, IsTrue, nat_le, nat_lt, ◌⊎◌, inl, inr}
+use Rattle.std.proofs.lemmas.Bool.{both_ways, cases_lt}
+use Rattle.std.proofs.lemmas.Bool.Decides.{nat_tests}
+use Rattle.net_assembler.specs.Positions.{Positions, contains, first_missing, maximal_runs}
+use Rattle.net_assembler.specs.RunLists.{IsRising}
+use Rattle.net_assembler.proofs.Positions.{first_missing-misses}
+use Rattle.net_assembler.proofs.Runs.{rising_from}
+use Rattle.net_assembler.proofs.MaximalRuns.{rising-maximal_runs}
+use Rattle.net_receiver.specs.Scoreboards.{sizes, IsNextHole}
+use Rattle.net_receiver.specs.Losses.{runs_above, tell_loss, IsLossBound}
+
+-- runs that begin above p are all above it
+all_above : (low p : ℕ) (rs : List (ℕ × ℕ)) → IsRising low rs → p < low → runs_above rs p ≡ rs
+all_above low p [] h l = refl
+all_above low p (r ∷ rs) h l =
+    let rest = all_above (r.1 + 1) p rs h.2 (omega (arith, h.0, h.1, l)) in
+    let here : p < r.0 = omega (arith, h.0, l) in
+    grind (arith, nat_tests)
+
+-- the runs above p are no more than all
+fewer : (rs : List (ℕ × ℕ)) (p : ℕ) → (length (runs_above rs p) ≤ length rs) × (sizes (runs_above rs p) ≤ sizes rs)
+fewer [] p = (omega arith, omega arith)
+fewer (r ∷ rs) p =
+    let rest = fewer rs p in
+    let one = rest.0 in
+    let two = rest.1 in
+    (grind (arith, nat_tests), grind (arith, nat_tests))
+
+-- fewer runs tell less
+tells_less : (d n : ℕ) (rs : List (ℕ × ℕ)) (p : ℕ) → tell_loss d n rs ≡ false → tell_loss d n (runs_above rs p) ≡ false
+tells_less d n rs p h =
+    let rest = fewer rs p in
+    let one = rest.0 in
+    let two = rest.1 in
+    grind (arith, nat_tests)
+
+none_tells : (d n : ℕ) → tell_loss d n [] ≡ false
+none_tells d n = grind (arith, nat_tests)
+
+-- what the code counts tells it or not: most is the product, or as large as a number of 64 bits is
+pub few_tell : (d n count bytes most : ℕ) (rs : List (ℕ × ℕ)) → count ≡ length rs → bytes ≡ sizes rs → most ≤ (d - 1) * n →
+    count < max 1 d → bytes ≤ most → tell_loss d n rs ≡ false
+few_tell d n count bytes most rs e e' product less few = grind (arith, nat_tests)
+
+pub many_tell : (d n count bytes most : ℕ) (rs : List (ℕ × ℕ)) → count ≡ length rs → bytes ≡ sizes rs → (most < bytes → (d - 1) * n ≤ most) →
+    (max 1 d ≤ count) ⊎ (most < bytes) → tell_loss d n rs ≡ true
+many_tell d n count bytes most rs e e' product which = elim which [
+  inl many ↦ grind (arith, nat_tests)
+  | inr more ↦ (let exact = product more in grind (arith, nat_tests))
+]
+
+-- the limit so far, where the rest of all runs is left: what is below it is lost, and from it on the rest alone counts
+pub record IsBoundSoFar (d n : ℕ) (all rest : List (ℕ × ℕ)) (limit : ℕ) : Type 0 where
+  pub lost : (p : ℕ) → p < limit → tell_loss d n (runs_above all p) ≡ true
+  pub others : (p : ℕ) → limit ≤ p → runs_above all p ≡ runs_above rest p
+  pub rising : IsRising limit rest
+
+pub no_bound : (d n : ℕ) (s : Positions) → IsBoundSoFar d n (maximal_runs s) (maximal_runs s) 0
+no_bound d n s = record { lost = λ p l. absurd (omega (arith, l)); others = λ p l. refl; rising = rising-maximal_runs s }
+
+module _ (d n : ℕ) (all : List (ℕ × ℕ)) (r : ℕ × ℕ) (rest : List (ℕ × ℕ)) (limit : ℕ) (so_far : IsBoundSoFar d n all (r ∷ rest) limit) where
+  -- the run and those after it tell a loss
+  pub further : tell_loss d n (r ∷ rest) ≡ true → IsBoundSoFar d n all rest r.0
+  further tells =
+      let low = so_far.rising.0 in
+      let some = so_far.rising.1 in
+      record {
+        lost = λ p l. elim (cases_lt p limit) [
+          inl before ↦ so_far.lost p before
+          | inr from ↦ ap (tell_loss d n) (so_far.others p from ∙ all_above r.0 p (r ∷ rest) (omega arith, some, so_far.rising.2) l) ∙ tells
+        ];
+        others = λ p l. so_far.others p (omega (arith, l, low)) ∙ (let here : nat_lt p r.0 ≡ false = grind (arith, nat_tests) in grind (arith, nat_tests));
+        rising = rising_from r.0 (r.1 + 1) rest (omega (arith, some)) so_far.rising.2;
+      }
+
+  -- or they don't, and the limit is right
+  pub bound_stops : tell_loss d n (r ∷ rest) ≡ false → (p : ℕ) → (p < limit) ↔ IsTrue (tell_loss d n (runs_above all p))
+  bound_stops few p = (
+    so_far.lost p,
+    λ lost. elim (cases_lt p limit) [
+      inl before ↦ before
+      | inr from ↦ absurd (both_ways _ (ap (tell_loss d n) (so_far.others p from) ∙ tells_less d n (r ∷ rest) p few) lost)
+    ],
+  )
+
+pub bound_ends : (d n : ℕ) (all : List (ℕ × ℕ)) (limit : ℕ) → IsBoundSoFar d n all [] limit → (p : ℕ) → (p < limit) ↔ IsTrue (tell_loss d n (runs_above all p))
+bound_ends d n all limit so_far p = (
+  so_far.lost p,
+  λ lost. elim (cases_lt p limit) [
+    inl before ↦ before
+    | inr from ↦ absurd (both_ways _ (ap (tell_loss d n) (so_far.others p from) ∙ none_tells d n) lost)
+  ],
+)
+
+-- there is one such limit
+pub one_bound : (d n : ℕ) (s : Positions) (a b : ℕ) → IsLossBound d n s a → IsLossBound d n s b → a ≡ b
+one_bound d n s a b x y =
+    let left : a ≤ b = elim (cases_lt b a) [ inl g ↦ absurd (let m = (y b).1 ((x b).0 g) in omega (arith, m)) | inr l ↦ l ] in
+    let right : b ≤ a = elim (cases_lt a b) [ inl g ↦ absurd (let m = (x a).1 ((y a).0 g) in omega (arith, m)) | inr l ↦ l ] in
+    omega (arith, left, right)
+
+-- a range without a position is at the limit
+pub no_hole : (s : Positions) (p limit start end : ℕ) → IsNextHole s p limit start end → end ≤ start → IsNextHole s p limit limit limit
+no_hole s p limit start end h le =
+    let same : end ≡ start = omega (arith, h.order, le) in
+    let at : start ≡ limit = elim (cases_lt end limit) [
+      inr l ↦ omega (arith, l, same, h.within)
+      | inl l ↦ absurd (both_ways (contains s (first_missing s p)) (first_missing-misses s p)
+      (subst (λ q. IsTrue (contains s q)) (let begins = h.begins in omega (arith, begins, same, l)) (h.ended l)))
+    ] in
+    subst (λ q. IsNextHole s p limit limit q) (same ∙ at) (subst (λ q. IsNextHole s p limit q end) at h)

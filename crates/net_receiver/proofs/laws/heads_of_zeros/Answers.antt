@@ -1,0 +1,28 @@
+use Rattle.std.proofs.Common.{◌≡◌, ◌+◌, arith, ◌∙◌, [], length, ap, sym, subst}
+use Rattle.net_receiver.specs.Head.{receiver_of, HasSoundParts}
+use Rattle.net_receiver.specs.SenderState.{sender_state}
+use Rattle.net_receiver.specs.SenderHeads.{sender_of, IsSoundHead}
+use Rattle.net_receiver.specs.Scoreboards.{reported_by, IsSoundBoard}
+use Rattle.net_receiver.specs.FiniteSender.{finite_sender_of, IsSoundFiniteSender}
+use Rattle.net_receiver.proofs.laws.heads_of_zeros.Goals as goal
+
+pub returns-clause-receiver : goal.returns-clause-receiver
+returns-clause-receiver c = λ xs rs.
+    let made = c.new-receiver.ensures in
+    (subst (λ h. HasSoundParts h xs rs) made.numbers (made.sound xs rs), ap (λ h. receiver_of h xs rs) (sym made.numbers) ∙ made.state xs rs)
+
+pub returns-clause-sender : goal.returns-clause-sender
+returns-clause-sender c = λ xs blocks.
+    let made = c.new-sender.ensures in
+    let start : 0 + length xs ≡ length xs = omega arith in
+    (subst (IsSoundHead (length xs)) made.numbers (made.sound (length xs)), ap (λ h. sender_of h xs blocks) (sym made.numbers) ∙ made.state xs blocks ∙ ap (sender_state (length xs) 0 [] blocks) start)
+
+pub returns-clause-scoreboard : goal.returns-clause-scoreboard
+returns-clause-scoreboard c = λ rs.
+    let made = c.new-scoreboard.ensures in
+    (subst (λ h. IsSoundBoard h rs) made.numbers (made.sound rs), ap (λ h. reported_by h rs) (sym made.numbers) ∙ made.empty rs)
+
+pub returns-clause-finite_sender : goal.returns-clause-finite_sender
+returns-clause-finite_sender c = λ xs.
+    let made = c.new-finite_sender.ensures in
+    (subst (IsSoundFiniteSender (length xs)) made.numbers (made.sound (length xs)), ap (λ h. finite_sender_of h xs []) (sym made.numbers) ∙ made.state xs)
