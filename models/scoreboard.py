@@ -1,4 +1,4 @@
-"""Scoreboards: the positions of a stream that were reported to its sender, and the holes that it sends again."""
+"""Scoreboards: the positions of a stream that were reported to its sender, the holes, and what is lost (RFC 6675, 4)."""
 from assembler import with_range
 from branches import Count, Order, Size, Test
 from drawing import TOP
@@ -16,7 +16,12 @@ NEXT_IN = Test("scoreboard: acknowledge ends in a run, or before one that touche
 HIGH = Order("scoreboard: acknowledge, position and highest reported one")
 HELD = Test("scoreboard: contains")
 MISSING = Order("scoreboard: first_missing, position and result", ("below", "equal"))
+SENT = Order("scoreboard: end of a block and what was sent")
 HOLE = Order("scoreboard: next_hole, start and limit", ("below", "equal"))
+NO_RUNS = Test("scoreboard: as many runs as tell a loss are no run")
+BY_RUNS = Test("scoreboard: something is lost by the runs above it")
+BY_SIZE = Test("scoreboard: something is lost by the bytes above it alone")
+LOST = Test("scoreboard: next_lost finds a range")
 HOLE_END = Order("scoreboard: next_hole, end and limit", ("below", "equal"))
 
 
@@ -40,10 +45,11 @@ class Scoreboard:
         return (f"{self.front(self.runs) - self.first} {highest - self.first} {len(beyond)} "
                 f"{sum(end - start for start, end in beyond)} {digest}")
 
-    def report(self, start, end):
+    def report(self, start, end, sent):
         ORDER.least(start, end)
-        if start > end:
-            return "forbidden"
+        SENT.least(end, sent)
+        if not start < end <= sent:
+            return truth(False)
         front = self.front(self.runs)
         START_OF.least(start, front)
         runs = with_range(self.runs, start, end)
@@ -51,7 +57,7 @@ class Scoreboard:
             return "refused"
         MOVES(self.front(runs) > front)
         self.runs = runs
-        return "ok"
+        return truth(True)
 
     def acknowledge(self, pos):
         NEXT.least(pos, self.front(self.runs))
@@ -76,7 +82,30 @@ class Scoreboard:
         end = min([limit] + [run[0] for run in self.runs if run[0] > start])
         HOLE.least(start, limit)
         HOLE_END.least(end, limit)
-        return f"{start}-{end}"
+        return f"{start}-{end}" if start < end else "none"
+
+    def limit(self, duplicates, size):
+        """The position below which all is lost: `duplicates` runs are above, or more bytes than as many segments less
+        one have."""
+        NO_RUNS(duplicates == 0)
+        beyond, lost = self.beyond(self.runs), 0
+        for number, (start, _) in enumerate(beyond):
+            above = beyond[number:]
+            by_runs = BY_RUNS(len(above) >= max(1, duplicates))
+            by_size = sum(end - start for start, end in above) > max(0, duplicates - 1) * size
+            BY_SIZE(by_size and not by_runs)
+            if by_runs or by_size:
+                lost = start
+        return lost
+
+    def lost_below(self, duplicates, size):
+        return str(self.limit(duplicates, size))
+
+    def next_lost(self, pos, duplicates, size):
+        limit = self.limit(duplicates, size)
+        start = min(self.missing_from(pos), limit)
+        end = min([limit] + [run[0] for run in self.runs if run[0] > start])
+        return f"{start}-{end}" if LOST(start < end) else "none"
 
 
 def position(random, board):
@@ -96,11 +125,15 @@ def numbers_of(random, board, name):
             start, end = min(start, end), max(start, end)
         if random.one_in(2):
             end = min(TOP, start + random.below(4))
-        return [start, end]
+        return [start, end, TOP if random.one_in(2) else position(random, board)]
+    if name in ("lost_below", "next_lost"):
+        threshold = [random.below(5), random.below(9)]
+        return threshold if name == "lost_below" else [position(random, board), *threshold]
     return [position(random, board) for _ in range(2 if name == "next_hole" else 1)]
 
 
 CALLS = ["report"] * 10 + ["next_hole"] * 4 + ["contains"] * 2 + ["first_missing"] * 2 + ["acknowledge"] * 2
+CALLS += ["lost_below"] * 3 + ["next_lost"] * 3
 
 
 def draw(random, cases, lines):
@@ -112,7 +145,7 @@ def draw(random, cases, lines):
         board = Scoreboard(most, first)
         cases.begin(f"scoreboard {most} {first}", board.show())
         starts = range(first + 1, min(TOP - 1, first + 4 * most + 6), 3) if random.one_in(2) else []
-        calls = [("report", [start, start + 1]) for start in random.shuffled(starts)]
+        calls = [("report", [start, start + 1, TOP]) for start in random.shuffled(starts)]
         for _ in range(16 + random.below(40)):
             name = random.of(CALLS)
             name, numbers = calls.pop() if calls else (name, numbers_of(random, board, name))

@@ -507,9 +507,14 @@ FRAGMENTS = [
 ]
 # Scoreboards: runs, first position, and calls.
 SCOREBOARDS = [
-    (1, 100, "report 103 104: ok|0 4 1 1; report 106 107: refused|0 4 1 1; report 100 102: ok|2 4 1 1; "
-     "next_hole 100 120: 102-103; next_hole 103 120: 104-120; next_hole 119 110: 110-110; acknowledge 103: done|4 4 0 0; "
-     "report 90 101: ok|4 4 0 0; report 9 8: forbidden; contains 99: 1; contains 104: 0; first_missing 7: 104"),
+    (1, 100, "report 103 104 200: 1|0 4 1 1; report 106 107 200: refused|0 4 1 1; report 100 102 200: 1|2 4 1 1; "
+     "next_hole 100 120: 102-103; next_hole 103 120: 104-120; next_hole 119 110: none; acknowledge 103: done|4 4 0 0; "
+     "report 90 101 200: 1|4 4 0 0; report 9 8 200: 0; report 108 109 108: 0|4 4 0 0; contains 99: 1; contains 104: 0; "
+     "first_missing 7: 104; lost_below 3 1: 0"),
+    # Segments of 10 bytes, of which those at 0, 20 and 40 didn't come: three runs tell that of 0, 21 bytes that of 20.
+    (4, 0, "report 10 20 100: 1; report 30 40 100: 1; lost_below 3 10: 0; next_lost 0 3 10: none; report 50 60 100: 1; "
+     "lost_below 3 10: 10; next_lost 0 3 10: 0-10; next_lost 10 3 10: none; report 40 41 100: 1|0 60 3 31; "
+     "lost_below 3 10: 30; next_lost 10 3 10: 20-30; lost_below 0 10: 50"),
 ]
 # Receivers of streams that end: bytes, runs, first position, and calls.
 ENDINGS = [

@@ -92,6 +92,7 @@ struct kind KINDS[] = {
     MADE("scoreboard", "contains", "scoreboard_contains"),
     MADE("scoreboard", "first_missing", "scoreboard_next_hole"),
     MADE("scoreboard", "next_hole", "scoreboard_next_hole"),
+    MISSING("scoreboard", "*", "no export has the rule of what is lost"),
     MISSING("ending", "*", "C has no receiver of a stream that ends"),
     MISSING("closing", "*", "C has no sender of a stream that ends"),
     MISSING("tcp", "*", "C has no windows, timeouts or sums"),

@@ -39,11 +39,8 @@ static void show(void) {
 static bool make(const struct call *call) {
     uint64_t one = call->numbers[0], two = call->numbers[1];
     if (is(call, "report")) {
-        /* A block without a position is refused, and changes nothing. */
-        uint32_t status = net_base_scoreboard_report(&head, runs, run_count, one, two, UINT64_MAX);
-        say(status == NET_BASE_DONE || one == two ? "ok"
-            : status == NET_BASE_TOO_MANY_RUNS    ? "refused"
-                                                  : "forbidden");
+        uint32_t status = net_base_scoreboard_report(&head, runs, run_count, one, two, call->numbers[2]);
+        say(status == NET_BASE_DONE ? "1" : status == NET_BASE_TOO_MANY_RUNS ? "refused" : "0");
     } else if (is(call, "acknowledge")) {
         if (!net_base_scoreboard_acknowledge(&head, runs, run_count, one)) return false;
         say("done");
@@ -53,7 +50,11 @@ static bool make(const struct call *call) {
         say_number(hole(one, UINT64_MAX).start);
     } else if (is(call, "next_hole")) {
         struct net_base_hole next = hole(one, two);
-        say_run(next.start, next.end);
+        if (next.start < next.end) {
+            say_run(next.start, next.end);
+        } else {
+            say("none");
+        }
     } else {
         return false;
     }

@@ -1,17 +1,16 @@
-//! The calls of a sender of a stream that ends, in parts.
+//! The calls of a sender of a stream that ends.
 use crate::bytes::{START, mix_bytes, pattern};
 use crate::call::{Call, Entry, find};
-use crate::reply::{Part, Reply, allowed};
+use crate::reply::{Part, Reply};
 use crate::subject::Subject;
-use net_receiver::FiniteSenderHead;
-use net_ring::Span;
+use net_receiver::FiniteSender;
+use net_ring::ManagedSlice;
 use std::alloc::{AllocError, Global};
 
 /// A sender, and its stream's first position.
 #[derive(Drop)]
 pub struct Closing {
-    head: FiniteSenderHead,
-    storage: Vec<u8>,
+    sender: FiniteSender<'static>,
     first: u64,
 }
 
@@ -39,9 +38,9 @@ static CALLS: [Entry<Kind>; 6] = [
 
 /// Returns a sender over `capacity` bytes, of a stream that begins at `first`.
 pub fn finite_sender(alloc: Global, capacity: u64, first: u64) -> Result<Closing, AllocError> {
+    let storage = pattern(alloc, capacity, 0)?;
     Ok(Closing {
-        head: FiniteSenderHead::new(first),
-        storage: pattern(alloc, capacity, 0)?,
+        sender: FiniteSender::over_at(ManagedSlice::from(storage), first),
         first,
     })
 }
@@ -52,70 +51,44 @@ impl Subject for Closing {
         let Some(kind) = find(&CALLS, call) else {
             return Ok(None);
         };
-        let bytes = match kind {
-            Kind::Write => pattern(alloc, one, two)?,
-            _ => Vec::new(alloc),
+        let sender = &mut self.sender;
+        let reply = match kind {
+            Kind::Write => Reply::new().count(sender.write(&pattern(alloc, one, two)?)),
+            Kind::Close => Reply::new().truth(sender.close()),
+            Kind::MarkSent => Reply::new().truth(sender.mark_sent(one)),
+            Kind::Acknowledge => Reply::new().truth(sender.acknowledge(one)),
+            Kind::PeekAt => peek_at(sender, one, two as usize),
+            Kind::IsBlock => Reply::new().truth(sender.is_block(one, two)),
         };
-        let (head, storage) = (&mut self.head, self.storage.as_mut_slice());
-        Ok(Some(make(head, storage, (kind, one, two), &bytes)))
+        Ok(Some(reply))
     }
 
     /// Shows the first number that isn't acknowledged, the one after the last, and the one after the last that was
     /// sent, counted from the first; how many bytes are queued; 0, 1 once it is closed, and 2 once the end is
     /// acknowledged; and the digest of the queue.
     fn show(&mut self, _: Global) -> Result<Reply, AllocError> {
-        Ok(show(&self.head, self.storage.as_slice(), self.first))
+        let (sender, first) = (&self.sender, self.first);
+        let is_finished = sender.is_closed_and_acknowledged();
+        let reply = Reply::new()
+            .number(sender.first_number().wrapping_sub(first))
+            .number(sender.numbers_end().wrapping_sub(first))
+            .number(sender.sent().wrapping_sub(first))
+            .count(sender.len())
+            .number(u64::from(sender.is_closed()) + u64::from(is_finished));
+        Ok(reply.and(Part::Digest(digest_of(sender))))
     }
 }
 
-/// Makes a call on a sound head.
-fn make(
-    head: &mut FiniteSenderHead,
-    storage: &mut [u8],
-    (kind, one, two): (Kind, u64, u64),
-    bytes: &[u8],
-) -> Reply {
-    let capacity = storage.len();
-    if !head.is_sound(capacity) {
-        return allowed(false);
-    }
-    match kind {
-        Kind::Write => Reply::new().count(head.write(storage, bytes)),
-        Kind::Close => Reply::new().truth(head.close(capacity)),
-        Kind::MarkSent => Reply::new().truth(head.mark_sent(capacity, one)),
-        Kind::Acknowledge => Reply::new().truth(head.acknowledge(capacity, one)),
-        Kind::PeekAt => {
-            let (span, is_last) = head.peek_at(capacity, one, two as usize);
-            let (part, _) = parts_of(storage, &span);
-            Reply::new().bytes(part).truth(is_last)
-        }
-        Kind::IsBlock => Reply::new().truth(head.is_block(one, two)),
-    }
+/// Returns a reply of the bytes of a segment, and of whether the stream ends after it.
+fn peek_at(sender: &FiniteSender<'_>, pos: u64, most: usize) -> Reply {
+    let (part, is_last) = sender.peek_at(pos, most);
+    Reply::new().bytes(part).truth(is_last)
 }
 
-/// Returns a reply of what can be seen of a sound head.
-fn show(head: &FiniteSenderHead, storage: &[u8], first: u64) -> Reply {
-    let capacity = storage.len();
-    if !head.is_sound(capacity) {
-        return allowed(false);
-    }
-    let begin = head.sender.first_unacknowledged;
-    let (whole, _) = head.peek_at(capacity, begin, usize::MAX);
-    let (one, other) = parts_of(storage, &whole);
-    let states = u64::from(head.is_closed()) + u64::from(head.is_closed_and_acknowledged());
-    Reply::new()
-        .number(head.first_number(capacity).wrapping_sub(first))
-        .number(head.numbers_end(capacity).wrapping_sub(first))
-        .number(head.sent.wrapping_sub(first))
-        .count(whole.count)
-        .number(states)
-        .and(Part::Digest(mix_bytes(mix_bytes(START, one), other)))
-}
-
-/// Returns the bytes of a span that are contiguous with its first one, and the others, at the storage's beginning.
-fn parts_of<'a>(storage: &'a [u8], span: &Span) -> (&'a [u8], &'a [u8]) {
-    let to = span.from.saturating_add(span.contiguous);
-    let others = span.count.saturating_sub(span.contiguous);
-    let one = storage.get(span.from..to).unwrap_or(&[]);
-    (one, storage.get(..others).unwrap_or(&[]))
+/// Returns the digest of the queue.
+fn digest_of(sender: &FiniteSender<'_>) -> u64 {
+    let begin = sender.first_number();
+    let (part, _) = sender.peek_at(begin, usize::MAX);
+    let (rest, _) = sender.peek_at(begin.saturating_add(part.len() as u64), usize::MAX);
+    mix_bytes(mix_bytes(START, part), rest)
 }

@@ -45,7 +45,7 @@ impl<const N: usize> Ending<N> {
         }
         let storage = pattern(alloc, capacity, 0)?;
         Ok(Some(Ending {
-            receiver: FiniteReceiver::new_at(ManagedSlice::from(storage), first),
+            receiver: FiniteReceiver::over_at(ManagedSlice::from(storage), first),
             first,
         }))
     }

@@ -23,15 +23,20 @@ enum Kind {
     Contains,
     FirstMissing,
     NextHole,
+    /// How many runs tell that what is below them is lost, and how many bytes a segment has.
+    LostBelow,
+    NextLost,
 }
 
 /// The calls.
-static CALLS: [Entry<Kind>; 5] = [
-    ("report", 2, Kind::Report),
+static CALLS: [Entry<Kind>; 7] = [
+    ("report", 3, Kind::Report),
     ("acknowledge", 1, Kind::Acknowledge),
     ("contains", 1, Kind::Contains),
     ("first_missing", 1, Kind::FirstMissing),
     ("next_hole", 2, Kind::NextHole),
+    ("lost_below", 2, Kind::LostBelow),
+    ("next_lost", 3, Kind::NextLost),
 ];
 
 impl<const N: usize> Board<N> {
@@ -40,34 +45,35 @@ impl<const N: usize> Board<N> {
         requires { 1 ≤ N }
     {
         Board {
-            board: Scoreboard::new_at(first),
+            board: Scoreboard::empty_at(first),
             first,
         }
     }
 
     /// Makes a call.
-    fn make(&mut self, kind: Kind, one: u64, two: u64) -> Reply {
+    fn make(&mut self, kind: Kind, (one, two, three): (u64, u64, u64)) -> Reply {
         match kind {
-            Kind::Report => report(&mut self.board, one, two),
+            Kind::Report => report(&mut self.board, (one, two), three),
             Kind::Acknowledge => {
                 self.board.acknowledge(one);
                 allowed(true)
             }
             Kind::Contains => Reply::new().truth(self.board.contains(one)),
             Kind::FirstMissing => Reply::new().number(self.board.first_missing(one)),
-            Kind::NextHole => {
-                let (start, end) = self.board.next_hole(one, two);
-                Reply::new().and(Part::Run(start, end))
-            }
+            Kind::NextHole => show(self.board.next_hole(one, two)),
+            Kind::LostBelow => Reply::new().number(
+                self.board.lost_below(one as usize, two as usize),
+            ),
+            Kind::NextLost => show(self.board.next_lost(one, two as usize, three as usize)),
         }
     }
 }
 
 impl<const N: usize> Subject for Board<N> {
     fn answer(&mut self, _: Global, call: &Call<'_>) -> Result<Option<Reply>, AllocError> {
-        let [one, two, _, _] = call.four();
+        let [one, two, three, _] = call.four();
         match find(&CALLS, call) {
-            Some(kind) => Ok(Some(self.make(kind, one, two))),
+            Some(kind) => Ok(Some(self.make(kind, (one, two, three)))),
             None => Ok(None),
         }
     }
@@ -91,13 +97,18 @@ impl<const N: usize> Subject for Board<N> {
     }
 }
 
-/// Reports a block, if it doesn't end before it starts.
-fn report<const N: usize>(board: &mut Scoreboard<N>, start: u64, end: u64) -> Reply {
-    if start > end {
-        return allowed(false);
+/// Reports a block, and returns a reply of whether it can be right, or is refused.
+fn report<const N: usize>(board: &mut Scoreboard<N>, (start, end): (u64, u64), sent: u64) -> Reply {
+    match board.report(start, end, sent) {
+        Ok(is_block) => Reply::new().truth(is_block),
+        Err(_) => Reply::word("refused"),
     }
-    Reply::word(match board.report(start, end) {
-        Ok(()) => "ok",
-        Err(_) => "refused",
-    })
+}
+
+/// Returns a reply of a range, if there is one.
+fn show(hole: Option<(u64, u64)>) -> Reply {
+    match hole {
+        Some((start, end)) => Reply::new().and(Part::Run(start, end)),
+        None => Reply::word("none"),
+    }
 }

@@ -41,13 +41,7 @@ impl<const N: usize> Subject for Board<N> {
     fn make(&mut self, call: &Call) -> String {
         let (one, two) = (call.at(0), call.at(1));
         match call.name {
-            "report" if one == two => "ok".to_string(),
-            "report" => match self.board.report(one, two, u64::MAX) {
-                Ok(true) => "ok",
-                Ok(false) => "forbidden",
-                Err(_) => "refused",
-            }
-            .to_string(),
+            "report" => self.board.report(one, two, call.at(2)).map_or("refused", truth).to_string(),
             "acknowledge" => {
                 self.board.acknowledge(one);
                 "done".to_string()
@@ -55,8 +49,8 @@ impl<const N: usize> Subject for Board<N> {
             "contains" => truth(self.board.contains(one)).to_string(),
             "first_missing" => self.hole(one, u64::MAX).0.to_string(),
             "next_hole" => {
-                let (start, end) = self.hole(one, two);
-                format!("{start}-{end}")
+                let hole = self.board.next_hole(one, two);
+                hole.map_or("none".to_string(), |(start, end)| format!("{start}-{end}"))
             }
             name => panic!("no call {name}"),
         }
