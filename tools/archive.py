@@ -66,7 +66,8 @@ RT_LIB, KIT, RETARGETED = "rt lib", "the kit", "rewritten"
 
 @dataclasses.dataclass(frozen=True)
 class Target:
-    """A processor. `name` is the folder in c/lib; `words` are those of clang, or the kit's name of the target. Where some
+    """A processor. `name` is the folder in c/lib; `words` are those of clang, or the kit's name of the target; `processor` is
+    what the object has to say of itself (elf.py). Where some
     cores have `floats` in registers and some don't, the archive says that it passes none, and links with both."""
 
     name: str
@@ -76,6 +77,7 @@ class Target:
     machine: str
     bits: int
     level: str = "-O3"
+    processor: str = ""
     floats: bool = False
 
     def member(self):
@@ -93,19 +95,19 @@ TARGETS = {target.name: target for target in [
     Target("aarch64-none", "AArch64, bare: no floating-point registers", RETARGETED,
            "--target=aarch64-unknown-none -march=armv8-a -mgeneral-regs-only -mstrict-align", "AArch64", 64),
     Target("thumbv6m", "Cortex-M0, M0+, M1; M23", RETARGETED,
-           "--target=thumbv6m-none-eabi -mcpu=cortex-m0 -mfloat-abi=soft", "ARM", 32, SMALL),
+           "--target=thumbv6m-none-eabi -mcpu=cortex-m0 -mfloat-abi=soft", "ARM", 32, SMALL, "12 M"),
     Target("thumbv7m", "Cortex-M3", RETARGETED,
-           "--target=thumbv7m-none-eabi -mcpu=cortex-m3 -mfloat-abi=soft", "ARM", 32, SMALL),
+           "--target=thumbv7m-none-eabi -mcpu=cortex-m3 -mfloat-abi=soft", "ARM", 32, SMALL, "10 M"),
     Target("thumbv7em", "Cortex-M4, M7", RETARGETED,
-           "--target=thumbv7em-none-eabi -mcpu=cortex-m4 -mfloat-abi=soft", "ARM", 32, SMALL, floats=True),
+           "--target=thumbv7em-none-eabi -mcpu=cortex-m4 -mfloat-abi=soft", "ARM", 32, SMALL, "13 M", True),
     Target("thumbv8m.main", "Cortex-M33, M55", RETARGETED,
-           "--target=thumbv8m.main-none-eabi -mcpu=cortex-m33 -mfloat-abi=soft", "ARM", 32, SMALL, floats=True),
+           "--target=thumbv8m.main-none-eabi -mcpu=cortex-m33 -mfloat-abi=soft", "ARM", 32, SMALL, "17 M", True),
     Target("armv7", "ARMv7-A Linux, floats in registers", RETARGETED,
-           "--target=armv7-unknown-linux-gnueabihf -march=armv7-a -mfpu=vfpv3-d16 -mfloat-abi=hard -fPIC", "ARM", 32),
+           "--target=armv7-unknown-linux-gnueabihf -march=armv7-a -mfpu=vfpv3-d16 -mfloat-abi=hard -fPIC", "ARM", 32, processor="10 A 4"),
     Target("riscv32imac", "RISC-V 32, bare, with or without atomics", RETARGETED,
-           "--target=riscv32-unknown-none-elf -march=rv32imc -mabi=ilp32", "RISC-V", 32, SMALL),
+           "--target=riscv32-unknown-none-elf -march=rv32imc -mabi=ilp32", "RISC-V", 32, SMALL, "rv32imc"),
     Target("riscv64gc", "RISC-V 64, Linux or bare", RETARGETED,
-           "--target=riscv64-unknown-linux-gnu -march=rv64gc -mabi=lp64d -fPIC", "RISC-V", 64),
+           "--target=riscv64-unknown-linux-gnu -march=rv64gc -mabi=lp64d -fPIC", "RISC-V", 64, processor="rv64imafdc"),
 ]}
 
 
@@ -292,6 +294,8 @@ def problem_of(target, archive):
     for it in found:
         if (it.machine, it.bits, it.name) != (target.machine, target.bits, target.member()):
             return f"is that of another target: it has {it.name}, for {it.machine} with {it.bits} bits"
+        if it.processor() != target.processor:
+            return f"is for another processor: its attributes say {it.processor()}, not {target.processor}"
         if it.written_size():
             return f"has {it.written_size()} bytes of memory that is written"
     defined = set().union(*[it.defined for it in found])

@@ -1,8 +1,9 @@
 #!/usr/bin/env python3
 """Looks for what the pages quote and name in the sources.
 
-In doc comments of crates/*/src, each block between ``` lines is an example: it has to be found, line by line, in a file
-of one of EXAMPLES, crates that the gate proves, and to name the item that it documents. The pages are README.md,
+In doc comments of crates/*/src, each block that is marked `rust` is an example in Rattle: it has to be found, line by
+line, in a file of one of EXAMPLES, crates that the gate proves, and to name the item that it documents. A block without
+a mark is one in Rust, which `cargo test` runs over the Cargo crate. The pages are README.md,
 CONTRIBUTING.md, docs/*.md and crates/*/CALLING.md. Each of their blocks that is marked `rust` has to be found, line by
 line, in one file crates/*/src/**/*.rt, which the prover checks, or in the examples of rust/src, which `cargo test` runs.
 How far it is indented doesn't matter, nor does the attribute `#![tactic(auto)]`, which each crate has in its root.
@@ -61,16 +62,16 @@ def blocks(page):
 
 
 def examples(path):
-    """The blocks of a source's doc comments, each with the number of its first line and the name of its item."""
-    block, begins, ended = None, 0, []
+    """The examples in Rattle of a source's doc comments, each with the number of its first line and its item's name."""
+    block, begins, ended, is_rattle = None, 0, [], False
     for number, line in enumerate(path.read_text().splitlines(), 1):
         comment = re.match(r"\s*//[/!] ?(.*)$", line)
         item = re.match(r"\s*(?:pub )?(?:const |unsafe )*(?:fn|const|struct|enum|trait|type) (\w+)", line)
         if comment and comment.group(1).startswith("```"):
             if block is None:
-                block, begins = [], number + 1
+                block, begins, is_rattle = [], number + 1, comment.group(1).startswith("```rust")
             else:
-                ended.append((begins, block))
+                ended += [(begins, block)] if is_rattle else []
                 block = None
         elif block is not None:
             block.append(comment.group(1) if comment else line)

@@ -1,9 +1,10 @@
 """Reads what an archive of object files has: members, processor, sections, symbols."""
 import dataclasses
+import re
 import struct
 
 MACHINES = {3: "x86", 40: "ARM", 62: "x86-64", 183: "AArch64", 243: "RISC-V"}
-ALLOCATED, WRITABLE, BSS, SYMBOLS = 2, 1, 8, 2
+ALLOCATED, WRITABLE, BSS, SYMBOLS, ATTRIBUTES, ARM = 2, 1, 8, 2, 0x70000003, 40
 
 
 @dataclasses.dataclass
@@ -24,6 +25,16 @@ class Object:
     sections: list
     defined: set
     wanted: set
+    attributes: dict
+
+    def processor(self):
+        """The processor that the object is for, as its attributes say: of ARM the number of the architecture, the letter of its
+        profile, and the number of the unit for floating-point numbers, if it uses one; of RISC-V the standard extensions."""
+        if self.machine == "ARM":
+            unit = f" {self.attributes[10]}" if self.attributes.get(10) else ""
+            return f"{self.attributes.get(6, 0)} {chr(self.attributes.get(7, 63))}{unit}"
+        base, *more = self.attributes.get(5, "").split("_") if self.machine == "RISC-V" else [""]
+        return re.sub(r"\d+p\d+$", "", base) + "".join(it[0] for it in more if re.fullmatch(r"[a-z]\d+p\d+", it))
 
     def code_size(self):
         """The bytes of code and of constants: without tables for unwinding, which a linker may leave out."""
@@ -67,7 +78,32 @@ def read_object(name, data):
         if header[1] == SYMBOLS:
             for symbol, is_defined in symbols_of(content, contents[header[6]], bits):
                 (defined if is_defined else wanted).add(symbol)
-    return Object(name, MACHINES.get(machine, str(machine)), bits, sections, defined, wanted)
+    found = [content for header, content in zip(headers, contents) if header[1] == ATTRIBUTES]
+    return Object(name, MACHINES.get(machine, str(machine)), bits, sections, defined, wanted,
+                  attributes_of(found[0], machine) if found else {})
+
+
+def attributes_of(data, machine):
+    """What an object says of its processor, by the numbers of the tags of the whole file."""
+    found, at = {}, data.index(b"\0", 5) + 6  # after the version, a length and a name; then a tag and a length
+
+    def number():
+        nonlocal at
+        value, shift = 0, 0
+        while True:
+            value |= (data[at] & 127) << shift
+            at, shift = at + 1, shift + 7
+            if data[at - 1] < 128:
+                return value
+
+    while at < len(data):
+        tag = number()
+        if tag in (4, 5, 65, 67) if machine == ARM else tag % 2:
+            text = text_at(data, at)
+            found[tag], at = text, at + len(text) + 1
+        else:
+            found[tag] = number()
+    return found
 
 
 def symbols_of(table, names, bits):

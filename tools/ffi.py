@@ -1,7 +1,7 @@
 #!/usr/bin/env python3
 """Writes the declarations of the library for C from the exports of crates/net_ffi.
 
-    python3 tools/ffi.py               writes c/net_base.h, and the duties and refusals in docs/FFI.md
+    python3 tools/ffi.py               writes the exports of heads, c/net_base.h, and duties and refusals in docs/FFI.md
     python3 tools/ffi.py --check       compares the files with what it would write; status 1 if one is stale
     python3 tools/ffi.py --tests FILE  writes the program that calls each export at the values of exports.txt
     python3 tools/ffi.py --names       prints the names of the exports
@@ -356,14 +356,29 @@ def page(crate, path):
     return before + PAGE_BEGIN + "\n" + "\n\n".join(parts) + "\n" + PAGE_END + rest.split(PAGE_END, 1)[1]
 
 
+def put(files, only_compares):
+    """Writes files, or returns whether one of them is stale, and says so."""
+    stale = False
+    for path, text in files.items():
+        if not only_compares:
+            path.parent.mkdir(exist_ok=True)
+            path.write_text(text)
+        elif not path.exists() or path.read_text() != text:
+            print(f"{path.relative_to(ROOT)}: stale, run python3 tools/ffi.py")
+            stale = True
+    return stale
+
+
 def main():
-    import exports  # which imports this file
+    import exports  # which import this file
+    import heads
 
     parser = argparse.ArgumentParser(description=__doc__.split("\n")[0])
     parser.add_argument("--check", action="store_true", help="compare, write nothing")
     parser.add_argument("--tests", type=pathlib.Path, help="write the program of exports.txt to a file")
     parser.add_argument("--names", action="store_true", help="print the names of the exports")
     options = parser.parse_args()
+    stale = not (options.names or options.tests) and put(heads.written(), options.check)
     library = Library(EXPORTS)
     if options.names:
         print("\n".join(item.name for item in library.exports()))
@@ -371,13 +386,7 @@ def main():
     if options.tests:
         options.tests.write_text(exports.program(library))
         return
-    stale = False
-    for path, text in ((HEADER, c_part(library, EXPORTS)), (PAGE, page(EXPORTS, PAGE))):
-        if not options.check:
-            path.write_text(text)
-        elif path.read_text() != text:
-            print(f"{path.relative_to(ROOT)}: stale, run python3 tools/ffi.py")
-            stale = True
+    stale |= put({HEADER: c_part(library, EXPORTS), PAGE: page(EXPORTS, PAGE)}, options.check)
     sys.exit(stale)
 
 

@@ -1,8 +1,5 @@
-#!/usr/bin/env python3
-"""Writes the exports of net_ffi that are methods of heads: a test of what the method requires, then the call.
-
-    python3 tools/heads.py            writes crates/net_ffi/src/heads
-    python3 tools/heads.py --check    compares the files with what it would write; status 1 if one is stale
+"""Writes the exports of net_ffi that are methods of heads: a test of what the method requires, then the call. It is a part of
+ffi.py.
 
 An export is a line of heads.txt, whose first lines say what the line says. Of the method it has the comment, or another
 that follows the line; the parameters, where elements are bytes; and each clause `ensures`, after the test that it was
@@ -407,7 +404,7 @@ def file_of(head, exports):
     for module, name in (head.uses | own).values():
         if is_cited(name, clauses):
             uses.setdefault(module, []).append(name)
-    lines = [f"//! {it}".rstrip() for it in rows(head.doc)] + ["// Written by tools/heads.py."]
+    lines = [f"//! {it}".rstrip() for it in rows(head.doc)] + ["// Written by tools/ffi.py."]
     lines += [f"ghost use {module}.{{{', '.join(sorted(set(names)))}}};" for module, names in sorted(uses.items())]
     code = "\n".join(line for line in body if not line.startswith("///"))
     imports = {}
@@ -432,22 +429,6 @@ def written():
     found = heads_of(TABLE.read_text())
     files = {WRITTEN / f"{head.section}.rt": file_of(head, exports) for head, exports in found}
     files[ffi.EXPORTS / "src/heads.rt"] = "\n".join(
-        ["//! Exports that are methods of heads: each is a line of tools/heads.txt. Written by tools/heads.py.",
+        ["//! Exports that are methods of heads: each is a line of tools/heads.txt. Written by tools/ffi.py.",
          *[f"mod {head.section};" for head, _ in found]]) + "\n"
     return files
-
-
-def main():
-    stale = False
-    for path, text in written().items():
-        if "--check" not in sys.argv:
-            path.parent.mkdir(exist_ok=True)
-            path.write_text(text)
-        elif not path.exists() or path.read_text() != text:
-            print(f"{path.relative_to(ffi.ROOT)}: stale, run python3 tools/heads.py")
-            stale = True
-    sys.exit(stale)
-
-
-if __name__ == "__main__":
-    main()

@@ -18,6 +18,7 @@ ROOT = C.parent
 sys.path.insert(0, str(ROOT / "tools"))
 
 import archive  # noqa: E402
+import disassembly  # noqa: E402
 import elf  # noqa: E402
 import exports  # noqa: E402
 import ffi  # noqa: E402
@@ -65,6 +66,9 @@ class Way:
 
     def programs(self):
         return [self.compiler[0], *self.emulator[:1]]
+
+    def objdump(self):
+        return self.compiler[0].replace("gcc", "objdump")
 
 
 def linux(target, compiler, emulator):
@@ -181,15 +185,17 @@ class Programs:
             raise Failed(f"{source.name} isn't compiled: {said[:1500]}")
         return made
 
-    def harness(self, words):
-        """What a bare program has besides: its words, its start."""
+    def harness(self, words, flags):
+        """What a bare program has besides: its words, its start. On a Cortex-M words that aren't aligned are trapped, but where
+        the stack is looked at, which that of the C library's `memmove` is a part of."""
         if not self.way.bare:
             return []
         quoted = "".join(f'"{word}", ' for word in words)
         start = self.folder / "start.o"
         sources = [(HERE / "start.c", start, [f"-DWORDS={quoted}"])]
         if self.way.compiler[0] == "arm-none-eabi-gcc":
-            sources.append((HERE / "cortex_m.c", self.folder / "cortex_m.o", []))
+            traps = [] if "-DSTACK" in flags else ["-DTRAPS"]
+            sources.append((HERE / "cortex_m.c", self.folder / "cortex_m.o", traps))
         for source, made, more in sources:
             status, said = shell([*self.way.compiler, *FLAGS, *more, "-c", source, "-o", made])
             if status:
@@ -203,7 +209,7 @@ class Programs:
     def run(self, name, sources, words=(), flags=(), emulated=()):
         """What a program prints that ends with status 0."""
         program = self.folder / name
-        objects = [*self.harness(words), *[self.compiled(source, flags) for source in sources]]
+        objects = [*self.harness(words, flags), *[self.compiled(source, flags) for source in sources]]
         status, said = shell([*self.way.compiler, *self.way.linking, *objects, self.archive, "-o", program])
         if status:
             raise Failed(f"{name} isn't linked: {said[:1500]}")
@@ -234,6 +240,8 @@ def last(said):
 def tests(programs, generated, options):
     """Runs the tests. Returns what is printed of them, and the digest of the sequence."""
     way = programs.way
+    if problem := disassembly.problem_of(way.target, way.objdump(), programs.archive):
+        raise Failed(problem)
     checks = re.search(r"(\d+) checks", programs.run("exports", [generated / "exports.c"]))
     if not checks:
         raise Failed("exports.c counts no checks")
@@ -265,14 +273,18 @@ def tests(programs, generated, options):
 
 
 def stacks(programs, generated):
-    """Bytes of stack of the export that takes most and of the one after it, as painted."""
+    """Bytes of stack of the export that can take most and of the one after it, with their names, by the code. What calls left
+    painted has to be within."""
     flags = ["-DSTACK", "-Wno-unused-function"]
     said = programs.run("stack", [generated / "sequence.c", generated / "empty.c"], ["300000"], flags)
-    sizes = re.findall(r"^stack: (\d+) (\w+)$", said, flags=re.M)
-    found = sorted(((int(size), name) for size, name in sizes), reverse=True)
-    if not found:
+    painted = {name: int(size) for size, name in re.findall(r"^stack: (\d+) (\w+)$", said, flags=re.M)}
+    if not painted:
         raise Failed(f"stack: {last(said)}")
-    return found[:2]
+    bounds = disassembly.stack_bounds(programs.way.objdump(), programs.folder / "stack")
+    for name, size in painted.items():
+        if size > bounds[name]:
+            raise Failed(f"{name} left {size} bytes of stack painted, and by the code it takes {bounds[name]}")
+    return sorted(((bounds[name], name) for name in painted), reverse=True)[:2]
 
 
 def missing(ways, is_fuzzed):
@@ -296,14 +308,14 @@ def each(ways, act):
 
 
 def print_table(names, stack_of):
-    """What each archive has, and what was seen of its stack: a row for all that are equal. Then what each wants."""
+    """What each archive has, and the stack that it takes: a row for all that are equal. Then what each wants."""
     rows, wanting = {}, {}
     for target in (TARGETS[name] for name in names):
         found = elf.objects(archive.kept(target)[0])
         wanted = " ".join(f"`{name}`" for name in sorted(set().union(*[it.wanted for it in found])))
         wanting.setdefault(wanted, []).append(f"`{target.name}`")
         seen = [(way, most) for way, most in stack_of.items() if way.target == target.name]
-        stack = "; ".join(str(size) for size, _ in seen[0][1]) if seen else "not run"
+        stack = "; ".join(f"{size} {name.removeprefix('net_base_')}" for size, name in seen[0][1]) if seen else "not run"
         machines = ", ".join(way.title.rpartition(" -M ")[2] for way, _ in seen)
         row = f"{target.title} | {sum(it.code_size() for it in found):,} | {stack} | {machines}"
         rows.setdefault(row, []).append(f"`{target.name}`")

@@ -1,4 +1,4 @@
-//! Exports that are methods of heads: each is a line of tools/heads.txt. Written by tools/heads.py.
+//! Exports that are methods of heads: each is a line of tools/heads.txt. Written by tools/ffi.py.
 mod ring;
 mod packets;
 mod assembler;

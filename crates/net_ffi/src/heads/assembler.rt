@@ -1,7 +1,7 @@
 //! Assemblers: sets of positions, stored as runs in memory that the caller keeps.
 //!
 //! At most as many runs are stored as the slice has elements.
-// Written by tools/heads.py.
+// Written by tools/ffi.py.
 ghost use Rattle.net_assembler.specs.AssemblerLaws.{Adds, AddsThenRemovesFront, RemovesFront};
 ghost use Rattle.net_assembler.specs.Positions.{RangeFits, contains, front, holes, maximal_runs, nothing, runs as run_count, shift_down};
 ghost use Rattle.net_assembler.specs.RunLists.{HasSoundRuns, IsCanonical, set_of};

@@ -4,7 +4,7 @@
 //! A head of zeros, but for `expires_at`, is that of an empty buffer. The longest packet has as
 //! many bytes as the storage. Fragments may overlap: at each position the byte is that of the last
 //! fragment there. `present` is an assembler.
-// Written by tools/heads.py.
+// Written by tools/ffi.py.
 ghost use Rattle.net_assembler.specs.Assembler.{MakesTooManyRuns};
 ghost use Rattle.net_assembler.specs.Positions.{nothing};
 ghost use Rattle.net_assembler.specs.RunLists.{HasSoundRuns, set_of};

@@ -6,7 +6,7 @@
 //! `shorten_last` write. `place`, `take_slot` and `shorten_slot` are for a caller that keeps its
 //! slots in another form: `place` takes none, and the caller writes those of the packet; the others
 //! take one slot. What is refused changes nothing.
-// Written by tools/heads.py.
+// Written by tools/ffi.py.
 ghost use Rattle.net_packets.specs.HeadQueue.{CanShorten, CanTake, HasSoundSlots, after_slot, last_slot_index, packet_slot, queue_of};
 ghost use Rattle.net_packets.specs.Packets.{with_last_size};
 ghost use Rattle.net_packets.specs.PacketsHead.{IsSoundHead, packets_head, with_slot_taken};

@@ -4,7 +4,7 @@
 //! nothing is read, queued or held. The queue is the ring of `place`. `next` is the first missing
 //! position, which `net_base_receiver_next` returns. The held runs are those of the assembler
 //! `held`, whose position 0 is `next`: the first of them starts `held.first_start` after it.
-// Written by tools/heads.py.
+// Written by tools/ffi.py.
 ghost use Rattle.net_ffi.specs.ReceiverParts.{IsPlausible};
 ghost use Rattle.net_receiver.specs.Head.{HasSoundParts, head_after_read, receiver_of};
 ghost use Rattle.net_receiver.specs.NewestRuns.{newest_runs, with_starts};

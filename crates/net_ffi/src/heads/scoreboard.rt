@@ -4,7 +4,7 @@
 //! At most as many runs are stored, beyond the first position that wasn't reported, as the slice
 //! has elements. Each call but `net_base_scoreboard_reset` looks at each run, and refuses a
 //! scoreboard that isn't sound.
-// Written by tools/heads.py.
+// Written by tools/ffi.py.
 ghost use Rattle.net_assembler.specs.Positions.{contains, with_range};
 ghost use Rattle.net_assembler.specs.RunLists.{IsCanonical};
 ghost use Rattle.net_receiver.specs.Scoreboards.{IsNextHole, IsSoundBoard, reported_by};

@@ -3,7 +3,7 @@
 //! A head of zeros, but for `first_unacknowledged`, is that of a sender of a stream that begins
 //! there, to which nothing was written. The queue, of bytes that are not acknowledged, is the ring
 //! of `place`. These calls take no SACK blocks: what these report is kept in a scoreboard.
-// Written by tools/heads.py.
+// Written by tools/ffi.py.
 ghost use Rattle.net_ffi.specs.Refusals.{nowhere};
 ghost use Rattle.net_receiver.specs.OneStream.{MatchesStream};
 ghost use Rattle.net_receiver.specs.SenderHeads.{IsSoundHead, sender_of};

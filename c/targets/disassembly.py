@@ -1,0 +1,94 @@
+"""What the code of an archive or of a program does, as objdump shows it: what a target may not have, and the stack that
+functions take."""
+import re
+import subprocess
+
+FLOATS = r"(?<![\w.])[vqdsbh]\d+\b(?!:)"
+# What the code of a target may not have: a pattern of an instruction, and what that is.
+FORBIDDEN = {
+    "x86_64-none": [(r"-0x[0-9a-f]+\(%rsp", "memory below the stack pointer"),
+                    (r"%[xyz]?mm\d|%st\b", "a vector or floating-point register")],
+    "aarch64-none": [(FLOATS, "a vector or floating-point register")],
+    "riscv32imac": [(r"(?<![\w.])f(?:[ats]\d+|\d+)\b", "a floating-point register")],
+}
+FORBIDDEN |= {name: [(FLOATS, "a vector or floating-point register")]
+              for name in ("thumbv6m", "thumbv7m", "thumbv7em", "thumbv8m.main")}
+# Words at an offset from a register, each with the bytes of the word: an odd one isn't aligned, whatever is there.
+WORDS = {
+    "aarch64-none": [(r"(?:ld|st)u?[rp]\s+x\w+,(?: x\w+,)? \[\w+, #(-?\d+)", 8),
+                     (r"(?:ld|st)u?[rp]\s+w\w+,(?: w\w+,)? \[\w+, #(-?\d+)", 4)],
+    "riscv32imac": [(r"[ls]w\s+\w+,(-?\d+)\(", 4)],
+    "riscv64gc": [(r"[ls]d\s+\w+,(-?\d+)\(", 8), (r"[ls]w\s+\w+,(-?\d+)\(", 4)],
+    "thumbv6m": [(r"(?:ldr|str)\s+r\d+, \[\w+, #(-?\d+)", 4)],
+}
+# What an instruction takes off the stack pointer: a number, or registers of so many bytes.
+TAKEN = [
+    (re.compile(r"sub[lq]?\s+\$(0x[0-9a-f]+),%rsp"), None),
+    (re.compile(r"sub(?:\.w)?\s+sp,(?: sp,)? #(0x[0-9a-f]+|\d+)"), None),
+    (re.compile(r"st[rp](?:\.w|d)?\s+[^\[]*\[sp, #-(\d+)\]!"), None),
+    (re.compile(r"addi?\s+sp,sp,-(\d+)"), None),
+    (re.compile(r"(?:push|stmdb\s+sp!,|stmfd\s+sp!,)\s*(?:\.w\s*)?(\{.*\})"), 4),
+    (re.compile(r"push[lq]?\s+(%\w+)"), 8),
+]
+CALL = re.compile(r"(?:blx?|b|b\.[nw]|b\w\w(?:\.[nw])?|callq?|jmpq?|jal|j|tail)\s+(?:ra,|zero,)?([0-9a-f]+)(?: <|$)")
+UNKNOWN = re.compile(r"(?:sub|add)(?:\.w)?\s+sp,(?:\s*sp,)?\s*(?!sp)[a-z]")
+
+
+def functions(objdump, path):
+    """The instructions of each function of a file, by its address, with its name."""
+    said = subprocess.run([objdump, "-d", "--no-show-raw-insn", path], capture_output=True, text=True, check=True).stdout
+    found, lines = {}, []
+    for line in said.splitlines():
+        if head := re.fullmatch(r"([0-9a-f]+) <(.*)>:", line):
+            lines = []
+            # An archive has a section for each function, so that all begin at 0.
+            found.setdefault((int(head[1], 16), head[2]), lines)
+        elif row := re.match(r"\s*[0-9a-f]+:\s+(.*)", line):
+            lines.append(re.sub(r"\s+(?:;|//|@|#\s).*$", "", row[1]).strip())
+    return found
+
+
+def problem_of(target, objdump, path):
+    """An instruction that a target's archive may not have, and why; nothing if there is none."""
+    for (_, name), lines in functions(objdump, path).items():
+        for line in lines:
+            bare = re.sub(r"\b[0-9a-f]+ <.*$", "", line)
+            for pattern, what in FORBIDDEN.get(target, []):
+                if re.search(pattern, bare):
+                    return f"{name} has {what}: {line}"
+            for pattern, size in WORDS.get(target, []):
+                if (match := re.match(pattern, bare)) and int(match[1]) % size:
+                    return f"{name} has a word that isn't aligned: {line}"
+    return ""
+
+
+def frame_of(lines, name):
+    """How many bytes of stack the instructions of a function take, without what it calls."""
+    size = 0
+    for line in lines:
+        if UNKNOWN.match(line):
+            raise ValueError(f"{name}: {line}")
+        for pattern, each in TAKEN:
+            if match := pattern.match(line):
+                size += each * (match[1].count(",") + 1) if each else int(match[1], 0)
+    return size
+
+
+def stack_bounds(objdump, program):
+    """The most bytes of stack that each export can take in a program, with all that it calls: the frames along the deepest
+    path. What is called by a pointer isn't counted, as the C library's `memmove` under Linux."""
+    found = functions(objdump, program)
+    names = {at: name for at, name in found}
+    by_address = {at: lines for (at, _), lines in found.items()}
+    is_x86 = any("%rsp" in line for lines in by_address.values() for line in lines)
+    known = {}
+
+    def depth(at):
+        if at not in known:
+            known[at] = 0  # of a function of the C library that calls itself
+            calls = {int(match[1], 16) for line in by_address[at] if (match := CALL.match(line))} - {at}
+            deepest = max([depth(it) for it in calls if it in by_address], default=0)
+            known[at] = frame_of(by_address[at], names[at]) + deepest + 8 * is_x86
+        return known[at]
+
+    return {name: depth(at) for at, name in names.items() if name.startswith("net_base_")}
