@@ -8,7 +8,7 @@ use Rattle.std.proofs.lemmas.Grind.{common_steps}
 use Rattle.net_assembler.specs.Positions.{bound_of, positions, contains}
 use Rattle.net_assembler.proofs.Positions.{has, contains-positions}
 use Rattle.net_receiver.specs.KeptList.{Piece, piece, piece_byte_at, piece_within}
-use Rattle.net_receiver.specs.Rules.{Segment, ReplyValue, SegmentReply, ReadReply, ShowReply, state_after, verdict, numbers}
+use Rattle.net_receiver.specs.Rules.{Segment, state_after, verdict, numbers}
 use Rattle.net_receiver.specs.ReceiverState.{ReceiverState, domain, next_position, limit_of, receiver_ops, receiver_with_piece, receiver_after_command, receiver_after_read, fresh_receiver}
 use Rattle.net_receiver.specs.Finite.{FiniteState, no_end, top_of, knows_end, can_end, below_end, end_after, has_other_end, finite_after, finite_after_read, bytes_result, finite_result, with_error, fresh_finite, IsSoundEnd}
 use Rattle.net_receiver.specs.declared.receiver.head.ReceiverHead.{ReceiverHead}

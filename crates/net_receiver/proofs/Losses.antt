@@ -1,5 +1,5 @@
 -- Up to where what isn't reported is lost, run by run.
-use Rattle.std.proofs.Common.{◌≡◌, ℕ, ◌+◌, ◌-◌, ◌*◌, ◌<◌, ◌≤◌, ◌↔◌, ◌||◌, max, min, true, false, List, [], ◌∷◌, length, refl, sym, ap, subst, ◌∙◌, arith, IsTrue, nat_le, nat_lt, ◌⊎◌, inl, inr}
+use Rattle.std.proofs.Common.{◌≡◌, ℕ, ◌+◌, ◌-◌, ◌*◌, ◌<◌, ◌≤◌, ◌↔◌, max, true, false, List, [], ◌∷◌, length, refl, ap, subst, ◌∙◌, arith, IsTrue, nat_lt, ◌⊎◌, inl, inr}
 use Rattle.std.proofs.lemmas.Bool.{both_ways, cases_lt}
 use Rattle.std.proofs.lemmas.Bool.Decides.{nat_tests}
 use Rattle.net_assembler.specs.Positions.{Positions, contains, first_missing, maximal_runs}
@@ -46,7 +46,7 @@ few_tell d n count bytes most rs e e' product less few = grind (arith, nat_tests
 pub many_tell : (d n count bytes most : ℕ) (rs : List (ℕ × ℕ)) → count ≡ length rs → bytes ≡ sizes rs → (most < bytes → (d - 1) * n ≤ most) →
     (max 1 d ≤ count) ⊎ (most < bytes) → tell_loss d n rs ≡ true
 many_tell d n count bytes most rs e e' product which = elim which [
-  inl many ↦ grind (arith, nat_tests)
+  | inl many ↦ grind (arith, nat_tests)
   | inr more ↦ (let exact = product more in grind (arith, nat_tests))
 ]
 
@@ -67,7 +67,7 @@ module _ (d n : ℕ) (all : List (ℕ × ℕ)) (r : ℕ × ℕ) (rest : List (�
       let some = so_far.rising.1 in
       record {
         lost = λ p l. elim (cases_lt p limit) [
-          inl before ↦ so_far.lost p before
+          | inl before ↦ so_far.lost p before
           | inr from ↦ ap (tell_loss d n) (so_far.others p from ∙ all_above r.0 p (r ∷ rest) (omega arith, some, so_far.rising.2) l) ∙ tells
         ];
         others = λ p l. so_far.others p (omega (arith, l, low)) ∙ (let here : nat_lt p r.0 ≡ false = grind (arith, nat_tests) in grind (arith, nat_tests));
@@ -79,7 +79,7 @@ module _ (d n : ℕ) (all : List (ℕ × ℕ)) (r : ℕ × ℕ) (rest : List (�
   bound_stops few p = (
     so_far.lost p,
     λ lost. elim (cases_lt p limit) [
-      inl before ↦ before
+      | inl before ↦ before
       | inr from ↦ absurd (both_ways _ (ap (tell_loss d n) (so_far.others p from) ∙ tells_less d n (r ∷ rest) p few) lost)
     ],
   )
@@ -88,7 +88,7 @@ pub bound_ends : (d n : ℕ) (all : List (ℕ × ℕ)) (limit : ℕ) → IsBound
 bound_ends d n all limit so_far p = (
   so_far.lost p,
   λ lost. elim (cases_lt p limit) [
-    inl before ↦ before
+    | inl before ↦ before
     | inr from ↦ absurd (both_ways _ (ap (tell_loss d n) (so_far.others p from) ∙ none_tells d n) lost)
   ],
 )
@@ -105,8 +105,8 @@ pub no_hole : (s : Positions) (p limit start end : ℕ) → IsNextHole s p limit
 no_hole s p limit start end h le =
     let same : end ≡ start = omega (arith, h.order, le) in
     let at : start ≡ limit = elim (cases_lt end limit) [
-      inr l ↦ omega (arith, l, same, h.within)
+      | inr l ↦ omega (arith, l, same, h.within)
       | inl l ↦ absurd (both_ways (contains s (first_missing s p)) (first_missing-misses s p)
-      (subst (λ q. IsTrue (contains s q)) (let begins = h.begins in omega (arith, begins, same, l)) (h.ended l)))
+          (subst (λ q. IsTrue (contains s q)) (let begins = h.begins in omega (arith, begins, same, l)) (h.ended l)))
     ] in
     subst (λ q. IsNextHole s p limit limit q) (same ∙ at) (subst (λ q. IsNextHole s p limit q end) at h)

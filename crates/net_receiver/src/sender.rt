@@ -213,9 +213,7 @@ impl<S: Storage<u8>> SenderOver<S> {
     {
         laws::matches_stream();
         let span = self.head.peek_at(self.storage.count(), pos, max);
-        let first = self
-            .storage
-            .part(span.from, span.from + span.contiguous);
+        let first = self.storage.part(span.from, span.from + span.contiguous);
         let second = self.storage.part(0, span.count - span.contiguous);
         (first, second)
     }

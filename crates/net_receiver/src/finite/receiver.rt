@@ -248,7 +248,10 @@ impl<S: Storage<u8>, const N: usize> FiniteReceiverOver<S, N> {
             take count self.old.receiver.queue
             ≡ slice_range x self.old.receiver.read (self.old.receiver.read + count) }
     {
-        prove!(count <= self.receiver.queued(), "more bytes than are queued");
+        prove!(
+            count <= self.receiver.queued(),
+            "more bytes than are queued"
+        );
         self.receiver.remove(count);
     }
 

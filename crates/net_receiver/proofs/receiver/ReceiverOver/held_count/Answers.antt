@@ -1,6 +1,6 @@
 use Rattle.std.proofs.Common.{◌∙◌, ap, arith}
 use Rattle.net_assembler.specs.Positions.{runs}
-use Rattle.net_receiver.specs.ReceiverState.{ReceiverState, domain, IsSound}
+use Rattle.net_receiver.specs.ReceiverState.{ReceiverState, domain}
 use Rattle.net_receiver.proofs.Heads.{lent_view, lent_sound, sound_for}
 use Rattle.net_receiver.proofs.receiver.ReceiverOver.held_count.Goals as goal
 

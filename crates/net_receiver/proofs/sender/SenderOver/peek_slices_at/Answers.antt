@@ -1,4 +1,4 @@
-use Rattle.std.proofs.Common.{inl, inr, [], ◌≡◌, ◌<◌, ◌≤◌, ◌-◌, ◌++◌, ◌∙◌, ap, sym, length, take, drop, min, arith, length-take, length-drop}
+use Rattle.std.proofs.Common.{inl, inr, [], ◌≡◌, ◌≤◌, ◌-◌, ◌++◌, ◌∙◌, ap, sym, length, take, drop, min, arith, length-take, length-drop}
 use Rattle.std.proofs.lemmas.Bool.{cases_lt}
 use Rattle.std.proofs.lemmas.List.{nil_from_length, take_min}
 use Rattle.net_ring.specs.Ring.{queue}
@@ -13,10 +13,13 @@ use Rattle.net_receiver.proofs.sender.SenderOver.peek_slices_at.Goals as goal
 -- no more is lent than is stored
 pub part-second-requires : goal.part-second-requires
 part-second-requires g c = record {
-  count = (omega arith, elim (cases_lt c.args.pos c.self.inside.head.first_unacknowledged) [
-    inl below ↦ (let none = c.peek_at-span.ensures.before below in omega (arith, none.1))
-    | inr from ↦ (let count = c.peek_at-span.ensures.count from in omega (arith, count, c.self.invariant.place.1))
-  ]);
+  count = (
+    omega arith,
+    elim (cases_lt c.args.pos c.self.inside.head.first_unacknowledged) [
+      | inl below ↦ (let none = c.peek_at-span.ensures.before below in omega (arith, none.1))
+      | inr from ↦ (let count = c.peek_at-span.ensures.count from in omega (arith, count, c.self.invariant.place.1))
+    ],
+  );
 }
 
 pub returns : goal.returns
@@ -32,7 +35,7 @@ returns g c =
     let rest = drop i (queue ring) in
     let first = ap (λ (o : SenderState). o.first_unacknowledged) c.self.view_is in
     let within : span.result.count - span.result.contiguous ≤ length xs = elim (cases_lt c.args.pos c.self.inside.head.first_unacknowledged) [
-      inl below ↦ (let none = c.peek_at-span.ensures.before below in omega (arith, none.1))
+      | inl below ↦ (let none = c.peek_at-span.ensures.before below in omega (arith, none.1))
       | inr from ↦ (let count = c.peek_at-span.ensures.count from in omega (arith, count, c.self.invariant.place.1))
     ] in
     let one = part_is xs span.result.from _ span.result.contiguous (omega arith) (omega (arith, span.ensures.within, c.count.ensures)) a c.part-first.ensures in
@@ -49,11 +52,11 @@ returns g c =
     record {
       bytes = lent;
       cut = λ from. one.0 ∙ span.ensures.end xs [] (sym c.count.ensures) (omega (arith, from, first))
-      ∙ ap (λ (o : SenderState). min c.args.max (contiguous_end o c.args.pos - c.args.pos)) c.self.view_is;
+          ∙ ap (λ (o : SenderState). min c.args.max (contiguous_end o c.args.pos - c.args.pos)) c.self.view_is;
       before = λ below. (let none = span.ensures.before (omega (arith, below, first)) in
-      (nil_from_length a (one.0 ∙ none.2), nil_from_length b (omega (arith, other.0, none.1))));
+          (nil_from_length a (one.0 ∙ none.2), nil_from_length b (omega (arith, other.0, none.1))));
       says = λ f w s from.
-      (let part = drop (c.args.pos - v.first_unacknowledged) v.queue in
-      let long : length (a ++ b) ≡ min c.args.max (length part) = ap length (lent from) ∙ length-take c.args.max part in
-      lent_says c.matches_stream.ensures.there f w v c.args.pos (a ++ b) s from (lent from ∙ sym (take_min c.args.max part) ∙ ap (λ n. take n part) (sym long)));
+          (let part = drop (c.args.pos - v.first_unacknowledged) v.queue in
+          let long : length (a ++ b) ≡ min c.args.max (length part) = ap length (lent from) ∙ length-take c.args.max part in
+          lent_says c.matches_stream.ensures.there f w v c.args.pos (a ++ b) s from (lent from ∙ sym (take_min c.args.max part) ∙ ap (λ n. take n part) (sym long)));
     }

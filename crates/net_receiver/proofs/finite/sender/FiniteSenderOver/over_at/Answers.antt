@@ -1,5 +1,4 @@
-use Rattle.std.proofs.Common.{◌-◌, [], length, ap, sym, subst, arith}
-use Rattle.std.proofs.lemmas.List.{drop_all}
+use Rattle.std.proofs.Common.{[], length, sym, subst}
 use Rattle.net_receiver.specs.SenderState.{Sends}
 use Rattle.net_receiver.specs.FiniteSender.{FiniteSenderState}
 use Rattle.net_receiver.proofs.Senders.{fresh_sends}

@@ -24,5 +24,5 @@ returns g c =
       count = c.write.ensures.count [] ∙ ap (λ o. min (length c.args.bytes.now) (finite_room o)) before;
       state = left ∙ c.write.ensures.state [] ∙ ap (λ o. with_bytes o xs) before;
       sends = λ f w s. subst (λ (o : FiniteSenderState). Sends f (w ++ xs) o.sender) (sym left)
-      (c.write.ensures.sends [] f w (subst (λ (o : FiniteSenderState). Sends f w o.sender) (sym before) s));
+          (c.write.ensures.sends [] f w (subst (λ (o : FiniteSenderState). Sends f w o.sender) (sym before) s));
     }

@@ -1,4 +1,4 @@
-use Rattle.std.proofs.Common.{ℕ, ◌≡◌, ◌∙◌, ◌∷◌, ◌-◌, ◌*◌, ◌≤◌, ◌⊎◌, ◌<◌, max, inl, inr, length, sym, ap, subst, arith}
+use Rattle.std.proofs.Common.{ℕ, ◌≡◌, ◌∙◌, ◌∷◌, ◌*◌, ◌≤◌, ◌⊎◌, ◌<◌, max, inl, inr, length, sym, ap, subst, arith}
 use Rattle.net_assembler.specs.Positions.{maximal_runs}
 use Rattle.net_assembler.specs.RunLists.{set_of}
 use Rattle.net_receiver.specs.Scoreboards.{reported_by, beyond, sizes}
@@ -41,7 +41,7 @@ loop-start-preserved c =
     let product = ap (λ k. k * n) c.saturating_sub.ensures in
     let which : (max 1 d ≤ c.loop-start.count) ⊎ (c.saturating_mul-most.result < c.loop-start.bytes) =
     elim c.else-count-max.branch [
-      else-count-max-via-then-count-max+else-bytes-most w ↦ inr w.if-bytes-most.false
+      | else-count-max-via-then-count-max+else-bytes-most w ↦ inr w.if-bytes-most.false
       | else-count-max-via-else-count-max w ↦ inl (omega (arith, w.if-count-max.false, c.max.ensures))
     ] in
     let tells = many_tell d n c.loop-start.count c.loop-start.bytes c.saturating_mul-most.result (item ∷ c.next.new.self)
