@@ -28,7 +28,6 @@ TOP = '''//! The proved code: crates of the repository without their contracts, 
 '''
 ROOT, SHIM, PAGE = 'crate::proved', 'crate::rattle', 'crate::contracts'
 PATHS = {'std::snapshot': f'{SHIM}::snapshot', 'std::fmt::InlineText': f'{SHIM}::InlineText', 'std': 'core'}
-SHIM_USES = {r'\bVec<': f'use {SHIM}::Vec;\n', r'\.slice_mut\(': f'use {SHIM}::SliceMut as _;\n'}
 GHOST_IMPORTS = {'Model', 'Error', 'AllocError'}  # of std and thiserror: only erased text names them
 GHOST_DERIVES, GHOST_ATTRIBUTES = {'Drop', 'Error'}, {'tactic', 'error'}      # an error's text is in the layer by hand
 PLAIN_ATTRIBUTES = {'allow', 'cfg', 'default', 'derive', 'inline', 'must_use', 'non_exhaustive', 'repr', 'track_caller'}
@@ -255,9 +254,9 @@ class Eraser(Text):
         for word in words(out):
             if word in CONTRACT_WORDS or not word.isascii() and word[0] not in '"\'b':
                 raise Refused(f'a word of contracts is left: {word}')
-        uses = ''.join(use for pattern, use in SHIM_USES.items() if re.search(pattern, out) and use not in out)
-        top = re.match(r'(?://![^\n]*\n)*', out).end()
-        return out[:top] + '\n' * bool(top and uses) + uses + out[top:]
+        vec = f'use {SHIM}::Vec;\n'                                              # in Rust without std it is imported
+        top = re.match(r'(?://![^\n]*\n)*\n?', out).end()
+        return out[:top] + vec + out[top:] if re.search(r'\bVec<', out) and vec not in out else out
 
 
 def erased(said):

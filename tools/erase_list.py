@@ -10,7 +10,7 @@ CRATES = {
     'net_ring': [],
     'net_packets': [],
     'net_assembler': [],
-    'net_receiver': ['schedule', 'command', 'reply', 'sack_sender'],
+    'net_receiver': ['schedule', 'command', 'reply', 'sack_sender', 'for_rattle', 'kept'],
     'net_base': ['loopback', 'device', 'echo', 'rx_token', 'tx_token', 'frame_lists', 'non_zero_u16', 'non_zero_usize'],
     'net_tcp': [],
 }
@@ -37,7 +37,6 @@ UNGUARDED = {
     'RingOver::enqueue_many_with': CLOSURE,
     'PacketsOver::enqueue_with_infallible': CLOSURE,
     'PacketsOver::dequeue_with': CLOSURE,
-    'RetransmissionTimeout::acknowledged': 'what it calls tests that the estimate is small',
 }
 
 # For all files, or for one, what differs: an old text, which occurs there, and the new one.
@@ -45,6 +44,13 @@ REPLACED = {
     '': [
         ('fn fmt<W: fmt::Write>(&self, f: &mut fmt::Formatter<W>)', "fn fmt(&self, f: &mut fmt::Formatter<'_>)"),
         (', const N: usize> =', ', const N: usize = 4> ='),
+        ('KeptBytes', 'Kept'),
+        ('fn keep(&mut self, pos: u64, bytes: &[u8]', 'fn segment(&mut self, pos: u64, bytes: &[u8]'),
+        ('.keep(pos, ', '.segment(pos, '),
+    ],
+    'net_ring/managed.rt': [
+        ('&self.as_slice()[', '&self['),
+        ('.slice_mut(', '.index_mut('),
     ],
     'net_ring/ring_buffer.rt': [
         ('#[derive(Debug)]\npub struct RingOver', 'pub struct RingOver'),
@@ -75,8 +81,8 @@ REPLACED = {
         ('} else {\n            put_header(&mut self.slots, at, size, header);\n        }', '}'),
     ],
     'net_assembler/assembler.rt': [
-        ('#[derive(Debug, Drop)]\npub struct Assembler<const N: usize> {', 'pub struct Assembler<const N: usize = 4> {'),
-        ('    head: AssemblerHead,\n    runs: [Run; N],', '    pub(crate) head: AssemblerHead,\n    pub(crate) runs: [Run; N],'),
+        ('#[derive(Debug, Drop)]\npub struct Assembler<const N: usize> {',
+         '#[derive(Clone)]\npub struct Assembler<const N: usize = 4> {'),
     ],
     'net_base/phy.rt': [
         ('pub use non_zero_u16::NonZeroU16;', 'pub use std::num::NonZeroU16;'),
@@ -93,40 +99,10 @@ REPLACED = {
     'net_base/phy/device_capabilities.rt': [
         ('pub struct DeviceCapabilities', '#[non_exhaustive]\npub struct DeviceCapabilities'),
     ],
-    'net_receiver/receiver.rt': [
-        ('pub const fn new(storage: S) -> Self',
-         'pub const fn over(storage: S) -> Self'),
-        ('pub const fn new_at(storage: S, first: u64) -> Self',
-         'pub const fn over_at(storage: S, first: u64) -> Self'),
-        ('Self::new_at(storage, 0)',
-         'Self::over_at(storage, 0)'),
-        ('pub fn newest_runs(',
-         'pub fn list_newest_runs('),
+    'net_receiver/lib.rt': [
+        ('Kept, Kept,', 'Kept,'),
     ],
-    'net_receiver/receiver/kept.rt': [
-        ('#[derive(Debug, Drop)]',
-         '#[derive(Debug, Clone, Copy, PartialEq, Eq)]'),
-        ('    /// The first three held runs after the call, as a selective acknowledgement lists them:\n    /// absolute (start, end), the end not included, in rising order, filled from the first on. They\n    /// are listed even if no byte was kept.\n    pub sack: [Option<(u64, u64)>; 3],\n',
-         ''),
-    ],
-    'net_receiver/receiver/head.rt': [
-        ('        let sack = self.first_runs(storage, runs);\n        Ok(Kept { kept, queued, sack })',
-         '        Ok(Kept { kept, queued })'),
-    ],
-    'net_receiver/scoreboard/head.rt': [
-        ('pub fn new_at(',
-         'pub const fn new_at('),
-        ('pub fn new(',
-         'pub const fn new('),
-    ],
-    'net_receiver/finite/receiver.rt': [
-        ('pub fn new_at(',
-         'pub fn over_at('),
-        ('ReceiverOver::new_at(',
-         'ReceiverOver::over_at('),
-    ],
-    'net_receiver/receiver/reads.rt': [
-        ('pub fn peek_slice(&mut self,',
-         'pub fn peek_slice(&self,'),
+    'net_receiver/receiver/newest.rt': [
+        ('fn newest<', 'fn newest_runs<'),
     ],
 }

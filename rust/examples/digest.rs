@@ -100,7 +100,8 @@ struct Values<'a> {
 
 impl Values<'_> {
     fn call_ring(&mut self, run: &mut Run) {
-        let (which, count, offset) = (run.below(4), run.scramble(), run.below(CAPACITY as u64 + 4) as usize);
+        let (which, count, offset) =
+            (run.below(4), run.scramble(), run.below(CAPACITY as u64 + 4) as usize);
         let ring = &mut self.ring;
         match which {
             0 => run.eat(ring.enqueue_slice(&run.data[..count]) as u64),
@@ -164,7 +165,8 @@ impl Values<'_> {
 
     fn call_sender(&mut self, run: &mut Run) {
         let it = &mut self.sender;
-        let (which, count, position) = (run.below(4), run.scramble(), run.near(it.first_unacknowledged()));
+        let (which, count, position) =
+            (run.below(4), run.scramble(), run.near(it.first_unacknowledged()));
         match which {
             0 => run.eat(it.write(&run.data[..count]) as u64),
             1 => run.eat_bytes(it.peek_at(position, count)),
@@ -251,7 +253,8 @@ impl Values<'_> {
                 run.eat(product.map_or(0, |it| it.total_micros()));
             }
             _ => {
-                let (number, initial) = (SequenceNumber::new(one as u32), SequenceNumber::new((one >> 32) as u32));
+                let (number, initial) =
+                    (SequenceNumber::new(one as u32), SequenceNumber::new((one >> 32) as u32));
                 run.eat(SequenceNumber::at(number, other).get().into());
                 let position = number.position(initial, other);
                 run.eat_truth(position.is_some());
@@ -262,7 +265,8 @@ impl Values<'_> {
 }
 
 fn main() {
-    let wanted = std::env::args().nth(1).map_or(1_000_000, |word| word.parse().expect("a number of calls"));
+    let wanted =
+        std::env::args().nth(1).map_or(1_000_000, |word| word.parse().expect("a number of calls"));
     let mut run = Run {
         state: 0x9e3779b97f4a7c15,
         digest: 0xcbf29ce484222325,

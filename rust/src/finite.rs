@@ -1,13 +1,16 @@
-//! Streams that end: a receiver that knows where its stream ends. (Not in smoltcp.)
+//! Streams that end: a receiver that knows where its stream ends, and a sender that says so. (Not in smoltcp.)
 //!
-//! By hand: storage that is converted, what is printed, and the texts of the error.
-use core::fmt;
+//! By hand: storage that is converted, calls of the receiver of the bytes, what is printed, and the texts of the error.
+use core::{fmt, ops};
 
 use crate::managed::ManagedSlice;
+use crate::proved::net_receiver::ReceiverOver;
 use crate::proved::net_ring::Storage;
 use crate::rattle::error_text;
 
-pub use crate::proved::net_receiver::{FiniteError, FiniteReceiver, FiniteReceiverOver};
+pub use crate::proved::net_receiver::{
+    FiniteError, FiniteReceiver, FiniteReceiverOver, FiniteSender, FiniteSenderOver,
+};
 
 error_text! {
     FiniteError, error => match error {
@@ -22,16 +25,60 @@ impl<'a, const N: usize> FiniteReceiver<'a, N> {
     /// # Panics
     ///
     /// If `first` is `u64::MAX`: no number is left for the end.
-    pub fn empty_at<S>(storage: S, first: u64) -> Self
-    where
-        S: Into<ManagedSlice<'a, u8>>,
-    {
+    pub fn empty_at<S: Into<ManagedSlice<'a, u8>>>(storage: S, first: u64) -> Self {
         FiniteReceiverOver::over_at(storage.into(), first)
+    }
+}
+
+impl<S: Storage<u8>, const N: usize> FiniteReceiverOver<S, N> {
+    /// Calls `f` on the contiguous bytes at the head of the queue, dequeues as many as it counts, and returns what it
+    /// returned.
+    ///
+    /// # Panics
+    ///
+    /// If `f` counts more bytes than it is lent. Then nothing changes.
+    pub fn read_with<R, F: FnOnce(&[u8]) -> (usize, R)>(&mut self, f: F) -> (usize, R) {
+        let part = self.as_slices().0;
+        let longest = part.len();
+        let answer = f(part);
+        assert!(answer.0 <= longest, "more bytes than were lent");
+        self.remove(answer.0);
+        answer
+    }
+}
+
+/// The receiver of the bytes, for the calls that change nothing.
+impl<S: Storage<u8>, const N: usize> ops::Deref for FiniteReceiverOver<S, N> {
+    type Target = ReceiverOver<S, N>;
+
+    fn deref(&self) -> &ReceiverOver<S, N> {
+        self.receiver()
+    }
+}
+
+impl<'a> FiniteSender<'a> {
+    /// Returns a sender of a stream that begins at position `first`, to which nothing was written.
+    pub fn new_at<S: Into<ManagedSlice<'a, u8>>>(storage: S, first: u64) -> Self {
+        FiniteSenderOver::over_at(storage.into(), first)
     }
 }
 
 impl<S: Storage<u8>, const N: usize> fmt::Debug for FiniteReceiverOver<S, N> {
     fn fmt(&self, f: &mut fmt::Formatter) -> fmt::Result {
-        f.debug_struct("FiniteReceiver").field("receiver", self.receiver()).field("end", &self.end()).finish()
+        f.debug_struct("FiniteReceiver")
+            .field("receiver", self.receiver())
+            .field("end", &self.end())
+            .finish()
+    }
+}
+
+/// The first number that isn't acknowledged, that after the last one, and whether the stream has its end: not the storage.
+impl<S: Storage<u8>> fmt::Debug for FiniteSenderOver<S> {
+    fn fmt(&self, f: &mut fmt::Formatter) -> fmt::Result {
+        f.debug_struct("FiniteSender")
+            .field("first_number", &self.first_number())
+            .field("numbers_end", &self.numbers_end())
+            .field("is_closed", &self.is_closed())
+            .finish()
     }
 }

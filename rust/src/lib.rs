@@ -51,6 +51,7 @@ extern crate std;
 pub mod finite;
 pub mod managed;
 pub mod phy;
+#[rustfmt::skip]
 mod proved;
 pub mod rand;
 mod rattle;

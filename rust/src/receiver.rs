@@ -1,58 +1,35 @@
 //! The receiver of one stream of bytes. (Not in smoltcp's lowest layer.)
+//!
+//! By hand: storage that is converted, what has 4 runs, and what is printed.
 use core::fmt;
 
 use crate::managed::ManagedSlice;
 use crate::proved::net_ring::Storage;
 use crate::storage::Listed;
 
-pub use crate::proved::net_receiver::{HeldRun, HeldRuns, Kept, Receiver, ReceiverOver};
+pub use crate::proved::net_receiver::{HeldRuns, Kept, NewestRunIter, Receiver, ReceiverOver};
 
 impl<'a> Receiver<'a> {
     /// Returns a receiver of a stream whose first byte has position 0, with room for 4 held runs.
-    pub fn new<S>(storage: S) -> Receiver<'a>
-    where
-        S: Into<ManagedSlice<'a, u8>>,
-    {
+    pub fn new<S: Into<ManagedSlice<'a, u8>>>(storage: S) -> Receiver<'a> {
         Receiver::empty_at(storage, 0)
     }
 
     /// Returns a receiver of a stream whose first byte has position `first`, with room for 4 held runs.
-    pub fn new_at<S>(storage: S, first: u64) -> Receiver<'a>
-    where
-        S: Into<ManagedSlice<'a, u8>>,
-    {
+    pub fn new_at<S: Into<ManagedSlice<'a, u8>>>(storage: S, first: u64) -> Receiver<'a> {
         Receiver::empty_at(storage, first)
     }
 }
 
 impl<'a, const N: usize> Receiver<'a, N> {
     /// Returns a receiver of a stream whose first byte has position 0, with room for `N` held runs.
-    pub fn empty<S>(storage: S) -> Self
-    where
-        S: Into<ManagedSlice<'a, u8>>,
-    {
+    pub fn empty<S: Into<ManagedSlice<'a, u8>>>(storage: S) -> Self {
         Self::empty_at(storage, 0)
     }
 
     /// Returns a receiver of a stream whose first byte has position `first`, with room for `N` held runs.
-    pub fn empty_at<S>(storage: S, first: u64) -> Self
-    where
-        S: Into<ManagedSlice<'a, u8>>,
-    {
+    pub fn empty_at<S: Into<ManagedSlice<'a, u8>>>(storage: S, first: u64) -> Self {
         ReceiverOver::over_at(storage.into(), first)
-    }
-}
-
-impl<S: Storage<u8>, const N: usize> ReceiverOver<S, N> {
-    /// Lists the held runs that segments touched last, the last one first, as TCP's SACK option wants them.
-    pub fn newest_runs<const K: usize>(
-        &self,
-        pos: u64,
-        recent: &mut [u64; K],
-    ) -> impl Iterator<Item = (u64, u64)> {
-        let mut runs = [HeldRun { start: 0, end: 0 }; K];
-        let count = self.list_newest_runs(pos, recent, &mut runs);
-        runs.into_iter().take(count).map(|run| (run.start, run.end))
     }
 }
 

@@ -35,7 +35,10 @@ fn received() {
         }
         assert_eq!(it.segment(first + 4, b"ef").map(|kept| (kept.kept, kept.queued)), Ok((2, 0)));
         assert_eq!(it.held().collect::<Vec<_>>(), [(first + 4, first + 6)]);
-        assert_eq!(it.segment(first - 1, b"-abcd").map(|kept| (kept.kept, kept.queued)), Ok((4, 6)));
+        assert_eq!(
+            it.segment(first - 1, b"-abcd").map(|kept| (kept.kept, kept.queued)),
+            Ok((4, 6))
+        );
         let mut into = [0; 8];
         assert_eq!((it.read(&mut into), &into[..6], it.next()), (6, &b"abcdef"[..], first + 6));
         assert_eq!(it.window_end(), (first + 6).checked_add(16));
@@ -76,7 +79,10 @@ fn last_positions() {
     let mut storage = [0u8; 16];
     let mut it = Sender::new_at(&mut storage[..], u64::MAX - 4);
     assert_eq!((it.window(), it.write(b"abcdef"), it.end()), (4, 4, u64::MAX));
-    assert_eq!((it.window(), it.peek_at(u64::MAX - 1, 9), it.peek_at(u64::MAX, 9)), (0, &b"d"[..], &b""[..]));
+    assert_eq!(
+        (it.window(), it.peek_at(u64::MAX - 1, 9), it.peek_at(u64::MAX, 9)),
+        (0, &b"d"[..], &b""[..])
+    );
     assert!(it.acknowledge(u64::MAX) && it.is_empty() && it.window() == 0);
 }
 
@@ -86,7 +92,10 @@ fn assembled() {
     let most = usize::MAX;
     for at in [most / 2 - 3, most / 2, most / 2 + 1, most - 9] {
         let mut it = Assembler::<2>::empty();
-        assert_eq!((it.add(at, 4), it.add(at + 6, 3), it.add(at + 20 % 16, 2)), (Ok(()), Ok(()), Ok(())));
+        assert_eq!(
+            (it.add(at, 4), it.add(at + 6, 3), it.add(at + 20 % 16, 2)),
+            (Ok(()), Ok(()), Ok(()))
+        );
         assert_eq!(it.iter_data().collect::<Vec<_>>(), [(at, at + 9)]);
         assert!(it.contains(at + 8) && !it.contains(at + 9) && !it.contains(at - 1));
         assert_eq!(it.add_then_remove_front(0, at), Ok(at + 9));
@@ -103,7 +112,10 @@ fn assembled() {
 fn longest_ring() {
     let mut storage = vec![(); usize::MAX];
     let mut it = RingBuffer::new(&mut storage[..]);
-    assert_eq!((it.enqueue_many(usize::MAX).len(), it.window(), it.is_full()), (usize::MAX, 0, true));
+    assert_eq!(
+        (it.enqueue_many(usize::MAX).len(), it.window(), it.is_full()),
+        (usize::MAX, 0, true)
+    );
     assert_eq!((it.dequeue_many(usize::MAX - 2).len(), it.len()), (usize::MAX - 2, 2));
     assert_eq!((it.enqueue_many(9).len(), it.enqueue_many(9).len()), (9, 9));
     assert_eq!((it.dequeue_many(9).len(), it.enqueue_many(5).len(), it.len()), (2, 5, 23));
@@ -121,7 +133,10 @@ fn fragments() {
         assert_eq!(it.set_total_size(offset), Err(FragmentError::TooLong), "{offset}");
         assert!(!it.overlaps(offset, usize::MAX));
     }
-    assert_eq!((it.add(6, b"ab"), it.overlaps(0, usize::MAX), it.overlaps(usize::MAX, 1)), (Ok(()), true, false));
+    assert_eq!(
+        (it.add(6, b"ab"), it.overlaps(0, usize::MAX), it.overlaps(usize::MAX, 1)),
+        (Ok(()), true, false)
+    );
 }
 
 #[test]

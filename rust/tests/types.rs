@@ -4,6 +4,7 @@ use std::collections::hash_map::DefaultHasher;
 use std::error::Error;
 use std::fmt::{Debug, Display};
 use std::hash::{Hash, Hasher};
+use std::sync::Mutex;
 
 use net_base::finite::{FiniteError, FiniteReceiver};
 use net_base::managed::ManagedSlice;
@@ -12,13 +13,13 @@ use net_base::phy::{
     SegmentationCapabilities, IPV4_FRAGMENT_PAYLOAD_ALIGNMENT,
 };
 use net_base::rand::Rand;
-use net_base::receiver::{HeldRun, Kept, Receiver};
+use net_base::receiver::{Kept, Receiver, ReceiverOver};
 use net_base::scoreboard::Scoreboard;
-use net_base::sender::Sender;
+use net_base::sender::{Sender, SenderOver};
 use net_base::sequence_number::SequenceNumber;
 use net_base::storage::{
-    Assembler, Empty, FragmentBuffer, FragmentError, Full, PacketBuffer, PacketMetadata,
-    RingBuffer, TooManyHolesError,
+    Assembler, Empty, FragmentBuffer, FragmentError, FragmentsOver, Full, PacketBuffer,
+    PacketMetadata, PacketsOver, RingBuffer, RingOver, TooManyHolesError,
 };
 use net_base::tcp::{
     AdvertisedWindow, PartsSum, PeerWindow, RetransmissionTimeout, RttEstimate, TimeoutBounds,
@@ -50,11 +51,7 @@ fn texts_of_values() {
     assert_eq!(debug(Instant::from_micros(-7)), "Instant { micros: -7 }");
     assert_eq!(debug(Duration::from_micros(7)), "Duration { micros: 7 }");
     assert_eq!(debug(Kept { kept: 3, queued: 2 }), "Kept { kept: 3, queued: 2 }");
-    assert_eq!(debug(HeldRun { start: 3, end: 5 }), "HeldRun { start: 3, end: 5 }");
-    assert_eq!(
-        debug(PacketMetadata::<u8>::EMPTY),
-        "PacketMetadata { size: 0, header: None }"
-    );
+    assert_eq!(debug(PacketMetadata::<u8>::EMPTY), "PacketMetadata { size: 0, header: None }");
     assert_eq!(debug(AdvertisedWindow::new(9)), "AdvertisedWindow { edge: 9 }");
     assert_eq!(debug(PeerWindow::new(1, 2, 3)), "PeerWindow { edge: 5, seq: 1, ack: 2 }");
     assert_eq!(debug(PartsSum::new()), "PartsSum { sum: 0, odd: false }");
@@ -129,12 +126,13 @@ fn comparisons() {
     all(FiniteError::TooManyHoles, FiniteError::OtherEnd);
     all(Kept { kept: 1, queued: 2 }, Kept { kept: 2, queued: 1 });
     all(Kept { kept: 1, queued: 2 }, Kept { kept: 1, queued: 1 });
-    all(HeldRun { start: 1, end: 2 }, HeldRun { start: 1, end: 3 });
-    all(HeldRun { start: 1, end: 3 }, HeldRun { start: 2, end: 3 });
     all(SequenceNumber::new(3), SequenceNumber::new(4));
     all(Instant::from_micros(3), Instant::from_micros(4));
     all(Duration::from_micros(3), Duration::from_micros(4));
-    assert_eq!((Full.clone(), Empty.clone(), TooManyHolesError.clone()), (Full, Empty, TooManyHolesError));
+    assert_eq!(
+        (Full.clone(), Empty.clone(), TooManyHolesError.clone()),
+        (Full, Empty, TooManyHolesError)
+    );
     let hash = |id| {
         let (mut meta, mut hasher) = (PacketMeta::default(), DefaultHasher::new());
         meta.id = id;
@@ -157,7 +155,10 @@ fn clones_and_defaults() {
     assert!(assembler.is_empty() && assembler.add(3, 4).is_ok());
     let copy = assembler.clone();
     assert_eq!(assembler.add(9, 1), Ok(()));
-    assert_eq!((copy.to_string(), assembler.to_string()), ("[ (3) 4 ]".into(), "[ (3) 4 (2) 1 ]".into()));
+    assert_eq!(
+        (copy.to_string(), assembler.to_string()),
+        ("[ (3) 4 ]".into(), "[ (3) 4 (2) 1 ]".into())
+    );
     let mut scoreboard = Scoreboard::<2>::default();
     assert!(!scoreboard.contains(0) && scoreboard.report(3, 5, 9).is_ok());
     let copy = scoreboard.clone();
@@ -175,11 +176,8 @@ fn constants() {
     const SCOREBOARD: Scoreboard<3> = Scoreboard::empty();
     const RAND: Rand = Rand::new(3);
     const NUMBER: u32 = SequenceNumber::new(7).get();
-    const MOMENTS: [Instant; 3] = [
-        Instant::from_micros_const(1),
-        Instant::from_millis_const(1),
-        Instant::ZERO,
-    ];
+    const MOMENTS: [Instant; 3] =
+        [Instant::from_micros_const(1), Instant::from_millis_const(1), Instant::ZERO];
     const LENGTHS: [Duration; 4] =
         [Duration::from_micros(1), Duration::from_millis(1), Duration::from_secs(1), Duration::MAX];
     const PARTS: [i64; 5] = {
@@ -192,6 +190,23 @@ fn constants() {
     };
     const FITS: [bool; 2] = [Receiver::<4>::fits(u64::MAX, 0), Receiver::<4>::fits(u64::MAX, 1)];
     static SLOTS: [PacketMetadata<u8>; 2] = [PacketMetadata::EMPTY; 2];
+    static RING: Mutex<RingOver<u8, [u8; 4]>> = Mutex::new(RingOver::over([7; 4]));
+    static QUEUE: Mutex<PacketsOver<u8, [PacketMetadata<u8>; 2], [u8; 9]>> =
+        Mutex::new(PacketsOver::over([PacketMetadata::EMPTY; 2], [0; 9]));
+    static RECEIVER: Mutex<ReceiverOver<[u8; 8], 2>> = Mutex::new(ReceiverOver::over_at([0; 8], 5));
+    static SENDER: Mutex<SenderOver<[u8; 8]>> = Mutex::new(SenderOver::over_at([0; 8], 5));
+    static FRAGMENTS: Mutex<FragmentsOver<[u8; 8], 2>> =
+        Mutex::new(FragmentsOver::over([0; 8], Instant::ZERO));
+    let mut ring = RING.lock().unwrap();
+    assert_eq!(ring.enqueue_slice(&[1, 2, 3, 4, 5]), 4);
+    assert_eq!(ring.as_slices(), (&[1, 2, 3, 4][..], &[][..]));
+    let mut queue = QUEUE.lock().unwrap();
+    assert!(queue.enqueue(9, 1).is_ok() && queue.dequeue() == Ok((1, &mut [0; 9][..])));
+    let mut receiver = RECEIVER.lock().unwrap();
+    assert!(receiver.segment(6, b"b").is_ok() && receiver.next() == 5);
+    let mut sender = SENDER.lock().unwrap();
+    assert_eq!((sender.write(b"ab"), sender.end()), (2, 7));
+    assert_eq!(FRAGMENTS.lock().unwrap().add(7, b"ab"), Err(FragmentError::TooLong));
     assert!(ASSEMBLER.is_empty() && FOUR.is_empty() && !SCOREBOARD.contains(0) && SLOTS.len() == 2);
     assert_eq!((debug(RAND), NUMBER), ("Rand { state: 3 }".into(), 7));
     assert_eq!(MOMENTS.map(|it| it.total_micros()), [1, 1_000, 0]);

@@ -304,6 +304,13 @@
 //!     LendsIfOk (the_row T S g) T s r (λ w. with_elements after p (w ∷ [])) s.now
 //! ```
 //!
+//! # net_packets, Drops
+//!
+//! ```text
+//! unfoldable pub HasNoRoom : {H : Type 0} → PacketsState H → ℕ → Type 0
+//! HasNoRoom q s = placement q s ≡ None
+//! ```
+//!
 //! # net_packets, PacketCalls
 //!
 //! ```text
@@ -570,6 +577,10 @@
 //! abbrev pub contains : Positions → ℕ → Bool
 //! contains s p = contains_key s p
 //!
+//! -- the positions of a set, rising
+//! abbrev pub positions : Positions → List ℕ
+//! positions s = keys s
+//!
 //! -- no position
 //! abbrev pub nothing : Positions
 //! nothing = empty
@@ -585,6 +596,10 @@
 //! -- how many maximal runs a set has: the number of p in s with p = 0 or p - 1 not in s
 //! unfoldable pub runs : Positions → ℕ
 //! runs s = length (run_starts s)
+//!
+//! -- the least position from p on that is not in s
+//! unfoldable pub first_missing : Positions → ℕ → ℕ
+//! first_missing s p = missing_within s p (bound_of (positions s))
 //!
 //! -- the least position that is not in s, and so the length of the run at 0
 //! unfoldable pub front : Positions → ℕ
@@ -689,7 +704,7 @@
 //! can_end s e = if knows_end s then nat_eq e s.end else nat_le (top_of s.receiver) e
 //!
 //! -- the result of the segment
-//! abbrev pub finite_result : Result Kept FiniteError
+//! abbrev pub finite_result : Result KeptBytes FiniteError
 //! finite_result =
 //!     if has_other_end s (pos + length xs) last then Err errors.OtherEnd else with_error bytes_result
 //!
@@ -721,6 +736,23 @@
 //! -- all bytes were read, up to the end
 //! abbrev pub has_read_all : FiniteState → Bool
 //! has_read_all s = nat_eq (s.receiver.first + s.receiver.read) s.end
+//!
+//! -- what `is_same_state` compares
+//! abbrev pub IsSameFinite : FiniteState → FiniteState → Type 0
+//! IsSameFinite s t = (s.end ≡ t.end) × IsSameState s.receiver t.receiver
+//! ```
+//!
+//! # net_receiver, FiniteHead
+//!
+//! ```text
+//! -- what is stored
+//! abbrev pub finite_of : FiniteReceiverHead → List ℕ → List (ℕ × ℕ) → FiniteState
+//! finite_of h xs rs = record { receiver = receiver_of h.receiver xs rs; end = h.end }
+//!
+//! -- the parts are those of a receiver, and the end is right for it
+//! pub record HasSoundFinite (h : FiniteReceiverHead) (xs : List ℕ) (rs : List (ℕ × ℕ)) : Type 0 where
+//!   pub parts : HasSoundParts h.receiver xs rs
+//!   pub end : IsSoundEnd (finite_of h xs rs)
 //! ```
 //!
 //! # net_receiver, FiniteLaws
@@ -740,6 +772,23 @@
 //! # net_receiver, FiniteSender
 //!
 //! ```text
+//! -- nothing was written
+//! abbrev pub fresh_finite_sender : ℕ → ℕ → FiniteSenderState
+//! fresh_finite_sender capacity first =
+//!     record { sender = sender_state capacity first [] [] (first + capacity); closed = 0; finished = 0; sent = first }
+//!
+//! -- the first number that isn't acknowledged
+//! abbrev pub first_number : FiniteSenderState → ℕ
+//! first_number s = s.sender.first_unacknowledged + s.finished
+//!
+//! -- the number after the last byte's, and after the end's once the sender is closed
+//! abbrev pub numbers_end : FiniteSenderState → ℕ
+//! numbers_end s = end_of s.sender + s.closed
+//!
+//! -- nothing can be written to a closed sender
+//! abbrev pub finite_room : FiniteSenderState → ℕ
+//! finite_room s = if nat_eq s.closed 0 then room_of s.sender else 0
+//!
 //! -- these bytes were written, if it isn't closed
 //! abbrev pub with_bytes : FiniteSenderState → List ℕ → FiniteSenderState
 //! with_bytes s xs = record {
@@ -748,6 +797,39 @@
 //!   finished = s.finished;
 //!   sent = s.sent;
 //! }
+//!
+//! -- the stream ends after what was written, if there is a number left for the end
+//! abbrev pub closed_sender : FiniteSenderState → FiniteSenderState
+//! closed_sender s = record {
+//!   sender = s.sender;
+//!   closed = if nat_lt (end_of s.sender) no_end then 1 else s.closed;
+//!   finished = s.finished;
+//!   sent = s.sent;
+//! }
+//!
+//! -- all numbers below n are acknowledged: the bytes among them, and the end if n is past it
+//! abbrev pub acknowledged_below : FiniteSenderState → ℕ → List (ℕ × ℕ) → FiniteSenderState
+//! acknowledged_below s n blocks = record {
+//!   sender = sender_from s.sender (min n (end_of s.sender)) blocks;
+//!   closed = s.closed;
+//!   finished = n - end_of s.sender;
+//!   sent = s.sent;
+//! }
+//!
+//! abbrev pub finite_sender_of : FiniteSenderHead → List ℕ → List (ℕ × ℕ) → FiniteSenderState
+//! finite_sender_of h xs blocks =
+//!     record { sender = sender_of h.sender xs blocks; closed = h.closed; finished = h.finished; sent = h.sent }
+//!
+//! -- the sender is sound; an end is acknowledged only after all bytes; and what was sent is between what is
+//! -- acknowledged and what there is
+//! pub record IsSoundFiniteSender (capacity : ℕ) (h : FiniteSenderHead) : Type 0 where
+//!   pub sender : IsSoundHead capacity h.sender
+//!   pub closed : h.closed ≤ 1
+//!   pub finished : h.finished ≤ h.closed
+//!   pub none_left : 0 < h.finished → h.sender.place.length ≡ 0
+//!   pub fits : h.sender.first_unacknowledged + h.sender.place.length + h.closed < 2 ^ 64
+//!   pub low : h.sender.first_unacknowledged + h.finished ≤ h.sent
+//!   pub high : h.sent ≤ h.sender.first_unacknowledged + h.sender.place.length + h.closed
 //! ```
 //!
 //! # net_receiver, Head
@@ -770,6 +852,10 @@
 //! # net_receiver, KeptList
 //!
 //! ```text
+//! -- these bytes at a position
+//! abbrev pub piece : ℕ → List ℕ → Piece
+//! piece p xs = record { start = p; bytes = xs }
+//!
 //! -- the position after the last byte
 //! abbrev pub end : Piece → ℕ
 //! end e = e.start + length e.bytes
@@ -781,6 +867,19 @@
 //! -- n bytes from p on
 //! abbrev pub bytes : List Piece → ℕ → ℕ → List ℕ
 //! bytes k p n = map (byte k) (range_with_len p n)
+//! ```
+//!
+//! # net_receiver, Losses
+//!
+//! ```text
+//! -- the limit bounds the positions of which it is so
+//! abbrev pub IsLossBound : ℕ → ℕ → Positions → ℕ → Type 0
+//! IsLossBound duplicates size s limit = (p : ℕ) → (p < limit) ↔ IsTrue (is_lost duplicates size s p)
+//!
+//! -- the next hole, or none below the limit
+//! abbrev pub IsHole : Positions → ℕ → ℕ → Option (ℕ × ℕ) → Type 0
+//! IsHole s p limit (Some hole) = IsNextHole s p limit hole.0 hole.1 × (hole.0 < hole.1)
+//! IsHole s p limit None = IsNextHole s p limit limit limit
 //! ```
 //!
 //! # net_receiver, NewestRuns
@@ -860,6 +959,19 @@
 //!   held = v.held;
 //! }
 //!
+//! -- a kept piece is laid over the held bytes, and what is read leaves the queue
+//! abbrev pub receiver_ops : ReceiverOps ReceiverState
+//! receiver_ops = record {
+//!   first = λ v. v.first;
+//!   capacity = λ v. v.capacity;
+//!   read = λ v. v.read;
+//!   next = next_position;
+//!   queue = λ v. v.queue;
+//!   held = λ v. domain v.held;
+//!   with_piece = receiver_with_piece;
+//!   after_read = receiver_after_read;
+//! }
+//!
 //! module _ (most_runs : ℕ) where
 //!   -- what is stored after a command
 //!   abbrev pub receiver_after_command : ReceiverState → CommandValue → ReceiverState
@@ -910,6 +1022,26 @@
 //! # net_receiver, Rules
 //!
 //! ```text
+//! module _ {S : Type 0} (ops : ReceiverOps S) where
+//!   -- the end of the free window
+//!   abbrev pub limit : S → ℕ
+//!   limit s = ops.first s + ops.read s + ops.capacity s
+//!
+//! -- how many bytes are kept, and how many join the queue, or the refusal
+//! abbrev pub numbers : S → Verdict → Result KeptBytes TooManyHolesError
+//! numbers s KeepsNone = Ok (record { kept = 0; queued = 0 })
+//! numbers s Refuses = Err (record {})
+//! numbers s (Keeps part) =
+//!     Ok (record { kept = length part.bytes; queued = ops.next (ops.with_piece s part) - ops.next s })
+//!
+//! module _ (most_runs : ℕ) where
+//!   -- what happens to a segment in a state: its part in the free window is at the positions from the first missing
+//!   -- one on and below the limit
+//!   abbrev pub verdict : S → Piece → Verdict
+//!   verdict s e =
+//!       verdict_of_piece (ops.next s) most_runs (ops.held s)
+//!       (piece_within (ops.next s) (limit s) e)
+//!
 //! -- the state after a command
 //! abbrev pub after : S → CommandValue → S
 //! after s (Segment pos xs) = state_after s (verdict s (piece pos xs))
@@ -947,27 +1079,38 @@
 //! kept_reply = rules.reply (kept_ops w) w.most_runs
 //! ```
 //!
+//! # net_receiver, Scoreboards
+//!
+//! ```text
+//! -- the positions that were reported to a scoreboard
+//! abbrev pub reported_by : ScoreboardHead → List (ℕ × ℕ) → Positions
+//! reported_by h rs = board h.base (set_of h.reported rs)
+//!
+//! -- and as they are
+//! abbrev pub beyond : Positions → Positions
+//! beyond s = shift_up (offsets_of s) (front s)
+//!
+//! -- the range (o, n) begins beyond the first missing position, and with it there would be more than most
+//! -- runs beyond that
+//! abbrev pub HasNoRoom : ℕ → Positions → ℕ → ℕ → Type 0
+//! HasNoRoom most s o n = (front s < o) × MakesTooManyRuns most (beyond s) o n
+//!
+//! -- a head and runs are those of a scoreboard: the runs are sound, the base is missing, and each reported
+//! -- position and its end are numbers of 64 bits
+//! pub record IsSoundBoard (h : ScoreboardHead) (rs : List (ℕ × ℕ)) : Type 0 where
+//!   pub runs : HasSoundRuns h.reported rs
+//!   pub begins : IsFalse (contains (set_of h.reported rs) 0)
+//!   pub fits : (p : ℕ) → IsTrue (contains (set_of h.reported rs) p) → h.base + p + 1 < 2 ^ 64
+//!
+//! -- n is above each position of s, and 0 or the end of the last one
+//! pub record IsEnd (s : Positions) (n : ℕ) : Type 0 where
+//!   pub above : (p : ℕ) → IsTrue (contains s p) → p < n
+//!   pub reached : 0 < n → IsTrue (contains s (n - 1))
+//! ```
+//!
 //! # net_receiver, Segments
 //!
 //! ```text
-//! -- any segment: a refused one changes nothing, of any other xs is kept; the first missing position
-//! -- moves up by as many positions as bytes join the queue, and nothing is read
-//! pub record KeepsOrRefuses (v : ReceiverState) (xs : List ℕ) (u : ReceiverState)
-//!     (r : Result Kept TooManyHolesError) : Type 0 where
-//!   pub refused : OnErr r (u ≡ v)
-//!   pub kept : IfOk r (λ k. k.kept ≡ length xs)
-//!   pub queued : IfOk r (λ k. next_position u ≡ next_position v + k.queued)
-//!   pub grows : next_position v ≤ next_position u
-//!   pub read : u.read ≡ v.read
-//!
-//! -- one that begins at or below the first missing position: it is accepted, and the queue then goes
-//! -- on with xs, and with what was held after it
-//! pub record JoinsQueue (v : ReceiverState) (xs : List ℕ) (u : ReceiverState)
-//!     (r : Result Kept TooManyHolesError) : Type 0 where
-//!   pub accepted : IsOk r
-//!   pub joins : IfOk r (λ k. k.kept ≤ k.queued)
-//!   pub appends : u.queue ≡ v.queue ++ xs ++ drop (length v.queue + length xs) u.queue
-//!
 //! -- of the positions of a segment of n bytes at p, those in the free window whose bytes are not held
 //! abbrev pub new_count : ReceiverState → ℕ → ℕ → ℕ
 //! new_count v p n =

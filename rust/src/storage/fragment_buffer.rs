@@ -1,28 +1,25 @@
-//! What Rattle has no words for in a buffer of fragments: conversion of storage, a default of `N`, a text.
+//! By hand, of a buffer of fragments: storage that is converted, and what is printed.
 use core::fmt;
 
 use super::FragmentBuffer;
 use crate::managed::ManagedSlice;
-use crate::proved::net_ring::Storage;
 use crate::proved::net_base::storage::FragmentsOver;
+use crate::proved::net_ring::Storage;
 use crate::time::Instant;
 
 impl<'a> FragmentBuffer<'a> {
     /// Returns a buffer with no byte, which has room for 4 runs.
-    pub fn new<S>(storage: S, expires_at: Instant) -> FragmentBuffer<'a>
-    where
-        S: Into<ManagedSlice<'a, u8>>,
-    {
+    pub fn new<S: Into<ManagedSlice<'a, u8>>>(
+        storage: S,
+        expires_at: Instant,
+    ) -> FragmentBuffer<'a> {
         FragmentBuffer::empty(storage, expires_at)
     }
 }
 
 impl<'a, const N: usize> FragmentBuffer<'a, N> {
     /// Returns a buffer with no byte, which has room for `N` runs.
-    pub fn empty<S>(storage: S, expires_at: Instant) -> Self
-    where
-        S: Into<ManagedSlice<'a, u8>>,
-    {
+    pub fn empty<S: Into<ManagedSlice<'a, u8>>>(storage: S, expires_at: Instant) -> Self {
         FragmentsOver::over(storage.into(), expires_at)
     }
 }

@@ -1,4 +1,6 @@
-//! Rings, packet queues and assemblers, over storage that the caller lends.
+//! Rings, packet queues, assemblers and buffers of fragments, over storage that is lent or owned.
+//!
+//! By hand: what is printed, the texts of errors, and an array as storage.
 mod assembler;
 mod fragment_buffer;
 mod packet_buffer;
@@ -8,11 +10,10 @@ use core::fmt;
 
 use crate::rattle::error_text;
 
-pub use crate::proved::net_base::storage::{FragmentBuffer, FragmentError, FragmentsOver};
 pub use crate::proved::net_assembler::{Assembler, TooManyHolesError};
+pub use crate::proved::net_base::storage::{FragmentBuffer, FragmentError, FragmentsOver};
 pub use crate::proved::net_packets::{PacketBuffer, PacketMetadata, PacketsOver};
 pub use crate::proved::net_ring::{Empty, Full, Resettable, RingBuffer, RingOver, Storage};
-
 
 error_text! {
     Full, _error => "buffer full";
@@ -23,6 +24,37 @@ error_text! {
         FragmentError::TooManyHoles => "too many holes",
         FragmentError::OtherSize => "another size is known",
     };
+}
+
+/// An array of its own as storage: then the constructors `over` can make a `static`, as in the example `interrupt`.
+///
+/// ```
+/// use net_base::storage::RingOver;
+///
+/// const RING: RingOver<u8, [u8; 4]> = RingOver::over([0; 4]);
+/// let mut ring = RING;
+/// assert_eq!((ring.enqueue_slice(b"abcde"), ring.get_allocated(1, 9)), (4, &b"bcd"[..]));
+/// ```
+impl<T, const N: usize> Storage<T> for [T; N] {
+    fn count(&self) -> usize {
+        N
+    }
+
+    fn part(&self, from: usize, to: usize) -> &[T] {
+        &self[from..to]
+    }
+
+    fn part_mut(&mut self, from: usize, to: usize) -> &mut [T] {
+        &mut self[from..to]
+    }
+
+    fn element_mut(&mut self, at: usize) -> &mut T {
+        &mut self[at]
+    }
+
+    fn element(&self, at: usize) -> &T {
+        &self[at]
+    }
 }
 
 /// Prints what a closure's iterator yields, as a list.

@@ -41,9 +41,9 @@ impl<const N: usize> Subject for Ending<'_, N> {
                 bytes(&into[..count])
             }
             "can_end" => truth(receiver.can_end(one)).to_string(),
-            "is_acceptable" => {
-                unless_panics("forbidden", || truth(receiver.is_acceptable(one, call.at(1))).to_string())
-            }
+            "is_acceptable" => unless_panics("forbidden", || {
+                truth(receiver.is_acceptable(one, call.at(1))).to_string()
+            }),
             name => panic!("no call {name}"),
         }
     }

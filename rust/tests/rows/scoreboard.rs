@@ -63,6 +63,12 @@ impl<const N: usize> Subject for Board<N> {
         let highest = runs.last().map_or(first, |run| run.1);
         let count: u64 = runs.iter().map(|(start, end)| end - start).sum();
         let sum = runs.iter().fold(START, |sum, &(start, end)| mix(mix(sum, start), end));
-        format!("{} {} {} {count} {}", first - self.first, highest - self.first, runs.len(), digest(sum))
+        format!(
+            "{} {} {} {count} {}",
+            first - self.first,
+            highest - self.first,
+            runs.len(),
+            digest(sum)
+        )
     }
 }

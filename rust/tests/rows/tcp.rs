@@ -2,8 +2,8 @@
 use crate::show::{pattern, truth};
 use crate::{unless_panics, Call, Subject};
 use net_base::tcp::{
-    checksum, is_acceptable, is_valid, scale_for, scaled, updated_checksum, AdvertisedWindow, PartsSum, PeerWindow,
-    RetransmissionTimeout, RttEstimate, TimeoutBounds,
+    checksum, is_acceptable, is_valid, scale_for, scaled, updated_checksum, AdvertisedWindow,
+    PartsSum, PeerWindow, RetransmissionTimeout, RttEstimate, TimeoutBounds,
 };
 
 pub struct Tcp;

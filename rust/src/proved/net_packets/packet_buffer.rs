@@ -32,6 +32,18 @@ pub struct PacketsOver<H, M: Storage<PacketMetadata<H>>, B: Storage<u8>> {
 /// A queue of packets over lent or owned storage.
 ///
 /// It serves sockets that send and receive whole packets, such as those of UDP and ICMP.
+///
+/// ```
+/// use net_base::storage::{Full, PacketBuffer, PacketMetadata};
+///
+/// let mut slots = [PacketMetadata::EMPTY; 4];
+/// let mut bytes = [0u8; 16];
+/// let mut queue = PacketBuffer::new(&mut slots[..], &mut bytes[..]);
+/// queue.enqueue(3, 53u16)?.copy_from_slice(b"abc");
+/// assert_eq!(queue.enqueue(14, 54), Err(Full));
+/// assert_eq!(queue.dequeue(), Ok((53, &mut b"abc"[..].to_vec()[..])));
+/// # Ok::<(), Full>(())
+/// ```
 pub type PacketBuffer<'a, H> = PacketsOver<
     H,
     ManagedSlice<'a, PacketMetadata<H>>,
@@ -87,6 +99,16 @@ impl<H, M: Storage<PacketMetadata<H>>, B: Storage<u8>> PacketsOver<H, M, B> {
 
     /// Returns whether the queue has no packets.
     ///
+    /// ```
+    /// # use net_base::storage::{PacketBuffer, PacketMetadata};
+    /// # let mut slots = [PacketMetadata::EMPTY; 4];
+    /// # let mut bytes = [0u8; 16];
+    /// # let mut queue = PacketBuffer::new(&mut slots[..], &mut bytes[..]);
+    /// assert!(queue.is_empty());
+    /// assert!(queue.enqueue(0, ()).is_ok());
+    /// assert!(!queue.is_empty());
+    /// ```
+    ///
     /// # Contract
     ///
     /// In the words of [`contracts`](crate::contracts):
@@ -103,6 +125,15 @@ impl<H, M: Storage<PacketMetadata<H>>, B: Storage<u8>> PacketsOver<H, M, B> {
     /// Returns whether no slot is free. A queue that is not full still refuses a packet if there
     /// are too few free bytes, or no slot for its gap.
     ///
+    /// ```
+    /// # use net_base::storage::{PacketBuffer, PacketMetadata};
+    /// # let mut slots = [PacketMetadata::EMPTY; 1];
+    /// # let mut bytes = [0u8; 16];
+    /// # let mut queue = PacketBuffer::new(&mut slots[..], &mut bytes[..]);
+    /// assert!(queue.enqueue(2, ()).is_ok());
+    /// assert!(queue.is_full());
+    /// ```
+    ///
     /// # Contract
     ///
     /// In the words of [`contracts`](crate::contracts):
@@ -118,6 +149,15 @@ impl<H, M: Storage<PacketMetadata<H>>, B: Storage<u8>> PacketsOver<H, M, B> {
     /// Returns whether a packet of `size` bytes can be appended: whether [`PacketsOver::place`]
     /// would accept it. smoltcp has no such call.
     ///
+    /// ```
+    /// # use net_base::storage::{PacketBuffer, PacketMetadata};
+    /// # let mut slots = [PacketMetadata::EMPTY; 4];
+    /// # let mut bytes = [0u8; 16];
+    /// # let mut queue = PacketBuffer::new(&mut slots[..], &mut bytes[..]);
+    /// assert!(queue.enqueue(3, ()).is_ok());
+    /// assert!(queue.has_room(13) && !queue.has_room(14));
+    /// ```
+    ///
     /// # Contract
     ///
     /// In the words of [`contracts`](crate::contracts):
@@ -132,6 +172,13 @@ impl<H, M: Storage<PacketMetadata<H>>, B: Storage<u8>> PacketsOver<H, M, B> {
 
     /// Returns the number of slots.
     ///
+    /// ```
+    /// # use net_base::storage::{PacketBuffer, PacketMetadata};
+    /// # let mut slots = [PacketMetadata::<()>::EMPTY; 4];
+    /// # let mut bytes = [0u8; 16];
+    /// assert_eq!(PacketBuffer::new(&mut slots[..], &mut bytes[..]).packet_capacity(), 4);
+    /// ```
+    ///
     /// # Contract
     ///
     /// In the words of [`contracts`](crate::contracts):
@@ -145,6 +192,13 @@ impl<H, M: Storage<PacketMetadata<H>>, B: Storage<u8>> PacketsOver<H, M, B> {
     }
 
     /// Returns the number of bytes of the storage, used or not.
+    ///
+    /// ```
+    /// # use net_base::storage::{PacketBuffer, PacketMetadata};
+    /// # let mut slots = [PacketMetadata::<()>::EMPTY; 4];
+    /// # let mut bytes = [0u8; 16];
+    /// assert_eq!(PacketBuffer::new(&mut slots[..], &mut bytes[..]).payload_capacity(), 16);
+    /// ```
     ///
     /// # Contract
     ///
@@ -161,6 +215,15 @@ impl<H, M: Storage<PacketMetadata<H>>, B: Storage<u8>> PacketsOver<H, M, B> {
     /// Returns the number of bytes that packets take, gaps included. A call that drops the gap
     /// before the first packet lowers this number.
     ///
+    /// ```
+    /// # use net_base::storage::{PacketBuffer, PacketMetadata};
+    /// # let mut slots = [PacketMetadata::EMPTY; 4];
+    /// # let mut bytes = [0u8; 16];
+    /// # let mut queue = PacketBuffer::new(&mut slots[..], &mut bytes[..]);
+    /// assert!(queue.enqueue(3, ()).is_ok());
+    /// assert_eq!(queue.payload_bytes_count(), 3);
+    /// ```
+    ///
     /// # Contract
     ///
     /// In the words of [`contracts`](crate::contracts):
@@ -175,6 +238,15 @@ impl<H, M: Storage<PacketMetadata<H>>, B: Storage<u8>> PacketsOver<H, M, B> {
 
     /// Returns the number of slots used: one for each packet and one for each gap. smoltcp has no
     /// such call.
+    ///
+    /// ```
+    /// # use net_base::storage::{PacketBuffer, PacketMetadata};
+    /// # let mut slots = [PacketMetadata::EMPTY; 4];
+    /// # let mut bytes = [0u8; 16];
+    /// # let mut queue = PacketBuffer::new(&mut slots[..], &mut bytes[..]);
+    /// assert!(queue.enqueue(3, ()).is_ok());
+    /// assert_eq!(queue.slots_used(), 1);
+    /// ```
     ///
     /// # Contract
     ///
@@ -211,6 +283,16 @@ impl<H, M: Storage<PacketMetadata<H>>, B: Storage<u8>> PacketsOver<H, M, B> {
     /// unspecified.
     ///
     /// In smoltcp this call is private.
+    ///
+    /// ```
+    /// # use net_base::storage::{PacketBuffer, PacketMetadata};
+    /// # let mut slots = [PacketMetadata::EMPTY; 4];
+    /// # let mut bytes = [0u8; 16];
+    /// # let mut queue = PacketBuffer::new(&mut slots[..], &mut bytes[..]);
+    /// assert!(queue.enqueue(3, ()).is_ok());
+    /// queue.reset();
+    /// assert!(queue.is_empty());
+    /// ```
     ///
     /// # Contract
     ///

@@ -9,9 +9,13 @@ mod sender;
 mod sequence_number;
 
 pub use finite::{
-    FiniteError, FiniteReceiver, FiniteReceiverHead, FiniteReceiverOver, FiniteSenderHead,
+    FiniteError, FiniteReceiver, FiniteReceiverHead, FiniteReceiverOver, FiniteSender,
+    FiniteSenderHead, FiniteSenderOver,
 };
-pub use receiver::{HeldRun, HeldRunIter, HeldRuns, Kept, Receiver, ReceiverHead, ReceiverOver};
+pub use receiver::{
+    HeldRun, HeldRunIter, HeldRuns, Kept, NewestRunIter, Receiver, ReceiverHead,
+    ReceiverOver,
+};
 pub use sack_blocks::{MOST_SACK_BLOCKS, SackBlocks};
 pub use scoreboard::{Scoreboard, ScoreboardHead};
 pub use sender::{Sender, SenderHead, SenderOver};

@@ -3,16 +3,18 @@
 mod below;
 mod head;
 mod held_runs;
-mod kept;
+mod kept_bytes;
 mod new_bytes;
+mod newest;
 mod newest_runs;
 mod reads;
 
 pub use head::ReceiverHead;
 pub use held_runs::{HeldRunIter, HeldRuns};
-pub use kept::Kept;
+pub use kept_bytes::Kept;
 use crate::proved::net_assembler::{Run, TooManyHolesError};
 use crate::proved::net_ring::{ManagedSlice, Storage};
+pub use newest::NewestRunIter;
 pub use newest_runs::HeldRun;
 
 /// A receiver of one stream of bytes, which stores them in a ring until they are read. It serves as
@@ -38,12 +40,7 @@ pub struct ReceiverOver<S: Storage<u8>, const N: usize> {
 pub type Receiver<'a, const N: usize = 4> = ReceiverOver<ManagedSlice<'a, u8>, N>;
 
 impl<S: Storage<u8>, const N: usize> ReceiverOver<S, N> {
-    /// Returns a receiver of a stream that begins at position 0: `new_at` with 0.
-    ///
-    /// ```ignore
-    /// let mut storage = [0u8; 16];
-    /// let mut receiver = Receiver::<4>::new(ManagedSlice::Borrowed(&mut storage));
-    /// ```
+    /// Returns a receiver of a stream that begins at position 0: `over_at` with 0.
     ///
     /// # Requires, else it panics
     ///
@@ -140,6 +137,36 @@ impl<S: Storage<u8>, const N: usize> ReceiverOver<S, N> {
         (head, storage, runs)
     }
 
+    /// Returns the storage, of which the bytes can be any.
+    ///
+    /// # Contract
+    ///
+    /// In the words of [`contracts`](crate::contracts):
+    ///
+    /// ```text
+    /// ensures { length (S.elements result) ≡ self.capacity }
+    /// ```
+    pub fn into_storage(self) -> S {
+        let (_head, storage, _runs) = self.into_parts();
+        storage
+    }
+
+    /// Begins again over the same storage: a receiver of a stream that begins at position `first`;
+    /// nothing is read, queued or held.
+    ///
+    /// # Contract
+    ///
+    /// In the words of [`contracts`](crate::contracts):
+    ///
+    /// ```text
+    /// ensures state { self.new ≡ fresh_receiver first self.old.capacity }
+    /// ensures refines { Refines self.new fresh_kept }
+    /// ensures receives { (x : List ℕ) → ReceivesFrom first x self.new }
+    /// ```
+    pub fn reset_at(&mut self, first: u64) {
+        self.head.reset_at(first);
+    }
+
     /// Returns whether `pos + len` fits `u64`, as `segment` requires for a segment of `len` bytes.
     ///
     /// # Contract
@@ -205,6 +232,7 @@ impl<S: Storage<u8>, const N: usize> ReceiverOver<S, N> {
     /// ```text
     /// ensures some { limit_of self.now < 2 ^ 64 → result ≡ Some (limit_of self.now) }
     /// ensures none { 2 ^ 64 ≤ limit_of self.now → result ≡ None }
+    /// ensures after_next { next_position self.now ≤ limit_of self.now }
     /// ```
     pub fn window_end(&self) -> Option<u64> {
         self.head.window_end(self.storage.count())
@@ -267,30 +295,18 @@ impl<S: Storage<u8>, const N: usize> ReceiverOver<S, N> {
         self.head.held(whole(&self.storage), &self.runs)
     }
 
-    /// Lists held runs at the beginning of `into`, the newest first, and returns how many: as many
-    /// as are held, or as `into` has elements. The rest of `into` stays as it is.
-    ///
-    /// The first is the run that has `position`, that of the segment just taken, if it is held;
-    /// then come the runs last listed, which `recent` remembers, and then the others, in rising
-    /// order; each comes once. `recent` has as many numbers as runs are sent, zeros at first.
-    ///
-    /// It is the order of RFC 2018, section 4. A sender that is told the first runs again and again
-    /// learns late of others. smoltcp reports the first run alone.
+    /// Returns how many runs are held, in constant time: as many as `held` yields, at most `N`.
     ///
     /// # Contract
     ///
     /// In the words of [`contracts`](crate::contracts):
     ///
     /// ```text
-    /// ensures listed { take result into.new
-    ///     ≡ newest_runs (length into.old) (domain self.now.held) (position ∷ recent.old) }
-    /// ensures count { result ≤ length into.old }
-    /// ensures rest { drop result into.new ≡ drop result into.old }
-    /// ensures recent { recent.new ≡ with_starts recent.old (take result into.new) }
+    /// ensures count { result ≡ run_count (domain self.now.held) }
+    /// ensures bound { result ≤ N }
     /// ```
-    pub fn list_newest_runs(&self, position: u64, recent: &mut [u64], into: &mut [HeldRun]) -> usize {
-        self.head
-            .newest_runs(whole(&self.storage), &self.runs, position, recent, into)
+    pub fn held_count(&self) -> usize {
+        self.head.held_count(whole(&self.storage), &self.runs)
     }
 
     /// Returns how many bytes of a segment of `len` bytes at `position` would be new: those in the
@@ -327,19 +343,10 @@ impl<S: Storage<u8>, const N: usize> ReceiverOver<S, N> {
     /// those held would make more than `N` runs. So a segment that begins at or below `next` is
     /// never refused, and its kept bytes join the queue.
     ///
-    /// Two promises are exact. `state` and `reply` say what the call leaves and returns, by the
-    /// rules on what is stored. `step` is about kept lists: for every list of kept segments and
-    /// count of bytes read that this receiver represents, the call returns what the rules of a
-    /// schedule give, and the receiver then represents the state that they give. The other clauses
-    /// follow from these. `receives` is for callers that expect one stream: if the receiver has
-    /// kept only bytes of the stream, and the segment has the stream's bytes, it still has kept
-    /// only bytes of the stream.
-    ///
-    /// ```ignore
-    /// if Receiver::<4>::fits(pos, payload.len()) {
-    ///     let _accepted = receiver.segment(pos, payload).is_ok();
-    /// }
-    /// ```
+    /// `state` and `counts` say what the call leaves and returns, by the rules on what is stored; the
+    /// other clauses follow from these. `receives` is for callers that expect one stream: if the receiver
+    /// has kept only bytes of the stream, and the segment has the stream's bytes, it still has kept only
+    /// bytes of the stream.
     ///
     /// # Requires, else it panics
     ///
@@ -352,26 +359,24 @@ impl<S: Storage<u8>, const N: usize> ReceiverOver<S, N> {
     /// ```text
     /// requires { pos + length bytes.now < 2 ^ 64 }
     /// ensures state { self.new ≡ receiver_after_command N self.old (Segment pos bytes.now) }
-    /// ensures reply { SegmentReply result ≡ receiver_reply N self.old (Segment pos bytes.now) }
-    /// ensures step { StepRefines N self.old self.new (Segment pos bytes.now)
-    ///     (SegmentReply result) }
+    /// ensures counts { result ≡ numbers receiver_ops self.old
+    ///     (verdict receiver_ops N self.old (piece pos bytes.now)) }
+    /// ensures unchanged { OnErr result (self.new ≡ self.old) }
+    /// ensures kept { IfOk result (λ it. it.kept ≡ length (window_part self.old pos bytes.now)) }
+    /// ensures queued { IfOk result (λ it. next_position self.new ≡ next_position self.old + it.queued) }
+    /// ensures in_order { pos ≤ next_position self.old → IsOk result }
     /// ensures setting { StaysInSetting N self.old self.new }
-    /// ensures keeps { KeepsOrRefuses self.old (window_part self.old pos bytes.now)
-    ///     self.new result }
-    /// ensures in_order { pos ≤ next_position self.old →
-    ///     JoinsQueue self.old (window_part self.old pos bytes.now) self.new result }
     /// ensures receives { (f : ℕ) (x : List ℕ) → ReceivesFrom f x self.old →
     ///     MatchesStream f x pos bytes.now → ReceivesFrom f x self.new }
     /// ```
-    // Inlined, so that a caller that doesn't look at `sack` doesn't pay for it.
-    #[inline(always)]
+    #[inline]
     #[track_caller]
     pub fn segment(&mut self, pos: u64, bytes: &[u8]) -> Result<Kept, TooManyHolesError> {
         let fits = Self::fits(pos, bytes.len());
         assert!(fits, "the segment's end is above `u64::MAX`");
         let count = self.storage.count();
         let storage = self.storage.part_mut(0, count);
-        self.head.segment(storage, &mut self.runs, pos, bytes)
+        self.head.keep(storage, &mut self.runs, pos, bytes)
     }
 
     /// Returns whether first position, count of bytes read, queued bytes and held runs are equal.

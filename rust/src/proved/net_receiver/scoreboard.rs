@@ -11,10 +11,10 @@ use crate::proved::net_assembler::{Run, TooManyHolesError};
 ///
 /// Positions are absolute. Contracts see the set of those that were reported. At most `N` runs are
 /// stored beyond the first position that wasn't reported; what is below that needs none. No call takes
-/// memory. `next_hole` gives what isn't reported, range by range; what is sent again, and when, is the
-/// caller's choice. smoltcp has no such type: its TCP socket sends again from the first unacknowledged
-/// position on.
-#[derive(Debug)]
+/// memory. `next_lost` gives what is lost, range by range, and `next_hole` all that isn't reported, of
+/// which most may only be in flight; when it is sent again is the caller's choice. smoltcp has no such
+/// type: its TCP socket sends again from the first unacknowledged position on.
+#[derive(Clone)]
 pub struct Scoreboard<const N: usize> {
     head: ScoreboardHead,
     runs: [Run; N],
@@ -35,7 +35,7 @@ impl<const N: usize> Scoreboard<N> {
     /// requires { 1 ≤ N }
     /// ensures { result ≡ nothing }
     /// ```
-    pub fn new() -> Self {
+    pub const fn empty() -> Self {
         const { assert!(N >= 1, "N is at least 1") };
         Scoreboard {
             head: ScoreboardHead::new(),
@@ -58,7 +58,7 @@ impl<const N: usize> Scoreboard<N> {
     /// requires { 1 ≤ N }
     /// ensures { result ≡ with_range nothing 0 first }
     /// ```
-    pub fn new_at(first: u64) -> Self {
+    pub const fn empty_at(first: u64) -> Self {
         const { assert!(N >= 1, "N is at least 1") };
         Scoreboard {
             head: ScoreboardHead::new_at(first),
@@ -80,7 +80,9 @@ impl<const N: usize> Scoreboard<N> {
     /// requires { IsSoundBoard head runs }
     /// ensures { result ≡ reported_by head runs.entry }
     /// ```
-    pub fn from_parts(head: ScoreboardHead, runs: [Run; N]) -> Self {
+    #[track_caller]
+    pub(crate) fn from_parts(head: ScoreboardHead, runs: [Run; N]) -> Self {
+        assert!(head.is_sound(&runs), "the head is not that of these runs");
         Scoreboard { head, runs }
     }
 
@@ -95,33 +97,66 @@ impl<const N: usize> Scoreboard<N> {
     /// ensures set { reported_by result.0 result.1 ≡ self.entry }
     /// ensures length { length result.1 ≡ N }
     /// ```
-    pub fn into_parts(self) -> (ScoreboardHead, [Run; N]) {
+    pub(crate) fn into_parts(self) -> (ScoreboardHead, [Run; N]) {
         let Scoreboard { head, runs } = self;
         (head, runs)
     }
 
-    /// Reports the positions from `start` on and below `end`, as a SACK block does. Blocks may overlap.
-    ///
-    /// Returns an error, and changes nothing, exactly if the block begins beyond the first position that
-    /// wasn't reported, and there would be more than `N` runs beyond it. Then the block isn't known, and
-    /// its bytes are sent again.
-    ///
-    /// # Requires, else it panics
-    ///
-    /// `start` is at most `end`, as `ScoreboardHead::is_block` tests.
+    /// Begins again: a stream that begins at position `first`, to which nothing was reported. All
+    /// positions below `first` count as reported.
     ///
     /// # Contract
     ///
     /// In the words of [`contracts`](crate::contracts):
     ///
     /// ```text
-    /// requires { start ≤ end }
-    /// ensures ok { OnOk result (self.new ≡ with_range self.old start (end - start)) }
-    /// ensures unchanged { OnErr result (self.new ≡ self.old) }
-    /// ensures refused { IsErr result ↔ HasNoRoom N self.old start (end - start) }
+    /// ensures { self.new ≡ with_range nothing 0 first }
     /// ```
-    pub fn report(&mut self, start: u64, end: u64) -> Result<(), TooManyHolesError> {
-        self.head.report(&mut self.runs, start, end)
+    pub fn reset_at(&mut self, first: u64) {
+        self.head.reset_at(first);
+    }
+
+    /// Forgets all that was reported, as when a retransmission timer ends (RFC 2018, section 8): then
+    /// `acknowledge` is called with what was acknowledged.
+    ///
+    /// # Contract
+    ///
+    /// In the words of [`contracts`](crate::contracts):
+    ///
+    /// ```text
+    /// ensures { self.new ≡ nothing }
+    /// ```
+    pub fn clear(&mut self) {
+        self.head.reset_at(0);
+    }
+
+    /// Reports the positions from `start` on and below `end`, as a SACK block of an acknowledgement
+    /// does, and returns true. Blocks may overlap. `sent` is the position after the last byte that was
+    /// ever sent, as `Sender::mark_sent` keeps it.
+    ///
+    /// Returns false, and changes nothing, if it is no block of bytes that were sent: if `start` isn't
+    /// below `end`, or `end` is above `sent`. Returns an error, and changes nothing, exactly if the block
+    /// begins beyond the first position that wasn't reported, and there would be more than `N` runs
+    /// beyond it: then the block isn't known, and its bytes are sent again. On a processor of 32 bits it
+    /// is refused too if `end` is 2^32 or more above the first position that wasn't reported.
+    ///
+    /// # Contract
+    ///
+    /// In the words of [`contracts`](crate::contracts):
+    ///
+    /// ```text
+    /// ensures block { IfOk result (λ taken. IsTrue taken ↔ ((start < end) × (end ≤ sent))) }
+    /// ensures ok { result ≡ Ok true → self.new ≡ with_range self.old start (end - start) }
+    /// ensures unchanged { (result ≡ Ok true → ⊥) → self.new ≡ self.old }
+    /// ensures refused { IsErr result ↔ ((start < end) × (end ≤ sent)
+    ///     × HasNoRoom N self.old start (end - start)) }
+    /// ```
+    pub fn report(&mut self, start: u64, end: u64, sent: u64) -> Result<bool, TooManyHolesError> {
+        if !ScoreboardHead::is_block(start, end, sent) {
+            return Ok(false);
+        }
+        self.head.report(&mut self.runs, start, end)?;
+        Ok(true)
     }
 
     /// Reports all positions below `next`. It is never refused.
@@ -217,18 +252,56 @@ impl<const N: usize> Scoreboard<N> {
         self.head.first_missing(&self.runs, pos)
     }
 
-    /// Returns the next range to send again, as a start and an end: it begins at the first position
-    /// from `pos` on that wasn't reported, and ends at the next one that was, or at `limit`. If there
-    /// is none below `limit`, both are `limit`.
+    /// Returns the next range that wasn't reported, as a start and an end, the end not included: it
+    /// begins at the first position from `pos` on that wasn't, and ends at the next one that was, or at
+    /// `limit`. `None` if there is none below `limit`. Of these bytes most may only be in flight.
     ///
     /// # Contract
     ///
     /// In the words of [`contracts`](crate::contracts):
     ///
     /// ```text
-    /// ensures { IsNextHole self.now pos limit result.0 result.1 }
+    /// ensures { IsHole self.now pos limit result }
     /// ```
-    pub fn next_hole(&self, pos: u64, limit: u64) -> (u64, u64) {
-        self.head.next_hole(&self.runs, pos, limit)
+    pub fn next_hole(&self, pos: u64, limit: u64) -> Option<(u64, u64)> {
+        let (start, end) = self.head.next_hole(&self.runs, pos, limit);
+        if start < end {
+            Some((start, end))
+        } else {
+            None
+        }
+    }
+
+    /// Returns the position below which all that wasn't reported is lost, by the rule of RFC 6675,
+    /// section 4: above it `duplicates` runs were reported (3 in TCP; 0 counts as 1), or more bytes than
+    /// `duplicates - 1` segments of `segment_size` bytes have. It is 0 if nothing is lost.
+    ///
+    /// # Contract
+    ///
+    /// In the words of [`contracts`](crate::contracts):
+    ///
+    /// ```text
+    /// ensures { IsLossBound duplicates segment_size self.now result }
+    /// ```
+    pub fn lost_below(&self, duplicates: usize, segment_size: usize) -> u64 {
+        self.head.lost_below(&self.runs, duplicates, segment_size)
+    }
+
+    /// Returns the next range to send again, as `next_hole` does, of that which is lost, as `lost_below`
+    /// says: it begins at `pos` or above. `None` if nothing from `pos` on is lost.
+    ///
+    /// A caller sends it, passes its end as the next `pos`, and begins again at the first unacknowledged
+    /// position with the next recovery.
+    ///
+    /// # Contract
+    ///
+    /// In the words of [`contracts`](crate::contracts):
+    ///
+    /// ```text
+    /// ensures { (limit : ℕ) → IsLossBound duplicates segment_size self.now limit →
+    ///     IsHole self.now pos limit result }
+    /// ```
+    pub fn next_lost(&self, pos: u64, duplicates: usize, segment_size: usize) -> Option<(u64, u64)> {
+        self.next_hole(pos, self.lost_below(duplicates, segment_size))
     }
 }

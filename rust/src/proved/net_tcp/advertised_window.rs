@@ -38,7 +38,7 @@ impl AdvertisedWindow {
     /// ```text
     /// ensures { result.edge ≡ first }
     /// ```
-    pub fn new(first: u64) -> Self {
+    pub const fn new(first: u64) -> Self {
         AdvertisedWindow { edge: first }
     }
 

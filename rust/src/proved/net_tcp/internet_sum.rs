@@ -19,7 +19,7 @@ impl PartsSum {
     /// ```text
     /// ensures { Sums result [] }
     /// ```
-    pub fn new() -> Self {
+    pub const fn new() -> Self {
         PartsSum { sum: 0, odd: false }
     }
 

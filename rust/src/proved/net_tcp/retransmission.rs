@@ -139,9 +139,10 @@ impl RetransmissionTimeout {
     ///
     /// ```text
     /// ensures value { result.timeout ≡ timeout }
+    /// ensures none { result.estimate ≡ None }
     /// ensures small { IsSmallIfAny result.estimate }
     /// ```
-    pub fn new(timeout: u64) -> Self {
+    pub const fn new(timeout: u64) -> Self {
         RetransmissionTimeout {
             estimate: None,
             timeout,
@@ -152,7 +153,7 @@ impl RetransmissionTimeout {
     ///
     /// # Requires, else it panics
     ///
-    /// The estimate, if there is one, was made by samples.
+    /// The estimate, if there is one, was made by samples, as `is_small` tests.
     ///
     /// # Contract
     ///
@@ -163,10 +164,29 @@ impl RetransmissionTimeout {
     /// ensures state { self.new ≡ after_acknowledgement bounds sent now self.old }
     /// ensures small { IsSmallIfAny self.new.estimate }
     /// ```
+    #[track_caller]
     pub fn acknowledged(&mut self, bounds: TimeoutBounds, sent: Transmission, now: u64) {
+        assert!(self.is_small(), "an estimate that was not made by samples");
         match sent {
             Transmission::Once(at) => self.take_sample(bounds, now.saturating_sub(at)),
             Transmission::Repeated => {}
+        }
+    }
+
+    /// Returns whether the estimate, if there is one, has room for a sample, as any has that was made
+    /// by samples.
+    ///
+    /// # Contract
+    ///
+    /// In the words of [`contracts`](crate::contracts):
+    ///
+    /// ```text
+    /// ensures { IsTrue result ↔ IsSmallIfAny self.now.estimate }
+    /// ```
+    pub fn is_small(&self) -> bool {
+        match self.estimate {
+            Some(estimate) => estimate.is_small(),
+            None => true,
         }
     }
 

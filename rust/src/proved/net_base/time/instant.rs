@@ -12,6 +12,14 @@ use core::ops::{Add, AddAssign, Sub, SubAssign};
 ///
 /// Contracts see the microseconds, a whole number from -2^63 to 2^63 - 1. Quotients are cut towards
 /// zero.
+///
+/// ```
+/// use net_base::time::{Duration, Instant};
+///
+/// let start = Instant::from_millis(1_500);
+/// let end = start + Duration::from_secs(2);
+/// assert_eq!((end - start, end.to_string()), (Duration::from_millis(2_000), "3.500s".into()));
+/// ```
 #[derive(Debug, Copy, Clone, PartialEq, Eq, PartialOrd, Ord)]
 pub struct Instant {
     micros: i64,
@@ -19,9 +27,19 @@ pub struct Instant {
 
 impl Instant {
     /// The origin.
+    ///
+    /// ```
+    /// # use net_base::time::Instant;
+    /// assert_eq!(Instant::ZERO.total_micros(), 0);
+    /// ```
     pub const ZERO: Instant = Instant { micros: 0 };
 
     /// Returns the moment so many microseconds after the origin.
+    ///
+    /// ```
+    /// # use net_base::time::Instant;
+    /// assert_eq!(Instant::from_micros(1_500).total_millis(), 1);
+    /// ```
     ///
     /// # Contract
     ///
@@ -37,6 +55,12 @@ impl Instant {
 
     /// Returns the same as `from_micros`. smoltcp's is a `const fn`, this one isn't: it is here for
     /// code that was written for smoltcp.
+    ///
+    /// ```
+    /// # use net_base::time::Instant;
+    /// const LATER: Instant = Instant::from_micros_const(1_500);
+    /// assert_eq!(LATER, Instant::from_micros(1_500));
+    /// ```
     ///
     /// # Contract
     ///
@@ -64,6 +88,11 @@ impl Instant {
 
     /// Returns the moment so many milliseconds after the origin.
     ///
+    /// ```
+    /// # use net_base::time::Instant;
+    /// assert_eq!(Instant::from_millis(-5).total_micros(), -5_000);
+    /// ```
+    ///
     /// # Requires, else it panics
     ///
     /// So many microseconds fit 64 bits with a sign, as `fits_millis` tests.
@@ -87,6 +116,12 @@ impl Instant {
     }
 
     /// Returns the same as `from_millis`. It is no `const fn` either.
+    ///
+    /// ```
+    /// # use net_base::time::Instant;
+    /// const LATER: Instant = Instant::from_millis_const(5);
+    /// assert_eq!(LATER, Instant::from_micros(5_000));
+    /// ```
     ///
     /// # Requires, else it panics
     ///
@@ -126,6 +161,11 @@ impl Instant {
 
     /// Returns the moment so many seconds after the origin.
     ///
+    /// ```
+    /// # use net_base::time::Instant;
+    /// assert_eq!(Instant::from_secs(5).total_millis(), 5_000);
+    /// ```
+    ///
     /// # Requires, else it panics
     ///
     /// So many microseconds fit 64 bits with a sign, as `fits_secs` tests.
@@ -150,6 +190,11 @@ impl Instant {
 
     /// Returns the whole milliseconds beyond the whole seconds, with the sign of the moment.
     ///
+    /// ```
+    /// # use net_base::time::Instant;
+    /// assert_eq!(Instant::from_millis(5_674).millis(), 674);
+    /// ```
+    ///
     /// # Contract
     ///
     /// In the words of [`contracts`](crate::contracts):
@@ -162,6 +207,11 @@ impl Instant {
     }
 
     /// Returns the microseconds beyond the whole seconds, with the sign of the moment.
+    ///
+    /// ```
+    /// # use net_base::time::Instant;
+    /// assert_eq!(Instant::from_millis(5_674).micros(), 674_000);
+    /// ```
     ///
     /// # Contract
     ///
@@ -176,6 +226,11 @@ impl Instant {
 
     /// Returns the whole seconds since the origin.
     ///
+    /// ```
+    /// # use net_base::time::Instant;
+    /// assert_eq!(Instant::from_millis(5_674).secs(), 5);
+    /// ```
+    ///
     /// # Contract
     ///
     /// In the words of [`contracts`](crate::contracts):
@@ -189,6 +244,11 @@ impl Instant {
 
     /// Returns the whole milliseconds since the origin.
     ///
+    /// ```
+    /// # use net_base::time::Instant;
+    /// assert_eq!(Instant::from_micros(5_674).total_millis(), 5);
+    /// ```
+    ///
     /// # Contract
     ///
     /// In the words of [`contracts`](crate::contracts):
@@ -201,6 +261,11 @@ impl Instant {
     }
 
     /// Returns the microseconds since the origin.
+    ///
+    /// ```
+    /// # use net_base::time::Instant;
+    /// assert_eq!(Instant::from_millis(5).total_micros(), 5_000);
+    /// ```
     ///
     /// # Contract
     ///
@@ -241,6 +306,12 @@ impl Instant {
 
     /// Returns the moment so much later, or `None` exactly if that is after the last moment.
     ///
+    /// ```
+    /// # use net_base::time::{Duration, Instant};
+    /// let last = Instant::from_micros(i64::MAX);
+    /// assert_eq!(last.checked_add(Duration::from_micros(1)), None);
+    /// ```
+    ///
     /// # Contract
     ///
     /// In the words of [`contracts`](crate::contracts):
@@ -256,6 +327,12 @@ impl Instant {
     }
 
     /// Returns the moment so much earlier, or `None` exactly if that is before the first moment.
+    ///
+    /// ```
+    /// # use net_base::time::{Duration, Instant};
+    /// let first = Instant::from_micros(i64::MIN);
+    /// assert_eq!(first.checked_sub(Duration::from_micros(1)), None);
+    /// ```
     ///
     /// # Contract
     ///
@@ -278,6 +355,12 @@ impl Instant {
     /// self.deadline = now.saturating_add(self.timeout);
     /// ```
     ///
+    /// ```
+    /// # use net_base::time::{Duration, Instant};
+    /// let moment = Instant::ZERO.saturating_add(Duration::MAX);
+    /// assert_eq!(moment, Instant::from_micros(i64::MAX));
+    /// ```
+    ///
     /// # Contract
     ///
     /// In the words of [`contracts`](crate::contracts):
@@ -294,6 +377,12 @@ impl Instant {
     }
 
     /// Returns the moment so much earlier, or the first moment if that is before it.
+    ///
+    /// ```
+    /// # use net_base::time::{Duration, Instant};
+    /// let moment = Instant::ZERO.saturating_sub(Duration::MAX);
+    /// assert_eq!(moment, Instant::from_micros(i64::MIN));
+    /// ```
     ///
     /// # Contract
     ///

@@ -14,6 +14,19 @@ impl<H, M: Storage<PacketMetadata<H>>, B: Storage<u8>> PacketsOver<H, M, B> {
     /// header, does not call `f` and changes nothing. smoltcp places these packets by a rule of its
     /// own and can take more than `max_size` bytes; here the rule is that of `enqueue`.
     ///
+    /// ```
+    /// # use net_base::storage::{PacketBuffer, PacketMetadata};
+    /// # let mut slots = [PacketMetadata::EMPTY; 4];
+    /// # let mut bytes = [0u8; 16];
+    /// # let mut queue = PacketBuffer::new(&mut slots[..], &mut bytes[..]);
+    /// let written = queue.enqueue_with_infallible(8, 1, |payload| {
+    ///     payload[..3].copy_from_slice(b"abc");
+    ///     3
+    /// });
+    /// assert_eq!(written, Ok(3));
+    /// assert_eq!(queue.peek().ok(), Some((&1, &b"abc"[..])));
+    /// ```
+    ///
     /// # Requires, else it panics
     ///
     /// `f` may be called on the `max_size` bytes that it is lent, and returns at most `max_size`.
@@ -59,6 +72,18 @@ impl<H, M: Storage<PacketMetadata<H>>, B: Storage<u8>> PacketsOver<H, M, B> {
     /// wrote to its header and bytes.
     ///
     /// Returns `Empty`, does not call `f` and changes nothing, if the queue has no packets.
+    ///
+    /// ```
+    /// # use net_base::storage::{Full, PacketBuffer, PacketMetadata};
+    /// # let mut slots = [PacketMetadata::EMPTY; 4];
+    /// # let mut bytes = [0u8; 16];
+    /// # let mut queue = PacketBuffer::new(&mut slots[..], &mut bytes[..]);
+    /// queue.enqueue(3, 1)?.copy_from_slice(b"abc");
+    /// assert_eq!(queue.dequeue_with(|_, _| Err::<(), _>("later")), Ok(Err("later")));
+    /// assert_eq!(queue.dequeue_with(|header, payload| Ok::<_, ()>((*header, payload[0]))), Ok(Ok((1, b'a'))));
+    /// assert!(queue.is_empty());
+    /// # Ok::<(), Full>(())
+    /// ```
     ///
     /// # Requires, else it panics
     ///

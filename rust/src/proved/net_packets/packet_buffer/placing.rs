@@ -81,6 +81,16 @@ impl<H, M: Storage<PacketMetadata<H>>, B: Storage<u8>> PacketsOver<H, M, B> {
     /// bytes, or no slot for the packet or its gap. If smoltcp refuses, it can leave a gap with no
     /// packet.
     ///
+    /// ```
+    /// # use net_base::storage::{Full, PacketBuffer, PacketMetadata};
+    /// # let mut slots = [PacketMetadata::EMPTY; 4];
+    /// # let mut bytes = [0u8; 16];
+    /// # let mut queue = PacketBuffer::new(&mut slots[..], &mut bytes[..]);
+    /// queue.enqueue(3, 1)?.copy_from_slice(b"abc");
+    /// assert_eq!(queue.peek().ok(), Some((&1, &b"abc"[..])));
+    /// # Ok::<(), Full>(())
+    /// ```
+    ///
     /// # Contract
     ///
     /// In the words of [`contracts`](crate::contracts):

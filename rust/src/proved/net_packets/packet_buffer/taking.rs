@@ -17,6 +17,17 @@ impl<H, M: Storage<PacketMetadata<H>>, B: Storage<u8>> PacketsOver<H, M, B> {
     /// Ok((count, *header))
     /// ```
     ///
+    /// ```
+    /// # use net_base::storage::{Full, PacketBuffer, PacketMetadata};
+    /// # let mut slots = [PacketMetadata::EMPTY; 4];
+    /// # let mut bytes = [0u8; 16];
+    /// # let mut queue = PacketBuffer::new(&mut slots[..], &mut bytes[..]);
+    /// queue.enqueue(3, 1)?.copy_from_slice(b"abc");
+    /// assert_eq!(queue.peek(), Ok((&1, &b"abc"[..])));
+    /// assert_eq!(queue.peek(), Ok((&1, &b"abc"[..])));
+    /// # Ok::<(), Full>(())
+    /// ```
+    ///
     /// # Contract
     ///
     /// In the words of [`contracts`](crate::contracts):
@@ -119,6 +130,18 @@ impl<H, M: Storage<PacketMetadata<H>>, B: Storage<u8>> PacketsOver<H, M, B> {
     /// Takes the first packet and its gap off, returns its header and lends its bytes.
     ///
     /// Returns `Empty`, and changes nothing, if the queue has no packets.
+    ///
+    /// ```
+    /// # use net_base::storage::{Empty, Full, PacketBuffer, PacketMetadata};
+    /// # let mut slots = [PacketMetadata::EMPTY; 4];
+    /// # let mut bytes = [0u8; 16];
+    /// # let mut queue = PacketBuffer::new(&mut slots[..], &mut bytes[..]);
+    /// queue.enqueue(3, 1)?.copy_from_slice(b"abc");
+    /// let (header, payload) = queue.dequeue().unwrap();
+    /// assert_eq!((header, &payload[..]), (1, &b"abc"[..]));
+    /// assert_eq!(queue.dequeue(), Err(Empty));
+    /// # Ok::<(), Full>(())
+    /// ```
     ///
     /// # Contract
     ///

@@ -1,8 +1,9 @@
 //! A receiver of a stream that ends.
 
 use super::error::FiniteError;
-use super::receiver_head::NO_END;
+use super::receiver_head::{FiniteReceiverHead, NO_END};
 use crate::proved::net_receiver::receiver::{Kept, ReceiverOver};
+use crate::proved::net_assembler::Run;
 use crate::proved::net_ring::{ManagedSlice, Storage};
 
 /// A receiver of one stream of bytes that ends: a receiver that knows where the stream ends, once a
@@ -20,6 +21,26 @@ pub struct FiniteReceiverOver<S: Storage<u8>, const N: usize> {
 pub type FiniteReceiver<'a, const N: usize = 4> = FiniteReceiverOver<ManagedSlice<'a, u8>, N>;
 
 impl<S: Storage<u8>, const N: usize> FiniteReceiverOver<S, N> {
+    /// Returns a receiver of a stream that begins at position 0: `over_at` with 0.
+    ///
+    /// # Requires, else it panics
+    ///
+    /// `N` is at least 1.
+    ///
+    /// # Contract
+    ///
+    /// In the words of [`contracts`](crate::contracts):
+    ///
+    /// ```text
+    /// requires { 1 ≤ N }
+    /// ensures state { result ≡ fresh_finite 0 (length (S.elements storage)) }
+    /// ensures receives { (x : List ℕ) → ReceivesFinite 0 x result }
+    /// ```
+    pub const fn over(storage: S) -> Self {
+        const { assert!(N >= 1, "N is at least 1") };
+        Self::over_at(storage, 0)
+    }
+
     /// Returns a receiver of a stream that begins at position `first`; nothing has arrived.
     ///
     /// # Requires, else it panics
@@ -37,7 +58,7 @@ impl<S: Storage<u8>, const N: usize> FiniteReceiverOver<S, N> {
     /// ensures receives { (x : List ℕ) → ReceivesFinite first x result }
     /// ```
     #[track_caller]
-    pub fn over_at(storage: S, first: u64) -> Self {
+    pub const fn over_at(storage: S, first: u64) -> Self {
         const { assert!(N >= 1, "N is at least 1") };
         assert!(first < NO_END, "no number is left for an end");
         FiniteReceiverOver {
@@ -46,7 +67,86 @@ impl<S: Storage<u8>, const N: usize> FiniteReceiverOver<S, N> {
         }
     }
 
-    /// Returns whether a segment fits: its bytes and an end after them have positions, as `segment`
+    /// Returns the receiver that a head, a storage and runs represent.
+    ///
+    /// # Requires, else it panics
+    ///
+    /// They are sound, as `FiniteReceiverHead::is_sound` tests.
+    ///
+    /// # Contract
+    ///
+    /// In the words of [`contracts`](crate::contracts):
+    ///
+    /// ```text
+    /// requires { HasSoundFinite head (S.elements storage) runs }
+    /// ensures { result ≡ finite_of head (S.elements storage) runs.entry }
+    /// ```
+    #[track_caller]
+    pub(crate) fn from_parts(head: FiniteReceiverHead, storage: S, runs: [Run; N]) -> Self {
+        let capacity = storage.count();
+        let sound = head.is_sound(storage.part(0, capacity), &runs);
+        assert!(sound, "the head is not that of these parts");
+        FiniteReceiverOver {
+            receiver: ReceiverOver::from_parts(head.receiver, storage, runs),
+            end: head.end,
+        }
+    }
+
+    /// Returns the head, the storage and the runs, which represent the receiver.
+    ///
+    /// # Contract
+    ///
+    /// In the words of [`contracts`](crate::contracts):
+    ///
+    /// ```text
+    /// ensures sound { HasSoundFinite result.0 (S.elements result.1) result.2 }
+    /// ensures state { finite_of result.0 (S.elements result.1) result.2 ≡ self }
+    /// ensures runs { length result.2 ≡ N }
+    /// ```
+    pub(crate) fn into_parts(self) -> (FiniteReceiverHead, S, [Run; N]) {
+        let FiniteReceiverOver { receiver, end } = self;
+        let (receiver, storage, runs) = receiver.into_parts();
+        (FiniteReceiverHead { receiver, end }, storage, runs)
+    }
+
+    /// Returns the storage, of which the bytes can be any.
+    ///
+    /// # Contract
+    ///
+    /// In the words of [`contracts`](crate::contracts):
+    ///
+    /// ```text
+    /// ensures { length (S.elements result) ≡ self.receiver.capacity }
+    /// ```
+    pub fn into_storage(self) -> S {
+        let FiniteReceiverOver { receiver, end: _ } = self;
+        receiver.into_storage()
+    }
+
+    /// Begins again over the same storage: a receiver of a stream that begins at position `first`;
+    /// nothing has arrived.
+    ///
+    /// # Requires, else it panics
+    ///
+    /// `first` is not the greatest number of 64 bits.
+    ///
+    /// # Contract
+    ///
+    /// In the words of [`contracts`](crate::contracts):
+    ///
+    /// ```text
+    /// requires { first < no_end }
+    /// ensures state { self.new ≡ fresh_finite first self.old.receiver.capacity }
+    /// ensures receives { (x : List ℕ) → ReceivesFinite first x self.new }
+    /// ```
+    #[track_caller]
+    pub fn reset_at(&mut self, first: u64) {
+        assert!(first < NO_END, "no number is left for an end");
+        self.receiver.reset_at(first);
+        self.end = NO_END;
+    }
+
+    /// Returns whether a segment fits: its bytes and an end after them have positions, as `keep`
     /// requires.
     ///
     /// # Contract
@@ -127,7 +227,7 @@ impl<S: Storage<u8>, const N: usize> FiniteReceiverOver<S, N> {
     }
 
     /// Keeps the bytes of a segment that are in the free window and below the end, as
-    /// `ReceiverOver::segment` does. `is_last` says that the stream ends after the segment.
+    /// `ReceiverOver::keep` does. `is_last` says that the stream ends after the segment.
     ///
     /// The end is taken if it is at most the end of the free window: an end beyond that is cut off,
     /// as the bytes before it are, and is sent again. A segment is refused, and nothing changes, if
@@ -185,6 +285,70 @@ impl<S: Storage<u8>, const N: usize> FiniteReceiverOver<S, N> {
     /// ```
     pub fn read(&mut self, into: &mut [u8]) -> usize {
         self.receiver.read(into)
+    }
+
+    /// Takes the first `count` bytes off the queue and copies none, as `ReceiverOver::remove` does.
+    ///
+    /// # Requires, else it panics
+    ///
+    /// At least `count` bytes are queued.
+    ///
+    /// # Contract
+    ///
+    /// In the words of [`contracts`](crate::contracts):
+    ///
+    /// ```text
+    /// requires { count ≤ length self.old.receiver.queue }
+    /// ensures state { self.new ≡ finite_after_read self.old count }
+    /// ensures receives { (f : ℕ) (x : List ℕ) → ReceivesFinite f x self.old →
+    ///     ReceivesFinite f x self.new }
+    /// ensures bytes { (f : ℕ) (x : List ℕ) → ReceivesFinite f x self.old →
+    ///     take count self.old.receiver.queue
+    ///     ≡ slice_range x self.old.receiver.read (self.old.receiver.read + count) }
+    /// ```
+    #[track_caller]
+    pub fn remove(&mut self, count: usize) {
+        assert!(
+            count <= self.receiver.queued(),
+            "more bytes than are queued"
+        );
+        self.receiver.remove(count);
+    }
+
+    /// Returns how many bytes of a segment of `len` bytes at `position` would be new: those in the
+    /// free window and below the end whose positions are not held.
+    ///
+    /// # Requires, else it panics
+    ///
+    /// The segment fits, as `fits` tests.
+    ///
+    /// # Contract
+    ///
+    /// In the words of [`contracts`](crate::contracts):
+    ///
+    /// ```text
+    /// requires { position + len < no_end }
+    /// ensures { result ≡ new_count self.now.receiver position (min len (self.now.end - position)) }
+    /// ```
+    #[track_caller]
+    pub fn count_new(&self, position: u64, len: usize) -> usize {
+        assert!(Self::fits(position, len), "the segment ends too high");
+        let count = (len as u64).min(self.end.saturating_sub(position)) as usize;
+        self.receiver.count_new(position, count)
+    }
+
+    /// Returns whether two receivers of a stream that ends are equal in first position, count of
+    /// bytes read, queued bytes, held runs and end.
+    ///
+    /// # Contract
+    ///
+    /// In the words of [`contracts`](crate::contracts):
+    ///
+    /// ```text
+    /// ensures { IsTrue result ↔ IsSameFinite self.now other.now }
+    /// ```
+    pub fn same_state<O: Storage<u8>>(&self, other: &FiniteReceiverOver<O, N>) -> bool {
+        self.end == other.end && self.receiver.same_state(&other.receiver)
     }
 
     /// Returns whether all bytes and the end have arrived. Once it is so it stays so.

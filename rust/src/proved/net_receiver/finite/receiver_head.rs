@@ -42,7 +42,7 @@ impl FiniteReceiverHead {
     /// ensures state { (storage : List ℕ) (runs : List (ℕ × ℕ)) →
     ///     finite_of result storage runs ≡ fresh_finite first (length storage) }
     /// ```
-    pub fn new(first: u64) -> Self {
+    pub const fn new(first: u64) -> Self {
         FiniteReceiverHead {
             receiver: ReceiverHead::new(first),
             end: NO_END,
@@ -66,7 +66,7 @@ impl FiniteReceiverHead {
                 .has_all_below(storage, runs, self.end.min(NO_END - 1))
     }
 
-    /// Returns whether a segment fits: its bytes and an end after them have positions, as `segment`
+    /// Returns whether a segment fits: its bytes and an end after them have positions, as `keep`
     /// requires.
     ///
     /// # Contract
@@ -173,7 +173,7 @@ impl FiniteReceiverHead {
     }
 
     /// Keeps the bytes of a segment that are in the free window and below the end, as
-    /// `ReceiverOver::segment` does. `is_last` says that the stream ends after the segment.
+    /// `ReceiverOver::keep` does. `is_last` says that the stream ends after the segment.
     ///
     /// The end is taken if it is at most the end of the free window: an end beyond that is cut off,
     /// as the bytes are before it, and is sent again. A segment is refused, and nothing changes, if
@@ -204,7 +204,7 @@ impl FiniteReceiverHead {
     ///     ReceivesFinite f x (finite_of self.new storage.new runs.new) }
     /// ```
     #[inline]
-    pub fn segment(
+    pub fn keep(
         &mut self,
         storage: &mut [u8],
         runs: &mut [Run],
@@ -218,7 +218,7 @@ impl FiniteReceiverHead {
         }
         let end = self.end_after(storage, runs, last, is_last);
         let count = self.count_below(pos, bytes.len());
-        match self.receiver.segment(storage, runs, pos, &bytes[..count]) {
+        match self.receiver.keep(storage, runs, pos, &bytes[..count]) {
             Ok(kept) => {
                 self.end = end;
                 Ok(kept)

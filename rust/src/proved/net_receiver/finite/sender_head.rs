@@ -32,8 +32,9 @@ impl FiniteSenderHead {
     /// ensures sound { (capacity : ℕ) → IsSoundFiniteSender capacity result }
     /// ensures state { (storage : List ℕ) →
     ///     finite_sender_of result storage [] ≡ fresh_finite_sender (length storage) first }
+    /// ensures numbers { result ≡ finite_sender_head first }
     /// ```
-    pub fn new(first: u64) -> Self {
+    pub const fn new(first: u64) -> Self {
         FiniteSenderHead {
             sender: SenderHead::new(first),
             closed: 0,
@@ -190,6 +191,10 @@ impl FiniteSenderHead {
     /// ```text
     /// requires { IsSoundFiniteSender capacity self.now }
     /// ensures within { result.0.from + result.0.contiguous ≤ capacity }
+    /// ensures count { (storage : List ℕ) (blocks : List (ℕ × ℕ)) → length storage ≡ capacity →
+    ///     self.now.sender.first_unacknowledged ≤ pos → result.0.contiguous ≡ min max
+    ///     (contiguous_end (finite_sender_of self.now storage blocks).sender pos - pos) }
+    /// ensures before { pos < self.now.sender.first_unacknowledged → result.0.contiguous ≡ 0 }
     /// ensures end { IsTrue result.1 ↔ ((self.now.closed ≡ 1) × (pos + result.0.contiguous
     ///     ≡ self.now.sender.first_unacknowledged + self.now.sender.place.length)) }
     /// ensures bytes { (storage : List ℕ) → length storage ≡ capacity →

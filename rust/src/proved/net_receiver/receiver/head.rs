@@ -1,7 +1,10 @@
 //! A receiver in parts: a head of numbers, a storage, and runs that are kept elsewhere.
 
+mod comparison;
+mod reads;
+
 use super::held_runs::HeldRunIter;
-use super::kept::Kept;
+use super::kept_bytes::Kept;
 use crate::proved::net_assembler::{AssemblerHead, Run, TooManyHolesError};
 use crate::proved::net_ring::RingHead;
 
@@ -41,6 +44,7 @@ impl ReceiverHead {
     /// ensures state { (storage : List ℕ) (runs : List (ℕ × ℕ)) →
     ///     receiver_of result storage runs ≡ fresh_receiver first (length storage) }
     /// ensures canonical { IsCanonical result.held }
+    /// ensures numbers { result ≡ receiver_head first }
     /// ```
     pub const fn new(first: u64) -> Self {
         ReceiverHead {
@@ -52,6 +56,25 @@ impl ReceiverHead {
             },
             held: AssemblerHead::new(),
         }
+    }
+
+    /// Begins again: the head of a receiver of a stream that begins at position `first`, as `new`
+    /// returns it.
+    ///
+    /// # Contract
+    ///
+    /// In the words of [`contracts`](crate::contracts):
+    ///
+    /// ```text
+    /// ensures sound { (storage : List ℕ) (runs : List (ℕ × ℕ)) →
+    ///     HasSoundParts self.new storage runs }
+    /// ensures state { (storage : List ℕ) (runs : List (ℕ × ℕ)) →
+    ///     receiver_of self.new storage runs ≡ fresh_receiver first (length storage) }
+    /// ensures canonical { IsCanonical self.new.held }
+    /// ```
+    #[inline]
+    pub fn reset_at(&mut self, first: u64) {
+        *self = ReceiverHead::new(first);
     }
 
     /// Returns whether this head, a storage and runs are sound: those of a receiver. It takes a look
@@ -214,70 +237,6 @@ impl ReceiverHead {
         read.checked_add(capacity as u64)
     }
 
-    /// Keeps the bytes of a segment that are in the free window, as `ReceiverOver::segment` does. If
-    /// it is refused, head, storage and runs stay as they were, with the runs that aren't in use.
-    ///
-    /// # Requires, else it panics
-    ///
-    /// Head, storage and runs are sound, as `is_sound` tests, and the segment ends within 64 bits,
-    /// as `ReceiverOver::fits` tests.
-    ///
-    /// # Contract
-    ///
-    /// In the words of [`contracts`](crate::contracts):
-    ///
-    /// ```text
-    /// requires sound { HasSoundParts self.old storage.old runs.old }
-    /// requires fits { pos + length bytes.now < 2 ^ 64 }
-    /// ensures sound { HasSoundParts self.new storage.new runs.new }
-    /// ensures state { let v = receiver_of self.old storage.old runs.old in
-    ///     receiver_of self.new storage.new runs.new ≡ state_after receiver_ops v
-    ///     (verdict receiver_ops (length runs.old) v (piece pos bytes.now)) }
-    /// ensures step { StepRefines (length runs.old) (receiver_of self.old storage.old runs.old)
-    ///     (receiver_of self.new storage.new runs.new)
-    ///     (Segment pos bytes.now) (SegmentReply result) }
-    /// ensures receives { (f : ℕ) (x : List ℕ) →
-    ///     ReceivesFrom f x (receiver_of self.old storage.old runs.old) →
-    ///     MatchesStream f x pos bytes.now →
-    ///     ReceivesFrom f x (receiver_of self.new storage.new runs.new) }
-    /// ensures stored { let v = receiver_of self.old storage.old runs.old in
-    ///     storage.new ≡ storage_after self.old storage.old
-    ///     (verdict receiver_ops (length runs.old) v (piece pos bytes.now)) }
-    /// ensures value { let v = receiver_of self.old storage.old runs.old in
-    ///     result ≡ segment_result receiver_ops v
-    ///     (verdict receiver_ops (length runs.old) v (piece pos bytes.now)) }
-    /// ensures unchanged { OnErr result ((self.new ≡ self.old) × (storage.new ≡ storage.old)
-    ///     × (runs.new ≡ runs.old)) }
-    /// ensures canonical { IsCanonical self.old.held → IsCanonical self.new.held }
-    /// ```
-    #[inline(always)]
-    pub fn segment(
-        &mut self,
-        storage: &mut [u8],
-        runs: &mut [Run],
-        pos: u64,
-        bytes: &[u8],
-    ) -> Result<Kept, TooManyHolesError> {
-        let (kept, queued) = self.keep(storage, runs, pos, bytes)?;
-        Ok(Kept { kept, queued })
-    }
-
-    /// Returns the first three held runs. The storage is for the contract only.
-    ///
-    /// # Contract
-    ///
-    /// In the words of [`contracts`](crate::contracts):
-    ///
-    /// ```text
-    /// requires { HasSoundParts self.now storage.now runs.now }
-    /// ensures { result ≡ first_three (maximal_runs (domain (receiver_of self.now storage.now runs.now).held)) }
-    /// ```
-    #[inline(always)]
-    fn first_runs(&self, storage: &[u8], runs: &[Run]) -> [Option<(u64, u64)>; 3] {
-        let mut held = self.held(storage, runs);
-        [held.next(), held.next(), held.next()]
-    }
-
     /// Returns the held runs as absolute (start, end), the end not included, in rising order, at
     /// most as many as `runs` has elements. Each begins above `next` and ends within the free
     /// window. The storage is for the contract only.
@@ -306,8 +265,35 @@ impl ReceiverHead {
         HeldRunIter::over(self.held.iter_data(runs), self.next())
     }
 
-    /// Keeps what `segment` keeps, and returns how many bytes are kept, and how many joined the
-    /// queue.
+    /// Returns how many runs are held, without a look at them. Storage and runs are for the contract
+    /// only.
+    ///
+    /// # Requires, else it panics
+    ///
+    /// Head, storage and runs are sound, as `is_sound` tests.
+    ///
+    /// # Contract
+    ///
+    /// In the words of [`contracts`](crate::contracts):
+    ///
+    /// ```text
+    /// requires { HasSoundParts self.now storage.now runs.now }
+    /// ensures { result ≡ run_count (domain (receiver_of self.now storage.now runs.now).held) }
+    /// ```
+    #[inline(always)]
+    pub fn held_count(&self, storage: &[u8], runs: &[Run]) -> usize {
+        // Taken only for the precondition.
+        let _parts = (storage.len(), runs.len());
+        self.held.used
+    }
+
+    /// Keeps the bytes of a segment that are in the free window, as `ReceiverOver::keep` does. If it is
+    /// refused, head, storage and runs stay as they were, with the runs that aren't in use.
+    ///
+    /// # Requires, else it panics
+    ///
+    /// Head, storage and runs are sound, as `is_sound` tests, and the segment ends within 64 bits,
+    /// as `ReceiverOver::fits` tests.
     ///
     /// # Contract
     ///
@@ -329,21 +315,25 @@ impl ReceiverHead {
     /// ensures unchanged { OnErr result ((self.new ≡ self.old) × (storage.new ≡ storage.old)
     ///     × (runs.new ≡ runs.old)) }
     /// ensures canonical { IsCanonical self.old.held → IsCanonical self.new.held }
+    /// ensures receives { (f : ℕ) (x : List ℕ) →
+    ///     ReceivesFrom f x (receiver_of self.old storage.old runs.old) →
+    ///     MatchesStream f x pos bytes.now →
+    ///     ReceivesFrom f x (receiver_of self.new storage.new runs.new) }
     /// ```
     #[inline(always)]
-    fn keep(
+    pub fn keep(
         &mut self,
         storage: &mut [u8],
         runs: &mut [Run],
         pos: u64,
         bytes: &[u8],
-    ) -> Result<(usize, usize), TooManyHolesError> {
+    ) -> Result<Kept, TooManyHolesError> {
         let next = self.next();
         let window = self.window(storage.len());
         let late = next.saturating_sub(pos);
         let ahead = pos.saturating_sub(next);
         if late >= bytes.len() as u64 || ahead >= window as u64 {
-            return Ok((0, 0));
+            return Ok(Kept { kept: 0, queued: 0 });
         }
         let rest = &bytes[late as usize..];
         let offset = ahead as usize;
@@ -351,227 +341,6 @@ impl ReceiverHead {
         let queued = self.held.add_then_remove_front(runs, offset, kept)?;
         self.place.write_unallocated(storage, offset, &rest[..kept]);
         self.place.enqueue(storage.len(), queued);
-        Ok((kept, queued))
-    }
-}
-
-/// Reading: bytes at the head of the queue, copied out or shown. These calls need no runs.
-impl ReceiverHead {
-    /// Moves bytes from the head of the queue to the beginning of `into`, and returns how many: as
-    /// many as are queued and as `into` has room for. The rest of `into` stays as it is.
-    ///
-    /// # Requires, else it panics
-    ///
-    /// The queue is in the storage, and the first missing position fits 64 bits, as they do where
-    /// head, storage and runs are sound.
-    ///
-    /// # Contract
-    ///
-    /// In the words of [`contracts`](crate::contracts):
-    ///
-    /// ```text
-    /// requires place { IsSoundPlace (length storage.now) self.old.place }
-    /// requires fits { self.old.first + self.old.count_read + self.old.place.length < 2 ^ 64 }
-    /// ensures count { result ≡ min (length into.old) self.old.place.length }
-    /// ensures into { let queued = queue (ring_at storage.now self.old.place) in
-    ///     into.new ≡ take (length into.old) queued ++ drop (length queued) into.old }
-    /// ensures head { self.new ≡ head_after_read (length storage.now) result self.old }
-    /// ensures sound { (runs : List (ℕ × ℕ)) → HasSoundParts self.old storage.now runs →
-    ///     HasSoundParts self.new storage.now runs }
-    /// ensures state { (runs : List (ℕ × ℕ)) → HasSoundParts self.old storage.now runs →
-    ///     receiver_of self.new storage.now runs
-    ///     ≡ receiver_after_read (receiver_of self.old storage.now runs) (length into.old) }
-    /// ensures step { (runs : List (ℕ × ℕ)) → HasSoundParts self.old storage.now runs →
-    ///     StepRefines (length runs) (receiver_of self.old storage.now runs)
-    ///     (receiver_of self.new storage.now runs)
-    ///     (Read (length into.old)) (ReadReply (take result into.new)) }
-    /// ensures receives { (runs : List (ℕ × ℕ)) → HasSoundParts self.old storage.now runs →
-    ///     (f : ℕ) (x : List ℕ) → ReceivesFrom f x (receiver_of self.old storage.now runs) →
-    ///     ReceivesFrom f x (receiver_of self.new storage.now runs)
-    ///     × (take result into.new
-    ///     ≡ slice_range x self.old.count_read (self.old.count_read + result)) }
-    /// ```
-    #[inline]
-    pub fn read(&mut self, storage: &[u8], into: &mut [u8]) -> usize {
-        let count = self.place.dequeue_slice(storage, into);
-        self.count_read += count as u64;
-        count
-    }
-
-    /// Removes the first `count` bytes of the queue, as `read` does, and copies none. `capacity` is
-    /// how many bytes the storage has.
-    ///
-    /// # Requires, else it panics
-    ///
-    /// The queue is in the storage, it has `count` bytes, and the first missing position fits 64
-    /// bits.
-    ///
-    /// # Contract
-    ///
-    /// In the words of [`contracts`](crate::contracts):
-    ///
-    /// ```text
-    /// requires place { IsSoundPlace capacity self.old.place }
-    /// requires queued { count ≤ self.old.place.length }
-    /// requires fits { self.old.first + self.old.count_read + self.old.place.length < 2 ^ 64 }
-    /// ensures head { self.new ≡ head_after_read capacity count self.old }
-    /// ensures sound { (storage : List ℕ) (runs : List (ℕ × ℕ)) → length storage ≡ capacity →
-    ///     HasSoundParts self.old storage runs → HasSoundParts self.new storage runs }
-    /// ensures state { (storage : List ℕ) (runs : List (ℕ × ℕ)) → length storage ≡ capacity →
-    ///     HasSoundParts self.old storage runs → receiver_of self.new storage runs
-    ///     ≡ receiver_after_read (receiver_of self.old storage runs) count }
-    /// ensures step { (storage : List ℕ) (runs : List (ℕ × ℕ)) → length storage ≡ capacity →
-    ///     HasSoundParts self.old storage runs →
-    ///     StepRefines (length runs) (receiver_of self.old storage runs)
-    ///     (receiver_of self.new storage runs)
-    ///     (Read count) (ReadReply (take count (queue (ring_at storage self.old.place)))) }
-    /// ensures receives { (storage : List ℕ) (runs : List (ℕ × ℕ)) → length storage ≡ capacity →
-    ///     HasSoundParts self.old storage runs → (f : ℕ) (x : List ℕ) →
-    ///     ReceivesFrom f x (receiver_of self.old storage runs) →
-    ///     ReceivesFrom f x (receiver_of self.new storage runs)
-    ///     × (take count (queue (ring_at storage self.old.place))
-    ///     ≡ slice_range x self.old.count_read (self.old.count_read + count)) }
-    /// ```
-    #[inline]
-    pub fn remove(&mut self, capacity: usize, count: usize) {
-        self.place.dequeue(capacity, count);
-        self.count_read += count as u64;
-    }
-
-    /// Shows bytes of the queue that are contiguous, from its byte `offset` on: `size`, or as many
-    /// as there are up to the end of the queue or of the storage.
-    ///
-    /// # Requires, else it panics
-    ///
-    /// The queue is in the storage.
-    ///
-    /// # Contract
-    ///
-    /// In the words of [`contracts`](crate::contracts):
-    ///
-    /// ```text
-    /// requires { IsSoundPlace (length storage.now) self.now.place }
-    /// ensures count { let g = ring_at storage.now self.now.place in
-    ///     length result.now ≡ contiguous_allocated g offset size }
-    /// ensures not_empty { offset < self.now.place.length → 0 < size → 0 < length result.now }
-    /// ensures value { let g = ring_at storage.now self.now.place in
-    ///     result.now ≡ take (length result.now) (drop offset (queue g)) }
-    /// ```
-    #[inline]
-    pub fn peek<'a>(&self, storage: &'a [u8], offset: usize, size: usize) -> &'a [u8] {
-        let span = self.place.allocated(storage.len(), offset, size);
-        &storage[span.from..span.from + span.contiguous]
-    }
-
-    /// Copies bytes from the head of the queue to the beginning of `into`, and returns how many: as
-    /// many as are queued and as `into` has room for. The rest of `into` stays as it is, and the
-    /// queue too.
-    ///
-    /// # Requires, else it panics
-    ///
-    /// The queue is in the storage.
-    ///
-    /// # Contract
-    ///
-    /// In the words of [`contracts`](crate::contracts):
-    ///
-    /// ```text
-    /// requires { IsSoundPlace (length storage.now) self.now.place }
-    /// ensures count { result ≡ min (length into.old) self.now.place.length }
-    /// ensures into { let queued = queue (ring_at storage.now self.now.place) in
-    ///     into.new ≡ take (length into.old) queued ++ drop (length queued) into.old }
-    /// ```
-    #[inline]
-    pub fn peek_slice(&self, storage: &[u8], into: &mut [u8]) -> usize {
-        self.place.read_allocated(storage, 0, into)
-    }
-
-    /// Shows the queue, in order, in two parts: the bytes up to the storage's end, and those from
-    /// its beginning on. The second part is empty unless the queue wraps.
-    ///
-    /// # Requires, else it panics
-    ///
-    /// The queue is in the storage.
-    ///
-    /// # Contract
-    ///
-    /// In the words of [`contracts`](crate::contracts):
-    ///
-    /// ```text
-    /// requires { IsSoundPlace (length storage.now) self.now.place }
-    /// ensures queue { result.0.now ++ result.1.now ≡ queue (ring_at storage.now self.now.place) }
-    /// ensures cut { length result.0.now ≡ contiguous_queued (ring_at storage.now self.now.place) }
-    /// ```
-    #[inline]
-    pub fn as_slices<'a>(&self, storage: &'a [u8]) -> (&'a [u8], &'a [u8]) {
-        let span = self.place.allocated(storage.len(), 0, self.place.length);
-        (
-            &storage[span.from..span.from + span.contiguous],
-            &storage[..span.count - span.contiguous],
-        )
-    }
-}
-
-/// Comparing what two receivers store.
-impl ReceiverHead {
-    /// Returns whether first position, count of bytes read, queued bytes and held runs are equal.
-    /// The held bytes are not compared, nor are the capacities.
-    ///
-    /// # Requires, else it panics
-    ///
-    /// Both heads are sound with their storages and runs, as `is_sound` tests.
-    ///
-    /// # Contract
-    ///
-    /// In the words of [`contracts`](crate::contracts):
-    ///
-    /// ```text
-    /// requires sound { HasSoundParts self.now storage.now runs.now }
-    /// requires other_sound { HasSoundParts other.now other_storage.now other_runs.now }
-    /// ensures { IsTrue result ↔ IsSameState (receiver_of self.now storage.now runs.now)
-    ///     (receiver_of other.now other_storage.now other_runs.now) }
-    /// ```
-    pub fn is_same_state(
-        &self,
-        storage: &[u8],
-        runs: &[Run],
-        other: &ReceiverHead,
-        other_storage: &[u8],
-        other_runs: &[Run],
-    ) -> bool {
-        self.first == other.first
-            && self.count_read == other.count_read
-            && self.is_same_queue(storage, other, other_storage)
-            && self.held.is_same(runs, &other.held, other_runs)
-    }
-
-    /// Returns whether two receivers have equal queues, compared slice by slice.
-    ///
-    /// # Contract
-    ///
-    /// In the words of [`contracts`](crate::contracts):
-    ///
-    /// ```text
-    /// requires place { IsSoundPlace (length storage.now) self.now.place }
-    /// requires other_place { IsSoundPlace (length other_storage.now) other.now.place }
-    /// ensures { IsTrue result ↔ (queue (ring_at storage.now self.now.place)
-    ///     ≡ queue (ring_at other_storage.now other.now.place)) }
-    /// ```
-    fn is_same_queue(&self, storage: &[u8], other: &ReceiverHead, other_storage: &[u8]) -> bool {
-        let length = self.place.length;
-        if length != other.place.length {
-            return false;
-        }
-        let mut at = 0;
-        while at < length {
-            let here = self.peek(storage, at, length - at);
-            let there = other.peek(other_storage, at, here.len());
-            let here = &here[..there.len()];
-            if here != there {
-                return false;
-            }
-            at += there.len();
-        }
-        true
+        Ok(Kept { kept, queued })
     }
 }

@@ -38,6 +38,7 @@ impl ScoreboardHead {
     /// ensures sound { (runs : List (ℕ × ℕ)) → IsSoundBoard result runs }
     /// ensures empty { (runs : List (ℕ × ℕ)) →
     ///     reported_by result runs ≡ with_range nothing 0 first }
+    /// ensures numbers { result ≡ scoreboard_head first }
     /// ```
     pub const fn new_at(first: u64) -> Self {
         ScoreboardHead {
@@ -58,9 +59,28 @@ impl ScoreboardHead {
     /// ensures no_start { result.reported.first_start ≡ 0 }
     /// ensures sound { (runs : List (ℕ × ℕ)) → IsSoundBoard result runs }
     /// ensures empty { (runs : List (ℕ × ℕ)) → reported_by result runs ≡ nothing }
+    /// ensures numbers { result ≡ scoreboard_head 0 }
     /// ```
     pub const fn new() -> Self {
         ScoreboardHead::new_at(0)
+    }
+
+    /// Begins again: a scoreboard of a stream that begins at position `first`, as `new_at` returns it.
+    ///
+    /// # Contract
+    ///
+    /// In the words of [`contracts`](crate::contracts):
+    ///
+    /// ```text
+    /// ensures base { self.new.base ≡ first }
+    /// ensures no_run { self.new.reported.used ≡ 0 }
+    /// ensures no_start { self.new.reported.first_start ≡ 0 }
+    /// ensures sound { (runs : List (ℕ × ℕ)) → IsSoundBoard self.new runs }
+    /// ensures empty { (runs : List (ℕ × ℕ)) →
+    ///     reported_by self.new runs ≡ with_range nothing 0 first }
+    /// ```
+    pub fn reset_at(&mut self, first: u64) {
+        *self = ScoreboardHead::new_at(first);
     }
 
     /// Returns whether the scoreboard is sound with these runs, for any numbers in both. It looks at
@@ -296,6 +316,38 @@ impl ScoreboardHead {
             }
         }
         from
+    }
+
+    /// Returns the position below which all that wasn't reported is lost, by the rule of RFC 6675,
+    /// section 4: above it `duplicates` runs were reported (3 in TCP; 0 counts as 1), or more bytes than
+    /// `duplicates - 1` segments of `segment_size` bytes have. It is 0 if nothing is lost.
+    ///
+    /// # Requires, else it panics
+    ///
+    /// The scoreboard is sound with the runs.
+    ///
+    /// # Contract
+    ///
+    /// In the words of [`contracts`](crate::contracts):
+    ///
+    /// ```text
+    /// requires { IsSoundBoard self.now runs.now }
+    /// ensures { IsLossBound duplicates segment_size (reported_by self.now runs.now) result }
+    /// ```
+    pub fn lost_below(&self, runs: &[Run], duplicates: usize, segment_size: usize) -> u64 {
+        let most = duplicates.saturating_sub(1).saturating_mul(segment_size);
+        let mut count = self.reported.used;
+        let mut bytes = self.count_beyond(runs);
+        let mut limit = 0;
+        for (start, end) in self.reported(runs) {
+            if count < duplicates.max(1) && bytes <= most {
+                return limit;
+            }
+            limit = start;
+            count = count.saturating_sub(1);
+            bytes = bytes.saturating_sub((end - start) as usize);
+        }
+        limit
     }
 
     /// Returns the next range to send again, as a start and an end: it begins at the first position

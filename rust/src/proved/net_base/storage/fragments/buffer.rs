@@ -123,6 +123,13 @@ impl<B: Storage<u8>, const N: usize> FragmentsOver<B, N> {
 
     /// Returns the number of bytes of the buffer: the size of the longest packet that fits.
     ///
+    /// ```
+    /// # use net_base::storage::FragmentBuffer;
+    /// # use net_base::time::Instant;
+    /// # let mut bytes = [0u8; 8];
+    /// assert_eq!(FragmentBuffer::new(&mut bytes[..], Instant::ZERO).capacity(), 8);
+    /// ```
+    ///
     /// # Contract
     ///
     /// In the words of [`contracts`](crate::contracts):
@@ -137,6 +144,15 @@ impl<B: Storage<u8>, const N: usize> FragmentsOver<B, N> {
     /// Returns whether no byte has arrived since the buffer was made or reset: no packet is begun. A fragment of no
     /// bytes begins none.
     ///
+    /// ```
+    /// # use net_base::storage::FragmentBuffer;
+    /// # use net_base::time::Instant;
+    /// # let mut bytes = [0u8; 8];
+    /// # let mut buffer = FragmentBuffer::new(&mut bytes[..], Instant::ZERO);
+    /// assert!(buffer.add(2, b"").is_ok() && buffer.is_empty());
+    /// assert!(buffer.add(2, b"c").is_ok() && !buffer.is_empty());
+    /// ```
+    ///
     /// # Contract
     ///
     /// In the words of [`contracts`](crate::contracts):
@@ -150,6 +166,14 @@ impl<B: Storage<u8>, const N: usize> FragmentsOver<B, N> {
 
     /// Returns the moment up to which the packet is waited for. It is not expired at that moment, but at each later
     /// one.
+    ///
+    /// ```
+    /// # use net_base::storage::FragmentBuffer;
+    /// # use net_base::time::Instant;
+    /// # let mut bytes = [0u8; 8];
+    /// let buffer = FragmentBuffer::new(&mut bytes[..], Instant::from_millis(5));
+    /// assert_eq!(buffer.expires_at(), Instant::from_millis(5));
+    /// ```
     ///
     /// # Contract
     ///
@@ -166,6 +190,16 @@ impl<B: Storage<u8>, const N: usize> FragmentsOver<B, N> {
     ///
     /// It is refused, and nothing changes, exactly if it reaches past the buffer's end, which is
     /// `TooLong`, or would leave more than `N` maximal runs. The end of an accepted fragment fits `usize`.
+    ///
+    /// ```
+    /// # use net_base::storage::{FragmentBuffer, FragmentError};
+    /// # use net_base::time::Instant;
+    /// # let mut bytes = [0u8; 8];
+    /// let mut buffer = FragmentBuffer::<1>::empty(&mut bytes[..], Instant::ZERO);
+    /// assert_eq!(buffer.add(6, b"ghi"), Err(FragmentError::TooLong));
+    /// assert_eq!(buffer.add(6, b"gh"), Ok(()));
+    /// assert_eq!(buffer.add(0, b"ab"), Err(FragmentError::TooManyHoles));
+    /// ```
     ///
     /// # Contract
     ///
@@ -190,6 +224,16 @@ impl<B: Storage<u8>, const N: usize> FragmentsOver<B, N> {
     ///
     /// It is refused, and nothing changes, exactly if the buffer has fewer bytes, which is `TooLong`, or
     /// else if another size is known, which is `OtherSize`.
+    ///
+    /// ```
+    /// # use net_base::storage::{FragmentBuffer, FragmentError};
+    /// # use net_base::time::Instant;
+    /// # let mut bytes = [0u8; 8];
+    /// # let mut buffer = FragmentBuffer::new(&mut bytes[..], Instant::ZERO);
+    /// assert_eq!(buffer.set_total_size(9), Err(FragmentError::TooLong));
+    /// assert_eq!(buffer.set_total_size(0), Ok(()));
+    /// assert_eq!(buffer.assemble(), Some(&b""[..]));
+    /// ```
     ///
     /// # Contract
     ///
@@ -241,6 +285,18 @@ impl<B: Storage<u8>, const N: usize> FragmentsOver<B, N> {
     /// Shows the bytes of the packet. `None` exactly if its size is not known or one of its bytes
     /// is missing.
     ///
+    /// ```
+    /// # use net_base::storage::{FragmentBuffer, FragmentError};
+    /// # use net_base::time::Instant;
+    /// # let mut bytes = [0u8; 8];
+    /// # let mut buffer = FragmentBuffer::new(&mut bytes[..], Instant::ZERO);
+    /// buffer.add(0, b"abc")?;
+    /// assert_eq!(buffer.assemble(), None);
+    /// buffer.set_total_size(2)?;
+    /// assert_eq!(buffer.assemble(), Some(&b"ab"[..]));
+    /// # Ok::<(), FragmentError>(())
+    /// ```
+    ///
     /// # Contract
     ///
     /// In the words of [`contracts`](crate::contracts):
@@ -259,6 +315,15 @@ impl<B: Storage<u8>, const N: usize> FragmentsOver<B, N> {
 
     /// Returns whether `now` is after the moment up to which the packet is waited for.
     ///
+    /// ```
+    /// # use net_base::storage::FragmentBuffer;
+    /// # use net_base::time::Instant;
+    /// # let mut bytes = [0u8; 8];
+    /// let buffer = FragmentBuffer::new(&mut bytes[..], Instant::from_millis(5));
+    /// assert!(!buffer.is_expired(Instant::from_millis(5)));
+    /// assert!(buffer.is_expired(Instant::from_micros(5_001)));
+    /// ```
+    ///
     /// # Contract
     ///
     /// In the words of [`contracts`](crate::contracts):
@@ -271,6 +336,18 @@ impl<B: Storage<u8>, const N: usize> FragmentsOver<B, N> {
     }
 
     /// Starts over for another packet, which is waited for up to `expires_at`.
+    ///
+    /// ```
+    /// # use net_base::storage::{FragmentBuffer, FragmentError};
+    /// # use net_base::time::Instant;
+    /// # let mut bytes = [0u8; 8];
+    /// # let mut buffer = FragmentBuffer::new(&mut bytes[..], Instant::ZERO);
+    /// buffer.add(0, b"abc")?;
+    /// buffer.set_total_size(0)?;
+    /// buffer.reset(Instant::from_millis(5));
+    /// assert!(buffer.is_empty() && buffer.assemble().is_none());
+    /// # Ok::<(), FragmentError>(())
+    /// ```
     ///
     /// # Contract
     ///

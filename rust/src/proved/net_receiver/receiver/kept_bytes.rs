@@ -1,6 +1,6 @@
-//! The result of a segment that a receiver accepts.
+//! What a segment brought.
 
-/// The result of an accepted segment: the bytes that were kept, and the held runs.
+/// What a segment brought.
 #[derive(Debug, Clone, Copy, PartialEq, Eq)]
 pub struct Kept {
     /// How many bytes were kept: those of the segment whose positions are in the free window.
