@@ -1,9 +1,9 @@
 /* SPDX-License-Identifier: 0BSD */
 /* net-base 0.4.0.
  *
- * Functions for C and for Rust over memory that the caller keeps: rings, packet queues, assemblers,
- * buffers of fragments, receivers, senders and their scoreboards, sequence numbers, sizes of
- * devices, time and random words.
+ * Functions for C over memory that the caller keeps: rings, packet queues, assemblers, buffers of
+ * fragments, receivers, senders and their scoreboards, sequence numbers, sizes of devices, time and
+ * random words.
  *
  * There is no heap and no global state. Each export calls a function of a library here, states its
  * clauses, and refuses arguments that no correct caller passes.
@@ -42,11 +42,12 @@
  *
  * Refusals
  *
- * All else is tested. A refused call changes nothing. It returns `false` if it returns a `bool`;
- * `NET_BASE_REFUSED` if it returns a status, alone or as the first field of a struct; otherwise
- * `NET_BASE_NONE`, alone or as the first field of a struct. `NET_BASE_REFUSED` always means a
- * refusal; `false` and `NET_BASE_NONE` can also be results of calls that are done, as the comments
- * say.
+ * All else is tested, before anything else that a comment names: a call that could be refused for
+ * two reasons returns what it does if it is refused as nonsense. A refused call changes nothing. It
+ * returns `false` if it returns a `bool`; `NET_BASE_REFUSED` if it returns a status, alone or as
+ * the first field of a struct; otherwise `NET_BASE_NONE`, alone or as the first field of a struct.
+ * `NET_BASE_REFUSED` always means a refusal; `false` and `NET_BASE_NONE` can also be results of
+ * calls that are done, as the comments say.
  */
 #ifndef NET_BASE_H
 #define NET_BASE_H
@@ -423,20 +424,6 @@ bool net_base_packets_is_sound(
 /* Empties the queue. No head is refused: this makes one sound for all storages. */
 void net_base_packets_clear(struct net_base_packets *packets);
 
-/* Takes the first slot in use, which the caller passes as `first`, off with its bytes, and returns
- * the index of the first of these bytes. `first` is the slot of the gap before the first packet, or
- * that of the first packet if it has no gap.
- *
- * A slot can be the first one if one is in use, if its bytes are in use and contiguous, and if it
- * is a packet's or has bytes and ends at the storage's end.
- *
- * It is refused if `packets` isn't that of a queue of `slot_count` slots and `capacity` bytes, or
- * if `first` can't be the first slot in use: `NET_BASE_NONE`, and nothing changes.
- */
-uint64_t net_base_packets_take_slot(
-    struct net_base_packets *packets, uint64_t slot_count, uint64_t capacity,
-    const struct net_base_packet_slot *first);
-
 /* Takes the last `count` bytes off the last packet, lowers the size in `last`, its slot, and
  * returns true.
  *
@@ -446,22 +433,25 @@ uint64_t net_base_packets_take_slot(
 bool net_base_packets_shorten_slot(
     struct net_base_packets *packets, struct net_base_packet_slot *last, uint64_t count);
 
-/* Appends a packet of `size` bytes, writes its slot and that of its gap, and returns where they and
- * the packet's bytes are. An empty queue begins at the beginning of the storage of bytes.
+/* Appends a packet of `size` bytes, writes its slot and that of its gap, whose `is_gap` is 1, and
+ * returns where they and the packet's bytes are. If no byte is in use, which is so too where all
+ * packets have 0 bytes, the packet begins at the beginning of the storage of bytes.
  *
- * If there are no `size` contiguous free bytes, or no slots for the packet and its gap, `slot` and
- * `from` are `NET_BASE_NONE`, and nothing changes. A head whose numbers aren't those of rings of
- * the slots and of `capacity` bytes is refused: then `gap` is `NET_BASE_NONE` too.
+ * If there are no `size` contiguous free bytes, or no slots for the packet and its gap, `gap` is 0,
+ * the three others are `NET_BASE_NONE`, and nothing changes. A head whose numbers aren't those of
+ * rings of the slots and of `capacity` bytes is refused: then all four are `NET_BASE_NONE`.
  */
 struct net_base_packet_place net_base_packets_enqueue(
     struct net_base_packets *packets, struct net_base_packet_slot *slots, uint64_t slots_length,
     uint64_t capacity, uint64_t size);
 
-/* Takes the first packet off, and the gap before it, and returns where it is.
+/* Takes the first packet off, and the gap before it, and returns where it is. Its bytes stay until
+ * another packet is placed there.
  *
- * If no slot is in use, `slot` and `from` are `NET_BASE_NONE`, and nothing changes. A head whose
- * numbers aren't those of rings is refused, and so are first slots that can't be those of a packet:
- * then `gap` is `NET_BASE_NONE` too. The slots of a sound queue are never refused.
+ * If no slot is in use, `gap` and `size` are 0, the two others are `NET_BASE_NONE`, and nothing
+ * changes. A head whose numbers aren't those of rings is refused, and so are first slots that can't
+ * be those of a packet: then `gap` is `NET_BASE_NONE` too. The slots of a sound queue are never
+ * refused.
  */
 struct net_base_first_packet net_base_packets_dequeue(
     struct net_base_packets *packets, const struct net_base_packet_slot *slots,
@@ -469,9 +459,9 @@ struct net_base_first_packet net_base_packets_dequeue(
 
 /* Returns where the first packet is, which stays.
  *
- * If no slot is in use, `slot` and `from` are `NET_BASE_NONE`. A head whose numbers aren't those of
- * rings is refused, and so are first slots that can't be those of a packet: then `gap` is
- * `NET_BASE_NONE` too. The slots of a sound queue are never refused.
+ * If no slot is in use, `gap` and `size` are 0, and the two others are `NET_BASE_NONE`. A head
+ * whose numbers aren't those of rings is refused, and so are first slots that can't be those of a
+ * packet: then `gap` is `NET_BASE_NONE` too. The slots of a sound queue are never refused.
  */
 struct net_base_first_packet net_base_packets_peek(
     const struct net_base_packets *packets, const struct net_base_packet_slot *slots,
@@ -491,12 +481,26 @@ bool net_base_packets_shorten_last(
 /* Appends a packet of `size` bytes, and returns where its slots and its bytes are. An empty queue
  * begins at the beginning of the storage of bytes. The caller writes the slots.
  *
- * If there are no `size` contiguous free bytes, or no slots for the packet and its gap, `slot` and
- * `from` are `NET_BASE_NONE`, and nothing changes. A head whose numbers aren't those of rings of so
- * many slots and of `capacity` bytes is refused: then `gap` is `NET_BASE_NONE` too.
+ * If there are no `size` contiguous free bytes, or no slots for the packet and its gap, `gap` is 0,
+ * the three others are `NET_BASE_NONE`, and nothing changes. A head whose numbers aren't those of
+ * rings of `slot_count` slots and of `capacity` bytes is refused: then all four are
+ * `NET_BASE_NONE`.
  */
 struct net_base_packet_place net_base_packets_place(
     struct net_base_packets *packets, uint64_t slot_count, uint64_t capacity, uint64_t size);
+
+/* Removes the first slot in use, which the caller passes as `first`, with its bytes, and returns
+ * the index of the first of these bytes. `first` is the slot of the gap before the first packet, or
+ * that of the first packet if it has no gap.
+ *
+ * A head whose numbers aren't those of rings is refused, and so is a slot that can't be the first
+ * one: if none is in use, if its size is above the number of bytes in use, if its bytes aren't
+ * contiguous, or if it is a gap's that has no bytes or doesn't end at the storage's end. Then
+ * `NET_BASE_NONE` is returned, and nothing changes.
+ */
+uint64_t net_base_packets_take_slot(
+    struct net_base_packets *packets, uint64_t slot_count, uint64_t capacity,
+    const struct net_base_packet_slot *first);
 
 /* Devices: the longest packets of one, from numbers that the caller keeps. */
 
@@ -522,7 +526,9 @@ bool net_base_max_ipv4_fragment_size(
     uint32_t medium, uint64_t max_transmission_unit, uint64_t ip_header_len, uint64_t *size);
 
 /* Random words, drawn from a state that the caller keeps. Any state is allowed; the words are not
- * fit for cryptography.
+ * fit for cryptography. The generator is smoltcp's, sPCG32: a step multiplies the state by
+ * 0xbb2efcec3c39611d and adds 0x7590ef39, and the word of a state is the low 32 bits of `state >>
+ * (29 - (state >> 61))`.
  */
 
 /* Steps `state` to the next one, and returns its random word, of 32 bits. */
@@ -696,7 +702,7 @@ bool net_base_receiver_window_end(
  * than `index`, start and end are 0.
  *
  * If `place` isn't that of a ring of `storage_length` bytes, `next` doesn't fit 64 bits, or
- * `held.used` is above `runs_length`, it is refused: start and end are `UINT64_MAX`.
+ * `held.used` is above `runs_length`, it is refused: start and end are `NET_BASE_NONE`.
  *
  * Requires: head, storage and runs are sound, as `net_base_receiver_is_sound` tests.
  */
@@ -824,7 +830,7 @@ bool net_base_sequence_number_is_before(uint32_t number, uint32_t other);
  * overflows if C computes it, and what takes a loop.
  */
 
-/* Returns the moment so much later, or `INT64_MAX` if that is above it. */
+/* Returns `instant + duration`, or `INT64_MAX` if that is above it. */
 int64_t net_base_instant_saturating_add(int64_t instant, uint64_t duration);
 
 /* Returns how far apart two moments are, whichever is the later one. Any two have a distance. */
@@ -839,10 +845,10 @@ bool net_base_instant_earliest(const int64_t *moments, uint64_t moments_length, 
 /* The version of this interface. */
 
 /* Returns the version of this interface, which is in the name too: a program that calls this
- * doesn't link with an archive of another version. The Cargo crate refers to it; a program in C has
- * to call it. Each version whose structs or functions differ has another number.
+ * doesn't link with an archive of another version. Each version whose structs or functions differ
+ * has another number.
  */
-uint32_t net_base_abi_1(void);
+uint32_t net_base_abi_2(void);
 
 /* Assemblers: sets of positions, stored as runs in memory that the caller keeps.
  *
@@ -1004,8 +1010,9 @@ uint64_t net_base_sender_write(
     struct net_base_sender *sender, uint8_t *storage, uint64_t storage_length, const uint8_t *bytes,
     uint64_t bytes_length);
 
-/* Returns where at most `max` queued bytes are, from the one at `pos` on; none if the byte at `pos`
- * isn't queued. The storage has `capacity` bytes.
+/* Returns where at most `max` queued bytes are, from the one at `position` on. The caller copies or
+ * sends them. If that byte isn't queued, `count` and `contiguous` are 0, and `from` is no byte's
+ * index.
  *
  * It is refused if `sender` isn't that of a sender over `capacity` bytes: `from` is
  * `NET_BASE_NONE`, `count` and `contiguous` are 0.

@@ -1,18 +1,14 @@
 #!/usr/bin/env python3
-"""overlay.py CHECKOUT [--into COPY] [--dry-run] [--net-base PATH]
+"""overlay.py CHECKOUT [--into COPY] [--dry-run]
 overlay.py CHECKOUT --undo
 
 Makes `storage`, `time` and `rand` of a checkout of smoltcp 0.14.0 the proved text of net-base, so that smoltcp's sockets
 and interfaces run over it. No dependency is added: `src/proved` is new, `src/storage`, `src/time.rs` and `src/rand.rs`
-become what is written by hand around it, and `src/lib.rs` gets one item more.
+become what is written by hand around it, and `src/lib.rs` gets one item more. Test modules stay. --into changes a copy,
+which is made; --dry-run prints what would change; --undo puts back what was there, byte for byte.
 
---into      changes a copy of the checkout, which is made.
---dry-run   prints what would change.
---net-base  the folder of net-base's Cargo.toml, if it isn't that of this script.
---undo      puts back what was there, byte for byte, unless a file has been edited since.
-
-Refuses another version; a replaced file whose code, up to its test module, isn't 0.14.0's by SHA-256; a second overlay;
-a net-base that doesn't fit. Then one line says so, the status is 1, and nothing is changed. Test modules stay.
+Refuses another version, a replaced file whose code, up to its test module, isn't 0.14.0's by SHA-256, a second overlay,
+an undo after an edit, and a net-base that doesn't fit: one line says so, the status is 1, and nothing is changed.
 """
 import argparse
 import hashlib
@@ -24,7 +20,7 @@ import sys
 from pathlib import Path
 
 HERE = Path(__file__).resolve().parent
-MODULES = HERE / "modules"
+MODULES, NET_BASE = HERE / "modules", HERE.parent / "rust"
 VERSION = "0.14.0"
 SAVED = ".net-base-overlay"
 
@@ -40,36 +36,30 @@ DIGESTS = {
 
 # What of net-base's src/proved is taken.
 PROVED = ["net_ring", "net_packets", "net_assembler", "net_base/time", "net_base/time.rs", "net_base/rand.rs"]
+PROVED += ["contracts.rs"]
+MANAGED = (MODULES / "proved/managed.rs").read_text()
 DEFMT = '#[cfg_attr(feature = "defmt", derive(defmt::Format))]\n'
 
 # A file of src/proved, a pattern in it, what replaces it, and how often it is found there.
 CHANGES = [
-    # Storage is that of the crate `managed`.
-    ("net_ring/managed.rs", r"^use .*?\n\n(?=/// A list)", "", 1),
-    ("net_ring/managed.rs", r"^impl<'a, T> Storage<T> for &'a mut \[T\].*\Z", (MODULES / "proved/managed.rs").read_text(), 1),
-    ("net_ring/ring_buffer.rs", r"^use crate::rattle::Vec;\n\n", "", 1),
-    ("net_ring/ring_buffer.rs", r"^impl<'a, T(?:, const N: usize)?> From<(?:&'a mut|Vec).*?\n}\n\n", "", 3),
+    # Storage is that of the crate `managed`, and nothing else becomes a ring by `into`.
+    ("net_ring/managed.rs", r"^use .*?^(/// A list.*?)^impl<'a, T> Storage<T> for &'a mut .*\Z", r"\1" + MANAGED, 1),
+    ("net_ring/ring_buffer.rs", r"^use crate::rattle::Vec;\n\n(.*?)^impl<'a, T> From<&'a mut \[T\]>.*?^(?=impl<'a, T> RingBuffer)", r"\1", 1),
+    # What is printed, and what smoltcp's tests look at.
+    ("net_ring/ring_buffer.rs", r"^    (?=(?:storage: S|place: RingHead),$)", "    pub(crate) ", 2),
+    ("net_packets/packet_buffer.rs", r"^    (?=(?:head: PacketsHead|slots: M|bytes: B),$)", "    pub(crate) ", 3),
     # What smoltcp derives.
     ("net_ring/error.rs", r"^(?=pub struct (?:Full|Empty);)", DEFMT, 2),
     ("net_packets/packet_metadata.rs", r"^(?=pub struct PacketMetadata<H>)", DEFMT, 1),
 ]
 
-# What names a private field in smoltcp's test modules.
+# In smoltcp's test modules, what names a private field, or what the module around them imports.
 TESTS = [
-    ("src/storage/ring_buffer.rs", r"\bring\.length\b", "ring.place.length", 2),
-    ("src/storage/packet_buffer.rs", r"\bmetadata_ring\.len\(\)", "slots_used()", 10),
-    ("src/storage/assembler.rs", r"^    impl From<Vec<\(usize, usize\)>> for Assembler \{\n.*?^    \}\n", """\
-    impl From<Vec<(usize, usize)>> for Assembler {
-        fn from(holes_and_data: Vec<(usize, usize)>) -> Assembler {
-            let (mut assembler, mut from) = (Assembler::new(), 0);
-            for (hole, data) in holes_and_data {
-                assembler.add(from + hole, data).unwrap();
-                from += hole + data;
-            }
-            assembler
-        }
-    }
-""", 1),
+    ("src/storage/ring_buffer.rs", r"^    use super::\*;$", "    use crate::storage::{Empty, Full, RingBuffer};"),
+    ("src/storage/packet_buffer.rs", r"^    use super::\*;$", "    use crate::storage::{Empty, Full, PacketBuffer, PacketMetadata};"),
+    ("src/storage/ring_buffer.rs", r"\bring\.length\b", "ring.place.length"),
+    ("src/storage/packet_buffer.rs", r"\bmetadata_ring\.len\(\)", "slots_used()"),
+    ("src/storage/assembler.rs", r"^    impl From<Vec<.*?^    }\n", (MODULES / "storage/assembler_tests.rs").read_text()),
 ]
 
 # What of smoltcp's own `time` stays: std's clocks, its texts for defmt, and core's lengths.
@@ -91,10 +81,10 @@ def parts(text):
     return code.rstrip("\n") + "\n", (mark + tests).lstrip("\n")
 
 
-def changed(text, pattern, by, count, name):
-    text, found = re.subn(pattern, lambda _: by, text, flags=re.M | re.S)
+def changed(path, pattern, by, count, text=None):
+    text, found = re.subn(pattern, by, read(path) if text is None else text, flags=re.M | re.S)
     if found != count:
-        sys.exit(f"{name} doesn't fit: {found} matches, and not {count}, of {pattern}")
+        sys.exit(f"{path} doesn't fit: {found} matches, and not {count}, of {pattern}")
     return text
 
 
@@ -113,19 +103,18 @@ def check(root):
         sys.exit(f"{root} isn't as smoltcp {VERSION} was released: {', '.join(edited)}")
 
 
-def proved_files(net_base):
+def proved_files():
     """The files of src/proved. What is always inline there only may be here, which is less code for firmware."""
-    source, new = net_base / "src/proved", {}
+    source, new = NET_BASE / "src/proved", {}
     for part in PROVED:
         for path in [source / part] if part.endswith(".rs") else sorted((source / part).rglob("*.rs")):
             new[path.relative_to(source).as_posix()] = read(path)
-    new["rattle.rs"] = read(net_base / "src/rattle.rs")
-    if not all(new.values()) or len(new) < 2 * len(PROVED):
-        sys.exit(f"{net_base} isn't the folder of net-base's Cargo.toml")
+    new["rattle.rs"] = read(NET_BASE / "src/rattle.rs")
     for name, pattern, by, count in CHANGES:
-        new[name] = changed(new.get(name, ""), pattern, by, count, f"{source / name}")
+        new[name] = changed(source / name, pattern, by, count, new.get(name, ""))
     for name, text in new.items():
-        new[name] = text.replace("crate::rattle", "crate::proved::rattle").replace("#[inline(always)]", "#[inline]")
+        text = re.sub(r"\bcrate::(rattle|contracts)\b", r"crate::proved::\1", text)
+        new[name] = text.replace("#[inline(always)]", "#[inline]")
     new["mod.rs"] = (MODULES / "proved/mod.rs").read_text()
     return {f"src/proved/{name}": text for name, text in new.items()}
 
@@ -139,11 +128,11 @@ def other_files(root):
     new["src/time.rs"] = f"{page}{new['src/time.rs']}\n{own.replace('val.micros as', 'val.total_micros() as')}"
     for name in new:
         tests = parts(read(root / name))[1]
-        for _, pattern, by, count in [entry for entry in TESTS if tests and entry[0] == name]:
-            tests = changed(tests, pattern, by, count, f"{root / name}")
+        for _, pattern, by in [entry for entry in TESTS if entry[0] == name]:
+            tests = re.sub(pattern, by, tests, flags=re.M | re.S)
         new[name] += "\n" * bool(tests) + tests
     item = "#[rustfmt::skip]\nmod proved;\nmod rand;"
-    new["src/lib.rs"] = changed(read(root / "src/lib.rs"), r"^mod rand;$", item, 1, f"{root / 'src/lib.rs'}")
+    new["src/lib.rs"] = changed(root / "src/lib.rs", r"^mod rand;$", item, 1)
     return new
 
 
@@ -170,6 +159,9 @@ def undo(root):
     edited = [name for name in there if there[name] != record["now"][name]]
     if edited:
         sys.exit(f"edited since: {', '.join(edited)}; what was there is in {root / SAVED}")
+    for folder in {(root / name).parent for name in record["now"]}:
+        if not os.access(folder, os.W_OK):
+            raise PermissionError(13, "Permission denied", str(folder))
     put_back(root, record)
     print(f"{root} is as it was: {len(record['now'])} files")
 
@@ -201,40 +193,39 @@ def write(root, new):
     print(f"{root}: {len(added)} files added, {len(new) - len(added)} changed; --undo puts them back")
 
 
+def run(root, into, dry_run):
+    check(root)
+    new = proved_files() | other_files(root)
+    if dry_run:
+        print("\n".join(f"{'changed' if (root / name).is_file() else 'added'}: {name}" for name in new))
+    elif not into:
+        write(root, new)
+    elif into.exists():
+        sys.exit(f"{into} exists")
+    else:
+        try:
+            shutil.copytree(root, into, symlinks=True, ignore=shutil.ignore_patterns("target"))
+            write(into, new)
+        except OSError:
+            shutil.rmtree(into, ignore_errors=True)
+            raise
+
+
 def main():
     parser = argparse.ArgumentParser(description=__doc__, formatter_class=argparse.RawDescriptionHelpFormatter)
     parser.add_argument("checkout", type=Path)
     parser.add_argument("--into", type=Path, metavar="COPY")
-    parser.add_argument("--net-base", type=Path, metavar="PATH", default=HERE.parent / "rust")
-    for flag in ["--dry-run", "--undo"]:
-        parser.add_argument(flag, action="store_true")
+    parser.add_argument("--dry-run", action="store_true")
+    parser.add_argument("--undo", action="store_true")
     arguments = parser.parse_args()
-    root = arguments.checkout
-    if arguments.undo:
-        return undo(root)
-    check(root)
-    # All texts are made before anything is written.
-    new = proved_files(arguments.net_base) | other_files(root)
-    if arguments.dry_run:
-        return print("\n".join(f"{'changed' if (root / name).is_file() else 'added'}: {name}" for name in new))
-    if not arguments.into:
-        return write(root, new)
-    if arguments.into.exists():
-        sys.exit(f"{arguments.into} exists")
     try:
-        shutil.copytree(root, arguments.into, symlinks=True, ignore=shutil.ignore_patterns("target"))
-        write(arguments.into, new)
-    except OSError:
-        shutil.rmtree(arguments.into, ignore_errors=True)
-        raise
-
-
-def start():
-    try:
-        main()
+        if arguments.undo:
+            undo(arguments.checkout)
+        else:
+            run(arguments.checkout, arguments.into, arguments.dry_run)
     except OSError as error:
         sys.exit(f"nothing was changed: {error}")
 
 
 if __name__ == "__main__":
-    start()
+    main()

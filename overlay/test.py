@@ -87,7 +87,7 @@ class Tests:
 
     def overlay(self, *words, nobody=False, **options):
         user = "import locale, os; os.geteuid() or os.setuid(65534); " if nobody else ""
-        words = [sys.executable, "-B", "-c", f"{self.script_text}{user}overlay.start()", *map(str, words)]
+        words = [sys.executable, "-B", "-c", f"{self.script_text}{user}overlay.main()", *map(str, words)]
         return subprocess.run(words, cwd=self.folder / "net-base/overlay", capture_output=True, text=True, **options)
 
     def made(self, *words):
@@ -144,15 +144,14 @@ class Tests:
             path = self.copy("checkout") / file
             path.write_bytes(path.read_bytes().replace(old.encode(), new.encode("latin-1"), 1))
             self.refused(re.escape(what), [checkout])
-        checkout = self.copy("checkout")
-        self.refused("isn't the folder of net-base's Cargo.toml", [checkout, "--net-base", self.folder])
-        other = self.folder / "other"
-        shutil.copytree(self.folder / "net-base/rust", other)
-        path = other / "src/proved/net_ring/error.rs"
-        path.write_text(path.read_text().replace("struct Full", "struct  Full"))
-        self.refused("error.rs doesn't fit", [checkout, "--net-base", other])
+        checkout, path = self.copy("checkout"), self.folder / "net-base/rust/src/proved/net_ring/error.rs"
+        text = path.read_text()
+        for other in [text.replace("struct Full", "struct  Full"), ""]:
+            path.write_text(other)
+            self.refused("error.rs doesn't fit", [checkout])
         path.unlink()
-        self.refused("error.rs doesn't fit", [checkout, "--net-base", other])
+        self.refused("error.rs doesn't fit", [checkout])
+        path.write_text(text)
         self.made(checkout)
         path = checkout / "src/proved/net_ring/head.rs"
         path.write_text(path.read_text() + "\n")
@@ -169,6 +168,10 @@ class Tests:
             (checkout / name).chmod(0o555)
             self.refused("nothing was changed: .*Permission denied", [checkout], nobody=True)
             (checkout / name).chmod(0o777)
+        self.made(checkout)
+        (checkout / "src/storage").chmod(0o555)
+        self.refused("nothing was changed: .*Permission denied", [checkout, "--undo"], nobody=True)
+        (checkout / "src/storage").chmod(0o777)
         print(f"script: {len(listed)} files; made, listed, taken back, and {self.refusals} refusals, which change nothing")
 
     def cargo(self, checkout, words, variables=(), check=True):
@@ -185,7 +188,7 @@ class Tests:
         return subprocess.run([*runner, path, *words.split()], capture_output=True, text=True, check=True).stdout
 
     def printed(self, checkout):
-        """What the programs print over a checkout, with so many runs, in debug and in release builds."""
+        """What the programs print over a checkout, with so many runs; release builds print the same."""
         texts = {}
         for count in [1, 2, 4, 8, 32]:
             words = "" if count in (2, 4) else f"--features assembler-max-segment-count-{count}"
@@ -193,8 +196,9 @@ class Tests:
             self.cargo(checkout, f"build -q --example run --example calls {words}", variables)
             texts[f"run, {count} runs"] = self.program(checkout, "run", "")
             texts[f"calls, {count} runs"] = self.program(checkout, "calls", "0 100")
-        self.cargo(checkout, "build -q --release --example run")
-        texts["run, release"] = self.program(checkout, "run", "", "release")
+            self.cargo(checkout, f"build -q --release --example run {words}", variables)
+            if self.program(checkout, "run", "", "release") != texts[f"run, {count} runs"]:
+                stop(f"{checkout}: the release build, with {count} runs, prints something else")
         self.cargo(checkout, "build -q --profile checked --example calls")
         texts["calls"] = self.program(checkout, "calls", "0 3000", "checked")
         return texts
@@ -271,6 +275,7 @@ class Tests:
         count = sum(text.count("#[test]") for text in texts)
         done = self.cargo("overlaid", "test -q --lib")
         passed = int(re.search(r"(\d+) passed; 0 failed", done.stdout)[1])
+        self.cargo("overlaid", "test -q --doc")
         if passed <= count or (self.smoltcp and not count):
             stop(f"{passed} tests passed, smoltcp has {count}")
         print(f"tests: smoltcp's {count} and {passed - count} of the stand-in, passed")

@@ -5,27 +5,27 @@
 - A shim swaps two arguments: the test of the exports, or the digest of the sequence, has to differ.
 - Data layouts are another's: 64-bit numbers aligned to 4 bytes, big-endian.
 - An archive is changed, or is that of another target: `archive.py --digest` has to say so.
+- An archive is compiled by other words: its attributes or its code have to tell.
 - A program doesn't mask its interrupt: bytes have to be wrong.
-- rust/build.rs is run for each target that rustc knows: it has to choose the archive of `CHOICES`, or none.
 
 It builds what it needs, so it needs the kit, and what sh c/targets.sh needs. It isn't part of the gate.
 """
 import collections
-import os
+import dataclasses
 import pathlib
 import re
 import shutil
-import subprocess
 import sys
 import tempfile
 
 import archive
+import exports
 import ffi
 import retarget
-import sequence
 from archive import TARGETS
 
 sys.path.insert(0, str(archive.ROOT / "c/targets"))
+import disassembly  # noqa: E402
 import run  # noqa: E402
 
 LOAD = r"^  (%\w+) = load ptr, ptr (%\w+), align 8, !noundef !1\n"
@@ -80,29 +80,15 @@ MUTANTS = {
     "a global": (r"\A", r"@mutant = global i64 0\n"),
     "assembly of the module": (r"\A", 'module asm "nop"\n'),
 }
-# Which archive rust/build.rs chooses; no other target has one.
-LINUX = ("gnu", "musl", "ohos")
-CHOICES = {
-    **{f"x86_64-unknown-linux-{abi}": "x86_64" for abi in (*LINUX, "gnuasan", "none")},
-    "x86_64-unikraft-linux-musl": "x86_64",
-    "x86_64-unknown-none": "x86_64-none",
-    **{f"aarch64-unknown-linux-{abi}": "aarch64" for abi in LINUX},
-    **{f"aarch64{kind}-unknown-none{abi}": "aarch64-none" for kind in ("", "v8r") for abi in ("", "-softfloat")},
-    **{f"armv7-unknown-linux-{abi}eabihf": "armv7" for abi in ("gnu", "musl", "uclibc")},
-    **{f"thumbv7neon-unknown-linux-{abi}eabihf": "armv7" for abi in ("gnu", "musl")},
-    "thumbv6m-none-eabi": "thumbv6m",
-    "thumbv8m.base-none-eabi": "thumbv6m",
-    "thumbv7m-none-eabi": "thumbv7m",
-    "thumbv7em-none-eabi": "thumbv7em",
-    "thumbv7em-none-eabihf": "thumbv7em-hf",
-    "thumbv8m.main-none-eabi": "thumbv8m.main",
-    "thumbv8m.main-none-eabihf": "thumbv8m.main-hf",
-    "riscv32imc-unknown-none-elf": "riscv32imac",
-    "riscv32imac-unknown-none-elf": "riscv32imac",
-    "riscv64gc-unknown-linux-gnu": "riscv64gc",
-    "riscv64gc-unknown-linux-musl": "riscv64gc",
-    "riscv64gc-unknown-none-elf": "riscv64gc",
-}
+# Words of a compiler that are wrong: the target, what is replaced, and by what.
+WORDS = (
+    ("x86_64-none", " -mno-red-zone", ""),
+    ("x86_64-none", " -mgeneral-regs-only", ""),
+    ("aarch64-none", " -mgeneral-regs-only", ""),
+    ("aarch64-none", " -mstrict-align", ""),
+    ("thumbv7em", "-mcpu=cortex-m4", "-mcpu=cortex-m33"),
+    ("riscv32imac", "-march=rv32imc -mabi=ilp32", "-march=rv32imafdc -mabi=ilp32d"),
+)
 counts = {True: 0, False: 0}
 
 
@@ -150,9 +136,9 @@ def shims(build, folder):
     """A shim that swaps two arguments of one type, in several exports."""
     library = ffi.Library(archive.CRATE)
     right = archive.shim(library)
-    (folder / "sequence.c").write_text(sequence.sequence(library))
+    (folder / "exports.c").write_text(exports.program(library))
     way = next(way for way in run.WAYS if way.target == "x86_64-none")
-    for name in ("ring_allocated", "assembler_add", "receiver_remove", "duration_saturating_sub", "sender_peek_at"):
+    for name in ("ring_allocated", "assembler_add", "receiver_remove", "fragments_overlaps", "sender_peek_at"):
         call = re.search(rf"^    (?:return )?net_core_{name}\((.*)\);$", right, flags=re.M)
         words = call[1].split(", ")
         words[-2:] = words[:-3:-1]
@@ -160,7 +146,7 @@ def shims(build, folder):
         programs = run.Programs(way, folder / name)
         programs.archive = folder / name / archive.ARCHIVE
         build.by_clang(TARGETS[way.target], "-O1", programs.archive)
-        said = refusal(programs.run, "exports", [run.C / "exports.c"])
+        said = refusal(programs.run, "exports", [folder / "exports.c"])
         report(f"a shim that swaps the last arguments of {name}", said)
     (build.folder / "shim.c").write_text(right)
 
@@ -191,7 +177,7 @@ def archives(folder):
         data = bytearray(bytes_of("thumbv7em"))
         data[-20] ^= 1
         report("an archive with a changed byte", put("thumbv7em", bytes(data), False))
-        for name, other in (("thumbv6m", "thumbv7m"), ("thumbv7em", "thumbv7em-hf"), ("x86_64", "x86_64-none"),
+        for name, other in (("thumbv6m", "thumbv7m"), ("x86_64", "x86_64-none"),
                             ("x86_64", "aarch64"), ("riscv64gc", "riscv32imac")):
             report(f"the archive and digest of {other} in the folder of {name}", put(name, bytes_of(other), True))
     finally:
@@ -205,65 +191,37 @@ def interrupts(folder):
         report(f"an interrupt that isn't masked, {way.name()}", said)
 
 
-def rust_choices(folder):
-    """What rust/build.rs chooses for each target of rustc, and what it says to an archive that is wrong."""
-    program, crate, out = folder / "build", folder / "crate", folder / "out"
-    subprocess.run(["rustc", "--edition", "2021", archive.ROOT / "rust/build.rs", "-o", program], check=True)
-    (crate / "lib").mkdir(parents=True)
-    out.mkdir()
+def words(build, folder):
+    """Archives that are compiled by wrong words."""
+    for name, right, wrong in WORDS:
+        target = TARGETS[name]
+        path = folder / f"{name}{len(list(folder.iterdir()))}" / archive.ARCHIVE
+        path.parent.mkdir()
+        build.by_clang(dataclasses.replace(target, words=target.words.replace(right, wrong)), target.level, path)
+        way = next(way for way in run.WAYS if way.target == name)
+        said = archive.problem_of(target, path) or disassembly.problem_of(name, way.objdump(), path)
+        report(f"{name} compiled with `{wrong.strip()}` in place of `{right.strip()}`", said)
 
-    def ran(target, **more):
-        cfg = subprocess.run(["rustc", "--print", "cfg", "--target", target], capture_output=True, text=True).stdout
-        values = collections.defaultdict(list)
-        for line in cfg.splitlines():
-            name, _, value = line.partition("=")
-            values[f"CARGO_CFG_{name.upper()}"] += [value.strip('"')] * bool(value)
-        variables = {name: ",".join(value) for name, value in values.items()}
-        variables |= {"PATH": os.environ["PATH"], "HOME": os.environ.get("HOME", "/"), "TARGET": target,
-                      "OUT_DIR": str(out), "CARGO_MANIFEST_DIR": str(crate), "RUSTC": "rustc", **more}
-        done = subprocess.run([program], env=variables, capture_output=True, text=True)
-        return done.stdout + done.stderr
 
-    targets = subprocess.run(["rustc", "--print", "target-list"], capture_output=True, text=True).stdout.split()
-    wrong = []
-    for target in targets:
-        said = ran(target)
-        found = re.search(r"/lib/([\w.-]+)/libnet_ffi\.a: ", said)
-        chosen = found[1] if found else None
-        if chosen != CHOICES.get(target) or not (chosen or "cargo::warning=net-base: " in said):
-            wrong.append(target)
-    known = set(targets) & set(CHOICES)
-    report(f"build.rs and {len(targets)} targets", "" if wrong else f"{len(known)} have an archive")
-    if wrong:
-        print(f"    another choice: {' '.join(wrong)}")
-    named = str(archive.LIB / "thumbv7em" / archive.ARCHIVE)
-    old = folder / "old.a"
-    old.write_bytes((archive.LIB / "x86_64" / archive.ARCHIVE).read_bytes().replace(b"net_base_abi_", b"net_base_abj_"))
-    text = folder / "text.a"
-    text.write_text("not an archive\n")
-    for fault, target, named, line in (
-            ("another target's archive", "x86_64-unknown-linux-gnu", named, "an archive of another target"),
-            ("another target's archive", "thumbv6m-none-eabi", named, "an archive of another target"),
-            ("another version's archive", "x86_64-unknown-linux-gnu", old, "an archive of another version"),
-            ("no archive", "x86_64-unknown-linux-gnu", text, "isn't an archive"),
-            ("no file", "x86_64-unknown-linux-gnu", folder / "none", "No such file"),
-            ("Windows", "x86_64-pc-windows-gnu", old, "in another way"),
-            ("UEFI", "x86_64-unknown-uefi", old, "in another way")):
-        said = ran(target, NET_BASE_ARCHIVE=str(named)).strip().splitlines()
-        report(f"build.rs, {target}, NET_BASE_ARCHIVE: {fault}", next((row for row in said if line in row), ""))
+def attributes(build):
+    """A function that is defined with attributes that only declarations have."""
+    for more in ("memory(argmem: readwrite)", "mustprogress"):
+        core = build.core.replace("{ alwaysinline nounwind", f"{{ alwaysinline nounwind {more}", 1)
+        report(f"a function with the attribute {more}", refusal(retarget.with_attributes, core, "", ""))
 
 
 def main():
     with tempfile.TemporaryDirectory(prefix="net_base_") as name:
         folder = pathlib.Path(name)
-        for part in ("shims", "archives", "interrupts", "rust", "build"):
+        for part in ("shims", "archives", "interrupts", "words", "build"):
             (folder / part).mkdir()
-        rust_choices(folder / "rust")
         archives(folder / "archives")
         layouts(folder)
         interrupts(folder / "interrupts")
         build = archive.Build(folder / "build")
         _ = build.core
+        words(build, folder / "words")
+        attributes(build)
         mutants((build.folder / "module.ll").read_text())
         shims(build, folder / "shims")
     print(f"{sum(counts.values())} faults: {counts[True]} seen, {counts[False]} missed")

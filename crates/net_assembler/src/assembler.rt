@@ -169,13 +169,6 @@ impl<const N: usize> Assembler<N> {
 
     /// Returns the length of the run at position 0, or 0 if position 0 is missing.
     ///
-    /// ```rust
-    /// let total = self.total?;
-    /// if self.present.peek_front() < total {
-    ///     return None;
-    /// }
-    /// ```
-    ///
     /// ```
     /// # use net_base::storage::Assembler;
     /// # let mut assembler = Assembler::new();

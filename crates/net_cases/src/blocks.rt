@@ -114,7 +114,7 @@ fn play_storage(
     play(alloc, &mut storage, lines, replies)
 }
 
-/// Appends the replies of a ring of a capacity and of what its bytes represent.
+/// Replays the lines on a ring of `capacity` bytes filled from `seed`, and appends the replies.
 fn play_ring(
     alloc: Global,
     (capacity, seed): (u64, u64),
@@ -125,7 +125,7 @@ fn play_ring(
     play(alloc, &mut ring, lines, replies)
 }
 
-/// Appends the replies of a ring of so many cells.
+/// Replays the lines on a ring of `capacity` cells, and appends the replies.
 fn play_cells(
     alloc: Global,
     capacity: u64,
@@ -136,7 +136,7 @@ fn play_cells(
     play(alloc, &mut cells, lines, replies)
 }
 
-/// Appends the replies of a queue of so many slots and bytes, and of what these represent.
+/// Replays the lines on a queue of `slots` slots and `bytes` bytes filled from `seed`.
 fn play_packets(
     alloc: Global,
     (slots, bytes, seed): (u64, u64, u64),
@@ -158,7 +158,7 @@ fn play_sender(
     play(alloc, &mut sender, lines, replies)
 }
 
-/// Appends the replies of an assembler of so many runs.
+/// Replays the lines on an assembler of this number of runs.
 fn assemble(
     alloc: Global,
     runs: u64,

@@ -1,4 +1,4 @@
-//! Functions for C and for Rust over memory that the caller keeps: rings, packet queues,
+//! Functions for C over memory that the caller keeps: rings, packet queues,
 //! assemblers, buffers of fragments, receivers, senders and their scoreboards, sequence numbers,
 //! sizes of devices, time and random words.
 //!
@@ -39,7 +39,8 @@
 //!
 //! # Refusals
 //!
-//! All else is tested. A refused call changes nothing. It returns `false` if it returns a `bool`;
+//! All else is tested, before anything else that a comment names: a call that could be refused for two
+//! reasons returns what it does if it is refused as nonsense. A refused call changes nothing. It returns `false` if it returns a `bool`;
 //! `NET_BASE_REFUSED` if it returns a status, alone or as the first field of a struct; otherwise
 //! `NET_BASE_NONE`, alone or as the first field of a struct. `NET_BASE_REFUSED` always means a
 //! refusal; `false` and `NET_BASE_NONE` can also be results of calls that are done, as the comments

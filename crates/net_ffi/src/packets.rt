@@ -49,12 +49,13 @@ const NONSENSE_FIRST: FirstPacket = FirstPacket {
     size: 0,
 };
 
-/// Appends a packet of `size` bytes, writes its slot and that of its gap, and returns where they and
-/// the packet's bytes are. An empty queue begins at the beginning of the storage of bytes.
+/// Appends a packet of `size` bytes, writes its slot and that of its gap, whose `is_gap` is 1, and
+/// returns where they and the packet's bytes are. If no byte is in use, which is so too where all
+/// packets have 0 bytes, the packet begins at the beginning of the storage of bytes.
 ///
-/// If there are no `size` contiguous free bytes, or no slots for the packet and its gap, `slot` and
-/// `from` are `NET_BASE_NONE`, and nothing changes. A head whose numbers aren't those of rings of the
-/// slots and of `capacity` bytes is refused: then `gap` is `NET_BASE_NONE` too.
+/// If there are no `size` contiguous free bytes, or no slots for the packet and its gap, `gap` is 0, the
+/// three others are `NET_BASE_NONE`, and nothing changes. A head whose numbers aren't those of rings of
+/// the slots and of `capacity` bytes is refused: then all four are `NET_BASE_NONE`.
 #[unsafe(no_mangle)]
 pub extern "C" fn net_base_packets_enqueue(
     packets: &mut PacketsHead,
@@ -87,11 +88,12 @@ pub extern "C" fn net_base_packets_enqueue(
     }
 }
 
-/// Takes the first packet off, and the gap before it, and returns where it is.
+/// Takes the first packet off, and the gap before it, and returns where it is. Its bytes stay until
+/// another packet is placed there.
 ///
-/// If no slot is in use, `slot` and `from` are `NET_BASE_NONE`, and nothing changes. A head whose numbers
-/// aren't those of rings is refused, and so are first slots that can't be those of a packet: then
-/// `gap` is `NET_BASE_NONE` too. The slots of a sound queue are never refused.
+/// If no slot is in use, `gap` and `size` are 0, the two others are `NET_BASE_NONE`, and nothing changes.
+/// A head whose numbers aren't those of rings is refused, and so are first slots that can't be those of
+/// a packet: then `gap` is `NET_BASE_NONE` too. The slots of a sound queue are never refused.
 #[unsafe(no_mangle)]
 pub extern "C" fn net_base_packets_dequeue(
     packets: &mut PacketsHead,
@@ -131,9 +133,9 @@ pub extern "C" fn net_base_packets_dequeue(
 
 /// Returns where the first packet is, which stays.
 ///
-/// If no slot is in use, `slot` and `from` are `NET_BASE_NONE`. A head whose numbers aren't those of rings
-/// is refused, and so are first slots that can't be those of a packet: then `gap` is `NET_BASE_NONE` too.
-/// The slots of a sound queue are never refused.
+/// If no slot is in use, `gap` and `size` are 0, and the two others are `NET_BASE_NONE`. A head whose
+/// numbers aren't those of rings is refused, and so are first slots that can't be those of a packet:
+/// then `gap` is `NET_BASE_NONE` too. The slots of a sound queue are never refused.
 #[unsafe(no_mangle)]
 pub extern "C" fn net_base_packets_peek(
     packets: &PacketsHead,
@@ -202,9 +204,9 @@ pub extern "C" fn net_base_packets_shorten_last(
 /// Appends a packet of `size` bytes, and returns where its slots and its bytes are. An empty queue
 /// begins at the beginning of the storage of bytes. The caller writes the slots.
 ///
-/// If there are no `size` contiguous free bytes, or no slots for the packet and its gap, `slot` and
-/// `from` are `NET_BASE_NONE`, and nothing changes. A head whose numbers aren't those of rings of so
-/// many slots and of `capacity` bytes is refused: then `gap` is `NET_BASE_NONE` too.
+/// If there are no `size` contiguous free bytes, or no slots for the packet and its gap, `gap` is 0, the
+/// three others are `NET_BASE_NONE`, and nothing changes. A head whose numbers aren't those of rings of
+/// `slot_count` slots and of `capacity` bytes is refused: then all four are `NET_BASE_NONE`.
 #[unsafe(no_mangle)]
 pub extern "C" fn net_base_packets_place(
     packets: &mut PacketsHead,
@@ -229,4 +231,45 @@ pub extern "C" fn net_base_packets_place(
         Some(place) => place,
         None => NO_PLACE,
     }
+}
+
+/// Removes the first slot in use, which the caller passes as `first`, with its bytes, and returns the
+/// index of the first of these bytes. `first` is the slot of the gap before the first packet, or that
+/// of the first packet if it has no gap.
+///
+/// A head whose numbers aren't those of rings is refused, and so is a slot that can't be the first
+/// one: if none is in use, if its size is above the number of bytes in use, if its bytes aren't
+/// contiguous, or if it is a gap's that has no bytes or doesn't end at the storage's end. Then
+/// `NET_BASE_NONE` is returned, and nothing changes.
+#[unsafe(no_mangle)]
+pub extern "C" fn net_base_packets_take_slot(
+    packets: &mut PacketsHead,
+    slot_count: usize,
+    capacity: usize,
+    first: &PacketSlot,
+) -> usize
+    ensures taken { IsSoundHead slot_count capacity packets.old →
+        CanTake capacity packets.old first.now → (result ≡ packets.old.bytes.read_at)
+        × (packets.new ≡ with_slot_taken slot_count capacity first.now.size packets.old) }
+    ensures refused { (IsSoundHead slot_count capacity packets.old
+        × CanTake capacity packets.old first.now → ⊥) →
+        (result ≡ 2 ^ 64 - 1) × (packets.new ≡ packets.old) }
+    ensures first { (slots : List PacketSlot) → length slots ≡ slot_count →
+        HasSoundSlots capacity packets.old slots → 1 ≤ packets.old.slots.length →
+        slice_get slots packets.old.slots.read_at ≡ Some first.now →
+        CanTake capacity packets.old first.now }
+    ensures state { (slots : List PacketSlot) (xs : List ℕ) → length slots ≡ slot_count →
+        length xs ≡ capacity → HasSoundSlots capacity packets.old slots →
+        1 ≤ packets.old.slots.length →
+        slice_get slots packets.old.slots.read_at ≡ Some first.now →
+        queue_of packets.new slots xs ≡ after_slot first.now (queue_of packets.old slots xs) }
+    ensures sound { (slots : List PacketSlot) → length slots ≡ slot_count →
+        HasSoundSlots capacity packets.old slots → 1 ≤ packets.old.slots.length →
+        slice_get slots packets.old.slots.read_at ≡ Some first.now →
+        HasSoundSlots capacity packets.new slots }
+{
+    if !packets.is_sound(slot_count, capacity) || !packets.can_take(slot_count, capacity, first) {
+        return NET_BASE_NONE;
+    }
+    packets.take_slot(slot_count, capacity, first)
 }

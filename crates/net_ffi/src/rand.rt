@@ -1,5 +1,7 @@
 //! Random words, drawn from a state that the caller keeps. Any state is allowed; the words are not
-//! fit for cryptography.
+//! fit for cryptography. The generator is smoltcp's, sPCG32: a step multiplies the state by
+//! 0xbb2efcec3c39611d and adds 0x7590ef39, and the word of a state is the low 32 bits of
+//! `state >> (29 - (state >> 61))`.
 ghost use Rattle.std.specs.Prelude.{◌≡◌, ◌-◌, ◌*◌, ◌/◌, ◌^◌, ◌<◌};
 ghost use Rattle.net_base.specs.Generator.{successor, random_word, draw, IsPort};
 

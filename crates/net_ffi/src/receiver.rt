@@ -54,7 +54,7 @@ fn is_readable(receiver: &ReceiverHead, capacity: usize) -> bool
     receiver.place.is_sound(capacity) && has_next(receiver)
 }
 
-/// Returns whether that is so, and as many runs are in a slice of `run_count` as are used.
+/// Returns whether the head is readable, and `held.used` is at most `run_count`.
 #[inline(always)]
 pub(crate) fn is_plausible(receiver: &ReceiverHead, capacity: usize, run_count: usize) -> bool
     ensures { IsTrue result ↔ IsPlausible capacity run_count receiver.now }
@@ -184,7 +184,7 @@ pub extern "C" fn net_base_receiver_window_end(
 /// than `index`, start and end are 0.
 ///
 /// If `place` isn't that of a ring of `storage.len()` bytes, `next` doesn't fit 64 bits, or
-/// `held.used` is above `runs.len()`, it is refused: start and end are `u64::MAX`.
+/// `held.used` is above `runs.len()`, it is refused: start and end are `NET_BASE_NONE`.
 ///
 /// # Requires
 ///

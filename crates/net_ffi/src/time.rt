@@ -25,7 +25,7 @@ fn write_instant(instant: Option<Instant>, to: &mut i64) -> bool
     }
 }
 
-/// Returns the moment so much later, or `i64::MAX` if that is above it.
+/// Returns `instant + duration`, or `i64::MAX` if that is above it.
 #[unsafe(no_mangle)]
 pub extern "C" fn net_base_instant_saturating_add(instant: i64, duration: u64) -> i64
     ensures exact { IsMoment (instant +ℤ pos duration) → result ≡ instant +ℤ pos duration }

@@ -2,11 +2,10 @@
 ghost use Rattle.std.specs.Prelude.{◌≡◌};
 
 /// Returns the version of this interface, which is in the name too: a program that calls this
-/// doesn't link with an archive of another version. The Cargo crate refers to it; a program in C has
-/// to call it. Each version whose structs or functions differ has another number.
+/// doesn't link with an archive of another version. Each version whose structs or functions differ has another number.
 #[unsafe(no_mangle)]
-pub extern "C" fn net_base_abi_1() -> u32
-    ensures { result ≡ 1 }
+pub extern "C" fn net_base_abi_2() -> u32
+    ensures { result ≡ 2 }
 {
-    1
+    2
 }

@@ -1,8 +1,8 @@
 -- The messages on the program's words.
 --     usage_text      how the program is used
---     count_lines n      what is wrong with so many numbers, as a line, and how the program is used
---     wrong_lines arg text      the same of the text of a word
---     usage_error_lines numbers error      the same of these numbers
+--     count_lines n      the lines on n numbers, where another count is wanted: what is wrong, and how the program is used
+--     wrong_lines arg text      the lines on a word with this text that isn't its number
+--     usage_error_lines numbers error      the lines on these numbers and this error
 use Rattle.std.specs.Prelude.{ℕ, ◌&&◌, nat_lt, nat_le, if◌then◌else◌, Bool}
 use Rattle.std.specs.Prelude.{List, [], ◌++◌, length, slice_index_or, codes, decimal}
 use Rattle.std.specs.List.{list_all}

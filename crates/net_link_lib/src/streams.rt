@@ -85,7 +85,7 @@ pub struct ProgressWriter<E> {
 }
 
 impl<E> ProgressWriter<E> {
-    /// Returns messages that are written to this stream.
+    /// Wraps `stream`; no line was refused yet.
     pub fn new(stream: E) -> ProgressWriter<E>
         ensures { result.stream ≡ stream }
     {

@@ -18,7 +18,7 @@ mod slots;
 /// The numbers of a packet queue apart from its storages.
 ///
 /// A packet uses one slot, and a gap one more, before it. The calls take the number of slots and of
-/// bytes of the storages, and require that the numbers are those of rings of so many elements, as
+/// bytes of the storages, and require that the numbers are those of rings of these lengths, as
 /// [`is_sound`](PacketsHead::is_sound) tells. Each leaves numbers of which that is true again.
 /// smoltcp has no such type.
 #[repr(C)]

@@ -24,8 +24,8 @@ pub struct RingHead {
     pub length: usize,
 }
 
-/// Where elements of a ring are in its storage: those that are not contiguous with the first one
-/// are at the storage's beginning.
+/// A range of a ring: `contiguous` elements from the index `from` on, and the rest of `count` from
+/// index 0 on.
 #[repr(C)]
 #[derive(Debug, Clone, Copy)]
 pub struct Span {

@@ -24,13 +24,9 @@ impl<const N: usize> Clone for Runs<N> {
     }
 }
 
-impl fmt::Display for TooManyHolesError {
-    fn fmt(&self, f: &mut fmt::Formatter) -> fmt::Result {
-        f.write_str("too many holes")
-    }
+crate::proved::rattle::error_text! {
+    TooManyHolesError, _error => "too many holes";
 }
-
-impl core::error::Error for TooManyHolesError {}
 
 /// A hole and the data after it, as they are printed.
 #[derive(Debug)]

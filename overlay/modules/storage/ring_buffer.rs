@@ -1,21 +1,7 @@
-//! What Rattle has no words for in a ring: conversion of storage, and a text.
+//! What Rattle has no words for in a ring: its text.
 use core::fmt;
-use managed::ManagedSlice;
 
-use super::RingBuffer;
-#[cfg(test)]
-use super::{Empty, Full};
 use crate::proved::net_ring::{RingHead, RingOver, Storage};
-
-impl<'a, T: 'a> RingBuffer<'a, T> {
-    /// Returns an empty ring over a storage, whose elements stay as they are.
-    pub fn new<S>(storage: S) -> RingBuffer<'a, T>
-    where
-        S: Into<ManagedSlice<'a, T>>,
-    {
-        RingOver::over(storage.into())
-    }
-}
 
 /// What is printed of a ring: its storage and its head.
 pub(super) struct Shown<'s, S>(pub(super) &'s S, pub(super) RingHead);

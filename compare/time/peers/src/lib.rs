@@ -1,5 +1,4 @@
-//! What std has in place of smoltcp's types, and the workloads over it. compare/README.md says what each type
-//! leaves out.
+//! What std has in place of smoltcp's types, and the workloads over it (docs/PERFORMANCE.md).
 mod packets;
 mod ring;
 pub mod segments;

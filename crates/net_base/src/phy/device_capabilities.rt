@@ -80,7 +80,7 @@ impl DeviceCapabilities {
         }
     }
 
-    /// Returns whether the longest IP packet has room for an IP header of so many bytes, which
+    /// Returns whether the longest IP packet has room for an IP header of `ip_header_len` bytes, which
     /// `max_ipv4_fragment_size` needs.
     ///
     /// ```
@@ -95,8 +95,8 @@ impl DeviceCapabilities {
         self.has_ip_mtu() && ip_header_len <= self.ip_mtu()
     }
 
-    /// Returns the bytes of the longest payload of an IPv4 fragment after an IP header of so many
-    /// bytes: the rest of the longest IP packet, down to a multiple of 8.
+    /// Returns the bytes of the longest payload of an IPv4 fragment after an IP header of
+    /// `ip_header_len` bytes: the rest of the longest IP packet, down to a multiple of 8.
     ///
     /// ```
     /// # use net_base::phy::{DeviceCapabilities, Medium};

@@ -68,7 +68,7 @@ impl FragmentsHead {
         }
     }
 
-    /// Starts over for another packet, which is waited for up to `expires_at`.
+    /// Begins again, for a packet that expires after `expires_at`.
     pub fn reset(&mut self, expires_at: i64)
         ensures sound { (bytes : List ℕ) (runs : List (ℕ × ℕ)) →
             HasSoundParts self.new bytes runs }

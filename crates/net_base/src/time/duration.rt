@@ -54,7 +54,7 @@ impl Duration {
     /// ```
     pub const MAX: Duration = Duration { micros: u64::MAX };
 
-    /// Returns a length of so many microseconds.
+    /// Returns a length of `micros` microseconds.
     ///
     /// ```
     /// # use net_base::time::Duration;
@@ -73,7 +73,7 @@ impl Duration {
         matches!(millis.checked_mul(1_000), Some(_))
     }
 
-    /// Returns a length of so many milliseconds.
+    /// Returns a length of `millis` milliseconds.
     ///
     /// ```
     /// # use net_base::time::Duration;
@@ -82,7 +82,7 @@ impl Duration {
     ///
     /// # Requires
     ///
-    /// So many microseconds fit 64 bits, as `fits_millis` tests.
+    /// The microseconds fit 64 bits, as `fits_millis` tests.
     pub const fn from_millis(millis: u64) -> Duration
         requires fits_millis { IsLength (millis * 1_000) }
         ensures { result ≡ millis * 1_000 }
@@ -101,7 +101,7 @@ impl Duration {
         matches!(secs.checked_mul(1_000_000), Some(_))
     }
 
-    /// Returns a length of so many seconds.
+    /// Returns a length of `secs` seconds.
     ///
     /// ```
     /// # use net_base::time::Duration;
@@ -110,7 +110,7 @@ impl Duration {
     ///
     /// # Requires
     ///
-    /// So many microseconds fit 64 bits, as `fits_secs` tests.
+    /// The microseconds fit 64 bits, as `fits_secs` tests.
     pub const fn from_secs(secs: u64) -> Duration
         requires fits_secs { IsLength (secs * 1_000_000) }
         ensures { result ≡ secs * 1_000_000 }

@@ -49,7 +49,7 @@ impl Instant {
     /// ```
     pub const ZERO: Instant = Instant { micros: 0 };
 
-    /// Returns the moment so many microseconds after the origin.
+    /// Returns the moment `micros` microseconds after the origin.
     ///
     /// ```
     /// # use net_base::time::Instant;
@@ -61,8 +61,7 @@ impl Instant {
         Instant { micros }
     }
 
-    /// Returns the same as `from_micros`. smoltcp's is a `const fn`, this one isn't: it is here for
-    /// code that was written for smoltcp.
+    /// Returns the same as `from_micros`, for code that was written for smoltcp.
     ///
     /// ```
     /// # use net_base::time::Instant;
@@ -82,7 +81,7 @@ impl Instant {
         matches!(millis.checked_mul(1_000), Some(_))
     }
 
-    /// Returns the moment so many milliseconds after the origin.
+    /// Returns the moment `millis` milliseconds after the origin.
     ///
     /// ```
     /// # use net_base::time::Instant;
@@ -103,7 +102,7 @@ impl Instant {
         }
     }
 
-    /// Returns the same as `from_millis`. It is no `const fn` either.
+    /// Returns the same as `from_millis`, for code that was written for smoltcp.
     ///
     /// ```
     /// # use net_base::time::Instant;
@@ -134,7 +133,7 @@ impl Instant {
         matches!(secs.checked_mul(1_000_000), Some(_))
     }
 
-    /// Returns the moment so many seconds after the origin.
+    /// Returns the moment `secs` seconds after the origin.
     ///
     /// ```
     /// # use net_base::time::Instant;
@@ -215,21 +214,21 @@ impl Instant {
         self.micros
     }
 
-    /// Returns whether the sum fits; precondition of `+` and `+=`.
+    /// Returns whether the sum fits: whether `+` and `+=` don't saturate.
     pub fn can_add(&self, duration: Duration) -> bool
         ensures { IsTrue result ↔ IsMoment (self.now +ℤ pos duration) }
     {
         self.checked_add(duration).is_some()
     }
 
-    /// Returns whether the difference fits; precondition of `-` and `-=`.
+    /// Returns whether the difference fits: whether `-` and `-=` don't saturate.
     pub fn can_sub(&self, duration: Duration) -> bool
         ensures { IsTrue result ↔ IsMoment (self.now -ℤ pos duration) }
     {
         self.checked_sub(duration).is_some()
     }
 
-    /// Returns the moment so much later, or `None` exactly if that is after the last moment.
+    /// Returns `self + duration`, or `None` exactly if that is after the last moment.
     ///
     /// ```
     /// # use net_base::time::{Duration, Instant};
@@ -245,7 +244,7 @@ impl Instant {
         }
     }
 
-    /// Returns the moment so much earlier, or `None` exactly if that is before the first moment.
+    /// Returns `self - duration`, or `None` exactly if that is before the first moment.
     ///
     /// ```
     /// # use net_base::time::{Duration, Instant};
@@ -261,7 +260,7 @@ impl Instant {
         }
     }
 
-    /// Returns the moment so much later, or the last moment if that is after it.
+    /// Returns the moment `duration` later, or the last moment if that is after it.
     ///
     /// ```rust
     /// self.timeout = self.timeout.saturating_mul(2);
@@ -283,7 +282,7 @@ impl Instant {
         }
     }
 
-    /// Returns the moment so much earlier, or the first moment if that is before it.
+    /// Returns the moment `duration` earlier, or the first moment if that is before it.
     ///
     /// ```
     /// # use net_base::time::{Duration, Instant};
@@ -326,7 +325,8 @@ impl fmt::Display for Instant {
     }
 }
 
-/// Returns the moment so much later. `can_add` tells whether there is one.
+/// Returns the moment `rhs` later, or the last moment if that is after it; `can_add` tells. smoltcp casts
+/// the length to a signed number: it panics, wraps, or goes back.
 impl Add<Duration> for Instant {
     type Output = Instant;
 
@@ -338,7 +338,7 @@ impl Add<Duration> for Instant {
     }
 }
 
-/// Moves to the moment so much later. `can_add` tells whether there is one.
+/// Moves to the moment `rhs` later, or to the last moment if that is after it.
 impl AddAssign<Duration> for Instant {
     ghost add_assign_gives = { λ i d r. (IsMoment (i +ℤ pos d) → r ≡ i +ℤ pos d) ×
         ((IsMoment (i +ℤ pos d) → ⊥) → r ≡ pos (2 ^ 63 - 1)) };
@@ -348,7 +348,7 @@ impl AddAssign<Duration> for Instant {
     }
 }
 
-/// Returns the moment so much earlier. `can_sub` tells whether there is one.
+/// Returns the moment `rhs` earlier, or the first moment if that is before it; `can_sub` tells.
 impl Sub<Duration> for Instant {
     type Output = Instant;
 
@@ -360,7 +360,7 @@ impl Sub<Duration> for Instant {
     }
 }
 
-/// Moves to the moment so much earlier. `can_sub` tells whether there is one.
+/// Moves to the moment `rhs` earlier, or to the first moment if that is before it.
 impl SubAssign<Duration> for Instant {
     ghost sub_assign_gives = { λ i d r. (IsMoment (i -ℤ pos d) → r ≡ i -ℤ pos d) ×
         ((IsMoment (i -ℤ pos d) → ⊥) → r ≡ negsuc (2 ^ 63 - 1)) };

@@ -56,8 +56,8 @@ pub extern "C" fn net_base_fragments_add(
     offset: usize,
     data: &[u8],
 ) -> u32
-    requires sound { IsPlausible (length storage.old) (length runs.old) fragments.old → HasSoundParts fragments.old
-        storage.old runs.old }
+    requires sound { IsPlausible (length storage.old) (length runs.old) fragments.old → HasSoundRuns
+        fragments.old.present runs.old }
     ensures sound { IsPlausible (length storage.old) (length runs.old) fragments.old → HasSoundParts fragments.new
         storage.new runs.new }
     ensures ok { IsPlausible (length storage.old) (length runs.old) fragments.old → OnOk (done_or_error result)

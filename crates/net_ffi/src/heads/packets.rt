@@ -7,14 +7,13 @@
 //! slots in another form: `place` takes none, and the caller writes those of the packet; the others
 //! take one slot. What is refused changes nothing.
 // Written by tools/ffi.py.
-ghost use Rattle.net_packets.specs.HeadQueue.{CanShorten, CanTake, HasSoundSlots, after_slot, last_slot_index, packet_slot, queue_of};
+ghost use Rattle.net_packets.specs.HeadQueue.{CanShorten, HasSoundSlots, last_slot_index, packet_slot, queue_of};
 ghost use Rattle.net_packets.specs.Packets.{with_last_size};
-ghost use Rattle.net_packets.specs.PacketsHead.{IsSoundHead, packets_head, with_slot_taken};
+ghost use Rattle.net_packets.specs.PacketsHead.{IsSoundHead, packets_head};
 ghost use Rattle.net_ring.specs.RingHead.{place};
-ghost use Rattle.std.specs.Prelude.{IsFalse, IsTrue, List, length, set, slice_get, ℕ, ◌-◌, ◌^◌, ◌↔◌, ◌≡◌};
+ghost use Rattle.std.specs.Prelude.{IsFalse, IsTrue, List, length, set, slice_get, ℕ, ◌-◌, ◌↔◌, ◌≡◌};
 ghost use Rattle.std.specs.declared.option.Option.TheVariants.{Some};
 
-use crate::refusals::{NET_BASE_NONE};
 use net_packets::{PacketSlot, PacketsHead};
 
 /// Returns whether head and slots are those of a queue over `capacity` bytes: the numbers are those
@@ -38,44 +37,6 @@ pub extern "C" fn net_base_packets_clear(packets: &mut PacketsHead)
     ensures { packets.new ≡ packets_head (place 0 0) (place 0 0) }
 {
     packets.clear();
-}
-
-/// Takes the first slot in use, which the caller passes as `first`, off with its bytes, and returns
-/// the index of the first of these bytes. `first` is the slot of the gap before the first packet,
-/// or that of the first packet if it has no gap.
-///
-/// A slot can be the first one if one is in use, if its bytes are in use and contiguous, and if it
-/// is a packet's or has bytes and ends at the storage's end.
-///
-/// It is refused if `packets` isn't that of a queue of `slot_count` slots and `capacity` bytes, or
-/// if `first` can't be the first slot in use: `NET_BASE_NONE`, and nothing changes.
-#[unsafe(no_mangle)]
-pub extern "C" fn net_base_packets_take_slot(
-    packets: &mut PacketsHead,
-    slot_count: usize,
-    capacity: usize,
-    first: &PacketSlot,
-) -> usize
-    ensures from { (IsSoundHead slot_count capacity packets.old) × (CanTake capacity packets.old first.now) → result
-        ≡ packets.old.bytes.read_at }
-    ensures taken { (IsSoundHead slot_count capacity packets.old) × (CanTake capacity packets.old first.now) →
-        packets.new ≡ with_slot_taken slot_count capacity first.now.size packets.old }
-    ensures sound { (IsSoundHead slot_count capacity packets.old) × (CanTake capacity packets.old first.now) →
-        IsSoundHead slot_count capacity packets.new }
-    ensures slots { (IsSoundHead slot_count capacity packets.old) × (CanTake capacity packets.old first.now) → (ss :
-        List PacketSlot) → length ss ≡ slot_count → HasSoundSlots capacity packets.old ss → slice_get ss
-        packets.old.slots.read_at ≡ Some first.now → HasSoundSlots capacity packets.new ss }
-    ensures state { (IsSoundHead slot_count capacity packets.old) × (CanTake capacity packets.old first.now) → (ss :
-        List PacketSlot) (xs : List ℕ) → length ss ≡ slot_count → length xs ≡ capacity → HasSoundSlots capacity
-        packets.old ss → slice_get ss packets.old.slots.read_at ≡ Some first.now → queue_of packets.new ss xs ≡
-        after_slot first.now (queue_of packets.old ss xs) }
-    ensures refused { ((IsSoundHead slot_count capacity packets.old) × (CanTake capacity packets.old first.now) → ⊥)
-        → (result ≡ 2 ^ 64 - 1) × (packets.new ≡ packets.old) }
-{
-    if !packets.is_sound(slot_count, capacity) || !packets.can_take(slot_count, capacity, first) {
-        return NET_BASE_NONE;
-    }
-    packets.take_slot(slot_count, capacity, first)
 }
 
 /// Takes the last `count` bytes off the last packet, lowers the size in `last`, its slot, and

@@ -54,7 +54,7 @@ impl<'a, 'f, A: Allocator + Copy> StreamLink<'a, 'f, A> {
         Ok(())
     }
 
-    /// Makes the five steps of a round.
+    /// Makes the steps of a round.
     fn steps(&mut self) -> Result<(), AllocError>
         ensures ok { OnOk result (self.new ≡ pass_acks (delayed_acks
             (acknowledge_all (pass_frames (delayed_frames (transmit self.old)))))) }

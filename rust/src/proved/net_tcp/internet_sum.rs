@@ -188,7 +188,7 @@ fn sum_from(start: u64, bytes: &[u8]) -> PartsSum {
     }
 }
 
-/// How many bytes are summed with no test for a carry: the sum of so many has room in 64 bits.
+/// How many bytes are summed with no test for a carry: their sum has room in 64 bits.
 const BLOCK: usize = 1 << 16;
 
 /// Adds the words of these bytes to a sum.

@@ -65,7 +65,7 @@ impl FragmentsHead {
         }
     }
 
-    /// Starts over for another packet, which is waited for up to `expires_at`.
+    /// Begins again, for a packet that expires after `expires_at`.
     ///
     /// # Contract
     ///

@@ -34,7 +34,7 @@ impl Instant {
     /// ```
     pub const ZERO: Instant = Instant { micros: 0 };
 
-    /// Returns the moment so many microseconds after the origin.
+    /// Returns the moment `micros` microseconds after the origin.
     ///
     /// ```
     /// # use net_base::time::Instant;
@@ -53,8 +53,7 @@ impl Instant {
         Instant { micros }
     }
 
-    /// Returns the same as `from_micros`. smoltcp's is a `const fn`, this one isn't: it is here for
-    /// code that was written for smoltcp.
+    /// Returns the same as `from_micros`, for code that was written for smoltcp.
     ///
     /// ```
     /// # use net_base::time::Instant;
@@ -86,7 +85,7 @@ impl Instant {
         matches!(millis.checked_mul(1_000), Some(_))
     }
 
-    /// Returns the moment so many milliseconds after the origin.
+    /// Returns the moment `millis` milliseconds after the origin.
     ///
     /// ```
     /// # use net_base::time::Instant;
@@ -115,7 +114,7 @@ impl Instant {
         }
     }
 
-    /// Returns the same as `from_millis`. It is no `const fn` either.
+    /// Returns the same as `from_millis`, for code that was written for smoltcp.
     ///
     /// ```
     /// # use net_base::time::Instant;
@@ -159,7 +158,7 @@ impl Instant {
         matches!(secs.checked_mul(1_000_000), Some(_))
     }
 
-    /// Returns the moment so many seconds after the origin.
+    /// Returns the moment `secs` seconds after the origin.
     ///
     /// ```
     /// # use net_base::time::Instant;
@@ -278,7 +277,7 @@ impl Instant {
         self.micros
     }
 
-    /// Returns whether the sum fits; precondition of `+` and `+=`.
+    /// Returns whether the sum fits: whether `+` and `+=` don't saturate.
     ///
     /// # Contract
     ///
@@ -291,7 +290,7 @@ impl Instant {
         self.checked_add(duration).is_some()
     }
 
-    /// Returns whether the difference fits; precondition of `-` and `-=`.
+    /// Returns whether the difference fits: whether `-` and `-=` don't saturate.
     ///
     /// # Contract
     ///
@@ -304,7 +303,7 @@ impl Instant {
         self.checked_sub(duration).is_some()
     }
 
-    /// Returns the moment so much later, or `None` exactly if that is after the last moment.
+    /// Returns `self + duration`, or `None` exactly if that is after the last moment.
     ///
     /// ```
     /// # use net_base::time::{Duration, Instant};
@@ -326,7 +325,7 @@ impl Instant {
         }
     }
 
-    /// Returns the moment so much earlier, or `None` exactly if that is before the first moment.
+    /// Returns `self - duration`, or `None` exactly if that is before the first moment.
     ///
     /// ```
     /// # use net_base::time::{Duration, Instant};
@@ -348,7 +347,7 @@ impl Instant {
         }
     }
 
-    /// Returns the moment so much later, or the last moment if that is after it.
+    /// Returns the moment `duration` later, or the last moment if that is after it.
     ///
     /// ```ignore
     /// self.timeout = self.timeout.saturating_mul(2);
@@ -376,7 +375,7 @@ impl Instant {
         }
     }
 
-    /// Returns the moment so much earlier, or the first moment if that is before it.
+    /// Returns the moment `duration` earlier, or the first moment if that is before it.
     ///
     /// ```
     /// # use net_base::time::{Duration, Instant};
@@ -427,7 +426,8 @@ impl fmt::Display for Instant {
     }
 }
 
-/// Returns the moment so much later. `can_add` tells whether there is one.
+/// Returns the moment `rhs` later, or the last moment if that is after it; `can_add` tells. smoltcp casts
+/// the length to a signed number: it panics, wraps, or goes back.
 impl Add<Duration> for Instant {
     type Output = Instant;
 
@@ -436,14 +436,14 @@ impl Add<Duration> for Instant {
     }
 }
 
-/// Moves to the moment so much later. `can_add` tells whether there is one.
+/// Moves to the moment `rhs` later, or to the last moment if that is after it.
 impl AddAssign<Duration> for Instant {
     fn add_assign(&mut self, rhs: Duration) {
         *self = *self + rhs;
     }
 }
 
-/// Returns the moment so much earlier. `can_sub` tells whether there is one.
+/// Returns the moment `rhs` earlier, or the first moment if that is before it; `can_sub` tells.
 impl Sub<Duration> for Instant {
     type Output = Instant;
 
@@ -452,7 +452,7 @@ impl Sub<Duration> for Instant {
     }
 }
 
-/// Moves to the moment so much earlier. `can_sub` tells whether there is one.
+/// Moves to the moment `rhs` earlier, or to the first moment if that is before it.
 impl SubAssign<Duration> for Instant {
     fn sub_assign(&mut self, rhs: Duration) {
         *self = *self - rhs;
