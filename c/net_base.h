@@ -2,8 +2,7 @@
 /* net-base 0.4.0.
  *
  * Functions for C over memory that the caller keeps: rings, packet queues, assemblers, buffers of
- * fragments, receivers, senders and their scoreboards, sequence numbers, sizes of devices, time and
- * random words.
+ * fragments, receivers, senders and their scoreboards, sequence numbers, time and random words.
  *
  * There is no heap and no global state. Each export calls a function of a library here, states its
  * clauses, and refuses arguments that no correct caller passes.
@@ -34,9 +33,9 @@
  * 4. A storage, its runs and its slots have the same lengths in each call on a head.
  * 5. A head, its runs and its slots are written by calls of its own kind alone, those of a receiver
  *    by `net_base_receiver_..`, not its `place` by `net_base_ring_..` or its `held` by
- *    `net_base_assembler_..`. The caller may set a head to zeros, and then `first` of a receiver,
- *    `first_unacknowledged` of a sender or `expires_at` of a buffer of fragments. It writes the
- *    slots of a packet that `net_base_packets_place` placed.
+ *    `net_base_assembler_..`. The caller may set a head to zeros, and then what the comment of its
+ *    kind says: `first` of a receiver, `first_unacknowledged` of a sender, `base` of a scoreboard,
+ *    `expires_at` of a buffer of fragments.
  * 6. Where a comment says `Requires`, head and runs are sound, as a call whose name ends in
  *    `_is_sound` tests. What calls of its own kind wrote, from an empty head on, is sound.
  *
@@ -87,6 +86,9 @@ extern "C" {
 
 /* Another size of the packet is known. Nothing changes. */
 #define NET_BASE_OTHER_SIZE UINT32_C(6)
+
+/* The stream can't end there. Nothing changes. */
+#define NET_BASE_OTHER_END UINT32_C(7)
 
 /* No count, index or position of a right call: what was passed is nonsense, or there is none. */
 #define NET_BASE_NONE UINT64_MAX
@@ -260,11 +262,12 @@ uint64_t net_base_ring_enqueue_one(struct net_base_ring *place, uint64_t capacit
  */
 uint64_t net_base_ring_dequeue_one(struct net_base_ring *place, uint64_t capacity);
 
-/* Packets that arrive in fragments, as those of IPv4 do, over bytes and runs that the caller keeps.
+/* Receivers of a stream that ends. The end is the position after the last byte. It has a number, as
+ * TCP's FIN has, and needs no room; `end` of the head is it, or `NET_BASE_NONE` while it isn't
+ * known.
  *
- * A head of zeros, but for `expires_at`, is that of an empty buffer. The longest packet has as many
- * bytes as the storage. Fragments may overlap: at each position the byte is that of the last
- * fragment there. `present` is an assembler.
+ * A new head has `end` set to `NET_BASE_NONE`, and is zeros but for `receiver.first` otherwise.
+ * `receiver` is a receiver, whose calls that only look may be made on it.
  */
 
 /* What an assembler has besides its runs: how many there are, and where the first of them starts.
@@ -273,6 +276,130 @@ struct net_base_assembler {
     uint64_t used;
     uint64_t first_start;
 };
+
+/* What a receiver has besides its storage and its held runs: numbers. */
+struct net_base_receiver {
+    /* The position of the stream's first byte. */
+    uint64_t first;
+    /* How many bytes were read. */
+    uint64_t count_read;
+    /* Where the queue is in the storage. */
+    struct net_base_ring place;
+    /* What the held runs are counted from, and how many there are. */
+    struct net_base_assembler held;
+};
+
+/* What a receiver of a stream that ends has besides its storage and its held runs: numbers. */
+struct net_base_finite_receiver {
+    /* The receiver of the bytes. */
+    struct net_base_receiver receiver;
+    /* The position after the last byte, or the greatest number of 64 bits while it isn't known. */
+    uint64_t end;
+};
+
+/* A range of positions that is stored as a run: from `start` on, up to `end`, which is not
+ * included.
+ */
+struct net_base_run {
+    uint64_t start;
+    uint64_t end;
+};
+
+/* How many bytes of a segment were kept, and how many joined the queue. */
+struct net_base_kept_counts {
+    /* How many bytes were kept: those of the segment whose positions are in the free window. */
+    uint64_t kept;
+    /* How many bytes joined the queue: by how many positions the first missing position moved up.
+     */
+    uint64_t queued;
+};
+
+/* Returns whether these are the head, the storage and the runs of a receiver of a stream that ends.
+ * It looks at each run, and at no byte.
+ */
+bool net_base_finite_receiver_is_sound(
+    const struct net_base_finite_receiver *receiver, const uint8_t *storage,
+    uint64_t storage_length, const struct net_base_run *runs, uint64_t runs_length);
+
+/* Returns `NET_BASE_PRESENT` if the stream can end at `position`: it is the end that is known, or
+ * none is, and no byte is queued or held at it or above. Otherwise `NET_BASE_MISSING`.
+ *
+ * It is refused if `place` isn't that of a ring of `storage_length` bytes, `next` doesn't fit 64
+ * bits, or `held.used` is above `runs_length`: `NET_BASE_REFUSED`.
+ *
+ * Requires: head, storage and runs are sound, as `net_base_finite_receiver_is_sound` tests.
+ */
+uint32_t net_base_finite_receiver_can_end(
+    const struct net_base_finite_receiver *receiver, const uint8_t *storage,
+    uint64_t storage_length, const struct net_base_run *runs, uint64_t runs_length,
+    uint64_t position);
+
+/* Returns `NET_BASE_PRESENT` if all bytes and the end have arrived, and `NET_BASE_MISSING` if not.
+ *
+ * It is refused if the number after `next` doesn't fit 64 bits: `NET_BASE_REFUSED`.
+ */
+uint32_t net_base_finite_receiver_is_complete(const struct net_base_finite_receiver *receiver);
+
+/* Writes the number that an acknowledgement carries to `number`, and returns true: the first
+ * missing position, or, once all bytes and the end have arrived, the end plus 1.
+ *
+ * It is refused if the number after `next` doesn't fit 64 bits: false, and nothing changes.
+ */
+bool net_base_finite_receiver_acknowledged(
+    const struct net_base_finite_receiver *receiver, uint64_t *number);
+
+/* Returns `NET_BASE_PRESENT` if all bytes were read, up to the end, and `NET_BASE_MISSING` if not.
+ *
+ * It is refused if the number after `next` doesn't fit 64 bits: `NET_BASE_REFUSED`.
+ */
+uint32_t net_base_finite_receiver_has_read_all(const struct net_base_finite_receiver *receiver);
+
+/* Moves bytes from the head of the queue to the beginning of `into`, and returns how many: as many
+ * as are queued and as `into` has room for. The rest of `into` stays as it is.
+ *
+ * It is refused if `receiver.receiver.place` isn't that of a ring of `storage_length` elements, or
+ * if `next` doesn't fit 64 bits: `NET_BASE_NONE`, and nothing changes.
+ */
+uint64_t net_base_finite_receiver_read(
+    struct net_base_finite_receiver *receiver, const uint8_t *storage, uint64_t storage_length,
+    uint8_t *into, uint64_t into_length);
+
+/* Returns how many bytes of a segment of `len` bytes at `position` would be new: those in the free
+ * window and below the end whose positions are not held.
+ *
+ * It is refused if `place` isn't that of a ring of `storage_length` bytes, `next` doesn't fit 64
+ * bits, or `held.used` is above `runs_length`, or if the segment and an end after it don't fit 64
+ * bits: `NET_BASE_NONE`.
+ *
+ * Requires: head, storage and runs are sound, as `net_base_finite_receiver_is_sound` tests.
+ */
+uint64_t net_base_finite_receiver_count_new(
+    const struct net_base_finite_receiver *receiver, const uint8_t *storage,
+    uint64_t storage_length, const struct net_base_run *runs, uint64_t runs_length,
+    uint64_t position, uint64_t len);
+
+/* Keeps the bytes of a segment that are in the free window and below the end, as
+ * `net_base_receiver_segment` does. `is_last` says that the stream ends after the segment; the end
+ * is taken if it is at most the end of the free window.
+ *
+ * Returns what `net_base_receiver_segment` does, and is refused where that is, and also if the
+ * number after the segment doesn't fit 64 bits; or `NET_BASE_OTHER_END`, and nothing changes, if
+ * the segment says that the stream ends where it can't, as `net_base_finite_receiver_can_end`
+ * tells.
+ *
+ * Requires: head, storage and runs are sound, as `net_base_finite_receiver_is_sound` tests.
+ */
+uint32_t net_base_finite_receiver_segment(
+    struct net_base_finite_receiver *receiver, uint8_t *storage, uint64_t storage_length,
+    struct net_base_run *runs, uint64_t runs_length, uint64_t position, const uint8_t *bytes,
+    uint64_t bytes_length, bool is_last, struct net_base_kept_counts *counts);
+
+/* Packets that arrive in fragments, as those of IPv4 do, over bytes and runs that the caller keeps.
+ *
+ * A head of zeros, but for `expires_at`, is that of an empty buffer. The longest packet has as many
+ * bytes as the storage. Fragments may overlap: at each position the byte is that of the last
+ * fragment there. `present` is an assembler.
+ */
 
 /* What a buffer of fragments has besides its bytes and runs. */
 struct net_base_fragments {
@@ -284,14 +411,6 @@ struct net_base_fragments {
     uint64_t total;
     /* The last moment at which the packet is waited for, in microseconds. */
     int64_t expires_at;
-};
-
-/* A range of positions that is stored as a run: from `start` on, up to `end`, which is not
- * included.
- */
-struct net_base_run {
-    uint64_t start;
-    uint64_t end;
 };
 
 /* The length of the run at position 0, and whether the call was done. */
@@ -366,9 +485,7 @@ struct net_base_front_length net_base_fragments_complete(
  * A packet's bytes are contiguous. If it doesn't fit before the storage's end, it is placed at its
  * beginning, and the bytes before the end are a gap. A packet uses one slot, and a gap before it
  * one more. `enqueue`, `dequeue`, `peek` and `shorten_last` take the slots, which `enqueue` and
- * `shorten_last` write. `place`, `take_slot` and `shorten_slot` are for a caller that keeps its
- * slots in another form: `place` takes none, and the caller writes those of the packet; the others
- * take one slot. What is refused changes nothing.
+ * `shorten_last` write; `take_slot` takes one. What is refused changes nothing.
  */
 
 /* The numbers of a packet queue apart from its storages. */
@@ -424,15 +541,6 @@ bool net_base_packets_is_sound(
 /* Empties the queue. No head is refused: this makes one sound for all storages. */
 void net_base_packets_clear(struct net_base_packets *packets);
 
-/* Takes the last `count` bytes off the last packet, lowers the size in `last`, its slot, and
- * returns true.
- *
- * It is refused if `last` can't be the slot of a packet of `count` bytes or more: false, and
- * nothing changes.
- */
-bool net_base_packets_shorten_slot(
-    struct net_base_packets *packets, struct net_base_packet_slot *last, uint64_t count);
-
 /* Appends a packet of `size` bytes, writes its slot and that of its gap, whose `is_gap` is 1, and
  * returns where they and the packet's bytes are. If no byte is in use, which is so too where all
  * packets have 0 bytes, the packet begins at the beginning of the storage of bytes.
@@ -478,17 +586,6 @@ bool net_base_packets_shorten_last(
     struct net_base_packets *packets, struct net_base_packet_slot *slots, uint64_t slots_length,
     uint64_t capacity, uint64_t count);
 
-/* Appends a packet of `size` bytes, and returns where its slots and its bytes are. An empty queue
- * begins at the beginning of the storage of bytes. The caller writes the slots.
- *
- * If there are no `size` contiguous free bytes, or no slots for the packet and its gap, `gap` is 0,
- * the three others are `NET_BASE_NONE`, and nothing changes. A head whose numbers aren't those of
- * rings of `slot_count` slots and of `capacity` bytes is refused: then all four are
- * `NET_BASE_NONE`.
- */
-struct net_base_packet_place net_base_packets_place(
-    struct net_base_packets *packets, uint64_t slot_count, uint64_t capacity, uint64_t size);
-
 /* Removes the first slot in use, which the caller passes as `first`, with its bytes, and returns
  * the index of the first of these bytes. `first` is the slot of the gap before the first packet, or
  * that of the first packet if it has no gap.
@@ -501,29 +598,6 @@ struct net_base_packet_place net_base_packets_place(
 uint64_t net_base_packets_take_slot(
     struct net_base_packets *packets, uint64_t slot_count, uint64_t capacity,
     const struct net_base_packet_slot *first);
-
-/* Devices: the longest packets of one, from numbers that the caller keeps. */
-
-/* Each frame is an Ethernet frame, and begins with a header of 14 bytes. */
-#define NET_BASE_ETHERNET UINT32_C(0)
-
-/* Each frame is an IP packet. */
-#define NET_BASE_IP UINT32_C(1)
-
-/* Returns whether the longest frame of a device has room for the header of its medium, and if so
- * writes the bytes of its longest IP packet to `mtu`: those of the longest frame, less 14 if
- * `medium` is `NET_BASE_ETHERNET`. A medium other than that and `NET_BASE_IP` is refused: then
- * `mtu` stays.
- */
-bool net_base_ip_mtu(uint32_t medium, uint64_t max_transmission_unit, uint64_t *mtu);
-
-/* Returns whether the longest IP packet of a device has room for a header of `ip_header_len` bytes,
- * and if so writes the bytes of the longest payload of a fragment of IPv4 to `size`: the rest of
- * that packet, down to a multiple of 8. A medium other than `NET_BASE_ETHERNET` and `NET_BASE_IP`
- * is refused: then `size` stays.
- */
-bool net_base_max_ipv4_fragment_size(
-    uint32_t medium, uint64_t max_transmission_unit, uint64_t ip_header_len, uint64_t *size);
 
 /* Random words, drawn from a state that the caller keeps. Any state is allowed; the words are not
  * fit for cryptography. The generator is smoltcp's, sPCG32: a step multiplies the state by
@@ -555,31 +629,10 @@ uint64_t net_base_rand_below(uint64_t *state, uint32_t bound);
  * `held`, whose position 0 is `next`: the first of them starts `held.first_start` after it.
  */
 
-/* What a receiver has besides its storage and its held runs: numbers. */
-struct net_base_receiver {
-    /* The position of the stream's first byte. */
-    uint64_t first;
-    /* How many bytes were read. */
-    uint64_t count_read;
-    /* Where the queue is in the storage. */
-    struct net_base_ring place;
-    /* What the held runs are counted from, and how many there are. */
-    struct net_base_assembler held;
-};
-
 /* A held run, by absolute positions: from `start` on, up to `end`, which is not included. */
 struct net_base_held_run {
     uint64_t start;
     uint64_t end;
-};
-
-/* How many bytes of a segment were kept, and how many joined the queue. */
-struct net_base_kept_counts {
-    /* How many bytes were kept: those of the segment whose positions are in the free window. */
-    uint64_t kept;
-    /* How many bytes joined the queue: by how many positions the first missing position moved up.
-     */
-    uint64_t queued;
 };
 
 /* Returns whether these are the head, the storage and the runs of a receiver. It looks at each run,
@@ -736,22 +789,17 @@ struct net_base_hole {
     uint64_t end;
 };
 
-/* What was reported beyond the first position that wasn't, and whether the call was done. */
-struct net_base_reported {
-    /* `NET_BASE_DONE` or `NET_BASE_REFUSED`. */
-    uint32_t status;
-    /* The position after the last one that was reported; 0 if none was. */
-    uint64_t end;
-    /* How many positions were reported beyond the first one that wasn't. */
-    uint64_t count;
-};
-
 /* Returns whether the scoreboard is sound with these runs: `reported` and they are those of an
  * assembler, `base` isn't reported, and each end fits 64 bits.
  */
 bool net_base_scoreboard_is_sound(
     const struct net_base_scoreboard *scoreboard, const struct net_base_run *runs,
     uint64_t runs_length);
+
+/* Forgets all that was reported, for a stream that begins at position `first`: all positions below
+ * it count as reported. Nothing is refused: this makes a scoreboard of any memory.
+ */
+void net_base_scoreboard_reset(struct net_base_scoreboard *scoreboard, uint64_t first);
 
 /* Reports all positions below `next`, whatever the number of runs, and returns true.
  *
@@ -780,10 +828,33 @@ struct net_base_hole net_base_scoreboard_next_hole(
     const struct net_base_scoreboard *scoreboard, const struct net_base_run *runs,
     uint64_t runs_length, uint64_t position, uint64_t limit);
 
-/* Forgets all that was reported, for a stream that begins at position `first`: all positions below
- * it count as reported. Nothing is refused: this makes a scoreboard of any memory.
+/* Writes the position after the last one that was reported to `end`, 0 if none was, and returns
+ * true.
+ *
+ * It is refused if `scoreboard` isn't sound with `runs`: false, and nothing changes.
  */
-void net_base_scoreboard_reset(struct net_base_scoreboard *scoreboard, uint64_t first);
+bool net_base_scoreboard_highest_reported(
+    const struct net_base_scoreboard *scoreboard, const struct net_base_run *runs,
+    uint64_t runs_length, uint64_t *end);
+
+/* Returns how many positions were reported beyond the first one that wasn't, which is `base`.
+ *
+ * It is refused if `scoreboard` isn't sound with `runs`: `NET_BASE_NONE`.
+ */
+uint64_t net_base_scoreboard_count_beyond(
+    const struct net_base_scoreboard *scoreboard, const struct net_base_run *runs,
+    uint64_t runs_length);
+
+/* Writes to `limit` the position below which all that wasn't reported is lost, by the rule of RFC
+ * 6675, section 4, and returns true: above it `duplicates` runs were reported (3 in TCP; 0 counts
+ * as 1), or more bytes than `duplicates - 1` segments of `segment_size` bytes have. It is 0 if
+ * nothing is lost.
+ *
+ * It is refused if `scoreboard` isn't sound with `runs`: false, and nothing changes.
+ */
+bool net_base_scoreboard_lost_below(
+    const struct net_base_scoreboard *scoreboard, const struct net_base_run *runs,
+    uint64_t runs_length, uint64_t duplicates, uint64_t segment_size, uint64_t *limit);
 
 /* Reports the positions from `start` on and below `end`, as a SACK block of an acknowledgement
  * does. Blocks may overlap. `sent` is the position after the last byte that was ever sent.
@@ -796,15 +867,6 @@ void net_base_scoreboard_reset(struct net_base_scoreboard *scoreboard, uint64_t 
 uint32_t net_base_scoreboard_report(
     struct net_base_scoreboard *scoreboard, struct net_base_run *runs, uint64_t runs_length,
     uint64_t start, uint64_t end, uint64_t sent);
-
-/* Returns the position after the last one that was reported, and how many were beyond the first one
- * that wasn't, which is `base`.
- *
- * If the scoreboard isn't sound, the status is `NET_BASE_REFUSED`, and both are 0.
- */
-struct net_base_reported net_base_scoreboard_reported(
-    const struct net_base_scoreboard *scoreboard, const struct net_base_run *runs,
-    uint64_t runs_length);
 
 /* Sequence numbers of 32 bits, which wrap, and the positions of 64 bits, which don't.
  *
@@ -835,12 +897,6 @@ int64_t net_base_instant_saturating_add(int64_t instant, uint64_t duration);
 
 /* Returns how far apart two moments are, whichever is the later one. Any two have a distance. */
 uint64_t net_base_instant_distance(int64_t instant, int64_t other);
-
-/* Writes the earliest of the moments to `earliest`: when to look again at several timers.
- *
- * Returns whether there is one: false if there are no moments, and then nothing changes.
- */
-bool net_base_instant_earliest(const int64_t *moments, uint64_t moments_length, int64_t *earliest);
 
 /* The version of this interface. */
 
@@ -1048,6 +1104,100 @@ bool net_base_sender_mark_sent(
  */
 bool net_base_sender_acknowledge_sent(
     struct net_base_sender *sender, uint64_t capacity, uint64_t next, uint64_t sent);
+
+/* Senders of a stream that ends. Once one is closed nothing can be written, and the end has the
+ * number after the last byte's: it is sent and acknowledged as a byte is, and takes no room.
+ *
+ * A head of zeros, but for `sender.first_unacknowledged` and `sent`, which are equal then, is new.
+ * Where bytes are tells `net_base_sender_peek_at` of `sender`.
+ */
+
+/* What a sender of a stream that ends has besides its storage and its SACK blocks: numbers. */
+struct net_base_finite_sender {
+    /* The sender of the bytes. */
+    struct net_base_sender sender;
+    /* 1 once it is closed, 0 before. */
+    uint64_t closed;
+    /* 1 once the end is acknowledged, 0 before. */
+    uint64_t finished;
+    /* The number after the last one that was ever sent. */
+    uint64_t sent;
+};
+
+/* Returns whether this is the head of a sender of a stream that ends over a storage of `capacity`
+ * bytes.
+ */
+bool net_base_finite_sender_is_sound(
+    const struct net_base_finite_sender *sender, uint64_t capacity);
+
+/* Writes the first number that isn't acknowledged to `number`, and returns true.
+ *
+ * It is refused if `sender` isn't that of a sender over `capacity` bytes: false, and nothing
+ * changes.
+ */
+bool net_base_finite_sender_first_number(
+    const struct net_base_finite_sender *sender, uint64_t capacity, uint64_t *number);
+
+/* Writes the number after the last byte's, and after the end's once the sender is closed, to
+ * `number`, and returns true.
+ *
+ * It is refused if `sender` isn't that of a sender over `capacity` bytes: false, and nothing
+ * changes.
+ */
+bool net_base_finite_sender_numbers_end(
+    const struct net_base_finite_sender *sender, uint64_t capacity, uint64_t *number);
+
+/* Enqueues the first of these bytes, as many as have room, and returns how many: none once the
+ * sender is closed.
+ *
+ * It is refused if `sender` isn't that of a sender over `storage_length` bytes: `NET_BASE_NONE`,
+ * and nothing changes.
+ */
+uint64_t net_base_finite_sender_write(
+    struct net_base_finite_sender *sender, uint8_t *storage, uint64_t storage_length,
+    const uint8_t *bytes, uint64_t bytes_length);
+
+/* Ends the stream after what was written, and returns true; false, and nothing changes, if there is
+ * no number left for the end. A second call changes nothing.
+ *
+ * It is refused if `sender` isn't that of a sender over `capacity` bytes: false, and nothing
+ * changes.
+ */
+bool net_base_finite_sender_close(struct net_base_finite_sender *sender, uint64_t capacity);
+
+/* Returns `NET_BASE_PRESENT` if a segment whose bytes end at `position` ends the stream, since the
+ * sender is closed and that is the position after the last byte. Otherwise `NET_BASE_MISSING`.
+ *
+ * It is refused if `sender` isn't that of a sender over `capacity` bytes: `NET_BASE_REFUSED`.
+ */
+uint32_t net_base_finite_sender_has_end_at(
+    const struct net_base_finite_sender *sender, uint64_t capacity, uint64_t position);
+
+/* Notes that all numbers below `position` were sent, the end's among them if `position` is past it,
+ * and returns true; false, and nothing changes, if `position` is above the number after the last
+ * one.
+ *
+ * It is refused if `sender` isn't that of a sender over `capacity` bytes: false, and nothing
+ * changes.
+ */
+bool net_base_finite_sender_mark_sent(
+    struct net_base_finite_sender *sender, uint64_t capacity, uint64_t position);
+
+/* Drops the bytes below `next`, notes that the end is acknowledged if `next` is past it, and
+ * returns true; false, and nothing changes, if `next` is below the first number that isn't
+ * acknowledged or above what was sent.
+ *
+ * It is refused if `sender` isn't that of a sender over `capacity` bytes: false, and nothing
+ * changes.
+ */
+bool net_base_finite_sender_acknowledge(
+    struct net_base_finite_sender *sender, uint64_t capacity, uint64_t next);
+
+/* Returns whether the sender is closed. */
+bool net_base_finite_sender_is_closed(const struct net_base_finite_sender *sender);
+
+/* Returns whether all bytes and the end are acknowledged. */
+bool net_base_finite_sender_is_closed_and_acknowledged(const struct net_base_finite_sender *sender);
 
 /* END */
 

@@ -28,6 +28,12 @@ TESTS = [
      "`{c1}` isn't that of a sender over `{c0}` bytes", True),
     (rf"IsSoundHead {TERM} {TERM} {TERM}", "{all}", "!{c2}.is_sound({c0}, {c1})",
      "`{c2}` isn't that of a queue of `{c0}` slots and `{c1}` bytes", True),
+    (rf"IsSoundFiniteSender {TERM} {TERM}", "{all}", "!{c1}.is_sound({c0})",
+     "`{c1}` isn't that of a sender over `{c0}` bytes", True),
+    (rf"next_of {TERM} < no_end", "{all}", "!has_number({c0})", "the number after `next` doesn't fit 64 bits", True),
+    (rf"next_of {TERM} < 2 \^ 64", "{all}", "!has_next(&{c0}.receiver)", "`next` doesn't fit 64 bits", True),
+    (rf"{TERM} \+ len < no_end", "{all}", "!FiniteReceiverHead::fits({c0}, len)",
+     "the segment and an end after it don't fit 64 bits", True),
     (rf"IsSoundBoard {TERM} {TERM}", "{all}", "!{c0}.is_sound({c1})", "`{c0}` isn't sound with `{c1}`", True),
     (rf"CanShorten {TERM} {TERM} {TERM}", "{all}", "!{c0}.can_shorten({c1}, {c2})",
      "`{c1}` can't be the slot of a packet of `{c2}` bytes or more", True),
@@ -47,6 +53,10 @@ TESTS = [
     (rf"HasSoundParts (fragments\S+) {TERM} {TERM}", "IsPlausible (length {1}) (length {2}) {0}",
      "!is_plausible({c0}, {c1}.len(), {c2}.len())",
      "`present.used` is above `{c2}.len()`, or a known size above `{c1}.len()`", "HasSoundRuns {0}.present {2}"),
+    (rf"HasSoundFinite {TERM} {TERM} {TERM}", "IsPlausible (length {1}) (length {2}) {0}.receiver",
+     "!is_plausible(&{c0}.receiver, {c1}.len(), {c2}.len())",
+     "`place` isn't that of a ring of `{c1}.len()` bytes, `next` doesn't fit 64 bits, or `held.used` is above `{c2}.len()`",
+     False),
     (rf"HasSoundParts (receiver\S+) {TERM} {TERM}", "IsPlausible (length {1}) (length {2}) {0}",
      "!is_plausible({c0}, {c1}.len(), {c2}.len())",
      "`place` isn't that of a ring of `{c1}.len()` bytes, `next` doesn't fit 64 bits, or `held.used` is above `{c2}.len()`",
@@ -56,7 +66,8 @@ TESTS = [
 STAY = {"canonical", "exact", "others", "sends"}
 SOUND = {"AssemblerHead": "Head and runs are sound, as `net_base_assembler_is_sound` tests.",
          "FragmentsHead": "Head and runs of `present` are sound, as `net_base_assembler_is_sound` tests.",
-         "ReceiverHead": "Head, storage and runs are sound, as `net_base_receiver_is_sound` tests."}
+         "ReceiverHead": "Head, storage and runs are sound, as `net_base_receiver_is_sound` tests.",
+         "FiniteReceiverHead": "Head, storage and runs are sound, as `net_base_finite_receiver_is_sound` tests."}
 NONE = "NET_BASE_NONE"
 
 
@@ -271,6 +282,8 @@ class Export:
             return f"IsTrue result → {clause}"
         if name == "sound" and self.duties:
             guard = self.guard([it for it in self.tests if not it[3]])
+        if "↔" in clause:
+            clause = f"({clause})"
         let = re.match(r"let .*? in ", clause)
         return f"{guard} → {clause}" if not let else f"{let[0]}{guard} → {clause[let.end():]}"
 
@@ -332,8 +345,9 @@ def present(name, clause, guard):
     if match := re.fullmatch(r"IsTrue result ↔ (.*)", clause):
         return [("ensures", "present", f"{guard} → {match[1]} → result ≡ NET_BASE_PRESENT"),
                 ("ensures", "missing", f"{guard} → ({match[1]} → ⊥) → result ≡ NET_BASE_MISSING")]
-    match = re.fullmatch(r"result ≡ (.*)", clause) or stop(f"{name}: not a clause of yes or no: {clause}")
-    return [("ensures", "done", f"{guard} → result ≡ (if {match[1]} then NET_BASE_PRESENT else NET_BASE_MISSING)")]
+    match = re.fullmatch(r"(.*→ )?result ≡ (.*)", clause) or stop(f"{name}: not a clause of yes or no: {clause}")
+    answer = f"(if {match[2]} then NET_BASE_PRESENT else NET_BASE_MISSING)"
+    return [("ensures", name or "done", f"{guard} → {match[1] or ''}result ≡ {answer}")]
 
 
 def with_fields(clause, fields):
@@ -397,6 +411,7 @@ def file_of(head, exports):
     if head.name in head.uses:
         own[head.name] = (head.uses[head.name][0], f"{head.name} as {head.name}_of")
     plausible = {"FragmentsHead": "Rattle.net_base.specs.FragmentParts", "ReceiverHead": "Rattle.net_ffi.specs.ReceiverParts"}
+    plausible["FiniteReceiverHead"] = plausible["ReceiverHead"]
     if head.type in plausible:
         own["IsPlausible"] = (plausible[head.type], "IsPlausible")
     for module, name in (head.uses | own).values():
@@ -406,7 +421,7 @@ def file_of(head, exports):
     lines += [f"ghost use {module}.{{{', '.join(sorted(set(names)))}}};" for module, names in sorted(uses.items())]
     code = "\n".join(line for line in body if not line.startswith("///"))
     imports = {}
-    for name, module in (CODE | {"is_plausible": f"crate::{head.section}"}).items():
+    for name, module in (CODE | {"is_plausible": f"crate::{head.section.removeprefix('finite_')}"}).items():
         if re.search(rf"\b{name}\b", code):
             imports.setdefault(module, []).append(name)
     lines += [""] + [f"use {module}::{{{', '.join(sorted(names))}}};" for module, names in sorted(imports.items())]
@@ -416,9 +431,9 @@ def file_of(head, exports):
 CODE = {name: module for module, names in {
     "crate::refusals": "NET_BASE_DONE NET_BASE_MISSING NET_BASE_NONE NET_BASE_PRESENT NET_BASE_REFUSED NO_FRONT NO_RUN NO_SPAN",
     "crate::results": "FrontLength Hole front_length presence_of run_of status_of status_of_fragment",
-    "crate::receiver": "has_next",
+    "crate::receiver": "has_next", "crate::finite_receiver": "has_number",
     "net_assembler": "AssemblerHead Run", "net_ring": "RingHead Span", "net_base::storage": "FragmentsHead",
-    "net_packets": "PacketSlot PacketsHead", "net_receiver": "HeldRun ReceiverHead ScoreboardHead SenderHead",
+    "net_packets": "PacketSlot PacketsHead", "net_receiver": "FiniteReceiverHead FiniteSenderHead HeldRun ReceiverHead ScoreboardHead SenderHead",
 }.items() for name in names.split()}
 
 

@@ -50,7 +50,6 @@ void fuzz_sender(void);
 void fuzz_scoreboard(void);
 void fuzz_fragments(void);
 void fuzz_time(void);
-void fuzz_devices(void);
 void fuzz_sequence_number(void);
 void fuzz_rand(void);
 #endif

@@ -1,4 +1,4 @@
-/* Moments, devices, sequence numbers and the generator, by numbers of 128 bits and by
+/* Moments, sequence numbers and the generator, by numbers of 128 bits and by
  * their definitions. */
 #include "fuzz.h"
 
@@ -32,42 +32,11 @@ static void fuzz_instant_distance(void) {
     EXPECT(net_base_instant_distance(one, other) == (uint64_t)wanted);
 }
 
-static void fuzz_instant_earliest(void) {
-    int64_t moments[4], before = (int64_t)any_number(), earliest = before;
-    uint64_t count = below(5);
-    for (uint64_t i = 0; i < count; i++) moments[i] = (int64_t)any_number();
-    EXPECT(net_base_instant_earliest(moments, count, &earliest) == (count > 0));
-    int64_t wanted = count > 0 ? moments[0] : before;
-    for (uint64_t i = 0; i < count; i++) {
-        if (moments[i] < wanted) wanted = moments[i];
-    }
-    EXPECT(earliest == wanted);
-}
-
 void fuzz_time(void) {
-    static void (*const calls[])(void) = {
-        fuzz_instant_saturating_add, fuzz_instant_distance, fuzz_instant_earliest};
-    calls[below(sizeof calls / sizeof calls[0])]();
-}
-
-/* The bytes of the longest IP packet of a device; fewer than 0 if it has none. */
-static wide ip_mtu(uint32_t medium, uint64_t frame) {
-    if (medium > 1) return -1;
-    return medium == 0 ? (wide)frame - 14 : frame;
-}
-
-void fuzz_devices(void) {
-    uint32_t medium = (uint32_t)mostly_within(2);
-    uint64_t frame = once_in(2) ? below(64) : any_number();
-    uint64_t header = once_in(2) ? below(64) : any_number();
-    uint64_t *at = take_number(), before = *at;
-    wide packet = ip_mtu(medium, frame), rest = packet - header;
-    if (once_in(2)) {
-        expect_result(net_base_ip_mtu(medium, frame, at), packet >= 0, at, before, packet);
-        return;
-    }
-    bool done = net_base_max_ipv4_fragment_size(medium, frame, header, at);
-    expect_result(done, rest >= 0, at, before, rest - rest % 8);
+    if (once_in(2))
+        fuzz_instant_saturating_add();
+    else
+        fuzz_instant_distance();
 }
 
 static const uint64_t NUMBERS = (uint64_t)1 << 32;

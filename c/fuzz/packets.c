@@ -129,12 +129,6 @@ static void fuzz_enqueue(void) {
     EXPECT(slots_are(slots_before));
 }
 
-static void fuzz_place(void) {
-    uint64_t size = mostly_within(capacity);
-    EXPECT(is_placed(net_base_packets_place(head, slot_count, capacity, size), size));
-    EXPECT(slots_are(slots_before));
-}
-
 /* Where the first packet is, and the head once it is gone. */
 static struct net_base_first_packet first_of(struct net_base_packets *after) {
     *after = before;
@@ -172,19 +166,19 @@ static void fuzz_peek(void) {
     EXPECT(is_unchanged());
 }
 
-/* A slot by itself: most often one of those in use, from the first or from the last on. */
-static struct net_base_packet_slot *draw_slot(bool last) {
+/* A slot by itself: most often the first one in use. */
+static struct net_base_packet_slot *draw_slot(void) {
     struct net_base_packet_slot *slot = (struct net_base_packet_slot *)(void *)take_room(&slot_room, sizeof *slot);
     *slot = (struct net_base_packet_slot){mostly_within(capacity), once_in(2) ? below(2) : any_number()};
     if (!once_in(3) && is_sound_head() && before.slots.length > 0) {
         struct list order = list_of(before.slots, slot_count);
-        *slot = slots_before[order.indices[last ? order.queued - 1 : 0]];
+        *slot = slots_before[order.indices[0]];
     }
     return slot;
 }
 
 static void fuzz_take_slot(void) {
-    struct net_base_packet_slot *slot = draw_slot(false), first = *slot;
+    struct net_base_packet_slot *slot = draw_slot(), first = *slot;
     uint64_t from = net_base_packets_take_slot(head, slot_count, capacity, slot);
     EXPECT(slot->size == first.size && slot->is_gap == first.is_gap && slots_are(slots_before));
     struct list bytes, order;
@@ -206,17 +200,6 @@ static void fuzz_take_slot(void) {
 static bool can_shorten(struct net_base_packet_slot last, uint64_t count) {
     if (before.slots.length == 0 || last.is_gap != 0) return false;
     return count <= last.size && last.size <= before.bytes.length;
-}
-
-static void fuzz_shorten_slot(void) {
-    struct net_base_packet_slot *slot = draw_slot(true), last = *slot;
-    uint64_t count = mostly_within(last.size < MOST_BYTES ? last.size : MOST_BYTES);
-    bool done = net_base_packets_shorten_slot(head, slot, count);
-    EXPECT(done == can_shorten(last, count));
-    uint64_t less = done ? count : 0;
-    struct net_base_ring shorter = {before.bytes.read_at, before.bytes.length - less};
-    EXPECT(head_is(before.slots, shorter) && slots_are(slots_before));
-    EXPECT(slot->size == last.size - less && slot->is_gap == last.is_gap);
 }
 
 static void fuzz_shorten_last(void) {
@@ -272,8 +255,8 @@ static void fuzz_queue(void) {
 }
 
 void fuzz_packets(void) {
-    static void (*const calls[])(void) = {fuzz_enqueue, fuzz_enqueue, fuzz_place, fuzz_dequeue, fuzz_dequeue,
-        fuzz_peek, fuzz_take_slot, fuzz_shorten_slot, fuzz_shorten_last, fuzz_clear, fuzz_is_sound, fuzz_is_sound,
+    static void (*const calls[])(void) = {fuzz_enqueue, fuzz_enqueue, fuzz_dequeue, fuzz_dequeue,
+        fuzz_peek, fuzz_take_slot, fuzz_shorten_last, fuzz_clear, fuzz_is_sound, fuzz_is_sound,
         fuzz_queue};
     draw_packets();
     calls[below(sizeof calls / sizeof calls[0])]();

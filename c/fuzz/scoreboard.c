@@ -120,23 +120,32 @@ static void fuzz_next_hole(void) {
 }
 
 static void fuzz_reported(void) {
-    struct net_base_reported reported = net_base_scoreboard_reported(board, runs, most);
-    EXPECT(is_unchanged());
-    if (!sound) {
-        EXPECT(reported.status == NET_BASE_REFUSED && reported.end == 0 && reported.count == 0);
-        return;
-    }
-    uint64_t end = base;
+    uint64_t end = 7, wanted = base;
     for (uint64_t at = 0; at < POSITIONS; at++) {
-        if (beyond >> at & 1) end = base + at + 1;
+        if (beyond >> at & 1) wanted = base + at + 1;
     }
-    EXPECT(reported.status == NET_BASE_DONE && reported.end == end);
-    EXPECT(reported.count == (uint64_t)__builtin_popcountll(beyond));
+    EXPECT(net_base_scoreboard_highest_reported(board, runs, most, &end) == sound);
+    EXPECT(end == (sound ? wanted : 7));
+    uint64_t count = net_base_scoreboard_count_beyond(board, runs, most);
+    EXPECT(count == (sound ? (uint64_t)__builtin_popcountll(beyond) : NET_BASE_NONE));
+    EXPECT(is_unchanged());
+}
+
+/* The start of the last run above which, with itself, enough runs or bytes were reported. */
+static void fuzz_lost_below(void) {
+    uint64_t duplicates = below(5), size = below(12), limit = 7, wanted = 0;
+    uint64_t least = duplicates > 0 ? duplicates : 1, bytes = duplicates > 0 ? (duplicates - 1) * size : 0;
+    for (set left = beyond; left != 0; left &= ~first_run(left)) {
+        if (run_count(left) < least && (uint64_t)__builtin_popcountll(left) <= bytes) break;
+        wanted = base + start_of(left);
+    }
+    EXPECT(net_base_scoreboard_lost_below(board, runs, most, duplicates, size, &limit) == sound);
+    EXPECT(limit == (sound ? wanted : 7) && is_unchanged());
 }
 
 void fuzz_scoreboard(void) {
     static void (*const calls[])(void) = {fuzz_is_sound, fuzz_reset, fuzz_report, fuzz_acknowledge,
-                                          fuzz_contains, fuzz_next_hole, fuzz_reported};
+                                          fuzz_contains, fuzz_next_hole, fuzz_reported, fuzz_lost_below};
     draw_scoreboard();
     calls[below(sizeof calls / sizeof calls[0])]();
     EXPECT(room_is_whole(&board_room) && room_is_whole(&runs_room));

@@ -31,20 +31,9 @@ static void show(void) {
     say_truth(head.slots.length == slot_count);
 }
 
-/* Appends a packet whose slots the caller writes. */
-static struct net_base_packet_place place_packet(uint64_t size) {
-    struct net_base_packet_place place = net_base_packets_place(&head, slot_count, capacity, size);
-    if (place.slot == UINT64_MAX) return place;
-    if (place.gap > 0) slots[place.gap_slot] = (struct net_base_packet_slot){place.gap, 1};
-    slots[place.slot] = (struct net_base_packet_slot){size, 0};
-    return place;
-}
-
 /* Appends a packet; returns false, and says so, if there is no room. */
-static bool enqueue(uint64_t size, uint64_t header, bool places) {
-    struct net_base_packet_place place =
-        places ? place_packet(size)
-               : net_base_packets_enqueue(&head, slots, slot_count, capacity, size);
+static bool enqueue(uint64_t size, uint64_t header) {
+    struct net_base_packet_place place = net_base_packets_enqueue(&head, slots, slot_count, capacity, size);
     if (place.slot == UINT64_MAX) {
         say(place.gap == UINT64_MAX ? "refused" : "full");
         return false;
@@ -72,17 +61,13 @@ static void say_header(uint64_t slot) {
 }
 
 static void enqueue_with(const uint64_t *numbers) {
-    bool places = numbers[3] % 2 == 0;
-    if (!enqueue(numbers[0], numbers[2], places)) return;
+    if (!enqueue(numbers[0], numbers[2])) return;
     uint64_t kept = least(numbers[1], numbers[0]), less = numbers[0] - kept;
     say_number(kept);
     say(" ");
     say_lent(storage + last_from, numbers[0]);
     fill(storage + last_from, numbers[0], numbers[3]);
-    bool is_done =
-        places ? net_base_packets_shorten_slot(&head, &slots[last_slot], less)
-               : net_base_packets_shorten_last(&head, slots, slot_count, capacity, less);
-    if (!is_done) say(" refused");
+    if (!net_base_packets_shorten_last(&head, slots, slot_count, capacity, less)) say(" refused");
 }
 
 static void dequeue_with(const uint64_t *numbers) {
@@ -142,9 +127,9 @@ static void peek(void) {
 static bool make(const struct call *call) {
     const uint64_t *numbers = call->numbers;
     if (is(call, "place") || is(call, "enqueue")) {
-        if (enqueue(numbers[0], numbers[1], is(call, "place"))) lend(storage + last_from, numbers[0], numbers[2]);
+        if (enqueue(numbers[0], numbers[1])) lend(storage + last_from, numbers[0], numbers[2]);
     } else if (is(call, "push_slice")) {
-        if (!enqueue(numbers[0], numbers[1], false)) return true;
+        if (!enqueue(numbers[0], numbers[1])) return true;
         fill(storage + last_from, numbers[0], numbers[2]);
         say("ok");
     } else if (is(call, "enqueue_with_infallible")) {

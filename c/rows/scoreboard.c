@@ -20,9 +20,10 @@ static struct net_base_hole hole(uint64_t position, uint64_t limit) {
  * runs and positions are between these; the digest of the runs, which are between holes.
  */
 static void show(void) {
-    struct net_base_reported reported = net_base_scoreboard_reported(&head, runs, run_count);
+    uint64_t highest = 0, beyond = net_base_scoreboard_count_beyond(&head, runs, run_count);
+    if (!net_base_scoreboard_highest_reported(&head, runs, run_count, &highest)) say("unsound ");
     struct net_base_hole at = hole(0, UINT64_MAX);
-    uint64_t counts[] = {at.start - first_position, reported.end - first_position, 0, reported.count}, sum = START;
+    uint64_t counts[] = {at.start - first_position, highest - first_position, 0, beyond}, sum = START;
     while (at.status == NET_BASE_DONE && at.end < UINT64_MAX) {
         struct net_base_hole next = hole(at.end, UINT64_MAX);
         sum = mix(mix(sum, at.end), next.start);

@@ -1,4 +1,3 @@
-pub mod Devices
 pub mod PacketPlaces
 pub mod ReceiverParts
 pub mod Refusals

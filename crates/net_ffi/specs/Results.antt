@@ -1,10 +1,13 @@
 -- Results of methods, as the numbers that exports return for them.
 --     done_or_many n, length_or_many n l      whether the runs have room, by a status and a length
 --     done_or_error n, IsStatus n      why a fragment or a size is refused, by a status
+--     status_of_finite e      the status of why a segment of a stream that ends is
 use Rattle.std.specs.Prelude.{ℕ, zero, suc, ◌≡◌, ◌⊎◌, nat_eq, Result, Ok, Err, if◌then◌else◌}
 use Rattle.net_assembler.specs.declared.assembler.error.TooManyHolesError.{TooManyHolesError}
 use Rattle.net_base.specs.declared.storage.fragments.FragmentError.{FragmentError}
 use Rattle.net_base.specs.declared.storage.fragments.FragmentError.TheVariants.{TooLong, TooManyHoles, OtherSize}
+use Rattle.net_receiver.specs.declared.finite.error.FiniteError.{FiniteError}
+use Rattle.net_receiver.specs.declared.finite.error.FiniteError.TheVariants.{TooManyHoles as NoRoom, OtherEnd}
 
 -- 0 is done; another status is that there is no room
 abbrev pub done_or_many : ℕ → Result (Unit {0}) TooManyHolesError
@@ -27,3 +30,7 @@ done_or_error n =
 -- the statuses of fragments and sizes that aren't refused as nonsense
 abbrev pub IsStatus : ℕ → Type 0
 IsStatus n = (n ≡ 0) ⊎ (n ≡ 1) ⊎ (n ≡ 5) ⊎ (n ≡ 6)
+
+abbrev pub status_of_finite : FiniteError → ℕ
+status_of_finite NoRoom = 1
+status_of_finite OtherEnd = 7

@@ -6,3 +6,5 @@ mod fragments;
 mod receiver;
 mod sender;
 mod scoreboard;
+mod finite_receiver;
+mod finite_sender;

@@ -1,6 +1,6 @@
 //! Functions for C over memory that the caller keeps: rings, packet queues,
-//! assemblers, buffers of fragments, receivers, senders and their scoreboards, sequence numbers,
-//! sizes of devices, time and random words.
+//! assemblers, buffers of fragments, receivers, senders and their scoreboards, sequence numbers, time
+//! and random words.
 //!
 //! There is no heap and no global state. Each export calls a function of a library here, states its
 //! clauses, and refuses arguments that no correct caller passes.
@@ -31,9 +31,9 @@
 //! 4. A storage, its runs and its slots have the same lengths in each call on a head.
 //! 5. A head, its runs and its slots are written by calls of its own kind alone, those of a receiver
 //!    by `net_base_receiver_..`, not its `place` by `net_base_ring_..` or its `held` by
-//!    `net_base_assembler_..`. The caller may set a head to zeros, and then `first` of a receiver,
-//!    `first_unacknowledged` of a sender or `expires_at` of a buffer of fragments. It writes the
-//!    slots of a packet that `net_base_packets_place` placed.
+//!    `net_base_assembler_..`. The caller may set a head to zeros, and then what the
+//!    comment of its kind says: `first` of a receiver, `first_unacknowledged` of a sender, `base` of a
+//!    scoreboard, `expires_at` of a buffer of fragments.
 //! 6. Where a comment says `Requires`, head and runs are sound, as a call whose name ends in
 //!    `_is_sound` tests. What calls of its own kind wrote, from an empty head on, is sound.
 //!
@@ -47,10 +47,10 @@
 //! say.
 #![tactic(auto)]
 
+mod finite_receiver;
 mod fragments;
 mod heads;
 mod packets;
-mod phy;
 mod rand;
 mod receiver;
 mod refusals;

@@ -201,38 +201,6 @@ pub extern "C" fn net_base_packets_shorten_last(
     packets.shorten_last_in(slots, capacity, count)
 }
 
-/// Appends a packet of `size` bytes, and returns where its slots and its bytes are. An empty queue
-/// begins at the beginning of the storage of bytes. The caller writes the slots.
-///
-/// If there are no `size` contiguous free bytes, or no slots for the packet and its gap, `gap` is 0, the
-/// three others are `NET_BASE_NONE`, and nothing changes. A head whose numbers aren't those of rings of
-/// `slot_count` slots and of `capacity` bytes is refused: then all four are `NET_BASE_NONE`.
-#[unsafe(no_mangle)]
-pub extern "C" fn net_base_packets_place(
-    packets: &mut PacketsHead,
-    slot_count: usize,
-    capacity: usize,
-    size: usize,
-) -> PacketPlace
-    ensures placed { IsSoundHead slot_count capacity packets.old →
-        (gap : ℕ) → placement_in slot_count capacity packets.old size ≡ Some gap →
-        (result ≡ place_after_gap slot_count capacity packets.old gap)
-        × (packets.new ≡ with_packet_placed gap size packets.old) }
-    ensures full { IsSoundHead slot_count capacity packets.old →
-        placement_in slot_count capacity packets.old size ≡ None →
-        (result ≡ no_place) × (packets.new ≡ packets.old) }
-    ensures refused { (IsSoundHead slot_count capacity packets.old → ⊥) →
-        (result ≡ nonsense_place) × (packets.new ≡ packets.old) }
-{
-    if !packets.is_sound(slot_count, capacity) {
-        return NONSENSE;
-    }
-    match packets.place(slot_count, capacity, size) {
-        Some(place) => place,
-        None => NO_PLACE,
-    }
-}
-
 /// Removes the first slot in use, which the caller passes as `first`, with its bytes, and returns the
 /// index of the first of these bytes. `first` is the slot of the gap before the first packet, or that
 /// of the first packet if it has no gap.

@@ -27,6 +27,9 @@ pub const NET_BASE_TOO_LONG: u32 = 5;
 /// Another size of the packet is known. Nothing changes.
 pub const NET_BASE_OTHER_SIZE: u32 = 6;
 
+/// The stream can't end there. Nothing changes.
+pub const NET_BASE_OTHER_END: u32 = 7;
+
 /// No count, index or position of a right call: what was passed is nonsense, or there is none.
 pub const NET_BASE_NONE: usize = usize::MAX;
 
@@ -58,6 +61,7 @@ pub fn numbers()
     ensures present { NET_BASE_PRESENT ≡ 4 }
     ensures too_long { NET_BASE_TOO_LONG ≡ 5 }
     ensures other_size { NET_BASE_OTHER_SIZE ≡ 6 }
+    ensures other_end { NET_BASE_OTHER_END ≡ 7 }
     ensures none { NET_BASE_NONE ≡ 2 ^ 64 - 1 }
     ensures span { NO_SPAN ≡ nowhere }
 {}

@@ -12,20 +12,6 @@ use crate::refusals::{
 use net_assembler::Run;
 use net_receiver::ScoreboardHead;
 
-/// Forgets all that was reported, for a stream that begins at position `first`: all positions below it
-/// count as reported. Nothing is refused: this makes a scoreboard of any memory.
-#[unsafe(no_mangle)]
-pub extern "C" fn net_base_scoreboard_reset(scoreboard: &mut ScoreboardHead, first: u64)
-    ensures base { scoreboard.new.base ≡ first }
-    ensures no_run { scoreboard.new.reported.used ≡ 0 }
-    ensures no_start { scoreboard.new.reported.first_start ≡ 0 }
-    ensures empty { (runs : List (ℕ × ℕ)) →
-        reported_by scoreboard.new runs ≡ with_range nothing 0 first }
-    ensures sound { (runs : List (ℕ × ℕ)) → IsSoundBoard scoreboard.new runs }
-{
-    *scoreboard = ScoreboardHead::new_at(first);
-}
-
 /// Reports the positions from `start` on and below `end`, as a SACK block of an acknowledgement does.
 /// Blocks may overlap. `sent` is the position after the last byte that was ever sent.
 ///
@@ -63,45 +49,5 @@ pub extern "C" fn net_base_scoreboard_report(
     match scoreboard.report(runs, start, end) {
         Ok(()) => NET_BASE_DONE,
         Err(_) => NET_BASE_TOO_MANY_RUNS,
-    }
-}
-
-/// What was reported beyond the first position that wasn't, and whether the call was done.
-#[repr(C)]
-#[derive(Debug, Clone, Copy)]
-pub struct Reported {
-    /// `NET_BASE_DONE` or `NET_BASE_REFUSED`.
-    pub status: u32,
-    /// The position after the last one that was reported; 0 if none was.
-    pub end: u64,
-    /// How many positions were reported beyond the first one that wasn't.
-    pub count: usize,
-}
-
-/// Returns the position after the last one that was reported, and how many were beyond the first one
-/// that wasn't, which is `base`.
-///
-/// If the scoreboard isn't sound, the status is `NET_BASE_REFUSED`, and both are 0.
-#[unsafe(no_mangle)]
-pub extern "C" fn net_base_scoreboard_reported(scoreboard: &ScoreboardHead, runs: &[Run]) -> Reported
-    ensures done { IsSoundBoard scoreboard.now runs.now → result.status ≡ NET_BASE_DONE }
-    ensures end { IsSoundBoard scoreboard.now runs.now →
-        IsEnd (reported_by scoreboard.now runs.now) result.end }
-    ensures count { IsSoundBoard scoreboard.now runs.now →
-        result.count ≡ length (positions (beyond (reported_by scoreboard.now runs.now))) }
-    ensures refused { (IsSoundBoard scoreboard.now runs.now → ⊥) →
-        (result.status ≡ NET_BASE_REFUSED) × (result.end ≡ 0) × (result.count ≡ 0) }
-{
-    if !scoreboard.is_sound(runs) {
-        return Reported {
-            status: NET_BASE_REFUSED,
-            end: 0,
-            count: 0,
-        };
-    }
-    Reported {
-        status: NET_BASE_DONE,
-        end: scoreboard.highest_reported(runs),
-        count: scoreboard.count_beyond(runs),
     }
 }

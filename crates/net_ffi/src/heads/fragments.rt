@@ -65,11 +65,11 @@ pub extern "C" fn net_base_fragments_add(
         runs.old) offset «data».now) }
     ensures unchanged { IsPlausible (length storage.old) (length runs.old) fragments.old → OnErr (done_or_error
         result) ((fragments.new ≡ fragments.old) × (storage.new ≡ storage.old) × (runs.new ≡ runs.old)) }
-    ensures too_long { IsPlausible (length storage.old) (length runs.old) fragments.old → ((done_or_error result) ≡
-        Err TooLong) ↔ (length storage.old < offset + length «data».now) }
-    ensures refused { IsPlausible (length storage.old) (length runs.old) fragments.old → IsErr (done_or_error
+    ensures too_long { IsPlausible (length storage.old) (length runs.old) fragments.old → (((done_or_error result) ≡
+        Err TooLong) ↔ (length storage.old < offset + length «data».now)) }
+    ensures refused { IsPlausible (length storage.old) (length runs.old) fragments.old → (IsErr (done_or_error
         result) ↔ ((length storage.old < offset + length «data».now) ⊎ MakesTooManyRuns (length runs.old) (set_of
-        fragments.old.present runs.old) offset (length «data».now)) }
+        fragments.old.present runs.old) offset (length «data».now))) }
     ensures others { (fragments.new.has_total ≡ fragments.old.has_total) × (fragments.new.total ≡
         fragments.old.total) × (fragments.new.expires_at ≡ fragments.old.expires_at) }
     ensures exact { IsExact fragments.old → IsExact fragments.new }

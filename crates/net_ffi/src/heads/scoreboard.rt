@@ -5,12 +5,13 @@
 //! has elements. Each call but `net_base_scoreboard_reset` looks at each run, and refuses a
 //! scoreboard that isn't sound.
 // Written by tools/ffi.py.
-ghost use Rattle.net_assembler.specs.Positions.{contains, with_range};
+ghost use Rattle.net_assembler.specs.Positions.{contains, nothing, positions, with_range};
 ghost use Rattle.net_assembler.specs.RunLists.{IsCanonical};
-ghost use Rattle.net_receiver.specs.Scoreboards.{IsNextHole, IsSoundBoard, reported_by};
-ghost use Rattle.std.specs.Prelude.{IsFalse, IsTrue, if◌then◌else◌, ◌↔◌, ◌≡◌};
+ghost use Rattle.net_receiver.specs.Losses.{IsLossBound};
+ghost use Rattle.net_receiver.specs.Scoreboards.{IsEnd, IsNextHole, IsSoundBoard, beyond, reported_by};
+ghost use Rattle.std.specs.Prelude.{IsFalse, IsTrue, List, if◌then◌else◌, length, ℕ, ◌-◌, ◌^◌, ◌↔◌, ◌≡◌};
 
-use crate::refusals::{NET_BASE_DONE, NET_BASE_MISSING, NET_BASE_PRESENT, NET_BASE_REFUSED};
+use crate::refusals::{NET_BASE_DONE, NET_BASE_MISSING, NET_BASE_NONE, NET_BASE_PRESENT, NET_BASE_REFUSED};
 use crate::results::{Hole, presence_of};
 use net_assembler::{Run};
 use net_receiver::{ScoreboardHead};
@@ -22,6 +23,19 @@ pub extern "C" fn net_base_scoreboard_is_sound(scoreboard: &ScoreboardHead, runs
     ensures { IsTrue result ↔ IsSoundBoard scoreboard.now runs.now }
 {
     scoreboard.is_sound(runs)
+}
+
+/// Forgets all that was reported, for a stream that begins at position `first`: all positions below
+/// it count as reported. Nothing is refused: this makes a scoreboard of any memory.
+#[unsafe(no_mangle)]
+pub extern "C" fn net_base_scoreboard_reset(scoreboard: &mut ScoreboardHead, first: u64)
+    ensures base { scoreboard.new.base ≡ first }
+    ensures no_run { scoreboard.new.reported.used ≡ 0 }
+    ensures no_start { scoreboard.new.reported.first_start ≡ 0 }
+    ensures sound { (runs : List (ℕ × ℕ)) → IsSoundBoard scoreboard.new runs }
+    ensures empty { (runs : List (ℕ × ℕ)) → reported_by scoreboard.new runs ≡ with_range nothing 0 first }
+{
+    scoreboard.reset_at(first);
 }
 
 /// Reports all positions below `next`, whatever the number of runs, and returns true.
@@ -90,4 +104,69 @@ pub extern "C" fn net_base_scoreboard_next_hole(
     }
     let (start, end) = scoreboard.next_hole(runs, position, limit);
     Hole { status: NET_BASE_DONE, start, end }
+}
+
+/// Writes the position after the last one that was reported to `end`, 0 if none was, and returns
+/// true.
+///
+/// It is refused if `scoreboard` isn't sound with `runs`: false, and nothing changes.
+#[unsafe(no_mangle)]
+pub extern "C" fn net_base_scoreboard_highest_reported(
+    scoreboard: &ScoreboardHead,
+    runs: &[Run],
+    end: &mut u64,
+) -> bool
+    ensures done { IsTrue result ↔ (IsSoundBoard scoreboard.now runs.now) }
+    ensures value { IsTrue result → IsEnd (reported_by scoreboard.now runs.now) end.new }
+    ensures unchanged { IsFalse result → (end.new ≡ end.old) }
+{
+    if !scoreboard.is_sound(runs) {
+        return false;
+    }
+    *end = scoreboard.highest_reported(runs);
+    true
+}
+
+/// Returns how many positions were reported beyond the first one that wasn't, which is `base`.
+///
+/// It is refused if `scoreboard` isn't sound with `runs`: `NET_BASE_NONE`.
+#[unsafe(no_mangle)]
+pub extern "C" fn net_base_scoreboard_count_beyond(
+    scoreboard: &ScoreboardHead,
+    runs: &[Run],
+) -> usize
+    ensures value { IsSoundBoard scoreboard.now runs.now → result ≡ length (positions (beyond (reported_by
+        scoreboard.now runs.now))) }
+    ensures refused { (IsSoundBoard scoreboard.now runs.now → ⊥) → result ≡ 2 ^ 64 - 1 }
+{
+    if !scoreboard.is_sound(runs) {
+        return NET_BASE_NONE;
+    }
+    scoreboard.count_beyond(runs)
+}
+
+/// Writes to `limit` the position below which all that wasn't reported is lost, by the rule of RFC
+/// 6675, section 4, and returns true: above it `duplicates` runs were reported (3 in TCP; 0 counts
+/// as 1), or more bytes than `duplicates - 1` segments of `segment_size` bytes have. It is 0 if
+/// nothing is lost.
+///
+/// It is refused if `scoreboard` isn't sound with `runs`: false, and nothing changes.
+#[unsafe(no_mangle)]
+pub extern "C" fn net_base_scoreboard_lost_below(
+    scoreboard: &ScoreboardHead,
+    runs: &[Run],
+    duplicates: usize,
+    segment_size: usize,
+    limit: &mut u64,
+) -> bool
+    ensures done { IsTrue result ↔ (IsSoundBoard scoreboard.now runs.now) }
+    ensures value { IsTrue result → IsLossBound duplicates segment_size (reported_by scoreboard.now runs.now)
+        limit.new }
+    ensures unchanged { IsFalse result → (limit.new ≡ limit.old) }
+{
+    if !scoreboard.is_sound(runs) {
+        return false;
+    }
+    *limit = scoreboard.lost_below(runs, duplicates, segment_size);
+    true
 }

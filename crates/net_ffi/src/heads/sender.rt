@@ -140,8 +140,8 @@ pub extern "C" fn net_base_sender_acknowledge(
     next: u64,
 ) -> bool
     ensures sound { IsSoundHead capacity sender.old → IsSoundHead capacity sender.new }
-    ensures accepted { IsSoundHead capacity sender.old → IsTrue result ↔ ((sender.old.first_unacknowledged ≤ next) ×
-        (next ≤ sender.old.first_unacknowledged + sender.old.place.length)) }
+    ensures accepted { IsSoundHead capacity sender.old → (IsTrue result ↔ ((sender.old.first_unacknowledged ≤ next)
+        × (next ≤ sender.old.first_unacknowledged + sender.old.place.length))) }
     ensures first { IsTrue result → sender.new.first_unacknowledged ≡ next }
     ensures place { IsTrue result → sender.new.place ≡ dequeued_place capacity (next -
         sender.old.first_unacknowledged) sender.old.place }
@@ -170,9 +170,9 @@ pub extern "C" fn net_base_sender_mark_sent(
     sent: &mut u64,
     position: u64,
 ) -> bool
-    ensures accepted { sender.now.first_unacknowledged + sender.now.place.length < 2 ^ 64 → IsTrue result ↔
+    ensures accepted { sender.now.first_unacknowledged + sender.now.place.length < 2 ^ 64 → (IsTrue result ↔
         ((sent.old ≤ sender.now.first_unacknowledged + sender.now.place.length) × (position ≤
-        sender.now.first_unacknowledged + sender.now.place.length)) }
+        sender.now.first_unacknowledged + sender.now.place.length))) }
     ensures mark { IsTrue result → sent.new ≡ max sent.old position }
     ensures refused { IsFalse result → sent.new ≡ sent.old }
     ensures unsound { (sender.now.first_unacknowledged + sender.now.place.length < 2 ^ 64 → ⊥) → (IsFalse result) ×
@@ -199,8 +199,8 @@ pub extern "C" fn net_base_sender_acknowledge_sent(
     sent: u64,
 ) -> bool
     ensures sound { IsSoundHead capacity sender.old → IsSoundHead capacity sender.new }
-    ensures accepted { IsSoundHead capacity sender.old → IsTrue result ↔ ((sender.old.first_unacknowledged ≤ next) ×
-        (next ≤ sent) × (sent ≤ sender.old.first_unacknowledged + sender.old.place.length)) }
+    ensures accepted { IsSoundHead capacity sender.old → (IsTrue result ↔ ((sender.old.first_unacknowledged ≤ next)
+        × (next ≤ sent) × (sent ≤ sender.old.first_unacknowledged + sender.old.place.length))) }
     ensures first { IsTrue result → sender.new.first_unacknowledged ≡ next }
     ensures place { IsTrue result → sender.new.place ≡ dequeued_place capacity (next -
         sender.old.first_unacknowledged) sender.old.place }

@@ -1,0 +1,85 @@
+//! Segments of a stream that ends.
+ghost use Rattle.std.specs.Prelude.{◌≡◌, ◌↔◌, ◌+◌, ◌<◌, ◌^◌, ℕ, List, length, IsTrue, MatchResult};
+ghost use Rattle.net_receiver.specs.Finite.{no_end, finite_after, finite_result};
+ghost use Rattle.net_receiver.specs.FiniteHead.{finite_of, HasSoundFinite, next_of};
+ghost use Rattle.net_receiver.specs.FiniteLaws.{MatchesFinite, ReceivesFinite};
+ghost use Rattle.net_ffi.specs.ReceiverParts.{IsPlausible};
+ghost use Rattle.net_ffi.specs.Results.{status_of_finite};
+
+use crate::receiver::{KeptCounts, has_next, is_plausible};
+use crate::refusals::{
+    NET_BASE_DONE, NET_BASE_OTHER_END, NET_BASE_REFUSED, NET_BASE_TOO_MANY_RUNS,
+};
+use net_assembler::Run;
+use net_receiver::{FiniteError, FiniteReceiverHead};
+
+/// Returns whether the first missing position and the number after it fit 64 bits.
+#[inline(always)]
+pub(crate) fn has_number(receiver: &FiniteReceiverHead) -> bool
+    ensures { IsTrue result ↔ (next_of receiver.now < no_end) }
+{
+    has_next(&receiver.receiver) && receiver.receiver.next() < u64::MAX
+}
+
+/// Keeps the bytes of a segment that are in the free window and below the end, as
+/// `net_base_receiver_segment` does. `is_last` says that the stream ends after the segment; the end is
+/// taken if it is at most the end of the free window.
+///
+/// Returns what `net_base_receiver_segment` does, and is refused where that is, and also if the
+/// number after the segment doesn't fit 64 bits; or `NET_BASE_OTHER_END`, and nothing changes, if the
+/// segment says that the stream ends where it can't, as `net_base_finite_receiver_can_end` tells.
+///
+/// # Requires
+///
+/// Head, storage and runs are sound, as `net_base_finite_receiver_is_sound` tests.
+#[unsafe(no_mangle)]
+pub extern "C" fn net_base_finite_receiver_segment(
+    receiver: &mut FiniteReceiverHead,
+    storage: &mut [u8],
+    runs: &mut [Run],
+    position: u64,
+    bytes: &[u8],
+    is_last: bool,
+    counts: &mut KeptCounts,
+) -> u32
+    requires sound { IsPlausible (length storage.old) (length runs.old) receiver.old.receiver →
+        HasSoundFinite receiver.old storage.old runs.old }
+    ensures result { IsPlausible (length storage.old) (length runs.old) receiver.old.receiver →
+        position + length bytes.now < no_end → MatchResult (finite_result (length runs.old)
+        (finite_of receiver.old storage.old runs.old) position bytes.now is_last)
+        (λ k. (result ≡ NET_BASE_DONE) × (counts.new.kept ≡ k.kept) × (counts.new.queued ≡ k.queued))
+        (λ e. (result ≡ status_of_finite e) × (counts.new ≡ counts.old) × (receiver.new ≡ receiver.old)
+        × (storage.new ≡ storage.old) × (runs.new ≡ runs.old)) }
+    ensures state { IsPlausible (length storage.old) (length runs.old) receiver.old.receiver →
+        position + length bytes.now < no_end → finite_of receiver.new storage.new runs.new
+        ≡ finite_after (length runs.old) (finite_of receiver.old storage.old runs.old)
+        position bytes.now is_last }
+    ensures receives { IsPlausible (length storage.old) (length runs.old) receiver.old.receiver →
+        position + length bytes.now < no_end → (f : ℕ) (x : List ℕ) →
+        ReceivesFinite f x (finite_of receiver.old storage.old runs.old) →
+        MatchesFinite f x position bytes.now is_last →
+        ReceivesFinite f x (finite_of receiver.new storage.new runs.new) }
+    ensures sound { IsPlausible (length storage.old) (length runs.old) receiver.old.receiver →
+        HasSoundFinite receiver.new storage.new runs.new }
+    ensures refused { (IsPlausible (length storage.old) (length runs.old) receiver.old.receiver
+        × (position + length bytes.now < no_end) → ⊥) → (result ≡ NET_BASE_REFUSED)
+        × (receiver.new ≡ receiver.old) × (storage.new ≡ storage.old) × (runs.new ≡ runs.old)
+        × (counts.new ≡ counts.old) }
+{
+    if !is_plausible(&receiver.receiver, storage.len(), runs.len())
+        || !FiniteReceiverHead::fits(position, bytes.len())
+    {
+        return NET_BASE_REFUSED;
+    }
+    match receiver.keep(storage, runs, position, bytes, is_last) {
+        Ok(it) => {
+            *counts = KeptCounts {
+                kept: it.kept,
+                queued: it.queued,
+            };
+            NET_BASE_DONE
+        }
+        Err(FiniteError::TooManyHoles) => NET_BASE_TOO_MANY_RUNS,
+        Err(FiniteError::OtherEnd) => NET_BASE_OTHER_END,
+    }
+}

@@ -1,0 +1,187 @@
+//! Receivers of a stream that ends. The end is the position after the last byte. It has a number,
+//! as TCP's FIN has, and needs no room; `end` of the head is it, or `NET_BASE_NONE` while it isn't
+//! known.
+//!
+//! A new head has `end` set to `NET_BASE_NONE`, and is zeros but for `receiver.first` otherwise.
+//! `receiver` is a receiver, whose calls that only look may be made on it.
+// Written by tools/ffi.py.
+ghost use Rattle.net_ffi.specs.ReceiverParts.{IsPlausible};
+ghost use Rattle.net_receiver.specs.Finite.{acknowledged, can_end, finite_after_read, has_read_all, is_complete, no_end};
+ghost use Rattle.net_receiver.specs.FiniteHead.{HasSoundFinite, finite_of, next_of};
+ghost use Rattle.net_receiver.specs.FiniteLaws.{ReceivesFinite};
+ghost use Rattle.net_receiver.specs.Head.{receiver_of};
+ghost use Rattle.net_receiver.specs.Segments.{new_count};
+ghost use Rattle.net_ring.specs.Ring.{queue};
+ghost use Rattle.net_ring.specs.RingHead.{IsSound as IsSoundPlace, ring_at};
+ghost use Rattle.std.specs.Prelude.{IsFalse, IsTrue, List, drop, if◌then◌else◌, length, min, slice_range, take, ℕ, ◌++◌, ◌+◌, ◌-◌, ◌<◌, ◌==◌, ◌^◌, ◌↔◌, ◌≡◌};
+
+use crate::finite_receiver::{has_number};
+use crate::receiver::{has_next, is_plausible};
+use crate::refusals::{NET_BASE_MISSING, NET_BASE_NONE, NET_BASE_PRESENT, NET_BASE_REFUSED};
+use crate::results::{presence_of};
+use net_assembler::{Run};
+use net_receiver::{FiniteReceiverHead};
+
+/// Returns whether these are the head, the storage and the runs of a receiver of a stream that
+/// ends. It looks at each run, and at no byte.
+#[unsafe(no_mangle)]
+pub extern "C" fn net_base_finite_receiver_is_sound(
+    receiver: &FiniteReceiverHead,
+    storage: &[u8],
+    runs: &[Run],
+) -> bool
+    ensures { IsTrue result ↔ HasSoundFinite receiver.now storage.now runs.now }
+{
+    receiver.is_sound(storage, runs)
+}
+
+/// Returns `NET_BASE_PRESENT` if the stream can end at `position`: it is the end that is known, or
+/// none is, and no byte is queued or held at it or above. Otherwise `NET_BASE_MISSING`.
+///
+/// It is refused if `place` isn't that of a ring of `storage.len()` bytes, `next` doesn't fit 64
+/// bits, or `held.used` is above `runs.len()`: `NET_BASE_REFUSED`.
+///
+/// # Requires
+///
+/// Head, storage and runs are sound, as `net_base_finite_receiver_is_sound` tests.
+#[unsafe(no_mangle)]
+pub extern "C" fn net_base_finite_receiver_can_end(
+    receiver: &FiniteReceiverHead,
+    storage: &[u8],
+    runs: &[Run],
+    position: u64,
+) -> u32
+    requires sound { IsPlausible (length storage.now) (length runs.now) receiver.now.receiver → HasSoundFinite
+        receiver.now storage.now runs.now }
+    ensures done { IsPlausible (length storage.now) (length runs.now) receiver.now.receiver → result ≡ (if can_end
+        (finite_of receiver.now storage.now runs.now) position then NET_BASE_PRESENT else NET_BASE_MISSING) }
+    ensures refused { (IsPlausible (length storage.now) (length runs.now) receiver.now.receiver → ⊥) → result ≡
+        NET_BASE_REFUSED }
+{
+    if !is_plausible(&receiver.receiver, storage.len(), runs.len()) {
+        return NET_BASE_REFUSED;
+    }
+    presence_of(receiver.can_end(storage, runs, position))
+}
+
+/// Returns `NET_BASE_PRESENT` if all bytes and the end have arrived, and `NET_BASE_MISSING` if not.
+///
+/// It is refused if the number after `next` doesn't fit 64 bits: `NET_BASE_REFUSED`.
+#[unsafe(no_mangle)]
+pub extern "C" fn net_base_finite_receiver_is_complete(receiver: &FiniteReceiverHead) -> u32
+    ensures value { next_of receiver.now < no_end → result ≡ (if (next_of receiver.now == receiver.now.end) then
+        NET_BASE_PRESENT else NET_BASE_MISSING) }
+    ensures state { next_of receiver.now < no_end → (storage : List ℕ) (runs : List (ℕ × ℕ)) → HasSoundFinite
+        receiver.now storage runs → result ≡ (if is_complete (finite_of receiver.now storage runs) then
+        NET_BASE_PRESENT else NET_BASE_MISSING) }
+    ensures refused { (next_of receiver.now < no_end → ⊥) → result ≡ NET_BASE_REFUSED }
+{
+    if !has_number(receiver) {
+        return NET_BASE_REFUSED;
+    }
+    presence_of(receiver.is_complete())
+}
+
+/// Writes the number that an acknowledgement carries to `number`, and returns true: the first
+/// missing position, or, once all bytes and the end have arrived, the end plus 1.
+///
+/// It is refused if the number after `next` doesn't fit 64 bits: false, and nothing changes.
+#[unsafe(no_mangle)]
+pub extern "C" fn net_base_finite_receiver_acknowledged(
+    receiver: &FiniteReceiverHead,
+    number: &mut u64,
+) -> bool
+    ensures done { IsTrue result ↔ (next_of receiver.now < no_end) }
+    ensures state { IsTrue result → (storage : List ℕ) (runs : List (ℕ × ℕ)) → HasSoundFinite receiver.now storage
+        runs → number.new ≡ acknowledged (finite_of receiver.now storage runs) }
+    ensures unchanged { IsFalse result → (number.new ≡ number.old) }
+{
+    if !has_number(receiver) {
+        return false;
+    }
+    *number = receiver.acknowledged();
+    true
+}
+
+/// Returns `NET_BASE_PRESENT` if all bytes were read, up to the end, and `NET_BASE_MISSING` if not.
+///
+/// It is refused if the number after `next` doesn't fit 64 bits: `NET_BASE_REFUSED`.
+#[unsafe(no_mangle)]
+pub extern "C" fn net_base_finite_receiver_has_read_all(receiver: &FiniteReceiverHead) -> u32
+    ensures state { next_of receiver.now < no_end → (storage : List ℕ) (runs : List (ℕ × ℕ)) → result ≡ (if
+        has_read_all (finite_of receiver.now storage runs) then NET_BASE_PRESENT else NET_BASE_MISSING) }
+    ensures refused { (next_of receiver.now < no_end → ⊥) → result ≡ NET_BASE_REFUSED }
+{
+    if !has_number(receiver) {
+        return NET_BASE_REFUSED;
+    }
+    presence_of(receiver.has_read_all())
+}
+
+/// Moves bytes from the head of the queue to the beginning of `into`, and returns how many: as many
+/// as are queued and as `into` has room for. The rest of `into` stays as it is.
+///
+/// It is refused if `receiver.receiver.place` isn't that of a ring of `storage.len()` elements, or
+/// if `next` doesn't fit 64 bits: `NET_BASE_NONE`, and nothing changes.
+#[unsafe(no_mangle)]
+pub extern "C" fn net_base_finite_receiver_read(
+    receiver: &mut FiniteReceiverHead,
+    storage: &[u8],
+    into: &mut [u8],
+) -> usize
+    ensures count { (IsSoundPlace (length storage.now) receiver.old.receiver.place) × (next_of receiver.old < 2 ^
+        64) → result ≡ min (length into.old) receiver.old.receiver.place.length }
+    ensures into { let queued = queue (ring_at storage.now receiver.old.receiver.place) in (IsSoundPlace (length
+        storage.now) receiver.old.receiver.place) × (next_of receiver.old < 2 ^ 64) → into.new ≡ take (length
+        into.old) queued ++ drop (length queued) into.old }
+    ensures sound { (IsSoundPlace (length storage.now) receiver.old.receiver.place) × (next_of receiver.old < 2 ^
+        64) → (runs : List (ℕ × ℕ)) → HasSoundFinite receiver.old storage.now runs → HasSoundFinite receiver.new
+        storage.now runs }
+    ensures state { (IsSoundPlace (length storage.now) receiver.old.receiver.place) × (next_of receiver.old < 2 ^
+        64) → (runs : List (ℕ × ℕ)) → HasSoundFinite receiver.old storage.now runs → finite_of receiver.new
+        storage.now runs ≡ finite_after_read (finite_of receiver.old storage.now runs) (length into.old) }
+    ensures receives { (IsSoundPlace (length storage.now) receiver.old.receiver.place) × (next_of receiver.old < 2 ^
+        64) → (runs : List (ℕ × ℕ)) → HasSoundFinite receiver.old storage.now runs → (f : ℕ) (x : List ℕ) →
+        ReceivesFinite f x (finite_of receiver.old storage.now runs) → ReceivesFinite f x (finite_of receiver.new
+        storage.now runs) × (take result into.new ≡ slice_range x receiver.old.receiver.count_read
+        (receiver.old.receiver.count_read + result)) }
+    ensures refused { ((IsSoundPlace (length storage.now) receiver.old.receiver.place) × (next_of receiver.old < 2 ^
+        64) → ⊥) → (result ≡ 2 ^ 64 - 1) × (receiver.new ≡ receiver.old) × («into».new ≡ «into».old) }
+{
+    if !receiver.receiver.place.is_sound(storage.len()) || !has_next(&receiver.receiver) {
+        return NET_BASE_NONE;
+    }
+    receiver.read(storage, into)
+}
+
+/// Returns how many bytes of a segment of `len` bytes at `position` would be new: those in the free
+/// window and below the end whose positions are not held.
+///
+/// It is refused if `place` isn't that of a ring of `storage.len()` bytes, `next` doesn't fit 64
+/// bits, or `held.used` is above `runs.len()`, or if the segment and an end after it don't fit 64
+/// bits: `NET_BASE_NONE`.
+///
+/// # Requires
+///
+/// Head, storage and runs are sound, as `net_base_finite_receiver_is_sound` tests.
+#[unsafe(no_mangle)]
+pub extern "C" fn net_base_finite_receiver_count_new(
+    receiver: &FiniteReceiverHead,
+    storage: &[u8],
+    runs: &[Run],
+    position: u64,
+    len: usize,
+) -> usize
+    requires sound { IsPlausible (length storage.now) (length runs.now) receiver.now.receiver → HasSoundFinite
+        receiver.now storage.now runs.now }
+    ensures value { (IsPlausible (length storage.now) (length runs.now) receiver.now.receiver) × (position + len <
+        no_end) → result ≡ new_count (receiver_of receiver.now.receiver storage.now runs.now) position (min len
+        (receiver.now.end - position)) }
+    ensures refused { ((IsPlausible (length storage.now) (length runs.now) receiver.now.receiver) × (position + len
+        < no_end) → ⊥) → result ≡ 2 ^ 64 - 1 }
+{
+    if !is_plausible(&receiver.receiver, storage.len(), runs.len()) || !FiniteReceiverHead::fits(position, len) {
+        return NET_BASE_NONE;
+    }
+    receiver.count_new(storage, runs, position, len)
+}

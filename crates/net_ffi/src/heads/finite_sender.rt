@@ -1,0 +1,220 @@
+//! Senders of a stream that ends. Once one is closed nothing can be written, and the end has the
+//! number after the last byte's: it is sent and acknowledged as a byte is, and takes no room.
+//!
+//! A head of zeros, but for `sender.first_unacknowledged` and `sent`, which are equal then, is new.
+//! Where bytes are tells `net_base_sender_peek_at` of `sender`.
+// Written by tools/ffi.py.
+ghost use Rattle.net_receiver.specs.Finite.{no_end};
+ghost use Rattle.net_receiver.specs.FiniteSender.{IsSoundFiniteSender, acknowledged_below, closed_sender, finite_room, finite_sender_of, has_end_at, with_bytes};
+ghost use Rattle.net_receiver.specs.SenderState.{Sends};
+ghost use Rattle.std.specs.Prelude.{IsFalse, IsTrue, List, if◌then◌else◌, length, max, min, take, ℕ, ◌++◌, ◌+◌, ◌-◌, ◌==◌, ◌^◌, ◌↔◌, ◌≡◌, ◌≤◌};
+
+use crate::refusals::{NET_BASE_MISSING, NET_BASE_NONE, NET_BASE_PRESENT, NET_BASE_REFUSED};
+use crate::results::{presence_of};
+use net_receiver::{FiniteSenderHead};
+
+/// Returns whether this is the head of a sender of a stream that ends over a storage of `capacity`
+/// bytes.
+#[unsafe(no_mangle)]
+pub extern "C" fn net_base_finite_sender_is_sound(
+    sender: &FiniteSenderHead,
+    capacity: usize,
+) -> bool
+    ensures { IsTrue result ↔ IsSoundFiniteSender capacity sender.now }
+{
+    sender.is_sound(capacity)
+}
+
+/// Writes the first number that isn't acknowledged to `number`, and returns true.
+///
+/// It is refused if `sender` isn't that of a sender over `capacity` bytes: false, and nothing
+/// changes.
+#[unsafe(no_mangle)]
+pub extern "C" fn net_base_finite_sender_first_number(
+    sender: &FiniteSenderHead,
+    capacity: usize,
+    number: &mut u64,
+) -> bool
+    ensures done { IsTrue result ↔ (IsSoundFiniteSender capacity sender.now) }
+    ensures value { IsTrue result → number.new ≡ sender.now.sender.first_unacknowledged + sender.now.finished }
+    ensures unchanged { IsFalse result → (number.new ≡ number.old) }
+{
+    if !sender.is_sound(capacity) {
+        return false;
+    }
+    *number = sender.first_number(capacity);
+    true
+}
+
+/// Writes the number after the last byte's, and after the end's once the sender is closed, to
+/// `number`, and returns true.
+///
+/// It is refused if `sender` isn't that of a sender over `capacity` bytes: false, and nothing
+/// changes.
+#[unsafe(no_mangle)]
+pub extern "C" fn net_base_finite_sender_numbers_end(
+    sender: &FiniteSenderHead,
+    capacity: usize,
+    number: &mut u64,
+) -> bool
+    ensures done { IsTrue result ↔ (IsSoundFiniteSender capacity sender.now) }
+    ensures value { IsTrue result → number.new ≡ sender.now.sender.first_unacknowledged +
+        sender.now.sender.place.length + sender.now.closed }
+    ensures unchanged { IsFalse result → (number.new ≡ number.old) }
+{
+    if !sender.is_sound(capacity) {
+        return false;
+    }
+    *number = sender.numbers_end(capacity);
+    true
+}
+
+/// Enqueues the first of these bytes, as many as have room, and returns how many: none once the
+/// sender is closed.
+///
+/// It is refused if `sender` isn't that of a sender over `storage.len()` bytes: `NET_BASE_NONE`,
+/// and nothing changes.
+#[unsafe(no_mangle)]
+pub extern "C" fn net_base_finite_sender_write(
+    sender: &mut FiniteSenderHead,
+    storage: &mut [u8],
+    bytes: &[u8],
+) -> usize
+    ensures sound { IsSoundFiniteSender (length storage.old) sender.old → IsSoundFiniteSender (length storage.old)
+        sender.new }
+    ensures count { IsSoundFiniteSender (length storage.old) sender.old → (blocks : List (ℕ × ℕ)) → result ≡ min
+        (length bytes.now) (finite_room (finite_sender_of sender.old storage.old blocks)) }
+    ensures state { IsSoundFiniteSender (length storage.old) sender.old → (blocks : List (ℕ × ℕ)) → finite_sender_of
+        sender.new storage.new blocks ≡ with_bytes (finite_sender_of sender.old storage.old blocks) (take result
+        bytes.now) }
+    ensures sends { IsSoundFiniteSender (length storage.old) sender.old → (blocks : List (ℕ × ℕ)) (f : ℕ) (w : List
+        ℕ) → Sends f w (finite_sender_of sender.old storage.old blocks).sender → Sends f (w ++ take result
+        bytes.now) (finite_sender_of sender.new storage.new blocks).sender }
+    ensures refused { (IsSoundFiniteSender (length storage.old) sender.old → ⊥) → (result ≡ 2 ^ 64 - 1) ×
+        (sender.new ≡ sender.old) × (storage.new ≡ storage.old) }
+{
+    if !sender.is_sound(storage.len()) {
+        return NET_BASE_NONE;
+    }
+    sender.write(storage, bytes)
+}
+
+/// Ends the stream after what was written, and returns true; false, and nothing changes, if there
+/// is no number left for the end. A second call changes nothing.
+///
+/// It is refused if `sender` isn't that of a sender over `capacity` bytes: false, and nothing
+/// changes.
+#[unsafe(no_mangle)]
+pub extern "C" fn net_base_finite_sender_close(
+    sender: &mut FiniteSenderHead,
+    capacity: usize,
+) -> bool
+    ensures sound { IsSoundFiniteSender capacity sender.old → IsSoundFiniteSender capacity sender.new }
+    ensures accepted { IsSoundFiniteSender capacity sender.old → (IsTrue result ↔ (sender.new.closed ≡ 1)) }
+    ensures refused { IsSoundFiniteSender capacity sender.old → (IsFalse result ↔
+        (sender.old.sender.first_unacknowledged + sender.old.sender.place.length ≡ no_end)) }
+    ensures state { IsSoundFiniteSender capacity sender.old → (storage : List ℕ) (blocks : List (ℕ × ℕ)) → length
+        storage ≡ capacity → finite_sender_of sender.new storage blocks ≡ closed_sender (finite_sender_of sender.old
+        storage blocks) }
+    ensures unsound { (IsSoundFiniteSender capacity sender.old → ⊥) → (IsFalse result) × (sender.new ≡ sender.old) }
+{
+    if !sender.is_sound(capacity) {
+        return false;
+    }
+    sender.close(capacity)
+}
+
+/// Returns `NET_BASE_PRESENT` if a segment whose bytes end at `position` ends the stream, since the
+/// sender is closed and that is the position after the last byte. Otherwise `NET_BASE_MISSING`.
+///
+/// It is refused if `sender` isn't that of a sender over `capacity` bytes: `NET_BASE_REFUSED`.
+#[unsafe(no_mangle)]
+pub extern "C" fn net_base_finite_sender_has_end_at(
+    sender: &FiniteSenderHead,
+    capacity: usize,
+    position: u64,
+) -> u32
+    ensures state { IsSoundFiniteSender capacity sender.now → (storage : List ℕ) (blocks : List (ℕ × ℕ)) → length
+        storage ≡ capacity → result ≡ (if has_end_at (finite_sender_of sender.now storage blocks) position then
+        NET_BASE_PRESENT else NET_BASE_MISSING) }
+    ensures refused { (IsSoundFiniteSender capacity sender.now → ⊥) → result ≡ NET_BASE_REFUSED }
+{
+    if !sender.is_sound(capacity) {
+        return NET_BASE_REFUSED;
+    }
+    presence_of(sender.has_end_at(capacity, position))
+}
+
+/// Notes that all numbers below `position` were sent, the end's among them if `position` is past
+/// it, and returns true; false, and nothing changes, if `position` is above the number after the
+/// last one.
+///
+/// It is refused if `sender` isn't that of a sender over `capacity` bytes: false, and nothing
+/// changes.
+#[unsafe(no_mangle)]
+pub extern "C" fn net_base_finite_sender_mark_sent(
+    sender: &mut FiniteSenderHead,
+    capacity: usize,
+    position: u64,
+) -> bool
+    ensures sound { IsSoundFiniteSender capacity sender.old → IsSoundFiniteSender capacity sender.new }
+    ensures accepted { IsSoundFiniteSender capacity sender.old → (IsTrue result ↔ (position ≤
+        sender.old.sender.first_unacknowledged + sender.old.sender.place.length + sender.old.closed)) }
+    ensures mark { IsTrue result → sender.new ≡ record sender.old { sent = max sender.old.sent position } }
+    ensures refused { IsFalse result → sender.new ≡ sender.old }
+    ensures unsound { (IsSoundFiniteSender capacity sender.old → ⊥) → (IsFalse result) × (sender.new ≡ sender.old) }
+{
+    if !sender.is_sound(capacity) {
+        return false;
+    }
+    sender.mark_sent(capacity, position)
+}
+
+/// Drops the bytes below `next`, notes that the end is acknowledged if `next` is past it, and
+/// returns true; false, and nothing changes, if `next` is below the first number that isn't
+/// acknowledged or above what was sent.
+///
+/// It is refused if `sender` isn't that of a sender over `capacity` bytes: false, and nothing
+/// changes.
+#[unsafe(no_mangle)]
+pub extern "C" fn net_base_finite_sender_acknowledge(
+    sender: &mut FiniteSenderHead,
+    capacity: usize,
+    next: u64,
+) -> bool
+    ensures sound { IsSoundFiniteSender capacity sender.old → IsSoundFiniteSender capacity sender.new }
+    ensures accepted { IsSoundFiniteSender capacity sender.old → (IsTrue result ↔
+        ((sender.old.sender.first_unacknowledged + sender.old.finished ≤ next) × (next ≤ sender.old.sent))) }
+    ensures first { IsTrue result → sender.new.sender.first_unacknowledged + sender.new.finished ≡ next }
+    ensures state { IsTrue result → (storage : List ℕ) (old new : List (ℕ × ℕ)) → length storage ≡ capacity →
+        finite_sender_of sender.new storage new ≡ acknowledged_below (finite_sender_of sender.old storage old) next
+        new }
+    ensures sends { (storage : List ℕ) (old new : List (ℕ × ℕ)) → length storage ≡ capacity → (f : ℕ) (w : List ℕ) →
+        Sends f w (finite_sender_of sender.old storage old).sender → Sends f w (finite_sender_of sender.new storage
+        new).sender }
+    ensures refused { IsFalse result → sender.new ≡ sender.old }
+    ensures unsound { (IsSoundFiniteSender capacity sender.old → ⊥) → (IsFalse result) × (sender.new ≡ sender.old) }
+{
+    if !sender.is_sound(capacity) {
+        return false;
+    }
+    sender.acknowledge(capacity, next)
+}
+
+/// Returns whether the sender is closed.
+#[unsafe(no_mangle)]
+pub extern "C" fn net_base_finite_sender_is_closed(sender: &FiniteSenderHead) -> bool
+    ensures { result ≡ (sender.now.closed == 1) }
+{
+    sender.is_closed()
+}
+
+/// Returns whether all bytes and the end are acknowledged.
+#[unsafe(no_mangle)]
+pub extern "C" fn net_base_finite_sender_is_closed_and_acknowledged(
+    sender: &FiniteSenderHead,
+) -> bool
+    ensures { result ≡ (sender.now.finished == 1) }
+{
+    sender.is_closed_and_acknowledged()
+}
