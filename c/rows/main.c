@@ -9,7 +9,8 @@
 #include <string.h>
 
 static const struct subject *const SUBJECTS[] = {
-    &RING, &CELLS, &PACKETS, &ASSEMBLER, &RECEIVER, &SENDER, &FRAGMENTS, &SCOREBOARD, &RAND, &TIMES};
+    &RING, &CELLS, &PACKETS, &ASSEMBLER, &RECEIVER, &SENDER, &FRAGMENTS, &SCOREBOARD, &ENDING, &CLOSING,
+    &RAND, &TIMES};
 enum { SUBJECT_COUNT = sizeof SUBJECTS / sizeof SUBJECTS[0], MOST_BLOCKS = 8192 };
 
 static char line[MOST_TEXT], wanted[MOST_TEXT], reply[MOST_TEXT], first[MOST_TEXT];

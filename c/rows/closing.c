@@ -1,0 +1,59 @@
+/* Senders of a stream that ends. */
+#include "rows.h"
+
+static struct net_base_finite_sender head;
+static uint64_t capacity, first_position;
+static uint8_t *storage;
+
+static void begin(const struct call *first) {
+    capacity = first->numbers[0];
+    first_position = first->numbers[1];
+    storage = pattern(capacity, 0);
+    head = (struct net_base_finite_sender){{first_position, {0, 0}}, 0, 0, first_position};
+}
+
+static struct net_base_span queued_at(uint64_t position, uint64_t most) {
+    return net_base_sender_peek_at(&head.sender, capacity, position, most);
+}
+
+/* The first number that isn't acknowledged, the one after the last, and the one after the last that was sent, counted from
+ * the first; how many bytes are queued; 0, 1 once it is closed, and 2 once the end is acknowledged; the digest of the queue.
+ */
+static void show(void) {
+    uint64_t first = 0, end = 0;
+    if (!net_base_finite_sender_first_number(&head, capacity, &first)) say("no number ");
+    if (!net_base_finite_sender_numbers_end(&head, capacity, &end)) say("no end ");
+    struct net_base_span queue = queued_at(head.sender.first_unacknowledged, UINT64_MAX);
+    uint64_t counts[] = {first - first_position, end - first_position, head.sent - first_position, queue.count,
+        net_base_finite_sender_is_closed(&head) + net_base_finite_sender_is_closed_and_acknowledged(&head)};
+    for (int i = 0; i < 5; i++) {
+        say_number(counts[i]);
+        say(" ");
+    }
+    uint64_t sum = mix_bytes(START, storage + queue.from, queue.contiguous);
+    say_digest(mix_bytes(sum, storage, queue.count - queue.contiguous));
+}
+
+static bool make(const struct call *call) {
+    uint64_t one = call->numbers[0], two = call->numbers[1];
+    if (is(call, "write")) {
+        say_number(net_base_finite_sender_write(&head, storage, capacity, pattern(one, two), one));
+    } else if (is(call, "close")) {
+        say_truth(net_base_finite_sender_close(&head, capacity));
+    } else if (is(call, "mark_sent")) {
+        say_truth(net_base_finite_sender_mark_sent(&head, capacity, one));
+    } else if (is(call, "acknowledge")) {
+        say_truth(net_base_finite_sender_acknowledge(&head, capacity, one));
+    } else if (is(call, "peek_at")) {
+        struct net_base_span span = queued_at(one, two);
+        say_bytes(storage + span.from, span.contiguous);
+        say(" ");
+        uint64_t end = one + span.contiguous;
+        say_truth(net_base_finite_sender_has_end_at(&head, capacity, end) == NET_BASE_PRESENT);
+    } else {
+        return false;
+    }
+    return net_base_finite_sender_is_sound(&head, capacity);
+}
+
+const struct subject CLOSING = {"closing", begin, make, show};
