@@ -1,19 +1,31 @@
 -- A head and runs that are those of an assembler: its runs as a list, and their set.
-use Rattle.std.proofs.Common.{◌≡◌, ℕ, ◌+◌, ◌-◌, ◌<◌, ◌≤◌, ◌^◌, List, [], ◌∷◌, length, take, drop, set, get_or, max, refl, sym, ap, subst, ◌∙◌, arith}
+use Rattle.std.proofs.Common.{◌≡◌, ℕ, ◌+◌, ◌-◌, ◌<◌, ◌≤◌, ◌^◌, List, [], ◌∷◌, length, take, drop, set, get_or}
+use Rattle.std.proofs.Common.{max, refl, sym, ap, subst, ◌∙◌, arith}
 use Rattle.std.specs.Prelude.{Result, Ok, Err, IsOk, IsErr}
 use Rattle.std.proofs.lemmas.List.{length-set, take_more_set, length-map, length-take-le, length-drop, get_or-take}
 use Rattle.net_assembler.specs.declared.assembler.error.TooManyHolesError.{TooManyHolesError}
 use Rattle.net_assembler.specs.declared.assembler.head.AssemblerHead.{AssemblerHead}
 use Rattle.net_assembler.specs.AssemblerLaws.{Adds, AddsThenRemovesFront}
-use Rattle.net_assembler.specs.Positions.{Positions, front, holes, holes_before, runs, runs_shifted_up, with_range, maximal_runs, shift_down}
-use Rattle.net_assembler.specs.RunLists.{start_at, end_at, AreRuns, HasSoundRuns, StartsAtZero, FitsFrom, used_runs, runs_of, set_of, set_of_runs, runs_with_range, runs_shifted_down}
+use Rattle.net_assembler.specs.Positions.{Positions, front, holes, holes_before, runs, runs_shifted_up}
+use Rattle.net_assembler.specs.Positions.{with_range, maximal_runs, shift_down}
+use Rattle.net_assembler.specs.RunLists.{start_at, end_at, AreRuns, HasSoundRuns, StartsAtZero, FitsFrom}
+use Rattle.net_assembler.specs.RunLists.{used_runs, runs_of, set_of, set_of_runs, runs_with_range}
+use Rattle.net_assembler.specs.RunLists.{runs_shifted_down}
 use Rattle.std.proofs.lemmas.Bool.{cases_lt}
 use Rattle.std.proofs.Math.Seq.{take-set-lt}
 use Rattle.net_assembler.proofs.MaximalRuns.{one_run_more}
 use Rattle.net_assembler.proofs.Positions.{either, too_many}
-use Rattle.net_assembler.proofs.Runs.{rising-runs_with_range, set-shifted_down, front_of_runs, front-set_of_runs, runs-set_of_runs, maximal_runs-set_of_runs, set_of_runs_injective, set-runs_with_range, runs-runs_with_range}
-use Rattle.net_assembler.proofs.RunLists.{front_none, shift_down-zero, Completed, completed_at, at_run, apart, front_of_first, with_range-none, top_of}
-use Rattle.net_assembler.proofs.ShiftedRuns.{end_at-up, top_before, down-zero, start_at-up, alone-runs_with_range, first-runs_with_range, fits-runs_with_range, fits-up, up-runs_with_range, up-up, zero-runs_with_range, length-up, drop-up, runs-up, down-up, fits-at, start-up, first_at, get_or-up, up-injective, fits-less, rising-cut, fits-cut, down-cut}
+use Rattle.net_assembler.proofs.Runs.{rising-runs_with_range, set-shifted_down, front_of_runs}
+use Rattle.net_assembler.proofs.Runs.{front-set_of_runs, runs-set_of_runs, maximal_runs-set_of_runs}
+use Rattle.net_assembler.proofs.Runs.{set_of_runs_injective, set-runs_with_range, runs-runs_with_range}
+use Rattle.net_assembler.proofs.RunLists.{front_none, shift_down-zero, Completed, completed_at, at_run, apart}
+use Rattle.net_assembler.proofs.RunLists.{front_of_first, with_range-none, top_of}
+use Rattle.net_assembler.proofs.ShiftedRuns.{end_at-up, top_before, down-zero, start_at-up}
+use Rattle.net_assembler.proofs.ShiftedRuns.{alone-runs_with_range, first-runs_with_range}
+use Rattle.net_assembler.proofs.ShiftedRuns.{fits-runs_with_range, fits-up, up-runs_with_range, up-up}
+use Rattle.net_assembler.proofs.ShiftedRuns.{zero-runs_with_range, length-up, drop-up, runs-up, down-up}
+use Rattle.net_assembler.proofs.ShiftedRuns.{fits-at, start-up, first_at, get_or-up, up-injective, fits-less}
+use Rattle.net_assembler.proofs.ShiftedRuns.{rising-cut, fits-cut, down-cut}
 
 module _ (h : AssemblerHead) (xs : List (ℕ × ℕ)) (s : HasSoundRuns h xs) where
   pub length-used_runs : length (used_runs h xs) ≡ h.used

@@ -1,16 +1,24 @@
 -- The list of maximal runs of a set, for every set.
-use Rattle.std.proofs.Common.{◌≡◌, ℕ, zero, suc, ◌+◌, ◌-◌, ◌<◌, ◌≤◌, Bool, true, false, cond, ◌&&◌, ◌||◌, ◌==◌, List, [], ◌∷◌, length, max, min, map, filter, nat_le, nat_lt, refl, sym, ap, subst, ◌∙◌, arith}
+use Rattle.std.proofs.Common.{◌≡◌, ℕ, zero, suc, ◌+◌, ◌-◌, ◌<◌, ◌≤◌, Bool, true, false, cond, ◌&&◌, ◌||◌}
+use Rattle.std.proofs.Common.{◌==◌, List, [], ◌∷◌, length, max, min, map, filter, nat_le, nat_lt, refl, sym}
+use Rattle.std.proofs.Common.{ap, subst, ◌∙◌, arith}
 use Rattle.std.specs.Prelude.{All, AllPairs, count_by, Some, None, ◌↔◌}
 use Rattle.std.specs.List.{AllByRecursion, slice_get}
-use Rattle.std.proofs.lemmas.Bool.{false≢true, eqb-true, cases_eq, cases_lt, cases_Bool, cond_both, or_cases, or_left, or_right, false_from_ne_true, true_from_ne_false}
+use Rattle.std.proofs.lemmas.Bool.{false≢true, eqb-true, cases_eq, cases_lt, cases_Bool, cond_both, or_cases}
+use Rattle.std.proofs.lemmas.Bool.{or_left, or_right, false_from_ne_true, true_from_ne_false}
 use Rattle.std.proofs.lemmas.Bool.Decides.{nat_tests, same_from_decides}
 use Rattle.std.proofs.lemmas.List.Elements.{All-from_recursion, All-head, All-tail}
 use Rattle.std.proofs.lemmas.Option.{slice_get_past, slice_get_within, slice_get-get_or, get_or_from_slice_get}
 use Rattle.std.proofs.lemmas.List.Kept.{AllPairs-cons}
 use Rattle.std.proofs.lemmas.List.Sums.{sum_by-cons}
-use Rattle.net_assembler.specs.Positions.{Positions, contains, positions, begins_run, run_starts, first_missing, maximal_runs, runs, with_range, lies_in, IsMaximalRun, AreMaximalRuns}
+use Rattle.net_assembler.specs.Positions.{Positions, contains, positions, begins_run, run_starts}
+use Rattle.net_assembler.specs.Positions.{first_missing, maximal_runs, runs, with_range, lies_in}
+use Rattle.net_assembler.specs.Positions.{IsMaximalRun, AreMaximalRuns}
 use Rattle.net_assembler.specs.RunLists.{IsRising, runs_with_range, set_of_runs}
-use Rattle.net_assembler.proofs.Positions.{has, contains-positions, same_positions, Rises, positions_rise, rises-has, has_head, either, first_missing-misses, first_missing-has, first_missing-le, begins-true, begins-false, runs-maximal_runs}
+use Rattle.net_assembler.proofs.Positions.{has, contains-positions, same_positions, Rises, positions_rise}
+use Rattle.net_assembler.proofs.Positions.{rises-has, has_head, either, first_missing-misses}
+use Rattle.net_assembler.proofs.Positions.{first_missing-has, first_missing-le, begins-true, begins-false}
+use Rattle.net_assembler.proofs.Positions.{runs-maximal_runs}
 use Rattle.net_assembler.proofs.Runs.{in_runs, not_in_runs, rising_from, maximal_runs-set_of_runs, runs-runs_with_range}
 use Rattle.net_assembler.proofs.RunLists.{with_range-none}
 

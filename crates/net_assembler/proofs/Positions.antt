@@ -1,16 +1,24 @@
 -- What membership, runs and shifts of a set of positions come to, whatever holds the set.
-use Rattle.std.proofs.Common.{◌≡◌, ℕ, zero, suc, ◌+◌, ◌-◌, ◌<◌, ◌≤◌, Bool, true, false, cond, not, ◌&&◌, ◌||◌, ◌==◌, List, [], ◌∷◌, ◌++◌, map, filter, length, nat_le, nat_lt, refl, sym, ap, subst, ◌∙◌, ◌⊎◌, inl, inr, arith, Decides, le-leb}
-use Rattle.std.proofs.lemmas.Bool.{false≢true, eqb-true, eq-eqb, cases_lt, cases_eq, cases_Bool, lt-leb, and_parts, and_right, or_cases, or_left, or_right, cond_both, false_from_ne_true}
+use Rattle.std.proofs.Common.{◌≡◌, ℕ, zero, suc, ◌+◌, ◌-◌, ◌<◌, ◌≤◌, Bool, true, false, cond, not, ◌&&◌, ◌||◌}
+use Rattle.std.proofs.Common.{◌==◌, List, [], ◌∷◌, ◌++◌, map, filter, length, nat_le, nat_lt, refl, sym, ap}
+use Rattle.std.proofs.Common.{subst, ◌∙◌, ◌⊎◌, inl, inr, arith, Decides, le-leb}
+use Rattle.std.proofs.lemmas.Bool.{false≢true, eqb-true, eq-eqb, cases_lt, cases_eq, cases_Bool, lt-leb}
+use Rattle.std.proofs.lemmas.Bool.{and_parts, and_right, or_cases, or_left, or_right, cond_both}
+use Rattle.std.proofs.lemmas.Bool.{false_from_ne_true}
 use Rattle.std.proofs.lemmas.List.{length-map}
 use Rattle.std.specs.List.{range_with_len, list_any}
 use Rattle.std.specs.Prelude.{T, is_some, Option, Some, None}
 use Rattle.std.specs.Ordering.{nat_cmp, eq_by_cmp, is_lt}
 use Rattle.std.specs.Cmp.{nat_cmp_total, unsigned_tied}
-use Rattle.std.specs.FinMap.{entries, contains_key-keys, get-from_entries, get-empty, same_map, nat_cmp-IsAntisymmetric, entries_sorted}
+use Rattle.std.specs.FinMap.{entries, contains_key-keys, get-from_entries, get-empty, same_map}
+use Rattle.std.specs.FinMap.{nat_cmp-IsAntisymmetric, entries_sorted}
 use Rattle.std.specs.FinMap.Entries.{is_sorted, below_all, is_some-find}
 use Rattle.std.proofs.lemmas.Bool.Decides.{nat_tests, Decides-and, Decides-ltb}
 use Rattle.net_assembler.specs.Assembler.{MakesTooManyRuns, makes_too_many_runs}
-use Rattle.net_assembler.specs.Positions.{Positions, contains, positions, set_of_list, nothing, with_range, begins_run, run_starts, runs, maximal_runs, runs_shifted_up, shift_down, shift_up, bound_of, missing_within, first_missing, are_same}
+use Rattle.net_assembler.specs.Positions.{Positions, contains, positions, set_of_list, nothing, with_range}
+use Rattle.net_assembler.specs.Positions.{begins_run, run_starts, runs, maximal_runs, runs_shifted_up}
+use Rattle.net_assembler.specs.Positions.{shift_down, shift_up, bound_of, missing_within, first_missing}
+use Rattle.net_assembler.specs.Positions.{are_same}
 use Rattle.std.specs.Cmp.Lexicographic.{bytes_decides}
 
 -- membership in a list

@@ -1,16 +1,25 @@
 -- Where a range joins a list of runs.
-use Rattle.std.proofs.Common.{◌≡◌, ℕ, zero, suc, ◌+◌, ◌-◌, ◌*◌, ◌<◌, ◌≤◌, ◌^◌, max, min, true, false, cond, ◌&&◌, ◌||◌, ◌==◌, List, [], ◌∷◌, ◌++◌, length, take, drop, set, get_or, nat_le, nat_lt, refl, sym, ap, subst, ◌∙◌, arith, ◌≢◌}
+use Rattle.std.proofs.Common.{◌≡◌, ℕ, zero, suc, ◌+◌, ◌-◌, ◌*◌, ◌<◌, ◌≤◌, ◌^◌, max, min, true, false, cond}
+use Rattle.std.proofs.Common.{◌&&◌, ◌||◌, ◌==◌, List, [], ◌∷◌, ◌++◌, length, take, drop, set, get_or, nat_le}
+use Rattle.std.proofs.Common.{nat_lt, refl, sym, ap, subst, ◌∙◌, arith, ◌≢◌}
 use Rattle.std.proofs.Math.Bool.{or-false}
 use Rattle.std.proofs.Math.Nat.{pow-suc}
 use Rattle.std.proofs.Math.Seq.{take-set-lt}
-use Rattle.std.proofs.lemmas.List.{get_or-drop, get_or_read_under, drop_all, append_assoc, length-append, length-take-le, length-drop, take_more_set, drop-set-lt, take-append-drop, take-take, get_or-take}
+use Rattle.std.proofs.lemmas.List.{get_or-drop, get_or_read_under, drop_all, append_assoc, length-append}
+use Rattle.std.proofs.lemmas.List.{length-take-le, length-drop, take_more_set, drop-set-lt, take-append-drop}
+use Rattle.std.proofs.lemmas.List.{take-take, get_or-take}
 use Rattle.std.proofs.lemmas.Bool.{cases_lt, cases_eq, eq-eqb, ne_eqb, lt-ltb, le-ltb, cond-true, cond-false}
 use Rattle.std.proofs.lemmas.Bool.Decides.{nat_tests}
 use Rattle.net_assembler.proofs.Moves.{rest_at}
-use Rattle.net_assembler.specs.Positions.{Positions, contains, nothing, front, with_range, runs, shift_down, set_of_list}
-use Rattle.net_assembler.specs.RunLists.{start_at, end_at, IsRising, AreRuns, runs_with_range, runs_shifted_down, set_of_runs}
+use Rattle.net_assembler.specs.Positions.{Positions, contains, nothing, front, with_range, runs, shift_down}
+use Rattle.net_assembler.specs.Positions.{set_of_list}
+use Rattle.net_assembler.specs.RunLists.{start_at, end_at, IsRising, AreRuns, runs_with_range}
+use Rattle.net_assembler.specs.RunLists.{runs_shifted_down, set_of_runs}
 use Rattle.net_assembler.proofs.Positions.{either, same_positions, contains-with_range, contains-shift_down}
-use Rattle.net_assembler.proofs.Runs.{in_runs, in_first, past_first, not_in_runs, front_of_runs, step_before, step_after, step_meets, rising-runs_with_range, front-set_of_runs, set_of_runs_injective, set-without_front, runs-set_of_runs, set-runs_with_range}
+use Rattle.net_assembler.proofs.Runs.{in_runs, in_first, past_first, not_in_runs, front_of_runs, step_before}
+use Rattle.net_assembler.proofs.Runs.{step_after, step_meets, rising-runs_with_range, front-set_of_runs}
+use Rattle.net_assembler.proofs.Runs.{set_of_runs_injective, set-without_front, runs-set_of_runs}
+use Rattle.net_assembler.proofs.Runs.{set-runs_with_range}
 
 -- what is read at an index, where no default is given
 pub read : (xs : List (ℕ × ℕ)) (k : ℕ) (r : ℕ × ℕ) → k < length xs → r ≡ get_or xs k r → r ≡ get_or xs k (0, 0)

@@ -1,12 +1,19 @@
 -- Rising lists of runs, and the sets of positions that they represent.
-use Rattle.std.proofs.Common.{◌≡◌, ℕ, zero, suc, ◌+◌, ◌-◌, ◌<◌, ◌≤◌, max, min, Bool, true, false, cond, ◌&&◌, ◌||◌, List, [], ◌∷◌, ◌++◌, map, filter, length, get_or, drop, nat_le, nat_lt, nat_eq, refl, sym, ap, subst, ◌∙◌, arith}
+use Rattle.std.proofs.Common.{◌≡◌, ℕ, zero, suc, ◌+◌, ◌-◌, ◌<◌, ◌≤◌, max, min, Bool, true, false, cond, ◌&&◌}
+use Rattle.std.proofs.Common.{◌||◌, List, [], ◌∷◌, ◌++◌, map, filter, length, get_or, drop, nat_le, nat_lt}
+use Rattle.std.proofs.Common.{nat_eq, refl, sym, ap, subst, ◌∙◌, arith}
 use Rattle.std.proofs.Math.Bool.{or_assoc, or_comm, or-false}
-use Rattle.std.proofs.lemmas.Bool.{false≢true, eq-eqb, cases_lt, cases_eq, lt-ltb, le-ltb, ne_eqb, or_cases, cond-true, cond-false, false_from_ne_true}
+use Rattle.std.proofs.lemmas.Bool.{false≢true, eq-eqb, cases_lt, cases_eq, lt-ltb, le-ltb, ne_eqb, or_cases}
+use Rattle.std.proofs.lemmas.Bool.{cond-true, cond-false, false_from_ne_true}
 use Rattle.std.specs.List.{range_with_len}
 use Rattle.std.proofs.lemmas.Bool.Decides.{nat_tests}
-use Rattle.net_assembler.specs.Positions.{Positions, contains, positions, with_range, begins_run, run_starts, runs, first_missing, front, maximal_runs, shift_down}
+use Rattle.net_assembler.specs.Positions.{Positions, contains, positions, with_range, begins_run, run_starts}
+use Rattle.net_assembler.specs.Positions.{runs, first_missing, front, maximal_runs, shift_down}
 use Rattle.net_assembler.specs.RunLists.{IsRising, run_positions, set_of_runs, runs_with_range, runs_shifted_down}
-use Rattle.net_assembler.proofs.Positions.{has, has-append, has-range_with_len, contains-set_of_list, contains-with_range, same_positions, Rises, positions-set_of_list, either, first_missing-is, begins-true, begins-false, contains-shift_down, runs-maximal_runs}
+use Rattle.net_assembler.proofs.Positions.{has, has-append, has-range_with_len, contains-set_of_list}
+use Rattle.net_assembler.proofs.Positions.{contains-with_range, same_positions, Rises, positions-set_of_list}
+use Rattle.net_assembler.proofs.Positions.{either, first_missing-is, begins-true, begins-false}
+use Rattle.net_assembler.proofs.Positions.{contains-shift_down, runs-maximal_runs}
 
 -- whether a position is in one of the runs
 abbrev pub in_runs : List (ℕ × ℕ) → ℕ → Bool

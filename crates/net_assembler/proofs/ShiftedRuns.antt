@@ -1,10 +1,14 @@
 -- Runs that are counted from where the first of them starts, and the sets that they represent.
-use Rattle.std.proofs.Common.{◌≡◌, ℕ, zero, suc, ◌+◌, ◌-◌, ◌<◌, ◌≤◌, ◌^◌, max, min, false, ◌&&◌, ◌||◌, List, [], ◌∷◌, ◌++◌, length, map, take, drop, set, get_or, nat_le, nat_lt, refl, sym, ap, subst, ◌∙◌, arith}
-use Rattle.std.proofs.lemmas.List.{drop-map, length-map, length-take, length-take-le, get_or-take, get_or-map, map-id, nil_from_length}
+use Rattle.std.proofs.Common.{◌≡◌, ℕ, zero, suc, ◌+◌, ◌-◌, ◌<◌, ◌≤◌, ◌^◌, max, min, false, ◌&&◌, ◌||◌, List}
+use Rattle.std.proofs.Common.{[], ◌∷◌, ◌++◌, length, map, take, drop, set, get_or, nat_le, nat_lt, refl, sym}
+use Rattle.std.proofs.Common.{ap, subst, ◌∙◌, arith}
+use Rattle.std.proofs.lemmas.List.{drop-map, length-map, length-take, length-take-le, get_or-take, get_or-map}
+use Rattle.std.proofs.lemmas.List.{map-id, nil_from_length}
 use Rattle.std.proofs.lemmas.Bool.{cases_lt, cond_both}
 use Rattle.std.proofs.lemmas.Bool.Decides.{nat_tests}
 use Rattle.net_assembler.specs.Positions.{runs_shifted_up}
-use Rattle.net_assembler.specs.RunLists.{start_at, end_at, IsRising, AreRuns, StartsAtZero, FitsFrom, runs_with_range, runs_shifted_down}
+use Rattle.net_assembler.specs.RunLists.{start_at, end_at, IsRising, AreRuns, StartsAtZero, FitsFrom}
+use Rattle.net_assembler.specs.RunLists.{runs_with_range, runs_shifted_down}
 use Rattle.net_assembler.proofs.Moves.{rest_at}
 use Rattle.net_assembler.proofs.Positions.{either}
 use Rattle.net_assembler.proofs.RunLists.{at_run, top_of, absorbed}

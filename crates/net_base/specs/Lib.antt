@@ -29,6 +29,7 @@ pub mod Earliest
 pub mod Fragments
 pub mod FragmentHistory
 pub mod FragmentParts
+pub mod FragmentTable
 pub mod Generator
 pub mod Loopback
 pub mod PacketMeta

@@ -2,6 +2,7 @@
 
 mod assertions;
 mod fragment_buffer;
+mod fragment_table;
 mod fragments_head;
 mod least;
 mod phy;

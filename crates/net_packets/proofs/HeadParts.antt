@@ -1,5 +1,7 @@
 -- The queue that a head, slots with headers and bytes represent, after a step on the head's numbers.
-use Rattle.std.proofs.Common.{◌≡◌, ℕ, zero, suc, ◌++◌, ◌+◌, ◌-◌, ◌<◌, ◌≤◌, List, [], ◌∷◌, get_or, min, length, length-append, length-take, length-drop, append_assoc, take, drop, refl, sym, ap, ap₂, ◌∙◌, subst, arith, nat_eq, if◌then◌else◌, ◌==◌}
+use Rattle.std.proofs.Common.{◌≡◌, ℕ, zero, suc, ◌++◌, ◌+◌, ◌-◌, ◌<◌, ◌≤◌, List, [], ◌∷◌, get_or, min, length}
+use Rattle.std.proofs.Common.{length-append, length-take, length-drop, append_assoc, take, drop, refl, sym}
+use Rattle.std.proofs.Common.{ap, ap₂, ◌∙◌, subst, arith, nat_eq, if◌then◌else◌, ◌==◌}
 use Rattle.std.proofs.lemmas.Bool.Decides.{nat_tests}
 use Rattle.std.proofs.lemmas.List.{length-set}
 use Rattle.std.proofs.lemmas.Option.{none-some, slice_get-get_or, cond_some, get_or_from_slice_get, slice_get_within}
@@ -7,11 +9,19 @@ use Rattle.std.specs.Prelude.{Option, true, false, set}
 use Rattle.std.specs.List.{slice_get}
 use Rattle.net_ring.specs.Overwrite.{overwrite}
 use Rattle.std.specs.declared.option.Option.TheVariants.{Some, None}
-use Rattle.net_ring.specs.Ring.{RingState, queue_index, index_after, queue, storage_index, IsWellFormed, ring, with_dequeued, with_elements}
+use Rattle.net_ring.specs.Ring.{RingState, queue_index, index_after, queue, storage_index, IsWellFormed, ring}
+use Rattle.net_ring.specs.Ring.{with_dequeued, with_elements}
 use Rattle.net_ring.specs.RingHead.{ring_at, place, enqueued_place, rewound, contiguous_free}
-use Rattle.net_packets.specs.Packets.{PacketsState, packet, bytes_used, slots_used, slots_for, gap_for, IsWellPlaced, IsFirstSized, first_gap, first_size, without_gap, without_first, placement, with_packet, with_packet_if, with_packet_if_room, only_last, last_index, last_bytes, with_last_bytes, with_last_size, IsRoom, with_first_bytes, with_bytes, first_bytes, AreLastDequeued, last_dequeued_bytes_index, last_dequeued_bytes}
-use Rattle.net_packets.specs.PacketSlots.{slot, gap_slot, packet_slots, packets_in, Represents, packets_at, AreSoundParts, slots_with}
-use Rattle.net_packets.specs.PacketsHead.{IsSoundHead, with_slot_taken, placement_in, place_after_gap, with_packet_placed}
+use Rattle.net_packets.specs.Packets.{PacketsState, packet, bytes_used, slots_used, slots_for, gap_for}
+use Rattle.net_packets.specs.Packets.{IsWellPlaced, IsFirstSized, first_gap, first_size, without_gap}
+use Rattle.net_packets.specs.Packets.{without_first, placement, with_packet, with_packet_if}
+use Rattle.net_packets.specs.Packets.{with_packet_if_room, only_last, last_index, last_bytes, with_last_bytes}
+use Rattle.net_packets.specs.Packets.{with_last_size, IsRoom, with_first_bytes, with_bytes, first_bytes}
+use Rattle.net_packets.specs.Packets.{AreLastDequeued, last_dequeued_bytes_index, last_dequeued_bytes}
+use Rattle.net_packets.specs.PacketSlots.{slot, gap_slot, packet_slots, packets_in, Represents, packets_at}
+use Rattle.net_packets.specs.PacketSlots.{AreSoundParts, slots_with}
+use Rattle.net_packets.specs.PacketsHead.{IsSoundHead, with_slot_taken, placement_in, place_after_gap}
+use Rattle.net_packets.specs.PacketsHead.{with_packet_placed}
 use Rattle.net_ring.specs.declared.head.RingHead.{RingHead}
 use Rattle.net_packets.specs.declared.head.PacketsHead.{PacketsHead}
 use Rattle.net_packets.specs.declared.head.PacketPlace.{PacketPlace}
@@ -19,8 +29,11 @@ use Rattle.net_packets.specs.declared.packet_metadata.PacketMetadata.{PacketMeta
 use Rattle.net_ring.proofs.Rotations.{length-overwrite, with_dequeued_parts, length-queue, storage_index_is}
 use Rattle.net_ring.proofs.RingFacts.{rewound_ring, queue_head, queue_law, written_wf}
 use Rattle.net_packets.proofs.HeadFacts.{placed_alike}
-use Rattle.net_packets.proofs.PacketFacts.{count_is, ends_in, slots_append, place_zero, slots_pos, slots_some, slots_for_pos, off_wf}
-use Rattle.net_packets.proofs.PacketSteps.{on_left, off_left, well_placed, cut_is, head_fits, is_first, bytes_are, last_ends, written_holds, slice_get_end, last_append, gap_of, push_left, skip_left, take_left}
+use Rattle.net_packets.proofs.PacketFacts.{count_is, ends_in, slots_append, place_zero, slots_pos, slots_some}
+use Rattle.net_packets.proofs.PacketFacts.{slots_for_pos, off_wf}
+use Rattle.net_packets.proofs.PacketSteps.{on_left, off_left, well_placed, cut_is, head_fits, is_first}
+use Rattle.net_packets.proofs.PacketSteps.{bytes_are, last_ends, written_holds, slice_get_end, last_append}
+use Rattle.net_packets.proofs.PacketSteps.{gap_of, push_left, skip_left, take_left}
 use Rattle.net_packets.proofs.HeadQueue.{push_set, set_is, place_is, queue_get}
 
 no_elements : {T : Type 0} (l : List T) → length l ≡ 0 → l ≡ []

@@ -1,21 +1,33 @@
 -- The queue that a head and slots without headers represent, after a step on its numbers.
-use Rattle.std.proofs.Common.{◌≢◌, ◌≡◌, ℕ, zero, suc, ◌++◌, ◌+◌, ◌-◌, ◌<◌, ◌≤◌, List, [], ◌∷◌, get_or, length, length-append, append_assoc, drop, refl, sym, ap, ap₂, ◌∙◌, subst, inl, inr, arith, ◌⊎◌, map, nat_eq, if◌then◌else◌}
+use Rattle.std.proofs.Common.{◌≢◌, ◌≡◌, ℕ, zero, suc, ◌++◌, ◌+◌, ◌-◌, ◌<◌, ◌≤◌, List, [], ◌∷◌, get_or, length}
+use Rattle.std.proofs.Common.{length-append, append_assoc, drop, refl, sym, ap, ap₂, ◌∙◌, subst, inl, inr}
+use Rattle.std.proofs.Common.{arith, ◌⊎◌, map, nat_eq, if◌then◌else◌}
 use Rattle.std.proofs.lemmas.Bool.{cases_Bool, cond-true, cond-false}
 use Rattle.std.proofs.lemmas.Bool.Decides.{nat_tests}
 use Rattle.std.proofs.lemmas.List.{length-map, length-replicate, length-set, take_all, places, map-set}
-use Rattle.std.proofs.lemmas.Option.{slice_get-get_or, slice_get-map, get_or_from_slice_get, gets, cond_some, none-some, slice_get_within}
+use Rattle.std.proofs.lemmas.Option.{slice_get-get_or, slice_get-map, get_or_from_slice_get, gets, cond_some}
+use Rattle.std.proofs.lemmas.Option.{none-some, slice_get_within}
 use Rattle.std.proofs.Math.Seq.{drop-cons}
 use Rattle.std.specs.Option.{option_map}
 use Rattle.std.specs.Prelude.{◌↔◌, IfSome, IsNone, ⊤, Option, Bool, true, false, replicate, set}
 use Rattle.std.specs.List.{slice_get}
 use Rattle.net_ring.specs.Overwrite.{overwrite}
 use Rattle.std.specs.declared.option.Option.TheVariants.{Some, None}
-use Rattle.net_ring.specs.Ring.{RingState, index_after, queue, window, storage_index, write_at, IsWellFormed, ring, with_dequeued, with_elements, with_enqueued, Enqueues}
+use Rattle.net_ring.specs.Ring.{RingState, index_after, queue, window, storage_index, write_at, IsWellFormed}
+use Rattle.net_ring.specs.Ring.{ring, with_dequeued, with_elements, with_enqueued, Enqueues}
 use Rattle.net_ring.specs.RingHead.{ring_at, place, enqueued_place, rewound, contiguous_free}
-use Rattle.net_packets.specs.Packets.{Packet, PacketsState, packet, bytes_used, slots_used, byte_ring, IsPlaced, slots_for, gap_for, ArePlaced, IsWellPlaced, first_gap, first_size, without_first_gap, without_gap, without_first_and_gap, without_first, with_last_size, with_first_size, placement, with_packet_if, with_packet_if_room, before_last, only_last}
+use Rattle.net_packets.specs.Packets.{Packet, PacketsState, packet, bytes_used, slots_used, byte_ring}
+use Rattle.net_packets.specs.Packets.{IsPlaced, slots_for, gap_for, ArePlaced, IsWellPlaced, first_gap}
+use Rattle.net_packets.specs.Packets.{first_size, without_first_gap, without_gap, without_first_and_gap}
+use Rattle.net_packets.specs.Packets.{without_first, with_last_size, with_first_size, placement}
+use Rattle.net_packets.specs.Packets.{with_packet_if, with_packet_if_room, before_last, only_last}
 use Rattle.net_packets.specs.PacketSlots.{slot, gap_slot, packet_slots, packets_in, Represents}
-use Rattle.net_packets.specs.PacketsHead.{IsSoundHead, with_slot_taken, placement_in, place_after_gap, with_packet_placed}
-use Rattle.net_packets.specs.HeadQueue.{AreSlotsAfter, metadata, slot_ring, queue_of, HasSoundSlots, CanTake, after_slot, first_slot, head_after_gap, HasFirst, first_packet, head_after_first, IsFirstAt, CanShorten, last_slot, last_slot_index, packet_slot, slots_written}
+use Rattle.net_packets.specs.PacketsHead.{IsSoundHead, with_slot_taken, placement_in, place_after_gap}
+use Rattle.net_packets.specs.PacketsHead.{with_packet_placed}
+use Rattle.net_packets.specs.HeadQueue.{AreSlotsAfter, metadata, slot_ring, queue_of, HasSoundSlots, CanTake}
+use Rattle.net_packets.specs.HeadQueue.{after_slot, first_slot, head_after_gap, HasFirst, first_packet}
+use Rattle.net_packets.specs.HeadQueue.{head_after_first, IsFirstAt, CanShorten, last_slot, last_slot_index}
+use Rattle.net_packets.specs.HeadQueue.{packet_slot, slots_written}
 use Rattle.net_ring.specs.declared.head.RingHead.{RingHead}
 use Rattle.net_packets.specs.declared.head.PacketsHead.{PacketsHead}
 use Rattle.net_packets.specs.declared.head.FirstPacket.{FirstPacket}
@@ -25,8 +37,12 @@ use Rattle.net_packets.specs.declared.packet_slot.PacketSlot.{PacketSlot}
 use Rattle.net_ring.proofs.Rotations.{with_dequeued_parts, length-queue, overwrite_at, storage_index_is}
 use Rattle.net_ring.proofs.RingFacts.{rewound_ring, enqueued_one, queue_head, queue_law, written_wf}
 use Rattle.net_packets.proofs.HeadFacts.{placed_alike}
-use Rattle.net_packets.proofs.PacketFacts.{count_is, ends_in, pushed_slot, slots_some, slots_for_pos, place_cases, gap_slot_one, place_zero, off_wf, bytes_append, slots_of_append, slots_append}
-use Rattle.net_packets.proofs.PacketSteps.{head_or, close_gap, push_left, pushed_is, mk, held, before_append, last_append, well_placed, slice_get_end, skip_left, take_left, gap_of, gap_fits, head_fits}
+use Rattle.net_packets.proofs.PacketFacts.{count_is, ends_in, pushed_slot, slots_some, slots_for_pos}
+use Rattle.net_packets.proofs.PacketFacts.{place_cases, gap_slot_one, place_zero, off_wf, bytes_append}
+use Rattle.net_packets.proofs.PacketFacts.{slots_of_append, slots_append}
+use Rattle.net_packets.proofs.PacketSteps.{head_or, close_gap, push_left, pushed_is, mk, held, before_append}
+use Rattle.net_packets.proofs.PacketSteps.{last_append, well_placed, slice_get_end, skip_left, take_left}
+use Rattle.net_packets.proofs.PacketSteps.{gap_of, gap_fits, head_fits}
 
 -- a slot is a packet's or a gap's
 kind_of : (s : PacketSlot) → ((s.is_gap ≡ 0) × (metadata s ≡ slot s.size (Some tt)) × (nat_eq s.is_gap 0 ≡ true))

@@ -1,12 +1,16 @@
 -- What the two rings of a queue of packets say of its packets.
-use Rattle.std.proofs.Common.{◌≢◌, zero, suc, ◌≡◌, ℕ, ◌+◌, ◌-◌, ◌<◌, ◌≤◌, List, [], ◌∷◌, ◌++◌, length, min, refl, sym, ap, ◌∙◌, subst, inl, inr, arith, ◌⊎◌, append_assoc, nat_le, if◌then◌else◌, Bool, ◌==◌}
+use Rattle.std.proofs.Common.{◌≢◌, zero, suc, ◌≡◌, ℕ, ◌+◌, ◌-◌, ◌<◌, ◌≤◌, List, [], ◌∷◌, ◌++◌, length, min}
+use Rattle.std.proofs.Common.{refl, sym, ap, ◌∙◌, subst, inl, inr, arith, ◌⊎◌, append_assoc, nat_le}
+use Rattle.std.proofs.Common.{if◌then◌else◌, Bool, ◌==◌}
 use Rattle.std.proofs.lemmas.Bool.{cases_lt, cases_Bool, cond-true, cond-false, leb-true, lt-ltb, le-ltb}
 use Rattle.std.proofs.lemmas.Bool.Decides.{nat_tests}
 use Rattle.std.proofs.lemmas.Option.{none-some, cond_some}
 use Rattle.std.specs.Prelude.{Option, true}
 use Rattle.std.specs.declared.option.Option.TheVariants.{Some, None}
-use Rattle.net_ring.specs.Ring.{RingState, index_after, capacity, window, queue, write_at, IsWellFormed, Enqueues, with_enqueued, with_dequeued, with_elements}
-use Rattle.net_packets.specs.Packets.{Packet, packet, bytes_used, slots_used, slots_for, IsPlaced, ArePlaced, gap_for, if_slots}
+use Rattle.net_ring.specs.Ring.{RingState, index_after, capacity, window, queue, write_at, IsWellFormed}
+use Rattle.net_ring.specs.Ring.{Enqueues, with_enqueued, with_dequeued, with_elements}
+use Rattle.net_packets.specs.Packets.{Packet, packet, bytes_used, slots_used, slots_for, IsPlaced, ArePlaced}
+use Rattle.net_packets.specs.Packets.{gap_for, if_slots}
 use Rattle.net_packets.specs.PacketSlots.{slot, gap_slot, packet_slots, packets_in, Represents}
 use Rattle.net_packets.specs.declared.packet_metadata.PacketMetadata.{PacketMetadata}
 use Rattle.net_ring.proofs.Rotations.{length-queue, length-overwrite}

@@ -1,15 +1,25 @@
 -- A queue's packets leave in the order in which they came.
-use Rattle.std.proofs.Common.{◌≢◌, ◌≡◌, ℕ, ◌+◌, ◌≤◌, List, [], ◌∷◌, ◌++◌, length, take, drop, refl, sym, ap, ap₂, ◌∙◌, arith, length-drop}
-use Rattle.std.proofs.lemmas.List.{take_at, drop_at, nil_from_length, take_all, take-take, drop-drop, length-take-le, take-append-le, drop-append-le}
+use Rattle.std.proofs.Common.{◌≢◌, ◌≡◌, ℕ, ◌+◌, ◌≤◌, List, [], ◌∷◌, ◌++◌, length, take, drop, refl, sym, ap}
+use Rattle.std.proofs.Common.{ap₂, ◌∙◌, arith, length-drop}
+use Rattle.std.proofs.lemmas.List.{take_at, drop_at, nil_from_length, take_all, take-take, drop-drop}
+use Rattle.std.proofs.lemmas.List.{length-take-le, take-append-le, drop-append-le}
 use Rattle.std.specs.Prelude.{Option}
 use Rattle.std.specs.declared.option.Option.TheVariants.{Some, None}
 use Rattle.net_ring.specs.Overwrite.{overwrite}
-use Rattle.net_ring.specs.Ring.{RingState, capacity, window, queue, spare, storage_index, IsWellFormed, rewind_if_empty, with_enqueued, with_elements}
-use Rattle.net_packets.specs.Packets.{Packet, PacketsState, packet, bytes_used, byte_ring, placement, with_packet, with_packet_if_room, last_index, with_bytes, with_last_bytes, with_last_size, first_gap, first_size, without_first_gap, without_gap, first_bytes, IsFirst, with_first_header, with_first_bytes, without_first, IsWellPlaced}
+use Rattle.net_ring.specs.Ring.{RingState, capacity, window, queue, spare, storage_index, IsWellFormed}
+use Rattle.net_ring.specs.Ring.{rewind_if_empty, with_enqueued, with_elements}
+use Rattle.net_packets.specs.Packets.{Packet, PacketsState, packet, bytes_used, byte_ring, placement}
+use Rattle.net_packets.specs.Packets.{with_packet, with_packet_if_room, last_index, with_bytes}
+use Rattle.net_packets.specs.Packets.{with_last_bytes, with_last_size, first_gap, first_size}
+use Rattle.net_packets.specs.Packets.{without_first_gap, without_gap, first_bytes, IsFirst, with_first_header}
+use Rattle.net_packets.specs.Packets.{with_first_bytes, without_first, IsWellPlaced}
 use Rattle.net_packets.specs.PacketHistory.{contents_of, contents}
-use Rattle.net_ring.proofs.Rotations.{length-overwrite, length-queue, length-spare, with_enqueued_parts, with_dequeued_parts, take_sum, cut, overwrite_at, storage_index_is}
+use Rattle.net_ring.proofs.Rotations.{length-overwrite, length-queue, length-spare, with_enqueued_parts}
+use Rattle.net_ring.proofs.Rotations.{with_dequeued_parts, take_sum, cut, overwrite_at, storage_index_is}
 use Rattle.net_ring.proofs.RingFacts.{written_wf, spare_law, queue_law, queue_value, rewound_is, read_index_is}
-use Rattle.net_packets.proofs.PacketSteps.{here, wfg, count_g, byte_room, enqueued_is, pushed_is, push_place, cut_is, close_gap, skipped_well, skipped_ring, head_fits, headed, headed_ring, headed_well, popped_ring}
+use Rattle.net_packets.proofs.PacketSteps.{here, wfg, count_g, byte_room, enqueued_is, pushed_is, push_place}
+use Rattle.net_packets.proofs.PacketSteps.{cut_is, close_gap, skipped_well, skipped_ring, head_fits, headed}
+use Rattle.net_packets.proofs.PacketSteps.{headed_ring, headed_well, popped_ring}
 
 pub some_of : (o : Option ℕ) → o ≢ None → (n : ℕ) × (o ≡ Some n)
 some_of None h = absurd (h refl)

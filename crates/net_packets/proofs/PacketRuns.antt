@@ -1,5 +1,7 @@
 -- Over whole runs, a queue's packets leave in the order in which they came.
-use Rattle.std.proofs.Common.{◌≢◌, ◌≡◌, ℕ, ◌+◌, ◌-◌, ◌≤◌, List, [], ◌∷◌, ◌++◌, length, take, drop, refl, sym, ap, ap₂, ◌∙◌, subst, inl, arith, append_assoc, length-append, length-drop, suc, ◌↔◌, Bool, true, false, if◌then◌else◌, ◌==◌, Result, Ok, Err, IfOk, min}
+use Rattle.std.proofs.Common.{◌≢◌, ◌≡◌, ℕ, ◌+◌, ◌-◌, ◌≤◌, List, [], ◌∷◌, ◌++◌, length, take, drop, refl, sym}
+use Rattle.std.proofs.Common.{ap, ap₂, ◌∙◌, subst, inl, arith, append_assoc, length-append, length-drop, suc}
+use Rattle.std.proofs.Common.{◌↔◌, Bool, true, false, if◌then◌else◌, ◌==◌, Result, Ok, Err, IfOk, min}
 use Rattle.std.proofs.lemmas.List.{append-nil, take_all, drop_all, nil_from_length, length-take-le}
 use Rattle.std.proofs.lemmas.Bool.{eqb-true, eq-eqb}
 use Rattle.std.proofs.lemmas.Option.{none-some}
@@ -8,14 +10,25 @@ use Rattle.std.specs.Prelude.{set}
 use Rattle.std.specs.declared.option.Option.TheVariants.{Some, None}
 use Rattle.net_ring.specs.Overwrite.{overwrite}
 use Rattle.net_ring.specs.Ring.{index_after, queue, storage_index}
-use Rattle.net_packets.specs.Packets.{Packet, PacketsState, no_packets, packet, bytes_used, byte_ring, placement, with_packet, with_packet_if_room, only_last, last_index, last_bytes, with_last_bytes, with_last_size, first_gap, first_size, without_first_gap, without_gap, with_first_bytes, without_first, without_first_and_gap, after_hand_out, last_dequeued_bytes_index, last_dequeued_bytes, AreLastDequeued, with_bytes, first_bytes, IsFirst, IsFirstSized, IsWellPlaced}
+use Rattle.net_packets.specs.Packets.{Packet, PacketsState, no_packets, packet, bytes_used, byte_ring}
+use Rattle.net_packets.specs.Packets.{placement, with_packet, with_packet_if_room, only_last, last_index}
+use Rattle.net_packets.specs.Packets.{last_bytes, with_last_bytes, with_last_size, first_gap, first_size}
+use Rattle.net_packets.specs.Packets.{without_first_gap, without_gap, with_first_bytes, without_first}
+use Rattle.net_packets.specs.Packets.{without_first_and_gap, after_hand_out, last_dequeued_bytes_index}
+use Rattle.net_packets.specs.Packets.{last_dequeued_bytes, AreLastDequeued, with_bytes, first_bytes, IsFirst}
+use Rattle.net_packets.specs.Packets.{IsFirstSized, IsWellPlaced}
 use Rattle.net_ring.specs.Log.{Log, empty_log}
-use Rattle.net_packets.specs.PacketHistory.{contents_of, contents, QueueCall, Reset, Place, WriteLast, Enqueue, EnqueueWith, Peek, DequeueErr, DequeueOk, DequeueWith, Take, WriteLastDequeued, Dequeue, Makes, MakesAll, with_bytes_in_last_entry, log_after, log_after_all, history}
+use Rattle.net_packets.specs.PacketHistory.{contents_of, contents, QueueCall, Reset, Place, WriteLast}
+use Rattle.net_packets.specs.PacketHistory.{Enqueue, EnqueueWith, Peek, DequeueErr, DequeueOk, DequeueWith}
+use Rattle.net_packets.specs.PacketHistory.{Take, WriteLastDequeued, Dequeue, Makes, MakesAll}
+use Rattle.net_packets.specs.PacketHistory.{with_bytes_in_last_entry, log_after, log_after_all, history}
 use Rattle.net_ring.proofs.Overwrites.{overwrite-same}
 use Rattle.net_ring.proofs.Rotations.{IsStorageIndex, length-queue, cut, overwrite_at, storage_index_is}
 use Rattle.net_ring.proofs.RingFacts.{queue_law, spare_law}
 use Rattle.net_packets.proofs.PacketFacts.{ends_in, bytes_append, place_cases, place_place}
-use Rattle.net_packets.proofs.PacketSteps.{mk, last_append, last_ends, head_fits, push_well, pushed_is, cut_is, with_bytes_well, skipped_well, headed, headed_well, popped_well, close_gap}
+use Rattle.net_packets.proofs.PacketSteps.{mk, last_append, last_ends, head_fits, push_well, pushed_is}
+use Rattle.net_packets.proofs.PacketSteps.{cut_is, with_bytes_well, skipped_well, headed, headed_well}
+use Rattle.net_packets.proofs.PacketSteps.{popped_well, close_gap}
 use Rattle.net_packets.proofs.PacketOrder.{some_of, contents_append, close_size}
 use Rattle.net_packets.proofs.PacketOrder as order
 

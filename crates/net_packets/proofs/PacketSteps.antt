@@ -1,5 +1,7 @@
 -- What a queue of packets is after a step on its two rings.
-use Rattle.std.proofs.Common.{◌≢◌, ◌≡◌, ℕ, suc, zero, ◌+◌, ◌-◌, ◌<◌, ◌≤◌, List, [], ◌∷◌, ◌++◌, length, take, drop, min, refl, sym, ap, ap₂, ◌∙◌, subst, inl, inr, arith, ◌⊎◌, length-append, append_assoc, get_or, set}
+use Rattle.std.proofs.Common.{◌≢◌, ◌≡◌, ℕ, suc, zero, ◌+◌, ◌-◌, ◌<◌, ◌≤◌, List, [], ◌∷◌, ◌++◌, length, take}
+use Rattle.std.proofs.Common.{drop, min, refl, sym, ap, ap₂, ◌∙◌, subst, inl, inr, arith, ◌⊎◌, length-append}
+use Rattle.std.proofs.Common.{append_assoc, get_or, set}
 use Rattle.std.proofs.lemmas.List.{take_at, drop_at, take_all}
 use Rattle.std.proofs.lemmas.Bool.{cases_lt}
 use Rattle.std.proofs.lemmas.Option.{none-some, cond_some}
@@ -7,13 +9,25 @@ use Rattle.std.specs.Prelude.{true, Option}
 use Rattle.std.specs.List.{slice_get}
 use Rattle.std.specs.declared.option.Option.TheVariants.{Some, None}
 use Rattle.net_ring.specs.Overwrite.{overwrite}
-use Rattle.net_ring.specs.Ring.{RingState, ring, index_after, storage_index, capacity, window, queue, IsWellFormed, rewind_if_empty, with_enqueued, with_dequeued, with_elements, contiguous_window, queue_index, contiguous_allocated, spare_index, contiguous_unallocated}
-use Rattle.net_packets.specs.Packets.{Packet, PacketsState, packet, bytes_used, slots_used, slots_for, byte_ring, IsPlaced, ArePlaced, gap_for, placement, with_packet, with_packet_if_room, with_packet_if, only_last, before_last, last_index, last_bytes, with_last_bytes, with_last_size, with_first_size, IsRoom, first_gap, first_size, without_first_gap, without_gap, IsFirstSized, first_bytes, with_first_header, with_first_bytes, without_first, IsWellPlaced, with_bytes}
+use Rattle.net_ring.specs.Ring.{RingState, ring, index_after, storage_index, capacity, window, queue}
+use Rattle.net_ring.specs.Ring.{IsWellFormed, rewind_if_empty, with_enqueued, with_dequeued, with_elements}
+use Rattle.net_ring.specs.Ring.{contiguous_window, queue_index, contiguous_allocated, spare_index}
+use Rattle.net_ring.specs.Ring.{contiguous_unallocated}
+use Rattle.net_packets.specs.Packets.{Packet, PacketsState, packet, bytes_used, slots_used, slots_for}
+use Rattle.net_packets.specs.Packets.{byte_ring, IsPlaced, ArePlaced, gap_for, placement, with_packet}
+use Rattle.net_packets.specs.Packets.{with_packet_if_room, with_packet_if, only_last, before_last, last_index}
+use Rattle.net_packets.specs.Packets.{last_bytes, with_last_bytes, with_last_size, with_first_size, IsRoom}
+use Rattle.net_packets.specs.Packets.{first_gap, first_size, without_first_gap, without_gap, IsFirstSized}
+use Rattle.net_packets.specs.Packets.{first_bytes, with_first_header, with_first_bytes, without_first}
+use Rattle.net_packets.specs.Packets.{IsWellPlaced, with_bytes}
 use Rattle.net_packets.specs.PacketSlots.{slot, gap_slot, packet_slots, packets_in, Represents, packets_state}
 use Rattle.net_packets.specs.declared.packet_metadata.PacketMetadata.{PacketMetadata}
 use Rattle.net_ring.proofs.Rotations.{length-overwrite, length-queue, with_dequeued_parts}
 use Rattle.net_ring.proofs.RingFacts.{rewind_cases, rewind_wf, rewound_is, first_in_queue}
-use Rattle.net_packets.proofs.PacketFacts.{round, length-slots, slots_append, slots_of_append, bytes_append, placed_append, placed_anew, placed_here, placed_skip, placed_pop, slots_some, slots_for_pos, count_is, place_zero, place_le_in, place_wf, gap_slot_one, gap_slot_none, off_wf}
+use Rattle.net_packets.proofs.PacketFacts.{round, length-slots, slots_append, slots_of_append, bytes_append}
+use Rattle.net_packets.proofs.PacketFacts.{placed_append, placed_anew, placed_here, placed_skip, placed_pop}
+use Rattle.net_packets.proofs.PacketFacts.{slots_some, slots_for_pos, count_is, place_zero, place_le_in}
+use Rattle.net_packets.proofs.PacketFacts.{place_wf, gap_slot_one, gap_slot_none, off_wf}
 
 -- the first element of a list
 module _ {X : Type 0} where

@@ -1,5 +1,8 @@
 -- What one call leaves and replies, as its callers want it.
-use Rattle.std.proofs.Common.{nat_le, leb-true, ltb-true, ◌≡◌, ℕ, zero, suc, ◌+◌, ◌-◌, ◌<◌, ◌≤◌, min, List, [], ◌∷◌, ◌++◌, length, take, drop, nat_lt, Some, unwrap_or, slice_get, slice_range, refl, sym, ap, subst, ◌∙◌, arith, ⊎_elim, take_all, Result, Ok, Err, IsOk, IfOk, OnErr, All, length-take, length-drop}
+use Rattle.std.proofs.Common.{nat_le, leb-true, ltb-true, ◌≡◌, ℕ, zero, suc, ◌+◌, ◌-◌, ◌<◌, ◌≤◌, min, List}
+use Rattle.std.proofs.Common.{[], ◌∷◌, ◌++◌, length, take, drop, nat_lt, Some, unwrap_or, slice_get}
+use Rattle.std.proofs.Common.{slice_range, refl, sym, ap, subst, ◌∙◌, arith, ⊎_elim, take_all, Result, Ok}
+use Rattle.std.proofs.Common.{Err, IsOk, IfOk, OnErr, All, length-take, length-drop}
 use Rattle.std.specs.FinMap as fin
 use Rattle.std.specs.Option.{option_or}
 use Rattle.std.specs.Prelude.{⊤}
@@ -12,12 +15,18 @@ use Rattle.net_receiver.specs.declared.receiver.kept_bytes.KeptBytes.{KeptBytes}
 use Rattle.net_receiver.specs.KeptList.{Piece, piece, piece_within, byte_at, next}
 use Rattle.std.proofs.lemmas.List.Elements.{All-head}
 use Rattle.net_receiver.proofs.Stream.{agrees_at}
-use Rattle.net_receiver.specs.Rules.{Show, CommandValue, ReplyValue, Segment, Read, verdict, state_after, numbers, segment_result}
+use Rattle.net_receiver.specs.Rules.{Show, CommandValue, ReplyValue, Segment, Read, verdict, state_after}
+use Rattle.net_receiver.specs.Rules.{numbers, segment_result}
 use Rattle.net_receiver.specs.Schedule.{KeptState, kept_after_commands, Follows, EndsBy, bytes_read}
-use Rattle.net_receiver.specs.ReceiverState.{receiver_reply, setting, Refines, ReceiverState, HeldBytes, domain, held_with_piece, first_lacking, held_bytes_at, next_position, receiver_ops, receiver_after_read, receiver_after_command, fresh_receiver, IsSound, StaysInSetting}
+use Rattle.net_receiver.specs.ReceiverState.{receiver_reply, setting, Refines, ReceiverState, HeldBytes}
+use Rattle.net_receiver.specs.ReceiverState.{domain, held_with_piece, first_lacking, held_bytes_at}
+use Rattle.net_receiver.specs.ReceiverState.{next_position, receiver_ops, receiver_after_read}
+use Rattle.net_receiver.specs.ReceiverState.{receiver_after_command, fresh_receiver, IsSound, StaysInSetting}
 use Rattle.net_receiver.specs.Segments.{KeepsOrRefuses, JoinsQueue}
 use Rattle.net_receiver.proofs.Whole.{ran}
-use Rattle.net_receiver.specs.OneStream.{HeldIsOfStream, QueueIsOfStream, CapacityStays, Receives, ReceivesFrom, MatchesStream, AllMatch, IsTruthful, MatchesWhatIsThere, window_part}
+use Rattle.net_receiver.specs.OneStream.{HeldIsOfStream, QueueIsOfStream, CapacityStays, Receives}
+use Rattle.net_receiver.specs.OneStream.{ReceivesFrom, MatchesStream, AllMatch, IsTruthful}
+use Rattle.net_receiver.specs.OneStream.{MatchesWhatIsThere, window_part}
 use Rattle.net_receiver.proofs.Step.{any_verdict, same_next}
 use Rattle.net_receiver.proofs.Run.{setting_kept, settings_kept, read_prefix}
 use Rattle.net_receiver.proofs.OneStream.{one_receives, queue_is_of, fresh_receives, first_stays, run_receives}

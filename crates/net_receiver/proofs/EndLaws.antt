@@ -1,5 +1,8 @@
 -- The laws of a receiver of a stream that ends.
-use Rattle.std.proofs.Common.{◌≡◌, ◌⊎◌, inl, inr, ℕ, ◌+◌, ◌-◌, ◌<◌, ◌≤◌, Bool, true, false, cond, List, [], ◌∷◌, ◌++◌, length, take, drop, min, All, nat_eq, nat_le, nat_lt, None, slice_get, refl, sym, ap, ◌∙◌, arith, ⊎_elim, take_all, append_assoc, append-nil, take-add}
+use Rattle.std.proofs.Common.{◌≡◌, ◌⊎◌, inl, inr, ℕ, ◌+◌, ◌-◌, ◌<◌, ◌≤◌, Bool, true, false, cond, List, []}
+use Rattle.std.proofs.Common.{◌∷◌, ◌++◌, length, take, drop, min, All, nat_eq, nat_le, nat_lt, None}
+use Rattle.std.proofs.Common.{slice_get, refl, sym, ap, ◌∙◌, arith, ⊎_elim, take_all, append_assoc}
+use Rattle.std.proofs.Common.{append-nil, take-add}
 use Rattle.std.specs.FinMap as fin
 use Rattle.std.proofs.lemmas.Bool.{both_ways, cond_both, eqb-true, le-leb}
 use Rattle.std.proofs.lemmas.Bool.Decides.{nat_tests}
@@ -9,8 +12,14 @@ use Rattle.std.proofs.lemmas.List.Elements.{All-head, All-tail}
 use Rattle.net_receiver.specs.Rules.{Segment}
 use Rattle.net_receiver.specs.ReceiverState.{ReceiverState, next_position}
 use Rattle.net_receiver.specs.OneStream.{MatchesStream, ReceivesFrom}
-use Rattle.net_receiver.specs.Finite.{FiniteState, no_end, fresh_finite, top_of, knows_end, can_end, below_end, finite_after, is_complete, acknowledged, has_read_all, IsSoundEnd}
-use Rattle.net_receiver.specs.FiniteLaws.{AcknowledgedGrows, EndIsTaken, AllBytesComplete, SameEndConverges, FiniteCommand, Arrives, Reads, finite_after_command, finite_after_commands, bytes_of, bytes_taken, CommandFits, CommandMatches, ReceivesFinite, SoundEndStays, EndStays, SegmentOfStream, ReadsTheStream}
+use Rattle.net_receiver.specs.Finite.{FiniteState, no_end, fresh_finite, top_of, knows_end, can_end}
+use Rattle.net_receiver.specs.Finite.{below_end, finite_after, is_complete, acknowledged, has_read_all}
+use Rattle.net_receiver.specs.Finite.{IsSoundEnd}
+use Rattle.net_receiver.specs.FiniteLaws.{AcknowledgedGrows, EndIsTaken, AllBytesComplete, SameEndConverges}
+use Rattle.net_receiver.specs.FiniteLaws.{FiniteCommand, Arrives, Reads, finite_after_command}
+use Rattle.net_receiver.specs.FiniteLaws.{finite_after_commands, bytes_of, bytes_taken, CommandFits}
+use Rattle.net_receiver.specs.FiniteLaws.{CommandMatches, ReceivesFinite, SoundEndStays, EndStays}
+use Rattle.net_receiver.specs.FiniteLaws.{SegmentOfStream, ReadsTheStream}
 use Rattle.std.specs.Prelude.{IsOk, is_ok, Result, Ok, Err}
 use Rattle.net_assembler.specs.declared.assembler.error.TooManyHolesError.{TooManyHolesError}
 use Rattle.net_receiver.specs.declared.receiver.kept_bytes.KeptBytes.{KeptBytes}
@@ -24,7 +33,8 @@ use Rattle.net_receiver.proofs.Covering.{cond_some, slice_get-take}
 use Rattle.net_receiver.proofs.OneStream.{first_stays, next_position_grows, segment_reads_nothing}
 use Rattle.net_receiver.proofs.ReadLaws.{read_leaves_next}
 use Rattle.net_receiver.proofs.Stream.{some_of}
-use Rattle.net_receiver.proofs.Ends.{after_by, ended_at, top_le, sound_after, sound_read, fresh_sound_end, no_other, cut_is, eq_tests}
+use Rattle.net_receiver.proofs.Ends.{after_by, ended_at, top_le, sound_after, sound_read, fresh_sound_end}
+use Rattle.net_receiver.proofs.Ends.{no_other, cut_is, eq_tests}
 
 pub sound_end_stays : SoundEndStays
 sound_end_stays N s (Arrives pos xs last) sound fits = sound_after N s pos xs last sound fits

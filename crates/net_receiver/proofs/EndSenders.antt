@@ -1,11 +1,17 @@
 -- The laws of a sender of a stream that ends.
-use Rattle.std.proofs.Common.{◌≡◌, ℕ, ◌+◌, ◌-◌, ◌≤◌, max, min, false, cond, List, [], ◌∷◌, ◌++◌, length, take, drop, nat_eq, nat_le, nat_lt, refl, sym, ap, subst, ◌∙◌, arith, length-drop, length-append, append_assoc, append-nil}
+use Rattle.std.proofs.Common.{◌≡◌, ℕ, ◌+◌, ◌-◌, ◌≤◌, max, min, false, cond, List, [], ◌∷◌, ◌++◌, length, take}
+use Rattle.std.proofs.Common.{drop, nat_eq, nat_le, nat_lt, refl, sym, ap, subst, ◌∙◌, arith, length-drop}
+use Rattle.std.proofs.Common.{length-append, append_assoc, append-nil}
 use Rattle.std.proofs.lemmas.Bool.{cond_both, and_parts, leb-true, eqb-true}
 use Rattle.net_receiver.specs.SenderState.{end_of, room_of, with_written, Sends}
 use Rattle.net_receiver.specs.OneStream.{MatchesStream, MatchesLonger}
 use Rattle.net_receiver.specs.Finite.{no_end}
-use Rattle.net_receiver.specs.FiniteSender.{FiniteSenderState, first_number, numbers_end, finite_room, with_bytes, accepts, acknowledged_below}
-use Rattle.net_receiver.specs.FiniteSenderLaws.{SenderCommand, Writes, Closes, Marks, Acknowledges, written_of, sender_after_command, sender_after_commands, bytes_written, IsSoundSent, FreshSentIsSound, SoundSentStays, ClosedStays, LentIsOfStream}
+use Rattle.net_receiver.specs.FiniteSender.{FiniteSenderState, first_number, numbers_end, finite_room}
+use Rattle.net_receiver.specs.FiniteSender.{with_bytes, accepts, acknowledged_below}
+use Rattle.net_receiver.specs.FiniteSenderLaws.{SenderCommand, Writes, Closes, Marks, Acknowledges}
+use Rattle.net_receiver.specs.FiniteSenderLaws.{written_of, sender_after_command, sender_after_commands}
+use Rattle.net_receiver.specs.FiniteSenderLaws.{bytes_written, IsSoundSent, FreshSentIsSound, SoundSentStays}
+use Rattle.net_receiver.specs.FiniteSenderLaws.{ClosedStays, LentIsOfStream}
 use Rattle.net_receiver.proofs.Senders.{sends_written, sends_from, lent_says}
 use Rattle.net_receiver.proofs.OneStream.{longer_at}
 use Rattle.net_receiver.proofs.Called.{matches_what_is_there}

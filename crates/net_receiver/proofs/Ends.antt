@@ -1,16 +1,23 @@
 -- A receiver of a stream that ends: no byte is at or above the end.
-use Rattle.std.proofs.Common.{◌≡◌, ◌⊎◌, inl, inr, ℕ, ◌+◌, ◌-◌, ◌<◌, ◌≤◌, ◌&&◌, Bool, true, false, not, cond, List, [], ◌∷◌, length, take, min, nat_le, nat_eq, is_ok, is_some, Result, Err, refl, sym, ap, ◌∙◌, arith, ⊎_elim, length-take, length-drop}
+use Rattle.std.proofs.Common.{◌≡◌, ◌⊎◌, inl, inr, ℕ, ◌+◌, ◌-◌, ◌<◌, ◌≤◌, ◌&&◌, Bool, true, false, not, cond}
+use Rattle.std.proofs.Common.{List, [], ◌∷◌, length, take, min, nat_le, nat_eq, is_ok, is_some, Result, Err}
+use Rattle.std.proofs.Common.{refl, sym, ap, ◌∙◌, arith, ⊎_elim, length-take, length-drop}
 use Rattle.std.specs.FinMap as fin
 use Rattle.std.specs.Ordering.{nat_cmp}
-use Rattle.std.proofs.lemmas.Bool.{both_ways, cases_lt, cond_both, and_parts, and_cases, not-false, or_cases, or_left, or_right, leb-true, eqb-true}
+use Rattle.std.proofs.lemmas.Bool.{both_ways, cases_lt, cond_both, and_parts, and_cases, not-false, or_cases}
+use Rattle.std.proofs.lemmas.Bool.{or_left, or_right, leb-true, eqb-true}
 use Rattle.std.proofs.lemmas.Bool.Decides.{nat_tests}
 use Rattle.std.proofs.lemmas.Grind.{common_steps}
 use Rattle.net_assembler.specs.Positions.{bound_of, positions, contains}
 use Rattle.net_assembler.proofs.Positions.{has, contains-positions}
 use Rattle.net_receiver.specs.KeptList.{Piece, piece, piece_byte_at, piece_within}
 use Rattle.net_receiver.specs.Rules.{Segment, state_after, verdict, numbers}
-use Rattle.net_receiver.specs.ReceiverState.{ReceiverState, domain, next_position, limit_of, receiver_ops, receiver_with_piece, receiver_after_command, receiver_after_read, fresh_receiver}
-use Rattle.net_receiver.specs.Finite.{FiniteState, no_end, top_of, knows_end, can_end, below_end, end_after, has_other_end, finite_after, finite_after_read, bytes_result, finite_result, with_error, fresh_finite, IsSoundEnd}
+use Rattle.net_receiver.specs.ReceiverState.{ReceiverState, domain, next_position, limit_of, receiver_ops}
+use Rattle.net_receiver.specs.ReceiverState.{receiver_with_piece, receiver_after_command, receiver_after_read}
+use Rattle.net_receiver.specs.ReceiverState.{fresh_receiver}
+use Rattle.net_receiver.specs.Finite.{FiniteState, no_end, top_of, knows_end, can_end, below_end, end_after}
+use Rattle.net_receiver.specs.Finite.{has_other_end, finite_after, finite_after_read, bytes_result}
+use Rattle.net_receiver.specs.Finite.{finite_result, with_error, fresh_finite, IsSoundEnd}
 use Rattle.net_receiver.specs.declared.receiver.head.ReceiverHead.{ReceiverHead}
 use Rattle.net_assembler.specs.declared.assembler.error.TooManyHolesError.{TooManyHolesError}
 use Rattle.net_receiver.specs.declared.receiver.kept_bytes.KeptBytes.{KeptBytes}

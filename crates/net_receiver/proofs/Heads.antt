@@ -1,7 +1,9 @@
 -- Receivers in parts: what a kept piece and a read make of a head, a storage and runs.
-use Rattle.std.proofs.Common.{◌++◌, length-take, length-drop, ◌≡◌, ℕ, ◌+◌, ◌-◌, ◌<◌, ◌≤◌, ◌^◌, min, List, length, take, drop, ◌⊎◌, Ok, Err, refl, sym, ap, subst, ◌∙◌, arith, take_all}
+use Rattle.std.proofs.Common.{◌++◌, length-take, length-drop, ◌≡◌, ℕ, ◌+◌, ◌-◌, ◌<◌, ◌≤◌, ◌^◌, min, List}
+use Rattle.std.proofs.Common.{length, take, drop, ◌⊎◌, Ok, Err, refl, sym, ap, subst, ◌∙◌, arith, take_all}
 use Rattle.std.proofs.lemmas.List.{length-take-le}
-use Rattle.net_ring.specs.Ring.{RingState, queue, spare, with_enqueued, with_dequeued, WritesSpare, spare_index, with_elements_wrapping}
+use Rattle.net_ring.specs.Ring.{RingState, queue, spare, with_enqueued, with_dequeued, WritesSpare}
+use Rattle.net_ring.specs.Ring.{spare_index, with_elements_wrapping}
 use Rattle.net_ring.specs.declared.head.RingHead.{RingHead}
 use Rattle.net_ring.specs.Overwrite.{overwrite}
 use Rattle.net_ring.specs.RingHead.{IsSound as IsSoundPlace, ring_at, enqueued_place, dequeued_place}
@@ -18,7 +20,8 @@ use Rattle.net_receiver.specs.Head.{receiver_of, HasSoundParts, storage_after, h
 use Rattle.net_receiver.proofs.Contiguous.{stays_at, read_on}
 use Rattle.net_receiver.specs.Parts.{parts, Fits64Bits}
 use Rattle.net_receiver.proofs.Placed.{IsReceiver, IsFrontRemoved, held_runs}
-use Rattle.net_receiver.proofs.Segment.{IsCut, refused_is, keeps_is, wrote_all, refusal, kept_state, kept_invariant, m_fits, read_invariant}
+use Rattle.net_receiver.proofs.Segment.{IsCut, refused_is, keeps_is, wrote_all, refusal, kept_state}
+use Rattle.net_receiver.proofs.Segment.{kept_invariant, m_fits, read_invariant}
 
 -- what is written over a whole storage
 pub whole_written : (old new written : List ℕ) → length written ≡ length old → new ≡ overwrite old 0 written → new ≡ written

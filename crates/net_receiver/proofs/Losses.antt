@@ -1,5 +1,6 @@
 -- Up to where what isn't reported is lost, run by run.
-use Rattle.std.proofs.Common.{◌≡◌, ℕ, ◌+◌, ◌-◌, ◌*◌, ◌<◌, ◌≤◌, ◌↔◌, max, true, false, List, [], ◌∷◌, length, refl, ap, subst, ◌∙◌, arith, IsTrue, nat_lt, ◌⊎◌, inl, inr}
+use Rattle.std.proofs.Common.{◌≡◌, ℕ, ◌+◌, ◌-◌, ◌*◌, ◌<◌, ◌≤◌, ◌↔◌, max, true, false, List, [], ◌∷◌, length}
+use Rattle.std.proofs.Common.{refl, ap, subst, ◌∙◌, arith, IsTrue, nat_lt, ◌⊎◌, inl, inr}
 use Rattle.std.proofs.lemmas.Bool.{both_ways, cases_lt}
 use Rattle.std.proofs.lemmas.Bool.Decides.{nat_tests}
 use Rattle.net_assembler.specs.Positions.{Positions, contains, first_missing, maximal_runs}

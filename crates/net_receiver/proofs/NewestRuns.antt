@@ -1,16 +1,22 @@
 -- The runs that are listed newest first: maximal ones, each once, and that of the first position first.
-use Rattle.std.proofs.Common.{◌≡◌, ◌⊎◌, inl, inr, ℕ, ◌+◌, ◌-◌, ◌<◌, ◌≤◌, ◌||◌, Bool, true, false, cond, List, [], ◌∷◌, ◌++◌, length, map, take, Some, None, All, slice_get, is_some, refl, sym, ap, subst, ◌∙◌, arith, ⊎_elim, leb-true, le-leb, le_refl, take_all, length-append}
+use Rattle.std.proofs.Common.{◌≡◌, ◌⊎◌, inl, inr, ℕ, ◌+◌, ◌-◌, ◌<◌, ◌≤◌, ◌||◌, Bool, true, false, cond, List}
+use Rattle.std.proofs.Common.{[], ◌∷◌, ◌++◌, length, map, take, Some, None, All, slice_get, is_some, refl}
+use Rattle.std.proofs.Common.{sym, ap, subst, ◌∙◌, arith, ⊎_elim, leb-true, le-leb, le_refl, take_all}
+use Rattle.std.proofs.Common.{length-append}
 use Rattle.std.specs.Prelude.{count_by}
 use Rattle.std.specs.List.{find, list_any}
 use Rattle.std.specs.Option.{option_to_list}
-use Rattle.std.proofs.lemmas.Bool.{both_ways, and_parts, and_from, cases_Bool, cases_lt, cond-true, cond-false, ltb-true, lt-ltb, or_left, or_right, or_cases, false_from_ne_true, true_from_ne_false}
+use Rattle.std.proofs.lemmas.Bool.{both_ways, and_parts, and_from, cases_Bool, cases_lt, cond-true}
+use Rattle.std.proofs.lemmas.Bool.{cond-false, ltb-true, lt-ltb, or_left, or_right, or_cases}
+use Rattle.std.proofs.lemmas.Bool.{false_from_ne_true, true_from_ne_false}
 use Rattle.std.proofs.lemmas.List.{take-append-le, append-nil}
 use Rattle.std.proofs.lemmas.List.Folds.{list_any-append}
 use Rattle.std.proofs.lemmas.List.Elements.{All-nil, All-cons, All-head, All-tail, All-append}
 use Rattle.std.proofs.lemmas.List.Sums.{sum_by-append, sum_by-cons}
 use Rattle.net_assembler.specs.Positions.{Positions, contains, maximal_runs, lies_in, IsMaximalRun}
 use Rattle.net_assembler.specs.AssemblerLaws.{MaximalRunsOfEverySet}
-use Rattle.net_receiver.specs.NewestRuns.{run_at, with_run, runs_of, starts, newest_runs, AreNewestRuns, NewestRunsAreListed}
+use Rattle.net_receiver.specs.NewestRuns.{run_at, with_run, runs_of, starts, newest_runs, AreNewestRuns}
+use Rattle.net_receiver.specs.NewestRuns.{NewestRunsAreListed}
 
 -- ---- a list and a test
 module _ {X : Type 0} (t : X → Bool) (P : X → Type 0) where

@@ -1,14 +1,20 @@
 -- What truthful segments leave.
-use Rattle.std.proofs.Common.{◌≡◌, ℕ, zero, suc, ◌+◌, ◌-◌, ◌<◌, ◌≤◌, List, [], ◌∷◌, ◌++◌, length, take, drop, All, Some, slice_get, slice_range, refl, sym, ap, subst, ◌∙◌, arith, length-append, length-drop, ⊎_elim, take-add}
+use Rattle.std.proofs.Common.{◌≡◌, ℕ, zero, suc, ◌+◌, ◌-◌, ◌<◌, ◌≤◌, List, [], ◌∷◌, ◌++◌, length, take, drop}
+use Rattle.std.proofs.Common.{All, Some, slice_get, slice_range, refl, sym, ap, subst, ◌∙◌, arith}
+use Rattle.std.proofs.Common.{length-append, length-drop, ⊎_elim, take-add}
 use Rattle.std.proofs.lemmas.Bool.{cases_lt}
 use Rattle.std.proofs.lemmas.Option.{slice_get_within, none-some}
 use Rattle.std.proofs.lemmas.List.Elements.{All-nil, All-cons, All-head, All-tail, All-push, All-take, All-weaker}
 use Rattle.net_receiver.specs.KeptList.{Piece, piece, piece_within, byte_at, next, bytes, held_positions}
 use Rattle.net_receiver.specs.Rules.{CommandValue, ReplyValue, Segment, Read, Show, state_after}
-use Rattle.net_receiver.specs.Schedule.{Setting, KeptState, fresh_kept, kept_after_command, kept_after_commands, bytes_read, PieceAgrees, Agrees, kept_ops}
-use Rattle.net_receiver.specs.ReceiverState.{ReceiverState, receiver_ops, fresh_receiver, next_position, limit_of, receiver_after_command, receiver_after_commands, setting}
+use Rattle.net_receiver.specs.Schedule.{Setting, KeptState, fresh_kept, kept_after_command}
+use Rattle.net_receiver.specs.Schedule.{kept_after_commands, bytes_read, PieceAgrees, Agrees, kept_ops}
+use Rattle.net_receiver.specs.ReceiverState.{ReceiverState, receiver_ops, fresh_receiver, next_position}
+use Rattle.net_receiver.specs.ReceiverState.{limit_of, receiver_after_command, receiver_after_commands}
+use Rattle.net_receiver.specs.ReceiverState.{setting}
 use Rattle.net_receiver.specs.Execution.{Executes}
-use Rattle.net_receiver.specs.OneStream.{IsTruthful, Receives, QueueIsOf, FirstStays, NextGrows, LimitGrows, SegmentReadsNothing}
+use Rattle.net_receiver.specs.OneStream.{IsTruthful, Receives, QueueIsOf, FirstStays, NextGrows, LimitGrows}
+use Rattle.net_receiver.specs.OneStream.{SegmentReadsNothing}
 use Rattle.net_receiver.proofs.Covering.{clip_at, next_is}
 use Rattle.net_receiver.proofs.Step.{any_verdict, segment_cases, same_next, queue_length}
 use Rattle.net_receiver.proofs.Run.{schedule, setting_kept, settings_kept}

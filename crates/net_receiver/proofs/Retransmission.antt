@@ -1,18 +1,26 @@
 -- Segments that come again, and segments that together cover a range.
-use Rattle.std.proofs.Common.{◌≡◌, ◌⊎◌, inl, inr, ℕ, ◌+◌, ◌-◌, ◌<◌, ◌≤◌, true, false, cond, List, [], ◌∷◌, ◌++◌, take, nat_le, Option, Some, None, is_some, All, refl, sym, ap, ◌∙◌, arith, ⊎_elim, le-leb, lt-ltb, le_trans, length-take, length-drop}
+use Rattle.std.proofs.Common.{◌≡◌, ◌⊎◌, inl, inr, ℕ, ◌+◌, ◌-◌, ◌<◌, ◌≤◌, true, false, cond, List, [], ◌∷◌}
+use Rattle.std.proofs.Common.{◌++◌, take, nat_le, Option, Some, None, is_some, All, refl, sym, ap, ◌∙◌, arith}
+use Rattle.std.proofs.Common.{⊎_elim, le-leb, lt-ltb, le_trans, length-take, length-drop}
 use Rattle.std.specs.Option.{option_or}
 use Rattle.std.specs.FinMap as fin
 use Rattle.std.proofs.lemmas.Bool.{both_ways, cases_lt, cond-true, and_from, or_left, or_right, false_from_ne_true}
 use Rattle.std.proofs.lemmas.List.{append-nil}
 use Rattle.std.proofs.lemmas.List.Elements.{All-head, All-tail}
 use Rattle.net_receiver.specs.KeptList.{Piece, piece, piece_byte_at, piece_within}
-use Rattle.net_receiver.specs.Rules.{CommandValue, Segment, Read, Show, SegmentReply, verdict, state_after, segment_result}
+use Rattle.net_receiver.specs.Rules.{CommandValue, Segment, Read, Show, SegmentReply, verdict, state_after}
+use Rattle.net_receiver.specs.Rules.{segment_result}
 use Rattle.net_receiver.specs.Schedule.{IsAccepted}
-use Rattle.net_receiver.specs.ReceiverState.{ReceiverState, domain, held_with_piece, held_bytes_at, receiver_with_piece, receiver_up_to, next_position, receiver_ops, receiver_after_read, receiver_after_command, receiver_reply, receiver_after_commands, receiver_replies}
-use Rattle.net_receiver.specs.Retransmission.{IsHeld, HeldChangesNothing, SecondCopy, HasByteAt, HasByteStays, AcceptedBrings, HasAllReaches, Brings, Completes}
+use Rattle.net_receiver.specs.ReceiverState.{ReceiverState, domain, held_with_piece, held_bytes_at}
+use Rattle.net_receiver.specs.ReceiverState.{receiver_with_piece, receiver_up_to, next_position, receiver_ops}
+use Rattle.net_receiver.specs.ReceiverState.{receiver_after_read, receiver_after_command, receiver_reply}
+use Rattle.net_receiver.specs.ReceiverState.{receiver_after_commands, receiver_replies}
+use Rattle.net_receiver.specs.Retransmission.{IsHeld, HeldChangesNothing, SecondCopy, HasByteAt, HasByteStays}
+use Rattle.net_receiver.specs.Retransmission.{AcceptedBrings, HasAllReaches, Brings, Completes}
 use Rattle.net_receiver.proofs.Search.{first_unique}
 use Rattle.net_receiver.proofs.Covering.{piece_some, clip_at, clip_byte}
-use Rattle.net_receiver.proofs.Maps.{get-with_bytes_at, same_both, same_bytes, next_joined, get_from, laid, lacks, lacking, laid_has, left_has, left_above}
+use Rattle.net_receiver.proofs.Maps.{get-with_bytes_at, same_both, same_bytes, next_joined, get_from, laid}
+use Rattle.net_receiver.proofs.Maps.{lacks, lacking, laid_has, left_has, left_above}
 use Rattle.net_receiver.proofs.Step.{any_verdict, segment_cases}
 use Rattle.net_receiver.proofs.OneStream.{next_position_grows}
 

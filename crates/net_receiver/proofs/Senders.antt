@@ -1,5 +1,7 @@
 -- Facts of senders: the SACK block that begins next, and what is lent.
-use Rattle.std.proofs.Common.{cond, min, ◌≡◌, ℕ, suc, ◌+◌, ◌-◌, ◌<◌, ◌≤◌, nat_lt, true, false, refl, List, [], ◌∷◌, length, take, drop, get_or, drop-cons, length-take, length-append, length-drop, ◌++◌, ◌∙◌, arith, sym, ap}
+use Rattle.std.proofs.Common.{cond, min, ◌≡◌, ℕ, suc, ◌+◌, ◌-◌, ◌<◌, ◌≤◌, nat_lt, true, false, refl, List, []}
+use Rattle.std.proofs.Common.{◌∷◌, length, take, drop, get_or, drop-cons, length-take, length-append}
+use Rattle.std.proofs.Common.{length-drop, ◌++◌, ◌∙◌, arith, sym, ap}
 use Rattle.std.proofs.lemmas.Bool.Decides.{nat_tests}
 use Rattle.std.proofs.lemmas.List.{drop_all, get_or-take, drop-drop, get_or-drop, drop-append-le}
 use Rattle.net_receiver.specs.SackBlocks.{next_start, count_from, is_sacked}

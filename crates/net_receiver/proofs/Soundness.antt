@@ -1,5 +1,7 @@
 -- What is true of every receiver is true of a fresh one, and is kept by each command.
-use Rattle.std.proofs.Common.{◌≡◌, ◌⊎◌, ℕ, ◌+◌, ◌-◌, ◌<◌, ◌≤◌, ◌==◌, Bool, true, false, cond, not, ◌&&◌, ◌||◌, List, [], ◌∷◌, length, take, filter, nat_le, nat_lt, is_some, refl, sym, ap, subst, ◌∙◌, arith, ⊎_elim, le_trans, length-take, length-drop, eq-eqb}
+use Rattle.std.proofs.Common.{◌≡◌, ◌⊎◌, ℕ, ◌+◌, ◌-◌, ◌<◌, ◌≤◌, ◌==◌, Bool, true, false, cond, not, ◌&&◌, ◌||◌}
+use Rattle.std.proofs.Common.{List, [], ◌∷◌, length, take, filter, nat_le, nat_lt, is_some, refl, sym, ap}
+use Rattle.std.proofs.Common.{subst, ◌∙◌, arith, ⊎_elim, le_trans, length-take, length-drop, eq-eqb}
 use Rattle.std.specs.FinMap as fin
 use Rattle.std.proofs.lemmas.Bool.{both_ways, cond_both, or_left, or_right, or_parts, or_from}
 use Rattle.std.proofs.lemmas.Bool.Decides.{nat_tests}
@@ -9,7 +11,8 @@ use Rattle.net_assembler.proofs.RunLists.{runs-nothing}
 use Rattle.net_receiver.specs.KeptList.{Piece, piece, piece_byte_at, end, piece_within}
 use Rattle.net_receiver.specs.Rules.{Segment, Read, Show, state_after}
 use Rattle.net_receiver.specs.Soundness.{FreshIsSound, SoundStays}
-use Rattle.net_receiver.specs.ReceiverState.{ReceiverState, domain, receiver_with_piece, next_position, receiver_after_command, receiver_ops, IsSound}
+use Rattle.net_receiver.specs.ReceiverState.{ReceiverState, domain, receiver_with_piece, next_position}
+use Rattle.net_receiver.specs.ReceiverState.{receiver_after_command, receiver_ops, IsSound}
 use Rattle.net_receiver.proofs.Covering.{piece_has, piece_at, piece_some, or_swap}
 use Rattle.net_receiver.proofs.Maps.{contains-domain, lacks, lacking, laid_has, left_has}
 use Rattle.net_receiver.proofs.Step.{verdict_by, has-filter, filter_rises}

@@ -1,15 +1,26 @@
 -- The sets of a kept list as lists, and a schedule computed in full.
-use Rattle.std.proofs.Common.{drop, ◌≡◌, ℕ, zero, suc, ◌+◌, ◌-◌, ◌≤◌, min, cond, not, ◌||◌, ◌==◌, List, [], ◌∷◌, ◌++◌, map, filter, flat_map, length, nat_lt, refl, sym, ap, ◌∙◌, arith, take}
+use Rattle.std.proofs.Common.{drop, ◌≡◌, ℕ, zero, suc, ◌+◌, ◌-◌, ◌≤◌, min, cond, not, ◌||◌, ◌==◌, List, []}
+use Rattle.std.proofs.Common.{◌∷◌, ◌++◌, map, filter, flat_map, length, nat_lt, refl, sym, ap, ◌∙◌, arith}
+use Rattle.std.proofs.Common.{take}
 use Rattle.std.specs.Option.{option_or}
 use Rattle.std.specs.List.{range_with_len}
 use Rattle.std.proofs.lemmas.Bool.{cond_both, ltb-true, ltb-false, eqb-false}
 use Rattle.std.proofs.lemmas.Bool.Decides.{nat_tests}
-use Rattle.net_assembler.specs.Positions.{Positions, contains, positions, set_of_list, bound_of, missing_within, first_missing, begins_run, run_starts, runs, maximal_runs, with_range}
-use Rattle.net_assembler.proofs.Positions.{has, Rises, contains-set_of_list, positions-set_of_list, same_positions, runs-maximal_runs}
-use Rattle.net_receiver.specs.KeptList.{Piece, piece, piece_byte_at, piece_within, byte_at, bytes, covered_set, next, held_positions}
-use Rattle.net_receiver.specs.Rules.{CommandValue, Segment, ReplyValue, SegmentReply, ReadReply, ShowReply, Refuses, Keeps, verdict_of_piece, state_after, segment_result, first_three, verdict}
+use Rattle.net_assembler.specs.Positions.{Positions, contains, positions, set_of_list, bound_of}
+use Rattle.net_assembler.specs.Positions.{missing_within, first_missing, begins_run, run_starts, runs}
+use Rattle.net_assembler.specs.Positions.{maximal_runs, with_range}
+use Rattle.net_assembler.proofs.Positions.{has, Rises, contains-set_of_list, positions-set_of_list}
+use Rattle.net_assembler.proofs.Positions.{same_positions, runs-maximal_runs}
+use Rattle.net_receiver.specs.KeptList.{Piece, piece, piece_byte_at, piece_within, byte_at, bytes}
+use Rattle.net_receiver.specs.KeptList.{covered_set, next, held_positions}
+use Rattle.net_receiver.specs.Rules.{CommandValue, Segment, ReplyValue, SegmentReply, ReadReply, ShowReply}
+use Rattle.net_receiver.specs.Rules.{Refuses, Keeps, verdict_of_piece, state_after, segment_result}
+use Rattle.net_receiver.specs.Rules.{first_three, verdict}
 use Rattle.net_receiver.specs.Schedule.{Setting, KeptState, fresh_kept, kept_replies, kept_ops}
-use Rattle.net_receiver.specs.WorkedExample.{is_in, with_position, rising_list, missing_of, missing_in, runs_in, covered_list, held_list, NextComputed, HeldComputed, RunsComputed, ByteComputed, segment_reply, worked_commands, WorkedSchedule}
+use Rattle.net_receiver.specs.WorkedExample.{is_in, with_position, rising_list, missing_of, missing_in}
+use Rattle.net_receiver.specs.WorkedExample.{runs_in, covered_list, held_list, NextComputed, HeldComputed}
+use Rattle.net_receiver.specs.WorkedExample.{RunsComputed, ByteComputed, segment_reply, worked_commands}
+use Rattle.net_receiver.specs.WorkedExample.{WorkedSchedule}
 use Rattle.net_receiver.proofs.Step.{filter_rises}
 
 in_has : (ks : List ℕ) (q : ℕ) → is_in ks q ≡ has ks q

@@ -108,7 +108,8 @@ window_of s = s.receiver.capacity - length s.receiver.queue
 abbrev pub in_window : FiniteState → ℕ → Bool
 in_window s p = nat_le (acknowledged s) p && nat_lt p (acknowledged s + window_of s)
 
--- of n numbers from pos on the first or the last may arrive; if none may, there is none, and pos is the acknowledged one
+-- of n numbers from pos on the first or the last may arrive; if none may, there is none, and pos is the
+-- acknowledged one
 abbrev pub is_acceptable : FiniteState → ℕ → ℕ → Bool
 is_acceptable s pos n =
     if nat_eq (window_of s) 0 then nat_eq n 0 && nat_eq pos (acknowledged s)

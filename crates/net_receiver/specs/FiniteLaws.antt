@@ -2,16 +2,19 @@
 --     FiniteCommand      a segment, which is the last one or isn't, or a read
 --     finite_after_commands N s cs, bytes_taken N s cs      what they leave, and the bytes that the reads took
 --     CommandFits c      the segment's end has a position, and an end a number
---     MatchesFinite f x pos xs last      the segment is one of the stream x, which begins at f, and ends after its last byte
+--     MatchesFinite f x pos xs last      the segment is one of the stream x, which begins at f, and ends after its
+--         last byte
 --     ReceivesFinite f x s      the receiver took only such segments
 -- The others are laws.
-use Rattle.std.specs.Prelude.{◌≡◌, ℕ, ◌+◌, ◌<◌, ◌≤◌, Bool, true, IsOk, List, [], ◌∷◌, ◌++◌, length, take, All, IsTrue, IsFalse}
+use Rattle.std.specs.Prelude.{◌≡◌, ℕ, ◌+◌, ◌<◌, ◌≤◌, Bool, true, IsOk, IsTrue, IsFalse}
+use Rattle.std.specs.Prelude.{List, [], ◌∷◌, ◌++◌, length, take, All}
 use Rattle.net_receiver.specs.KeptList.{is_covered}
 use Rattle.net_receiver.specs.Schedule.{KeptState, Agrees}
 use Rattle.net_receiver.specs.Retransmission.{HasByteAt}
 use Rattle.net_receiver.specs.ReceiverState.{next_position, limit_of, IsSound, Refines}
 use Rattle.net_receiver.specs.OneStream.{MatchesStream, ReceivesFrom}
-use Rattle.net_receiver.specs.Finite.{FiniteState, no_end, fresh_finite, knows_end, has_other_end, finite_after, finite_result, finite_after_read, IsSameFinite}
+use Rattle.net_receiver.specs.Finite.{FiniteState, no_end, fresh_finite, knows_end, has_other_end}
+use Rattle.net_receiver.specs.Finite.{finite_after, finite_result, finite_after_read, IsSameFinite}
 use Rattle.net_receiver.specs.Finite.{is_complete, acknowledged, has_read_all, IsSoundEnd}
 
 -- ---- lists of segments and reads
@@ -75,7 +78,8 @@ abbrev pub EndStays : Type 0
 EndStays = (most_runs : ℕ) (s : FiniteState) (cs : List FiniteCommand) → IsSoundEnd s → All CommandFits cs →
     let t = finite_after_commands most_runs s cs in
     (IsTrue (knows_end s) → t.end ≡ s.end)
-    × (IsTrue (is_complete s) → IsTrue (is_complete t) × (next_position t.receiver ≡ s.end) × (acknowledged t ≡ s.end + 1))
+    × (IsTrue (is_complete s) →
+    IsTrue (is_complete t) × (next_position t.receiver ≡ s.end) × (acknowledged t ≡ s.end + 1))
     × (IsTrue (has_read_all s) → IsTrue (has_read_all t))
 
 -- a segment of the stream is never said to end it elsewhere, and leaves a receiver that took only such

@@ -1,4 +1,4 @@
--- A sender of a stream that ends: its end has a number after the last byte's, and is sent and acknowledged as a byte is.
+-- A sender of a stream that ends: its end has a number after the last byte's, and is sent and acknowledged as a byte.
 --     FiniteSenderState, fresh_finite_sender capacity first      a sender, what it says of the end, and what was sent
 --     first_number s, numbers_end s      the first number that isn't acknowledged, and the one after the last
 --     finite_room s, with_bytes s xs      how many bytes can be written, and the sender once they were

@@ -3,9 +3,11 @@
 --     sender_after_commands s cs, bytes_written s cs      what they leave, and the bytes that were taken
 --     IsSoundSent s      what is true of every sender
 -- The others are laws.
-use Rattle.std.specs.Prelude.{◌≡◌, ℕ, ◌+◌, ◌-◌, ◌<◌, ◌≤◌, max, min, if◌then◌else◌, List, [], ◌∷◌, ◌++◌, length, take, drop, nat_le}
+use Rattle.std.specs.Prelude.{◌≡◌, ℕ, ◌+◌, ◌-◌, ◌<◌, ◌≤◌, max, min, if◌then◌else◌, nat_le}
+use Rattle.std.specs.Prelude.{List, [], ◌∷◌, ◌++◌, length, take, drop}
 use Rattle.net_receiver.specs.SenderState.{end_of, Sends}
-use Rattle.net_receiver.specs.FiniteSender.{FiniteSenderState, fresh_finite_sender, first_number, numbers_end, finite_room, with_bytes, closed_sender}
+use Rattle.net_receiver.specs.FiniteSender.{FiniteSenderState, fresh_finite_sender, first_number, numbers_end}
+use Rattle.net_receiver.specs.FiniteSender.{finite_room, with_bytes, closed_sender}
 use Rattle.net_receiver.specs.FiniteSender.{has_end_at, accepts, acknowledged_below}
 use Rattle.net_receiver.specs.FiniteLaws.{MatchesFinite}
 
@@ -61,7 +63,8 @@ SoundSentStays = (s : FiniteSenderState) (c : SenderCommand) → IsSoundSent s �
 -- after all commands the sender sends what was written, and then what they wrote; once it is closed it stays
 -- closed, and its end is where it was; once the end is acknowledged it stays so, and all bytes are
 abbrev pub ClosedStays : Type 0
-ClosedStays = (s : FiniteSenderState) (cs : List SenderCommand) (f : ℕ) (w : List ℕ) → IsSoundSent s → Sends f w s.sender →
+ClosedStays = (s : FiniteSenderState) (cs : List SenderCommand) (f : ℕ) (w : List ℕ) →
+    IsSoundSent s → Sends f w s.sender →
     let t = sender_after_commands s cs in
     Sends f (w ++ bytes_written s cs) t.sender
     × (s.closed ≡ 1 → (t.closed ≡ 1) × (bytes_written s cs ≡ []) × (end_of t.sender ≡ end_of s.sender))

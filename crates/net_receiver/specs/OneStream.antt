@@ -13,8 +13,8 @@ use Rattle.std.specs.FinMap as fin
 use Rattle.net_receiver.specs.KeptList.{piece}
 use Rattle.net_receiver.specs.Rules.{CommandValue, Segment, Read, Show}
 use Rattle.net_receiver.specs.Schedule.{Setting, KeptState, kept_after_commands, PieceAgrees, Agrees}
-use Rattle.net_receiver.specs.ReceiverState.{ReceiverState, fresh_receiver, next_position, receiver_after_command, IsSound}
-use Rattle.net_receiver.specs.ReceiverState.{limit_of, Refines}
+use Rattle.net_receiver.specs.ReceiverState.{ReceiverState, fresh_receiver, next_position, receiver_after_command}
+use Rattle.net_receiver.specs.ReceiverState.{limit_of, Refines, IsSound}
 
 -- ---- the relations
 -- a segment has the bytes of x at its positions from f on; the other commands bring no bytes

@@ -30,7 +30,13 @@ pub record SenderState : Type 0 where
 -- storage begins again at `wraps_at`
 abbrev pub sender_state : ℕ → ℕ → List ℕ → List (ℕ × ℕ) → ℕ → SenderState
 sender_state capacity head queue sack_blocks wraps_at =
-    record { capacity = capacity; first_unacknowledged = head; queue = queue; sack_blocks = sack_blocks; wraps_at = wraps_at }
+    record {
+      capacity = capacity;
+      first_unacknowledged = head;
+      queue = queue;
+      sack_blocks = sack_blocks;
+      wraps_at = wraps_at;
+    }
 
 -- the position after the last byte
 abbrev pub end_of : SenderState → ℕ

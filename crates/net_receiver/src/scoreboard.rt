@@ -20,6 +20,17 @@ use std::marker::Model;
 /// memory. `next_lost` gives what is lost, range by range, and `next_hole` all that isn't reported, of
 /// which most may only be in flight; when it is sent again is the caller's choice. smoltcp has no such
 /// type: its TCP socket sends again from the first unacknowledged position on.
+///
+/// ```
+/// use net_base::scoreboard::Scoreboard;
+///
+/// // Of the bytes from 100 to 199, all sent, those below 120 and those from 140 to 159 have arrived.
+/// let mut scoreboard = Scoreboard::<4>::empty();
+/// assert_eq!(scoreboard.acknowledge(120), Ok(()));
+/// assert_eq!(scoreboard.report(140, 160, 200), Ok(true));
+/// assert_eq!(scoreboard.next_hole(120, 200), Some((120, 140)));
+/// assert_eq!(scoreboard.next_hole(140, 200), Some((160, 200)));
+/// ```
 #[derive(Clone, Drop)]
 pub struct Scoreboard<const N: usize> {
     head: ScoreboardHead,
@@ -44,6 +55,16 @@ impl<const N: usize> Model for Scoreboard<N> {
 
 impl<const N: usize> Scoreboard<N> {
     /// Returns a scoreboard of a stream that begins at position 0, to which nothing was reported.
+    ///
+    /// ```
+    /// # use net_base::scoreboard::Scoreboard;
+    /// assert!(!Scoreboard::<4>::empty().contains(0));
+    /// ```
+    ///
+    /// ```compile_fail
+    /// # use net_base::scoreboard::Scoreboard;
+    /// let scoreboard = Scoreboard::<0>::empty();
+    /// ```
     ///
     /// # Requires
     ///
@@ -107,6 +128,14 @@ impl<const N: usize> Scoreboard<N> {
 
     /// Forgets all that was reported, as when a retransmission timer ends (RFC 2018, section 8): then
     /// `acknowledge` is called with what was acknowledged.
+    ///
+    /// ```
+    /// # use net_base::scoreboard::Scoreboard;
+    /// # let mut scoreboard = Scoreboard::<4>::empty();
+    /// assert_eq!(scoreboard.report(5, 9, 20), Ok(true));
+    /// scoreboard.clear();
+    /// assert!(!scoreboard.contains(5));
+    /// ```
     pub fn clear(&mut self)
         ensures { self.new ≡ nothing }
     {
@@ -122,6 +151,16 @@ impl<const N: usize> Scoreboard<N> {
     /// begins beyond the first position that wasn't reported, and there would be more than `N` runs
     /// beyond it: then the block isn't known, and its bytes are sent again. On a processor of 32 bits it
     /// is refused too if `end` is 2^32 or more above the first position that wasn't reported.
+    ///
+    /// ```
+    /// # use net_base::scoreboard::Scoreboard;
+    /// # use net_base::storage::TooManyHolesError;
+    /// let mut scoreboard = Scoreboard::<1>::empty();
+    /// assert_eq!((scoreboard.report(5, 9, 8), scoreboard.report(9, 5, 20)), (Ok(false), Ok(false)));
+    /// assert_eq!((scoreboard.report(5, 9, 9), scoreboard.report(8, 12, 20)), (Ok(true), Ok(true)));
+    /// assert_eq!(scoreboard.report(14, 15, 20), Err(TooManyHolesError));
+    /// assert!(scoreboard.contains(11) && !scoreboard.contains(14));
+    /// ```
     pub fn report(&mut self, start: u64, end: u64, sent: u64) -> Result<bool, TooManyHolesError>
         ensures block { IfOk result (λ taken. IsTrue taken ↔ ((start < end) × (end ≤ sent))) }
         ensures ok { result ≡ Ok true → self.new ≡ with_range self.old start (end - start) }
@@ -137,6 +176,14 @@ impl<const N: usize> Scoreboard<N> {
     }
 
     /// Reports all positions below `next`. It is never refused.
+    ///
+    /// ```
+    /// # use net_base::scoreboard::Scoreboard;
+    /// # let mut scoreboard = Scoreboard::<4>::empty();
+    /// assert_eq!(scoreboard.report(5, 9, 20), Ok(true));
+    /// assert_eq!(scoreboard.acknowledge(7), Ok(()));
+    /// assert_eq!(scoreboard.next_hole(0, 20), Some((9, 20)));
+    /// ```
     pub fn acknowledge(&mut self, next: u64)
         ensures { self.new ≡ with_range self.old 0 next }
     {
@@ -151,6 +198,13 @@ impl<const N: usize> Scoreboard<N> {
     }
 
     /// Returns whether a position was reported.
+    ///
+    /// ```
+    /// # use net_base::scoreboard::Scoreboard;
+    /// # let mut scoreboard = Scoreboard::<4>::empty();
+    /// assert_eq!(scoreboard.report(5, 9, 20), Ok(true));
+    /// assert!(scoreboard.contains(8) && !scoreboard.contains(9));
+    /// ```
     pub fn contains(&self, pos: u64) -> bool
         ensures { result ≡ contains self.now pos }
     {
@@ -190,6 +244,14 @@ impl<const N: usize> Scoreboard<N> {
     /// Returns the next range that wasn't reported, as a start and an end, the end not included: it
     /// begins at the first position from `pos` on that wasn't, and ends at the next one that was, or at
     /// `limit`. `None` if there is none below `limit`. Of these bytes most may only be in flight.
+    ///
+    /// ```
+    /// # use net_base::scoreboard::Scoreboard;
+    /// # let mut scoreboard = Scoreboard::<4>::empty();
+    /// assert_eq!((scoreboard.report(5, 9, 20), scoreboard.report(12, 20, 20)), (Ok(true), Ok(true)));
+    /// assert_eq!(scoreboard.next_hole(6, 20), Some((9, 12)));
+    /// assert_eq!(scoreboard.next_hole(12, 20), None);
+    /// ```
     pub fn next_hole(&self, pos: u64, limit: u64) -> Option<(u64, u64)>
         ensures { IsHole self.now pos limit result }
     {

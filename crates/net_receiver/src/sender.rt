@@ -29,6 +29,17 @@ pub struct SenderOver<S: Storage<u8>> {
 }
 
 /// A sender over storage that is lent or owned.
+///
+/// ```
+/// use net_base::sender::Sender;
+///
+/// let mut storage = [0u8; 4];
+/// let mut sender = Sender::new(&mut storage[..]);
+/// assert_eq!(sender.write(b"abcde"), 4);
+/// assert_eq!(sender.peek_at(1, 2), b"bc");
+/// assert!(sender.acknowledge(3));
+/// assert_eq!((sender.first_unacknowledged(), sender.len()), (3, 1));
+/// ```
 pub type Sender<'a> = SenderOver<ManagedSlice<'a, u8>>;
 
 impl<S: Storage<u8>> Model for SenderOver<S> {
@@ -118,6 +129,14 @@ impl<S: Storage<u8>> SenderOver<S> {
     }
 
     /// Returns the first unacknowledged position, which is that of the queue's head.
+    ///
+    /// ```
+    /// # use net_base::sender::Sender;
+    /// # let mut storage = [0u8; 4];
+    /// # let mut sender = Sender::new_at(&mut storage[..], 100);
+    /// assert_eq!(sender.write(b"abc"), 3);
+    /// assert_eq!(sender.first_unacknowledged(), 100);
+    /// ```
     pub fn first_unacknowledged(&self) -> u64
         ensures value { result ≡ self.now.first_unacknowledged }
         ensures fits { end_of self.now < 2 ^ 64 }
@@ -126,6 +145,14 @@ impl<S: Storage<u8>> SenderOver<S> {
     }
 
     /// Returns the position after the last byte that was written.
+    ///
+    /// ```
+    /// # use net_base::sender::Sender;
+    /// # let mut storage = [0u8; 4];
+    /// # let mut sender = Sender::new_at(&mut storage[..], 100);
+    /// assert_eq!(sender.write(b"abc"), 3);
+    /// assert_eq!(sender.end(), 103);
+    /// ```
     pub fn end(&self) -> u64
         ensures end { result ≡ end_of self.now }
         ensures fits { end_of self.now < 2 ^ 64 }
@@ -135,6 +162,14 @@ impl<S: Storage<u8>> SenderOver<S> {
     }
 
     /// Returns how many bytes are queued.
+    ///
+    /// ```
+    /// # use net_base::sender::Sender;
+    /// # let mut storage = [0u8; 4];
+    /// # let mut sender = Sender::new(&mut storage[..]);
+    /// assert_eq!(sender.write(b"abc"), 3);
+    /// assert_eq!(sender.len(), 3);
+    /// ```
     pub fn len(&self) -> usize
         ensures { result ≡ length self.now.queue }
     {
@@ -142,6 +177,12 @@ impl<S: Storage<u8>> SenderOver<S> {
     }
 
     /// Returns whether all bytes that were written are acknowledged.
+    ///
+    /// ```
+    /// # use net_base::sender::Sender;
+    /// # let mut storage = [0u8; 4];
+    /// assert!(Sender::new(&mut storage[..]).is_empty());
+    /// ```
     pub fn is_empty(&self) -> bool
         ensures { result ≡ (length self.now.queue == 0) }
     {
@@ -149,6 +190,12 @@ impl<S: Storage<u8>> SenderOver<S> {
     }
 
     /// Returns the most bytes that are queued: the storage's length.
+    ///
+    /// ```
+    /// # use net_base::sender::Sender;
+    /// let mut storage = [0u8; 4];
+    /// assert_eq!(Sender::new(&mut storage[..]).capacity(), 4);
+    /// ```
     pub fn capacity(&self) -> usize
         ensures { result ≡ self.now.capacity }
     {
@@ -157,6 +204,12 @@ impl<S: Storage<u8>> SenderOver<S> {
 
     /// Returns the window: how many bytes `write` would take. As many as have room in the storage and
     /// below the last position, `u64::MAX`.
+    ///
+    /// ```
+    /// # use net_base::sender::Sender;
+    /// # let mut storage = [0u8; 4];
+    /// assert_eq!(Sender::new_at(&mut storage[..], u64::MAX - 3).window(), 3);
+    /// ```
     pub fn window(&self) -> usize
         ensures { result ≡ room_of self.now }
     {
@@ -164,6 +217,14 @@ impl<S: Storage<u8>> SenderOver<S> {
     }
 
     /// Enqueues the first of these bytes, as many as `window` says, and returns how many.
+    ///
+    /// ```
+    /// # use net_base::sender::Sender;
+    /// # let mut storage = [0u8; 4];
+    /// # let mut sender = Sender::new(&mut storage[..]);
+    /// assert_eq!((sender.write(b"abc"), sender.write(b"def")), (3, 1));
+    /// assert_eq!(sender.peek_at(0, 9), b"abcd");
+    /// ```
     pub fn write(&mut self, bytes: &[u8]) -> usize
         ensures count { result ≡ min (length bytes.now) (room_of self.old) }
         ensures state { self.new ≡ with_written self.old (take result bytes.now) }
@@ -176,6 +237,14 @@ impl<S: Storage<u8>> SenderOver<S> {
 
     /// Lends the queued bytes from the one at `pos` on, at most `max`, without a copy: as many as are
     /// contiguous in the storage, which wraps. No byte is lent if the byte at `pos` isn't queued.
+    ///
+    /// ```
+    /// # use net_base::sender::Sender;
+    /// # let mut storage = [0u8; 4];
+    /// # let mut sender = Sender::new_at(&mut storage[..], 100);
+    /// assert_eq!(sender.write(b"abc"), 3);
+    /// assert_eq!((sender.peek_at(101, 9), sender.peek_at(103, 9)), (&b"bc"[..], &b""[..]));
+    /// ```
     pub fn peek_at(&self, pos: u64, max: usize) -> &[u8]
         ensures value { result.now
             ≡ take (length result.now) (drop (pos - self.now.first_unacknowledged) self.now.queue) }
@@ -221,6 +290,15 @@ impl<S: Storage<u8>> SenderOver<S> {
     /// Accepts an acknowledgement: dequeues all bytes below `next`, and returns true. A position below
     /// `first_unacknowledged` or above `end` changes nothing, and returns false. `acknowledge_sent` also
     /// refuses a position of bytes that were written and not sent.
+    ///
+    /// ```
+    /// # use net_base::sender::Sender;
+    /// # let mut storage = [0u8; 4];
+    /// # let mut sender = Sender::new_at(&mut storage[..], 100);
+    /// assert_eq!(sender.write(b"abc"), 3);
+    /// assert!(sender.acknowledge(102) && !sender.acknowledge(104));
+    /// assert_eq!(sender.peek_at(102, 9), b"c");
+    /// ```
     pub fn acknowledge(&mut self, next: u64) -> bool
         ensures accepted { IsTrue result
             ↔ ((self.old.first_unacknowledged ≤ next) × (next ≤ end_of self.old)) }
@@ -236,6 +314,16 @@ impl<S: Storage<u8>> SenderOver<S> {
     /// `end`: no such byte was written.
     ///
     /// The caller keeps this mark. It begins as the position of the stream's first byte.
+    ///
+    /// ```
+    /// # use net_base::sender::Sender;
+    /// # let mut storage = [0u8; 4];
+    /// # let mut sender = Sender::new_at(&mut storage[..], 100);
+    /// assert_eq!(sender.write(b"abc"), 3);
+    /// let mut sent = 100;
+    /// assert!(sender.mark_sent(&mut sent, 102) && sender.mark_sent(&mut sent, 101));
+    /// assert!(sent == 102 && !sender.mark_sent(&mut sent, 104));
+    /// ```
     pub fn mark_sent(&self, sent: &mut u64, pos: u64) -> bool
         ensures accepted { IsTrue result
             ↔ ((sent.old ≤ end_of self.now) × (pos ≤ end_of self.now)) }
@@ -249,6 +337,17 @@ impl<S: Storage<u8>> SenderOver<S> {
     /// `sent` is the position after the last byte that was ever sent, as `mark_sent` keeps it. Returns
     /// false, and changes nothing, if `next` is below `first_unacknowledged` or above `sent`, or `sent`
     /// is above `end`. RFC 9293, section 3.10.7.4, wants an acknowledgement above `sent` refused.
+    ///
+    /// ```
+    /// # use net_base::sender::Sender;
+    /// # let mut storage = [0u8; 4];
+    /// # let mut sender = Sender::new_at(&mut storage[..], 100);
+    /// assert_eq!(sender.write(b"abc"), 3);
+    /// let mut sent = 100;
+    /// assert!(sender.mark_sent(&mut sent, 102));
+    /// assert!(!sender.acknowledge_sent(103, sent) && sender.acknowledge_sent(102, sent));
+    /// assert_eq!(sender.peek_at(102, 9), b"c");
+    /// ```
     pub fn acknowledge_sent(&mut self, next: u64, sent: u64) -> bool
         ensures accepted { IsTrue result ↔ ((self.old.first_unacknowledged ≤ next) × (next ≤ sent)
             × (sent ≤ end_of self.old)) }

@@ -11,6 +11,14 @@ use std::ops::Add;
 /// A contract sees a whole number below 2^32. A receiver counts in positions of 64 bits, which do
 /// not wrap; `at` and `position` convert between the two. smoltcp's `SeqNumber` is an `i32` and has
 /// no positions.
+///
+/// ```
+/// use net_base::sequence_number::SequenceNumber;
+///
+/// let last = SequenceNumber::new(u32::MAX);
+/// assert_eq!((last + 1).get(), 0);
+/// assert!(last.is_before(last + 1));
+/// ```
 #[derive(Debug, Copy, Clone, PartialEq, Eq)]
 pub struct SequenceNumber {
     number: u32,
@@ -26,6 +34,11 @@ impl Model for SequenceNumber {
 
 impl SequenceNumber {
     /// Returns this number.
+    ///
+    /// ```
+    /// # use net_base::sequence_number::SequenceNumber;
+    /// assert_eq!(SequenceNumber::new(7).get(), 7);
+    /// ```
     pub const fn new(number: u32) -> Self
         ensures { result ≡ number }
     {
@@ -33,6 +46,11 @@ impl SequenceNumber {
     }
 
     /// Returns the number as it is sent.
+    ///
+    /// ```
+    /// # use net_base::sequence_number::SequenceNumber;
+    /// assert_eq!(SequenceNumber::new(7).get(), 7);
+    /// ```
     pub const fn get(self) -> u32
         ensures { result ≡ self }
     {
@@ -46,6 +64,12 @@ impl SequenceNumber {
     /// ```rust
     /// let window = receiver.window().min(65_535) as u16;
     /// (SequenceNumber::at(initial, receiver.next()), window)
+    /// ```
+    ///
+    /// ```
+    /// # use net_base::sequence_number::SequenceNumber;
+    /// let initial = SequenceNumber::new(u32::MAX);
+    /// assert_eq!(SequenceNumber::at(initial, 3).get(), 2);
     /// ```
     pub fn at(initial: SequenceNumber, pos: u64) -> Self
         ensures { result ≡ number_at initial pos }
@@ -66,6 +90,14 @@ impl SequenceNumber {
     ///     }
     /// }
     /// ```
+    ///
+    /// ```
+    /// # use net_base::sequence_number::SequenceNumber;
+    /// let (initial, number) = (SequenceNumber::new(u32::MAX), SequenceNumber::new(2));
+    /// assert_eq!(number.position(initial, 0), Some(3));
+    /// assert_eq!(number.position(initial, 1 << 32), Some((1 << 32) + 3));
+    /// assert_eq!(SequenceNumber::new(u32::MAX - 1).position(initial, 0), None);
+    /// ```
     pub fn position(self, initial: SequenceNumber, next: u64) -> Option<u64>
         ensures number { IfSome result (λ pos. number_at initial pos ≡ self) }
         ensures near { IfSome result (λ pos. IsNear next pos) }
@@ -81,6 +113,11 @@ impl SequenceNumber {
     }
 
     /// Returns how far this number is ahead of another one, modulo 2^32.
+    ///
+    /// ```
+    /// # use net_base::sequence_number::SequenceNumber;
+    /// assert_eq!(SequenceNumber::new(2).ahead_of(SequenceNumber::new(u32::MAX)), 3);
+    /// ```
     pub fn ahead_of(self, other: SequenceNumber) -> u32
         ensures { result ≡ ahead_of other self }
     {
@@ -89,6 +126,12 @@ impl SequenceNumber {
 
     /// Returns whether another number is ahead of this one by less than 2^31, and is not the same.
     /// Of two numbers that are 2^31 apart neither is before the other.
+    ///
+    /// ```
+    /// # use net_base::sequence_number::SequenceNumber;
+    /// let (one, other) = (SequenceNumber::new(u32::MAX), SequenceNumber::new(2));
+    /// assert!(one.is_before(other) && !other.is_before(one) && !one.is_before(one));
+    /// ```
     pub fn is_before(self, other: SequenceNumber) -> bool
         ensures { IsTrue result ↔ ComesBefore self other }
     {

@@ -19,7 +19,9 @@ use base.Stored.{Gv}
 use base.Fml.{Lft, GName, Share, Fml, fsep, fex, feq, fat, flft, fobor, fobs, fauth, fbor}
 use contract.Monad.{fact}
 use types.Logic.{Logic, sem}
-use types.Kit.{Goal, Soaks, Item, Seq, mean, later, ‵, raw, some, given, ◌⊛◌, ◌$◌, ◌∵◌, !, qed, by, move, keep, drop, use1, use2, split, split3, group, pick, learn, show, rewrite, await, fsplit, fjoin, fpick, fpack, feq_l, feq_i, done}
+use types.Kit.{Goal, Soaks, Item, Seq, mean, later, ‵, raw, some, given, ◌⊛◌, ◌$◌, ◌∵◌, !, qed, by, move}
+use types.Kit.{keep, drop, use1, use2, split, split3, group, pick, learn, show, rewrite, await, fsplit, fjoin}
+use types.Kit.{fpick, fpack, feq_l, feq_i, done}
 use types.Match.{live}
 use types.Mut.{open_ref}
 use types.SemTy.{Body}

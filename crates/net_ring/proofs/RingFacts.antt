@@ -1,16 +1,26 @@
 -- What the clauses of a ring's calls say, from its storage.
-use Rattle.std.proofs.Common.{◌≢◌, get_or, ◌≡◌, ℕ, ◌+◌, ◌-◌, ◌<◌, ◌≤◌, ◌⊎◌, List, [], ◌∷◌, ◌++◌, length, take, drop, min, refl, sym, ap, ap₂, ◌∙◌, subst, inl, inr, arith, length-drop, add-zero, nat_lt, if◌then◌else◌}
+use Rattle.std.proofs.Common.{◌≢◌, get_or, ◌≡◌, ℕ, ◌+◌, ◌-◌, ◌<◌, ◌≤◌, ◌⊎◌, List, [], ◌∷◌, ◌++◌, length, take}
+use Rattle.std.proofs.Common.{drop, min, refl, sym, ap, ap₂, ◌∙◌, subst, inl, inr, arith, length-drop}
+use Rattle.std.proofs.Common.{add-zero, nat_lt, if◌then◌else◌}
 use Rattle.std.proofs.lemmas.Bool.Decides.{nat_tests}
 use Rattle.std.proofs.lemmas.Bool.{false≢true, cases_lt}
-use Rattle.std.proofs.lemmas.List.{drop-drop, length-take-le, take-append-drop, take_all, drop_all, nil_from_length, drop_more, places, same_lists}
+use Rattle.std.proofs.lemmas.List.{drop-drop, length-take-le, take-append-drop, take_all, drop_all}
+use Rattle.std.proofs.lemmas.List.{nil_from_length, drop_more, places, same_lists}
 use Rattle.std.specs.Prelude.{Result, IsOk, IsErr, is_ok, slice_get}
 use Rattle.std.proofs.lemmas.Option.{gets}
 use Rattle.std.specs.declared.result.Result.TheVariants.{Ok, Err}
 use Rattle.net_ring.specs.Overwrite.{overwrite}
-use Rattle.net_ring.specs.Ring.{RingState, last_dequeued_index, rotation, ring, capacity, window, queue, index_after, spare, storage_index, write_at, IsWellFormed, with_elements, with_elements_wrapping, with_enqueued, with_dequeued, rewind_if_empty, contiguous_window, contiguous_queued, spare_index, contiguous_unallocated, queue_index, contiguous_allocated, Enqueues, Dequeues, WritesSpare, WritesQueue, EnqueuesFrom, DequeuesFrom}
+use Rattle.net_ring.specs.Ring.{RingState, last_dequeued_index, rotation, ring, capacity, window, queue}
+use Rattle.net_ring.specs.Ring.{index_after, spare, storage_index, write_at, IsWellFormed, with_elements}
+use Rattle.net_ring.specs.Ring.{with_elements_wrapping, with_enqueued, with_dequeued, rewind_if_empty}
+use Rattle.net_ring.specs.Ring.{contiguous_window, contiguous_queued, spare_index, contiguous_unallocated}
+use Rattle.net_ring.specs.Ring.{queue_index, contiguous_allocated, Enqueues, Dequeues, WritesSpare}
+use Rattle.net_ring.specs.Ring.{WritesQueue, EnqueuesFrom, DequeuesFrom}
 use Rattle.net_ring.specs.RingHead.{ring_at, rewound}
 use Rattle.net_ring.specs.declared.head.RingHead.{RingHead}
-use Rattle.net_ring.proofs.Rotations.{IsStorageIndex, length-rotation, length-overwrite, storage_index_is, read_at_le, whole, length-queue, length-spare, spare-written, queue-written, with_enqueued_parts, with_dequeued_parts, take_sum}
+use Rattle.net_ring.proofs.Rotations.{IsStorageIndex, length-rotation, length-overwrite, storage_index_is}
+use Rattle.net_ring.proofs.Rotations.{read_at_le, whole, length-queue, length-spare, spare-written}
+use Rattle.net_ring.proofs.Rotations.{queue-written, with_enqueued_parts, with_dequeued_parts, take_sum}
 
 module _ {T : Type 0} where
   -- ---- lists

@@ -1,11 +1,20 @@
 -- Elements leave a ring in the order in which they came, over any calls.
-use Rattle.std.proofs.Common.{◌≡◌, ℕ, ◌+◌, ◌-◌, ◌≤◌, List, [], ◌∷◌, ◌++◌, length, take, drop, refl, sym, ap, ap₂, ◌∙◌, subst, inl, inr, arith, append_assoc, length-append, length-drop}
+use Rattle.std.proofs.Common.{◌≡◌, ℕ, ◌+◌, ◌-◌, ◌≤◌, List, [], ◌∷◌, ◌++◌, length, take, drop, refl, sym, ap}
+use Rattle.std.proofs.Common.{ap₂, ◌∙◌, subst, inl, inr, arith, append_assoc, length-append, length-drop}
 use Rattle.std.proofs.lemmas.List.{take_at, append-nil, nil_from_length, take-take, take_all, places, same_lists}
 use Rattle.std.proofs.lemmas.Bool.{cases_lt}
 use Rattle.net_ring.specs.Overwrite.{overwrite}
 use Rattle.net_ring.specs.Log.{Log, empty_log, log_accepted, log_left, log_dropped}
-use Rattle.net_ring.specs.Ring.{RingState, IsWellFormed, ring, capacity, window, queue, write_at, storage_index, contiguous_window, contiguous_queued, contiguous_queue, last_dequeued_index, spare_index, queue_index, with_elements, with_elements_wrapping, with_enqueued, rewind_if_empty}
-use Rattle.net_ring.specs.RingHistory.{RingCall, Clear, Reset, RewindIfEmpty, WriteLastDequeued, PopBack, EnqueueSlice, EnqueueUnallocated, EnqueueMany, EnqueueManyWith, EnqueueOne, EnqueueErr, GetUnallocated, WriteUnallocated, Dequeue, DequeueMany, DequeueManyWith, DequeueOne, DequeueErr, GetAllocatedMut, Makes, MakesAll, log_written, log_without_last, log_after, log_after_all, history}
+use Rattle.net_ring.specs.Ring.{RingState, IsWellFormed, ring, capacity, window, queue, write_at}
+use Rattle.net_ring.specs.Ring.{storage_index, contiguous_window, contiguous_queued, contiguous_queue}
+use Rattle.net_ring.specs.Ring.{last_dequeued_index, spare_index, queue_index, with_elements}
+use Rattle.net_ring.specs.Ring.{with_elements_wrapping, with_enqueued, rewind_if_empty}
+use Rattle.net_ring.specs.RingHistory.{RingCall, Clear, Reset, RewindIfEmpty, WriteLastDequeued, PopBack}
+use Rattle.net_ring.specs.RingHistory.{EnqueueSlice, EnqueueUnallocated, EnqueueMany, EnqueueManyWith}
+use Rattle.net_ring.specs.RingHistory.{EnqueueOne, EnqueueErr, GetUnallocated, WriteUnallocated, Dequeue}
+use Rattle.net_ring.specs.RingHistory.{DequeueMany, DequeueManyWith, DequeueOne, DequeueErr, GetAllocatedMut}
+use Rattle.net_ring.specs.RingHistory.{Makes, MakesAll, log_written, log_without_last, log_after}
+use Rattle.net_ring.specs.RingHistory.{log_after_all, history}
 use Rattle.net_ring.proofs.Rotations.{length-overwrite, overwrite-append_right, length-queue}
 use Rattle.net_ring.proofs.RingFacts as facts
 

@@ -1,5 +1,6 @@
 -- The queue in its two contiguous parts, and parts of lists by index.
-use Rattle.std.proofs.Common.{min, subst, ◌≡◌, ◌≢◌, ℕ, ◌+◌, ◌-◌, ◌<◌, ◌≤◌, List, ◌++◌, length, take, drop, get_or, sym, ap, ap₂, ◌∙◌, arith, length-take, length-drop}
+use Rattle.std.proofs.Common.{min, subst, ◌≡◌, ◌≢◌, ℕ, ◌+◌, ◌-◌, ◌<◌, ◌≤◌, List, ◌++◌, length, take, drop}
+use Rattle.std.proofs.Common.{get_or, sym, ap, ap₂, ◌∙◌, arith, length-take, length-drop}
 use Rattle.std.proofs.lemmas.List.{drop_at, take_all, places}
 use Rattle.net_ring.specs.Ring.{RingState, IsWellFormed, queue, contiguous_queue, contiguous_queued, capacity}
 use Rattle.net_ring.proofs.Rotations.{IsStorageIndex, length-queue, read_at_le}

@@ -1,9 +1,12 @@
 -- What a rotated list holds after a write to the list, and how the queue and the spare part of a ring change.
-use Rattle.std.proofs.Common.{◌≡◌, ℕ, ◌+◌, ◌-◌, ◌<◌, ◌≤◌, ◌⊎◌, List, ◌++◌, length, take, drop, sym, ap, ap₂, ◌∙◌, inl, inr, arith, append_assoc, length-append, length-take, length-drop}
-use Rattle.std.proofs.lemmas.List.{take-append-drop, length-take-le, take_at, drop_at, take-append-le, drop-append-le, take-take, drop-take, drop-drop, places, same_lists}
+use Rattle.std.proofs.Common.{◌≡◌, ℕ, ◌+◌, ◌-◌, ◌<◌, ◌≤◌, ◌⊎◌, List, ◌++◌, length, take, drop, sym, ap, ap₂}
+use Rattle.std.proofs.Common.{◌∙◌, inl, inr, arith, append_assoc, length-append, length-take, length-drop}
+use Rattle.std.proofs.lemmas.List.{take-append-drop, length-take-le, take_at, drop_at, take-append-le}
+use Rattle.std.proofs.lemmas.List.{drop-append-le, take-take, drop-take, drop-drop, places, same_lists}
 use Rattle.std.proofs.lemmas.Bool.Decides.{nat_tests}
 use Rattle.net_ring.specs.Overwrite.{overwrite}
-use Rattle.net_ring.specs.Ring.{RingState, rotation, capacity, window, queue, spare, storage_index, IsWellFormed, with_elements, with_enqueued, with_dequeued}
+use Rattle.net_ring.specs.Ring.{RingState, rotation, capacity, window, queue, spare, storage_index}
+use Rattle.net_ring.specs.Ring.{IsWellFormed, with_elements, with_enqueued, with_dequeued}
 
 -- p is the index, in a list of c elements, of the element j of the list rotated by r
 abbrev pub IsStorageIndex : ℕ → ℕ → ℕ → ℕ → Type 0

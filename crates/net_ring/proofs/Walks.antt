@@ -12,7 +12,9 @@ pub use base.Fml.{GName, ftrue, fat, flft, fobs, fbor}
 pub use prog.Wp.{WpFn}
 pub use contract.BorrowLft.{◌⊑◌}
 pub use contract.Running.{tables}
-pub use types.Kit.{‵, ◌⊛◌, raw, given, some, later, ◌$◌, ◌∵◌, !, qed, move, keep, drop, split, split3, join, fsplit, fsplit3, fjoin, rewrite, use1, use2, use3, await, pick, suffices, frame, done, at_ret, learn, fjoin3, feq_i}
+pub use types.Kit.{‵, ◌⊛◌, raw, given, some, later, ◌$◌, ◌∵◌, !, qed, move, keep, drop, split, split3, join}
+pub use types.Kit.{fsplit, fsplit3, fjoin, rewrite, use1, use2, use3, await, pick, suffices, frame, done}
+pub use types.Kit.{at_ret, learn, fjoin3, feq_i}
 pub use types.Part.{whole, sub, look_in, agg}
 pub use types.Run.{stop, fld, hop, addr, of_opd, load, no_more, and_then, returns, enter, first, exec, bin, size_word}
 pub use types.ByLocal.{alloc_all, pass_all, free_all, look_at, get, through, sets, lands_last, env, get_in, is}

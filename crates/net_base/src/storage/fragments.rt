@@ -14,6 +14,7 @@ use net_assembler::{AssemblerHead, Run, assembler};
 
 mod buffer;
 pub mod laws;
+pub mod table;
 
 /// Why a fragment or a size is refused.
 #[derive(Debug, Clone, Copy, PartialEq, Eq, Drop)]

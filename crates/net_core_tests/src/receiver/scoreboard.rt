@@ -116,20 +116,52 @@ fn is_reported(board: &mut Scoreboard<4>, start: u64, end: u64) -> bool {
 fn what_is_lost(rt: HostRuntime) {
     let mut board = Scoreboard::<4>::empty_at(100);
     let taken = is_reported(&mut board, 110, 120) && is_reported(&mut board, 130, 140);
-    assert_holds(&rt, taken && !is_reported(&mut board, 150, 201), ("taken", 2));
+    assert_holds(
+        &rt,
+        taken && !is_reported(&mut board, 150, 201),
+        ("taken", 2),
+    );
     assert_holds(&rt, board.next_lost(100, 3, 10) == None, ("20 bytes", 10));
-    assert_holds(&rt, board.next_lost(100, 3, 9) == Some((100, 110)), ("20 bytes", 9));
+    assert_holds(
+        &rt,
+        board.next_lost(100, 3, 9) == Some((100, 110)),
+        ("20 bytes", 9),
+    );
     assert_holds(&rt, is_reported(&mut board, 150, 151), ("taken", 3));
-    assert_holds(&rt, board.next_lost(100, 3, 1000) == Some((100, 110)), ("three runs", 100));
-    assert_holds(&rt, board.next_lost(110, 3, 1000) == None, ("two runs", 110));
-    assert_holds(&rt, board.next_lost(110, 3, 5) == Some((120, 130)), ("11 bytes", 110));
+    assert_holds(
+        &rt,
+        board.next_lost(100, 3, 1000) == Some((100, 110)),
+        ("three runs", 100),
+    );
+    assert_holds(
+        &rt,
+        board.next_lost(110, 3, 1000) == None,
+        ("two runs", 110),
+    );
+    assert_holds(
+        &rt,
+        board.next_lost(110, 3, 5) == Some((120, 130)),
+        ("11 bytes", 110),
+    );
     assert_holds(&rt, board.next_lost(130, 3, 5) == None, ("1 byte", 130));
     // In flight, and not lost.
-    assert_holds(&rt, board.next_hole(130, 200) == Some((140, 150)), ("hole", 130));
+    assert_holds(
+        &rt,
+        board.next_hole(130, 200) == Some((140, 150)),
+        ("hole", 130),
+    );
     board.acknowledge(125);
-    assert_holds(&rt, board.next_lost(0, 3, 5) == Some((125, 130)), ("acknowledged", 125));
+    assert_holds(
+        &rt,
+        board.next_lost(0, 3, 5) == Some((125, 130)),
+        ("acknowledged", 125),
+    );
     board.reset_at(7);
-    assert_holds(&rt, board.next_hole(0, 9) == Some((7, 9)), ("begun again", 7));
+    assert_holds(
+        &rt,
+        board.next_hole(0, 9) == Some((7, 9)),
+        ("begun again", 7),
+    );
 }
 
 /// Returns whether the blocks of one acknowledgement are found as they were listed.

@@ -28,6 +28,15 @@ impl<S: Storage<u8>, const N: usize> ReceiverOver<S, N> {
     /// }
     /// receiver.read(into)
     /// ```
+    ///
+    /// ```
+    /// # use net_base::receiver::Receiver;
+    /// # let mut storage = [0u8; 16];
+    /// # let mut receiver = Receiver::new(&mut storage[..]);
+    /// assert!(receiver.segment(0, b"abc").is_ok());
+    /// let mut into = *b"--";
+    /// assert_eq!((receiver.read(&mut into), &into, receiver.len()), (2, b"ab", 1));
+    /// ```
     pub fn read(&mut self, into: &mut [u8]) -> usize
         ensures state { self.new ≡ receiver_after_read self.old (length into.old) }
         ensures count { result ≡ min (length into.old) (length self.old.queue) }
@@ -50,6 +59,14 @@ impl<S: Storage<u8>, const N: usize> ReceiverOver<S, N> {
     ///
     /// The stream's byte number i, counted from 0, has the index `i` modulo the capacity in the
     /// storage, so a caller knows where a part ends. smoltcp's `peek` lends from the head on.
+    ///
+    /// ```
+    /// # use net_base::receiver::Receiver;
+    /// # let mut storage = [0u8; 16];
+    /// # let mut receiver = Receiver::new(&mut storage[..]);
+    /// assert!(receiver.segment(0, b"abc").is_ok());
+    /// assert_eq!(receiver.peek(1, 9), b"bc");
+    /// ```
     pub fn peek(&self, offset: usize, size: usize) -> &[u8]
         ensures count { length result.now ≡ contiguous_count_from self.now offset size }
         ensures few { length result.now ≤ min size (length self.now.queue - offset) }
@@ -81,6 +98,15 @@ impl<S: Storage<u8>, const N: usize> ReceiverOver<S, N> {
     /// Copies bytes from the head of the queue to the beginning of `into`, and returns how many:
     /// as many as are queued and as `into` has room for. The rest of `into` stays as it is, and
     /// the queue too: the bytes are those that a `read` would take.
+    ///
+    /// ```
+    /// # use net_base::receiver::Receiver;
+    /// # let mut storage = [0u8; 16];
+    /// # let mut receiver = Receiver::new(&mut storage[..]);
+    /// assert!(receiver.segment(0, b"abc").is_ok());
+    /// let mut into = *b"--";
+    /// assert_eq!((receiver.peek_slice(&mut into), &into, receiver.len()), (2, b"ab", 3));
+    /// ```
     pub fn peek_slice(&self, into: &mut [u8]) -> usize
         ensures count { result ≡ min (length into.old) (length self.now.queue) }
         ensures into { into.new ≡
@@ -99,6 +125,16 @@ impl<S: Storage<u8>, const N: usize> ReceiverOver<S, N> {
     /// beginning on. The second part is empty unless the queue wraps.
     ///
     /// smoltcp has no such call; std's `VecDeque` has it.
+    ///
+    /// ```
+    /// # use net_base::receiver::Receiver;
+    /// # let mut storage = [0u8; 4];
+    /// # let mut receiver = Receiver::new(&mut storage[..]);
+    /// assert!(receiver.segment(0, b"abc").is_ok());
+    /// assert_eq!(receiver.read(&mut [0; 2]), 2);
+    /// assert!(receiver.segment(3, b"def").is_ok());
+    /// assert_eq!(receiver.as_slices(), (&b"cd"[..], &b"ef"[..]));
+    /// ```
     pub fn as_slices(&self) -> (&[u8], &[u8])
         ensures queue { result.0.now ++ result.1.now ≡ self.now.queue }
         ensures cut { length result.0.now ≡ contiguous_count self.now }
@@ -121,6 +157,15 @@ impl<S: Storage<u8>, const N: usize> ReceiverOver<S, N> {
     ///
     /// `f` must take that part, and count no more bytes than it is lent. smoltcp's `recv` lends the
     /// bytes for writing too.
+    ///
+    /// ```
+    /// # use net_base::receiver::Receiver;
+    /// # let mut storage = [0u8; 16];
+    /// # let mut receiver = Receiver::new(&mut storage[..]);
+    /// assert!(receiver.segment(0, b"abc").is_ok());
+    /// assert_eq!(receiver.read_with(|bytes| (2, bytes.len())), (2, 3));
+    /// assert_eq!(receiver.peek(0, 9), b"c");
+    /// ```
     ///
     /// # Requires
     ///

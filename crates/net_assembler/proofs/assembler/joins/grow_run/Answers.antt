@@ -7,7 +7,8 @@ use Rattle.net_assembler.proofs.AssemblerLaws.{below_binary_digits, no_turn}
 use Rattle.net_assembler.proofs.Positions.{either}
 use Rattle.net_assembler.proofs.RunLists.{replaced_run, grown_run, all_after, starts_rise}
 use Rattle.net_assembler.proofs.assembler.joins.grow_run.Goals as goal
-use Rattle.net_assembler.proofs.assembler.joins.grow_run.Goals.{then-second-used-via-then-second-used, then-second-used-via-else-second-used+then-end-start_of}
+use Rattle.net_assembler.proofs.assembler.joins.grow_run.Goals.{then-second-used-via-then-second-used}
+use Rattle.net_assembler.proofs.assembler.joins.grow_run.Goals.{then-second-used-via-else-second-used+then-end-start_of}
 
 pub returns-then-second-used-clause-joined : goal.returns-then-second-used-clause-joined
 returns-then-second-used-clause-joined c =

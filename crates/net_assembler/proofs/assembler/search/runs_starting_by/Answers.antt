@@ -1,7 +1,9 @@
 use Rattle.std.proofs.Common.{◌+◌, ◌-◌, ◌*◌, ◌/◌, ◌≤◌, arith}
 use Rattle.net_assembler.proofs.RunLists.{halved, starts_rise}
 use Rattle.net_assembler.proofs.assembler.search.runs_starting_by.Goals as goal
-use Rattle.net_assembler.proofs.assembler.search.runs_starting_by.Goals.{then-start_of-end, else-start_of-end, then-from-runs-via-then-from-runs, then-from-runs-via-else-from-runs+then-end-start_of}
+use Rattle.net_assembler.proofs.assembler.search.runs_starting_by.Goals.{then-start_of-end, else-start_of-end}
+use Rattle.net_assembler.proofs.assembler.search.runs_starting_by.Goals.{then-from-runs-via-then-from-runs}
+use Rattle.net_assembler.proofs.assembler.search.runs_starting_by.Goals.{then-from-runs-via-else-from-runs+then-end-start_of}
 
 pub returns-then-from-runs-clause-after : goal.returns-then-from-runs-clause-after
 returns-then-from-runs-clause-after c = λ k l n. elim c.then-from-runs.branch [

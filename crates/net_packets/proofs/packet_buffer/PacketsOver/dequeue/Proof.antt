@@ -18,9 +18,13 @@ use contract.BorrowLft.{◌⊑◌, ⊑_trans, meet_⊑_right}
 use contract.Lifetimes.{Lfts, Shares, AllOutlive}
 use contract.Monad.{fact, fact_i}
 use contract.Running.{Running, MachineTables, tables}
-use types.Kit.{mean, any_q, Post as After, rewrite, frame, ‵, raw, ◌⊛◌, some, later, at_ret, ◌$◌, ◌∵◌, !, qed, by, move, keep, drop, split, split3, join, fsplit, fsplit3, fjoin, feq_i, fpack, pick, suffices, use0, use1, use2, use3, await, done}
-use types.Run.{stop, fld, addr, lit, of_opd, no_more, and_then, first, switches_on, exec, returns, returns_within, enter}
-use types.ByLocal.{lands_as, alloc_all, pass_all, free_all, look_at, get, get_in, get_tag, through, sets, sets_last, env}
+use types.Kit.{mean, any_q, Post as After, rewrite, frame, ‵, raw, ◌⊛◌, some, later, at_ret, ◌$◌, ◌∵◌, !, qed}
+use types.Kit.{by, move, keep, drop, split, split3, join, fsplit, fsplit3, fjoin, feq_i, fpack, pick}
+use types.Kit.{suffices, use0, use1, use2, use3, await, done}
+use types.Run.{stop, fld, addr, lit, of_opd, no_more, and_then, first, switches_on, exec, returns}
+use types.Run.{returns_within, enter}
+use types.ByLocal.{lands_as, alloc_all, pass_all, free_all, look_at, get, get_in, get_tag, through, sets}
+use types.ByLocal.{sets_last, env}
 use types.Part.{agg, sub, whole}
 use types.Match.{live, vrt, in_variant}
 use denote.Exit.{no}
@@ -51,11 +55,14 @@ use Rattle.std.proofs.raw_atomic.Walks.{proved}
 use Rattle.std.proofs.ResultValues.{ok_of, err_of, and_tt}
 use Rattle.std.specs.Prelude.{Ok, Err, IsErr, IfOk, OnOk, OnErr, ◌↔◌}
 use Rattle.std.specs.contracts.result.Result as RS
-use Rattle.net_packets.specs.Packets.{without_gap, without_first_and_gap, last_dequeued_bytes_index, last_dequeued_bytes, AreLastDequeued, IsFirstSized, IsFirst, first_size, without_first_gap, with_bytes}
+use Rattle.net_packets.specs.Packets.{without_gap, without_first_and_gap, last_dequeued_bytes_index}
+use Rattle.net_packets.specs.Packets.{last_dequeued_bytes, AreLastDequeued, IsFirstSized, IsFirst, first_size}
+use Rattle.net_packets.specs.Packets.{without_first_gap, with_bytes}
 use Rattle.net_ring.specs.contracts.error.Empty as EM
 use Rattle.net_packets.specs.PacketHistory.{contents, Makes, Take as Taken, WriteLastDequeued}
 use Rattle.net_packets.proofs.LendInside.{lent, Back, lends_inside, comes_inside}
-use Rattle.net_packets.proofs.ResultParts.{no_fields, alone, ok_or_err, ok_had, err_had, pair_had, pair_of, pair_val, pair_typed, and_fact, says_all}
+use Rattle.net_packets.proofs.ResultParts.{no_fields, alone, ok_or_err, ok_had, err_had, pair_had, pair_of}
+use Rattle.net_packets.proofs.ResultParts.{pair_val, pair_typed, and_fact, says_all}
 use Rattle.net_packets.proofs.WalkedQueue.{Given, args, Header, Self, Q, Live, others, Asked, asked, lives}
 use Rattle.net_packets.specs.contracts.packet_buffer.PacketsOver.take as take
 use Rattle.net_packets.proofs.packet_buffer.PacketsOver.take.Symbol.{name as #take}

@@ -8,7 +8,9 @@ use Rattle.net_packets.specs.Packets.{Packet, IsFirst, after_hand_out, first_gap
 use Rattle.net_packets.specs.PacketsHead.{with_slot_taken}
 use Rattle.net_packets.specs.PacketHistory.{contents}
 use Rattle.net_packets.specs.PacketSlots.{slot}
-use Rattle.net_packets.proofs.HeadParts.{parts_some, parts_has_header, parts_first_fits, parts_first_in, parts_first_sized, parts_first_bytes, handed_gone, handed_back, set_again}
+use Rattle.net_packets.proofs.HeadParts.{parts_some, parts_has_header, parts_first_fits, parts_first_in}
+use Rattle.net_packets.proofs.HeadParts.{parts_first_sized, parts_first_bytes, handed_gone, handed_back}
+use Rattle.net_packets.proofs.HeadParts.{set_again}
 use Rattle.net_packets.proofs.PacketOrder as order
 use Rattle.net_packets.proofs.PacketRuns.{handed_contents, dequeue_with_call, none_of}
 use Rattle.net_packets.proofs.PacketSteps.{close_gap, close_first}

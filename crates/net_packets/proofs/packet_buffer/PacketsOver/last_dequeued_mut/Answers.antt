@@ -2,7 +2,8 @@ use Rattle.std.proofs.Common.{refl}
 use Rattle.net_packets.specs.Packets.{last_dequeued_bytes_index}
 use Rattle.net_packets.proofs.PacketSteps.{well_placed}
 use Rattle.net_packets.proofs.PacketRuns.{last_dequeued_unseen, last_dequeued_call}
-use Rattle.net_packets.proofs.HeadParts.{parts_dequeued_shown, parts_dequeued_size, parts_dequeued_sound, parts_dequeued_written}
+use Rattle.net_packets.proofs.HeadParts.{parts_dequeued_shown, parts_dequeued_size, parts_dequeued_sound}
+use Rattle.net_packets.proofs.HeadParts.{parts_dequeued_written}
 use Rattle.net_ring.proofs.Rotations.{length-overwrite}
 use Rattle.net_packets.proofs.packet_buffer.PacketsOver.last_dequeued_mut.Goals as goal
 

@@ -1,5 +1,6 @@
 use Rattle.std.proofs.Common.{refl, ◌∙◌, arith}
-use Rattle.net_packets.proofs.HeadParts.{parts_last_in, parts_last_at, parts_last_fits, parts_last_shown, parts_last_size, parts_last_sound, parts_last_written}
+use Rattle.net_packets.proofs.HeadParts.{parts_last_in, parts_last_at, parts_last_fits, parts_last_shown}
+use Rattle.net_packets.proofs.HeadParts.{parts_last_size, parts_last_sound, parts_last_written}
 use Rattle.net_packets.proofs.packet_buffer.PacketsOver.last_part_mut.Goals as goal
 
 pub overflow_sub-before : goal.overflow_sub-before

@@ -3,7 +3,8 @@ use Rattle.std.proofs.lemmas.Bool.{false≢true}
 use Rattle.std.proofs.lemmas.Option.{none-some}
 use Rattle.net_packets.specs.Packets.{with_packet_if}
 use Rattle.net_packets.specs.declared.head.PacketsHead.{PacketsHead}
-use Rattle.net_packets.proofs.HeadParts.{parts_full, parts_gap_is, placed_sound, placed_as, placed_size, parts_placed_is}
+use Rattle.net_packets.proofs.HeadParts.{parts_full, parts_gap_is, placed_sound, placed_as, placed_size}
+use Rattle.net_packets.proofs.HeadParts.{parts_placed_is}
 use Rattle.net_packets.proofs.PacketSteps.{well_placed}
 use Rattle.net_packets.proofs.PacketRuns.{accepted_as, stands_as, place_call}
 use Rattle.net_packets.proofs.packet_buffer.PacketsOver.place.Goals as goal

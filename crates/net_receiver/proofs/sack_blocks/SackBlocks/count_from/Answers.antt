@@ -4,7 +4,8 @@ use Rattle.net_assembler.specs.Positions.{lies_in}
 use Rattle.net_receiver.specs.SackBlocks.{count_from}
 use Rattle.net_receiver.proofs.Senders.{rest_of_first}
 use Rattle.net_receiver.proofs.sack_blocks.SackBlocks.count_from.Goals as goal
-use Rattle.net_receiver.proofs.sack_blocks.SackBlocks.count_from.Goals.{else-start-pos-via-then-start-pos+else-pos-end, else-start-pos-via-else-start-pos}
+use Rattle.net_receiver.proofs.sack_blocks.SackBlocks.count_from.Goals.{else-start-pos-via-then-start-pos+else-pos-end}
+use Rattle.net_receiver.proofs.sack_blocks.SackBlocks.count_from.Goals.{else-start-pos-via-else-start-pos}
 
 pub loop-i-preserved : goal.loop-i-preserved
 loop-i-preserved c =

@@ -1,4 +1,5 @@
-use Rattle.std.proofs.Common.{inl, inr, [], ◌≡◌, ◌≤◌, ◌-◌, ◌++◌, ◌∙◌, ap, sym, length, take, drop, min, arith, length-take, length-drop}
+use Rattle.std.proofs.Common.{inl, inr, [], ◌≡◌, ◌≤◌, ◌-◌, ◌++◌, ◌∙◌, ap, sym, length, take, drop, min, arith}
+use Rattle.std.proofs.Common.{length-take, length-drop}
 use Rattle.std.proofs.lemmas.Bool.{cases_lt}
 use Rattle.std.proofs.lemmas.List.{nil_from_length, take_min}
 use Rattle.net_ring.specs.Ring.{queue}

@@ -1,4 +1,5 @@
-use Rattle.std.proofs.Common.{rules, Bool, length, true, false, ◌≡◌, ◌≢◌, ◌∷◌, [], refl, ap, sym, ◌∙◌, is_ok, if◌then◌else◌, slice_index_or, drop, arith}
+use Rattle.std.proofs.Common.{rules, Bool, length, true, false, ◌≡◌, ◌≢◌, ◌∷◌, [], refl, ap, sym, ◌∙◌, is_ok}
+use Rattle.std.proofs.Common.{if◌then◌else◌, slice_index_or, drop, arith}
 use denote.MutBor.{at_last}
 use Rattle.net_ring.specs.Ring.{RingState, queue, with_dequeued, with_elements}
 use Rattle.net_ring.specs.Overwrite.{overwrite}

@@ -1,7 +1,9 @@
 use Rattle.std.proofs.Common.{List, ◌≡◌, ◌∙◌, refl, sym, subst, ap, length, min, arith}
-use Rattle.net_ring.specs.Ring.{IsWellFormed, index_after, capacity, rewind_if_empty, contiguous_window, write_at, with_enqueued, with_elements}
+use Rattle.net_ring.specs.Ring.{IsWellFormed, index_after, capacity, rewind_if_empty, contiguous_window}
+use Rattle.net_ring.specs.Ring.{write_at, with_enqueued, with_elements}
 use Rattle.net_ring.specs.RingHead.{ring_at, rewound}
-use Rattle.net_ring.proofs.RingFacts.{well, found_next, rewind_wf, rewound_ring, left_in, shown_next, enqueued_law, contiguous_rewound_some, rewound_is}
+use Rattle.net_ring.proofs.RingFacts.{well, found_next, rewind_wf, rewound_ring, left_in, shown_next}
+use Rattle.net_ring.proofs.RingFacts.{enqueued_law, contiguous_rewound_some, rewound_is}
 use Rattle.net_ring.proofs.Rotations.{length-overwrite}
 use Rattle.net_ring.specs.RingHistory.{Makes}
 use Rattle.net_ring.proofs.ring_buffer.RingOver.enqueue_many.Goals as goal

@@ -1,4 +1,5 @@
-use Rattle.std.proofs.Common.{rules, Bool, true, false, ◌≡◌, ◌≢◌, ◌∷◌, [], refl, ap, sym, ◌∙◌, is_ok, if◌then◌else◌, slice_index_or, arith}
+use Rattle.std.proofs.Common.{rules, Bool, true, false, ◌≡◌, ◌≢◌, ◌∷◌, [], refl, ap, sym, ◌∙◌, is_ok}
+use Rattle.std.proofs.Common.{if◌then◌else◌, slice_index_or, arith}
 use denote.MutBor.{at_last}
 use Rattle.net_ring.specs.Ring.{RingState, write_at, window, with_enqueued, with_elements}
 use Rattle.net_ring.specs.Overwrite.{overwrite}

@@ -1,5 +1,6 @@
 use Rattle.std.proofs.Common.{◌≡◌, ◌+◌, ◌++◌, length, take, min, sym, ap, subst, ◌∙◌, arith, length-take}
-use Rattle.net_ring.specs.Ring.{IsWellFormed, Enqueues, capacity, window, queue, write_at, rewind_if_empty, with_enqueued, with_elements_wrapping}
+use Rattle.net_ring.specs.Ring.{IsWellFormed, Enqueues, capacity, window, queue, write_at, rewind_if_empty}
+use Rattle.net_ring.specs.Ring.{with_enqueued, with_elements_wrapping}
 use Rattle.net_ring.specs.RingHead.{ring_at}
 use Rattle.net_ring.proofs.HeadFacts.{lent_whole}
 use Rattle.net_ring.specs.RingHistory.{Makes}

@@ -3,7 +3,9 @@ use Rattle.std.proofs.lemmas.List.{length-set}
 use Rattle.net_assembler.specs.Positions.{runs_shifted_up}
 use Rattle.net_assembler.specs.RunLists.{used_runs, set_of_runs}
 use Rattle.net_assembler.proofs.ShiftedRuns.{fits-less, some_joined}
-use Rattle.net_assembler.proofs.Heads.{accepted, first_runs, first_sound, joined_length, joined_runs, joined_sound, no_room, none_added, preceded_length, preceded_runs, preceded_sound, refused}
+use Rattle.net_assembler.proofs.Heads.{accepted, first_runs, first_sound, joined_length, joined_runs}
+use Rattle.net_assembler.proofs.Heads.{joined_sound, no_room, none_added, preceded_length, preceded_runs}
+use Rattle.net_assembler.proofs.Heads.{preceded_sound, refused}
 use Rattle.net_assembler.proofs.assembler.head.AssemblerHead.add_counted.Goals as goal
 
 pub returns-then-size-eq0-clause-added : goal.returns-then-size-eq0-clause-added

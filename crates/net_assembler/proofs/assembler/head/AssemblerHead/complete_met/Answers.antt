@@ -6,7 +6,8 @@ use Rattle.net_assembler.specs.Turns.{binary_digits}
 use Rattle.net_assembler.proofs.AssemblerLaws.{below_binary_digits}
 use Rattle.net_assembler.proofs.Positions.{either}
 use Rattle.net_assembler.proofs.RunLists.{with_range-none}
-use Rattle.net_assembler.proofs.Heads.{few_held, dropped, dropped_number, reached, length-used_runs, pair_fits, pairs_apart, runs-set_of, start_of}
+use Rattle.net_assembler.proofs.Heads.{few_held, dropped, dropped_number, reached, length-used_runs}
+use Rattle.net_assembler.proofs.Heads.{pair_fits, pairs_apart, runs-set_of, start_of}
 use Rattle.net_assembler.proofs.assembler.head.AssemblerHead.complete_met.Goals as goal
 
 pub returns-then-size-eq0-clause-size : goal.returns-then-size-eq0-clause-size

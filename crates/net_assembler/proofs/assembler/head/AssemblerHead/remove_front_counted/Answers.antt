@@ -2,7 +2,8 @@ use Rattle.std.proofs.Common.{◌∙◌, ap, sym, arith}
 use Rattle.net_assembler.specs.Positions.{front}
 use Rattle.net_assembler.specs.RunLists.{runs_of, set_of, set_of_runs}
 use Rattle.net_assembler.proofs.RunLists.{shift_down-zero, shifted_down_set}
-use Rattle.net_assembler.proofs.Heads.{are_runs, dropped, dropped_number, few_held, front_held, pairs_apart, runs-set_of}
+use Rattle.net_assembler.proofs.Heads.{are_runs, dropped, dropped_number, few_held, front_held, pairs_apart}
+use Rattle.net_assembler.proofs.Heads.{runs-set_of}
 use Rattle.net_assembler.proofs.assembler.head.AssemblerHead.remove_front_counted.Goals as goal
 
 pub returns-then-size-eq0-clause-removed : goal.returns-then-size-eq0-clause-removed

@@ -4,7 +4,8 @@ use Rattle.net_receiver.specs.FiniteLaws.{ReceivesFinite}
 use Rattle.net_receiver.proofs.EndLaws.{segment_of_stream}
 use Rattle.net_receiver.proofs.Ends.{no_other, left_state, left_result, sound_after, cut_is}
 use Rattle.net_receiver.proofs.finite.receiver.FiniteReceiverOver.keep.Goals as goal
-use Rattle.net_receiver.proofs.finite.receiver.FiniteReceiverOver.keep.Goals.{else-is_last-via-then-is_last+else-not-can_end, else-is_last-via-else-is_last}
+use Rattle.net_receiver.proofs.finite.receiver.FiniteReceiverOver.keep.Goals.{else-is_last-via-then-is_last+else-not-can_end}
+use Rattle.net_receiver.proofs.finite.receiver.FiniteReceiverOver.keep.Goals.{else-is_last-via-else-is_last}
 
 pub returns-in-Ok-clause-state : goal.returns-in-Ok-clause-state
 returns-in-Ok-clause-state g c =

@@ -7,7 +7,10 @@ use Rattle.net_receiver.specs.ReceiverState.{IsSameState}
 use Rattle.net_receiver.specs.Head.{receiver_of}
 use Rattle.net_receiver.proofs.Placed.{alike}
 use Rattle.net_receiver.proofs.receiver.head.ReceiverHead.is_same_state.Goals as goal
-use Rattle.net_receiver.proofs.receiver.head.ReceiverHead.is_same_state.Goals.{then-self-other, else-self-other, then-self-other-2, else-self-other-2}
+use Rattle.net_receiver.proofs.receiver.head.ReceiverHead.is_same_state.Goals.{then-self-other}
+use Rattle.net_receiver.proofs.receiver.head.ReceiverHead.is_same_state.Goals.{else-self-other}
+use Rattle.net_receiver.proofs.receiver.head.ReceiverHead.is_same_state.Goals.{then-self-other-2}
+use Rattle.net_receiver.proofs.receiver.head.ReceiverHead.is_same_state.Goals.{else-self-other-2}
 
 -- what is compared before the held runs is equal
 before_held : (c : goal.After-is_same) →

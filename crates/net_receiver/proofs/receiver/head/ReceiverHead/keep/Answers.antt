@@ -1,5 +1,6 @@
 -- Each goal is a lemma of `Heads.antt` at what the calls ensured.
-use Rattle.std.proofs.Common.{◌≡◌, ◌⊎◌, ◌≤◌, ◌-◌, length, take, drop, Ok, refl, ap, ◌∙◌, arith, length-take, length-drop}
+use Rattle.std.proofs.Common.{◌≡◌, ◌⊎◌, ◌≤◌, ◌-◌, length, take, drop, Ok, refl, ap, ◌∙◌, arith, length-take}
+use Rattle.std.proofs.Common.{length-drop}
 use Rattle.std.proofs.lemmas.List.{take_rest}
 use Rattle.net_receiver.specs.declared.receiver.head.ReceiverHead.{ReceiverHead}
 use Rattle.net_assembler.specs.Positions.{with_range, runs}

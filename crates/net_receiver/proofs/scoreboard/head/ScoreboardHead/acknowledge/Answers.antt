@@ -1,6 +1,7 @@
 use Rattle.std.proofs.Common.{◌≡◌, ◌+◌, arith}
 use Rattle.net_assembler.specs.RunLists.{set_of}
-use Rattle.net_receiver.proofs.Boards.{acknowledged_again, acknowledged_begins, acknowledged_is, acknowledged_fits, base_fits}
+use Rattle.net_receiver.proofs.Boards.{acknowledged_again, acknowledged_begins, acknowledged_is}
+use Rattle.net_receiver.proofs.Boards.{acknowledged_fits, base_fits}
 use Rattle.net_receiver.proofs.scoreboard.head.ScoreboardHead.acknowledge.Goals as goal
 
 pub returns-then-next-self-clause-set : goal.returns-then-next-self-clause-set

@@ -5,7 +5,8 @@ use Rattle.net_receiver.specs.Scoreboards.{reported_by, beyond, sizes}
 use Rattle.net_receiver.proofs.Boards.{as_many, number_of, number_beyond, sizes_fit}
 use Rattle.net_receiver.proofs.Losses.{IsBoundSoFar, no_bound, further, bound_stops, few_tell, many_tell}
 use Rattle.net_receiver.proofs.scoreboard.head.ScoreboardHead.lost_below.Goals as goal
-use Rattle.net_receiver.proofs.scoreboard.head.ScoreboardHead.lost_below.Goals.{else-count-max-via-then-count-max+else-bytes-most, else-count-max-via-else-count-max}
+use Rattle.net_receiver.proofs.scoreboard.head.ScoreboardHead.lost_below.Goals.{else-count-max-via-then-count-max+else-bytes-most}
+use Rattle.net_receiver.proofs.scoreboard.head.ScoreboardHead.lost_below.Goals.{else-count-max-via-else-count-max}
 
 pub loop-start-init : goal.loop-start-init
 loop-start-init c =

@@ -3,7 +3,8 @@ use Rattle.std.proofs.lemmas.Bool.{false≢true}
 use Rattle.net_assembler.specs.Positions.{with_range}
 use Rattle.net_assembler.specs.RunLists.{set_of}
 use Rattle.net_receiver.specs.Scoreboards.{reported_by, board}
-use Rattle.net_receiver.proofs.Boards.{front_board, with_range_below, with_range_beyond, no_room, added_begins, added_fits, on_ok}
+use Rattle.net_receiver.proofs.Boards.{front_board, with_range_below, with_range_beyond, no_room}
+use Rattle.net_receiver.proofs.Boards.{added_begins, added_fits, on_ok}
 use Rattle.net_receiver.proofs.scoreboard.head.ScoreboardHead.report.Goals as goal
 
 pub returns-then-start-self-clause-ok : goal.returns-then-start-self-clause-ok
