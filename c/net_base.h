@@ -95,9 +95,9 @@ extern "C" {
 
 /* Rings: where elements are in a storage that the caller keeps, and the numbers after a call.
  *
- * Of elements that aren't bytes a call sees only the capacity of their storage: it returns where
- * they are, and the caller copies them. A place that isn't one of a ring of that capacity is
- * refused. An empty queue may begin at any index; `read_at` is 0 if the capacity is.
+ * If the elements aren't bytes, pass only the capacity: the call returns indices, and you copy. A
+ * head that doesn't fit the capacity is refused. An empty queue may begin at any index; `read_at`
+ * is 0 if the capacity is.
  */
 
 /* The numbers of a ring apart from its storage. */
@@ -108,8 +108,8 @@ struct net_base_ring {
     uint64_t length;
 };
 
-/* Where elements of a ring are in its storage: those that are not contiguous with the first one are
- * at the storage's beginning.
+/* A range of a ring: `contiguous` elements from the index `from` on, and the rest of `count` from
+ * index 0 on.
  */
 struct net_base_span {
     /* The index of the first one. */
@@ -1198,6 +1198,31 @@ bool net_base_finite_sender_is_closed(const struct net_base_finite_sender *sende
 
 /* Returns whether all bytes and the end are acknowledged. */
 bool net_base_finite_sender_is_closed_and_acknowledged(const struct net_base_finite_sender *sender);
+
+/* What a TCP computes: acceptable segments, the scale of its window, the Internet checksum. */
+
+/* Returns whether a segment is acceptable to a receiver whose first missing position is `next`, and
+ * which announced `window` positions from there on. The segment's first position is `seq`, and it
+ * has `len` positions: its bytes, and one each for a SYN and a FIN.
+ *
+ * It is if it has a position within the window. If it has none at all it must stand within the
+ * window, or at `next` if the window is empty.
+ */
+bool net_base_tcp_is_acceptable(uint64_t next, uint64_t window, uint64_t seq, uint64_t len);
+
+/* Returns the least scale by which this capacity can be announced, or 14 if none can. */
+uint8_t net_base_tcp_scale_for(uint64_t capacity);
+
+/* Returns the checksum of these bytes. */
+uint16_t net_base_tcp_checksum(const uint8_t *bytes, uint64_t bytes_length);
+
+/* Returns whether these bytes, with their checksum among them at an even offset, are valid. */
+bool net_base_tcp_is_checksum_valid(const uint8_t *bytes, uint64_t bytes_length);
+
+/* Returns the checksum of a message in which the word `old` became `new`, from its checksum before
+ * (RFC 1624, equation 3).
+ */
+uint16_t net_base_tcp_updated_checksum(uint16_t checksum, uint16_t old, uint16_t new);
 
 /* END */
 

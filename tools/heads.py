@@ -69,6 +69,8 @@ SOUND = {"AssemblerHead": "Head and runs are sound, as `net_base_assembler_is_so
          "ReceiverHead": "Head, storage and runs are sound, as `net_base_receiver_is_sound` tests.",
          "FiniteReceiverHead": "Head, storage and runs are sound, as `net_base_finite_receiver_is_sound` tests."}
 NONE = "NET_BASE_NONE"
+# In place of a head's type: functions of a crate, whose name is in place of the parameter.
+FREE = "-"
 
 
 @dataclasses.dataclass
@@ -134,16 +136,16 @@ def stop(message):
 
 
 def methods_of(path):
-    """The public methods of a file by name."""
+    """The public methods and functions of a file by name."""
     text, found = path.read_text(), {}
-    head = re.compile(r"((?:^    ///.*\n)+)(?:^    #\[.*\n)*^    pub (?:const )?fn (\w+)(?:<T: Copy>)?(\()", flags=re.M)
+    head = re.compile(r"((?:^ *///.*\n)+)(?:^ *#\[.*\n)*^ *pub (?:const )?fn (\w+)(?:<T: Copy>)?(\()", flags=re.M)
     for match in head.finditer(text):
         end = ffi.closing(text, match.start(3))
-        body = re.compile(r"^    \{$", flags=re.M).search(text, end).start()
+        body = re.compile(r"^(?:    )?\{$", flags=re.M).search(text, end).start()
         parameters = [" ".join(it.split()) for it in ffi.split_top(text[match.end(3) : end])]
         result = re.match(r"\s*->\s*(.+?)\s*(?=\n)", text[end + 1 :])
         clauses = {"requires": [], "ensures": []}
-        for clause in re.finditer(r"^        (requires|ensures) ?(\w*) ?\{", text[end:body], flags=re.M):
+        for clause in re.finditer(r"^ +(requires|ensures) ?(\w*) ?\{", text[end:body], flags=re.M):
             opening = end + clause.end() - 1
             clauses[clause[1]].append((clause[2], " ".join(text[opening + 1 : ffi.closing(text, opening)].split())))
         found[match[2]] = Method(ffi.doc_of(match[1]), parameters, result[1] if result else "", **clauses)
@@ -169,10 +171,11 @@ class Export:
         self.head, self.name, self.method = head, words[1], words[2] or words[1]
         of = head.methods[self.method]
         self.doc = doc or (of.doc[: of.doc.index("# Requires")] if "# Requires" in of.doc else list(of.doc))
-        self.self = of.parameters[0]
-        writes = self.self == "&mut self"
-        self.parameters = [(head.name, f"&{'mut ' * writes}{head.type}")]
-        for it in of.parameters[1:]:
+        self.parameters, given = [], of.parameters
+        if head.type != FREE:
+            self.parameters = [(head.name, f"&{'mut ' * (given[0] == '&mut self')}{head.type}")]
+            given = given[1:]
+        for it in given:
             name, kind = it.split(": ", 1)
             self.parameters.append((head.names.get(name, name), kind.replace("[T]", "[u8]")))
         self.requires = [self.named(clause) for _, clause in of.requires]
@@ -227,7 +230,8 @@ class Export:
                                  zeros, f"the status is `NET_BASE_REFUSED`, and {' and '.join(fields)} 0", fields,
                                  (("status", "result.status ≡ NET_BASE_DONE"),))
         elif kind:
-            self.result = RESULTS.get(kind) or stop(f"{self.name}: no way to return {kind}")
+            plain = Result(kind, "{call}", "", "", "") if kind in ffi.C_TYPES and not self.tests else None
+            self.result = RESULTS.get(kind) or plain or stop(f"{self.name}: no way to return {kind}")
         else:
             self.result = DONE if self.tests else Result("", "{call};", "", "", "")
 
@@ -303,13 +307,14 @@ class Export:
         lines.append("{")
         if self.tests:
             lines += [f"    if {' || '.join(it[1] for it in self.tests)} {{", f"        return {self.result.refusal};", "    }"]
-        call = f"{self.head.name}.{self.method}({', '.join(name for name, _ in self.given())})"
+        owner = f"{self.head.name}::" if self.head.type == FREE else f"{self.head.name}."
+        call = f"{owner}{self.method}({', '.join(name for name, _ in self.given())})"
         lines += [f"    {it}" for it in self.result.body.replace("{call}", call).split("\n    ")]
         return lines + ["}"]
 
     def given(self):
         """The parameters that the method gets."""
-        return [it for it in self.parameters[1:] if not (isinstance(self.result.value, str) and f"{it[0]}.new" == self.result.value)]
+        return [it for it in self.parameters[self.head.type != FREE :] if not (isinstance(self.result.value, str) and f"{it[0]}.new" == self.result.value)]
 
     def comment(self):
         """The comment: what the call does, when it is refused, and its duty."""
@@ -424,7 +429,7 @@ def file_of(head, exports):
     for name, module in (CODE | {"is_plausible": f"crate::{head.section.removeprefix('finite_')}"}).items():
         if re.search(rf"\b{name}\b", code):
             imports.setdefault(module, []).append(name)
-    lines += [""] + [f"use {module}::{{{', '.join(sorted(names))}}};" for module, names in sorted(imports.items())]
+    lines += [""] * bool(imports) + [f"use {module}::{{{', '.join(sorted(names))}}};" for module, names in sorted(imports.items())]
     return "\n".join(lines + body) + "\n"
 
 

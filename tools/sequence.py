@@ -20,6 +20,7 @@ NEAR = {
     ("receiver", "position"): "receiver_receiver.first + receiver_receiver.count_read + receiver_receiver.{ring}.length",
     ("sender", "position"): "sender_sender.first_unacknowledged",
     ("sender", "next"): "sender_sender.first_unacknowledged",
+    ("finite", "next"): "finite_sender.sender.first_unacknowledged",
 }
 
 HEAD = r"""/* sequence [CALLS]: calls of all exports, and a digest of what they return and leave. Written by tools/sequence.py. */
@@ -268,7 +269,8 @@ class Call:
             else:
                 words.append(f"{self.subject}_{member.name}, {size}" if "[" in member.type else str(size))
         variable = head.split(".")[0]
-        return [f"if (!{sound.name}({', '.join(words)})) {{", *["    " + line for line in self.memory.each(variable, zeroed)], "}"]
+        ends = [f"    {variable}.end = UINT64_MAX;"] if self.memory.kinds[variable] == "FiniteReceiverHead" else []
+        return [f"if (!{sound.name}({', '.join(words)})) {{", *["    " + line for line in self.memory.each(variable, zeroed)], *ends, "}"]
 
     def functions(self, sounds):
         """The functions that prepare a call, make it, make an empty one, and eat what it returned and left."""

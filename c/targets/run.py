@@ -132,6 +132,8 @@ PC = Way("x86_64-none", "qemu-system-x86_64",
 PC_STATUS = 33
 # Where the example with an interrupt runs.
 INTERRUPTED = [next(way for way in WAYS if way.target == "thumbv7em"), PC]
+# Where instructions are counted.
+COUNTED = [next(way for way in WAYS if way.target == name) for name in ("thumbv7em", "riscv32imac")]
 
 
 class Failed(Exception):
@@ -187,14 +189,14 @@ class Programs:
 
     def harness(self, words, flags):
         """What a bare program has besides: its words, its start. On a Cortex-M words that aren't aligned are trapped, but where
-        the stack is looked at, which that of the C library's `memmove` is a part of."""
+        stack or instructions are counted, with those of the C library's `memmove`."""
         if not self.way.bare:
             return []
         quoted = "".join(f'"{word}", ' for word in words)
         start = self.folder / "start.o"
         sources = [(HERE / "start.c", start, [f"-DWORDS={quoted}"])]
         if self.way.compiler[0] == "arm-none-eabi-gcc":
-            traps = [] if "-DSTACK" in flags else ["-DTRAPS"]
+            traps = [] if {"-DSTACK", "-DCOUNT"} & set(flags) else ["-DTRAPS"]
             sources.append((HERE / "cortex_m.c", self.folder / "cortex_m.o", traps))
         for source, made, more in sources:
             status, said = shell([*self.way.compiler, *FLAGS, *more, "-c", source, "-o", made])
@@ -282,9 +284,15 @@ def stacks(programs, generated):
         raise Failed(f"stack: {last(said)}")
     bounds = disassembly.stack_bounds(programs.way.objdump(), programs.folder / "stack")
     for name, size in painted.items():
-        if size > bounds[name] and programs.way.bare:
+        if size // 4 * 4 > bounds[name] and programs.way.bare:  # a byte that is left may have the paint's value
             raise Failed(f"{name} left {size} bytes of stack painted, and by the code it takes {bounds[name]}")
     return sorted(((bounds[name], name) for name in painted), reverse=True)[:2]
+
+
+def instructions(programs):
+    """Instructions of a round of each main call, by the emulator's count."""
+    said = programs.run("instructions", [HERE / "instructions.c"], (), ["-DCOUNT"], ["-icount", "shift=0"])
+    return {name: int(count) for count, name in re.findall(r"^instructions: (\d+) (.*)$", said, flags=re.M)}
 
 
 def missing(ways, is_fuzzed):
@@ -328,6 +336,15 @@ def print_table(names, stack_of):
         print(f"- {', '.join(equal)}: {wanted}")
 
 
+def print_instructions(counts):
+    """A row for each main call, with a column for each target."""
+    if counts:
+        print(f"\n| Instructions of a round | {' | '.join(f'`{name}`' for name in counts)} |")
+        print(f"|---|{'---:|' * len(counts)}")
+        for name in next(iter(counts.values())):
+            print(f"| {name} | {' | '.join(str(it[name]) for it in counts.values())} |")
+
+
 def packages_of(programs):
     return " ".join(sorted({package for program in programs for package in PACKAGES[program].split()}))
 
@@ -360,7 +377,7 @@ def main():
     archive.check_folders()
     for name in names:
         archive.compare(TARGETS[name], archive.kept(TARGETS[name])[0])
-    status, digests, stack_of = 0, set(), {}
+    status, digests, stack_of, counts = 0, set(), {}, {}
     with tempfile.TemporaryDirectory(prefix="net_base_") as folder:
         generated = pathlib.Path(folder) / "generated"
         generated.mkdir()
@@ -372,7 +389,7 @@ def main():
         def act(index, way):
             programs = Programs(way, pathlib.Path(folder) / str(index))
             if options.table:
-                return stacks(programs, generated)
+                return stacks(programs, generated), instructions(programs) if way in COUNTED else {}
             return interrupted(programs) if index >= len(there) else tests(programs, generated, options)
 
         for way, result, failure in each(there + interrupts, act):
@@ -380,13 +397,14 @@ def main():
                 print(f"{way.name()}: FAILED: {failure}", flush=True)
                 status = 1
             elif options.table:
-                stack_of[way] = result
+                stack_of[way], counts[way.target] = result
             else:
                 text, digest = result
                 print(f"{way.name()}: {text}", flush=True)
                 digests |= {digest} - {None}
     if options.table:
         print_table(names, stack_of)
+        print_instructions({name: count for name, count in counts.items() if count})
     if len(digests) > 1:
         print(f"targets: the digests differ: {' '.join(sorted(digests))}")
         status = 1

@@ -8,3 +8,4 @@ mod sender;
 mod scoreboard;
 mod finite_receiver;
 mod finite_sender;
+mod tcp;

@@ -1,0 +1,107 @@
+/* Prints how many instructions a round of each main call takes, by the emulator's count (`-icount shift=0`): without those of the
+ * loop around it. */
+#include "net_base.h"
+#include <stdio.h>
+
+enum { ROUNDS = 1000, CAPACITY = 64, RUNS = 4, SLOTS = 4 };
+
+static uint8_t storage[CAPACITY], bytes[CAPACITY];
+static struct net_base_run runs[RUNS];
+static struct net_base_packet_slot slots[SLOTS];
+static struct net_base_ring ring;
+static struct net_base_assembler assembler;
+static struct net_base_packets packets;
+static struct net_base_receiver receiver;
+static struct net_base_sender sender;
+static struct net_base_fragments fragments;
+
+#ifdef __riscv
+static unsigned now(void) {
+    unsigned count;
+    __asm__ volatile(".option push\n.option arch, +zicsr\ncsrr %0, minstret\n.option pop" : "=r"(count));
+    return count;
+}
+enum { EACH = 1 };
+#else
+/* SysTick counts down at 25 MHz, and an instruction takes a nanosecond. */
+static unsigned now(void) {
+    volatile unsigned *systick = (volatile unsigned *)0xe000e010;
+    if (systick[0] == 0) {
+        systick[1] = 0xffffff;
+        systick[2] = 0;
+        systick[0] = 5;
+        while (systick[2] == 0) {
+        }
+    }
+    return 0xffffff - systick[2];
+}
+enum { EACH = 40 };
+#endif
+
+static void nothing(void) {}
+
+static void one(void) {
+    net_base_ring_enqueue_one(&ring, CAPACITY);
+    net_base_ring_dequeue_one(&ring, CAPACITY);
+}
+
+static void slices(void) {
+    net_base_ring_enqueue_slice(&ring, storage, CAPACITY, bytes, 16);
+    net_base_ring_dequeue_slice(&ring, storage, CAPACITY, bytes, 16);
+}
+
+static void ranges(void) {
+    net_base_assembler_add(&assembler, runs, RUNS, 10, 5);
+    net_base_assembler_add_then_remove_front(&assembler, runs, RUNS, 0, 10);
+}
+
+static void packet(void) {
+    net_base_packets_enqueue(&packets, slots, SLOTS, CAPACITY, 16);
+    net_base_packets_dequeue(&packets, slots, SLOTS, CAPACITY);
+}
+
+static void segment(void) {
+    struct net_base_kept_counts counts;
+    net_base_receiver_segment(&receiver, storage, CAPACITY, runs, RUNS, receiver.count_read, bytes, 32, &counts);
+    net_base_receiver_read(&receiver, storage, CAPACITY, bytes, 32);
+}
+
+static void send(void) {
+    net_base_sender_write(&sender, storage, CAPACITY, bytes, 32);
+    net_base_sender_peek_at(&sender, CAPACITY, sender.first_unacknowledged, 32);
+    net_base_sender_acknowledge(&sender, CAPACITY, sender.first_unacknowledged + 32);
+}
+
+static void fragment(void) {
+    net_base_fragments_reset(&fragments, 0);
+    net_base_fragments_add(&fragments, storage, CAPACITY, runs, RUNS, 16, bytes, 16);
+    net_base_fragments_add(&fragments, storage, CAPACITY, runs, RUNS, 0, bytes, 16);
+    net_base_fragments_set_total_size(&fragments, CAPACITY, 32);
+    net_base_fragments_complete(&fragments, CAPACITY, runs, RUNS);
+}
+
+static unsigned taken(void (*round)(void)) {
+    unsigned begin = now();
+    for (volatile int i = 0; i < ROUNDS; i++) round();
+    return (now() - begin) * EACH / ROUNDS;
+}
+
+int main(void) {
+    static const struct {
+        const char *name;
+        void (*round)(void);
+    } kinds[] = {
+        {"ring: one element in and out", one},
+        {"ring: 16 bytes in and out", slices},
+        {"assembler: a range too early, and the one before it", ranges},
+        {"packets: one in and out", packet},
+        {"receiver: a segment of 32 bytes and a read", segment},
+        {"sender: 32 bytes written, found and acknowledged", send},
+        {"fragments: two of 16 bytes, the size, the packet", fragment},
+    };
+    now();
+    unsigned loop = taken(nothing);
+    for (unsigned i = 0; i < sizeof kinds / sizeof kinds[0]; i++)
+        printf("instructions: %u %s\n", taken(kinds[i].round) - loop, kinds[i].name);
+    return 0;
+}

@@ -1,0 +1,52 @@
+//! What a TCP computes: acceptable segments, the scale of its window, the Internet checksum.
+// Written by tools/ffi.py.
+ghost use Rattle.net_tcp.specs.Acceptability.{IsAcceptable};
+ghost use Rattle.net_tcp.specs.AdvertisedWindow.{IsScaleFor};
+ghost use Rattle.net_tcp.specs.InternetChecksum.{folded, internet_checksum, updated, word_sum};
+ghost use Rattle.std.specs.Prelude.{IsTrue, ◌↔◌, ◌≡◌};
+
+/// Returns whether a segment is acceptable to a receiver whose first missing position is `next`,
+/// and which announced `window` positions from there on. The segment's first position is `seq`, and
+/// it has `len` positions: its bytes, and one each for a SYN and a FIN.
+///
+/// It is if it has a position within the window. If it has none at all it must stand within the
+/// window, or at `next` if the window is empty.
+#[unsafe(no_mangle)]
+pub extern "C" fn net_base_tcp_is_acceptable(next: u64, window: u64, seq: u64, len: u64) -> bool
+    ensures { IsTrue result ↔ IsAcceptable next window seq len }
+{
+    net_tcp::is_acceptable(next, window, seq, len)
+}
+
+/// Returns the least scale by which this capacity can be announced, or 14 if none can.
+#[unsafe(no_mangle)]
+pub extern "C" fn net_base_tcp_scale_for(capacity: u64) -> u8
+    ensures { IsScaleFor capacity result }
+{
+    net_tcp::scale_for(capacity)
+}
+
+/// Returns the checksum of these bytes.
+#[unsafe(no_mangle)]
+pub extern "C" fn net_base_tcp_checksum(bytes: &[u8]) -> u16
+    ensures { result ≡ internet_checksum bytes.now }
+{
+    net_tcp::checksum(bytes)
+}
+
+/// Returns whether these bytes, with their checksum among them at an even offset, are valid.
+#[unsafe(no_mangle)]
+pub extern "C" fn net_base_tcp_is_checksum_valid(bytes: &[u8]) -> bool
+    ensures { IsTrue result ↔ (folded (word_sum bytes.now) ≡ 65535) }
+{
+    net_tcp::is_valid(bytes)
+}
+
+/// Returns the checksum of a message in which the word `old` became `new`, from its checksum before
+/// (RFC 1624, equation 3).
+#[unsafe(no_mangle)]
+pub extern "C" fn net_base_tcp_updated_checksum(checksum: u16, old: u16, new: u16) -> u16
+    ensures { result ≡ updated checksum old new }
+{
+    net_tcp::updated_checksum(checksum, old, new)
+}
