@@ -2,8 +2,8 @@
 """SMOLTCP=path [RUST_KIT=folder] python3 overlay/costs.py
 
 Prints what the overlay costs, beside smoltcp of the checkout that SMOLTCP names, both below the layers of `stand_in`:
-instructions, counted by valgrind, of `examples/bench.rs` in cargo's release profile, and the bytes of code of `no_std` at
-opt-level "s". The Cortex-M4's are there if RUST_KIT names the folder that `sh rust/targets.sh FOLDER` fills.
+instructions, counted by valgrind, of `examples/bench.rs` in cargo's release profile, and the bytes of code of `no_std`
+at opt-level "s". The Cortex-M4's are there if RUST_KIT names the folder that `sh rust/targets.sh FOLDER` fills.
 """
 import os
 import re
@@ -30,14 +30,16 @@ CALLS = [
 def instructions(tests, checkout, words):
     program = tests.folder / "target" / checkout / "release/examples/bench"
     words = ["valgrind", "--tool=callgrind", "--callgrind-out-file=/dev/null", program, *words.split()]
-    return int(re.search(r"Collected : (\d+)", subprocess.run(words, capture_output=True, text=True, check=True).stderr)[1])
+    said = subprocess.run(words, capture_output=True, text=True, check=True).stderr
+    return int(re.search(r"Collected : (\d+)", said)[1])
 
 
 def text(tests, checkout, target, linker):
     """Bytes of code that `entry` reaches."""
-    shutil.rmtree(tests.folder / "no_std", ignore_errors=True)
-    shutil.copytree(test.HERE / "no_std", tests.folder / "no_std", ignore=shutil.ignore_patterns("target", "Cargo.lock"))
-    manifest = tests.folder / "no_std/Cargo.toml"
+    folder = tests.folder / "no_std"
+    shutil.rmtree(folder, ignore_errors=True)
+    shutil.copytree(test.HERE / "no_std", folder, ignore=shutil.ignore_patterns("target", "Cargo.lock"))
+    manifest = folder / "Cargo.toml"
     manifest.write_text(manifest.read_text().replace("../stand_in", f"../{checkout}"))
     variables = {"CARGO_TARGET_DIR": str(tests.folder / "target/no_std" / checkout)}
     words = "build -q --release --ignore-rust-version"
@@ -46,7 +48,7 @@ def text(tests, checkout, target, linker):
         words += f" --target {target}"
     tests.cargo("no_std", words, variables)
     library = Path(variables["CARGO_TARGET_DIR"]) / target / "release/libno_std.a"
-    out = tests.folder / "no_std/linked"
+    out = folder / "linked"
     flags = ["--gc-sections", "-e", "entry", "--unresolved-symbols=ignore-all", "-static", "-o", out, library]
     subprocess.run([f"{linker}ld", *flags], check=True)
     sections = subprocess.run([f"{linker}size", "-A", out], capture_output=True, text=True, check=True).stdout
@@ -71,7 +73,7 @@ def rows(tests):
 
 def main():
     if not os.environ.get("SMOLTCP") or not shutil.which("valgrind"):
-        print("costs: not run: it wants SMOLTCP, the folder of a checkout of smoltcp 0.14.0, and valgrind", file=sys.stderr)
+        print("costs: not run: it wants valgrind, and SMOLTCP, a checkout of smoltcp 0.14.0", file=sys.stderr)
         sys.exit(2)
     with tempfile.TemporaryDirectory() as folder:
         tests = test.Tests(Path(folder).resolve(), Path(os.environ["SMOLTCP"]).resolve())

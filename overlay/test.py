@@ -1,9 +1,9 @@
 #!/usr/bin/env python3
 """[SMOLTCP=path] [RUST_KIT=folder] python3 overlay/test.py [--record]
 
-Tests overlay.py and what it makes of a checkout. The layers above are those of `stand_in`. SMOLTCP names the folder of a
-checkout of smoltcp 0.14.0, whose `storage`, `time` and `rand` are put below them; then its own tests run too, and what is
-printed over the overlay is compared with what is printed over smoltcp, its two mended faults aside. Without it, digests of
+Tests overlay.py and what it makes of a checkout. The layers above are those of `stand_in`. SMOLTCP names the folder of
+a checkout of smoltcp 0.14.0, whose `storage`, `time` and `rand` are put below them; then its own tests run too, and what
+is printed over the overlay is compared with what is printed over smoltcp with two faults mended. Without it, digests of
 what smoltcp printed are compared (`expected.txt`, which --record writes), and the status is 2 if nothing else is wrong.
 RUST_KIT names the folder that `sh rust/targets.sh FOLDER` fills: a compiler for ARMv7, if `rustc` is none.
 """
@@ -19,14 +19,14 @@ import tempfile
 from pathlib import Path
 
 HERE = Path(__file__).resolve().parent
-FILES = ["storage/mod.rs", "storage/assembler.rs", "storage/packet_buffer.rs", "storage/ring_buffer.rs", "time.rs", "rand.rs"]
+FILES = [f"storage/{name}.rs" for name in ["mod", "assembler", "packet_buffer", "ring_buffer"]] + ["time.rs", "rand.rs"]
 SMALL = "--no-default-features --features medium-ip,proto-ipv4,socket-tcp"
 FEATURES = [
     SMALL,
     "--no-default-features --features medium-ip,proto-ipv6,socket-udp,alloc",
     "--no-default-features --features medium-ethernet,proto-ipv4,proto-ipv4-fragmentation,socket-tcp,socket-udp,async",
     "--no-default-features --features medium-ieee802154,proto-ipv6,socket-icmp",
-    "--no-default-features --features medium-ethernet,medium-ip,medium-ieee802154,socket-raw,socket-dns,socket-dhcpv4,defmt",
+    "--no-default-features --features medium-ethernet,medium-ip,socket-raw,socket-dns,socket-dhcpv4,defmt",
     "--no-default-features --features std,medium-ip,proto-ipv4-fragmentation,packetmeta-id,socket-tcp,socket-udp",
     "--features defmt",
     "--features log,verbose",
@@ -34,13 +34,15 @@ FEATURES = [
 ]
 API = ["", "--features defmt", f"{SMALL},assembler-max-segment-count-8,defmt"]
 
-# Edits of smoltcp's text that mend the two faults of its packet queue: a refusal leaves a gap, and a queue without bytes
-# isn't rewound.
-FULL = "if self.payload_ring.capacity() < max_size || self.metadata_ring.is_full() {\n            return Err(Full);\n        }\n"
+# Edits of smoltcp's text that mend the two faults of its packet queue: a refusal leaves a gap; a queue without bytes isn't
+# rewound.
+ONE_SLOT = "self.metadata_ring.window() < 2"
+FULL = "self.metadata_ring.is_full() {\n            return Err(Full);\n        }\n\n        let window"
+REWOUND = "if self.payload_ring.is_empty() {\n            self.payload_ring.clear();\n        }\n        let window"
 MENDED = [
-    ("if window - contig_window < size {", "if window - contig_window < size || self.metadata_ring.window() < 2 {"),
-    ("if window - contig_window < max_size {", "if window - contig_window < max_size || self.metadata_ring.window() < 2 {"),
-    (FULL, f"{FULL}        if self.payload_ring.is_empty() {{\n            self.payload_ring.clear();\n        }}\n"),
+    ("if window - contig_window < size {", f"if window - contig_window < size || {ONE_SLOT} {{"),
+    ("if window - contig_window < max_size {", f"if window - contig_window < max_size || {ONE_SLOT} {{"),
+    (FULL, FULL.replace("let window", REWOUND)),
 ]
 
 # Faults of what is written by hand: a file, what is there, what is put there. Random calls show each.
@@ -49,7 +51,6 @@ FAULTS = [
     ("proved/net_ring/managed.rs", "&mut self[from..to]", "&mut self[..to - from]"),
     ("proved/net_ring/managed.rs", "&mut self[at]", "&mut self[at / 2]"),
     ("proved/net_ring/managed.rs", "&self[at]", "&self[at / 2]"),
-    ("storage/assembler.rs", "runs: self.runs,", "runs: Runs::<N>::empty().runs,"),
     ("storage/assembler.rs", "from = end;\n            Contig", "from = start;\n            Contig"),
     ("storage/packet_buffer.rs", "&Shown(&self.bytes, self.head.bytes)", "&Shown(&self.bytes, self.head.slots)"),
     ("time.rs", "val.total_micros() as", "val.total_millis() as"),
@@ -58,6 +59,10 @@ FAULTS = [
 
 def stop(text):
     sys.exit(f"overlay: {text}")
+
+
+def digests(texts):
+    return "".join(f"{name}: {hashlib.sha256(text.encode()).hexdigest()}\n" for name, text in texts.items())
 
 
 def tree(folder):
@@ -79,15 +84,14 @@ class Tests:
             copy = shutil.copytree if (HERE.parent / part).is_dir() else shutil.copy
             copy(HERE.parent / part, folder / "net-base" / part)
         # The stand-in's own files have digests of their own.
-        script = "import overlay; "
+        self.start = "import overlay, pathlib; "
         if not smoltcp:
-            script += "from pathlib import Path; source = Path(%r); " % str(folder / "original")
-            script += "overlay.DIGESTS = {name: overlay.digest(overlay.parts(overlay.read(source / name))[0].encode()) for name in overlay.DIGESTS}; "
-        self.script_text = script
+            code = f"overlay.parts(overlay.read(pathlib.Path({str(folder / 'original')!r}) / name))[0]"
+            self.start += f"overlay.DIGESTS = {{name: overlay.digest({code}.encode()) for name in overlay.DIGESTS}}; "
 
     def overlay(self, *words, nobody=False, **options):
         user = "import locale, os; os.geteuid() or os.setuid(65534); " if nobody else ""
-        words = [sys.executable, "-B", "-c", f"{self.script_text}{user}overlay.main()", *map(str, words)]
+        words = [sys.executable, "-B", "-c", f"{self.start}{user}overlay.main()", *map(str, words)]
         return subprocess.run(words, cwd=self.folder / "net-base/overlay", capture_output=True, text=True, **options)
 
     def made(self, *words):
@@ -129,7 +133,7 @@ class Tests:
                 stop("an overlay in place isn't that of a copy")
             self.refused("has an overlay already", [checkout])
             self.made(checkout, "--undo")
-            if tree(checkout) != before or [path for path in checkout.rglob("*") if path.is_dir() and not any(path.iterdir())]:
+            if tree(checkout) != before or (checkout / "src/proved").exists():
                 stop("--undo doesn't give back what was there")
         self.refused("checkout exists", [original, "--into", checkout])
         self.refused("has no Cargo.toml of smoltcp", [self.folder / "none"])
@@ -160,8 +164,8 @@ class Tests:
         self.refused("edited since: src/proved/net_ring/head.rs", [checkout, "--undo"])
         checkout = self.copy("checkout")
         limit = lambda: resource.setrlimit(resource.RLIMIT_FSIZE, (8000, 8000))
-        self.refused("nothing was changed: .*File too large", [checkout], preexec_fn=limit)
-        self.refused("nothing was changed: .*File too large", [original, "--into", self.folder / "none"], preexec_fn=limit)
+        for words in [[checkout], [original, "--into", self.folder / "none"]]:
+            self.refused("nothing was changed: .*File too large", words, preexec_fn=limit)
         for path in [checkout, *checkout.rglob("*")]:
             path.chmod(0o777 if path.is_dir() else 0o666)
         for name in ["src/storage", "src", ""]:
@@ -172,12 +176,12 @@ class Tests:
         (checkout / "src/storage").chmod(0o555)
         self.refused("nothing was changed: .*Permission denied", [checkout, "--undo"], nobody=True)
         (checkout / "src/storage").chmod(0o777)
-        print(f"script: {len(listed)} files; made, listed, taken back, and {self.refusals} refusals, which change nothing")
+        print(f"script: {len(listed)} files, listed, made, taken back; {self.refusals} refusals, which change nothing")
 
     def cargo(self, checkout, words, variables=(), check=True):
-        environment = os.environ | {"CARGO_TARGET_DIR": str(self.folder / "target" / checkout), "CARGO_NET_OFFLINE": "true"}
-        words = ["cargo", *words.split()]
-        done = subprocess.run(words, cwd=self.folder / checkout, env=environment | dict(variables), capture_output=True, text=True)
+        own = {"CARGO_TARGET_DIR": str(self.folder / "target" / checkout), "CARGO_NET_OFFLINE": "true"}
+        words, environment = ["cargo", *words.split()], os.environ | own | dict(variables)
+        done = subprocess.run(words, cwd=self.folder / checkout, env=environment, capture_output=True, text=True)
         if check and done.returncode:
             stop(f"{checkout}: {' '.join(words)}\n{done.stdout[-3000:]}{done.stderr[-3000:]}")
         return done
@@ -208,17 +212,19 @@ class Tests:
         kit = os.environ.get("RUST_KIT")
         if not kit:
             return "rustc"
-        path, libraries = self.folder / "rustc", [f"{kit}/usr/lib/x86_64-linux-gnu", f"{kit}/usr/lib", f"{kit}/usr/lib/llvm-19/lib"]
-        path.write_text(f'#!/bin/sh\nLD_LIBRARY_PATH={":".join(libraries)} exec "{kit}/usr/bin/rustc" --sysroot "{kit}/usr" "$@"\n')
+        path, usr = self.folder / "rustc", f"{kit}/usr"
+        libraries = f"{usr}/lib/x86_64-linux-gnu:{usr}/lib:{usr}/lib/llvm-19/lib"
+        path.write_text(f'#!/bin/sh\nLD_LIBRARY_PATH={libraries} exec {usr}/bin/rustc --sysroot {usr} "$@"\n')
         path.chmod(0o755)
         return str(path)
 
     def armv7(self, ours):
         """The same texts on 32 bits, if there is a compiler and an emulator."""
         target, compiler = "armv7-unknown-linux-gnueabihf", self.compiler()
-        library = subprocess.run([compiler, "--print", "target-libdir", "--target", target], capture_output=True, text=True)
+        words = [compiler, "--print", "target-libdir", "--target", target]
+        library = Path(subprocess.run(words, capture_output=True, text=True).stdout.strip() or "none")
         for what, is_there in [
-            (f"std for {target}", any(Path(library.stdout.strip() or "none").glob("libstd*"))),
+            (f"std for {target}", any(library.glob("libstd*"))),
             ("arm-linux-gnueabihf-gcc", shutil.which("arm-linux-gnueabihf-gcc")),
             ("qemu-arm-static", shutil.which("qemu-arm-static")),
         ]:
@@ -229,7 +235,8 @@ class Tests:
             "CARGO_TARGET_ARMV7_UNKNOWN_LINUX_GNUEABIHF_LINKER": "arm-linux-gnueabihf-gcc",
             "CARGO_TARGET_ARMV7_UNKNOWN_LINUX_GNUEABIHF_RUSTFLAGS": "-C target-feature=+crt-static",
         }
-        self.cargo("overlaid", f"build -q --ignore-rust-version --target {target} --example run --example calls", variables)
+        words = f"build -q --ignore-rust-version --target {target} --example run --example calls"
+        self.cargo("overlaid", words, variables)
         for name, words in [("run", ""), ("calls", "0 100")]:
             if self.program("overlaid", name, words, target=target) != ours[f"{name}, 4 runs"]:
                 stop(f"ARMv7: {name} prints something else")
@@ -257,10 +264,11 @@ class Tests:
         print(f"items: each visible one, in {len(API)} sets of features; {len(FEATURES)} sets compile")
 
     def shadowed(self):
-        """The methods that the proved types have and smoltcp's hadn't: none is one of a trait's that Rust imports, or derives."""
-        traits = "add sub mul div shl shr add_assign sub_assign mul_assign div_assign shl_assign shr_assign eq ne cmp partial_cmp lt le gt ge "
-        traits += "min max clamp clone clone_from into try_into to_string to_owned borrow borrow_mut as_ref as_mut hash fmt deref deref_mut drop "
-        traits += "next into_iter type_id"
+        """No method of the proved types has the name of one of a trait that is in scope, and so would be called for it."""
+        traits = "eq ne cmp partial_cmp lt le gt ge min max clamp clone clone_from into try_into to_string to_owned borrow "
+        traits += "borrow_mut as_ref as_mut hash fmt deref deref_mut drop next into_iter type_id"
+        for operator in "add sub mul div shl shr".split():
+            traits += f" {operator} {operator}_assign"
         names = set()
         for path in (self.folder / "overlaid/src/proved").rglob("*.rs"):
             for body in re.findall(r"^impl\b(?![^{]* for )[^{]*\{\n.*?^\}$", path.read_text(), flags=re.M | re.S):
@@ -316,12 +324,11 @@ class Tests:
                     if our != their:
                         stop(f"{name}\n{our}\n{their}")
             if record:
-                expected.write_text("".join(f"{name}: {hashlib.sha256(text.encode()).hexdigest()}\n" for name, text in theirs.items()))
-        digests = "".join(f"{name}: {hashlib.sha256(text.encode()).hexdigest()}\n" for name, text in ours.items())
-        if digests != expected.read_text():
-            stop(f"this is not what smoltcp printed:\n{digests}")
-        calls = ours["calls"].split()
-        print(f"printed: the same as over smoltcp, {len(ours)} texts; 3,000 seeds of 5 kinds, {sum(map(int, calls[2::4]))} calls panic")
+                expected.write_text(digests(theirs))
+        if digests(ours) != expected.read_text():
+            stop(f"this is not what smoltcp printed:\n{digests(ours)}")
+        panics = sum(map(int, ours["calls"].split()[2::4]))
+        print(f"printed: the same as over smoltcp, {len(ours)} texts; of 750,000 random calls {panics} panic")
         self.faults(ours["calls"])
         self.never()
         self.armv7(ours)
@@ -341,7 +348,7 @@ def main():
         Path(folder).chmod(0o755)
         Tests(Path(folder).resolve(), smoltcp).all(arguments.record)
     if not smoltcp:
-        print("overlay: not run: smoltcp's own tests, and the script on its own files; SMOLTCP names no checkout", file=sys.stderr)
+        print("overlay: not run, since SMOLTCP names no checkout: smoltcp's own tests and files", file=sys.stderr)
         sys.exit(2)
 
 

@@ -1,4 +1,4 @@
-//! What Rattle has no words for in an assembler: a clone that can't be refused, and texts.
+//! What Rattle has no words for in an assembler: as many runs as smoltcp's build says, and texts.
 use core::{array, fmt};
 
 use crate::config::ASSEMBLER_MAX_SEGMENT_COUNT;
@@ -12,15 +12,6 @@ impl Assembler {
     /// Returns an assembler with no position.
     pub const fn new() -> Assembler {
         Assembler::empty()
-    }
-}
-
-impl<const N: usize> Clone for Runs<N> {
-    fn clone(&self) -> Self {
-        Runs {
-            head: self.head,
-            runs: self.runs,
-        }
     }
 }
 

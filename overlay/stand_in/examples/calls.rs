@@ -1,5 +1,5 @@
-//! calls FIRST COUNT: random calls of storage, time and rand, COUNT seeds from FIRST on. Prints for each seed and kind how
-//! many calls panicked, and a digest of what each call gave and of the whole state after it, panics too.
+//! calls FIRST COUNT: random calls of storage, time and rand, COUNT seeds from FIRST on. Prints for each seed and kind
+//! how many calls panicked, and a digest of what each call gave and of the whole state after it, panics too.
 //! calls KIND SEED: what the digest of these is of.
 use smoltcp::storage::{Assembler, PacketBuffer, PacketMetadata, RingBuffer};
 use smoltcp::time::{Duration, Instant};

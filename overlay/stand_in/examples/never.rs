@@ -1,4 +1,5 @@
-//! What becomes of a connection with a timeout, or a keep-alive, of the longest lengths: its state, and how much was sent.
+//! What becomes of a connection with a timeout, or a keep-alive, of the longest lengths: its state, and how often
+//! something was sent.
 use smoltcp::iface::{Config, Interface, SocketSet};
 use smoltcp::phy::{Loopback, Medium};
 use smoltcp::socket::tcp;

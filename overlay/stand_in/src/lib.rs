@@ -1,5 +1,5 @@
-//! A stand-in of smoltcp, written from memory: layers above `storage`, `time` and `rand` that call them as smoltcp's do.
-//! Of these three there is as much here as `overlay.py` looks for; smoltcp's own are put over them where there is a checkout.
+//! A stand-in of smoltcp, written from memory: layers above `storage`, `time` and `rand` that call them as smoltcp's
+//! do. Of these three there is as much here as `overlay.py` looks for. `test.py` puts smoltcp's own in their place.
 #![cfg_attr(not(any(test, feature = "std")), no_std)]
 #![deny(unsafe_code)]
 #![cfg_attr(

@@ -11,12 +11,17 @@ impl<T: AsRef<[u8]>> EthernetFrame<T> {
     }
 }
 
-macro_rules! format_derive { ($($item:item)*) => { $(#[derive(Debug, PartialEq, Eq, Clone, Copy, Hash, PartialOrd, Ord)] #[cfg_attr(feature = "defmt", derive(defmt::Format))] $item)* } }
-format_derive! {
-    pub struct IpAddress(pub u8);
-    pub struct IpEndpoint { pub addr: IpAddress, pub port: u16 }
-    pub struct UdpRepr { pub src_port: u16, pub dst_port: u16 }
+#[derive(Debug, PartialEq, Eq, Clone, Copy, Hash, PartialOrd, Ord)]
+#[cfg_attr(feature = "defmt", derive(defmt::Format))]
+pub struct IpAddress(pub u8);
+
+#[derive(Debug, PartialEq, Eq, Clone, Copy, Hash, PartialOrd, Ord)]
+#[cfg_attr(feature = "defmt", derive(defmt::Format))]
+pub struct IpEndpoint {
+    pub addr: IpAddress,
+    pub port: u16,
 }
+
 impl fmt::Display for IpEndpoint {
     fn fmt(&self, f: &mut fmt::Formatter) -> fmt::Result {
         write!(f, "{}:{}", self.addr.0, self.port)

@@ -35,12 +35,6 @@ impl<T: Format> Format for [T] {
 impl<T: Format, const N: usize> Format for [T; N] {
     fn format(&self, _: Formatter) {}
 }
-impl Format for core::num::NonZeroU16 {
-    fn format(&self, _: Formatter) {}
-}
-impl Format for core::num::NonZeroUsize {
-    fn format(&self, _: Formatter) {}
-}
 impl<A: Format, B: Format> Format for (A, B) {
     fn format(&self, _: Formatter) {}
 }
@@ -49,7 +43,12 @@ pub fn is_format<T: Format + ?Sized>(value: &T) {
     value.format(Formatter::stand_in())
 }
 #[macro_export]
-macro_rules! write { ($f:expr, $text:literal $(, $arg:expr)* $(,)?) => {{ let _: $crate::Formatter = $f; $($crate::is_format(&$arg);)* }} }
+macro_rules! write {
+    ($f:expr, $text:literal $(, $arg:expr)* $(,)?) => {{
+        let _: $crate::Formatter = $f;
+        $($crate::is_format(&$arg);)*
+    }}
+}
 #[macro_export]
 macro_rules! trace { ($text:literal $(, $arg:expr)* $(,)?) => {{ $($crate::is_format(&$arg);)* }} }
 #[macro_export]
