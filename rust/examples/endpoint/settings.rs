@@ -1,0 +1,83 @@
+//! What the command line says.
+use net_base::time::Duration;
+
+use crate::channel::Fates;
+
+/// The names of the settings, each with its number if none is given, and the greatest. `lost`,
+/// `doubled` and `delayed` are how many packets of 10,000 meet that; `delay` is the longest delay in
+/// microseconds; `runs` the receiver's bound of held runs; `capacity` the bytes of each buffer;
+/// `rest` how long the reader rests after it has read, in microseconds; `seconds` how long a run may
+/// take.
+const NUMBERS: [(&str, u64, u64); 9] = [
+    ("lost", 0, 10_000),
+    ("doubled", 0, 10_000),
+    ("delayed", 0, 10_000),
+    ("delay", 2_000, 1_000_000),
+    ("seed", 1, u64::MAX),
+    ("runs", 32, 32),
+    ("capacity", 0x4_0000, 1 << 30),
+    ("rest", 0, 1_000_000),
+    ("seconds", 120, 86_400),
+];
+
+/// What a run is told.
+pub struct Settings {
+    pub incoming: bool,
+    pub source: String,
+    pub target: String,
+    pub fates: Fates,
+    pub seed: u64,
+    /// 4, 8, 16 or 32.
+    pub runs: u64,
+    pub capacity: usize,
+    pub rest: Duration,
+    pub most: Duration,
+    pub trace: Option<String>,
+}
+
+impl Settings {
+    /// Reads the words of a command, or returns what is wrong with them.
+    pub fn parse(words: &[String]) -> Result<Settings, String> {
+        let [direction, source, target, named @ ..] = words else {
+            return Err("too few words".into());
+        };
+        let incoming = match direction.as_str() {
+            "in" => true,
+            "out" => false,
+            _ => return Err(format!("{direction}: neither in nor out")),
+        };
+        let (mut numbers, mut trace) = (NUMBERS.map(|it| it.1), None);
+        for word in named {
+            let (name, value) = word.split_once('=').ok_or(format!("{word}: not NAME=NUMBER"))?;
+            if name == "trace" {
+                trace = Some(value.to_string());
+                continue;
+            }
+            let at = NUMBERS.iter().position(|it| it.0 == name);
+            let at = at.ok_or(format!("{word}: no such name"))?;
+            let number = value.parse().ok().filter(|number| *number <= NUMBERS[at].2);
+            numbers[at] = number.ok_or(format!("{word}: not a number up to {}", NUMBERS[at].2))?;
+        }
+        let [lost, doubled, delayed, longest_delay, seed, runs, capacity, rest, seconds] = numbers;
+        if ![4, 8, 16, 32].contains(&runs) {
+            return Err(format!("runs={runs}: not 4, 8, 16 or 32"));
+        }
+        if capacity == 0 {
+            return Err("capacity=0: no room for a byte".into());
+        }
+        let [lost, doubled, delayed, longest_delay] =
+            [lost, doubled, delayed, longest_delay].map(|number| number as u32);
+        Ok(Settings {
+            incoming,
+            source: source.clone(),
+            target: target.clone(),
+            fates: Fates { lost, doubled, delayed, longest_delay },
+            seed,
+            runs,
+            capacity: capacity as usize,
+            rest: Duration::from_micros(rest),
+            most: Duration::from_secs(seconds),
+            trace,
+        })
+    }
+}

@@ -1,0 +1,22 @@
+//! The example endpoint by crafted segments: its own rules one by one, with random segments against
+//! a model of what a peer may be sent, and over a path that loses packets; and its command line.
+#![cfg(feature = "alloc")]
+mod fuzz;
+mod path;
+mod peer;
+mod receiving;
+mod sending;
+mod words;
+
+#[allow(dead_code)]
+#[path = "../../examples/endpoint/channel.rs"]
+mod channel;
+#[allow(dead_code)]
+#[path = "../../examples/endpoint/settings.rs"]
+mod settings;
+#[allow(dead_code)]
+#[path = "../../examples/endpoint/tcp.rs"]
+mod tcp;
+#[allow(dead_code)]
+#[path = "../../examples/endpoint/wire.rs"]
+mod wire;

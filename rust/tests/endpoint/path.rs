@@ -1,0 +1,130 @@
+//! Two endpoints over a path with a round trip of 10 ms that loses, doubles and delays packets.
+use net_base::rand::Rand;
+use net_base::time::{Duration, Instant};
+
+use crate::channel::{Channel, Fates};
+use crate::peer::{HERE, THERE};
+use crate::tcp::Endpoint;
+use crate::wire::{Ends, Segment};
+
+const ONE_WAY: Duration = Duration::from_millis(5);
+
+struct End<const N: usize> {
+    endpoint: Endpoint<N>,
+    channel: Channel,
+    text: Vec<u8>,
+    written: usize,
+    read: Vec<u8>,
+}
+
+impl<const N: usize> End<N> {
+    fn new(ends: Ends, listens: bool, path: (Fates, u32), len: usize, capacity: usize) -> Self {
+        let mut rand = Rand::new(u64::from(path.1) + 100);
+        End {
+            endpoint: Endpoint::new(ends, listens, rand.rand_u32() | 0xffff_0000, capacity),
+            channel: Channel::new(path.0, path.1),
+            text: (0..len).map(|_| rand.rand_u32() as u8).collect(),
+            written: 0,
+            read: vec![],
+        }
+    }
+
+    /// Takes what has come, reads, writes and sends. Returns the packets that arrive 5 ms later.
+    fn turn(&mut self, packets: &[Vec<u8>], now: Instant) -> Vec<Vec<u8>> {
+        let End { endpoint, channel, text, written, read } = self;
+        let mut sent = vec![];
+        channel.release(now, &mut |packet| sent.push(packet.to_vec()));
+        let mut out = |packet: &[u8]| {
+            channel.pass(packet, now, &mut |packet| sent.push(packet.to_vec()));
+        };
+        for packet in packets {
+            let (from, segment) = Segment::parse(packet, endpoint.ends.here).expect("sound");
+            endpoint.take(from, &segment, now);
+            endpoint.answer(&mut out);
+        }
+        let mut into = [0; 4096];
+        while let count @ 1.. = endpoint.receiver.read(&mut into) {
+            read.extend(&into[..count]);
+        }
+        *written += endpoint.sender.write(&text[*written..]);
+        if *written == text.len() {
+            endpoint.close();
+        }
+        endpoint.send(now, &mut out);
+        sent
+    }
+
+    fn next(&self) -> Option<Instant> {
+        self.endpoint.timer.into_iter().chain(self.channel.next()).min()
+    }
+}
+
+/// Sends texts of these lengths both ways. Returns how long that took, in milliseconds, and how many
+/// segments were sent again.
+fn run<const N: usize>(
+    fates: Fates,
+    lens: (usize, usize),
+    capacity: usize,
+    seed: u32,
+) -> (u64, u64) {
+    let ends = Ends { here: HERE, there: THERE };
+    let mut a = End::<N>::new(ends, false, (fates, seed), lens.0, capacity);
+    let ends = Ends { here: THERE, there: ([0; 4], 0) };
+    let mut b = End::<N>::new(ends, true, (fates, seed + 1), lens.1, capacity);
+    let (begun, mut on_the_way) = (Instant::from_secs(1), Vec::<(Instant, bool, Vec<u8>)>::new());
+    let mut now = begun;
+    while !(a.endpoint.is_closed() && b.endpoint.is_closed()) {
+        let mut packets = [vec![], vec![]];
+        on_the_way.retain(|(time, to_b, packet)| {
+            if *time <= now {
+                packets[usize::from(*to_b)].push(packet.clone());
+            }
+            *time > now
+        });
+        let [to_a, to_b] = packets;
+        for (to_b, sent) in [(true, a.turn(&to_a, now)), (false, b.turn(&to_b, now))] {
+            on_the_way.extend(sent.into_iter().map(|packet| (now + ONE_WAY, to_b, packet)));
+        }
+        let arrivals = on_the_way.iter().map(|packet| packet.0);
+        let Some(next) = arrivals.chain(a.next()).chain(b.next()).min() else { break };
+        now = now.max(next);
+        assert!(now - begun < Duration::from_secs(600), "not done: {capacity}, seed {seed}");
+    }
+    assert!(a.read == b.text && b.read == a.text, "another text: {capacity}, seed {seed}");
+    assert!(a.endpoint.receiver.has_read_all() && b.endpoint.receiver.has_read_all());
+    let again = a.endpoint.counts.sent_again + b.endpoint.counts.sent_again;
+    ((now - begun).total_millis(), again)
+}
+
+fn fates(lost: u32, others: u32) -> Fates {
+    Fates { lost, doubled: others, delayed: 3 * others, longest_delay: 20_000 }
+}
+
+#[test]
+fn texts_arrive() {
+    for seed in 0..10 {
+        for (capacity, len) in [(1, 40), (2, 60), (100, 1_000), (4_095, 40_000), (70_000, 300_000)]
+        {
+            for (lost, others) in [(0, 0), (100, 100), (1_000, 300)] {
+                run::<4>(fates(lost, others), (len, len / 2), capacity, seed);
+                run::<32>(fates(lost, others), (0, len), capacity, seed);
+            }
+        }
+    }
+}
+
+#[test]
+fn losses_cost_no_timeout() {
+    let len = 4 << 20;
+    // Nothing is lost: nothing is sent again, and 256 KiB a round trip arrive, from 15 KiB on.
+    let (millis, again) = run::<32>(fates(0, 0), (len, 0), 0x4_0000, 1);
+    assert!(again == 0 && millis < 400, "{millis} ms, {again} sent again");
+    // By the formula of Mathis et al. 1460 bytes a round trip, times 1.22 by the root of the share
+    // that is lost: 2.4 s and 4.1 s. A timeout for each loss would be 6 s and 17 s more.
+    for (lost, most) in [(100, 4_800), (300, 8_200)] {
+        for seed in 0..4 {
+            let (millis, _again) = run::<32>(fates(lost, 0), (len, 0), 0x4_0000, seed);
+            assert!(millis < most, "{lost} of 10,000 lost: {millis} ms");
+        }
+    }
+}

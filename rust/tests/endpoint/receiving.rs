@@ -1,0 +1,289 @@
+//! What comes: packets, the handshake, numbers that aren't acceptable, text, the end, the window.
+use crate::peer::*;
+use crate::tcp::State;
+use crate::wire::Segment;
+
+/// The one answer that is an acknowledgement of `acked` and without payload.
+fn challenge(said: &[Packet], acked: u32) -> &Packet {
+    let [packet] = said else { panic!("not one answer: {said:?}") };
+    assert_eq!((packet.flags, packet.acked(), packet.payload.len()), (ACK, acked, 0));
+    packet
+}
+
+#[test]
+fn packets_of_linux() {
+    // A SYN, and three bytes that it sent after the SYN-ACK.
+    let syn = [
+        0x45, 0x00, 0x00, 0x3c, 0x3e, 0x84, 0x40, 0x00, 0x40, 0x06, 0xe7, 0x9b, 0x0a, 0x4d, 0x00,
+        0x01, 0x0a, 0x4d, 0x00, 0x02, 0x9c, 0x40, 0x13, 0x89, 0xe4, 0xd0, 0x56, 0x8c, 0x00, 0x00,
+        0x00, 0x00, 0xa0, 0x02, 0xfa, 0xf0, 0x21, 0x94, 0x00, 0x00, 0x02, 0x04, 0x05, 0xb4, 0x04,
+        0x02, 0x08, 0x0a, 0x9c, 0x2c, 0x8f, 0x88, 0x00, 0x00, 0x00, 0x00, 0x01, 0x03, 0x03, 0x0a,
+    ];
+    let (from, segment) = Segment::parse(&syn, HERE).unwrap();
+    assert_eq!(from, THERE);
+    assert_eq!((segment.number, segment.flags, segment.window), (0xe4d0_568c, SYN, 64_240));
+    assert_eq!((segment.mss, segment.scale, segment.selective), (Some(1460), Some(10), true));
+    let text = [
+        0x45, 0x00, 0x00, 0x2b, 0x3e, 0x86, 0x40, 0x00, 0x40, 0x06, 0xe7, 0xaa, 0x0a, 0x4d, 0x00,
+        0x01, 0x0a, 0x4d, 0x00, 0x02, 0x9c, 0x40, 0x13, 0x89, 0xe4, 0xd0, 0x56, 0x8d, 0x00, 0x00,
+        0x03, 0xe9, 0x50, 0x18, 0x00, 0x3f, 0xd8, 0x78, 0x00, 0x00, 0x6f, 0x64, 0x64,
+    ];
+    let (_from, segment) = Segment::parse(&text, HERE).unwrap();
+    assert_eq!((segment.number, segment.acknowledged), (0xe4d0_568d, 1_001));
+    assert_eq!((segment.window, segment.payload), (63, &b"odd"[..]));
+    // A changed bit anywhere is found, and so is a packet that ends too early. Bytes after its
+    // length are not the segment's.
+    for at in 0..8 * text.len() {
+        let mut text = text;
+        text[at / 8] ^= 1 << (at % 8);
+        assert!(Segment::parse(&text, HERE).is_none(), "bit {at}");
+    }
+    assert!((0..text.len()).all(|len| Segment::parse(&text[..len], HERE).is_none()));
+    let padded = [&text[..], b"padding"].concat();
+    assert_eq!(Segment::parse(&padded, HERE).unwrap().1.payload, b"odd");
+}
+
+#[test]
+fn options() {
+    let parsed = |options: &[u8]| {
+        let bytes = syn(options).bytes();
+        let segment = Segment::parse(&bytes, HERE).unwrap().1;
+        (segment.mss, segment.scale, segment.selective)
+    };
+    assert_eq!(parsed(OPTIONS), (Some(1000), Some(2), true));
+    // An unknown one is passed over, a scale above 14 is 14, and nothing is read after the end.
+    assert_eq!(parsed(&[99, 3, 7, 3, 3, 77, 4, 2]), (None, Some(14), true));
+    assert_eq!(parsed(&[1, 1, 1, 0, 2, 4, 1, 1]), (None, None, false));
+    // Lengths of 0 and 1, and one beyond the header, end the list.
+    for len in [0, 1, 6] {
+        assert_eq!(parsed(&[4, 2, 9, len, 2, 4, 1, 1]), (None, None, true));
+    }
+}
+
+#[test]
+fn packets_that_are_not_the_connection_s() {
+    let bytes = syn(&[1, 1, 1, 1]).bytes();
+    let is_taken = |at: usize, byte: u8| {
+        let mut bytes = bytes.clone();
+        bytes[at] = byte;
+        Segment::parse(&sealed(bytes), HERE).is_some()
+    };
+    // Don't fragment; but a fragment, the first or another one, is not taken.
+    assert!(is_taken(6, 0x40) && is_taken(6, 0));
+    assert!(!is_taken(6, 0x20) && !is_taken(6, 1) && !is_taken(7, 1));
+    // Another version, a longer header, another protocol, an address and a port.
+    assert!(!is_taken(0, 0x65) && !is_taken(0, 0x46) && !is_taken(9, 17));
+    assert!(!is_taken(19, 3) && !is_taken(22, 0) && !is_taken(23, 0));
+    // A length beyond the packet, and headers shorter than 20 bytes or longer than the segment.
+    assert!(!is_taken(3, 45) && !is_taken(3, 19) && !is_taken(3, 39));
+    assert!((0..16).all(|words| is_taken(32, words << 4) == (words == 5 || words == 6)));
+}
+
+#[test]
+fn handshakes() {
+    // What the SYN-ACK offers is what the SYN had.
+    for (capacity, window, scale) in
+        [(100, 100, 0), (0xffff, 0xffff, 0), (0x1_0000, 0xffff, 1), (0x10_0000, 0xffff, 5)]
+    {
+        let mut talk = Talk::<4>::new(true, capacity);
+        assert_eq!(talk.say(&syn(OPTIONS)), []);
+        let answer = &talk.wait(0)[0];
+        assert_eq!((answer.flags, answer.number, answer.acked()), (SYN | ACK, INITIAL, 0));
+        assert_eq!((answer.window, answer.option(2)), (window, Some(&[5, 180][..])));
+        assert_eq!((answer.option(3), answer.option(4)), (Some(&[scale][..]), Some(&[][..])));
+    }
+    let mut talk = Talk::<4>::new(true, 0x10_0000);
+    for ignored in [peer(0, 0), peer(0, 0).with(SYN), syn(&[]).with(RST)] {
+        assert_eq!(talk.say(&ignored), []);
+        assert_eq!((talk.endpoint.state, talk.wait(0)), (State::Listening, vec![]));
+    }
+    talk.say(&syn(&[]));
+    let answer = &talk.wait(0)[0];
+    assert_eq!((answer.option(3), answer.option(4)), (None, None));
+    // It is sent again after 1 s, 2 s, 4 s; numbers that it never had acknowledge nothing.
+    assert_eq!(talk.expire(), (1_000_000, vec![answer.clone()]));
+    talk.say(&peer(0, 1));
+    talk.say(&peer(0, u32::MAX));
+    assert_eq!(talk.endpoint.state, State::Opening(true));
+    assert_eq!(talk.expire(), (2_000_000, vec![answer.clone()]));
+    talk.say(&peer(0, 0));
+    assert_eq!(talk.endpoint.state, State::Open);
+
+    let mut talk = Talk::<4>::new(false, 0x10_0000);
+    let first = &talk.wait(0)[0];
+    assert_eq!((first.flags, first.number, first.acknowledged), (SYN, INITIAL, 0));
+    assert_eq!((first.option(3), first.option(4)), (Some(&[5][..]), Some(&[][..])));
+    // Neither a reset nor a SYN that acknowledges another number, nor one that acknowledges none.
+    let answer = Packet { acknowledged: INITIAL.wrapping_add(1), ..syn(OPTIONS).with(ACK) };
+    let other = Packet { acknowledged: INITIAL, ..answer.clone() };
+    for packet in [other.clone(), other.with(RST), Packet { flags: RST, ..answer.clone() }] {
+        assert_eq!((talk.say(&packet), talk.endpoint.state), (vec![], State::Opening(false)));
+    }
+    assert_eq!(challenge(&talk.say(&answer), 0).at(), 0);
+    assert_eq!(talk.endpoint.state, State::Open);
+    let mut talk = Talk::<4>::new(false, 100);
+    talk.say(&Packet { flags: RST | ACK, ..answer });
+    assert_eq!(talk.endpoint.state, State::Reset);
+}
+
+#[test]
+fn resets_and_second_syns() {
+    // RFC 5961: only the next number resets; another one in the window is answered.
+    for (at, flags, answered, state) in [
+        (10, RST, false, State::Reset),
+        (10, RST | ACK, false, State::Reset),
+        (11, RST, true, State::Open),
+        (63, RST, true, State::Open),
+        (64, RST, false, State::Open),
+        (9, RST, false, State::Open),
+        (10, SYN, true, State::Open),
+        (10, SYN | ACK, true, State::Open),
+        (u32::MAX, SYN, true, State::Open),
+        (10, SYN | RST, false, State::Reset),
+    ] {
+        let mut talk = Talk::<4>::open(64, OPTIONS);
+        talk.say(&peer(0, 0).text(&[7; 10]));
+        talk.wait(0);
+        assert_eq!(talk.read(64), [7; 10]);
+        talk.wait(0);
+        let said = talk.say(&Packet { flags, ..peer(at, 0) });
+        assert_eq!(
+            (talk.endpoint.state, said.len()),
+            (state, usize::from(answered)),
+            "{at} {flags}"
+        );
+        said.iter().for_each(|said| assert_eq!((said.acked(), said.flags), (10, ACK)));
+    }
+}
+
+#[test]
+fn what_is_not_acceptable() {
+    let mut talk = Talk::<4>::open(64, OPTIONS);
+    assert_eq!(talk.say(&peer(0, 0).text(b"abc")), []);
+    assert_eq!(challenge(&talk.say(&peer(3, 0).text(b"def")), 6).window, 58);
+    // Old text, text beyond the window, and what was never sent is acknowledged: answered, not kept.
+    for packet in [peer(0, 0).text(b"XYZ"), peer(64, 0).text(b"X"), peer(6, 1).text(b"X")] {
+        challenge(&talk.say(&packet), 6);
+        assert_eq!(talk.endpoint.receiver.len(), 6);
+    }
+    // Without the flag ACK nothing is taken, and nothing is answered.
+    assert_eq!(talk.say(&Packet { flags: 0, ..peer(6, 0).text(b"X") }), []);
+    // From another address too.
+    let bytes = peer(6, 0).text(b"X").bytes();
+    let (_from, segment) = Segment::parse(&bytes, HERE).unwrap();
+    talk.endpoint.take((THERE.0, 1), &segment, talk.now);
+    // An old acknowledgement is none; its text is taken, in part old and in part beyond the window.
+    let long = [&b"defghi"[..], &[b'-'; 80]].concat();
+    assert_eq!(talk.say(&peer(3, u32::MAX).text(&long)), []);
+    challenge(&talk.wait(0), 64);
+    let kept = [&b"abcdefghi"[..], &[b'-'; 55]].concat();
+    assert_eq!(talk.read(100), kept);
+}
+
+#[test]
+fn which_segment_is_the_newest() {
+    let mut talk = Talk::<8>::open(1 << 16, OPTIONS);
+    let mut blocks = |at: u32| talk.say(&peer(at, 0).text(&[1; 10]))[0].blocks();
+    assert_eq!(blocks(20), [(20, 30)]);
+    assert_eq!(blocks(60), [(60, 70), (20, 30)]);
+    assert_eq!(blocks(40), [(40, 50), (60, 70), (20, 30)]);
+    assert_eq!(blocks(80), [(80, 90), (40, 50), (60, 70), (20, 30)]);
+    assert_eq!(blocks(100), [(100, 110), (80, 90), (40, 50), (60, 70)]);
+    assert_eq!(blocks(30), [(20, 50), (100, 110), (80, 90), (60, 70)]);
+    // One that is refused is not the newest: there is no room for a ninth run.
+    for at in [120, 140, 160, 180] {
+        blocks(at);
+    }
+    assert_eq!(blocks(200)[0], (180, 190));
+    assert_eq!(blocks(60)[0], (60, 70));
+    let mut talk = Talk::<8>::open(1 << 16, &[]);
+    assert_eq!(talk.say(&peer(20, 0).text(b"x"))[0].options, []);
+}
+
+#[test]
+fn each_second_segment_is_acknowledged() {
+    let mut talk = Talk::<4>::open(1 << 16, OPTIONS);
+    assert_eq!(talk.say(&peer(0, 0).text(b"ab")), []);
+    assert_eq!(challenge(&talk.say(&peer(2, 0).text(b"cd")), 4).options, []);
+    assert_eq!(talk.say(&peer(4, 0).text(b"ef")), []);
+    // At once: text out of order, and text that fills a hole.
+    assert_eq!(challenge(&talk.say(&peer(8, 0).text(b"ij")), 6).blocks(), [(8, 10)]);
+    challenge(&talk.say(&peer(6, 0).text(b"gh")), 10);
+    assert_eq!(talk.say(&peer(10, 0).text(b"k")), []);
+    challenge(&talk.wait(0), 11);
+    // An acknowledgement is never answered.
+    assert_eq!((talk.say(&peer(11, 0)), talk.wait(0)), (vec![], vec![]));
+}
+
+#[test]
+fn the_end() {
+    // In order; out of order; alone; with a window of one byte.
+    let mut talk = Talk::<4>::open(64, OPTIONS);
+    challenge(&talk.say(&peer(0, 0).text(b"abc").with(FIN)), 4);
+    assert_eq!(talk.read(9), b"abc");
+    assert!(talk.endpoint.receiver.has_read_all());
+    // Text after it isn't kept, and an end elsewhere is refused.
+    for packet in [peer(4, 0).text(b"xyz"), peer(3, 0).text(b"xyz"), peer(4, 0).with(FIN)] {
+        challenge(&talk.say(&packet), 4);
+        assert!(talk.endpoint.receiver.has_read_all() && talk.endpoint.receiver.is_empty());
+    }
+    let mut talk = Talk::<4>::open(64, OPTIONS);
+    challenge(&talk.say(&peer(6, 0).with(FIN)), 0);
+    challenge(&talk.say(&peer(3, 0).text(b"defgh")), 0);
+    challenge(&talk.say(&peer(5, 0).with(FIN)), 0);
+    challenge(&talk.say(&peer(0, 0).text(b"abc")), 7);
+    assert_eq!(talk.read(9), b"abcdef");
+    assert!(talk.endpoint.receiver.has_read_all());
+    let mut talk = Talk::<4>::open(1, OPTIONS);
+    challenge(&talk.say(&peer(0, 0).text(b"a").with(FIN)), 2);
+    // The acknowledgement of the endpoint's own FIN is acceptable, though nothing was read.
+    talk.endpoint.close();
+    let fin = &talk.wait(0)[0];
+    assert_eq!((fin.flags, fin.at(), fin.acked()), (FIN | ACK, 0, 2));
+    assert_eq!((talk.say(&peer(2, 1)), talk.endpoint.is_closed()), (vec![], true));
+    assert_eq!(talk.read(9), b"a");
+    // A reset after both ends is no error.
+    talk.say(&Packet { flags: RST, ..peer(2, 1) });
+    assert_eq!(talk.endpoint.state, State::Open);
+}
+
+#[test]
+fn windows_open_and_close() {
+    // Bytes come till the window is shut, none is refused, and then all are read.
+    for capacity in [1, 2, 3, 100, 127, 128, 1_460, 4_095, 65_536, 100_001] {
+        for options in [OPTIONS, &[]] {
+            let mut talk = Talk::<4>::open(capacity, options);
+            let scale = if options.is_empty() || capacity < 65_536 { 0 } else { 1 };
+            let (mut at, mut read, mut edge) = (0, 0, capacity.min(0xffff) as u32);
+            for _round in 0..3 {
+                while at < edge {
+                    let len = (edge - at).min(997);
+                    let mut said = talk.say(&peer(at, 0).text(&vec![3; len as usize]));
+                    at += len;
+                    said.extend(talk.wait(0));
+                    for packet in said {
+                        let announced = packet.acked() + (u32::from(packet.window) << scale);
+                        assert!(announced <= read + capacity as u32, "room that isn't there");
+                        edge = edge.max(announced);
+                    }
+                }
+                let free = capacity - talk.endpoint.receiver.len();
+                assert!(free < 1 << scale || options.is_empty(), "{free} of {capacity} unused");
+                read += talk.read(capacity).len() as u32;
+                let update = talk.wait(0);
+                edge = challenge(&update, at).acked() + (u32::from(update[0].window) << scale);
+                assert!(edge - at >= (capacity as u32).div_ceil(2).min(1_460), "shut: {capacity}");
+            }
+            assert_eq!(read, at);
+        }
+    }
+    // A few bytes that are read are no reason for an update, nor do they move the edge.
+    let mut talk = Talk::<4>::open(4_000, OPTIONS);
+    talk.say(&peer(0, 0).text(&[1; 1_400]));
+    assert_eq!(challenge(&talk.wait(0), 1_400).window, 2_600);
+    talk.read(1_300);
+    assert_eq!(talk.wait(0), []);
+    assert_eq!(challenge(&talk.say(&peer(1_500, 0).text(b"x")), 1_400).window, 2_600);
+    talk.read(100);
+    assert_eq!(talk.wait(0), []);
+}
