@@ -195,16 +195,15 @@ static void call_packets(void) {
 static void call_numbers(void) {
     static uint64_t seed;
     uint64_t which = below(6), one = draw(), other = number(), result = 0;
-    int64_t moment = 0;
+    uint32_t left = (uint32_t)one, right = (uint32_t)(one >> 32);
     switch (which) {
     case 0: eat(net_base_rand_u32(&seed)); break;
     case 1: eat(net_base_rand_source_port(&seed)); break;
-    case 2: eat(net_base_instant_add((int64_t)one, other, &moment)); eat((uint64_t)moment); break;
+    case 2: eat((uint64_t)net_base_instant_saturating_add((int64_t)one, other)); break;
     case 3: eat(net_base_instant_distance((int64_t)one, (int64_t)other)); break;
-    case 4: eat(net_base_duration_mul(one, (uint32_t)other, &result)); eat(result); break;
+    case 4: eat(net_base_sequence_number_is_before(left, right)); break;
     default:
-        eat(net_base_sequence_number_at((uint32_t)one, other));
-        eat(net_base_sequence_number_position((uint32_t)one, (uint32_t)(one >> 32), other, &result));
+        eat(net_base_sequence_number_position(left, right, other, &result));
         eat(result);
     }
 }

@@ -237,26 +237,17 @@ impl Values<'_> {
 
     fn call_numbers(&mut self, run: &mut Run) {
         let (which, one, other) = (run.below(6), run.draw(), run.number());
+        let (left, right) =
+            (SequenceNumber::new(one as u32), SequenceNumber::new((one >> 32) as u32));
         let moment = Instant::from_micros(one as i64);
         match which {
             0 => run.eat(self.rand.rand_u32().into()),
             1 => run.eat(self.rand.rand_source_port().into()),
-            2 => {
-                let sum = moment.checked_add(Duration::from_micros(other));
-                run.eat_truth(sum.is_some());
-                run.eat(sum.map_or(0, |it| it.total_micros()) as u64);
-            }
+            2 => run.eat((moment + Duration::from_micros(other)).total_micros() as u64),
             3 => run.eat((moment - Instant::from_micros(other as i64)).total_micros()),
-            4 => {
-                let product = Duration::from_micros(one).checked_mul(other as u32);
-                run.eat_truth(product.is_some());
-                run.eat(product.map_or(0, |it| it.total_micros()));
-            }
+            4 => run.eat_truth(left.is_before(right)),
             _ => {
-                let (number, initial) =
-                    (SequenceNumber::new(one as u32), SequenceNumber::new((one >> 32) as u32));
-                run.eat(SequenceNumber::at(number, other).get().into());
-                let position = number.position(initial, other);
+                let position = left.position(right, other);
                 run.eat_truth(position.is_some());
                 run.eat(position.unwrap_or(0));
             }

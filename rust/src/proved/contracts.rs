@@ -727,7 +727,8 @@
 //! abbrev pub acknowledged : FiniteState → ℕ
 //! acknowledged s = if is_complete s then s.end + 1 else next_position s.receiver
 //!
-//! -- of n numbers from pos on the first or the last may arrive; if none may, there is none, and pos is the acknowledged one
+//! -- of n numbers from pos on the first or the last may arrive; if none may, there is none, and pos is the
+//! -- acknowledged one
 //! abbrev pub is_acceptable : FiniteState → ℕ → ℕ → Bool
 //! is_acceptable s pos n =
 //!     if nat_eq (window_of s) 0 then nat_eq n 0 && nat_eq pos (acknowledged s)
@@ -1140,7 +1141,13 @@
 //! -- storage begins again at `wraps_at`
 //! abbrev pub sender_state : ℕ → ℕ → List ℕ → List (ℕ × ℕ) → ℕ → SenderState
 //! sender_state capacity head queue sack_blocks wraps_at =
-//!     record { capacity = capacity; first_unacknowledged = head; queue = queue; sack_blocks = sack_blocks; wraps_at = wraps_at }
+//!     record {
+//!       capacity = capacity;
+//!       first_unacknowledged = head;
+//!       queue = queue;
+//!       sack_blocks = sack_blocks;
+//!       wraps_at = wraps_at;
+//!     }
 //!
 //! -- the position after the last byte
 //! abbrev pub end_of : SenderState → ℕ

@@ -37,6 +37,17 @@ pub struct ReceiverOver<S: Storage<u8>, const N: usize> {
 }
 
 /// A receiver over storage that is lent or owned.
+///
+/// ```
+/// use net_base::receiver::Receiver;
+///
+/// let mut storage = [0u8; 8];
+/// let mut receiver = Receiver::new_at(&mut storage[..], 100);
+/// assert_eq!(receiver.segment(103, b"de").map(|it| it.queued), Ok(0));
+/// assert_eq!(receiver.segment(100, b"abc").map(|it| it.queued), Ok(5));
+/// let mut into = [0; 8];
+/// assert_eq!((receiver.read(&mut into), &into[..5]), (5, &b"abcde"[..]));
+/// ```
 pub type Receiver<'a, const N: usize = 4> = ReceiverOver<ManagedSlice<'a, u8>, N>;
 
 impl<S: Storage<u8>, const N: usize> ReceiverOver<S, N> {
@@ -169,6 +180,11 @@ impl<S: Storage<u8>, const N: usize> ReceiverOver<S, N> {
 
     /// Returns whether `pos + len` fits `u64`, as `segment` requires for a segment of `len` bytes.
     ///
+    /// ```
+    /// # use net_base::receiver::Receiver;
+    /// assert!(Receiver::<4>::fits(u64::MAX - 2, 2) && !Receiver::<4>::fits(u64::MAX - 2, 3));
+    /// ```
+    ///
     /// # Contract
     ///
     /// In the words of [`contracts`](crate::contracts):
@@ -182,6 +198,14 @@ impl<S: Storage<u8>, const N: usize> ReceiverOver<S, N> {
 
     /// Returns the first missing position: the first position, plus the count of bytes read, plus
     /// those queued.
+    ///
+    /// ```
+    /// # use net_base::receiver::Receiver;
+    /// # let mut storage = [0u8; 16];
+    /// # let mut receiver = Receiver::new(&mut storage[..]);
+    /// assert!(receiver.segment(0, b"abc").is_ok());
+    /// assert_eq!(receiver.next(), 3);
+    /// ```
     ///
     /// # Contract
     ///
@@ -210,6 +234,14 @@ impl<S: Storage<u8>, const N: usize> ReceiverOver<S, N> {
     /// Returns the window: how many bytes have room after the queue, held ones among them. `queued`
     /// and `window` together are the capacity.
     ///
+    /// ```
+    /// # use net_base::receiver::Receiver;
+    /// # let mut storage = [0u8; 16];
+    /// # let mut receiver = Receiver::new(&mut storage[..]);
+    /// assert!(receiver.segment(0, b"abc").is_ok());
+    /// assert_eq!(receiver.window(), 13);
+    /// ```
+    ///
     /// # Contract
     ///
     /// In the words of [`contracts`](crate::contracts):
@@ -224,6 +256,16 @@ impl<S: Storage<u8>, const N: usize> ReceiverOver<S, N> {
 
     /// Returns the end of the free window, `next` plus `window`: the first position for which there
     /// is no room. `None` if it doesn't fit 64 bits. It never falls (`laws::numbers`).
+    ///
+    /// ```
+    /// # use net_base::receiver::Receiver;
+    /// # let mut storage = [0u8; 16];
+    /// # let mut receiver = Receiver::new_at(&mut storage[..], 100);
+    /// assert!(receiver.segment(100, b"abc").is_ok());
+    /// assert_eq!(receiver.window_end(), Some(116));
+    /// assert_eq!(receiver.read(&mut [0; 3]), 3);
+    /// assert_eq!(receiver.window_end(), Some(119));
+    /// ```
     ///
     /// # Contract
     ///
@@ -240,6 +282,12 @@ impl<S: Storage<u8>, const N: usize> ReceiverOver<S, N> {
 
     /// Returns how many bytes have room, queued and held ones included: the storage's length.
     ///
+    /// ```
+    /// # use net_base::receiver::Receiver;
+    /// let mut storage = [0u8; 16];
+    /// assert_eq!(Receiver::new(&mut storage[..]).capacity(), 16);
+    /// ```
+    ///
     /// # Contract
     ///
     /// In the words of [`contracts`](crate::contracts):
@@ -253,6 +301,14 @@ impl<S: Storage<u8>, const N: usize> ReceiverOver<S, N> {
 
     /// Returns how many bytes are queued, as `queued` does.
     ///
+    /// ```
+    /// # use net_base::receiver::Receiver;
+    /// # let mut storage = [0u8; 16];
+    /// # let mut receiver = Receiver::new(&mut storage[..]);
+    /// assert!(receiver.segment(0, b"abc").is_ok());
+    /// assert_eq!(receiver.len(), 3);
+    /// ```
+    ///
     /// # Contract
     ///
     /// In the words of [`contracts`](crate::contracts):
@@ -265,6 +321,14 @@ impl<S: Storage<u8>, const N: usize> ReceiverOver<S, N> {
     }
 
     /// Returns whether no byte is queued; bytes may be held.
+    ///
+    /// ```
+    /// # use net_base::receiver::Receiver;
+    /// # let mut storage = [0u8; 16];
+    /// # let mut receiver = Receiver::new(&mut storage[..]);
+    /// assert!(receiver.segment(1, b"b").is_ok());
+    /// assert!(receiver.is_empty());
+    /// ```
     ///
     /// # Contract
     ///
@@ -280,6 +344,14 @@ impl<S: Storage<u8>, const N: usize> ReceiverOver<S, N> {
     /// Returns the held runs as absolute (start, end), the end not included, in rising order, at
     /// most `N`. Each begins above `next` and ends within the free window. What a selective
     /// acknowledgement lists are not the first of these: `newest_runs` lists those.
+    ///
+    /// ```
+    /// # use net_base::receiver::Receiver;
+    /// # let mut storage = [0u8; 16];
+    /// # let mut receiver = Receiver::new_at(&mut storage[..], 100);
+    /// assert!(receiver.segment(105, b"abc").is_ok());
+    /// assert!(receiver.held().eq([(105, 108)]));
+    /// ```
     ///
     /// # Contract
     ///
@@ -314,6 +386,14 @@ impl<S: Storage<u8>, const N: usize> ReceiverOver<S, N> {
     /// and counts them. If all that it brings was read, queued or held, there are none: a duplicate,
     /// which TCP may report (RFC 2883). It is asked before `segment`; smoltcp has no such call.
     ///
+    /// ```
+    /// # use net_base::receiver::Receiver;
+    /// # let mut storage = [0u8; 16];
+    /// # let mut receiver = Receiver::new(&mut storage[..]);
+    /// assert!(receiver.segment(4, b"ef").is_ok());
+    /// assert_eq!((receiver.count_new(3, 4), receiver.count_new(4, 2)), (2, 0));
+    /// ```
+    ///
     /// # Requires, else it panics
     ///
     /// The segment ends within 64 bits, as `fits` tests.
@@ -347,6 +427,16 @@ impl<S: Storage<u8>, const N: usize> ReceiverOver<S, N> {
     /// other clauses follow from these. `receives` is for callers that expect one stream: if the receiver
     /// has kept only bytes of the stream, and the segment has the stream's bytes, it still has kept only
     /// bytes of the stream.
+    ///
+    /// ```
+    /// # use net_base::receiver::Receiver;
+    /// # use net_base::storage::TooManyHolesError;
+    /// let mut storage = [0u8; 16];
+    /// let mut receiver = Receiver::<1>::empty(&mut storage[..]);
+    /// assert_eq!(receiver.segment(4, b"e").map(|it| it.kept), Ok(1));
+    /// assert_eq!(receiver.segment(6, b"g"), Err(TooManyHolesError));
+    /// assert_eq!(receiver.segment(0, b"abcd").map(|it| it.queued), Ok(5));
+    /// ```
     ///
     /// # Requires, else it panics
     ///
@@ -385,6 +475,13 @@ impl<S: Storage<u8>, const N: usize> ReceiverOver<S, N> {
     /// `states` says which states of a schedule differ by it. `converges` says that two receivers
     /// of one stream are found equal if the same number of bytes was read from both and the same
     /// positions were kept, in whatever order the segments arrived.
+    ///
+    /// ```
+    /// # use net_base::receiver::Receiver;
+    /// let (mut storage, mut other) = ([0u8; 4], [0u8; 8]);
+    /// let receiver = Receiver::new(&mut storage[..]);
+    /// assert!(receiver.same_state(&Receiver::new(&mut other[..])));
+    /// ```
     ///
     /// # Contract
     ///

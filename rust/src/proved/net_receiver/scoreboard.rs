@@ -14,6 +14,17 @@ use crate::proved::net_assembler::{Run, TooManyHolesError};
 /// memory. `next_lost` gives what is lost, range by range, and `next_hole` all that isn't reported, of
 /// which most may only be in flight; when it is sent again is the caller's choice. smoltcp has no such
 /// type: its TCP socket sends again from the first unacknowledged position on.
+///
+/// ```
+/// use net_base::scoreboard::Scoreboard;
+///
+/// // Of the bytes from 100 to 199, all sent, those below 120 and those from 140 to 159 have arrived.
+/// let mut scoreboard = Scoreboard::<4>::empty();
+/// assert_eq!(scoreboard.acknowledge(120), Ok(()));
+/// assert_eq!(scoreboard.report(140, 160, 200), Ok(true));
+/// assert_eq!(scoreboard.next_hole(120, 200), Some((120, 140)));
+/// assert_eq!(scoreboard.next_hole(140, 200), Some((160, 200)));
+/// ```
 #[derive(Clone)]
 pub struct Scoreboard<const N: usize> {
     head: ScoreboardHead,
@@ -22,6 +33,16 @@ pub struct Scoreboard<const N: usize> {
 
 impl<const N: usize> Scoreboard<N> {
     /// Returns a scoreboard of a stream that begins at position 0, to which nothing was reported.
+    ///
+    /// ```
+    /// # use net_base::scoreboard::Scoreboard;
+    /// assert!(!Scoreboard::<4>::empty().contains(0));
+    /// ```
+    ///
+    /// ```compile_fail
+    /// # use net_base::scoreboard::Scoreboard;
+    /// let scoreboard = Scoreboard::<0>::empty();
+    /// ```
     ///
     /// # Requires, else it panics
     ///
@@ -119,6 +140,14 @@ impl<const N: usize> Scoreboard<N> {
     /// Forgets all that was reported, as when a retransmission timer ends (RFC 2018, section 8): then
     /// `acknowledge` is called with what was acknowledged.
     ///
+    /// ```
+    /// # use net_base::scoreboard::Scoreboard;
+    /// # let mut scoreboard = Scoreboard::<4>::empty();
+    /// assert_eq!(scoreboard.report(5, 9, 20), Ok(true));
+    /// scoreboard.clear();
+    /// assert!(!scoreboard.contains(5));
+    /// ```
+    ///
     /// # Contract
     ///
     /// In the words of [`contracts`](crate::contracts):
@@ -140,6 +169,16 @@ impl<const N: usize> Scoreboard<N> {
     /// beyond it: then the block isn't known, and its bytes are sent again. On a processor of 32 bits it
     /// is refused too if `end` is 2^32 or more above the first position that wasn't reported.
     ///
+    /// ```
+    /// # use net_base::scoreboard::Scoreboard;
+    /// # use net_base::storage::TooManyHolesError;
+    /// let mut scoreboard = Scoreboard::<1>::empty();
+    /// assert_eq!((scoreboard.report(5, 9, 8), scoreboard.report(9, 5, 20)), (Ok(false), Ok(false)));
+    /// assert_eq!((scoreboard.report(5, 9, 9), scoreboard.report(8, 12, 20)), (Ok(true), Ok(true)));
+    /// assert_eq!(scoreboard.report(14, 15, 20), Err(TooManyHolesError));
+    /// assert!(scoreboard.contains(11) && !scoreboard.contains(14));
+    /// ```
+    ///
     /// # Contract
     ///
     /// In the words of [`contracts`](crate::contracts):
@@ -160,6 +199,14 @@ impl<const N: usize> Scoreboard<N> {
     }
 
     /// Reports all positions below `next`. It is never refused.
+    ///
+    /// ```
+    /// # use net_base::scoreboard::Scoreboard;
+    /// # let mut scoreboard = Scoreboard::<4>::empty();
+    /// assert_eq!(scoreboard.report(5, 9, 20), Ok(true));
+    /// assert_eq!(scoreboard.acknowledge(7), Ok(()));
+    /// assert_eq!(scoreboard.next_hole(0, 20), Some((9, 20)));
+    /// ```
     ///
     /// # Contract
     ///
@@ -186,6 +233,13 @@ impl<const N: usize> Scoreboard<N> {
     }
 
     /// Returns whether a position was reported.
+    ///
+    /// ```
+    /// # use net_base::scoreboard::Scoreboard;
+    /// # let mut scoreboard = Scoreboard::<4>::empty();
+    /// assert_eq!(scoreboard.report(5, 9, 20), Ok(true));
+    /// assert!(scoreboard.contains(8) && !scoreboard.contains(9));
+    /// ```
     ///
     /// # Contract
     ///
@@ -255,6 +309,14 @@ impl<const N: usize> Scoreboard<N> {
     /// Returns the next range that wasn't reported, as a start and an end, the end not included: it
     /// begins at the first position from `pos` on that wasn't, and ends at the next one that was, or at
     /// `limit`. `None` if there is none below `limit`. Of these bytes most may only be in flight.
+    ///
+    /// ```
+    /// # use net_base::scoreboard::Scoreboard;
+    /// # let mut scoreboard = Scoreboard::<4>::empty();
+    /// assert_eq!((scoreboard.report(5, 9, 20), scoreboard.report(12, 20, 20)), (Ok(true), Ok(true)));
+    /// assert_eq!(scoreboard.next_hole(6, 20), Some((9, 12)));
+    /// assert_eq!(scoreboard.next_hole(12, 20), None);
+    /// ```
     ///
     /// # Contract
     ///

@@ -5,6 +5,7 @@ pub use buffer::{FragmentBuffer, FragmentsOver};
 use crate::proved::net_assembler::{AssemblerHead, Run, assembler};
 
 mod buffer;
+pub mod table;
 
 /// Why a fragment or a size is refused.
 #[derive(Debug, Clone, Copy, PartialEq, Eq)]

@@ -9,9 +9,11 @@ use crate::proved::net_ring::{ManagedSlice, Storage};
 /// A receiver of one stream of bytes that ends: a receiver that knows where the stream ends, once a
 /// segment has said so.
 ///
-/// The end is the position after the last byte. It has a number, as a byte has, and needs no room.
-/// Segments may arrive in any order, the last one too. Contracts see what the receiver of the bytes
-/// stores, and the end, `no_end` while it isn't known.
+/// The end is the position after the last byte. It has a number, as a byte has (that of TCP's FIN), and
+/// needs no room. Segments may arrive in any order, the last one too. The held runs that a selective
+/// acknowledgement lists are of bytes alone: an end that came out of order is sent again.
+///
+/// Contracts see what the receiver of the bytes stores, and the end, `no_end` while it isn't known.
 pub struct FiniteReceiverOver<S: Storage<u8>, const N: usize> {
     receiver: ReceiverOver<S, N>,
     end: u64,
@@ -410,6 +412,9 @@ impl<S: Storage<u8>, const N: usize> FiniteReceiverOver<S, N> {
     /// Returns whether a segment of `count` numbers from `pos` on is acceptable, as RFC 9293,
     /// 3.10.7.4, has it: its first number may arrive, or its last one. The end is a number. If the
     /// window is 0, only a segment without numbers at the acknowledged one is.
+    ///
+    /// An end alone in a window of 0 isn't acceptable by this table, though `keep` takes it, as it needs
+    /// no room. A caller that wants it asks with the count of the bytes alone.
     ///
     /// # Requires, else it panics
     ///

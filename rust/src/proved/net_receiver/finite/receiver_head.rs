@@ -14,7 +14,8 @@ pub(super) const NO_END: u64 = u64::MAX;
 /// segment has said so, in whatever order the segments arrive; then no byte at or above it is kept.
 ///
 /// Head, storage and runs are *sound* if they are those of such a receiver, as `is_sound` tests:
-/// `HasSoundFinite` in contracts, where `finite_of` is what is stored. smoltcp has no such type.
+/// `HasSoundFinite` in contracts, where `finite_of` is what is stored. A head of zeros is that of a stream
+/// that ends at position 0, and not a new one. smoltcp has no such type.
 #[repr(C)]
 #[derive(Debug, Clone, Copy)]
 pub struct FiniteReceiverHead {
@@ -381,6 +382,9 @@ impl FiniteReceiverHead {
     /// Returns whether a segment of `count` numbers from `pos` on is acceptable, as RFC 9293,
     /// 3.10.7.4, has it: its first number may arrive, or its last one. The end is a number. If the
     /// window is 0, only a segment without numbers at the acknowledged one is.
+    ///
+    /// An end alone in a window of 0 isn't acceptable by this table, though `keep` takes it, as it needs
+    /// no room. A caller that wants it asks with the count of the bytes alone.
     ///
     /// # Requires, else it panics
     ///

@@ -40,6 +40,17 @@ impl<S: Storage<u8>, const N: usize> ReceiverOver<S, N> {
     /// A sender that is told the first runs again and again learns late of others. smoltcp reports the
     /// first run alone.
     ///
+    /// ```
+    /// # use net_base::receiver::Receiver;
+    /// # let mut storage = [0u8; 16];
+    /// # let mut receiver = Receiver::new_at(&mut storage[..], 100);
+    /// let mut recent = [0; 3];
+    /// assert!(receiver.segment(108, b"i").is_ok());
+    /// assert!(receiver.newest_runs(108, &mut recent).eq([(108, 109)]));
+    /// assert!(receiver.segment(104, b"ef").is_ok());
+    /// assert!(receiver.newest_runs(104, &mut recent).eq([(104, 106), (108, 109)]));
+    /// ```
+    ///
     /// # Contract
     ///
     /// In the words of [`contracts`](crate::contracts):
