@@ -11,11 +11,23 @@ pub use crate::proved::net_receiver::{HeldRuns, Kept, NewestRunIter, Receiver, R
 
 impl<'a> Receiver<'a> {
     /// Returns a receiver of a stream whose first byte has position 0, with room for 4 held runs.
+    ///
+    /// ```
+    /// # use net_base::receiver::Receiver;
+    /// let mut storage = [0u8; 16];
+    /// assert_eq!(Receiver::new(&mut storage[..]).next(), 0);
+    /// ```
     pub fn new<S: Into<ManagedSlice<'a, u8>>>(storage: S) -> Receiver<'a> {
         Receiver::empty_at(storage, 0)
     }
 
     /// Returns a receiver of a stream whose first byte has position `first`, with room for 4 held runs.
+    ///
+    /// ```
+    /// # use net_base::receiver::Receiver;
+    /// let mut storage = [0u8; 16];
+    /// assert_eq!(Receiver::new_at(&mut storage[..], 100).next(), 100);
+    /// ```
     pub fn new_at<S: Into<ManagedSlice<'a, u8>>>(storage: S, first: u64) -> Receiver<'a> {
         Receiver::empty_at(storage, first)
     }
@@ -23,11 +35,24 @@ impl<'a> Receiver<'a> {
 
 impl<'a, const N: usize> Receiver<'a, N> {
     /// Returns a receiver of a stream whose first byte has position 0, with room for `N` held runs.
+    ///
+    /// ```
+    /// # use net_base::receiver::Receiver;
+    /// let mut storage = [0u8; 16];
+    /// assert_eq!(Receiver::<32>::empty(&mut storage[..]).next(), 0);
+    /// ```
     pub fn empty<S: Into<ManagedSlice<'a, u8>>>(storage: S) -> Self {
         Self::empty_at(storage, 0)
     }
 
     /// Returns a receiver of a stream whose first byte has position `first`, with room for `N` held runs.
+    ///
+    /// ```
+    /// # use net_base::receiver::Receiver;
+    /// let mut storage = [0u8; 16];
+    /// let receiver = Receiver::<32>::empty_at(&mut storage[..], 100);
+    /// assert_eq!((receiver.next(), receiver.window()), (100, 16));
+    /// ```
     pub fn empty_at<S: Into<ManagedSlice<'a, u8>>>(storage: S, first: u64) -> Self {
         ReceiverOver::over_at(storage.into(), first)
     }

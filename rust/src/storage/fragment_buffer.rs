@@ -9,6 +9,13 @@ use crate::time::Instant;
 
 impl<'a> FragmentBuffer<'a> {
     /// Returns a buffer with no byte, which has room for 4 runs.
+    ///
+    /// ```
+    /// # use net_base::storage::FragmentBuffer;
+    /// # use net_base::time::Instant;
+    /// # let mut bytes = [0u8; 8];
+    /// assert!(FragmentBuffer::new(&mut bytes[..], Instant::ZERO).is_empty());
+    /// ```
     pub fn new<S: Into<ManagedSlice<'a, u8>>>(
         storage: S,
         expires_at: Instant,
@@ -19,6 +26,13 @@ impl<'a> FragmentBuffer<'a> {
 
 impl<'a, const N: usize> FragmentBuffer<'a, N> {
     /// Returns a buffer with no byte, which has room for `N` runs.
+    ///
+    /// ```
+    /// # use net_base::storage::FragmentBuffer;
+    /// # use net_base::time::Instant;
+    /// # let mut bytes = [0u8; 8];
+    /// assert!(FragmentBuffer::<8>::empty(&mut bytes[..], Instant::ZERO).is_empty());
+    /// ```
     pub fn empty<S: Into<ManagedSlice<'a, u8>>>(storage: S, expires_at: Instant) -> Self {
         FragmentsOver::over(storage.into(), expires_at)
     }
