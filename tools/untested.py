@@ -10,7 +10,8 @@ std, most of whose methods are called by an operator or written by a derive, and
 library implements: their users write the methods, and the library calls them.
 
 Tests and examples are the crates *_tests, net_examples, net_cases, whose rows are run, net_ffi, whose exports
-c/exports.c calls, and the files tests.rt.
+the tests in C call, and the files tests.rt; and, since the Cargo crate has the same text, its tests and examples, and
+the examples in doc comments, which rustdoc runs.
 Named there is
 - a function where it is called in a file that brings it in by `use`, or by a path that ends in it;
 - an associated function where the text has `Type::name`, with the type or an alias of it;
@@ -27,13 +28,19 @@ import pathlib
 import re
 import sys
 
-CRATES = pathlib.Path(__file__).resolve().parent.parent / "crates"
+ROOT = pathlib.Path(__file__).resolve().parent.parent
+CRATES = ROOT / "crates"
 PAIRS = {"(": ")", "[": "]", "{": "}"}
 
 
 def source(file):
     """The text of a file without comments, texts and ghost items."""
-    text = re.sub(r"//[^\n]*", "", file.read_text())
+    return code(file.read_text())
+
+
+def code(text):
+    """A text without comments, texts and ghost items."""
+    text = re.sub(r"//[^\n]*", "", text)
     text = re.sub(r'b?"(?:[^"\\]|\\.)*"', '""', text)
     text = re.sub(r"b?'(?:[^'\\]|\\.)'", "' '", text)
     return re.sub(r"^\s*ghost [^{;]*(?:\{.*?\})?;$", "", text, flags=re.M | re.S)
@@ -42,6 +49,18 @@ def source(file):
 def is_test(file):
     crate = file.relative_to(CRATES).parts[0]
     return crate.endswith("_tests") or crate in ("net_examples", "net_cases", "net_ffi") or file.name == "tests.rt"
+
+
+def doc_examples(file):
+    """The examples in a file's doc comments, each as a function."""
+    lines, is_in = [], False
+    for line in re.findall(r"^\s*//[/!] ?(.*)$", file.read_text(), re.M):
+        if line.startswith("```"):
+            is_in = not is_in
+            lines.append("fn example() {" if is_in else "}")
+        elif is_in:
+            lines.append(line.removeprefix("# "))
+    return "\n".join(lines)
 
 
 def closing(text, at, step=1):
@@ -191,8 +210,8 @@ class Library:
 class TestFile:
     """What one file of tests or examples names."""
 
-    def __init__(self, file, library):
-        self.library, self.file, self.text = library, file, without_aliases(source(file))
+    def __init__(self, file, text, library):
+        self.library, self.file, self.text = library, file, without_aliases(code(text))
         self.named = set()
         self.helpers = {fn.name: fn for fn in functions(self.text)}
         self.own_fields = dict(re.findall(r"^    (?:pub )?(\w+): ([^\n]*),$", self.text, re.M))
@@ -218,7 +237,9 @@ class TestFile:
             self.note(self.library.alias.get(it[1], it[1]), it[2])
 
     def note(self, subject, name):
-        """Notes a call of a type's function, and of the trait that it belongs to."""
+        """Notes a call of a type's function, of the trait that it belongs to, and of the head that does it."""
+        if (head := self.library.type_in(self.library.fields[subject].get("head", ""), {})):
+            self.note(head, name)
         for crate, of, it in self.library.calls:
             if it == name and (of == subject or subject in self.library.implementors[of]):
                 self.named.add((crate, of, name))
@@ -296,8 +317,10 @@ def main():
     library = Library()
     named = set()
     for file in sorted(CRATES.glob("*/src/**/*.rt")):
-        if is_test(file):
-            named |= TestFile(file, library).named
+        text = file.read_text() if is_test(file) else doc_examples(file)
+        named |= TestFile(file, text, library).named if text else set()
+    for file in [*ROOT.glob("rust/tests/**/*.rs"), *ROOT.glob("rust/examples/**/*.rs")]:
+        named |= TestFile(file, file.read_text(), library).named
     calls = [it for it in library.calls if not library.is_left_to_users(it[1])]
     wanted = [it for it in calls if not sys.argv[1:] or it[0] in sys.argv[1:]]
     missing = [it for it in wanted if it not in named]

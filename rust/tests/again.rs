@@ -1,0 +1,85 @@
+//! Types that begin again, or give their storage back; and calls of streams that end.
+use net_base::finite::{FiniteReceiver, FiniteSender};
+use net_base::managed::ManagedSlice;
+use net_base::receiver::Receiver;
+use net_base::scoreboard::Scoreboard;
+use net_base::sender::Sender;
+use net_base::storage::FragmentBuffer;
+use net_base::tcp::RetransmissionTimeout;
+use net_base::time::Instant;
+
+fn length(storage: ManagedSlice<u8>) -> usize {
+    storage.len()
+}
+
+#[test]
+fn a_receiver() {
+    let mut storage = [0; 8];
+    let mut receiver: Receiver<4> = Receiver::empty_at(&mut storage[..], 100);
+    assert!(receiver.segment(100, b"abcdef").is_ok() && receiver.segment(107, b"h").is_ok());
+    assert_eq!(receiver.held_count(), 1);
+    receiver.remove(4);
+    assert!(receiver.segment(106, b"g").is_ok());
+    assert_eq!(receiver.peek_slices(1, 9), (&b"fgh"[..], &b""[..]));
+    receiver.reset_at(7);
+    assert_eq!((receiver.next(), receiver.len(), receiver.held_count()), (7, 0, 0));
+    assert!(receiver.segment(7, b"xyz").is_ok());
+    assert_eq!(length(receiver.into_storage()), 8);
+}
+
+#[test]
+fn a_receiver_of_a_stream_that_ends() {
+    let mut storage = [0; 8];
+    let mut receiver: FiniteReceiver<4> = FiniteReceiver::empty_at(&mut storage[..], 100);
+    let mut other = [0; 8];
+    let mut same: FiniteReceiver<4> = FiniteReceiver::empty_at(&mut other[..], 100);
+    assert!(receiver.segment(102, b"c", true).is_ok());
+    assert_eq!((receiver.count_new(100, 9), receiver.end()), (2, Some(103)));
+    assert!(!receiver.same_state(&same));
+    assert!(receiver.segment(100, b"ab", false).is_ok() && same.segment(100, b"abc", true).is_ok());
+    assert!(receiver.same_state(&same));
+    receiver.remove(3);
+    assert!(receiver.has_read_all() && !same.has_read_all());
+    receiver.reset_at(7);
+    assert_eq!((receiver.end(), receiver.acknowledged()), (None, 7));
+    assert_eq!(length(receiver.into_storage()), 8);
+}
+
+#[test]
+fn a_sender() {
+    let mut storage = [0; 4];
+    let mut sender = Sender::new_at(&mut storage[..], 100);
+    assert_eq!(sender.write(b"abcd"), 4);
+    assert!(sender.acknowledge(103));
+    assert_eq!(sender.write(b"efg"), 3);
+    assert_eq!(sender.peek_slices_at(104, 9), (&b"efg"[..], &b""[..]));
+    assert_eq!(sender.peek_slices_at(103, 9), (&b"d"[..], &b"efg"[..]));
+    sender.reset_at(7);
+    assert_eq!((sender.first_unacknowledged(), sender.end(), sender.window()), (7, 7, 4));
+    assert_eq!(length(sender.into_storage()), 4);
+}
+
+#[test]
+fn a_sender_of_a_stream_that_ends() {
+    let mut storage = [0; 4];
+    let mut sender = FiniteSender::new_at(&mut storage[..], 100);
+    assert_eq!((sender.write(b"abc"), sender.capacity(), sender.window()), (3, 4, 1));
+    assert!(sender.close() && !sender.is_empty());
+    assert_eq!((sender.window(), sender.numbers_end()), (0, 104));
+    sender.reset_at(7);
+    assert_eq!((sender.first_number(), sender.numbers_end(), sender.window()), (7, 7, 4));
+    assert_eq!(length(sender.into_storage()), 4);
+}
+
+#[test]
+fn a_scoreboard_and_a_buffer_of_fragments() {
+    let mut board = Scoreboard::<4>::empty_at(100);
+    assert_eq!(board.report(110, 120, 200), Ok(true));
+    board.reset_at(7);
+    assert_eq!((board.first_unreported(), board.count_beyond()), (7, 0));
+    let mut storage = [0; 8];
+    let mut buffer = FragmentBuffer::new(&mut storage[..], Instant::ZERO);
+    assert!(buffer.add(3, b"d").is_ok());
+    assert_eq!(length(buffer.into_storage()), 8);
+    assert!(RetransmissionTimeout::new(1_000_000).is_small());
+}
