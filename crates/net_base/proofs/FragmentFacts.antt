@@ -1,5 +1,6 @@
 -- What a buffer holds after many fragments.
-use Rattle.std.proofs.Common.{◌≡◌, ℕ, ◌+◌, ◌-◌, ◌<◌, ◌≤◌, ◌&&◌, true, List, [], ◌∷◌, length, get_or, refl, ap, ◌∙◌, arith, if◌then◌else◌, nat_le, nat_lt, IsTrue, IsFalse, ap₂, ◌||◌, inl, inr}
+use Rattle.std.proofs.Common.{◌≡◌, ℕ, ◌+◌, ◌-◌, ◌<◌, ◌≤◌, ◌&&◌, true, List, [], ◌∷◌, length, get_or, refl, ap}
+use Rattle.std.proofs.Common.{◌∙◌, arith, if◌then◌else◌, nat_le, nat_lt, IsTrue, IsFalse, ap₂, ◌||◌, inl, inr}
 use Rattle.std.proofs.lemmas.Bool.{both_ways, cases_Bool}
 use Rattle.std.proofs.lemmas.Bool.Decides.{nat_tests}
 use Rattle.std.proofs.lemmas.List.{get_or_default}

@@ -1,9 +1,11 @@
 -- What a fill by the digit 0 to three places writes.
-use Rattle.std.proofs.Common.{◌≡◌, ℕ, zero, suc, ◌-◌, ◌^◌, true, false, List, [], ◌∷◌, length, replicate, ℤ, pos, negsuc, refl, ap, arith, append-nil, append_assoc}
+use Rattle.std.proofs.Common.{◌≡◌, ℕ, zero, suc, ◌-◌, ◌^◌, true, false, List, [], ◌∷◌, length, replicate, ℤ}
+use Rattle.std.proofs.Common.{pos, negsuc, refl, ap, arith, append-nil, append_assoc}
 use Rattle.std.proofs.Math.Nat.{sub-zero, sub_self}
 use Rattle.std.proofs.lemmas.Bool.{le-ltb}
 use Rattle.std.specs.List.{repeat}
-use Rattle.std.specs.Fmt.{padded_integral, char_count, format_spec, decimal, signed_decimal, styled_decimal, styled_signed_decimal}
+use Rattle.std.specs.Fmt.{padded_integral, char_count, format_spec, decimal, signed_decimal, styled_decimal}
+use Rattle.std.specs.Fmt.{styled_signed_decimal}
 use Rattle.net_base.specs.Time.{three_decimals}
 
 repeat_zeros : (n : ℕ) → repeat {A = ℕ} n (48 ∷ []) ≡ replicate n 48

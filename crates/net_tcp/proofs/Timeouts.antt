@@ -1,5 +1,6 @@
 -- Equal samples settle an estimate, and a timeout that passes again and again doubles up to the most.
-use Rattle.std.proofs.Common.{◌≡◌, ℕ, zero, suc, ◌+◌, ◌-◌, ◌*◌, ◌/◌, ◌^◌, ◌≤◌, min, inl, inr, sym, ap, ◌∙◌, subst, arith, suc-add, zero-add}
+use Rattle.std.proofs.Common.{◌≡◌, ℕ, zero, suc, ◌+◌, ◌-◌, ◌*◌, ◌/◌, ◌^◌, ◌≤◌, min, inl, inr, sym, ap, ◌∙◌}
+use Rattle.std.proofs.Common.{subst, arith, suc-add, zero-add}
 use Rattle.std.specs.Fn.{iterate}
 use Rattle.std.proofs.Math.Nat.{pow-suc}
 use Rattle.std.proofs.lemmas.Nat.{pow_pos, mul-le}

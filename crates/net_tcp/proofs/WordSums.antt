@@ -1,9 +1,14 @@
 -- Sums of words, and what folding keeps of them: the number modulo 65535, and whether it is 0.
-use Rattle.std.proofs.Common.{◌≡◌, ℕ, zero, suc, ◌+◌, ◌-◌, ◌*◌, ◌/◌, ◌%◌, ◌^◌, ◌<◌, ◌≤◌, List, [], ◌∷◌, ◌++◌, length, take, drop, refl, sym, ap, ◌∙◌, inl, inr, subst, arith, length-append, append-nil, All}
+use Rattle.std.proofs.Common.{◌≡◌, ℕ, zero, suc, ◌+◌, ◌-◌, ◌*◌, ◌/◌, ◌%◌, ◌^◌, ◌<◌, ◌≤◌, List, [], ◌∷◌, ◌++◌}
+use Rattle.std.proofs.Common.{length, take, drop, refl, sym, ap, ◌∙◌, inl, inr, subst, arith, length-append}
+use Rattle.std.proofs.Common.{append-nil, All}
 use Rattle.std.specs.Prelude.{◌⊎◌}
 use Rattle.std.specs.Int.{w32, from_be_bytes}
 use Rattle.std.proofs.lemmas.Bool.{cases_lt}
-use Rattle.net_tcp.specs.InternetChecksum.{word_sum, folded, internet_checksum, updated, word_bytes, IsEven, add_words, carried_sum, IsCarriedSum, GroupsAdd, FoldsAdd, ChecksumVerifies, OnlyChecksumVerifies, UpdateIsChecksum, UpdateKeepsValid}
+use Rattle.net_tcp.specs.InternetChecksum.{word_sum, folded, internet_checksum, updated, word_bytes, IsEven}
+use Rattle.net_tcp.specs.InternetChecksum.{add_words, carried_sum, IsCarriedSum, GroupsAdd, FoldsAdd}
+use Rattle.net_tcp.specs.InternetChecksum.{ChecksumVerifies, OnlyChecksumVerifies, UpdateIsChecksum}
+use Rattle.net_tcp.specs.InternetChecksum.{UpdateKeepsValid}
 
 -- ---- folding
 -- two positive numbers that differ by a multiple of 65535 fold to one

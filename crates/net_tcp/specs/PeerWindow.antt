@@ -2,7 +2,8 @@
 --     IsNewer w seq ack      the segment of these numbers is not older than the one that w is from
 --     window_from seq ack window      the window that a segment leaves
 --     with_segment w s      the window after a segment
-use Rattle.std.specs.Prelude.{◌≡◌, ◌≢◌, ℕ, ◌+◌, ◌-◌, ◌^◌, ◌<◌, ◌≤◌, ◌⊎◌, ◌||◌, ◌&&◌, ◌==◌, nat_lt, nat_le, if◌then◌else◌, Bool, min}
+use Rattle.std.specs.Prelude.{◌≡◌, ◌≢◌, ℕ, ◌+◌, ◌-◌, ◌^◌, ◌<◌, ◌≤◌, ◌⊎◌, ◌||◌, ◌&&◌, ◌==◌, nat_lt, nat_le}
+use Rattle.std.specs.Prelude.{if◌then◌else◌, Bool, min}
 use Rattle.net_tcp.specs.declared.peer_window.PeerWindow.{PeerWindow}
 
 -- the RFC's SND.WL1 is w.seq, and its SND.WL2 is w.ack

@@ -20,7 +20,7 @@ use crate::proved::net_assembler::{Run, TooManyHolesError};
 ///
 /// // Of the bytes from 100 to 199, all sent, those below 120 and those from 140 to 159 have arrived.
 /// let mut scoreboard = Scoreboard::<4>::empty();
-/// assert_eq!(scoreboard.acknowledge(120), Ok(()));
+/// scoreboard.acknowledge(120);
 /// assert_eq!(scoreboard.report(140, 160, 200), Ok(true));
 /// assert_eq!(scoreboard.next_hole(120, 200), Some((120, 140)));
 /// assert_eq!(scoreboard.next_hole(140, 200), Some((160, 200)));
@@ -204,7 +204,7 @@ impl<const N: usize> Scoreboard<N> {
     /// # use net_base::scoreboard::Scoreboard;
     /// # let mut scoreboard = Scoreboard::<4>::empty();
     /// assert_eq!(scoreboard.report(5, 9, 20), Ok(true));
-    /// assert_eq!(scoreboard.acknowledge(7), Ok(()));
+    /// scoreboard.acknowledge(7);
     /// assert_eq!(scoreboard.next_hole(0, 20), Some((9, 20)));
     /// ```
     ///
