@@ -28,9 +28,23 @@ import pathlib
 import re
 import sys
 
+import erase_list
+
 ROOT = pathlib.Path(__file__).resolve().parent.parent
 CRATES = ROOT / "crates"
 PAIRS = {"(": ")", "[": "]", "{": "}"}
+
+
+def renamed():
+    """The names that calls have in the Cargo crate alone, each with the one that it has here."""
+    names = {}
+    for old, new in (pair for pairs in erase_list.REPLACED.values() for pair in pairs):
+        here, there = re.findall(r"\bfn (\w+)", old), re.findall(r"\bfn (\w+)", new)
+        names.update((rust, rattle) for rattle, rust in zip(here, there) if rattle != rust)
+    return names
+
+
+RENAMED = renamed()
 
 
 def source(file):
@@ -90,7 +104,7 @@ Fn = collections.namedtuple("Fn", "at end is_public name bounds params result is
 
 def functions(text):
     """Each function of a text, with its body."""
-    for it in re.finditer(r"\b(pub )?(?:unsafe )?fn (\w+)", text):
+    for it in re.finditer(r"\b(pub )?(?:const )?(?:unsafe )?fn (\w+)", text):
         paren = text.index("(", behind_generics(text, it.end()))
         close = closing(text, paren)
         bounds = dict(re.findall(r"(\w+): (?:\w+::)*(\w+)", text[it.end() : paren]))
@@ -235,9 +249,12 @@ class TestFile:
                         self.named.add((crate, "", name))
         for it in re.finditer(r"(\w+)(?:::<[^()]*?>)?::(\w+)\b", self.text):
             self.note(self.library.alias.get(it[1], it[1]), it[2])
+            self.note(it[1], it[2])
 
     def note(self, subject, name):
         """Notes a call of a type's function, of the trait that it belongs to, and of the head that does it."""
+        if name in RENAMED and self.file.suffix == ".rs":
+            self.note(subject, RENAMED[name])
         if (head := self.library.type_in(self.library.fields[subject].get("head", ""), {})):
             self.note(head, name)
         for crate, of, it in self.library.calls:

@@ -48,7 +48,7 @@ fn a_receiver_of_a_stream_that_ends() {
 #[test]
 fn a_sender() {
     let mut storage = [0; 4];
-    let mut sender = Sender::new_at(&mut storage[..], 100);
+    let mut sender: Sender = Sender::new_at(&mut storage[..], 100);
     assert_eq!(sender.write(b"abcd"), 4);
     assert!(sender.acknowledge(103));
     assert_eq!(sender.write(b"efg"), 3);
@@ -62,7 +62,7 @@ fn a_sender() {
 #[test]
 fn a_sender_of_a_stream_that_ends() {
     let mut storage = [0; 4];
-    let mut sender = FiniteSender::new_at(&mut storage[..], 100);
+    let mut sender: FiniteSender = FiniteSender::new_at(&mut storage[..], 100);
     assert_eq!((sender.write(b"abc"), sender.capacity(), sender.window()), (3, 4, 1));
     assert!(sender.close() && !sender.is_empty());
     assert_eq!((sender.window(), sender.numbers_end()), (0, 104));
@@ -78,7 +78,7 @@ fn a_scoreboard_and_a_buffer_of_fragments() {
     board.reset_at(7);
     assert_eq!((board.first_unreported(), board.count_beyond()), (7, 0));
     let mut storage = [0; 8];
-    let mut buffer = FragmentBuffer::new(&mut storage[..], Instant::ZERO);
+    let mut buffer: FragmentBuffer<4> = FragmentBuffer::new(&mut storage[..], Instant::ZERO);
     assert!(buffer.add(3, b"d").is_ok());
     assert_eq!(length(buffer.into_storage()), 8);
     assert!(RetransmissionTimeout::new(1_000_000).is_small());

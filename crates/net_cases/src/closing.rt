@@ -36,11 +36,12 @@ static CALLS: [Entry<Kind>; 6] = [
     ("is_block", 2, Kind::IsBlock),
 ];
 
-/// Returns a sender over `capacity` bytes, of a stream that begins at `first`.
+/// Returns a sender over `capacity` bytes, made of its parts, of a stream that begins at `first`.
 pub fn finite_sender(alloc: Global, capacity: u64, first: u64) -> Result<Closing, AllocError> {
-    let storage = pattern(alloc, capacity, 0)?;
+    let storage = ManagedSlice::from(pattern(alloc, capacity, 0)?);
+    let (head, storage) = FiniteSender::over_at(storage, first).into_parts();
     Ok(Closing {
-        sender: FiniteSender::over_at(ManagedSlice::from(storage), first),
+        sender: FiniteSender::from_parts(head, storage),
         first,
     })
 }

@@ -35,17 +35,18 @@ static CALLS: [Entry<Kind>; 4] = [
 ];
 
 impl<const N: usize> Ending<N> {
-    /// Returns a receiver over `capacity` bytes, of a stream that begins at `first`; `None` if no number is left for
-    /// its end.
+    /// Returns a receiver over `capacity` bytes, made of its parts, of a stream that begins at `first`; `None` if no
+    /// number is left for its end.
     pub fn new(alloc: Global, capacity: u64, first: u64) -> Result<Option<Self>, AllocError>
         requires { 1 ≤ N }
     {
         if first == u64::MAX {
             return Ok(None);
         }
-        let storage = pattern(alloc, capacity, 0)?;
+        let storage = ManagedSlice::from(pattern(alloc, capacity, 0)?);
+        let (head, storage, runs) = FiniteReceiver::<N>::over_at(storage, first).into_parts();
         Ok(Some(Ending {
-            receiver: FiniteReceiver::over_at(ManagedSlice::from(storage), first),
+            receiver: FiniteReceiver::from_parts(head, storage, runs),
             first,
         }))
     }

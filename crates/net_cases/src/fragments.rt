@@ -41,13 +41,15 @@ fn moment(micros: u64) -> Instant {
 }
 
 impl<const N: usize> Buffer<N> {
-    /// Returns a buffer over `capacity` bytes, which expires after `expires_at`.
+    /// Returns a buffer over `capacity` bytes, made of its parts, which expires after `expires_at`.
     pub fn new(alloc: Global, capacity: u64, expires_at: u64) -> Result<Self, AllocError>
         requires { 1 ≤ N }
     {
-        let bytes = pattern(alloc, capacity, 0)?;
+        let bytes = ManagedSlice::from(pattern(alloc, capacity, 0)?);
+        let empty = FragmentBuffer::<N>::new(bytes, moment(expires_at));
+        let (head, bytes, runs) = empty.into_parts();
         Ok(Buffer {
-            buffer: FragmentBuffer::new(ManagedSlice::from(bytes), moment(expires_at)),
+            buffer: FragmentBuffer::from_parts(head, bytes, runs),
         })
     }
 

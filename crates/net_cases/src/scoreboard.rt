@@ -40,12 +40,13 @@ static CALLS: [Entry<Kind>; 7] = [
 ];
 
 impl<const N: usize> Board<N> {
-    /// Returns a scoreboard of a stream that begins at `first`.
+    /// Returns a scoreboard of a stream that begins at `first`, made of its parts.
     pub fn new(first: u64) -> Self
         requires { 1 ≤ N }
     {
+        let (head, runs) = Scoreboard::<N>::empty_at(first).into_parts();
         Board {
-            board: Scoreboard::empty_at(first),
+            board: Scoreboard::from_parts(head, runs),
             first,
         }
     }

@@ -50,10 +50,11 @@ static CALLS: [Entry<Kind>; 9] = [
 /// Returns senders over `capacity` bytes each, of a stream that begins at `first`.
 pub fn sender(alloc: Global, capacity: u64, first: u64) -> Result<Source, AllocError> {
     let storage = pattern(alloc, capacity, 0)?;
-    let other = pattern(alloc, capacity, 0)?;
+    let other = ManagedSlice::from(pattern(alloc, capacity, 0)?);
+    let (head, other) = Sender::over_at(other, first).into_parts();
     Ok(Source {
         sender: SackSender::new_at(ManagedSlice::from(storage), first),
-        plain: Sender::over_at(ManagedSlice::from(other), first),
+        plain: Sender::from_parts(head, other),
         first,
     })
 }
