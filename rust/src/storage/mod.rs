@@ -11,6 +11,7 @@ use core::fmt;
 use crate::rattle::error_text;
 
 pub use crate::proved::net_assembler::{Assembler, TooManyHolesError};
+pub use crate::proved::net_base::storage::fragments::table as fragment_table;
 pub use crate::proved::net_base::storage::{FragmentBuffer, FragmentError, FragmentsOver};
 pub use crate::proved::net_packets::{PacketBuffer, PacketMetadata, PacketsOver};
 pub use crate::proved::net_ring::{Empty, Full, Resettable, RingBuffer, RingOver, Storage};
