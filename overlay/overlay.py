@@ -146,7 +146,6 @@ def put_back(root, record):
             path.unlink(missing_ok=True)
         elif path.read_bytes() != was.read_bytes():
             os.replace(was, path)
-            os.utime(path)
     for folder in sorted({folder for name in record["added"] for folder in Path(name).parents}, reverse=True):
         if (root / folder).is_dir() and not any((root / folder).iterdir()):
             (root / folder).rmdir()
@@ -157,8 +156,8 @@ def undo(root):
     if not (root / SAVED / "files.json").is_file():
         sys.exit(f"{root} has no overlay")
     record = json.loads(read(root / SAVED / "files.json"))
-    there = {name: digest((root / name).read_bytes()) if (root / name).is_file() else None for name in record["now"]}
-    edited = [name for name in there if there[name] != record["now"][name]]
+    is_so = lambda name, now: (root / name).is_file() and digest((root / name).read_bytes()) == now
+    edited = [name for name, now in record["now"].items() if not is_so(name, now)]
     if edited:
         sys.exit(f"edited since: {', '.join(edited)}; what was there is in {root / SAVED}")
     for folder in {(root / name).parent for name in record["now"]}:
