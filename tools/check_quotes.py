@@ -36,6 +36,7 @@ ELSEWHERE = set("""
     Gone FitsInMemory ManuallyDrop new_unchecked NonZero WouldBlock must_use non_exhaustive
     pad_integral styled write_char plant tidy my_crate directory logic dac8208d650f15bf
     axioms trusted nat nano compiler_builtins defmt Format Clinker iproute2 util my my_program CAUSE DATA END MODULE PATH dev null poll_at start_lib BUILD bazel
+    __builtin_add_overflow mtu Tag_ABI_VFP_args compatible softfp
     c.storage-1.given
 """.split())
 NAME = re.compile(r"[A-Za-z_][A-Za-z0-9_]*")
