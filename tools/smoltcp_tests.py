@@ -30,21 +30,21 @@ HELPER = """    impl From<Vec<(usize, usize)>> for Assembler {
     }
 """
 
-# The tests of the ring write and read its field `length`, which is in `head` here.
+# The tests of the ring write and read its field `length`, which is in `place` here.
 FIELDS = """
 #[cfg(test)]
-impl<T> core::ops::Deref for RingBuffer<'_, T> {
-    type Target = RingHead;
+impl<T, S: Storage<T>> core::ops::Deref for RingOver<T, S> {
+    type Target = crate::proved::net_ring::RingHead;
 
-    fn deref(&self) -> &RingHead {
-        &self.head
+    fn deref(&self) -> &Self::Target {
+        &self.place
     }
 }
 
 #[cfg(test)]
-impl<T> core::ops::DerefMut for RingBuffer<'_, T> {
-    fn deref_mut(&mut self) -> &mut RingHead {
-        &mut self.head
+impl<T, S: Storage<T>> core::ops::DerefMut for RingOver<T, S> {
+    fn deref_mut(&mut self) -> &mut Self::Target {
+        &mut self.place
     }
 }
 """
@@ -52,11 +52,18 @@ impl<T> core::ops::DerefMut for RingBuffer<'_, T> {
 # Those of the packet queue name its field `metadata_ring`, and ask how long it is: here `slots` of `head`.
 HEAD = """
 #[cfg(test)]
-impl<H> core::ops::Deref for PacketBuffer<'_, H> {
-    type Target = PacketsHead;
+impl<H, M: Storage<PacketMetadata<H>>, B: Storage<u8>> core::ops::Deref for PacketsOver<H, M, B> {
+    type Target = crate::proved::net_packets::PacketsHead;
 
-    fn deref(&self) -> &PacketsHead {
+    fn deref(&self) -> &Self::Target {
         &self.head
+    }
+}
+
+#[cfg(test)]
+impl crate::proved::net_ring::RingHead {
+    fn len(&self) -> usize {
+        self.length
     }
 }
 """
@@ -114,14 +121,25 @@ def replaced(text, pattern, by, what, where, count=1):
     return text
 
 
-def rename_slots(sources):
-    """Names the field `slots` of a packet queue's head as smoltcp does. The crate's own tests of it aren't run here."""
-    (sources / "sys/tests.rs").write_text("")
-    for path in list(sources.rglob("*.rs")):
-        text = re.sub(r"\bhead\.slots\b", "head.metadata_ring", path.read_text())
-        text = re.sub(r"\bslots: RingHead\b", "metadata_ring: RingHead", text)
+def show_fields(proved):
+    """Shows the fields that the tests name, that of a packet queue's slots under smoltcp's name."""
+    for path, pairs in {
+        "net_ring/ring_buffer.rs": [
+            ("    storage: S,\n    place: RingHead,", "    pub(crate) storage: S,\n    pub(crate) place: RingHead,")],
+        "net_packets/packet_buffer.rs": [("    head: PacketsHead,", "    pub(crate) head: PacketsHead,")],
+    }.items():
+        text = (proved / path).read_text()
+        for old, new in pairs:
+            assert text.count(old) == 1, (path, old)
+            text = text.replace(old, new)
+        (proved / path).write_text(text)
+    for path in (proved / "net_packets").rglob("*.rs"):
+        text = re.sub(r"\bhead(\s*)\.slots\b", r"head\1.metadata_ring", path.read_text())
+        if path.parent.name == "head" or path.name == "head.rs":
+            text = re.sub(r"\bself\.slots\b", "self.metadata_ring", text)
+            text = re.sub(r"\bslots: RingHead\b", "metadata_ring: RingHead", text)
         path.write_text(text)
-    print("storage/packet_buffer: replaced: the name of that field")
+    print("storage: replaced: three private fields by public ones, of which one has smoltcp's name")
 
 
 def add_phy_page(sources, crate):
@@ -156,9 +174,11 @@ def prepare(sources, crate):
         if name == "storage/ring_buffer":
             more = FIELDS
             print(f"{name}: added: the ring's head by `Deref`, for tests that name its field `length`")
+        if name.startswith("storage"):
+            more += "\n#[cfg(test)]\n#[allow(unused_imports)]\nuse super::*;\n"
         with (crate / "src" / f"{name}.rs").open("a") as file:
             file.write(more + "\n" + tests)
-    rename_slots(crate / "src")
+    show_fields(crate / "src/proved")
     root = crate / "src/lib.rs"
     what = "added: std's macros, since the crate has no std"
     root.write_text(replaced(root.read_text(), r"^extern crate std;", "#[macro_use]\nextern crate std;", what, "lib"))

@@ -66,5 +66,5 @@ pub mod time;
 pub use proved::contracts;
 
 #[cfg(doctest)]
-#[doc = include_str!("../tests/refused.md")]
+#[doc = include_str!("refused.md")]
 struct Refused;
