@@ -31,9 +31,9 @@ def faults():
     return found
 
 
-def test(crate, target):
-    """The targets of the crate's tests that fail; those that don't compile are among them."""
-    words = ["cargo", "test", "--offline", "--no-fail-fast"]
+def failing(crate, target, *words):
+    """The targets of the crate's tests that fail."""
+    words = ["cargo", "test", "--offline", "--no-fail-fast", *words]
     environment = os.environ | {"CARGO_TARGET_DIR": str(target), "RUST_BACKTRACE": "0", "CARGO_PROFILE_TEST_DEBUG": "0"}
     try:
         done = subprocess.run(words, cwd=crate, env=environment, capture_output=True, text=True, timeout=SECONDS)
@@ -42,6 +42,11 @@ def test(crate, target):
     if "could not compile" in done.stderr:
         return ["the compiler"]
     return sorted(set(re.findall(r"`(?:--test )?([\w-]+)`$", done.stderr, re.M))) if done.returncode else []
+
+
+def test(crate, target):
+    """The tests that fail, or else, if examples do, those."""
+    return failing(crate, target, "--lib", "--tests") or failing(crate, target, "--doc")
 
 
 def main(word=""):

@@ -1,9 +1,11 @@
 //! Positions about 2^31, 2^32, 2^63 and 2^64, which a `usize` of 32 bits has no numbers for. The values are the same on
 //! every processor, but where `usize` is named.
+use net_base::finite::{FiniteError, FiniteReceiver, FiniteSender};
 use net_base::receiver::Receiver;
+use net_base::scoreboard::Scoreboard;
 use net_base::sender::Sender;
 use net_base::sequence_number::SequenceNumber;
-use net_base::storage::{Assembler, FragmentBuffer, FragmentError, RingBuffer};
+use net_base::storage::{Assembler, FragmentBuffer, FragmentError, RingBuffer, TooManyHolesError};
 use net_base::time::Instant;
 
 /// 2^32, the first number that a `usize` of 32 bits hasn't.
@@ -64,6 +66,60 @@ fn sent() {
         assert!(it.acknowledge(first + 5) && it.first_unacknowledged() == first + 5);
         assert_eq!((it.write(b"jklmnopq"), it.peek_at(first + 7, 9)), (5, &b"h"[..]));
         assert_eq!(it.peek_at(first + 8, 9), b"jklmn");
+    }
+}
+
+/// What is reported is counted from what was acknowledged: with a `usize` of 32 bits a block that is as far from there as
+/// it has numbers is refused, and no other is taken for it.
+#[test]
+fn reported() {
+    for first in begins() {
+        let mut it = Scoreboard::<2>::empty_at(first);
+        assert_eq!(it.report(first + 4, first + 8, first + 20), Ok(true));
+        for pos in aliases(first + 4) {
+            assert_eq!(it.contains(pos), pos < first, "{first} {pos}");
+            assert_eq!(it.report(pos, pos.saturating_add(4), first + 20), Ok(pos < first));
+        }
+        assert_eq!(it.reported().collect::<Vec<_>>(), [(first + 4, first + 8)]);
+        let far = first.checked_add(WORD).filter(|far| *far < u64::MAX - 9);
+        if let Some(far) = far {
+            let taken = if usize::BITS == 64 { Ok(true) } else { Err(TooManyHolesError) };
+            assert_eq!(it.report(far, far + 2, u64::MAX), taken, "{first}");
+            assert_eq!((it.contains(far + 1), it.contains(first + 7)), (taken.is_ok(), true));
+            it.acknowledge(far + 1);
+            let next = if taken.is_ok() { far + 2 } else { far + 1 };
+            assert_eq!(
+                (it.first_unreported(), it.next_hole(0, far + 9)),
+                (next, Some((next, far + 9)))
+            );
+        }
+        it.reset_at(first);
+        it.acknowledge(u64::MAX);
+        assert!(it.contains(u64::MAX - 1) && !it.contains(u64::MAX));
+    }
+}
+
+#[test]
+fn finite() {
+    for first in begins() {
+        let (mut storage, mut bytes) = ([0u8; 16], [0u8; 16]);
+        let mut it = FiniteReceiver::<2>::empty_at(&mut storage[..], first);
+        assert_eq!(it.segment(first + 2, b"cd", true).map(|kept| kept.kept), Ok(2));
+        for pos in aliases(first + 2).filter(|&pos| pos < u64::MAX - 2) {
+            assert_eq!(it.segment(pos, b"no", true), Err(FiniteError::OtherEnd), "{first} {pos}");
+            assert!(!it.can_end(pos) && it.end() == Some(first + 4));
+        }
+        assert_eq!(it.segment(first, b"abcdef", false).map(|kept| kept.queued), Ok(4));
+        assert_eq!((it.acknowledged(), it.is_complete()), (first + 5, true));
+        let mut it = FiniteSender::new_at(&mut bytes[..], first);
+        assert_eq!((it.write(b"ab"), it.close(), it.numbers_end()), (2, true, first + 3));
+        for pos in aliases(first + 1) {
+            assert_eq!(it.peek_at(pos, 4), (&b""[..], false), "{first} {pos}");
+            assert!(!it.acknowledge(pos), "{first} {pos}");
+            assert_eq!(it.mark_sent(pos), pos < first);
+        }
+        assert!(it.mark_sent(first + 3) && it.acknowledge(first + 3));
+        assert!(it.is_closed_and_acknowledged());
     }
 }
 
