@@ -1,5 +1,37 @@
 //! Streams that end: a receiver that knows where its stream ends, and a sender that says so. (Not in smoltcp.)
 //!
+//! ```
+//! use net_base::finite::{FiniteReceiver, FiniteSender};
+//! use net_base::sequence_number::SequenceNumber;
+//! use net_base::tcp::{AdvertisedWindow, PeerWindow};
+//!
+//! // The SYN has position 0 and this number; the stream begins at position 1.
+//! let syn = SequenceNumber::new(u32::MAX - 2);
+//! let (mut out, mut into) = ([0u8; 16], [0u8; 16]);
+//! let mut sender = FiniteSender::new_at(&mut out[..], 1);
+//! let mut receiver = FiniteReceiver::<4>::empty_at(&mut into[..], 1);
+//! // The receiver announces its room, without a scale, and the sender keeps to it.
+//! let mut advertised = AdvertisedWindow::new(1);
+//! let room = receiver.window_end().expect("positions are left");
+//! let window = advertised.announce(0, receiver.acknowledged(), room);
+//! let peer = PeerWindow::new(0, 1, window.into());
+//! assert_eq!((sender.write(b"hello"), sender.close()), (5, true));
+//! assert_eq!(peer.send_limit(sender.numbers_end()), 7); // five bytes, and the end
+//! assert!(sender.mark_sent(7));
+//! // The segment of the last bytes, with the end, overtakes the one before it.
+//! let (bytes, is_last) = sender.peek_at(4, 9);
+//! let number = SequenceNumber::at(syn, 4);
+//! assert_eq!((bytes, is_last, number.get()), (&b"lo"[..], true, 1));
+//! let pos = number.position(syn, receiver.acknowledged()).expect("a position nearby");
+//! assert!(receiver.segment(pos, bytes, is_last).is_ok() && !receiver.is_complete());
+//! let (bytes, is_last) = sender.peek_at(1, 3);
+//! assert!(receiver.segment(1, bytes, is_last).is_ok() && receiver.is_complete());
+//! // What is acknowledged is all five bytes and the end.
+//! assert!(sender.acknowledge(receiver.acknowledged()) && sender.is_closed_and_acknowledged());
+//! let mut text = [0; 9];
+//! assert_eq!((receiver.read(&mut text), &text[..5], receiver.has_read_all()), (5, &b"hello"[..], true));
+//! ```
+//!
 //! By hand: storage that is converted, calls of the receiver of the bytes, what is printed, and the texts of the error.
 use core::{fmt, ops};
 
