@@ -327,7 +327,7 @@ bool net_base_finite_receiver_is_sound(
  * It is refused if `place` isn't that of a ring of `storage_length` bytes, `next` doesn't fit 64
  * bits, or `held.used` is above `runs_length`: `NET_BASE_REFUSED`.
  *
- * Requires: head, storage and runs are sound, as `net_base_finite_receiver_is_sound` tests.
+ * Requires: head and runs are sound, as `net_base_finite_receiver_is_sound` tests.
  */
 uint32_t net_base_finite_receiver_can_end(
     const struct net_base_finite_receiver *receiver, const uint8_t *storage,
@@ -371,7 +371,7 @@ uint64_t net_base_finite_receiver_read(
  * bits, or `held.used` is above `runs_length`, or if the segment and an end after it don't fit 64
  * bits: `NET_BASE_NONE`.
  *
- * Requires: head, storage and runs are sound, as `net_base_finite_receiver_is_sound` tests.
+ * Requires: head and runs are sound, as `net_base_finite_receiver_is_sound` tests.
  */
 uint64_t net_base_finite_receiver_count_new(
     const struct net_base_finite_receiver *receiver, const uint8_t *storage,
@@ -423,6 +423,13 @@ struct net_base_front_length {
     uint64_t length;
 };
 
+/* Returns whether the head is that of a buffer of `capacity` bytes and of these runs. It looks at
+ * each run.
+ */
+bool net_base_fragments_is_sound(
+    const struct net_base_fragments *fragments, uint64_t capacity, const struct net_base_run *runs,
+    uint64_t runs_length);
+
 /* Starts over for a packet that is waited for up to `expires_at`, in microseconds. No head is
  * refused: this makes one sound for any memory.
  */
@@ -437,7 +444,7 @@ void net_base_fragments_reset(struct net_base_fragments *fragments, int64_t expi
  * It is refused if `present.used` is above `runs_length`, or a known size above `storage_length`:
  * `NET_BASE_REFUSED`, and nothing changes.
  *
- * Requires: head and runs of `present` are sound, as `net_base_assembler_is_sound` tests.
+ * Requires: head and runs are sound, as `net_base_fragments_is_sound` tests.
  */
 uint32_t net_base_fragments_add(
     struct net_base_fragments *fragments, uint8_t *storage, uint64_t storage_length,
@@ -458,7 +465,7 @@ uint32_t net_base_fragments_set_total_size(
  *
  * It is refused if `present.used` is above `runs_length`: `NET_BASE_REFUSED`.
  *
- * Requires: head and runs of `present` are sound, as `net_base_assembler_is_sound` tests.
+ * Requires: head and runs are sound, as `net_base_fragments_is_sound` tests.
  */
 uint32_t net_base_fragments_overlaps(
     const struct net_base_fragments *fragments, const struct net_base_run *runs,
@@ -474,7 +481,7 @@ bool net_base_fragments_is_expired(const struct net_base_fragments *fragments, i
  * missing, or `NET_BASE_REFUSED` if `present.used` is above `runs_length` or a known size above
  * `capacity`. If it isn't `NET_BASE_DONE`, the length is 0.
  *
- * Requires: head and runs of `present` are sound, as `net_base_assembler_is_sound` tests.
+ * Requires: head and runs are sound, as `net_base_fragments_is_sound` tests.
  */
 struct net_base_front_length net_base_fragments_complete(
     const struct net_base_fragments *fragments, uint64_t capacity, const struct net_base_run *runs,
@@ -541,6 +548,18 @@ bool net_base_packets_is_sound(
 /* Empties the queue. No head is refused: this makes one sound for all storages. */
 void net_base_packets_clear(struct net_base_packets *packets);
 
+/* Takes the last `count` bytes off the last packet, lowers the size in its slot, and returns true;
+ * false, and nothing changes, if no slot is in use, if the last one is a gap's, or if its size is
+ * below `count` or above the number of bytes in use. It is for a caller that wrote fewer bytes than
+ * it placed.
+ *
+ * It is refused if `packets` isn't that of a queue of `slots_length` slots and `capacity` bytes:
+ * false, and nothing changes.
+ */
+bool net_base_packets_shorten_last(
+    struct net_base_packets *packets, struct net_base_packet_slot *slots, uint64_t slots_length,
+    uint64_t capacity, uint64_t count);
+
 /* Appends a packet of `size` bytes, writes its slot and that of its gap, whose `is_gap` is 1, and
  * returns where they and the packet's bytes are. If no byte is in use, which is so too where all
  * packets have 0 bytes, the packet begins at the beginning of the storage of bytes.
@@ -574,17 +593,6 @@ struct net_base_first_packet net_base_packets_dequeue(
 struct net_base_first_packet net_base_packets_peek(
     const struct net_base_packets *packets, const struct net_base_packet_slot *slots,
     uint64_t slots_length, uint64_t capacity);
-
-/* Takes the last `count` bytes off the last packet, lowers the size in its slot, and returns true.
- * It is for a caller that wrote fewer bytes than it placed.
- *
- * Returns false, and changes nothing, if no slot is in use, if the last one is a gap's, if its size
- * is below `count` or above the number of bytes in use, or if the head's numbers aren't those of
- * rings.
- */
-bool net_base_packets_shorten_last(
-    struct net_base_packets *packets, struct net_base_packet_slot *slots, uint64_t slots_length,
-    uint64_t capacity, uint64_t count);
 
 /* Removes the first slot in use, which the caller passes as `first`, with its bytes, and returns
  * the index of the first of these bytes. `first` is the slot of the gap before the first packet, or
@@ -700,7 +708,7 @@ bool net_base_receiver_remove(
  * It is refused if `place` isn't that of a ring of `storage_length` bytes, `next` doesn't fit 64
  * bits, or `held.used` is above `runs_length`: `NET_BASE_NONE`, and nothing changes.
  *
- * Requires: head, storage and runs are sound, as `net_base_receiver_is_sound` tests.
+ * Requires: head and runs are sound, as `net_base_receiver_is_sound` tests.
  */
 uint64_t net_base_receiver_newest_runs(
     const struct net_base_receiver *receiver, const uint8_t *storage, uint64_t storage_length,
@@ -717,7 +725,7 @@ uint64_t net_base_receiver_newest_runs(
  * bits, or `held.used` is above `runs_length`, or if the segment doesn't end within 64 bits:
  * `NET_BASE_NONE`.
  *
- * Requires: head, storage and runs are sound, as `net_base_receiver_is_sound` tests.
+ * Requires: head and runs are sound, as `net_base_receiver_is_sound` tests.
  */
 uint64_t net_base_receiver_count_new(
     const struct net_base_receiver *receiver, const uint8_t *storage, uint64_t storage_length,
@@ -883,13 +891,10 @@ uint32_t net_base_scoreboard_report(
 bool net_base_sequence_number_position(
     uint32_t number, uint32_t initial, uint64_t next, uint64_t *position);
 
-/* Returns whether another number is ahead of this one by less than 2^31, and is not the same. */
-bool net_base_sequence_number_is_before(uint32_t number, uint32_t other);
-
 /* Moments (signed, from an origin of the caller's own) and lengths of time, in microseconds.
  *
  * Both are numbers: C adds and compares them, and divides by 1,000 and 1,000,000. Here is what
- * overflows if C computes it, and what takes a loop.
+ * overflows if C computes it.
  */
 
 /* Returns `instant + duration`, or `INT64_MAX` if that is above it. */

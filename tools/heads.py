@@ -35,8 +35,6 @@ TESTS = [
     (rf"{TERM} \+ len < no_end", "{all}", "!FiniteReceiverHead::fits({c0}, len)",
      "the segment and an end after it don't fit 64 bits", True),
     (rf"IsSoundBoard {TERM} {TERM}", "{all}", "!{c0}.is_sound({c1})", "`{c0}` isn't sound with `{c1}`", True),
-    (rf"CanShorten {TERM} {TERM} {TERM}", "{all}", "!{c0}.can_shorten({c1}, {c2})",
-     "`{c1}` can't be the slot of a packet of `{c2}` bytes or more", True),
     (rf"RangeFits {TERM} {TERM}", "{all}", "!AssemblerHead::fits({c0}, {c1})", "`{c0} + {c1}` doesn't fit 64 bits", True),
     (rf"{TERM} \+ length {TERM} < 2 \^ 64", "{all}", "{c1}.len() as u64 > u64::MAX - {c0}",
      "the segment doesn't end within 64 bits", True),
@@ -64,10 +62,6 @@ TESTS = [
 ]
 # Clauses of what a call leaves, which hold too where nothing changes; the last where the call counts no bytes.
 STAY = {"canonical", "exact", "others", "sends"}
-SOUND = {"AssemblerHead": "Head and runs are sound, as `net_base_assembler_is_sound` tests.",
-         "FragmentsHead": "Head and runs of `present` are sound, as `net_base_assembler_is_sound` tests.",
-         "ReceiverHead": "Head, storage and runs are sound, as `net_base_receiver_is_sound` tests.",
-         "FiniteReceiverHead": "Head, storage and runs are sound, as `net_base_finite_receiver_is_sound` tests."}
 NONE = "NET_BASE_NONE"
 # In place of a head's type: functions of a crate, whose name is in place of the parameter.
 FREE = "-"
@@ -326,7 +320,7 @@ class Export:
             either = ", or if ".join(words)
             doc += ["", f"It is refused if {either}: {self.result.words}{', and nothing changes' * bool(self.changed())}."]
         if self.duties:
-            doc += ["", "# Requires", "", SOUND[self.head.type]]
+            doc += ["", "# Requires", "", f"Head and runs are sound, as `net_base_{self.head.section}_is_sound` tests."]
         return doc
 
 
@@ -406,6 +400,12 @@ def is_cited(name, text):
     return bool(re.search(rf"(?<![\w.]){re.escape(short)}\b", text))
 
 
+def imported(begin, names):
+    """Lines that import names."""
+    chunks = textwrap.wrap(", ".join(name.replace(" ", "\0") for name in names), 115 - len(begin), break_on_hyphens=False)
+    return [f"{begin}{chunk.rstrip(',')}}};".replace("\0", " ") for chunk in chunks]
+
+
 def file_of(head, exports):
     """The file of a head's exports."""
     body = [line for it in exports for line in ["", *it.text()]]
@@ -423,13 +423,16 @@ def file_of(head, exports):
         if is_cited(name, clauses):
             uses.setdefault(module, []).append(name)
     lines = [f"//! {it}".rstrip() for it in rows(head.doc)] + ["// Written by tools/ffi.py."]
-    lines += [f"ghost use {module}.{{{', '.join(sorted(set(names)))}}};" for module, names in sorted(uses.items())]
+    for module, names in sorted(uses.items()):
+        lines += imported(f"ghost use {module}.{{", sorted(set(names)))
     code = "\n".join(line for line in body if not line.startswith("///"))
     imports = {}
     for name, module in (CODE | {"is_plausible": f"crate::{head.section.removeprefix('finite_')}"}).items():
         if re.search(rf"\b{name}\b", code):
             imports.setdefault(module, []).append(name)
-    lines += [""] * bool(imports) + [f"use {module}::{{{', '.join(sorted(names))}}};" for module, names in sorted(imports.items())]
+    lines += [""] * bool(imports)
+    for module, names in sorted(imports.items()):
+        lines += imported(f"use {module}::{{", sorted(names))
     return "\n".join(lines + body) + "\n"
 
 

@@ -42,6 +42,11 @@ static bool is_unchanged(void) {
            && memcmp(runs, runs_before, most * sizeof *runs) == 0;
 }
 
+static void fuzz_is_sound(void) {
+    EXPECT(net_base_fragments_is_sound(head, capacity, runs, most) == (has_runs && has_size));
+    EXPECT(is_unchanged());
+}
+
 static void fuzz_reset(void) {
     int64_t expires_at = (int64_t)any_number();
     net_base_fragments_reset(head, expires_at);
@@ -112,7 +117,8 @@ static void fuzz_is_expired(void) {
 
 void fuzz_fragments(void) {
     static void (*const calls[])(void) = {
-        fuzz_reset, fuzz_add, fuzz_set_total_size, fuzz_overlaps, fuzz_complete, fuzz_is_expired};
+        fuzz_is_sound, fuzz_reset,    fuzz_add,       fuzz_set_total_size,
+        fuzz_overlaps, fuzz_complete, fuzz_is_expired};
     draw_fragments();
     calls[below(sizeof calls / sizeof calls[0])]();
     EXPECT(room_is_whole(&head_room) && room_is_whole(&storage_room) && room_is_whole(&runs_room));

@@ -58,12 +58,6 @@ void fuzz_sequence_number(void) {
     if (once_in(4)) other = one + (uint32_t)below(5) - 2;
     if (once_in(4)) other = one + (uint32_t)(NUMBERS / 2) + (uint32_t)below(5) - 2;
     uint64_t near = any_number(), *at = take_number(), before = *at;
-    uint64_t ahead = (one + NUMBERS - other) % NUMBERS;
-    if (once_in(2)) {
-        EXPECT(net_base_sequence_number_is_before(other, one)
-               == (0 < ahead && ahead < NUMBERS / 2));
-        return;
-    }
     wide wanted = position_of(one, other, near);
     bool done = net_base_sequence_number_position(one, other, near, at);
     expect_result(done, wanted >= 0, at, before, wanted);

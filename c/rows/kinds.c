@@ -110,7 +110,6 @@ struct kind KINDS[] = {
     MADE("times", "Instant::saturating_add", "instant_saturating_add"),
     MADE("times", "Instant::since", "instant_distance"),
     MADE("times", "SequenceNumber::position", "sequence_number_position"),
-    MADE("times", "SequenceNumber::is_before", "sequence_number_is_before"),
     MISSING("times", "*", "C adds, multiplies and compares numbers"),
     MISSING("texts", "*", "C has no texts"),
     MISSING("words", "*", "words of the programs net_bench and net_link"),

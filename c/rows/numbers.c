@@ -57,8 +57,6 @@ static bool make_times(const struct call *call) {
         say_moment(net_base_instant_saturating_add((int64_t)call->numbers[0], call->numbers[1]));
     } else if (is(call, "Instant::since")) {
         say_length(net_base_instant_distance((int64_t)call->numbers[0], (int64_t)call->numbers[1]));
-    } else if (is(call, "SequenceNumber::is_before")) {
-        say_truth(net_base_sequence_number_is_before(one, two));
     } else if (is(call, "SequenceNumber::position")) {
         uint64_t position = 7;
         if (net_base_sequence_number_position(one, two, call->numbers[2], &position)) {

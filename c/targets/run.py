@@ -82,7 +82,7 @@ def memory(rom, rom_size, ram, ram_size):
 
 
 def cortex_m(target, machine, words, memory_words, small=False):
-    return Way(target, f"qemu-system-arm -M {machine}", ("arm-none-eabi-gcc", "-mthumb", *words),
+    return Way(target, f"qemu-system-arm -M {machine}{', hard floats' * ('-mfloat-abi=hard' in words)}", ("arm-none-eabi-gcc", "-mthumb", *words),
                ("--specs=rdimon.specs", "-nostartfiles", "-Wl,--gc-sections", f"-T{HERE}/cortex_m.ld", *memory_words),
                ("qemu-system-arm", "-M", machine, "-nographic", "-semihosting", "-kernel"), True, small)
 
@@ -111,9 +111,9 @@ WAYS = [
     cortex_m("thumbv6m", "mps2-an505", ["-march=armv8-m.base"], SECURE),
     cortex_m("thumbv7m", "mps2-an385", ["-march=armv7-m"], LARGE),
     cortex_m("thumbv7em", "mps2-an386", ["-march=armv7e-m"], LARGE),
-    cortex_m("thumbv7em-hf", "mps2-an386", ["-march=armv7e-m+fp", "-mfloat-abi=hard"], LARGE),
+    cortex_m("thumbv7em", "mps2-an386", ["-march=armv7e-m+fp", "-mfloat-abi=hard"], LARGE),
     cortex_m("thumbv8m.main", "mps2-an505", ["-march=armv8-m.main"], SECURE),
-    cortex_m("thumbv8m.main-hf", "mps2-an505", ["-march=armv8-m.main+fp", "-mfloat-abi=hard"], SECURE),
+    cortex_m("thumbv8m.main", "mps2-an505", ["-march=armv8-m.main+fp", "-mfloat-abi=hard"], SECURE),
     linux("armv7", "arm-linux-gnueabihf-gcc", "qemu-arm-static"),
     riscv("riscv32imac", 32, ["-march=rv32imac", "-mabi=ilp32"]),
     linux("riscv64gc", "riscv64-linux-gnu-gcc", "qemu-riscv64-static"),
@@ -278,7 +278,7 @@ def stacks(programs, generated):
     """Bytes of stack of the export that can take most and of the one after it, with their names, by the code. What calls left
     painted has to be within; under Linux the C library's `memmove` is called by a pointer, and not counted."""
     flags = ["-DSTACK", "-Wno-unused-function"]
-    said = programs.run("stack", [generated / "sequence.c", generated / "empty.c"], ["300000"], flags)
+    said = programs.run("stack", [generated / "sequence.c", generated / "empty.c"], ["50000"], flags)
     painted = {name: int(size) for size, name in re.findall(r"^stack: (\d+) (\w+)$", said, flags=re.M)}
     if not painted:
         raise Failed(f"stack: {last(said)}")
@@ -324,7 +324,7 @@ def print_table(names, stack_of):
         wanting.setdefault(wanted, []).append(f"`{target.name}`")
         seen = [(way, most) for way, most in stack_of.items() if way.target == target.name]
         stack = "; ".join(f"{size} {name.removeprefix('net_base_')}" for size, name in seen[0][1]) if seen else "not run"
-        machines = ", ".join(way.title.rpartition(" -M ")[2] for way, _ in seen)
+        machines = ", ".join(dict.fromkeys(way.title.rpartition(" -M ")[2].split(",")[0] for way, _ in seen))
         row = f"{target.title} | {sum(it.code_size() for it in found):,} | {stack} | {machines}"
         rows.setdefault(row, []).append(f"`{target.name}`")
     print("| Target | For | Code, bytes | Stack, bytes | Ran on |")

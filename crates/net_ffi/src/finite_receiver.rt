@@ -21,13 +21,13 @@ pub(crate) fn has_number(receiver: &FiniteReceiverHead) -> bool
     has_next(&receiver.receiver) && receiver.receiver.next() < u64::MAX
 }
 
-/// Keeps the bytes of a segment that are in the free window and below the end, as
-/// `net_base_receiver_segment` does. `is_last` says that the stream ends after the segment; the end is
-/// taken if it is at most the end of the free window.
+/// Keeps the bytes of a segment that are in the free window and below the end, as `net_base_receiver_segment` does.
+/// `is_last` says that the stream ends after the segment; the end is taken if it is at most the end of the free
+/// window.
 ///
-/// Returns what `net_base_receiver_segment` does, and is refused where that is, and also if the
-/// number after the segment doesn't fit 64 bits; or `NET_BASE_OTHER_END`, and nothing changes, if the
-/// segment says that the stream ends where it can't, as `net_base_finite_receiver_can_end` tells.
+/// Returns what `net_base_receiver_segment` does, and is refused where that is, and also if the number after the
+/// segment doesn't fit 64 bits; or `NET_BASE_OTHER_END`, and nothing changes, if the segment says that the stream ends
+/// where it can't, as `net_base_finite_receiver_can_end` tells.
 ///
 /// # Requires
 ///
@@ -42,33 +42,30 @@ pub extern "C" fn net_base_finite_receiver_segment(
     is_last: bool,
     counts: &mut KeptCounts,
 ) -> u32
-    requires sound { IsPlausible (length storage.old) (length runs.old) receiver.old.receiver →
-        HasSoundFinite receiver.old storage.old runs.old }
-    ensures result { IsPlausible (length storage.old) (length runs.old) receiver.old.receiver →
-        position + length bytes.now < no_end → MatchResult (finite_result (length runs.old)
-        (finite_of receiver.old storage.old runs.old) position bytes.now is_last)
-        (λ k. (result ≡ NET_BASE_DONE) × (counts.new.kept ≡ k.kept) × (counts.new.queued ≡ k.queued))
-        (λ e. (result ≡ status_of_finite e) × (counts.new ≡ counts.old) × (receiver.new ≡ receiver.old)
-        × (storage.new ≡ storage.old) × (runs.new ≡ runs.old)) }
-    ensures state { IsPlausible (length storage.old) (length runs.old) receiver.old.receiver →
-        position + length bytes.now < no_end → finite_of receiver.new storage.new runs.new
-        ≡ finite_after (length runs.old) (finite_of receiver.old storage.old runs.old)
-        position bytes.now is_last }
-    ensures receives { IsPlausible (length storage.old) (length runs.old) receiver.old.receiver →
-        position + length bytes.now < no_end → (f : ℕ) (x : List ℕ) →
-        ReceivesFinite f x (finite_of receiver.old storage.old runs.old) →
-        MatchesFinite f x position bytes.now is_last →
-        ReceivesFinite f x (finite_of receiver.new storage.new runs.new) }
-    ensures sound { IsPlausible (length storage.old) (length runs.old) receiver.old.receiver →
-        HasSoundFinite receiver.new storage.new runs.new }
-    ensures refused { (IsPlausible (length storage.old) (length runs.old) receiver.old.receiver
-        × (position + length bytes.now < no_end) → ⊥) → (result ≡ NET_BASE_REFUSED)
-        × (receiver.new ≡ receiver.old) × (storage.new ≡ storage.old) × (runs.new ≡ runs.old)
-        × (counts.new ≡ counts.old) }
+    requires sound { IsPlausible (length storage.old) (length runs.old) receiver.old.receiver → HasSoundFinite
+        receiver.old storage.old runs.old }
+    ensures result { IsPlausible (length storage.old) (length runs.old) receiver.old.receiver → position + length
+        bytes.now < no_end → MatchResult (finite_result (length runs.old) (finite_of receiver.old storage.old
+        runs.old) position bytes.now is_last) (λ k. (result ≡ NET_BASE_DONE) × (counts.new.kept ≡ k.kept) ×
+        (counts.new.queued ≡ k.queued)) (λ e. (result ≡ status_of_finite e) × (counts.new ≡ counts.old) ×
+        (receiver.new ≡ receiver.old) × (storage.new ≡ storage.old) × (runs.new ≡ runs.old)) }
+    ensures state { IsPlausible (length storage.old) (length runs.old) receiver.old.receiver → position + length
+        bytes.now < no_end → finite_of receiver.new storage.new runs.new ≡ finite_after (length runs.old) (finite_of
+        receiver.old storage.old runs.old) position bytes.now is_last }
+    ensures receives { IsPlausible (length storage.old) (length runs.old) receiver.old.receiver → position + length
+        bytes.now < no_end → (f : ℕ) (x : List ℕ) → ReceivesFinite f x (finite_of receiver.old storage.old runs.old) →
+        MatchesFinite f x position bytes.now is_last → ReceivesFinite f x (finite_of receiver.new storage.new
+        runs.new) }
+    ensures sound { IsPlausible (length storage.old) (length runs.old) receiver.old.receiver → HasSoundFinite
+        receiver.new storage.new runs.new }
+    ensures refused { (IsPlausible (length storage.old) (length runs.old) receiver.old.receiver × (position + length
+        bytes.now < no_end) → ⊥) → (result ≡ NET_BASE_REFUSED) × (receiver.new ≡ receiver.old) × (storage.new ≡
+        storage.old) × (runs.new ≡ runs.old) × (counts.new ≡ counts.old) }
 {
-    if !is_plausible(&receiver.receiver, storage.len(), runs.len())
-        || !FiniteReceiverHead::fits(position, bytes.len())
-    {
+    if !is_plausible(&receiver.receiver, storage.len(), runs.len()) {
+        return NET_BASE_REFUSED;
+    }
+    if !FiniteReceiverHead::fits(position, bytes.len()) {
         return NET_BASE_REFUSED;
     }
     match receiver.keep(storage, runs, position, bytes, is_last) {

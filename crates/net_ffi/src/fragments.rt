@@ -18,32 +18,31 @@ pub(crate) fn is_plausible(fragments: &FragmentsHead, capacity: usize, run_count
     fragments.present.used <= run_count && (fragments.has_total == 0 || fragments.total <= capacity)
 }
 
-/// Returns the packet's size, if it is known and all its bytes have arrived: they are the first ones
-/// of the storage, which has `capacity` bytes.
+/// Returns the packet's size, if it is known and all its bytes have arrived: they are the first ones of the storage,
+/// which has `capacity` bytes.
 ///
-/// The status is `NET_BASE_DONE`, or `NET_BASE_MISSING` if the size isn't known or a byte is missing,
-/// or `NET_BASE_REFUSED` if `present.used` is above `runs.len()` or a known size above `capacity`. If
-/// it isn't `NET_BASE_DONE`, the length is 0.
+/// The status is `NET_BASE_DONE`, or `NET_BASE_MISSING` if the size isn't known or a byte is missing, or
+/// `NET_BASE_REFUSED` if `present.used` is above `runs.len()` or a known size above `capacity`. If it isn't
+/// `NET_BASE_DONE`, the length is 0.
 ///
 /// # Requires
 ///
-/// Head and runs of `present` are sound, as `net_base_assembler_is_sound` tests.
+/// Head and runs are sound, as `net_base_fragments_is_sound` tests.
 #[unsafe(no_mangle)]
 pub extern "C" fn net_base_fragments_complete(
     fragments: &FragmentsHead,
     capacity: usize,
     runs: &[Run],
 ) -> FrontLength
-    requires sound { IsPlausible capacity (length runs.now) fragments.now →
-        HasSoundRuns fragments.now.present runs.now }
-    ensures done { IsPlausible capacity (length runs.now) fragments.now → (bytes : List ℕ)
-        (size : ℕ) → IsComplete (fragments_of fragments.now bytes runs.now) size →
-        (result.status ≡ NET_BASE_DONE) × (result.length ≡ size) }
-    ensures missing { IsPlausible capacity (length runs.now) fragments.now → (bytes : List ℕ) →
-        (((size : ℕ) × IsComplete (fragments_of fragments.now bytes runs.now) size) → ⊥) →
-        (result.status ≡ NET_BASE_MISSING) × (result.length ≡ 0) }
-    ensures refused { (IsPlausible capacity (length runs.now) fragments.now → ⊥) →
-        (result.status ≡ NET_BASE_REFUSED) × (result.length ≡ 0) }
+    requires sound { IsPlausible capacity (length runs.now) fragments.now → HasSoundRuns fragments.now.present
+        runs.now }
+    ensures done { IsPlausible capacity (length runs.now) fragments.now → (bytes : List ℕ) (size : ℕ) → IsComplete
+        (fragments_of fragments.now bytes runs.now) size → (result.status ≡ NET_BASE_DONE) × (result.length ≡ size) }
+    ensures missing { IsPlausible capacity (length runs.now) fragments.now → (bytes : List ℕ) → (((size : ℕ) ×
+        IsComplete (fragments_of fragments.now bytes runs.now) size) → ⊥) → (result.status ≡ NET_BASE_MISSING) ×
+        (result.length ≡ 0) }
+    ensures refused { (IsPlausible capacity (length runs.now) fragments.now → ⊥) → (result.status ≡ NET_BASE_REFUSED)
+        × (result.length ≡ 0) }
 {
     if !is_plausible(fragments, capacity, runs.len()) {
         return NO_FRONT;

@@ -1,50 +1,45 @@
-//! Functions for C over memory that the caller keeps: rings, packet queues,
-//! assemblers, buffers of fragments, receivers, senders and their scoreboards, sequence numbers, time
-//! and random words.
+//! Functions for C over memory that the caller keeps: rings, packet queues, assemblers, buffers of fragments,
+//! receivers, senders and their scoreboards, sequence numbers, time and random words.
 //!
-//! There is no heap and no global state. Each export calls a function of a library here, states its
-//! clauses, and refuses arguments that no correct caller passes.
+//! There is no heap and no global state. Each export calls a function of a library here, states its clauses, and
+//! refuses arguments that no correct caller passes.
 //!
 //! # Memory
 //!
-//! A head is a struct of numbers, which the caller keeps beside a storage and, for some heads, runs
-//! or slots. A head of zeros is empty. Storage, runs and slots need no initial values (gcc may warn
-//! where the first call takes them by `const`). Lengths are in elements; a length of 0 is allowed, of
-//! runs too: then no run is held.
+//! A head is a struct of numbers, which the caller keeps beside a storage and, for some heads, runs or slots. A head
+//! of zeros is empty. Storage, runs and slots need no initial values (gcc may warn where the first call takes them by
+//! `const`). Lengths are in elements; a length of 0 is allowed, of runs too: then no run is held.
 //!
-//! Fields of a head may be read: `length` is how many elements are queued, `used` how many runs are
-//! stored. `start` and `end` of a stored run are offsets from `first_start` of the head, so the first
-//! one starts at 0. A run that a call returns is counted from position 0 of the assembler, or has
-//! positions of the receiver's stream.
+//! Fields of a head may be read: `length` is how many elements are queued, `used` how many runs are stored. `start`
+//! and `end` of a stored run are offsets from `first_start` of the head, so the first one starts at 0. A run that a
+//! call returns is counted from position 0 of the assembler, or has positions of the receiver's stream.
 //!
 //! # Duties
 //!
 //! Nothing checks these, and the proofs assume them. A call that breaks one can touch any memory.
 //!
-//! 1. A pointer is aligned and valid. That of a slice, such as `data`, is valid for as many elements
-//!    as the parameter after it says, here `data_length`; if that is 0, it may be null. Any other is
-//!    valid for one value, and isn't null.
+//! 1. A pointer is aligned and valid. That of a slice, such as `data`, is valid for as many elements as the parameter
+//!    after it says, here `data_length`; if that is 0, it may be null. Any other is valid for one value, and isn't
+//!    null.
 //! 2. What a call may write overlaps nothing else that it is passed.
-//! 3. Two calls that share a head, a storage, runs or slots aren't made at once, in threads or in an
-//!    interrupt and what it interrupts, unless both take by `const` what they share. So mask the
-//!    interrupt around each call, and around what reads fields.
+//! 3. Two calls that share a head, a storage, runs or slots aren't made at once, in threads or in an interrupt and
+//!    what it interrupts, unless both take by `const` what they share. So mask the interrupt around each call, and
+//!    around what reads fields.
 //! 4. A storage, its runs and its slots have the same lengths in each call on a head.
-//! 5. A head, its runs and its slots are written by calls of its own kind alone, those of a receiver
-//!    by `net_base_receiver_..`, not its `place` by `net_base_ring_..` or its `held` by
-//!    `net_base_assembler_..`. The caller may set a head to zeros, and then what the
-//!    comment of its kind says: `first` of a receiver, `first_unacknowledged` of a sender, `base` of a
-//!    scoreboard, `expires_at` of a buffer of fragments.
-//! 6. Where a comment says `Requires`, head and runs are sound, as a call whose name ends in
-//!    `_is_sound` tests. What calls of its own kind wrote, from an empty head on, is sound.
+//! 5. A head, its runs and its slots are written by calls of its own kind alone, those of a receiver by
+//!    `net_base_receiver_..`, not its `place` by `net_base_ring_..` or its `held` by `net_base_assembler_..`. The
+//!    caller may set a head to zeros, and then what the comment of its kind says: `first` of a receiver,
+//!    `first_unacknowledged` of a sender, `base` of a scoreboard, `expires_at` of a buffer of fragments.
+//! 6. Where a comment says `Requires`, head and runs are sound, as a call whose name ends in `_is_sound` tests. What
+//!    calls of its own kind wrote, from an empty head on, is sound.
 //!
 //! # Refusals
 //!
-//! All else is tested, before anything else that a comment names: a call that could be refused for two
-//! reasons returns what it does if it is refused as nonsense. A refused call changes nothing. It returns `false` if it returns a `bool`;
-//! `NET_BASE_REFUSED` if it returns a status, alone or as the first field of a struct; otherwise
-//! `NET_BASE_NONE`, alone or as the first field of a struct. `NET_BASE_REFUSED` always means a
-//! refusal; `false` and `NET_BASE_NONE` can also be results of calls that are done, as the comments
-//! say.
+//! All else is tested, before anything else that a comment names: a call that could be refused for two reasons returns
+//! what it does if it is refused as nonsense. A refused call changes nothing. It returns `false` if it returns a
+//! `bool`; `NET_BASE_REFUSED` if it returns a status, alone or as the first field of a struct; otherwise
+//! `NET_BASE_NONE`, alone or as the first field of a struct. `NET_BASE_REFUSED` always means a refusal; `false` and
+//! `NET_BASE_NONE` can also be results of calls that are done, as the comments say.
 #![tactic(auto)]
 
 mod finite_receiver;

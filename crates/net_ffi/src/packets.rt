@@ -49,13 +49,13 @@ const NONSENSE_FIRST: FirstPacket = FirstPacket {
     size: 0,
 };
 
-/// Appends a packet of `size` bytes, writes its slot and that of its gap, whose `is_gap` is 1, and
-/// returns where they and the packet's bytes are. If no byte is in use, which is so too where all
-/// packets have 0 bytes, the packet begins at the beginning of the storage of bytes.
+/// Appends a packet of `size` bytes, writes its slot and that of its gap, whose `is_gap` is 1, and returns where they
+/// and the packet's bytes are. If no byte is in use, which is so too where all packets have 0 bytes, the packet begins
+/// at the beginning of the storage of bytes.
 ///
-/// If there are no `size` contiguous free bytes, or no slots for the packet and its gap, `gap` is 0, the
-/// three others are `NET_BASE_NONE`, and nothing changes. A head whose numbers aren't those of rings of
-/// the slots and of `capacity` bytes is refused: then all four are `NET_BASE_NONE`.
+/// If there are no `size` contiguous free bytes, or no slots for the packet and its gap, `gap` is 0, the three others
+/// are `NET_BASE_NONE`, and nothing changes. A head whose numbers aren't those of rings of the slots and of `capacity`
+/// bytes is refused: then all four are `NET_BASE_NONE`.
 #[unsafe(no_mangle)]
 pub extern "C" fn net_base_packets_enqueue(
     packets: &mut PacketsHead,
@@ -63,21 +63,16 @@ pub extern "C" fn net_base_packets_enqueue(
     capacity: usize,
     size: usize,
 ) -> PacketPlace
-    ensures placed { let n = length slots.old in IsSoundHead n capacity packets.old →
-        (gap : ℕ) → placement_in n capacity packets.old size ≡ Some gap →
-        (result ≡ place_after_gap n capacity packets.old gap)
-        × (packets.new ≡ with_packet_placed gap size packets.old)
-        × (slots.new ≡ slots_written result size slots.old) }
-    ensures full { IsSoundHead (length slots.old) capacity packets.old →
-        placement_in (length slots.old) capacity packets.old size ≡ None →
-        (result ≡ no_place) × (packets.new ≡ packets.old) × (slots.new ≡ slots.old) }
-    ensures refused { (IsSoundHead (length slots.old) capacity packets.old → ⊥) →
-        (result ≡ nonsense_place) × (packets.new ≡ packets.old) × (slots.new ≡ slots.old) }
-    ensures state { (xs : List ℕ) → length xs ≡ capacity →
-        HasSoundSlots capacity packets.old slots.old → queue_of packets.new slots.new xs
-        ≡ with_packet_if_room (queue_of packets.old slots.old xs) size tt }
-    ensures sound { HasSoundSlots capacity packets.old slots.old →
-        HasSoundSlots capacity packets.new slots.new }
+    ensures placed { let n = length slots.old in IsSoundHead n capacity packets.old → (gap : ℕ) → placement_in n
+        capacity packets.old size ≡ Some gap → (result ≡ place_after_gap n capacity packets.old gap) × (packets.new ≡
+        with_packet_placed gap size packets.old) × (slots.new ≡ slots_written result size slots.old) }
+    ensures full { IsSoundHead (length slots.old) capacity packets.old → placement_in (length slots.old) capacity
+        packets.old size ≡ None → (result ≡ no_place) × (packets.new ≡ packets.old) × (slots.new ≡ slots.old) }
+    ensures refused { (IsSoundHead (length slots.old) capacity packets.old → ⊥) → (result ≡ nonsense_place) ×
+        (packets.new ≡ packets.old) × (slots.new ≡ slots.old) }
+    ensures state { (xs : List ℕ) → length xs ≡ capacity → HasSoundSlots capacity packets.old slots.old → queue_of
+        packets.new slots.new xs ≡ with_packet_if_room (queue_of packets.old slots.old xs) size tt }
+    ensures sound { HasSoundSlots capacity packets.old slots.old → HasSoundSlots capacity packets.new slots.new }
 {
     if !packets.is_sound(slots.len(), capacity) {
         return NONSENSE;
@@ -88,36 +83,31 @@ pub extern "C" fn net_base_packets_enqueue(
     }
 }
 
-/// Takes the first packet off, and the gap before it, and returns where it is. Its bytes stay until
-/// another packet is placed there.
+/// Takes the first packet off, and the gap before it, and returns where it is. Its bytes stay until another packet is
+/// placed there.
 ///
-/// If no slot is in use, `gap` and `size` are 0, the two others are `NET_BASE_NONE`, and nothing changes.
-/// A head whose numbers aren't those of rings is refused, and so are first slots that can't be those of
-/// a packet: then `gap` is `NET_BASE_NONE` too. The slots of a sound queue are never refused.
+/// If no slot is in use, `gap` and `size` are 0, the two others are `NET_BASE_NONE`, and nothing changes. A head whose
+/// numbers aren't those of rings is refused, and so are first slots that can't be those of a packet: then `gap` is
+/// `NET_BASE_NONE` too. The slots of a sound queue are never refused.
 #[unsafe(no_mangle)]
 pub extern "C" fn net_base_packets_dequeue(
     packets: &mut PacketsHead,
     slots: &[PacketSlot],
     capacity: usize,
 ) -> FirstPacket
-    ensures taken { IsSoundHead (length slots.now) capacity packets.old →
-        HasFirst capacity packets.old slots.now →
-        (result ≡ first_packet capacity packets.old slots.now)
-        × (packets.new ≡ head_after_first capacity packets.old slots.now) }
-    ensures empty { IsSoundHead (length slots.now) capacity packets.old →
-        packets.old.slots.length ≡ 0 → (result ≡ no_first) × (packets.new ≡ packets.old) }
-    ensures refused { (IsSoundHead (length slots.now) capacity packets.old
-        × (HasFirst capacity packets.old slots.now ⊎ (packets.old.slots.length ≡ 0)) → ⊥) →
-        (result ≡ nonsense_first) × (packets.new ≡ packets.old) }
-    ensures first { HasSoundSlots capacity packets.old slots.now →
-        1 ≤ packets.old.slots.length → HasFirst capacity packets.old slots.now }
-    ensures state { (xs : List ℕ) → length xs ≡ capacity →
-        HasSoundSlots capacity packets.old slots.now → 1 ≤ packets.old.slots.length →
-        (queue_of packets.new slots.now xs
-        ≡ without_first_and_gap (queue_of packets.old slots.now xs))
-        × IsFirstAt (queue_of packets.old slots.now xs) result }
-    ensures sound { HasSoundSlots capacity packets.old slots.now →
-        HasSoundSlots capacity packets.new slots.now }
+    ensures taken { IsSoundHead (length slots.now) capacity packets.old → HasFirst capacity packets.old slots.now →
+        (result ≡ first_packet capacity packets.old slots.now) × (packets.new ≡ head_after_first capacity packets.old
+        slots.now) }
+    ensures empty { IsSoundHead (length slots.now) capacity packets.old → packets.old.slots.length ≡ 0 → (result ≡
+        no_first) × (packets.new ≡ packets.old) }
+    ensures refused { (IsSoundHead (length slots.now) capacity packets.old × (HasFirst capacity packets.old slots.now
+        ⊎ (packets.old.slots.length ≡ 0)) → ⊥) → (result ≡ nonsense_first) × (packets.new ≡ packets.old) }
+    ensures first { HasSoundSlots capacity packets.old slots.now → 1 ≤ packets.old.slots.length → HasFirst capacity
+        packets.old slots.now }
+    ensures state { (xs : List ℕ) → length xs ≡ capacity → HasSoundSlots capacity packets.old slots.now → 1 ≤
+        packets.old.slots.length → (queue_of packets.new slots.now xs ≡ without_first_and_gap (queue_of packets.old
+        slots.now xs)) × IsFirstAt (queue_of packets.old slots.now xs) result }
+    ensures sound { HasSoundSlots capacity packets.old slots.now → HasSoundSlots capacity packets.new slots.now }
 {
     if !packets.is_sound(slots.len(), capacity) {
         return NONSENSE_FIRST;
@@ -133,26 +123,23 @@ pub extern "C" fn net_base_packets_dequeue(
 
 /// Returns where the first packet is, which stays.
 ///
-/// If no slot is in use, `gap` and `size` are 0, and the two others are `NET_BASE_NONE`. A head whose
-/// numbers aren't those of rings is refused, and so are first slots that can't be those of a packet:
-/// then `gap` is `NET_BASE_NONE` too. The slots of a sound queue are never refused.
+/// If no slot is in use, `gap` and `size` are 0, and the two others are `NET_BASE_NONE`. A head whose numbers aren't
+/// those of rings is refused, and so are first slots that can't be those of a packet: then `gap` is `NET_BASE_NONE`
+/// too. The slots of a sound queue are never refused.
 #[unsafe(no_mangle)]
 pub extern "C" fn net_base_packets_peek(
     packets: &PacketsHead,
     slots: &[PacketSlot],
     capacity: usize,
 ) -> FirstPacket
-    ensures first { IsSoundHead (length slots.now) capacity packets.now →
-        HasFirst capacity packets.now slots.now →
+    ensures first { IsSoundHead (length slots.now) capacity packets.now → HasFirst capacity packets.now slots.now →
         result ≡ first_packet capacity packets.now slots.now }
-    ensures empty { IsSoundHead (length slots.now) capacity packets.now →
-        packets.now.slots.length ≡ 0 → result ≡ no_first }
-    ensures refused { (IsSoundHead (length slots.now) capacity packets.now
-        × (HasFirst capacity packets.now slots.now ⊎ (packets.now.slots.length ≡ 0)) → ⊥) →
-        result ≡ nonsense_first }
-    ensures state { (xs : List ℕ) → length xs ≡ capacity →
-        HasSoundSlots capacity packets.now slots.now → 1 ≤ packets.now.slots.length →
-        IsFirstAt (queue_of packets.now slots.now xs) result }
+    ensures empty { IsSoundHead (length slots.now) capacity packets.now → packets.now.slots.length ≡ 0 → result ≡
+        no_first }
+    ensures refused { (IsSoundHead (length slots.now) capacity packets.now × (HasFirst capacity packets.now slots.now
+        ⊎ (packets.now.slots.length ≡ 0)) → ⊥) → result ≡ nonsense_first }
+    ensures state { (xs : List ℕ) → length xs ≡ capacity → HasSoundSlots capacity packets.now slots.now → 1 ≤
+        packets.now.slots.length → IsFirstAt (queue_of packets.now slots.now xs) result }
 {
     if !packets.is_sound(slots.len(), capacity) {
         return NONSENSE_FIRST;
@@ -166,49 +153,13 @@ pub extern "C" fn net_base_packets_peek(
     }
 }
 
-/// Takes the last `count` bytes off the last packet, lowers the size in its slot, and returns true.
-/// It is for a caller that wrote fewer bytes than it placed.
+/// Removes the first slot in use, which the caller passes as `first`, with its bytes, and returns the index of the
+/// first of these bytes. `first` is the slot of the gap before the first packet, or that of the first packet if it has
+/// no gap.
 ///
-/// Returns false, and changes nothing, if no slot is in use, if the last one is a gap's, if its size is
-/// below `count` or above the number of bytes in use, or if the head's numbers aren't those of rings.
-#[unsafe(no_mangle)]
-pub extern "C" fn net_base_packets_shorten_last(
-    packets: &mut PacketsHead,
-    slots: &mut [PacketSlot],
-    capacity: usize,
-    count: usize,
-) -> bool
-    ensures done { IsTrue result ↔ (IsSoundHead (length slots.old) capacity packets.old
-        × CanShorten packets.old (last_slot packets.old slots.old) count) }
-    ensures packets { IsTrue result → (packets.new.slots ≡ packets.old.slots)
-        × (packets.new.bytes
-        ≡ place packets.old.bytes.read_at (packets.old.bytes.length - count)) }
-    ensures slots { IsTrue result →
-        slots.new ≡ set slots.old (last_slot_index packets.old slots.old)
-        (packet_slot ((last_slot packets.old slots.old).size - count)) }
-    ensures unchanged { IsFalse result →
-        (packets.new ≡ packets.old) × (slots.new ≡ slots.old) }
-    ensures state { IsTrue result → (xs : List ℕ) → length xs ≡ capacity →
-        HasSoundSlots capacity packets.old slots.old → queue_of packets.new slots.new xs
-        ≡ with_last_size ((last_slot packets.old slots.old).size - count)
-        (queue_of packets.old slots.old xs) }
-    ensures sound { HasSoundSlots capacity packets.old slots.old →
-        HasSoundSlots capacity packets.new slots.new }
-{
-    if !packets.is_sound(slots.len(), capacity) {
-        return false;
-    }
-    packets.shorten_last_in(slots, capacity, count)
-}
-
-/// Removes the first slot in use, which the caller passes as `first`, with its bytes, and returns the
-/// index of the first of these bytes. `first` is the slot of the gap before the first packet, or that
-/// of the first packet if it has no gap.
-///
-/// A head whose numbers aren't those of rings is refused, and so is a slot that can't be the first
-/// one: if none is in use, if its size is above the number of bytes in use, if its bytes aren't
-/// contiguous, or if it is a gap's that has no bytes or doesn't end at the storage's end. Then
-/// `NET_BASE_NONE` is returned, and nothing changes.
+/// A head whose numbers aren't those of rings is refused, and so is a slot that can't be the first one: if none is in
+/// use, if its size is above the number of bytes in use, if its bytes aren't contiguous, or if it is a gap's that has
+/// no bytes or doesn't end at the storage's end. Then `NET_BASE_NONE` is returned, and nothing changes.
 #[unsafe(no_mangle)]
 pub extern "C" fn net_base_packets_take_slot(
     packets: &mut PacketsHead,
@@ -216,25 +167,20 @@ pub extern "C" fn net_base_packets_take_slot(
     capacity: usize,
     first: &PacketSlot,
 ) -> usize
-    ensures taken { IsSoundHead slot_count capacity packets.old →
-        CanTake capacity packets.old first.now → (result ≡ packets.old.bytes.read_at)
-        × (packets.new ≡ with_slot_taken slot_count capacity first.now.size packets.old) }
-    ensures refused { (IsSoundHead slot_count capacity packets.old
-        × CanTake capacity packets.old first.now → ⊥) →
+    ensures taken { IsSoundHead slot_count capacity packets.old → CanTake capacity packets.old first.now → (result ≡
+        packets.old.bytes.read_at) × (packets.new ≡ with_slot_taken slot_count capacity first.now.size packets.old) }
+    ensures refused { (IsSoundHead slot_count capacity packets.old × CanTake capacity packets.old first.now → ⊥) →
         (result ≡ 2 ^ 64 - 1) × (packets.new ≡ packets.old) }
-    ensures first { (slots : List PacketSlot) → length slots ≡ slot_count →
-        HasSoundSlots capacity packets.old slots → 1 ≤ packets.old.slots.length →
-        slice_get slots packets.old.slots.read_at ≡ Some first.now →
-        CanTake capacity packets.old first.now }
-    ensures state { (slots : List PacketSlot) (xs : List ℕ) → length slots ≡ slot_count →
-        length xs ≡ capacity → HasSoundSlots capacity packets.old slots →
-        1 ≤ packets.old.slots.length →
-        slice_get slots packets.old.slots.read_at ≡ Some first.now →
-        queue_of packets.new slots xs ≡ after_slot first.now (queue_of packets.old slots xs) }
-    ensures sound { (slots : List PacketSlot) → length slots ≡ slot_count →
-        HasSoundSlots capacity packets.old slots → 1 ≤ packets.old.slots.length →
-        slice_get slots packets.old.slots.read_at ≡ Some first.now →
-        HasSoundSlots capacity packets.new slots }
+    ensures first { (slots : List PacketSlot) → length slots ≡ slot_count → HasSoundSlots capacity packets.old slots →
+        1 ≤ packets.old.slots.length → slice_get slots packets.old.slots.read_at ≡ Some first.now → CanTake capacity
+        packets.old first.now }
+    ensures state { (slots : List PacketSlot) (xs : List ℕ) → length slots ≡ slot_count → length xs ≡ capacity →
+        HasSoundSlots capacity packets.old slots → 1 ≤ packets.old.slots.length → slice_get slots
+        packets.old.slots.read_at ≡ Some first.now → queue_of packets.new slots xs ≡ after_slot first.now (queue_of
+        packets.old slots xs) }
+    ensures sound { (slots : List PacketSlot) → length slots ≡ slot_count → HasSoundSlots capacity packets.old slots →
+        1 ≤ packets.old.slots.length → slice_get slots packets.old.slots.read_at ≡ Some first.now → HasSoundSlots
+        capacity packets.new slots }
 {
     if !packets.is_sound(slot_count, capacity) || !packets.can_take(slot_count, capacity, first) {
         return NET_BASE_NONE;

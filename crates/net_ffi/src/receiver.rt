@@ -36,8 +36,7 @@ pub struct KeptCounts {
 /// Returns whether the first missing position fits 64 bits.
 #[inline(always)]
 pub(crate) fn has_next(receiver: &ReceiverHead) -> bool
-    ensures { IsTrue result ↔ (receiver.now.first + receiver.now.count_read
-        + receiver.now.place.length < 2 ^ 64) }
+    ensures { IsTrue result ↔ (receiver.now.first + receiver.now.count_read + receiver.now.place.length < 2 ^ 64) }
 {
     match receiver.first.checked_add(receiver.count_read) {
         Some(read) => receiver.place.length as u64 <= u64::MAX - read,
@@ -45,8 +44,7 @@ pub(crate) fn has_next(receiver: &ReceiverHead) -> bool
     }
 }
 
-/// Returns whether the queue is in a storage of `capacity` bytes, and the first missing position
-/// fits 64 bits.
+/// Returns whether the queue is in a storage of `capacity` bytes, and the first missing position fits 64 bits.
 #[inline(always)]
 fn is_readable(receiver: &ReceiverHead, capacity: usize) -> bool
     ensures { IsTrue result ↔ IsReadable capacity receiver.now }
@@ -62,17 +60,15 @@ pub(crate) fn is_plausible(receiver: &ReceiverHead, capacity: usize, run_count: 
     is_readable(receiver, capacity) && receiver.held.used <= run_count
 }
 
-/// Keeps the bytes of a segment that are in the free window, and writes to `counts` how many. The
-/// segment's first byte is at `position`.
+/// Keeps the bytes of a segment that are in the free window, and writes to `counts` how many. The segment's first byte
+/// is at `position`.
 ///
-/// Returns `NET_BASE_DONE`, also if no byte is in the free window: then `kept` is 0. Returns
-/// `NET_BASE_TOO_MANY_RUNS`, and nothing changes, if the segment has bytes in the free window, the
-/// first missing position is not one of theirs, and with them there would be more runs than the
-/// slice has elements.
+/// Returns `NET_BASE_DONE`, also if no byte is in the free window: then `kept` is 0. Returns `NET_BASE_TOO_MANY_RUNS`,
+/// and nothing changes, if the segment has bytes in the free window, the first missing position is not one of theirs,
+/// and with them there would be more runs than the slice has elements.
 ///
-/// Returns `NET_BASE_REFUSED`, and nothing changes, if the segment doesn't end within 64 bits, if
-/// `place` isn't that of a ring of `storage.len()` bytes, if `next` doesn't fit 64 bits, or if
-/// `held.used` is above `runs.len()`.
+/// Returns `NET_BASE_REFUSED`, and nothing changes, if the segment doesn't end within 64 bits, if `place` isn't that
+/// of a ring of `storage.len()` bytes, if `next` doesn't fit 64 bits, or if `held.used` is above `runs.len()`.
 ///
 /// # Requires
 ///
@@ -86,48 +82,35 @@ pub extern "C" fn net_base_receiver_segment(
     bytes: &[u8],
     counts: &mut KeptCounts,
 ) -> u32
-    requires sound { IsPlausible (length storage.old) (length runs.old) receiver.old →
-        HasSoundParts receiver.old storage.old runs.old }
-    ensures result { let v = receiver_of receiver.old storage.old runs.old in
-        IsPlausible (length storage.old) (length runs.old) receiver.old →
-        position + length bytes.now < 2 ^ 64 →
-        MatchResult
-        (segment_result receiver_ops v
-        (verdict receiver_ops (length runs.old) v (piece position bytes.now)))
-        (λ k. (result ≡ NET_BASE_DONE) × (counts.new.kept ≡ k.kept) × (counts.new.queued ≡ k.queued))
-        (λ _. (result ≡ NET_BASE_TOO_MANY_RUNS) × (counts.new ≡ counts.old)) }
-    ensures state { let v = receiver_of receiver.old storage.old runs.old in
-        IsPlausible (length storage.old) (length runs.old) receiver.old →
-        position + length bytes.now < 2 ^ 64 →
-        receiver_of receiver.new storage.new runs.new ≡ state_after receiver_ops v
-        (verdict receiver_ops (length runs.old) v (piece position bytes.now)) }
-    ensures step { let v = receiver_of receiver.old storage.old runs.old in
-        let w = setting (length runs.old) v in
-        IsPlausible (length storage.old) (length runs.old) receiver.old →
-        position + length bytes.now < 2 ^ 64 → (s : KeptState) → Refines v s →
-        Refines (receiver_of receiver.new storage.new runs.new)
-        (kept_after_command w s (Segment position bytes.now))
-        × MatchResult (kept_result w s (piece position bytes.now))
-        (λ k. (result ≡ NET_BASE_DONE) × (counts.new.kept ≡ k.kept) × (counts.new.queued ≡ k.queued))
-        (λ _. (result ≡ NET_BASE_TOO_MANY_RUNS) × (counts.new ≡ counts.old)) }
-    ensures receives { IsPlausible (length storage.old) (length runs.old) receiver.old →
-        position + length bytes.now < 2 ^ 64 → (f : ℕ) (x : List ℕ) →
-        ReceivesFrom f x (receiver_of receiver.old storage.old runs.old) →
-        MatchesStream f x position bytes.now →
-        ReceivesFrom f x (receiver_of receiver.new storage.new runs.new) }
-    ensures stored { let v = receiver_of receiver.old storage.old runs.old in
-        IsPlausible (length storage.old) (length runs.old) receiver.old →
-        position + length bytes.now < 2 ^ 64 →
-        storage.new ≡ storage_after receiver.old storage.old
-        (verdict receiver_ops (length runs.old) v (piece position bytes.now)) }
-    ensures sound { IsPlausible (length storage.old) (length runs.old) receiver.old →
-        HasSoundParts receiver.new storage.new runs.new }
-    ensures refused { (IsPlausible (length storage.old) (length runs.old) receiver.old
-        × (position + length bytes.now < 2 ^ 64) → ⊥) → (result ≡ NET_BASE_REFUSED)
-        × (receiver.new ≡ receiver.old) × (storage.new ≡ storage.old) × (runs.new ≡ runs.old)
-        × (counts.new ≡ counts.old) }
-    ensures too_many { result ≡ NET_BASE_TOO_MANY_RUNS → (receiver.new ≡ receiver.old)
-        × (storage.new ≡ storage.old) × (runs.new ≡ runs.old) × (counts.new ≡ counts.old) }
+    requires sound { IsPlausible (length storage.old) (length runs.old) receiver.old → HasSoundParts receiver.old
+        storage.old runs.old }
+    ensures result { let v = receiver_of receiver.old storage.old runs.old in IsPlausible (length storage.old) (length
+        runs.old) receiver.old → position + length bytes.now < 2 ^ 64 → MatchResult (segment_result receiver_ops v
+        (verdict receiver_ops (length runs.old) v (piece position bytes.now))) (λ k. (result ≡ NET_BASE_DONE) ×
+        (counts.new.kept ≡ k.kept) × (counts.new.queued ≡ k.queued)) (λ _. (result ≡ NET_BASE_TOO_MANY_RUNS) ×
+        (counts.new ≡ counts.old)) }
+    ensures state { let v = receiver_of receiver.old storage.old runs.old in IsPlausible (length storage.old) (length
+        runs.old) receiver.old → position + length bytes.now < 2 ^ 64 → receiver_of receiver.new storage.new runs.new
+        ≡ state_after receiver_ops v (verdict receiver_ops (length runs.old) v (piece position bytes.now)) }
+    ensures step { let v = receiver_of receiver.old storage.old runs.old in let w = setting (length runs.old) v in
+        IsPlausible (length storage.old) (length runs.old) receiver.old → position + length bytes.now < 2 ^ 64 → (s :
+        KeptState) → Refines v s → Refines (receiver_of receiver.new storage.new runs.new) (kept_after_command w s
+        (Segment position bytes.now)) × MatchResult (kept_result w s (piece position bytes.now)) (λ k. (result ≡
+        NET_BASE_DONE) × (counts.new.kept ≡ k.kept) × (counts.new.queued ≡ k.queued)) (λ _. (result ≡
+        NET_BASE_TOO_MANY_RUNS) × (counts.new ≡ counts.old)) }
+    ensures receives { IsPlausible (length storage.old) (length runs.old) receiver.old → position + length bytes.now <
+        2 ^ 64 → (f : ℕ) (x : List ℕ) → ReceivesFrom f x (receiver_of receiver.old storage.old runs.old) →
+        MatchesStream f x position bytes.now → ReceivesFrom f x (receiver_of receiver.new storage.new runs.new) }
+    ensures stored { let v = receiver_of receiver.old storage.old runs.old in IsPlausible (length storage.old) (length
+        runs.old) receiver.old → position + length bytes.now < 2 ^ 64 → storage.new ≡ storage_after receiver.old
+        storage.old (verdict receiver_ops (length runs.old) v (piece position bytes.now)) }
+    ensures sound { IsPlausible (length storage.old) (length runs.old) receiver.old → HasSoundParts receiver.new
+        storage.new runs.new }
+    ensures refused { (IsPlausible (length storage.old) (length runs.old) receiver.old × (position + length bytes.now
+        < 2 ^ 64) → ⊥) → (result ≡ NET_BASE_REFUSED) × (receiver.new ≡ receiver.old) × (storage.new ≡ storage.old) ×
+        (runs.new ≡ runs.old) × (counts.new ≡ counts.old) }
+    ensures too_many { result ≡ NET_BASE_TOO_MANY_RUNS → (receiver.new ≡ receiver.old) × (storage.new ≡ storage.old) ×
+        (runs.new ≡ runs.old) × (counts.new ≡ counts.old) }
     ensures canonical { IsCanonical receiver.old.held → IsCanonical receiver.new.held }
 {
     if !is_plausible(receiver, storage.len(), runs.len()) {
@@ -148,9 +131,9 @@ pub extern "C" fn net_base_receiver_segment(
     }
 }
 
-/// Returns whether the end of the free window fits 64 bits, where the storage has `capacity` bytes,
-/// and if so writes it to `end`: the first position for which there is no room, `next` plus the
-/// window. No segment and no read lowers it.
+/// Returns whether the end of the free window fits 64 bits, where the storage has `capacity` bytes, and if so writes
+/// it to `end`: the first position for which there is no room, `next` plus the window. No segment and no read lowers
+/// it.
 ///
 /// If more than `capacity` bytes are queued, it is refused: false, and nothing changes.
 #[unsafe(no_mangle)]
@@ -159,13 +142,11 @@ pub extern "C" fn net_base_receiver_window_end(
     capacity: usize,
     end: &mut u64,
 ) -> bool
-    ensures fits { IsTrue result ↔ ((receiver.now.place.length ≤ capacity)
-        × (receiver.now.first + receiver.now.count_read + capacity < 2 ^ 64)) }
-    ensures end { IsTrue result →
-        end.new ≡ receiver.now.first + receiver.now.count_read + capacity }
-    ensures limit { (storage : List ℕ) (runs : List (ℕ × ℕ)) → length storage ≡ capacity →
-        HasSoundParts receiver.now storage runs → IsTrue result →
-        end.new ≡ limit_of (receiver_of receiver.now storage runs) }
+    ensures fits { IsTrue result ↔ ((receiver.now.place.length ≤ capacity) × (receiver.now.first +
+        receiver.now.count_read + capacity < 2 ^ 64)) }
+    ensures end { IsTrue result → end.new ≡ receiver.now.first + receiver.now.count_read + capacity }
+    ensures limit { (storage : List ℕ) (runs : List (ℕ × ℕ)) → length storage ≡ capacity → HasSoundParts receiver.now
+        storage runs → IsTrue result → end.new ≡ limit_of (receiver_of receiver.now storage runs) }
     ensures unchanged { IsFalse result → end.new ≡ end.old }
 {
     if receiver.place.length > capacity {
@@ -180,11 +161,11 @@ pub extern "C" fn net_base_receiver_window_end(
     }
 }
 
-/// Returns the held run with number `index`, counted from 0 in rising order. If there are no more
-/// than `index`, start and end are 0.
+/// Returns the held run with number `index`, counted from 0 in rising order. If there are no more than `index`, start
+/// and end are 0.
 ///
-/// If `place` isn't that of a ring of `storage.len()` bytes, `next` doesn't fit 64 bits, or
-/// `held.used` is above `runs.len()`, it is refused: start and end are `NET_BASE_NONE`.
+/// If `place` isn't that of a ring of `storage.len()` bytes, `next` doesn't fit 64 bits, or `held.used` is above
+/// `runs.len()`, it is refused: start and end are `NET_BASE_NONE`.
 ///
 /// # Requires
 ///
@@ -196,13 +177,12 @@ pub extern "C" fn net_base_receiver_run_at(
     runs: &[Run],
     index: usize,
 ) -> HeldRun
-    requires sound { IsPlausible (length storage.now) (length runs.now) receiver.now →
-        HasSoundParts receiver.now storage.now runs.now }
-    ensures run { IsPlausible (length storage.now) (length runs.now) receiver.now →
-        result ≡ unwrap_or (slice_get
+    requires sound { IsPlausible (length storage.now) (length runs.now) receiver.now → HasSoundParts receiver.now
+        storage.now runs.now }
+    ensures run { IsPlausible (length storage.now) (length runs.now) receiver.now → result ≡ unwrap_or (slice_get
         (maximal_runs (domain (receiver_of receiver.now storage.now runs.now).held)) index) (0, 0) }
-    ensures refused { (IsPlausible (length storage.now) (length runs.now) receiver.now → ⊥) →
-        result ≡ (2 ^ 64 - 1, 2 ^ 64 - 1) }
+    ensures refused { (IsPlausible (length storage.now) (length runs.now) receiver.now → ⊥) → result ≡ (2 ^ 64 - 1, 2
+        ^ 64 - 1) }
 {
     if !is_plausible(receiver, storage.len(), runs.len()) {
         return HeldRun {

@@ -13,8 +13,8 @@ use net_base::storage::FragmentError;
 #[repr(C)]
 #[derive(Debug, Clone, Copy)]
 pub struct FrontLength {
-    /// `NET_BASE_DONE`, `NET_BASE_TOO_MANY_RUNS` or `NET_BASE_REFUSED`, and of
-    /// `net_base_fragments_complete` also `NET_BASE_MISSING`.
+    /// `NET_BASE_DONE`, `NET_BASE_TOO_MANY_RUNS` or `NET_BASE_REFUSED`, and of `net_base_fragments_complete` also
+    /// `NET_BASE_MISSING`.
     pub status: u32,
     /// How many positions the run has; 0 if position 0 is missing, or the call wasn't done.
     pub length: usize,

@@ -11,11 +11,10 @@ use net_ring::RingHead;
 /// If none is free, or the place isn't sound: `NET_BASE_NONE`, and nothing changes.
 #[unsafe(no_mangle)]
 pub extern "C" fn net_base_ring_enqueue_one(place: &mut RingHead, capacity: usize) -> usize
-    ensures done { IsSound capacity place.old → place.old.length < capacity →
-        (result ≡ index_after capacity place.old.read_at place.old.length)
-        × (place.new ≡ enqueued_place 1 place.old) }
-    ensures refused { (IsSound capacity place.old × (place.old.length < capacity) → ⊥) →
-        (result ≡ 2 ^ 64 - 1) × (place.new ≡ place.old) }
+    ensures done { IsSound capacity place.old → place.old.length < capacity → (result ≡ index_after capacity
+        place.old.read_at place.old.length) × (place.new ≡ enqueued_place 1 place.old) }
+    ensures refused { (IsSound capacity place.old × (place.old.length < capacity) → ⊥) → (result ≡ 2 ^ 64 - 1) ×
+        (place.new ≡ place.old) }
 {
     if !place.is_sound(capacity) || place.length == capacity {
         return NET_BASE_NONE;
@@ -30,10 +29,10 @@ pub extern "C" fn net_base_ring_enqueue_one(place: &mut RingHead, capacity: usiz
 /// If none is queued, or the place isn't sound: `NET_BASE_NONE`, and nothing changes.
 #[unsafe(no_mangle)]
 pub extern "C" fn net_base_ring_dequeue_one(place: &mut RingHead, capacity: usize) -> usize
-    ensures done { IsSound capacity place.old → 0 < place.old.length →
-        (result ≡ place.old.read_at) × (place.new ≡ dequeued_place capacity 1 place.old) }
-    ensures refused { (IsSound capacity place.old × (0 < place.old.length) → ⊥) →
-        (result ≡ 2 ^ 64 - 1) × (place.new ≡ place.old) }
+    ensures done { IsSound capacity place.old → 0 < place.old.length → (result ≡ place.old.read_at) × (place.new ≡
+        dequeued_place capacity 1 place.old) }
+    ensures refused { (IsSound capacity place.old × (0 < place.old.length) → ⊥) → (result ≡ 2 ^ 64 - 1) × (place.new ≡
+        place.old) }
 {
     if !place.is_sound(capacity) || place.length == 0 {
         return NET_BASE_NONE;

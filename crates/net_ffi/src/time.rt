@@ -1,14 +1,11 @@
 //! Moments (signed, from an origin of the caller's own) and lengths of time, in microseconds.
 //!
-//! Both are numbers: C adds and compares them, and divides by 1,000 and 1,000,000. Here is what overflows
-//! if C computes it, and what takes a loop.
-ghost use Rattle.std.specs.Prelude.{◌≡◌, ◌↔◌, ◌+◌, ◌-◌, ◌*◌, ◌/◌, ◌%◌, ◌^◌, ◌≤◌, ◌<◌, min};
-ghost use Rattle.std.specs.Prelude.{IsTrue, IsFalse, IsSome, IfSome, IfNone};
-ghost use Rattle.std.specs.Prelude.{ℤ, Some, pos, negsuc, ◌+ℤ◌, ◌-ℤ◌, ◌*ℤ◌};
-ghost use Rattle.net_base.specs.Earliest.{earliest_of};
-ghost use Rattle.net_base.specs.Time.{IsMoment, IsLength, distance};
+//! Both are numbers: C adds and compares them, and divides by 1,000 and 1,000,000. Here is what overflows if
+//! C computes it.
+ghost use Rattle.std.specs.Prelude.{◌≡◌, ◌-◌, ◌^◌, pos, ◌+ℤ◌};
+ghost use Rattle.net_base.specs.Time.{IsMoment, distance};
 
-use net_base::time::{Duration, Instant, earlier};
+use net_base::time::{Duration, Instant};
 
 /// Returns `instant + duration`, or `i64::MAX` if that is above it.
 #[unsafe(no_mangle)]

@@ -3,11 +3,13 @@
 //! At most as many runs are stored as the slice has elements.
 // Written by tools/ffi.py.
 ghost use Rattle.net_assembler.specs.AssemblerLaws.{Adds, AddsThenRemovesFront, RemovesFront};
-ghost use Rattle.net_assembler.specs.Positions.{RangeFits, contains, front, holes, maximal_runs, nothing, runs as run_count, shift_down};
+ghost use Rattle.net_assembler.specs.Positions.{RangeFits, contains, front, holes, maximal_runs, nothing};
+ghost use Rattle.net_assembler.specs.Positions.{runs as run_count, shift_down};
 ghost use Rattle.net_assembler.specs.RunLists.{HasSoundRuns, IsCanonical, set_of};
 ghost use Rattle.net_ffi.specs.Results.{done_or_many, length_or_many};
 ghost use Rattle.std.specs.List.{slice_get};
-ghost use Rattle.std.specs.Prelude.{IsFalse, IsTrue, List, OnErr, if◌then◌else◌, length, unwrap_or, ℕ, ◌+◌, ◌-◌, ◌<◌, ◌^◌, ◌↔◌, ◌≡◌, ◌≤◌};
+ghost use Rattle.std.specs.Prelude.{IsFalse, IsTrue, List, OnErr, if◌then◌else◌, length, unwrap_or, ℕ, ◌+◌, ◌-◌};
+ghost use Rattle.std.specs.Prelude.{◌<◌, ◌^◌, ◌↔◌, ◌≡◌, ◌≤◌};
 
 use crate::refusals::{NET_BASE_DONE, NET_BASE_MISSING, NET_BASE_PRESENT, NET_BASE_REFUSED, NO_FRONT, NO_RUN};
 use crate::results::{FrontLength, front_length, presence_of, run_of, status_of};

@@ -6,14 +6,16 @@
 //! `receiver` is a receiver, whose calls that only look may be made on it.
 // Written by tools/ffi.py.
 ghost use Rattle.net_ffi.specs.ReceiverParts.{IsPlausible};
-ghost use Rattle.net_receiver.specs.Finite.{acknowledged, can_end, finite_after_read, has_read_all, is_complete, no_end};
+ghost use Rattle.net_receiver.specs.Finite.{acknowledged, can_end, finite_after_read, has_read_all, is_complete};
+ghost use Rattle.net_receiver.specs.Finite.{no_end};
 ghost use Rattle.net_receiver.specs.FiniteHead.{HasSoundFinite, finite_of, next_of};
 ghost use Rattle.net_receiver.specs.FiniteLaws.{ReceivesFinite};
 ghost use Rattle.net_receiver.specs.Head.{receiver_of};
 ghost use Rattle.net_receiver.specs.Segments.{new_count};
 ghost use Rattle.net_ring.specs.Ring.{queue};
 ghost use Rattle.net_ring.specs.RingHead.{IsSound as IsSoundPlace, ring_at};
-ghost use Rattle.std.specs.Prelude.{IsFalse, IsTrue, List, drop, if◌then◌else◌, length, min, slice_range, take, ℕ, ◌++◌, ◌+◌, ◌-◌, ◌<◌, ◌==◌, ◌^◌, ◌↔◌, ◌≡◌};
+ghost use Rattle.std.specs.Prelude.{IsFalse, IsTrue, List, drop, if◌then◌else◌, length, min, slice_range, take, ℕ};
+ghost use Rattle.std.specs.Prelude.{◌++◌, ◌+◌, ◌-◌, ◌<◌, ◌==◌, ◌^◌, ◌↔◌, ◌≡◌};
 
 use crate::finite_receiver::{has_number};
 use crate::receiver::{has_next, is_plausible};
@@ -43,7 +45,7 @@ pub extern "C" fn net_base_finite_receiver_is_sound(
 ///
 /// # Requires
 ///
-/// Head, storage and runs are sound, as `net_base_finite_receiver_is_sound` tests.
+/// Head and runs are sound, as `net_base_finite_receiver_is_sound` tests.
 #[unsafe(no_mangle)]
 pub extern "C" fn net_base_finite_receiver_can_end(
     receiver: &FiniteReceiverHead,
@@ -163,7 +165,7 @@ pub extern "C" fn net_base_finite_receiver_read(
 ///
 /// # Requires
 ///
-/// Head, storage and runs are sound, as `net_base_finite_receiver_is_sound` tests.
+/// Head and runs are sound, as `net_base_finite_receiver_is_sound` tests.
 #[unsafe(no_mangle)]
 pub extern "C" fn net_base_finite_receiver_count_new(
     receiver: &FiniteReceiverHead,

@@ -5,9 +5,11 @@
 //! Where bytes are tells `net_base_sender_peek_at` of `sender`.
 // Written by tools/ffi.py.
 ghost use Rattle.net_receiver.specs.Finite.{no_end};
-ghost use Rattle.net_receiver.specs.FiniteSender.{IsSoundFiniteSender, acknowledged_below, closed_sender, finite_room, finite_sender_of, has_end_at, with_bytes};
+ghost use Rattle.net_receiver.specs.FiniteSender.{IsSoundFiniteSender, acknowledged_below, closed_sender};
+ghost use Rattle.net_receiver.specs.FiniteSender.{finite_room, finite_sender_of, has_end_at, with_bytes};
 ghost use Rattle.net_receiver.specs.SenderState.{Sends};
-ghost use Rattle.std.specs.Prelude.{IsFalse, IsTrue, List, if◌then◌else◌, length, max, min, take, ℕ, ◌++◌, ◌+◌, ◌-◌, ◌==◌, ◌^◌, ◌↔◌, ◌≡◌, ◌≤◌};
+ghost use Rattle.std.specs.Prelude.{IsFalse, IsTrue, List, if◌then◌else◌, length, max, min, take, ℕ, ◌++◌, ◌+◌};
+ghost use Rattle.std.specs.Prelude.{◌-◌, ◌==◌, ◌^◌, ◌↔◌, ◌≡◌, ◌≤◌};
 
 use crate::refusals::{NET_BASE_MISSING, NET_BASE_NONE, NET_BASE_PRESENT, NET_BASE_REFUSED};
 use crate::results::{presence_of};

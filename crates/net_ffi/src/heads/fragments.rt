@@ -12,7 +12,8 @@ ghost use Rattle.net_base.specs.FragmentParts.{HasSoundParts, IsExact, IsPlausib
 ghost use Rattle.net_base.specs.Fragments.{DiffersFrom, Meets, with_fragment};
 ghost use Rattle.net_base.specs.declared.storage.fragments.FragmentError.TheVariants.{OtherSize, TooLong};
 ghost use Rattle.net_ffi.specs.Results.{IsStatus, done_or_error};
-ghost use Rattle.std.specs.Prelude.{Err, IsErr, IsTrue, List, OnErr, OnOk, length, ℕ, ◌+◌, ◌<ℤ◌, ◌<◌, ◌↔◌, ◌≡◌, ◌≤◌, ◌⊎◌};
+ghost use Rattle.std.specs.Prelude.{Err, IsErr, IsTrue, List, OnErr, OnOk, length, ℕ, ◌+◌, ◌<ℤ◌, ◌<◌, ◌↔◌, ◌≡◌};
+ghost use Rattle.std.specs.Prelude.{◌≤◌, ◌⊎◌};
 ghost use Rattle.std.specs.declared.option.Option.TheVariants.{None, Some};
 
 use crate::fragments::{is_plausible};
@@ -20,6 +21,20 @@ use crate::refusals::{NET_BASE_MISSING, NET_BASE_PRESENT, NET_BASE_REFUSED};
 use crate::results::{presence_of, status_of_fragment};
 use net_assembler::{Run};
 use net_base::storage::{FragmentsHead};
+
+/// Returns whether the head is that of a buffer of `capacity` bytes and of these runs. It looks at
+/// each run.
+#[unsafe(no_mangle)]
+pub extern "C" fn net_base_fragments_is_sound(
+    fragments: &FragmentsHead,
+    capacity: usize,
+    runs: &[Run],
+) -> bool
+    ensures { (storage : List ℕ) → length storage ≡ capacity → (IsTrue result ↔ HasSoundParts fragments.now storage
+        runs.now) }
+{
+    fragments.is_sound(capacity, runs)
+}
 
 /// Starts over for a packet that is waited for up to `expires_at`, in microseconds. No head is
 /// refused: this makes one sound for any memory.
@@ -47,7 +62,7 @@ pub extern "C" fn net_base_fragments_reset(fragments: &mut FragmentsHead, expire
 ///
 /// # Requires
 ///
-/// Head and runs of `present` are sound, as `net_base_assembler_is_sound` tests.
+/// Head and runs are sound, as `net_base_fragments_is_sound` tests.
 #[unsafe(no_mangle)]
 pub extern "C" fn net_base_fragments_add(
     fragments: &mut FragmentsHead,
@@ -118,7 +133,7 @@ pub extern "C" fn net_base_fragments_set_total_size(
 ///
 /// # Requires
 ///
-/// Head and runs of `present` are sound, as `net_base_assembler_is_sound` tests.
+/// Head and runs are sound, as `net_base_fragments_is_sound` tests.
 #[unsafe(no_mangle)]
 pub extern "C" fn net_base_fragments_overlaps(
     fragments: &FragmentsHead,

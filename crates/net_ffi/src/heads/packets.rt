@@ -5,10 +5,12 @@
 //! one more. `enqueue`, `dequeue`, `peek` and `shorten_last` take the slots, which `enqueue` and
 //! `shorten_last` write; `take_slot` takes one. What is refused changes nothing.
 // Written by tools/ffi.py.
-ghost use Rattle.net_packets.specs.HeadQueue.{HasSoundSlots};
-ghost use Rattle.net_packets.specs.PacketsHead.{packets_head};
+ghost use Rattle.net_packets.specs.HeadQueue.{CanShorten, HasSoundSlots, last_slot, last_slot_index, packet_slot};
+ghost use Rattle.net_packets.specs.HeadQueue.{queue_of};
+ghost use Rattle.net_packets.specs.Packets.{with_last_size};
+ghost use Rattle.net_packets.specs.PacketsHead.{IsSoundHead, packets_head};
 ghost use Rattle.net_ring.specs.RingHead.{place};
-ghost use Rattle.std.specs.Prelude.{IsTrue, ◌↔◌, ◌≡◌};
+ghost use Rattle.std.specs.Prelude.{IsFalse, IsTrue, List, length, set, ℕ, ◌-◌, ◌↔◌, ◌≡◌};
 
 use net_packets::{PacketSlot, PacketsHead};
 
@@ -33,4 +35,41 @@ pub extern "C" fn net_base_packets_clear(packets: &mut PacketsHead)
     ensures { packets.new ≡ packets_head (place 0 0) (place 0 0) }
 {
     packets.clear();
+}
+
+/// Takes the last `count` bytes off the last packet, lowers the size in its slot, and returns true;
+/// false, and nothing changes, if no slot is in use, if the last one is a gap's, or if its size is
+/// below `count` or above the number of bytes in use. It is for a caller that wrote fewer bytes
+/// than it placed.
+///
+/// It is refused if `packets` isn't that of a queue of `slots.len()` slots and `capacity` bytes:
+/// false, and nothing changes.
+#[unsafe(no_mangle)]
+pub extern "C" fn net_base_packets_shorten_last(
+    packets: &mut PacketsHead,
+    slots: &mut [PacketSlot],
+    capacity: usize,
+    count: usize,
+) -> bool
+    ensures done { IsSoundHead (length slots.old) capacity packets.old → (IsTrue result ↔ CanShorten packets.old
+        (last_slot packets.old slots.old) count) }
+    ensures head { IsTrue result → (packets.new.slots ≡ packets.old.slots) × (packets.new.bytes ≡ place
+        packets.old.bytes.read_at (packets.old.bytes.length - count)) }
+    ensures slots { IsTrue result → slots.new ≡ set slots.old (last_slot_index packets.old slots.old) (packet_slot
+        ((last_slot packets.old slots.old).size - count)) }
+    ensures unchanged { IsFalse result → (packets.new ≡ packets.old) × (slots.new ≡ slots.old) }
+    ensures sound { IsSoundHead (length slots.old) capacity packets.old → IsSoundHead (length slots.old) capacity
+        packets.new }
+    ensures sound_slots { IsSoundHead (length slots.old) capacity packets.old → HasSoundSlots capacity packets.old
+        slots.old → HasSoundSlots capacity packets.new slots.new }
+    ensures state { IsTrue result → (xs : List ℕ) → length xs ≡ capacity → HasSoundSlots capacity packets.old
+        slots.old → queue_of packets.new slots.new xs ≡ with_last_size ((last_slot packets.old slots.old).size -
+        count) (queue_of packets.old slots.old xs) }
+    ensures refused { (IsSoundHead (length slots.old) capacity packets.old → ⊥) → (IsFalse result) × (packets.new ≡
+        packets.old) × (slots.new ≡ slots.old) }
+{
+    if !packets.is_sound(slots.len(), capacity) {
+        return false;
+    }
+    packets.shorten_last_in(slots, capacity, count)
 }

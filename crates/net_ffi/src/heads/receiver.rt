@@ -14,7 +14,8 @@ ghost use Rattle.net_receiver.specs.Rules.{Read, ReadReply};
 ghost use Rattle.net_receiver.specs.Segments.{new_count};
 ghost use Rattle.net_ring.specs.Ring.{queue};
 ghost use Rattle.net_ring.specs.RingHead.{IsSound as IsSoundPlace, ring_at};
-ghost use Rattle.std.specs.Prelude.{IsFalse, IsTrue, List, drop, length, min, slice_range, take, ℕ, ◌++◌, ◌+◌, ◌-◌, ◌<◌, ◌^◌, ◌↔◌, ◌∷◌, ◌≡◌, ◌≤◌};
+ghost use Rattle.std.specs.Prelude.{IsFalse, IsTrue, List, drop, length, min, slice_range, take, ℕ, ◌++◌, ◌+◌, ◌-◌};
+ghost use Rattle.std.specs.Prelude.{◌<◌, ◌^◌, ◌↔◌, ◌∷◌, ◌≡◌, ◌≤◌};
 
 use crate::receiver::{has_next, is_plausible};
 use crate::refusals::{NET_BASE_NONE};
@@ -193,7 +194,7 @@ pub extern "C" fn net_base_receiver_remove(
 ///
 /// # Requires
 ///
-/// Head, storage and runs are sound, as `net_base_receiver_is_sound` tests.
+/// Head and runs are sound, as `net_base_receiver_is_sound` tests.
 #[unsafe(no_mangle)]
 pub extern "C" fn net_base_receiver_newest_runs(
     receiver: &ReceiverHead,
@@ -234,7 +235,7 @@ pub extern "C" fn net_base_receiver_newest_runs(
 ///
 /// # Requires
 ///
-/// Head, storage and runs are sound, as `net_base_receiver_is_sound` tests.
+/// Head and runs are sound, as `net_base_receiver_is_sound` tests.
 #[unsafe(no_mangle)]
 pub extern "C" fn net_base_receiver_count_new(
     receiver: &ReceiverHead,

@@ -5,8 +5,10 @@
 //! is 0 if the capacity is.
 // Written by tools/ffi.py.
 ghost use Rattle.net_ffi.specs.Refusals.{nowhere};
-ghost use Rattle.net_ring.specs.Ring.{Dequeues, Enqueues, WritesSpare, queue, rewind_if_empty, spare_index, window, with_dequeued, with_elements_wrapping, with_enqueued, write_at};
-ghost use Rattle.net_ring.specs.RingHead.{IsSound, IsWithin, dequeued_place, enqueued_place, free_index, place as place_of, queued_index, rewound, ring_at};
+ghost use Rattle.net_ring.specs.Ring.{Dequeues, Enqueues, WritesSpare, queue, rewind_if_empty, spare_index, window};
+ghost use Rattle.net_ring.specs.Ring.{with_dequeued, with_elements_wrapping, with_enqueued, write_at};
+ghost use Rattle.net_ring.specs.RingHead.{IsSound, IsWithin, dequeued_place, enqueued_place, free_index};
+ghost use Rattle.net_ring.specs.RingHead.{place as place_of, queued_index, rewound, ring_at};
 ghost use Rattle.std.specs.Prelude.{IsFalse, IsTrue, drop, length, min, take, ℕ, ◌++◌, ◌+◌, ◌-◌, ◌^◌, ◌↔◌, ◌≡◌, ◌≤◌};
 
 use crate::refusals::{NET_BASE_NONE, NO_SPAN};

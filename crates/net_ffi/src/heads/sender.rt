@@ -10,7 +10,8 @@ ghost use Rattle.net_receiver.specs.SenderHeads.{IsSoundHead, sender_of};
 ghost use Rattle.net_receiver.specs.SenderState.{Sends, contiguous_end, room_of, sender_from, with_written};
 ghost use Rattle.net_ring.specs.Ring.{queue, rewind_if_empty, with_elements_wrapping, with_enqueued, write_at};
 ghost use Rattle.net_ring.specs.RingHead.{dequeued_place, queued_index, ring_at};
-ghost use Rattle.std.specs.Prelude.{IsFalse, IsTrue, List, drop, length, max, min, take, ℕ, ◌++◌, ◌+◌, ◌-◌, ◌<◌, ◌^◌, ◌↔◌, ◌≡◌, ◌≤◌};
+ghost use Rattle.std.specs.Prelude.{IsFalse, IsTrue, List, drop, length, max, min, take, ℕ, ◌++◌, ◌+◌, ◌-◌, ◌<◌};
+ghost use Rattle.std.specs.Prelude.{◌^◌, ◌↔◌, ◌≡◌, ◌≤◌};
 
 use crate::refusals::{NET_BASE_NONE, NO_SPAN};
 use net_receiver::{SenderHead};
