@@ -172,7 +172,7 @@ fn losses_are_found_in_time() {
     assert_eq!(places(&talk.wait(0)), [(1, 1000), (2001, 1000)]);
     // A block of what was never sent, one that ends before it begins, and one that begins at the
     // acknowledged number, report nothing.
-    let mut talk = self::talk(10_000);
+    let mut talk = self::talk(20_000);
     assert_eq!(talk.wait(0).len(), 10);
     talk.say(&peer(0, 1).report(&[(1001, 10_002), (9_001, 2_001), (1, 10_001)]));
     assert_eq!(talk.wait(0), []);
