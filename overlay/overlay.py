@@ -96,8 +96,10 @@ def check(root):
         sys.exit(f"{root} has no Cargo.toml of smoltcp")
     if facts.get("version") != VERSION:
         sys.exit(f"{root} is smoltcp {facts.get('version')}, and not {VERSION}")
-    if (root / SAVED).exists() or (root / "src/proved").exists():
+    if (root / SAVED).exists():
         sys.exit(f"{root} has an overlay already; --undo takes it off")
+    if (root / "src/proved").exists():
+        sys.exit(f"{root} has a folder src/proved already")
     edited = [name for name, is_so in DIGESTS.items() if digest(parts(read(root / name))[0].encode()) != is_so]
     if edited:
         sys.exit(f"{root} isn't as smoltcp {VERSION} was released: {', '.join(edited)}")

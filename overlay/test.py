@@ -135,6 +135,8 @@ class Tests:
             self.made(checkout, "--undo")
             if tree(checkout) != before or (checkout / "src/proved").exists():
                 stop("--undo doesn't give back what was there")
+        (checkout / "src/proved").mkdir()
+        self.refused("has a folder src/proved", [checkout])
         self.refused("checkout exists", [original, "--into", checkout])
         self.refused("has no Cargo.toml of smoltcp", [self.folder / "none"])
         self.refused("has no Cargo.toml of smoltcp", [self.folder / "vendor/managed"])
