@@ -5,7 +5,8 @@ use net_base::rand::Rand;
 use crate::peer::*;
 use crate::tcp::State;
 
-const RUNS: u32 = 1_000;
+/// Fewer where the processor may be emulated.
+const RUNS: u32 = if cfg!(target_pointer_width = "64") { 1_000 } else { 50 };
 const STEPS: u32 = 200;
 
 fn byte(stream: usize, at: i64) -> u8 {

@@ -115,12 +115,16 @@ fn handshakes() {
     assert_eq!((first.option(3), first.option(4)), (Some(&[5][..]), Some(&[][..])));
     // Neither a reset nor a SYN that acknowledges another number, nor one that acknowledges none.
     let answer = Packet { acknowledged: INITIAL.wrapping_add(1), ..syn(OPTIONS).with(ACK) };
+    let answer = answer.window(100);
     let other = Packet { acknowledged: INITIAL, ..answer.clone() };
     for packet in [other.clone(), other.with(RST), Packet { flags: RST, ..answer.clone() }] {
         assert_eq!((talk.say(&packet), talk.endpoint.state), (vec![], State::Opening(false)));
     }
     assert_eq!(challenge(&talk.say(&answer), 0).at(), 0);
     assert_eq!(talk.endpoint.state, State::Open);
+    // The window of a SYN has no scale.
+    assert_eq!(talk.endpoint.sender.write(&[5; 1_000]), 1_000);
+    assert_eq!(talk.wait(0)[0].payload, [5; 100]);
     let mut talk = Talk::<4>::new(false, 100);
     talk.say(&Packet { flags: RST | ACK, ..answer });
     assert_eq!(talk.endpoint.state, State::Reset);

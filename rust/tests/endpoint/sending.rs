@@ -202,13 +202,13 @@ fn congestion() {
     talk.say(&peer(0, 1).report(&[(1001, 2001), (3001, 6001)]));
     assert_eq!(places(&talk.wait(0)), [(1, 1000)]);
     talk.say(&peer(0, 10_001));
-    assert_eq!(talk.wait(0).len(), 5);
-    talk.say(&peer(0, 15_001));
     assert_eq!(talk.wait(0).len(), 6);
-    talk.say(&peer(0, 15_001).report(&[(16_001, 19_001)]));
-    assert_eq!(places(&talk.wait(0)), [(15_001, 1000)]);
-    talk.say(&peer(0, 21_001));
-    assert_eq!(talk.wait(0).len(), 3);
+    talk.say(&peer(0, 16_001));
+    assert_eq!(talk.wait(0).len(), 7);
+    talk.say(&peer(0, 16_001).report(&[(17_001, 20_001)]));
+    assert_eq!(places(&talk.wait(0)), [(16_001, 1000)]);
+    talk.say(&peer(0, 23_001));
+    assert_eq!(talk.wait(0).len(), 4);
 }
 
 #[test]
