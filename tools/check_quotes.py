@@ -36,7 +36,7 @@ ELSEWHERE = set("""
     Gone FitsInMemory ManuallyDrop new_unchecked NonZero WouldBlock must_use non_exhaustive
     pad_integral styled write_char plant tidy my_crate directory logic dac8208d650f15bf
     axioms trusted nat nano compiler_builtins defmt Format Clinker iproute2 util my my_program CAUSE DATA END MODULE PATH dev null poll_at start_lib BUILD bazel
-    __builtin_add_overflow mtu Tag_ABI_VFP_args compatible softfp
+    __builtin_add_overflow int32_t mtu Tag_ABI_VFP_args compatible softfp
     c.storage-1.given
 """.split())
 NAME = re.compile(r"[A-Za-z_][A-Za-z0-9_]*")
@@ -181,7 +181,8 @@ def is_there(page, span):
         return any("out" not in path.parts for path in ROOT.glob(f"**/{span}"))
     if not re.fullmatch(r"[\w./]+/[\w.]+" + kinds, span) or re.search(r"\b[A-Z]{4}", span):
         return True
-    places = [ROOT, ROOT / "crates", page.parent, *page.parent.glob("*"), *ROOT.glob("crates/*")]
+    crates = [*ROOT.glob("crates/*"), *ROOT.glob("rust/src/proved/*")]
+    places = [ROOT, ROOT / "crates", page.parent, *page.parent.glob("*"), *crates]
     return any((place / span).is_file() for place in places)
 
 
