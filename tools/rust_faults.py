@@ -41,7 +41,7 @@ def failing(crate, target, *words):
         return ["a test that doesn't end"]
     if "could not compile" in done.stderr:
         return ["the compiler"]
-    return sorted(set(re.findall(r"`(?:--test )?([\w-]+)`$", done.stderr, re.M))) if done.returncode else []
+    return sorted(set(re.findall(r"(?:^ +|rerun pass )`--(?:test )?(\w+)`$", done.stderr, re.M))) if done.returncode else []
 
 
 def test(crate, target):
