@@ -1,3 +1,2 @@
-
 pub mod FrameFacts
 pub mod SocketFacts

@@ -2,10 +2,10 @@
 ghost use Rattle.std.specs.Prelude.{◌≡◌, ◌≤◌, ◌↔◌, ◌++◌, length, take, drop, min, IfSome, IfNone};
 ghost use Rattle.std.specs.Prelude.{IsSome};
 
-use net_packets::{PacketBuffer, PacketMetadata};
-use net_ring::{Empty, ManagedSlice};
 use crate::endpoint::Endpoint;
 use crate::udp_socket::UdpSocket;
+use net_packets::{PacketBuffer, PacketMetadata};
+use net_ring::{Empty, ManagedSlice};
 
 /// Passes a datagram through a socket over arrays, and copies as much of it as `into` has room for.
 /// Returns how many bytes that is, or `None` exactly if the datagram has more than the 64 bytes

@@ -4,8 +4,8 @@ ghost use Rattle.net_examples.specs.declared.endpoint.Endpoint.{Endpoint};
 ghost use Rattle.net_examples.specs.Datagrams.{outbound_datagrams};
 
 use crate::send_frame::send_bytes;
-use net_base::phy::Loopback;
 use crate::udp_socket::UdpSocket;
+use net_base::phy::Loopback;
 use std::alloc::{AllocError, Allocator};
 
 /// Sends the first datagram to be sent as one frame, by way of `buffer`: as many of its bytes as that

@@ -1,7 +1,7 @@
 //! Packets that arrive in fragments.
 use crate::base::assertions::assert_holds;
-use net_base::time::Instant;
 use net_base::storage::{FragmentError, FragmentsOver};
+use net_base::time::Instant;
 
 /// A call on a packet, and its expected result.
 #[derive(Drop)]

@@ -1,6 +1,8 @@
 //! Packets of three sources in two slots.
 use crate::base::assertions::assert_holds;
-use net_base::storage::fragments::table::{FragmentSlot, claim, find, remove_expired, take_complete};
+use net_base::storage::fragments::table::{
+    FragmentSlot, claim, find, remove_expired, take_complete,
+};
 use net_base::time::Instant;
 
 /// A slot over four bytes.

@@ -2,10 +2,9 @@
 
 use crate::examples::devices::is_next;
 use net_base::phy::{Loopback, Medium};
-use net_examples::{pass_through, send_datagram};
+use net_examples::{Endpoint, UdpSocket, pass_through, send_datagram};
 use net_packets::{PacketBuffer, PacketMetadata};
 use net_ring::ManagedSlice;
-use net_examples::{Endpoint, UdpSocket};
 
 #[test]
 fn a_datagram_passes(rt: HostRuntime) {

@@ -3,10 +3,10 @@
 use net_base::phy::{Device, Loopback, Medium, RxToken};
 use net_base::time::Instant;
 use net_examples::{
-    Counted, Descriptor, DescriptorRings, FRAME_SIZE, Undamaged, bounce, send_bytes, send_now,
+    Counted, Descriptor, DescriptorRings, FRAME_SIZE, Undamaged, bounce, forward_lists, send_bytes,
+    send_now,
 };
 use net_ring::{ManagedSlice, RingBuffer};
-use net_examples::forward_lists;
 use std::alloc::AllocError;
 
 #[test]

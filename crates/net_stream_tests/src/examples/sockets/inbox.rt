@@ -1,8 +1,8 @@
 //! A datagram that is shown in place.
 use crate::examples::sockets::assertions::assert_holds;
+use net_examples::{Endpoint, Inbox};
 use net_packets::{PacketMetadata, PacketsOver};
 use net_ring::Empty;
-use net_examples::{Endpoint, Inbox};
 
 /// Returns whether an inbox shows this datagram as its first.
 fn shows(

@@ -1,10 +1,10 @@
 //! Each type that holds storage, as a local over lent and over owned storage.
 use crate::examples::sockets::assertions::assert_holds;
+use net_base::storage::FragmentBuffer;
 use net_base::time::Instant;
+use net_examples::{Endpoint, Inbox, UdpSocket};
 use net_packets::{PacketBuffer, PacketMetadata};
 use net_ring::{ManagedSlice, RingBuffer};
-use net_base::storage::FragmentBuffer;
-use net_examples::{Endpoint, Inbox, UdpSocket};
 use std::alloc::{AllocError, Global};
 use std::test::Fail;
 

@@ -1,8 +1,8 @@
 //! Datagrams that are sent and received.
 use crate::examples::sockets::assertions::assert_holds;
+use net_examples::{Endpoint, UdpSocket};
 use net_packets::{PacketBuffer, PacketMetadata};
 use net_ring::{Empty, ManagedSlice};
-use net_examples::{Endpoint, UdpSocket};
 use std::cell::Cell;
 
 /// Where datagrams come from.
