@@ -1,9 +1,10 @@
 //! Types that begin again, or give their storage back; and calls of streams that end.
-use net_base::finite::{FiniteReceiver, FiniteSender};
+use net_base::finite::{FiniteReceiver, FiniteReceiverOver, FiniteSender, FiniteSenderOver};
 use net_base::managed::ManagedSlice;
-use net_base::receiver::Receiver;
+use net_base::receiver::{Receiver, ReceiverOver};
 use net_base::scoreboard::Scoreboard;
-use net_base::sender::Sender;
+use net_base::sender::{Sender, SenderOver};
+use net_base::storage::fragment_table::{find_free, FragmentSlot};
 use net_base::storage::FragmentBuffer;
 use net_base::tcp::RetransmissionTimeout;
 use net_base::time::Instant;
@@ -82,4 +83,31 @@ fn a_scoreboard_and_a_buffer_of_fragments() {
     assert!(buffer.add(3, b"d").is_ok());
     assert_eq!(length(buffer.into_storage()), 8);
     assert!(RetransmissionTimeout::new(1_000_000).is_small());
+}
+
+#[test]
+fn types_over_any_storage() {
+    let (mut first, mut second, mut third, mut fourth) = ([0; 2], [0; 2], [0; 2], [0; 2]);
+    let mut receiver = ReceiverOver::<_, 1>::over(&mut first[..]);
+    assert!(receiver.segment(1, b"b").is_ok());
+    assert!(receiver.has_all_below(2) && !receiver.has_all_below(1));
+    let mut finite = FiniteReceiverOver::<_, 1>::over(&mut second[..]);
+    assert!(finite.segment(0, b"a", true).is_ok() && finite.is_complete());
+    assert_eq!(SenderOver::over(&mut third[..]).write(b"abc"), 2);
+    assert_eq!(FiniteSenderOver::over(&mut fourth[..]).write(b"abc"), 2);
+}
+
+#[test]
+fn a_slot_of_a_table_of_fragments() {
+    let (mut first, mut second) = ([0; 4], [0; 4]);
+    let mut slots: [FragmentSlot<u8, &mut [u8], 1>; 2] =
+        [FragmentSlot::over(&mut first[..]), FragmentSlot::over(&mut second[..])];
+    assert_eq!(find_free(&slots), Some(0));
+    slots[0].begin(7, Instant::from_micros(20));
+    assert!(slots[0].is_for(7) && !slots[0].is_for(8));
+    assert_eq!(find_free(&slots), Some(1));
+    slots[0].expire(Instant::from_micros(20));
+    assert!(slots[0].is_for(7));
+    slots[0].expire(Instant::from_micros(21));
+    assert_eq!(find_free(&slots), Some(0));
 }

@@ -2,6 +2,7 @@
 
 mod assertions;
 mod finite;
+mod heads;
 mod newest;
 mod parts;
 mod receiver;
