@@ -223,7 +223,10 @@ impl<const N: usize> Talk<N> {
     pub fn wait(&mut self, micros: u64) -> Vec<Packet> {
         self.now += Duration::from_micros(micros);
         let mut said = vec![];
-        self.endpoint.send(self.now, &mut |bytes: &[u8]| said.push(Packet::read(bytes)));
+        self.endpoint.send(self.now, &mut |bytes: &[u8]| {
+            assert!(said.len() < 10_000, "it never stops");
+            said.push(Packet::read(bytes));
+        });
         said
     }
 

@@ -207,6 +207,8 @@ fn congestion() {
     assert_eq!(talk.wait(0).len(), 7);
     talk.say(&peer(0, 16_001).report(&[(17_001, 20_001)]));
     assert_eq!(places(&talk.wait(0)), [(16_001, 1000)]);
+    talk.say(&peer(0, 20_001));
+    assert_eq!(talk.wait(0), []);
     talk.say(&peer(0, 23_001));
     assert_eq!(talk.wait(0).len(), 4);
 }
