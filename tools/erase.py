@@ -265,16 +265,17 @@ def erased(said):
     public = set(re.findall(r'\w+', ' '.join(re.findall(r'pub use crate::proved([^;]*);', layer))))
     names, contracts = ('contracts', *given.CRATES), []
     files = {OUT / 'mod.rs': TOP + ''.join(f'pub mod {name};\n' for name in names)}
-    unused = {old for pairs in given.REPLACED.values() for old, _ in pairs} | given.UNGUARDED.keys()
+    unused = {old for _, old, _ in given.REPLACED} | given.UNGUARDED.keys()
     for crate, omitted in given.CRATES.items():
         source = REPOSITORY / 'crates' / crate / 'src'
         for path in sorted(file.relative_to(source) for file in source.rglob('*.rt')):
             if {LAWS, *omitted} & set(path.with_suffix('').parts):
                 continue
             text = (source / path).read_text()
-            for old, new in given.REPLACED.get('', []) + given.REPLACED.get(f'{crate}/{path}', []):
-                unused -= {old} if old in text else set()
-                text = text.replace(old, new)
+            for file, old, new in given.REPLACED:
+                if file in ('', f'{crate}/{path}') and old in text:
+                    unused -= {old}
+                    text = text.replace(old, new)
             try:
                 eraser = Eraser(text, crate, public, given.UNGUARDED, given.INTO)
                 text = eraser.run()

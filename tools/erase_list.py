@@ -39,70 +39,45 @@ UNGUARDED = {
     'PacketsOver::dequeue_with': CLOSURE,
 }
 
-# For all files, or for one, what differs: an old text, which occurs there, and the new one.
-REPLACED = {
-    '': [
-        ('fn fmt<W: fmt::Write>(&self, f: &mut fmt::Formatter<W>)', "fn fmt(&self, f: &mut fmt::Formatter<'_>)"),
-        (', const N: usize> =', ', const N: usize = 4> ='),
-        ('KeptBytes', 'Kept'),
-        ('fn keep(&mut self, pos: u64, bytes: &[u8]', 'fn segment(&mut self, pos: u64, bytes: &[u8]'),
-        ('.keep(pos, ', '.segment(pos, '),
-    ],
-    'net_ring/managed.rt': [
-        ('&self.as_slice()[', '&self['),
-        ('.slice_mut(', '.index_mut('),
-    ],
-    'net_ring/ring_buffer.rt': [
-        ('#[derive(Debug)]\npub struct RingOver', 'pub struct RingOver'),
-    ],
-    'net_ring/ring_buffer/one.rt': [
-        ('_with<R, E, F: FnOnce(&mut T) -> Result<R, E>>(\n        &mut self,',
-         "_with<'b, R, E, F: FnOnce(&'b mut T) -> Result<R, E>>(\n        &'b mut self,"),
-    ],
-    'net_ring/ring_buffer/many.rt': [
-        ('_with<R, F: FnOnce(&mut [T]) -> (usize, R)>(&mut self,',
-         "_with<'b, R, F: FnOnce(&'b mut [T]) -> (usize, R)>(&'b mut self,"),
-    ],
-    'net_packets/packet_buffer.rt': [
-        ('#[derive(Debug, Drop)]\npub struct PacketsOver', 'pub struct PacketsOver'),
-    ],
-    'net_packets/packet_buffer/closures.rt': [
-        ('_infallible<F: FnOnce(&mut [u8]) -> usize>(\n        &mut self,',
-         "_infallible<'b, F: FnOnce(&'b mut [u8]) -> usize>(\n        &'b mut self,"),
-        ('dequeue_with<R, E, F: FnOnce(&mut H, &mut [u8]) -> Result<R, E>>(\n        &mut self,',
-         "dequeue_with<'c, R, E, F: FnOnce(&mut H, &'c mut [u8]) -> Result<R, E>>(\n        &'c mut self,"),
-        # The header stays in its slot, so that the packet stays if the closure panics.
-        ('        let Some((size, mut header)) = lift_header(&mut self.slots, at) else {\n            return Err(Empty);\n'
-         '        };\n        let slot_count = self.slots.count();\n        let capacity = self.bytes.count();\n',
-         '        let slot_count = self.slots.count();\n        let capacity = self.bytes.count();\n'
-         '        let slot = self.slots.element_mut(at);\n        let size = slot.size;\n'
-         '        let Some(header) = slot.header.as_mut() else {\n            return Err(Empty);\n        };\n'),
-        ('f(&mut header, ', 'f(header, '),
-        ('} else {\n            put_header(&mut self.slots, at, size, header);\n        }', '}'),
-    ],
-    'net_assembler/assembler.rt': [
-        ('#[derive(Debug, Drop)]\npub struct Assembler<const N: usize> {',
-         '#[derive(Clone)]\npub struct Assembler<const N: usize = 4> {'),
-    ],
-    'net_base/phy.rt': [
-        ('pub use non_zero_u16::NonZeroU16;', 'pub use std::num::NonZeroU16;'),
-        ('pub use non_zero_usize::NonZeroUsize;', 'pub use std::num::NonZeroUsize;'),
-    ],
-    'net_base/phy/packet_meta.rt': [
-        ('pub struct PacketMeta', '#[non_exhaustive]\npub struct PacketMeta'),
-        ('    pub segmentation_offload_size', '    #[cfg(feature = "segmentation-offload")]\n    pub segmentation_offload_size'),
-        ('use crate::phy::NonZeroU16;', '#[cfg(feature = "segmentation-offload")]\nuse crate::phy::NonZeroU16;'),
-    ],
-    'net_base/phy/checksum_capabilities.rt': [
-        ('pub struct ChecksumCapabilities', '#[non_exhaustive]\npub struct ChecksumCapabilities'),
-    ],
-    'net_base/phy/device_capabilities.rt': [
-        ('pub struct DeviceCapabilities', '#[non_exhaustive]\npub struct DeviceCapabilities'),
-    ],
-    'net_receiver/lib.rt': [
-        ('Kept, Kept,', 'Kept,'),
-    ],
-    'net_receiver/receiver/newest.rt': [
-        ('fn newest<', 'fn newest_runs<'),
-    ],
-}
+# A file, or nothing for all; an old text, which occurs there; the new one.
+REPLACED = [
+    ('', 'fn fmt<W: fmt::Write>(&self, f: &mut fmt::Formatter<W>)', "fn fmt(&self, f: &mut fmt::Formatter<'_>)"),
+    ('', ', const N: usize> =', ', const N: usize = 4> ='),
+    ('', 'KeptBytes', 'Kept'),
+    ('', 'fn keep(&mut self, pos: u64, bytes: &[u8]', 'fn segment(&mut self, pos: u64, bytes: &[u8]'),
+    ('', '.keep(pos, ', '.segment(pos, '),
+    ('net_ring/managed.rt', '&self.as_slice()[', '&self['),
+    ('net_ring/managed.rt', '.slice_mut(', '.index_mut('),
+    ('net_ring/ring_buffer.rt', '#[derive(Debug)]\npub struct RingOver', 'pub struct RingOver'),
+    ('net_ring/ring_buffer/one.rt', '_with<R, E, F: FnOnce(&mut T) -> Result<R, E>>(\n        &mut self,',
+     "_with<'b, R, E, F: FnOnce(&'b mut T) -> Result<R, E>>(\n        &'b mut self,"),
+    ('net_ring/ring_buffer/many.rt', '_with<R, F: FnOnce(&mut [T]) -> (usize, R)>(&mut self,',
+     "_with<'b, R, F: FnOnce(&'b mut [T]) -> (usize, R)>(&'b mut self,"),
+    ('net_packets/packet_buffer.rt', '#[derive(Debug, Drop)]\npub struct PacketsOver', 'pub struct PacketsOver'),
+    ('net_packets/packet_buffer/closures.rt', '_infallible<F: FnOnce(&mut [u8]) -> usize>(\n        &mut self,',
+     "_infallible<'b, F: FnOnce(&'b mut [u8]) -> usize>(\n        &'b mut self,"),
+    ('net_packets/packet_buffer/closures.rt',
+     'dequeue_with<R, E, F: FnOnce(&mut H, &mut [u8]) -> Result<R, E>>(\n        &mut self,',
+     "dequeue_with<'c, R, E, F: FnOnce(&mut H, &'c mut [u8]) -> Result<R, E>>(\n        &'c mut self,"),
+    # The header stays in its slot, so that the packet stays if the closure panics.
+    ('net_packets/packet_buffer/closures.rt',
+     '        let Some((size, mut header)) = lift_header(&mut self.slots, at) else {\n'
+     '            return Err(Empty);\n        };\n        let slot_count = self.slots.count();\n'
+     '        let capacity = self.bytes.count();\n',
+     '        let slot_count = self.slots.count();\n        let capacity = self.bytes.count();\n'
+     '        let slot = self.slots.element_mut(at);\n        let size = slot.size;\n'
+     '        let Some(header) = slot.header.as_mut() else {\n            return Err(Empty);\n        };\n'),
+    ('net_packets/packet_buffer/closures.rt', 'f(&mut header, ', 'f(header, '),
+    ('net_packets/packet_buffer/closures.rt',
+     '} else {\n            put_header(&mut self.slots, at, size, header);\n        }', '}'),
+    ('net_assembler/assembler.rt', '#[derive(Debug, Drop)]\npub struct Assembler<const N: usize> {',
+     '#[derive(Clone)]\npub struct Assembler<const N: usize = 4> {'),
+    ('net_base/phy.rt', 'pub use non_zero_u16::NonZeroU16;', 'pub use std::num::NonZeroU16;'),
+    ('net_base/phy.rt', 'pub use non_zero_usize::NonZeroUsize;', 'pub use std::num::NonZeroUsize;'),
+    ('net_base/phy/packet_meta.rt', 'pub struct PacketMeta', '#[non_exhaustive]\npub struct PacketMeta'),
+    ('net_base/phy/packet_meta.rt', '    pub seg', '    #[cfg(feature = "segmentation-offload")]\n    pub seg'),
+    ('net_base/phy/checksum_capabilities.rt', 'pub struct Che', '#[non_exhaustive]\npub struct Che'),
+    ('net_base/phy/device_capabilities.rt', 'pub struct Dev', '#[non_exhaustive]\npub struct Dev'),
+    ('net_receiver/lib.rt', 'Kept, Kept,', 'Kept,'),
+    ('net_receiver/receiver/newest.rt', 'fn newest<', 'fn newest_runs<'),
+]

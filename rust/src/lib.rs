@@ -1,12 +1,11 @@
-//! smoltcp's `storage`, `time`, `phy` and `rand` as proved text that rustc compiles: no heap, no `unsafe`, no C
-//! library, no dependencies.
+//! smoltcp's `storage`, `time`, `phy` and `rand` as proved text that rustc compiles: no heap, no `unsafe`, no
+//! dependencies.
 //!
-//! Names, signatures and behaviour are those of [smoltcp](https://github.com/smoltcp-rs/smoltcp)
-//! 0.14.0, except where a page of this repository, `docs/FFI.md`, or an item here says
-//! otherwise. Beyond smoltcp there are [`receiver::Receiver`], which joins segments that come in any
-//! order to a stream, [`sender::Sender`], which stores bytes until they are acknowledged,
-//! [`scoreboard::Scoreboard`], which says what to send again, [`sequence_number::SequenceNumber`], TCP's
-//! numbers that wrap, and [`storage::Assembler`]s of any number of runs.
+//! Names, signatures and behaviour are those of [smoltcp](https://github.com/smoltcp-rs/smoltcp) 0.14.0, except where an
+//! item says otherwise. Beyond smoltcp there are [`receiver::Receiver`], which joins segments that come in any order to a
+//! stream, [`sender::Sender`], which stores bytes until they are acknowledged, the same for streams that end
+//! ([`finite`]), [`scoreboard::Scoreboard`], which says what to send again, [`sequence_number::SequenceNumber`], TCP's
+//! numbers that wrap, the small machines of [`tcp`], and [`storage::Assembler`]s of any number of runs.
 //!
 //! ```
 //! use net_base::receiver::Receiver;
@@ -22,21 +21,22 @@
 //!
 //! # What is proved
 //!
-//! The modules in `src/proved` are the repository's `crates`, written in Rattle: Rust in which functions have contracts,
-//! and a prover shows for every input that a body meets its contract. `erase.py` takes the contracts out, and leaves them
-//! in the documentation, as the section "Contract" of a function. What a contract requires of a caller is tested here: an
-//! `assert!` of the erased text is a `prove!` of Rattle's, which is shown never to fail if the contract is kept.
+//! All but what is by hand is written in Rattle, Rust in which functions have contracts: a prover shows for all arguments
+//! that a body meets its contract. Then the contracts are taken out, and left in the documentation, as the section
+//! "Contract" of a function; [`contracts`] explains their words. What a contract requires of a caller is tested: a call
+//! that breaks it panics, and says where. In Rattle such a test is shown never to fail if the contract is kept.
 //!
 //! # What isn't
 //!
-//! The eraser and rustc; what is written by hand in the modules beside `proved`: conversions of storage, `Debug`, closures
-//! that keep what they are lent, `Sender`, `Scoreboard`, the traits and devices of [`phy`]; the few pieces that
-//! `replaced.txt` lists; and that a `usize` has 64 bits, as the prover takes it: on 32 bits the text is only tested.
+//! The compiler; what is printed, and the texts of errors; conversions of storage; std's clocks; the traits and devices of
+//! [`phy`]; and that a `usize` has 64 bits, as the prover takes it: on 32 bits the text is only tested. README has a table
+//! of what is by hand, and why.
 //!
 //! # Features and targets
 //!
-//! smoltcp's other features are accepted, and change nothing. `alloc`: storage may own a vector. `std`, which is on unless it is turned off: conversions from
-//! std's clocks, and `alloc`. Each target that rustc has will do.
+//! `alloc`: storage may own a vector. `std`, which is on unless it is turned off: conversions from std's clocks, and
+//! `alloc`. smoltcp's other features are accepted; `segmentation-offload` adds a field, and the others change nothing.
+//! Each target that rustc has will do.
 //!
 //! Overflow panics here in every build, unless an item says otherwise.
 #![no_std]

@@ -11,6 +11,24 @@ use core::fmt;
 use crate::rattle::error_text;
 
 pub use crate::proved::net_assembler::{Assembler, TooManyHolesError};
+/// ```
+/// use net_base::storage::fragment_table::{claim, take_complete, FragmentSlot};
+/// use net_base::storage::FragmentError;
+/// use net_base::time::Instant;
+///
+/// let mut bytes = [[0u8; 8]; 2];
+/// let mut slots = bytes.each_mut().map(|bytes| FragmentSlot::<_, _, 4>::over(&mut bytes[..]));
+/// let (until, one, other) = (Instant::from_secs(60), ("10.0.0.1", 7), ("10.0.0.2", 7));
+/// for (key, offset, data) in [(one, 2, b"cd"), (other, 0, b"xy"), (one, 0, b"ab")] {
+///     let at = claim(&mut slots, key, until).expect("two keys");
+///     slots[at].buffer.add(offset, data)?;
+/// }
+/// assert!(claim(&mut slots, ("10.0.0.3", 7), until).is_err()); // no slot is left
+/// let at = claim(&mut slots, one, until).expect("its slot");
+/// slots[at].buffer.set_total_size(4)?;
+/// assert_eq!(slots[at].buffer.assemble(), Some(&b"abcd"[..]));
+/// # Ok::<(), FragmentError>(())
+/// ```
 pub use crate::proved::net_base::storage::fragments::table as fragment_table;
 pub use crate::proved::net_base::storage::{FragmentBuffer, FragmentError, FragmentsOver};
 pub use crate::proved::net_packets::{PacketBuffer, PacketMetadata, PacketsOver};
