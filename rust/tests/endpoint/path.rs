@@ -35,6 +35,7 @@ impl<const N: usize> End<N> {
         let mut sent = vec![];
         channel.release(now, &mut |packet| sent.push(packet.to_vec()));
         let mut out = |packet: &[u8]| {
+            assert!(sent.len() < 10_000, "it never stops");
             channel.pass(packet, now, &mut |packet| sent.push(packet.to_vec()));
         };
         for packet in packets {
