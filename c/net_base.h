@@ -435,22 +435,6 @@ bool net_base_fragments_is_sound(
  */
 void net_base_fragments_reset(struct net_base_fragments *fragments, int64_t expires_at);
 
-/* Adds a fragment, whose first byte is that of the packet at `offset`.
- *
- * Returns `NET_BASE_DONE`; or, and nothing changes, `NET_BASE_TOO_LONG` if the fragment reaches
- * past the storage's end, or else `NET_BASE_TOO_MANY_RUNS` if there would be more runs than the
- * slice has elements. A fragment past a known size is kept, and one without bytes too.
- *
- * It is refused if `present.used` is above `runs_length`, or a known size above `storage_length`:
- * `NET_BASE_REFUSED`, and nothing changes.
- *
- * Requires: head and runs are sound, as `net_base_fragments_is_sound` tests.
- */
-uint32_t net_base_fragments_add(
-    struct net_base_fragments *fragments, uint8_t *storage, uint64_t storage_length,
-    struct net_base_run *runs, uint64_t runs_length, uint64_t offset, const uint8_t *data,
-    uint64_t data_length);
-
 /* Sets the packet's size to `size` bytes, in a storage of `capacity` bytes.
  *
  * Returns `NET_BASE_DONE`, also if bytes past that size have arrived; or, and nothing changes,
@@ -473,6 +457,22 @@ uint32_t net_base_fragments_overlaps(
 
 /* Returns whether `now` is after the last moment at which the packet is waited for. */
 bool net_base_fragments_is_expired(const struct net_base_fragments *fragments, int64_t now);
+
+/* Adds a fragment, whose first byte is that of the packet at `offset`.
+ *
+ * Returns `NET_BASE_DONE`; or, and nothing changes, `NET_BASE_TOO_LONG` if the fragment reaches
+ * past the storage's end, or else `NET_BASE_TOO_MANY_RUNS` if there would be more runs than the
+ * slice has elements. A fragment past a known size is kept, and one without bytes too.
+ *
+ * It is refused if `present.used` is above `runs_length`, or a known size above `storage_length`:
+ * `NET_BASE_REFUSED`, and nothing changes.
+ *
+ * Requires: head and runs are sound, as `net_base_fragments_is_sound` tests.
+ */
+uint32_t net_base_fragments_add(
+    struct net_base_fragments *fragments, uint8_t *storage, uint64_t storage_length,
+    struct net_base_run *runs, uint64_t runs_length, uint64_t offset, const uint8_t *data,
+    uint64_t data_length);
 
 /* Returns the packet's size, if it is known and all its bytes have arrived: they are the first ones
  * of the storage, which has `capacity` bytes.

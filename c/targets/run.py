@@ -274,6 +274,10 @@ def tests(programs, generated, options):
     return ", ".join(done), digest[1]
 
 
+# What of the caller's frame an empty call leaves painted, so that it counts for the export: less than a frame's alignment.
+SLACK = 15
+
+
 def stacks(programs, generated):
     """Bytes of stack of the export that can take most and of the one after it, with their names, by the code. What calls left
     painted has to be within; under Linux the C library's `memmove` is called by a pointer, and not counted."""
@@ -284,7 +288,7 @@ def stacks(programs, generated):
         raise Failed(f"stack: {last(said)}")
     bounds = disassembly.stack_bounds(programs.way.objdump(), programs.folder / "stack")
     for name, size in painted.items():
-        if size // 4 * 4 > bounds[name] and programs.way.bare:  # a byte that is left may have the paint's value
+        if size > bounds[name] + SLACK and programs.way.bare:
             raise Failed(f"{name} left {size} bytes of stack painted, and by the code it takes {bounds[name]}")
     return sorted(((bounds[name], name) for name in painted), reverse=True)[:2]
 
@@ -397,7 +401,8 @@ def main():
                 print(f"{way.name()}: FAILED: {failure}", flush=True)
                 status = 1
             elif options.table:
-                stack_of[way], counts[way.target] = result
+                stack_of[way], count = result
+                counts |= {way.target: count} if count else {}
             else:
                 text, digest = result
                 print(f"{way.name()}: {text}", flush=True)

@@ -5,18 +5,15 @@
 //! many bytes as the storage. Fragments may overlap: at each position the byte is that of the last
 //! fragment there. `present` is an assembler.
 // Written by tools/ffi.py.
-ghost use Rattle.net_assembler.specs.Assembler.{MakesTooManyRuns};
 ghost use Rattle.net_assembler.specs.Positions.{nothing};
 ghost use Rattle.net_assembler.specs.RunLists.{HasSoundRuns, set_of};
-ghost use Rattle.net_base.specs.FragmentParts.{HasSoundParts, IsExact, IsPlausible, fragments_of, total_of};
-ghost use Rattle.net_base.specs.Fragments.{DiffersFrom, Meets, with_fragment};
+ghost use Rattle.net_base.specs.FragmentParts.{HasSoundParts, IsExact, total_of};
+ghost use Rattle.net_base.specs.Fragments.{DiffersFrom, Meets};
 ghost use Rattle.net_base.specs.declared.storage.fragments.FragmentError.TheVariants.{OtherSize, TooLong};
 ghost use Rattle.net_ffi.specs.Results.{IsStatus, done_or_error};
-ghost use Rattle.std.specs.Prelude.{Err, IsErr, IsTrue, List, OnErr, OnOk, length, ℕ, ◌+◌, ◌<ℤ◌, ◌<◌, ◌↔◌, ◌≡◌};
-ghost use Rattle.std.specs.Prelude.{◌≤◌, ◌⊎◌};
+ghost use Rattle.std.specs.Prelude.{Err, IsErr, IsTrue, List, OnErr, OnOk, length, ℕ, ◌<ℤ◌, ◌<◌, ◌↔◌, ◌≡◌, ◌≤◌, ◌⊎◌};
 ghost use Rattle.std.specs.declared.option.Option.TheVariants.{None, Some};
 
-use crate::fragments::{is_plausible};
 use crate::refusals::{NET_BASE_MISSING, NET_BASE_PRESENT, NET_BASE_REFUSED};
 use crate::results::{presence_of, status_of_fragment};
 use net_assembler::{Run};
@@ -49,53 +46,6 @@ pub extern "C" fn net_base_fragments_reset(fragments: &mut FragmentsHead, expire
     ensures exact { IsExact fragments.new }
 {
     fragments.reset(expires_at);
-}
-
-/// Adds a fragment, whose first byte is that of the packet at `offset`.
-///
-/// Returns `NET_BASE_DONE`; or, and nothing changes, `NET_BASE_TOO_LONG` if the fragment reaches
-/// past the storage's end, or else `NET_BASE_TOO_MANY_RUNS` if there would be more runs than the
-/// slice has elements. A fragment past a known size is kept, and one without bytes too.
-///
-/// It is refused if `present.used` is above `runs.len()`, or a known size above `storage.len()`:
-/// `NET_BASE_REFUSED`, and nothing changes.
-///
-/// # Requires
-///
-/// Head and runs are sound, as `net_base_fragments_is_sound` tests.
-#[unsafe(no_mangle)]
-pub extern "C" fn net_base_fragments_add(
-    fragments: &mut FragmentsHead,
-    storage: &mut [u8],
-    runs: &mut [Run],
-    offset: usize,
-    data: &[u8],
-) -> u32
-    requires sound { IsPlausible (length storage.old) (length runs.old) fragments.old → HasSoundRuns
-        fragments.old.present runs.old }
-    ensures sound { IsPlausible (length storage.old) (length runs.old) fragments.old → HasSoundParts fragments.new
-        storage.new runs.new }
-    ensures ok { IsPlausible (length storage.old) (length runs.old) fragments.old → OnOk (done_or_error result)
-        (fragments_of fragments.new storage.new runs.new ≡ with_fragment (fragments_of fragments.old storage.old
-        runs.old) offset «data».now) }
-    ensures unchanged { IsPlausible (length storage.old) (length runs.old) fragments.old → OnErr (done_or_error
-        result) ((fragments.new ≡ fragments.old) × (storage.new ≡ storage.old) × (runs.new ≡ runs.old)) }
-    ensures too_long { IsPlausible (length storage.old) (length runs.old) fragments.old → (((done_or_error result) ≡
-        Err TooLong) ↔ (length storage.old < offset + length «data».now)) }
-    ensures refused { IsPlausible (length storage.old) (length runs.old) fragments.old → (IsErr (done_or_error
-        result) ↔ ((length storage.old < offset + length «data».now) ⊎ MakesTooManyRuns (length runs.old) (set_of
-        fragments.old.present runs.old) offset (length «data».now))) }
-    ensures others { (fragments.new.has_total ≡ fragments.old.has_total) × (fragments.new.total ≡
-        fragments.old.total) × (fragments.new.expires_at ≡ fragments.old.expires_at) }
-    ensures exact { IsExact fragments.old → IsExact fragments.new }
-    ensures status { IsPlausible (length storage.old) (length runs.old) fragments.old → IsStatus result }
-    ensures unsound { (IsPlausible (length storage.old) (length runs.old) fragments.old → ⊥) → (result ≡
-        NET_BASE_REFUSED) × (fragments.new ≡ fragments.old) × (storage.new ≡ storage.old) × (runs.new ≡ runs.old) }
-{
-    if !is_plausible(fragments, storage.len(), runs.len()) {
-        return NET_BASE_REFUSED;
-    }
-    status_of_fragment(fragments.add(storage, runs, offset, data))
 }
 
 /// Sets the packet's size to `size` bytes, in a storage of `capacity` bytes.
