@@ -19,7 +19,7 @@ use net_base::sender::{Sender, SenderOver};
 use net_base::sequence_number::SequenceNumber;
 use net_base::storage::{
     Assembler, Empty, FragmentBuffer, FragmentError, FragmentsOver, Full, PacketBuffer,
-    PacketMetadata, PacketsOver, RingBuffer, RingOver, TooManyHolesError,
+    PacketMetadata, PacketsOver, RingBuffer, RingOver, Storage, TooManyHolesError,
 };
 use net_base::tcp::{
     AdvertisedWindow, PartsSum, PeerWindow, RetransmissionTimeout, RttEstimate, TimeoutBounds,
@@ -289,4 +289,23 @@ fn lifetimes() {
 fn texts_of_moments() {
     let all: [&dyn Display; 2] = [&Instant::from_millis(-1_500), &Duration::from_millis(1_500)];
     assert_eq!(all.map(|it| format!("{it:>9}|")), ["-1.-500s|", "1.500s|"]);
+}
+
+/// An array is a storage: of each call of that trait, what it shows and lends.
+#[test]
+fn arrays() {
+    let mut array = *b"wxyz";
+    assert_eq!(
+        (Storage::count(&array), array.part(1, 3), array.element(2)),
+        (4, &b"xy"[..], &b'y')
+    );
+    assert_eq!((array.part_mut(1, 3).len(), *array.element_mut(3)), (2, b'z'));
+    array.part_mut(1, 3)[1] = b'-';
+    assert_eq!(array, *b"wx-z");
+    let mut ring = RingOver::<u8, [u8; 4]>::over(*b"wxyz");
+    assert_eq!((ring.enqueue_many(2).to_vec(), ring.len()), (b"wx".to_vec(), 2));
+    let mut queue = PacketsOver::<u8, _, _>::over([PacketMetadata::EMPTY; 3], [0u8; 8]);
+    assert!(queue.push_slice(1, b"ab").is_ok() && queue.push_slice(2, b"cde").is_ok());
+    assert!(queue.dequeue().is_ok());
+    assert_eq!(queue.peek(), Ok((&2, &b"cde"[..])));
 }
