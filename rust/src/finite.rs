@@ -63,6 +63,12 @@ impl<'a, const N: usize> FiniteReceiver<'a, N> {
 }
 
 impl<S: Storage<u8>, const N: usize> FiniteReceiverOver<S, N> {
+    /// Returns the end of the free window, for what is announced: never below `acknowledged`, which is one above the free
+    /// window's end where the end is counted and the storage is full. `None` if it doesn't fit 64 bits.
+    pub fn window_end(&self) -> Option<u64> {
+        self.receiver().window_end().map(|end| end.max(self.acknowledged()))
+    }
+
     /// Calls `f` on the contiguous bytes at the head of the queue, dequeues as many as it counts, and returns what it
     /// returned.
     ///
