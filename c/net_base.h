@@ -262,231 +262,6 @@ uint64_t net_base_ring_enqueue_one(struct net_base_ring *place, uint64_t capacit
  */
 uint64_t net_base_ring_dequeue_one(struct net_base_ring *place, uint64_t capacity);
 
-/* Receivers of a stream that ends. The end is the position after the last byte. It has a number, as
- * TCP's FIN has, and needs no room; `end` of the head is it, or `NET_BASE_NONE` while it isn't
- * known.
- *
- * A new head has `end` set to `NET_BASE_NONE`, and is zeros but for `receiver.first` otherwise.
- * `receiver` is a receiver, whose calls that only look may be made on it.
- */
-
-/* What an assembler has besides its runs: how many there are, and where the first of them starts.
- */
-struct net_base_assembler {
-    uint64_t used;
-    uint64_t first_start;
-};
-
-/* What a receiver has besides its storage and its held runs: numbers. */
-struct net_base_receiver {
-    /* The position of the stream's first byte. */
-    uint64_t first;
-    /* How many bytes were read. */
-    uint64_t count_read;
-    /* Where the queue is in the storage. */
-    struct net_base_ring place;
-    /* What the held runs are counted from, and how many there are. */
-    struct net_base_assembler held;
-};
-
-/* What a receiver of a stream that ends has besides its storage and its held runs: numbers. */
-struct net_base_finite_receiver {
-    /* The receiver of the bytes. */
-    struct net_base_receiver receiver;
-    /* The position after the last byte, or the greatest number of 64 bits while it isn't known. */
-    uint64_t end;
-};
-
-/* A range of positions that is stored as a run: from `start` on, up to `end`, which is not
- * included.
- */
-struct net_base_run {
-    uint64_t start;
-    uint64_t end;
-};
-
-/* How many bytes of a segment were kept, and how many joined the queue. */
-struct net_base_kept_counts {
-    /* How many bytes were kept: those of the segment whose positions are in the free window. */
-    uint64_t kept;
-    /* How many bytes joined the queue: by how many positions the first missing position moved up.
-     */
-    uint64_t queued;
-};
-
-/* Returns whether these are the head, the storage and the runs of a receiver of a stream that ends.
- * It looks at each run, and at no byte.
- */
-bool net_base_finite_receiver_is_sound(
-    const struct net_base_finite_receiver *receiver, const uint8_t *storage,
-    uint64_t storage_length, const struct net_base_run *runs, uint64_t runs_length);
-
-/* Returns `NET_BASE_PRESENT` if the stream can end at `position`: it is the end that is known, or
- * none is, and no byte is queued or held at it or above. Otherwise `NET_BASE_MISSING`.
- *
- * It is refused if `place` isn't that of a ring of `storage_length` bytes, `next` doesn't fit 64
- * bits, or `held.used` is above `runs_length`: `NET_BASE_REFUSED`.
- *
- * Requires: head and runs are sound, as `net_base_finite_receiver_is_sound` tests.
- */
-uint32_t net_base_finite_receiver_can_end(
-    const struct net_base_finite_receiver *receiver, const uint8_t *storage,
-    uint64_t storage_length, const struct net_base_run *runs, uint64_t runs_length,
-    uint64_t position);
-
-/* Returns `NET_BASE_PRESENT` if all bytes and the end have arrived, and `NET_BASE_MISSING` if not.
- *
- * It is refused if the number after `next` doesn't fit 64 bits: `NET_BASE_REFUSED`.
- */
-uint32_t net_base_finite_receiver_is_complete(const struct net_base_finite_receiver *receiver);
-
-/* Writes the number that an acknowledgement carries to `number`, and returns true: the first
- * missing position, or, once all bytes and the end have arrived, the end plus 1.
- *
- * It is refused if the number after `next` doesn't fit 64 bits: false, and nothing changes.
- */
-bool net_base_finite_receiver_acknowledged(
-    const struct net_base_finite_receiver *receiver, uint64_t *number);
-
-/* Returns `NET_BASE_PRESENT` if all bytes were read, up to the end, and `NET_BASE_MISSING` if not.
- *
- * It is refused if the number after `next` doesn't fit 64 bits: `NET_BASE_REFUSED`.
- */
-uint32_t net_base_finite_receiver_has_read_all(const struct net_base_finite_receiver *receiver);
-
-/* Moves bytes from the head of the queue to the beginning of `into`, and returns how many: as many
- * as are queued and as `into` has room for. The rest of `into` stays as it is.
- *
- * It is refused if `receiver.receiver.place` isn't that of a ring of `storage_length` elements, or
- * if `next` doesn't fit 64 bits: `NET_BASE_NONE`, and nothing changes.
- */
-uint64_t net_base_finite_receiver_read(
-    struct net_base_finite_receiver *receiver, const uint8_t *storage, uint64_t storage_length,
-    uint8_t *into, uint64_t into_length);
-
-/* Returns how many bytes of a segment of `len` bytes at `position` would be new: those in the free
- * window and below the end whose positions are not held.
- *
- * It is refused if `place` isn't that of a ring of `storage_length` bytes, `next` doesn't fit 64
- * bits, or `held.used` is above `runs_length`, or if the segment and an end after it don't fit 64
- * bits: `NET_BASE_NONE`.
- *
- * Requires: head and runs are sound, as `net_base_finite_receiver_is_sound` tests.
- */
-uint64_t net_base_finite_receiver_count_new(
-    const struct net_base_finite_receiver *receiver, const uint8_t *storage,
-    uint64_t storage_length, const struct net_base_run *runs, uint64_t runs_length,
-    uint64_t position, uint64_t len);
-
-/* Keeps the bytes of a segment that are in the free window and below the end, as
- * `net_base_receiver_segment` does. `is_last` says that the stream ends after the segment; the end
- * is taken if it is at most the end of the free window.
- *
- * Returns what `net_base_receiver_segment` does, and is refused where that is, and also if the
- * number after the segment doesn't fit 64 bits; or `NET_BASE_OTHER_END`, and nothing changes, if
- * the segment says that the stream ends where it can't, as `net_base_finite_receiver_can_end`
- * tells.
- *
- * Requires: head, storage and runs are sound, as `net_base_finite_receiver_is_sound` tests.
- */
-uint32_t net_base_finite_receiver_segment(
-    struct net_base_finite_receiver *receiver, uint8_t *storage, uint64_t storage_length,
-    struct net_base_run *runs, uint64_t runs_length, uint64_t position, const uint8_t *bytes,
-    uint64_t bytes_length, bool is_last, struct net_base_kept_counts *counts);
-
-/* Packets that arrive in fragments, as those of IPv4 do, over bytes and runs that the caller keeps.
- *
- * A head of zeros, but for `expires_at`, is that of an empty buffer. The longest packet has as many
- * bytes as the storage. Fragments may overlap: at each position the byte is that of the last
- * fragment there. `present` is an assembler.
- */
-
-/* What a buffer of fragments has besides its bytes and runs. */
-struct net_base_fragments {
-    /* The positions that arrived: the head of an assembler. */
-    struct net_base_assembler present;
-    /* Not 0 once the packet's size is known; this library writes 1 then. */
-    uint64_t has_total;
-    /* The packet's size in bytes, once it is known. */
-    uint64_t total;
-    /* The last moment at which the packet is waited for, in microseconds. */
-    int64_t expires_at;
-};
-
-/* The length of the run at position 0, and whether the call was done. */
-struct net_base_front_length {
-    /* `NET_BASE_DONE`, `NET_BASE_TOO_MANY_RUNS` or `NET_BASE_REFUSED`, and of
-     * `net_base_fragments_complete` also `NET_BASE_MISSING`.
-     */
-    uint32_t status;
-    /* How many positions the run has; 0 if position 0 is missing, or the call wasn't done. */
-    uint64_t length;
-};
-
-/* Returns whether the head is that of a buffer of `capacity` bytes and of these runs. It looks at
- * each run.
- */
-bool net_base_fragments_is_sound(
-    const struct net_base_fragments *fragments, uint64_t capacity, const struct net_base_run *runs,
-    uint64_t runs_length);
-
-/* Starts over for a packet that is waited for up to `expires_at`, in microseconds. No head is
- * refused: this makes one sound for any memory.
- */
-void net_base_fragments_reset(struct net_base_fragments *fragments, int64_t expires_at);
-
-/* Sets the packet's size to `size` bytes, in a storage of `capacity` bytes.
- *
- * Returns `NET_BASE_DONE`, also if bytes past that size have arrived; or, and nothing changes,
- * `NET_BASE_TOO_LONG` if the storage has fewer bytes, or else `NET_BASE_OTHER_SIZE` if another size
- * is known.
- */
-uint32_t net_base_fragments_set_total_size(
-    struct net_base_fragments *fragments, uint64_t capacity, uint64_t size);
-
-/* Returns `NET_BASE_PRESENT` if one of the `count` positions from `offset` on has arrived, so that
- * a fragment there overlaps bytes that are present, and `NET_BASE_MISSING` if none has.
- *
- * It is refused if `present.used` is above `runs_length`: `NET_BASE_REFUSED`.
- *
- * Requires: head and runs are sound, as `net_base_fragments_is_sound` tests.
- */
-uint32_t net_base_fragments_overlaps(
-    const struct net_base_fragments *fragments, const struct net_base_run *runs,
-    uint64_t runs_length, uint64_t offset, uint64_t count);
-
-/* Returns whether `now` is after the last moment at which the packet is waited for. */
-bool net_base_fragments_is_expired(const struct net_base_fragments *fragments, int64_t now);
-
-/* Adds a fragment, whose first byte is that of the packet at `offset`.
- *
- * Returns `NET_BASE_DONE`; or, and nothing changes, `NET_BASE_TOO_LONG` if the fragment reaches
- * past the storage's end, or else `NET_BASE_TOO_MANY_RUNS` if there would be more runs than the
- * slice has elements. A fragment past a known size is kept, and one without bytes too.
- *
- * It is refused if `present.used` is above `runs_length`, or a known size above `storage_length`:
- * `NET_BASE_REFUSED`, and nothing changes.
- *
- * Requires: head and runs are sound, as `net_base_fragments_is_sound` tests.
- */
-uint32_t net_base_fragments_add(
-    struct net_base_fragments *fragments, uint8_t *storage, uint64_t storage_length,
-    struct net_base_run *runs, uint64_t runs_length, uint64_t offset, const uint8_t *data,
-    uint64_t data_length);
-
-/* Returns the packet's size, if it is known and all its bytes have arrived: they are the first ones
- * of the storage, which has `capacity` bytes.
- *
- * The status is `NET_BASE_DONE`, or `NET_BASE_MISSING` if the size isn't known or a byte is
- * missing, or `NET_BASE_REFUSED` if `present.used` is above `runs_length` or a known size above
- * `capacity`. If it isn't `NET_BASE_DONE`, the length is 0.
- *
- * Requires: head and runs are sound, as `net_base_fragments_is_sound` tests.
- */
-struct net_base_front_length net_base_fragments_complete(
-    const struct net_base_fragments *fragments, uint64_t capacity, const struct net_base_run *runs,
-    uint64_t runs_length);
-
 /* Packet queues: where a packet has its slots and its bytes, in storages that the caller keeps.
  *
  * A packet's bytes are contiguous. If it doesn't fit before the storage's end, it is placed at its
@@ -607,27 +382,230 @@ uint64_t net_base_packets_take_slot(
     struct net_base_packets *packets, uint64_t slot_count, uint64_t capacity,
     const struct net_base_packet_slot *first);
 
-/* Random words, drawn from a state that the caller keeps. Any state is allowed; the words are not
- * fit for cryptography. The generator is smoltcp's, sPCG32: a step multiplies the state by
- * 0xbb2efcec3c39611d and adds 0x7590ef39, and the word of a state is the low 32 bits of `state >>
- * (29 - (state >> 61))`.
- */
-
-/* Steps `state` to the next one, and returns its random word, of 32 bits. */
-uint32_t net_base_rand_u32(uint64_t *state);
-
-/* Draws 16 bits until a draw is above 1024, and returns it. It returns from every state, after at
- * most 2^64 draws.
- */
-uint16_t net_base_rand_source_port(uint64_t *state);
-
-/* Steps `state` to the next one, and returns its random word times `bound`, divided by 2^32 and
- * rounded down: a number below `bound`. Each number below `bound` is the result for equally many
- * words, or for one more.
+/* Assemblers: sets of positions, stored as runs in memory that the caller keeps.
  *
- * If `bound` is 0, it is refused: it returns 2^64 - 1, and `state` stays as it is.
+ * At most as many runs are stored as the slice has elements.
  */
-uint64_t net_base_rand_below(uint64_t *state, uint32_t bound);
+
+/* What an assembler has besides its runs: how many there are, and where the first of them starts.
+ */
+struct net_base_assembler {
+    uint64_t used;
+    uint64_t first_start;
+};
+
+/* A range of positions that is stored as a run: from `start` on, up to `end`, which is not
+ * included.
+ */
+struct net_base_run {
+    uint64_t start;
+    uint64_t end;
+};
+
+/* The length of the run at position 0, and whether the call was done. */
+struct net_base_front_length {
+    /* `NET_BASE_DONE`, `NET_BASE_TOO_MANY_RUNS` or `NET_BASE_REFUSED`, and of
+     * `net_base_fragments_complete` also `NET_BASE_MISSING`.
+     */
+    uint32_t status;
+    /* How many positions the run has; 0 if position 0 is missing, or the call wasn't done. */
+    uint64_t length;
+};
+
+/* Returns whether `assembler` and `runs` are those of an assembler: there are `used` runs, which
+ * rise, with a hole between neighbours; the first starts at 0; and each end fits 64 bits also with
+ * `first_start` added. It looks at each run.
+ */
+bool net_base_assembler_is_sound(
+    const struct net_base_assembler *assembler, const struct net_base_run *runs,
+    uint64_t runs_length);
+
+/* Removes every position: `used` and `first_start` are 0 then. Nothing is refused: this makes an
+ * assembler of any memory.
+ *
+ * `first_start` is 0 whenever there is no run, as long as the head is changed only by calls. Runs
+ * that aren't in use aren't read, and may be anything.
+ */
+void net_base_assembler_clear(struct net_base_assembler *assembler);
+
+/* Adds the positions from `offset` to `offset + size - 1`; none if `size` is 0. Ranges that touch
+ * form one run.
+ *
+ * Returns `NET_BASE_DONE`, or `NET_BASE_TOO_MANY_RUNS`, and nothing changes, if there would be more
+ * runs than the slice has elements.
+ *
+ * It is refused if `used` is above `runs_length`, or if `offset + size` doesn't fit 64 bits:
+ * `NET_BASE_REFUSED`, and nothing changes.
+ *
+ * Requires: head and runs are sound, as `net_base_assembler_is_sound` tests.
+ */
+uint32_t net_base_assembler_add(
+    struct net_base_assembler *assembler, struct net_base_run *runs, uint64_t runs_length,
+    uint64_t offset, uint64_t size);
+
+/* Adds the positions from `offset` to `offset + size - 1`, then removes the run at position 0,
+ * returns its length, and counts all later positions from its end. If position 0 is missing,
+ * nothing is removed, and the length is 0.
+ *
+ * The status is `NET_BASE_DONE`, or `NET_BASE_TOO_MANY_RUNS` if `offset` isn't 0 and there would be
+ * more runs than the slice has elements: then the length is 0, and nothing changes.
+ *
+ * It is refused if `used` is above `runs_length`, or if `offset + size` doesn't fit 64 bits: the
+ * status is `NET_BASE_REFUSED`, and the length 0, and nothing changes.
+ *
+ * Requires: head and runs are sound, as `net_base_assembler_is_sound` tests.
+ */
+struct net_base_front_length net_base_assembler_add_then_remove_front(
+    struct net_base_assembler *assembler, struct net_base_run *runs, uint64_t runs_length,
+    uint64_t offset, uint64_t size);
+
+/* Removes the run at position 0, returns its length, and counts all later positions from its end.
+ * If position 0 is missing, nothing is removed, and the length is 0.
+ *
+ * It is refused if `used` is above `runs_length`: the status is `NET_BASE_REFUSED`, and length 0,
+ * and nothing changes.
+ *
+ * Requires: head and runs are sound, as `net_base_assembler_is_sound` tests.
+ */
+struct net_base_front_length net_base_assembler_remove_front(
+    struct net_base_assembler *assembler, struct net_base_run *runs, uint64_t runs_length);
+
+/* Removes the positions below `count`, counts the others from there, so that position `count` is
+ * position 0 then, and returns true. A run that `count` cuts keeps what is at or after it.
+ *
+ * It is refused if `used` is above `runs_length`: false, and nothing changes.
+ *
+ * Requires: head and runs are sound, as `net_base_assembler_is_sound` tests.
+ */
+bool net_base_assembler_shift(
+    struct net_base_assembler *assembler, struct net_base_run *runs, uint64_t runs_length,
+    uint64_t count);
+
+/* Returns the length of the run at position 0, which is 0 if position 0 is missing.
+ *
+ * It is refused if `used` is above `runs_length`: the status is `NET_BASE_REFUSED`, and length 0.
+ *
+ * Requires: head and runs are sound, as `net_base_assembler_is_sound` tests.
+ */
+struct net_base_front_length net_base_assembler_peek_front(
+    const struct net_base_assembler *assembler, const struct net_base_run *runs,
+    uint64_t runs_length);
+
+/* Returns `NET_BASE_PRESENT` if `position` is present, and `NET_BASE_MISSING` if it isn't.
+ *
+ * It is refused if `used` is above `runs_length`: `NET_BASE_REFUSED`.
+ *
+ * Requires: head and runs are sound, as `net_base_assembler_is_sound` tests.
+ */
+uint32_t net_base_assembler_contains(
+    const struct net_base_assembler *assembler, const struct net_base_run *runs,
+    uint64_t runs_length, uint64_t position);
+
+/* Returns the run with number `index`, counted from 0 in rising order: its start, and its end,
+ * which isn't included. If there are no more than `index` runs, both are 0.
+ *
+ * It is refused if `used` is above `runs_length`: both are `NET_BASE_NONE`.
+ *
+ * Requires: head and runs are sound, as `net_base_assembler_is_sound` tests.
+ */
+struct net_base_run net_base_assembler_run_at(
+    const struct net_base_assembler *assembler, const struct net_base_run *runs,
+    uint64_t runs_length, uint64_t index);
+
+/* Returns the hole with number `index`, counted from 0 in rising order: its start, and its end,
+ * which isn't included. Holes are the missing ranges below the end of the last run. If there are no
+ * more than `index` holes, both are 0.
+ *
+ * It is refused if `used` is above `runs_length`: both are `NET_BASE_NONE`.
+ *
+ * Requires: head and runs are sound, as `net_base_assembler_is_sound` tests.
+ */
+struct net_base_run net_base_assembler_hole_at(
+    const struct net_base_assembler *assembler, const struct net_base_run *runs,
+    uint64_t runs_length, uint64_t index);
+
+/* Packets that arrive in fragments, as those of IPv4 do, over bytes and runs that the caller keeps.
+ *
+ * A head of zeros, but for `expires_at`, is that of an empty buffer. The longest packet has as many
+ * bytes as the storage. Fragments may overlap: at each position the byte is that of the last
+ * fragment there. `present` is an assembler.
+ */
+
+/* What a buffer of fragments has besides its bytes and runs. */
+struct net_base_fragments {
+    /* The positions that arrived: the head of an assembler. */
+    struct net_base_assembler present;
+    /* Not 0 once the packet's size is known; this library writes 1 then. */
+    uint64_t has_total;
+    /* The packet's size in bytes, once it is known. */
+    uint64_t total;
+    /* The last moment at which the packet is waited for, in microseconds. */
+    int64_t expires_at;
+};
+
+/* Returns whether the head is that of a buffer of `capacity` bytes and of these runs. It looks at
+ * each run.
+ */
+bool net_base_fragments_is_sound(
+    const struct net_base_fragments *fragments, uint64_t capacity, const struct net_base_run *runs,
+    uint64_t runs_length);
+
+/* Starts over for a packet that is waited for up to `expires_at`, in microseconds. No head is
+ * refused: this makes one sound for any memory.
+ */
+void net_base_fragments_reset(struct net_base_fragments *fragments, int64_t expires_at);
+
+/* Sets the packet's size to `size` bytes, in a storage of `capacity` bytes.
+ *
+ * Returns `NET_BASE_DONE`, also if bytes past that size have arrived; or, and nothing changes,
+ * `NET_BASE_TOO_LONG` if the storage has fewer bytes, or else `NET_BASE_OTHER_SIZE` if another size
+ * is known.
+ */
+uint32_t net_base_fragments_set_total_size(
+    struct net_base_fragments *fragments, uint64_t capacity, uint64_t size);
+
+/* Returns `NET_BASE_PRESENT` if one of the `count` positions from `offset` on has arrived, so that
+ * a fragment there overlaps bytes that are present, and `NET_BASE_MISSING` if none has.
+ *
+ * It is refused if `present.used` is above `runs_length`: `NET_BASE_REFUSED`.
+ *
+ * Requires: head and runs are sound, as `net_base_fragments_is_sound` tests.
+ */
+uint32_t net_base_fragments_overlaps(
+    const struct net_base_fragments *fragments, const struct net_base_run *runs,
+    uint64_t runs_length, uint64_t offset, uint64_t count);
+
+/* Returns whether `now` is after the last moment at which the packet is waited for. */
+bool net_base_fragments_is_expired(const struct net_base_fragments *fragments, int64_t now);
+
+/* Adds a fragment, whose first byte is that of the packet at `offset`.
+ *
+ * Returns `NET_BASE_DONE`; or, and nothing changes, `NET_BASE_TOO_LONG` if the fragment reaches
+ * past the storage's end, or else `NET_BASE_TOO_MANY_RUNS` if there would be more runs than the
+ * slice has elements. A fragment past a known size is kept, and one without bytes too.
+ *
+ * It is refused if `present.used` is above `runs_length`, or a known size above `storage_length`:
+ * `NET_BASE_REFUSED`, and nothing changes.
+ *
+ * Requires: head and runs are sound, as `net_base_fragments_is_sound` tests.
+ */
+uint32_t net_base_fragments_add(
+    struct net_base_fragments *fragments, uint8_t *storage, uint64_t storage_length,
+    struct net_base_run *runs, uint64_t runs_length, uint64_t offset, const uint8_t *data,
+    uint64_t data_length);
+
+/* Returns the packet's size, if it is known and all its bytes have arrived: they are the first ones
+ * of the storage, which has `capacity` bytes.
+ *
+ * The status is `NET_BASE_DONE`, or `NET_BASE_MISSING` if the size isn't known or a byte is
+ * missing, or `NET_BASE_REFUSED` if `present.used` is above `runs_length` or a known size above
+ * `capacity`. If it isn't `NET_BASE_DONE`, the length is 0.
+ *
+ * Requires: head and runs are sound, as `net_base_fragments_is_sound` tests.
+ */
+struct net_base_front_length net_base_fragments_complete(
+    const struct net_base_fragments *fragments, uint64_t capacity, const struct net_base_run *runs,
+    uint64_t runs_length);
 
 /* Receivers of one stream of bytes, over a storage and runs that the caller keeps.
  *
@@ -637,10 +615,31 @@ uint64_t net_base_rand_below(uint64_t *state, uint32_t bound);
  * `held`, whose position 0 is `next`: the first of them starts `held.first_start` after it.
  */
 
+/* What a receiver has besides its storage and its held runs: numbers. */
+struct net_base_receiver {
+    /* The position of the stream's first byte. */
+    uint64_t first;
+    /* How many bytes were read. */
+    uint64_t count_read;
+    /* Where the queue is in the storage. */
+    struct net_base_ring place;
+    /* What the held runs are counted from, and how many there are. */
+    struct net_base_assembler held;
+};
+
 /* A held run, by absolute positions: from `start` on, up to `end`, which is not included. */
 struct net_base_held_run {
     uint64_t start;
     uint64_t end;
+};
+
+/* How many bytes of a segment were kept, and how many joined the queue. */
+struct net_base_kept_counts {
+    /* How many bytes were kept: those of the segment whose positions are in the free window. */
+    uint64_t kept;
+    /* How many bytes joined the queue: by how many positions the first missing position moved up.
+     */
+    uint64_t queued;
 };
 
 /* Returns whether these are the head, the storage and the runs of a receiver. It looks at each run,
@@ -771,6 +770,88 @@ struct net_base_held_run net_base_receiver_run_at(
     const struct net_base_receiver *receiver, const uint8_t *storage, uint64_t storage_length,
     const struct net_base_run *runs, uint64_t runs_length, uint64_t index);
 
+/* Senders of one stream of bytes, over a storage that the caller keeps.
+ *
+ * A head of zeros, but for `first_unacknowledged`, is that of a sender of a stream that begins
+ * there, to which nothing was written. The queue, of bytes that are not acknowledged, is the ring
+ * of `place`. These calls take no SACK blocks: what these report is kept in a scoreboard.
+ */
+
+/* What a sender has besides its storage and its SACK blocks: numbers. */
+struct net_base_sender {
+    /* The position of the queue's first byte. */
+    uint64_t first_unacknowledged;
+    /* Where the queue is in the storage. */
+    struct net_base_ring place;
+};
+
+/* Returns whether this is the head of a sender over a storage of `capacity` bytes: `place` is that
+ * of a ring of as many, and the position after the queue fits 64 bits.
+ */
+bool net_base_sender_is_sound(const struct net_base_sender *sender, uint64_t capacity);
+
+/* Writes the position after the last byte that was written to `end`, and returns true.
+ *
+ * It is refused if the segment doesn't end within 64 bits: false, and nothing changes.
+ */
+bool net_base_sender_end(const struct net_base_sender *sender, uint64_t *end);
+
+/* Returns how many bytes `net_base_sender_write` would take: as many as have room in a storage of
+ * `capacity` bytes and below the last position, 2^64 - 1.
+ *
+ * It is refused if `capacity` is `NET_BASE_NONE`, or if `sender` isn't that of a sender over
+ * `capacity` bytes: `NET_BASE_NONE`.
+ */
+uint64_t net_base_sender_room(const struct net_base_sender *sender, uint64_t capacity);
+
+/* Enqueues the first of these bytes, as many as there is room for, and returns how many.
+ *
+ * It is refused if `sender` isn't that of a sender over `storage_length` bytes: `NET_BASE_NONE`,
+ * and nothing changes.
+ */
+uint64_t net_base_sender_write(
+    struct net_base_sender *sender, uint8_t *storage, uint64_t storage_length, const uint8_t *bytes,
+    uint64_t bytes_length);
+
+/* Returns where at most `max` queued bytes are, from the one at `position` on. The caller copies or
+ * sends them. If that byte isn't queued, `count` and `contiguous` are 0, and `from` is no byte's
+ * index.
+ *
+ * It is refused if `sender` isn't that of a sender over `capacity` bytes: `from` is
+ * `NET_BASE_NONE`, `count` and `contiguous` are 0.
+ */
+struct net_base_span net_base_sender_peek_at(
+    const struct net_base_sender *sender, uint64_t capacity, uint64_t position, uint64_t max);
+
+/* Drops the bytes below `next`, and returns whether it did: false, and nothing changes, if `next`
+ * is below `first_unacknowledged` or above the position after the last byte.
+ *
+ * It is refused if `sender` isn't that of a sender over `capacity` bytes: false, and nothing
+ * changes.
+ */
+bool net_base_sender_acknowledge(struct net_base_sender *sender, uint64_t capacity, uint64_t next);
+
+/* Moves the mark `sent`, the position after the last byte that was ever sent, up to `position`, if
+ * that is above it, and returns true; false, and nothing changes, if `sent` or `position` is above
+ * the position after the last byte that was written. The caller keeps the mark, which begins as the
+ * position of the stream's first byte.
+ *
+ * It is refused if the segment doesn't end within 64 bits: false, and nothing changes.
+ */
+bool net_base_sender_mark_sent(
+    const struct net_base_sender *sender, uint64_t *sent, uint64_t position);
+
+/* Drops the bytes below `next`, if they were sent, and returns whether it did: false, and nothing
+ * changes, if `next` is below `first_unacknowledged` or above `sent`, or `sent` is above the
+ * position after the last byte. `sent` is the position after the last byte that was ever sent, as
+ * `net_base_sender_mark_sent` keeps it.
+ *
+ * It is refused if `sender` isn't that of a sender over `capacity` bytes: false, and nothing
+ * changes.
+ */
+bool net_base_sender_acknowledge_sent(
+    struct net_base_sender *sender, uint64_t capacity, uint64_t next, uint64_t sent);
+
 /* Scoreboards: what a sender knows of the positions that the other end has, in runs that the caller
  * keeps.
  *
@@ -876,239 +957,101 @@ uint32_t net_base_scoreboard_report(
     struct net_base_scoreboard *scoreboard, struct net_base_run *runs, uint64_t runs_length,
     uint64_t start, uint64_t end, uint64_t sent);
 
-/* Sequence numbers of 32 bits, which wrap, and the positions of 64 bits, which don't.
+/* Receivers of a stream that ends. The end is the position after the last byte. It has a number, as
+ * TCP's FIN has, and needs no room; `end` of the head is it, or `NET_BASE_NONE` while it isn't
+ * known.
  *
- * A receiver and a sender count in positions; TCP's segments have numbers. If position 0 has the
- * number `initial`, each position has one number, and a number has one position near a given one.
- * In TCP segments with numbers before that of the first byte arrive too, as old duplicates. If the
- * first byte has position 0, no position has such a number. If it has the position 2^32 + its
- * number, each has one: then `initial` is 0, and the low 32 bits of a position are its number.
+ * A new head has `end` set to `NET_BASE_NONE`, and is zeros but for `receiver.first` otherwise.
+ * `receiver` is a receiver, whose calls that only look may be made on it.
  */
 
-/* Returns whether a position near `next` has a number, if position 0 has the number `initial`, and
- * if so writes it to `position`: it is less than 2^31 after `next`, or at most 2^31 before it.
- */
-bool net_base_sequence_number_position(
-    uint32_t number, uint32_t initial, uint64_t next, uint64_t *position);
-
-/* Moments (signed, from an origin of the caller's own) and lengths of time, in microseconds.
- *
- * Both are numbers: C adds and compares them, and divides by 1,000 and 1,000,000. Here is what
- * overflows if C computes it.
- */
-
-/* Returns `instant + duration`, or `INT64_MAX` if that is above it. */
-int64_t net_base_instant_saturating_add(int64_t instant, uint64_t duration);
-
-/* Returns how far apart two moments are, whichever is the later one. Any two have a distance. */
-uint64_t net_base_instant_distance(int64_t instant, int64_t other);
-
-/* The version of this interface. */
-
-/* Returns the version of this interface, which is in the name too: a program that calls this
- * doesn't link with an archive of another version. Each version whose structs or functions differ
- * has another number.
- */
-uint32_t net_base_abi_2(void);
-
-/* Assemblers: sets of positions, stored as runs in memory that the caller keeps.
- *
- * At most as many runs are stored as the slice has elements.
- */
-
-/* Returns whether `assembler` and `runs` are those of an assembler: there are `used` runs, which
- * rise, with a hole between neighbours; the first starts at 0; and each end fits 64 bits also with
- * `first_start` added. It looks at each run.
- */
-bool net_base_assembler_is_sound(
-    const struct net_base_assembler *assembler, const struct net_base_run *runs,
-    uint64_t runs_length);
-
-/* Removes every position: `used` and `first_start` are 0 then. Nothing is refused: this makes an
- * assembler of any memory.
- *
- * `first_start` is 0 whenever there is no run, as long as the head is changed only by calls. Runs
- * that aren't in use aren't read, and may be anything.
- */
-void net_base_assembler_clear(struct net_base_assembler *assembler);
-
-/* Adds the positions from `offset` to `offset + size - 1`; none if `size` is 0. Ranges that touch
- * form one run.
- *
- * Returns `NET_BASE_DONE`, or `NET_BASE_TOO_MANY_RUNS`, and nothing changes, if there would be more
- * runs than the slice has elements.
- *
- * It is refused if `used` is above `runs_length`, or if `offset + size` doesn't fit 64 bits:
- * `NET_BASE_REFUSED`, and nothing changes.
- *
- * Requires: head and runs are sound, as `net_base_assembler_is_sound` tests.
- */
-uint32_t net_base_assembler_add(
-    struct net_base_assembler *assembler, struct net_base_run *runs, uint64_t runs_length,
-    uint64_t offset, uint64_t size);
-
-/* Adds the positions from `offset` to `offset + size - 1`, then removes the run at position 0,
- * returns its length, and counts all later positions from its end. If position 0 is missing,
- * nothing is removed, and the length is 0.
- *
- * The status is `NET_BASE_DONE`, or `NET_BASE_TOO_MANY_RUNS` if `offset` isn't 0 and there would be
- * more runs than the slice has elements: then the length is 0, and nothing changes.
- *
- * It is refused if `used` is above `runs_length`, or if `offset + size` doesn't fit 64 bits: the
- * status is `NET_BASE_REFUSED`, and the length 0, and nothing changes.
- *
- * Requires: head and runs are sound, as `net_base_assembler_is_sound` tests.
- */
-struct net_base_front_length net_base_assembler_add_then_remove_front(
-    struct net_base_assembler *assembler, struct net_base_run *runs, uint64_t runs_length,
-    uint64_t offset, uint64_t size);
-
-/* Removes the run at position 0, returns its length, and counts all later positions from its end.
- * If position 0 is missing, nothing is removed, and the length is 0.
- *
- * It is refused if `used` is above `runs_length`: the status is `NET_BASE_REFUSED`, and length 0,
- * and nothing changes.
- *
- * Requires: head and runs are sound, as `net_base_assembler_is_sound` tests.
- */
-struct net_base_front_length net_base_assembler_remove_front(
-    struct net_base_assembler *assembler, struct net_base_run *runs, uint64_t runs_length);
-
-/* Removes the positions below `count`, counts the others from there, so that position `count` is
- * position 0 then, and returns true. A run that `count` cuts keeps what is at or after it.
- *
- * It is refused if `used` is above `runs_length`: false, and nothing changes.
- *
- * Requires: head and runs are sound, as `net_base_assembler_is_sound` tests.
- */
-bool net_base_assembler_shift(
-    struct net_base_assembler *assembler, struct net_base_run *runs, uint64_t runs_length,
-    uint64_t count);
-
-/* Returns the length of the run at position 0, which is 0 if position 0 is missing.
- *
- * It is refused if `used` is above `runs_length`: the status is `NET_BASE_REFUSED`, and length 0.
- *
- * Requires: head and runs are sound, as `net_base_assembler_is_sound` tests.
- */
-struct net_base_front_length net_base_assembler_peek_front(
-    const struct net_base_assembler *assembler, const struct net_base_run *runs,
-    uint64_t runs_length);
-
-/* Returns `NET_BASE_PRESENT` if `position` is present, and `NET_BASE_MISSING` if it isn't.
- *
- * It is refused if `used` is above `runs_length`: `NET_BASE_REFUSED`.
- *
- * Requires: head and runs are sound, as `net_base_assembler_is_sound` tests.
- */
-uint32_t net_base_assembler_contains(
-    const struct net_base_assembler *assembler, const struct net_base_run *runs,
-    uint64_t runs_length, uint64_t position);
-
-/* Returns the run with number `index`, counted from 0 in rising order: its start, and its end,
- * which isn't included. If there are no more than `index` runs, both are 0.
- *
- * It is refused if `used` is above `runs_length`: both are `NET_BASE_NONE`.
- *
- * Requires: head and runs are sound, as `net_base_assembler_is_sound` tests.
- */
-struct net_base_run net_base_assembler_run_at(
-    const struct net_base_assembler *assembler, const struct net_base_run *runs,
-    uint64_t runs_length, uint64_t index);
-
-/* Returns the hole with number `index`, counted from 0 in rising order: its start, and its end,
- * which isn't included. Holes are the missing ranges below the end of the last run. If there are no
- * more than `index` holes, both are 0.
- *
- * It is refused if `used` is above `runs_length`: both are `NET_BASE_NONE`.
- *
- * Requires: head and runs are sound, as `net_base_assembler_is_sound` tests.
- */
-struct net_base_run net_base_assembler_hole_at(
-    const struct net_base_assembler *assembler, const struct net_base_run *runs,
-    uint64_t runs_length, uint64_t index);
-
-/* Senders of one stream of bytes, over a storage that the caller keeps.
- *
- * A head of zeros, but for `first_unacknowledged`, is that of a sender of a stream that begins
- * there, to which nothing was written. The queue, of bytes that are not acknowledged, is the ring
- * of `place`. These calls take no SACK blocks: what these report is kept in a scoreboard.
- */
-
-/* What a sender has besides its storage and its SACK blocks: numbers. */
-struct net_base_sender {
-    /* The position of the queue's first byte. */
-    uint64_t first_unacknowledged;
-    /* Where the queue is in the storage. */
-    struct net_base_ring place;
+/* What a receiver of a stream that ends has besides its storage and its held runs: numbers. */
+struct net_base_finite_receiver {
+    /* The receiver of the bytes. */
+    struct net_base_receiver receiver;
+    /* The position after the last byte, or the greatest number of 64 bits while it isn't known. */
+    uint64_t end;
 };
 
-/* Returns whether this is the head of a sender over a storage of `capacity` bytes: `place` is that
- * of a ring of as many, and the position after the queue fits 64 bits.
+/* Returns whether these are the head, the storage and the runs of a receiver of a stream that ends.
+ * It looks at each run, and at no byte.
  */
-bool net_base_sender_is_sound(const struct net_base_sender *sender, uint64_t capacity);
+bool net_base_finite_receiver_is_sound(
+    const struct net_base_finite_receiver *receiver, const uint8_t *storage,
+    uint64_t storage_length, const struct net_base_run *runs, uint64_t runs_length);
 
-/* Writes the position after the last byte that was written to `end`, and returns true.
+/* Returns `NET_BASE_PRESENT` if the stream can end at `position`: it is the end that is known, or
+ * none is, and no byte is queued or held at it or above. Otherwise `NET_BASE_MISSING`.
  *
- * It is refused if the segment doesn't end within 64 bits: false, and nothing changes.
+ * It is refused if `place` isn't that of a ring of `storage_length` bytes, `next` doesn't fit 64
+ * bits, or `held.used` is above `runs_length`: `NET_BASE_REFUSED`.
+ *
+ * Requires: head and runs are sound, as `net_base_finite_receiver_is_sound` tests.
  */
-bool net_base_sender_end(const struct net_base_sender *sender, uint64_t *end);
+uint32_t net_base_finite_receiver_can_end(
+    const struct net_base_finite_receiver *receiver, const uint8_t *storage,
+    uint64_t storage_length, const struct net_base_run *runs, uint64_t runs_length,
+    uint64_t position);
 
-/* Returns how many bytes `net_base_sender_write` would take: as many as have room in a storage of
- * `capacity` bytes and below the last position, 2^64 - 1.
+/* Returns `NET_BASE_PRESENT` if all bytes and the end have arrived, and `NET_BASE_MISSING` if not.
  *
- * It is refused if `capacity` is `NET_BASE_NONE`, or if `sender` isn't that of a sender over
- * `capacity` bytes: `NET_BASE_NONE`.
+ * It is refused if the number after `next` doesn't fit 64 bits: `NET_BASE_REFUSED`.
  */
-uint64_t net_base_sender_room(const struct net_base_sender *sender, uint64_t capacity);
+uint32_t net_base_finite_receiver_is_complete(const struct net_base_finite_receiver *receiver);
 
-/* Enqueues the first of these bytes, as many as there is room for, and returns how many.
+/* Writes the number that an acknowledgement carries to `number`, and returns true: the first
+ * missing position, or, once all bytes and the end have arrived, the end plus 1.
  *
- * It is refused if `sender` isn't that of a sender over `storage_length` bytes: `NET_BASE_NONE`,
- * and nothing changes.
+ * It is refused if the number after `next` doesn't fit 64 bits: false, and nothing changes.
  */
-uint64_t net_base_sender_write(
-    struct net_base_sender *sender, uint8_t *storage, uint64_t storage_length, const uint8_t *bytes,
-    uint64_t bytes_length);
+bool net_base_finite_receiver_acknowledged(
+    const struct net_base_finite_receiver *receiver, uint64_t *number);
 
-/* Returns where at most `max` queued bytes are, from the one at `position` on. The caller copies or
- * sends them. If that byte isn't queued, `count` and `contiguous` are 0, and `from` is no byte's
- * index.
+/* Returns `NET_BASE_PRESENT` if all bytes were read, up to the end, and `NET_BASE_MISSING` if not.
  *
- * It is refused if `sender` isn't that of a sender over `capacity` bytes: `from` is
- * `NET_BASE_NONE`, `count` and `contiguous` are 0.
+ * It is refused if the number after `next` doesn't fit 64 bits: `NET_BASE_REFUSED`.
  */
-struct net_base_span net_base_sender_peek_at(
-    const struct net_base_sender *sender, uint64_t capacity, uint64_t position, uint64_t max);
+uint32_t net_base_finite_receiver_has_read_all(const struct net_base_finite_receiver *receiver);
 
-/* Drops the bytes below `next`, and returns whether it did: false, and nothing changes, if `next`
- * is below `first_unacknowledged` or above the position after the last byte.
+/* Moves bytes from the head of the queue to the beginning of `into`, and returns how many: as many
+ * as are queued and as `into` has room for. The rest of `into` stays as it is.
  *
- * It is refused if `sender` isn't that of a sender over `capacity` bytes: false, and nothing
- * changes.
+ * It is refused if `receiver.receiver.place` isn't that of a ring of `storage_length` elements, or
+ * if `next` doesn't fit 64 bits: `NET_BASE_NONE`, and nothing changes.
  */
-bool net_base_sender_acknowledge(struct net_base_sender *sender, uint64_t capacity, uint64_t next);
+uint64_t net_base_finite_receiver_read(
+    struct net_base_finite_receiver *receiver, const uint8_t *storage, uint64_t storage_length,
+    uint8_t *into, uint64_t into_length);
 
-/* Moves the mark `sent`, the position after the last byte that was ever sent, up to `position`, if
- * that is above it, and returns true; false, and nothing changes, if `sent` or `position` is above
- * the position after the last byte that was written. The caller keeps the mark, which begins as the
- * position of the stream's first byte.
+/* Returns how many bytes of a segment of `len` bytes at `position` would be new: those in the free
+ * window and below the end whose positions are not held.
  *
- * It is refused if the segment doesn't end within 64 bits: false, and nothing changes.
+ * It is refused if `place` isn't that of a ring of `storage_length` bytes, `next` doesn't fit 64
+ * bits, or `held.used` is above `runs_length`, or if the segment and an end after it don't fit 64
+ * bits: `NET_BASE_NONE`.
+ *
+ * Requires: head and runs are sound, as `net_base_finite_receiver_is_sound` tests.
  */
-bool net_base_sender_mark_sent(
-    const struct net_base_sender *sender, uint64_t *sent, uint64_t position);
+uint64_t net_base_finite_receiver_count_new(
+    const struct net_base_finite_receiver *receiver, const uint8_t *storage,
+    uint64_t storage_length, const struct net_base_run *runs, uint64_t runs_length,
+    uint64_t position, uint64_t len);
 
-/* Drops the bytes below `next`, if they were sent, and returns whether it did: false, and nothing
- * changes, if `next` is below `first_unacknowledged` or above `sent`, or `sent` is above the
- * position after the last byte. `sent` is the position after the last byte that was ever sent, as
- * `net_base_sender_mark_sent` keeps it.
+/* Keeps the bytes of a segment that are in the free window and below the end, as
+ * `net_base_receiver_segment` does. `is_last` says that the stream ends after the segment; the end
+ * is taken if it is at most the end of the free window.
  *
- * It is refused if `sender` isn't that of a sender over `capacity` bytes: false, and nothing
- * changes.
+ * Returns what `net_base_receiver_segment` does, and is refused where that is, and also if the
+ * number after the segment doesn't fit 64 bits; or `NET_BASE_OTHER_END`, and nothing changes, if
+ * the segment says that the stream ends where it can't, as `net_base_finite_receiver_can_end`
+ * tells.
+ *
+ * Requires: head, storage and runs are sound, as `net_base_finite_receiver_is_sound` tests.
  */
-bool net_base_sender_acknowledge_sent(
-    struct net_base_sender *sender, uint64_t capacity, uint64_t next, uint64_t sent);
+uint32_t net_base_finite_receiver_segment(
+    struct net_base_finite_receiver *receiver, uint8_t *storage, uint64_t storage_length,
+    struct net_base_run *runs, uint64_t runs_length, uint64_t position, const uint8_t *bytes,
+    uint64_t bytes_length, bool is_last, struct net_base_kept_counts *counts);
 
 /* Senders of a stream that ends. Once one is closed nothing can be written, and the end has the
  * number after the last byte's: it is sent and acknowledged as a byte is, and takes no room.
@@ -1228,6 +1171,63 @@ bool net_base_tcp_is_checksum_valid(const uint8_t *bytes, uint64_t bytes_length)
  * (RFC 1624, equation 3).
  */
 uint16_t net_base_tcp_updated_checksum(uint16_t checksum, uint16_t old, uint16_t new);
+
+/* Random words, drawn from a state that the caller keeps. Any state is allowed; the words are not
+ * fit for cryptography. The generator is smoltcp's, sPCG32: a step multiplies the state by
+ * 0xbb2efcec3c39611d and adds 0x7590ef39, and the word of a state is the low 32 bits of `state >>
+ * (29 - (state >> 61))`.
+ */
+
+/* Steps `state` to the next one, and returns its random word, of 32 bits. */
+uint32_t net_base_rand_u32(uint64_t *state);
+
+/* Draws 16 bits until a draw is above 1024, and returns it. It returns from every state, after at
+ * most 2^64 draws.
+ */
+uint16_t net_base_rand_source_port(uint64_t *state);
+
+/* Steps `state` to the next one, and returns its random word times `bound`, divided by 2^32 and
+ * rounded down: a number below `bound`. Each number below `bound` is the result for equally many
+ * words, or for one more.
+ *
+ * If `bound` is 0, it is refused: it returns 2^64 - 1, and `state` stays as it is.
+ */
+uint64_t net_base_rand_below(uint64_t *state, uint32_t bound);
+
+/* Sequence numbers of 32 bits, which wrap, and the positions of 64 bits, which don't.
+ *
+ * A receiver and a sender count in positions; TCP's segments have numbers. If position 0 has the
+ * number `initial`, each position has one number, and a number has one position near a given one.
+ * In TCP segments with numbers before that of the first byte arrive too, as old duplicates. If the
+ * first byte has position 0, no position has such a number. If it has the position 2^32 + its
+ * number, each has one: then `initial` is 0, and the low 32 bits of a position are its number.
+ */
+
+/* Returns whether a position near `next` has a number, if position 0 has the number `initial`, and
+ * if so writes it to `position`: it is less than 2^31 after `next`, or at most 2^31 before it.
+ */
+bool net_base_sequence_number_position(
+    uint32_t number, uint32_t initial, uint64_t next, uint64_t *position);
+
+/* Moments (signed, from an origin of the caller's own) and lengths of time, in microseconds.
+ *
+ * Both are numbers: C adds and compares them, and divides by 1,000 and 1,000,000. Here is what
+ * overflows if C computes it.
+ */
+
+/* Returns `instant + duration`, or `INT64_MAX` if that is above it. */
+int64_t net_base_instant_saturating_add(int64_t instant, uint64_t duration);
+
+/* Returns how far apart two moments are, whichever is the later one. Any two have a distance. */
+uint64_t net_base_instant_distance(int64_t instant, int64_t other);
+
+/* The version of this interface. */
+
+/* Returns the version of this interface, which is in the name too: a program that calls this
+ * doesn't link with an archive of another version. Each version whose structs or functions differ
+ * has another number.
+ */
+uint32_t net_base_abi_2(void);
 
 /* END */
 

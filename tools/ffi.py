@@ -27,7 +27,8 @@ ROOT = pathlib.Path(__file__).resolve().parent.parent
 EXPORTS = ROOT / "crates/net_ffi"
 HEADER = ROOT / "c/net_base.h"
 # Modules whose sections come first: what the others refer to.
-FIRST = ["refusals", "ring", "results"]
+FIRST = ["refusals", "ring", "results", "packets", "assembler", "fragments", "receiver", "sender", "scoreboard"]
+FIRST += ["finite_receiver", "finite_sender", "tcp"]
 PAGE = ROOT / "docs/FFI.md"
 PAGE_BEGIN = "<!-- Written by tools/ffi.py from crates/net_ffi/src/lib.rt, up to the line END. -->"
 PAGE_END = "<!-- END -->"
@@ -356,14 +357,21 @@ def page(crate, path):
     return before + PAGE_BEGIN + "\n" + "\n\n".join(parts) + "\n" + PAGE_END + rest.split(PAGE_END, 1)[1]
 
 
+def without_layout(text):
+    """The text of a program without what `rt fmt` changes: spaces, last commas, braces of a single import."""
+    text = re.sub(r"\{(\w+)\};", r"\1;", text)
+    return "".join(re.sub(r",(?=\s*[)}\]])", "", text).split())
+
+
 def put(files, only_compares):
-    """Writes files, or returns whether one of them is stale, and says so."""
+    """Writes files, or returns whether one of them is stale, and says so. `rt fmt` lays out those of Rattle."""
     stale = False
     for path, text in files.items():
+        same = without_layout if path.suffix == ".rt" else str
         if not only_compares:
             path.parent.mkdir(exist_ok=True)
             path.write_text(text)
-        elif not path.exists() or path.read_text() != text:
+        elif not path.exists() or same(path.read_text()) != same(text):
             print(f"{path.relative_to(ROOT)}: stale, run python3 tools/ffi.py")
             stale = True
     return stale

@@ -451,5 +451,5 @@ def written():
     files = {WRITTEN / f"{head.section}.rt": file_of(head, exports) for head, exports in found}
     files[ffi.EXPORTS / "src/heads.rt"] = "\n".join(
         ["//! Exports that are methods of heads: each is a line of tools/heads.txt. Written by tools/ffi.py.",
-         *[f"mod {head.section};" for head, _ in found]]) + "\n"
+         *sorted(f"mod {head.section};" for head, _ in found)]) + "\n"
     return files

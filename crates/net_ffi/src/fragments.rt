@@ -6,7 +6,8 @@ ghost use Rattle.net_base.specs.Fragments.{IsComplete, with_fragment};
 ghost use Rattle.net_base.specs.FragmentParts.{HasSoundParts, IsExact, IsPlausible, fragments_of};
 
 use crate::refusals::{
-    NET_BASE_DONE, NET_BASE_MISSING, NET_BASE_REFUSED, NET_BASE_TOO_LONG, NET_BASE_TOO_MANY_RUNS, NO_FRONT,
+    NET_BASE_DONE, NET_BASE_MISSING, NET_BASE_REFUSED, NET_BASE_TOO_LONG, NET_BASE_TOO_MANY_RUNS,
+    NO_FRONT,
 };
 use crate::results::FrontLength;
 use net_assembler::Run;

@@ -181,8 +181,11 @@ pub extern "C" fn net_base_receiver_run_at(
         storage.now runs.now }
     ensures run { IsPlausible (length storage.now) (length runs.now) receiver.now → result ≡ unwrap_or (slice_get
         (maximal_runs (domain (receiver_of receiver.now storage.now runs.now).held)) index) (0, 0) }
-    ensures refused { (IsPlausible (length storage.now) (length runs.now) receiver.now → ⊥) → result ≡ (2 ^ 64 - 1, 2
-        ^ 64 - 1) }
+    ensures refused { (IsPlausible (length storage.now) (length runs.now) receiver.now → ⊥) → result ≡ (
+      2 ^ 64 - 1,
+      2
+          ^ 64 - 1,
+    ) }
 {
     if !is_plausible(receiver, storage.len(), runs.len()) {
         return HeldRun {

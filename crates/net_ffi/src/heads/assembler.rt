@@ -11,7 +11,9 @@ ghost use Rattle.std.specs.List.{slice_get};
 ghost use Rattle.std.specs.Prelude.{IsFalse, IsTrue, List, OnErr, if◌then◌else◌, length, unwrap_or, ℕ, ◌+◌, ◌-◌};
 ghost use Rattle.std.specs.Prelude.{◌<◌, ◌^◌, ◌↔◌, ◌≡◌, ◌≤◌};
 
-use crate::refusals::{NET_BASE_DONE, NET_BASE_MISSING, NET_BASE_PRESENT, NET_BASE_REFUSED, NO_FRONT, NO_RUN};
+use crate::refusals::{
+    NET_BASE_DONE, NET_BASE_MISSING, NET_BASE_PRESENT, NET_BASE_REFUSED, NO_FRONT, NO_RUN,
+};
 use crate::results::{FrontLength, front_length, presence_of, run_of, status_of};
 use net_assembler::{AssemblerHead, Run};
 
@@ -148,10 +150,16 @@ pub extern "C" fn net_base_assembler_remove_front(
         (result.length ≡ 0) × (assembler.new ≡ assembler.old) × (runs.new ≡ runs.old) }
 {
     if assembler.used > runs.len() {
-        return FrontLength { status: NET_BASE_REFUSED, length: 0 };
+        return FrontLength {
+            status: NET_BASE_REFUSED,
+            length: 0,
+        };
     }
     let length = assembler.remove_front(runs);
-    FrontLength { status: NET_BASE_DONE, length }
+    FrontLength {
+        status: NET_BASE_DONE,
+        length,
+    }
 }
 
 /// Removes the positions below `count`, counts the others from there, so that position `count` is
@@ -203,10 +211,16 @@ pub extern "C" fn net_base_assembler_peek_front(
         (result.length ≡ 0) }
 {
     if assembler.used > runs.len() {
-        return FrontLength { status: NET_BASE_REFUSED, length: 0 };
+        return FrontLength {
+            status: NET_BASE_REFUSED,
+            length: 0,
+        };
     }
     let length = assembler.peek_front(runs);
-    FrontLength { status: NET_BASE_DONE, length }
+    FrontLength {
+        status: NET_BASE_DONE,
+        length,
+    }
 }
 
 /// Returns `NET_BASE_PRESENT` if `position` is present, and `NET_BASE_MISSING` if it isn't.

@@ -17,12 +17,12 @@ ghost use Rattle.net_ring.specs.RingHead.{IsSound as IsSoundPlace, ring_at};
 ghost use Rattle.std.specs.Prelude.{IsFalse, IsTrue, List, drop, if◌then◌else◌, length, min, slice_range, take, ℕ};
 ghost use Rattle.std.specs.Prelude.{◌++◌, ◌+◌, ◌-◌, ◌<◌, ◌==◌, ◌^◌, ◌↔◌, ◌≡◌};
 
-use crate::finite_receiver::{has_number};
+use crate::finite_receiver::has_number;
 use crate::receiver::{has_next, is_plausible};
 use crate::refusals::{NET_BASE_MISSING, NET_BASE_NONE, NET_BASE_PRESENT, NET_BASE_REFUSED};
-use crate::results::{presence_of};
-use net_assembler::{Run};
-use net_receiver::{FiniteReceiverHead};
+use crate::results::presence_of;
+use net_assembler::Run;
+use net_receiver::FiniteReceiverHead;
 
 /// Returns whether these are the head, the storage and the runs of a receiver of a stream that
 /// ends. It looks at each run, and at no byte.
@@ -182,7 +182,9 @@ pub extern "C" fn net_base_finite_receiver_count_new(
     ensures refused { ((IsPlausible (length storage.now) (length runs.now) receiver.now.receiver) × (position + len
         < no_end) → ⊥) → result ≡ 2 ^ 64 - 1 }
 {
-    if !is_plausible(&receiver.receiver, storage.len(), runs.len()) || !FiniteReceiverHead::fits(position, len) {
+    if !is_plausible(&receiver.receiver, storage.len(), runs.len())
+        || !FiniteReceiverHead::fits(position, len)
+    {
         return NET_BASE_NONE;
     }
     receiver.count_new(storage, runs, position, len)

@@ -12,8 +12,8 @@ ghost use Rattle.std.specs.Prelude.{IsFalse, IsTrue, List, if◌then◌else◌, 
 ghost use Rattle.std.specs.Prelude.{◌-◌, ◌==◌, ◌^◌, ◌↔◌, ◌≡◌, ◌≤◌};
 
 use crate::refusals::{NET_BASE_MISSING, NET_BASE_NONE, NET_BASE_PRESENT, NET_BASE_REFUSED};
-use crate::results::{presence_of};
-use net_receiver::{FiniteSenderHead};
+use crate::results::presence_of;
+use net_receiver::FiniteSenderHead;
 
 /// Returns whether this is the head of a sender of a stream that ends over a storage of `capacity`
 /// bytes.

@@ -16,8 +16,8 @@ ghost use Rattle.std.specs.declared.option.Option.TheVariants.{None, Some};
 
 use crate::refusals::{NET_BASE_MISSING, NET_BASE_PRESENT, NET_BASE_REFUSED};
 use crate::results::{presence_of, status_of_fragment};
-use net_assembler::{Run};
-use net_base::storage::{FragmentsHead};
+use net_assembler::Run;
+use net_base::storage::FragmentsHead;
 
 /// Returns whether the head is that of a buffer of `capacity` bytes and of these runs. It looks at
 /// each run.
@@ -68,8 +68,7 @@ pub extern "C" fn net_base_fragments_set_total_size(
     ensures too_long { ((done_or_error result) ≡ Err TooLong) ↔ (capacity < size) }
     ensures other_size { ((done_or_error result) ≡ Err OtherSize) ↔ ((size ≤ capacity) × DiffersFrom (total_of
         fragments.old) size) }
-    ensures refused { IsErr (done_or_error result) ↔ ((capacity < size) ⊎ DiffersFrom (total_of fragments.old) size)
-        }
+    ensures refused { IsErr (done_or_error result) ↔ ((capacity < size) ⊎ DiffersFrom (total_of fragments.old) size) }
     ensures exact { IsExact fragments.old → IsExact fragments.new }
     ensures status { IsStatus result }
 {

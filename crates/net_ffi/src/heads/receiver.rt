@@ -18,8 +18,8 @@ ghost use Rattle.std.specs.Prelude.{IsFalse, IsTrue, List, drop, length, min, sl
 ghost use Rattle.std.specs.Prelude.{◌<◌, ◌^◌, ◌↔◌, ◌∷◌, ◌≡◌, ◌≤◌};
 
 use crate::receiver::{has_next, is_plausible};
-use crate::refusals::{NET_BASE_NONE};
-use net_assembler::{Run};
+use crate::refusals::NET_BASE_NONE;
+use net_assembler::Run;
 use net_receiver::{HeldRun, ReceiverHead};
 
 /// Returns whether these are the head, the storage and the runs of a receiver. It looks at each

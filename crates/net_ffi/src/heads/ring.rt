@@ -37,8 +37,7 @@ pub extern "C" fn net_base_ring_unallocated(
 ) -> Span
     ensures from { IsSound capacity place.now → result.from ≡ free_index capacity place.now offset }
     ensures count { IsSound capacity place.now → result.count ≡ min size (capacity - place.now.length - offset) }
-    ensures contiguous { IsSound capacity place.now → result.contiguous ≡ min result.count (capacity - result.from)
-        }
+    ensures contiguous { IsSound capacity place.now → result.contiguous ≡ min result.count (capacity - result.from) }
     ensures within { IsSound capacity place.now → (result.from ≤ capacity) × IsWithin capacity result }
     ensures refused { (IsSound capacity place.now → ⊥) → result ≡ nowhere }
 {
@@ -62,8 +61,7 @@ pub extern "C" fn net_base_ring_allocated(
 ) -> Span
     ensures from { IsSound capacity place.now → result.from ≡ queued_index capacity place.now offset }
     ensures count { IsSound capacity place.now → result.count ≡ min size (place.now.length - offset) }
-    ensures contiguous { IsSound capacity place.now → result.contiguous ≡ min result.count (capacity - result.from)
-        }
+    ensures contiguous { IsSound capacity place.now → result.contiguous ≡ min result.count (capacity - result.from) }
     ensures within { IsSound capacity place.now → (result.from ≤ capacity) × IsWithin capacity result }
     ensures refused { (IsSound capacity place.now → ⊥) → result ≡ nowhere }
 {
@@ -159,8 +157,7 @@ pub extern "C" fn net_base_ring_enqueue_span(
 ) -> Span
     ensures from { IsSound capacity place.old → result.from ≡ free_index capacity (rewound place.old) 0 }
     ensures count { IsSound capacity place.old → result.count ≡ min size (capacity - place.old.length) }
-    ensures contiguous { IsSound capacity place.old → result.contiguous ≡ min result.count (capacity - result.from)
-        }
+    ensures contiguous { IsSound capacity place.old → result.contiguous ≡ min result.count (capacity - result.from) }
     ensures within { IsSound capacity place.old → (result.from ≤ capacity) × IsWithin capacity result }
     ensures place { IsSound capacity place.old → place.new ≡ enqueued_place result.count (rewound place.old) }
     ensures sound { IsSound capacity place.old → IsSound capacity place.new }
@@ -212,8 +209,7 @@ pub extern "C" fn net_base_ring_dequeue_span(
 ) -> Span
     ensures from { IsSound capacity place.old → result.from ≡ queued_index capacity place.old 0 }
     ensures count { IsSound capacity place.old → result.count ≡ min size place.old.length }
-    ensures contiguous { IsSound capacity place.old → result.contiguous ≡ min result.count (capacity - result.from)
-        }
+    ensures contiguous { IsSound capacity place.old → result.contiguous ≡ min result.count (capacity - result.from) }
     ensures within { IsSound capacity place.old → (result.from ≤ capacity) × IsWithin capacity result }
     ensures place { IsSound capacity place.old → place.new ≡ dequeued_place capacity result.count place.old }
     ensures sound { IsSound capacity place.old → IsSound capacity place.new }

@@ -11,10 +11,12 @@ ghost use Rattle.net_receiver.specs.Losses.{IsLossBound};
 ghost use Rattle.net_receiver.specs.Scoreboards.{IsEnd, IsNextHole, IsSoundBoard, beyond, reported_by};
 ghost use Rattle.std.specs.Prelude.{IsFalse, IsTrue, List, if◌then◌else◌, length, ℕ, ◌-◌, ◌^◌, ◌↔◌, ◌≡◌};
 
-use crate::refusals::{NET_BASE_DONE, NET_BASE_MISSING, NET_BASE_NONE, NET_BASE_PRESENT, NET_BASE_REFUSED};
+use crate::refusals::{
+    NET_BASE_DONE, NET_BASE_MISSING, NET_BASE_NONE, NET_BASE_PRESENT, NET_BASE_REFUSED,
+};
 use crate::results::{Hole, presence_of};
-use net_assembler::{Run};
-use net_receiver::{ScoreboardHead};
+use net_assembler::Run;
+use net_receiver::ScoreboardHead;
 
 /// Returns whether the scoreboard is sound with these runs: `reported` and they are those of an
 /// assembler, `base` isn't reported, and each end fits 64 bits.
@@ -100,10 +102,18 @@ pub extern "C" fn net_base_scoreboard_next_hole(
         (result.start ≡ 0) × (result.end ≡ 0) }
 {
     if !scoreboard.is_sound(runs) {
-        return Hole { status: NET_BASE_REFUSED, start: 0, end: 0 };
+        return Hole {
+            status: NET_BASE_REFUSED,
+            start: 0,
+            end: 0,
+        };
     }
     let (start, end) = scoreboard.next_hole(runs, position, limit);
-    Hole { status: NET_BASE_DONE, start, end }
+    Hole {
+        status: NET_BASE_DONE,
+        start,
+        end,
+    }
 }
 
 /// Writes the position after the last one that was reported to `end`, 0 if none was, and returns

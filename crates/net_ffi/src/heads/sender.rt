@@ -14,8 +14,8 @@ ghost use Rattle.std.specs.Prelude.{IsFalse, IsTrue, List, drop, length, max, mi
 ghost use Rattle.std.specs.Prelude.{◌^◌, ◌↔◌, ◌≡◌, ◌≤◌};
 
 use crate::refusals::{NET_BASE_NONE, NO_SPAN};
-use net_receiver::{SenderHead};
-use net_ring::{Span};
+use net_receiver::SenderHead;
+use net_ring::Span;
 
 /// Returns whether this is the head of a sender over a storage of `capacity` bytes: `place` is that
 /// of a ring of as many, and the position after the queue fits 64 bits.
@@ -119,8 +119,7 @@ pub extern "C" fn net_base_sender_peek_at(
         sender.now.first_unacknowledged) (queue (ring_at storage sender.now.place))) }
     ensures says { IsSoundHead capacity sender.now → (storage : List ℕ) (blocks : List (ℕ × ℕ)) → length storage ≡
         capacity → sender.now.first_unacknowledged ≤ position → (f : ℕ) (w : List ℕ) → Sends f w (sender_of
-        sender.now storage blocks) → MatchesStream f w position (take result.contiguous (drop result.from storage))
-        }
+        sender.now storage blocks) → MatchesStream f w position (take result.contiguous (drop result.from storage)) }
     ensures refused { (IsSoundHead capacity sender.now → ⊥) → result ≡ nowhere }
 {
     if !sender.is_sound(capacity) {
