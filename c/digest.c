@@ -1,5 +1,6 @@
-/* digest [CALLS]: random calls on one ring, assembler and so on, and a digest of all that they return. The example
- * `digest` of the Cargo crate makes the same ones: two compilers of the same proved text, one digest.
+/* digest [CALLS]: random calls on one ring, assembler and so on, and a digest of all that they
+ * return. The example `digest` of the Cargo crate makes the same ones: two compilers of the same
+ * proved text, one digest.
  */
 #include "net_base.h"
 #include <inttypes.h>
@@ -64,9 +65,15 @@ static void call_ring(void) {
     uint64_t which = below(4), count = scramble(), offset = below(CAPACITY + 4);
     switch (which) {
     case 0: eat(net_base_ring_enqueue_slice(&ring, storage, CAPACITY, data, count)); break;
-    case 1: eat_bytes(into, net_base_ring_dequeue_slice(&ring, storage, CAPACITY, into, count)); break;
-    case 2: eat(net_base_ring_write_unallocated(&ring, storage, CAPACITY, offset, data, count)); break;
-    default: eat_bytes(into, net_base_ring_read_allocated(&ring, storage, CAPACITY, offset, into, count));
+    case 1:
+        eat_bytes(into, net_base_ring_dequeue_slice(&ring, storage, CAPACITY, into, count));
+        break;
+    case 2:
+        eat(net_base_ring_write_unallocated(&ring, storage, CAPACITY, offset, data, count));
+        break;
+    default:
+        eat_bytes(
+            into, net_base_ring_read_allocated(&ring, storage, CAPACITY, offset, into, count));
     }
 }
 
@@ -81,10 +88,16 @@ static void call_assembler(void) {
     uint64_t which = below(5), offset = number(), size = number();
     if (size > UINT64_MAX - offset) size = UINT64_MAX - offset;
     switch (which) {
-    case 0: eat(net_base_assembler_add(&assembler, runs, RUNS, offset, size) == NET_BASE_DONE); break;
-    case 1: eat_front(net_base_assembler_add_then_remove_front(&assembler, runs, RUNS, offset, size)); break;
+    case 0:
+        eat(net_base_assembler_add(&assembler, runs, RUNS, offset, size) == NET_BASE_DONE);
+        break;
+    case 1:
+        eat_front(net_base_assembler_add_then_remove_front(&assembler, runs, RUNS, offset, size));
+        break;
     case 2: eat(net_base_assembler_remove_front(&assembler, runs, RUNS).length); break;
-    case 3: eat(net_base_assembler_contains(&assembler, runs, RUNS, offset) == NET_BASE_PRESENT); break;
+    case 3:
+        eat(net_base_assembler_contains(&assembler, runs, RUNS, offset) == NET_BASE_PRESENT);
+        break;
     default: net_base_assembler_shift(&assembler, runs, RUNS, offset);
     }
     eat(assembler.used);
@@ -109,8 +122,12 @@ static void call_receiver(void) {
         eat(counts.kept);
         eat(counts.queued);
         break;
-    case 1: eat_bytes(into, net_base_receiver_read(&receiver, storage, CAPACITY, into, count)); break;
-    case 2: eat(net_base_receiver_count_new(&receiver, storage, CAPACITY, runs, RUNS, position, count)); break;
+    case 1:
+        eat_bytes(into, net_base_receiver_read(&receiver, storage, CAPACITY, into, count));
+        break;
+    case 2:
+        eat(net_base_receiver_count_new(&receiver, storage, CAPACITY, runs, RUNS, position, count));
+        break;
     default:
         count = net_base_receiver_newest_runs(
             &receiver, storage, CAPACITY, runs, RUNS, position, recent, 3, held, 3);
@@ -143,20 +160,27 @@ static void call_scoreboard(void) {
     static struct net_base_scoreboard scoreboard;
     static struct net_base_run runs[RUNS];
     static uint64_t acknowledged;
-    uint64_t which = below(8), start = near(acknowledged), end = near(acknowledged), limit = near(acknowledged);
+    uint64_t which = below(8), start = near(acknowledged), end = near(acknowledged),
+             limit = near(acknowledged);
     struct net_base_hole hole;
     switch (which) {
     case 0:
         if (start < UINT64_MAX / 2 && start > acknowledged) acknowledged = start;
         net_base_scoreboard_acknowledge(&scoreboard, runs, RUNS, acknowledged);
         break;
-    case 1: case 2: eat(net_base_scoreboard_contains(&scoreboard, runs, RUNS, start) == NET_BASE_PRESENT); break;
-    case 3: case 4:
+    case 1:
+    case 2:
+        eat(net_base_scoreboard_contains(&scoreboard, runs, RUNS, start) == NET_BASE_PRESENT);
+        break;
+    case 3:
+    case 4:
         hole = net_base_scoreboard_next_hole(&scoreboard, runs, RUNS, start, limit);
         eat(hole.start < hole.end);
         eat(hole.start < hole.end ? hole.start ^ hole.end : 0);
         break;
-    default: eat(net_base_scoreboard_report(&scoreboard, runs, RUNS, start, end, limit) == NET_BASE_DONE);
+    default:
+        eat(net_base_scoreboard_report(&scoreboard, runs, RUNS, start, end, limit)
+            == NET_BASE_DONE);
     }
 }
 
@@ -165,10 +189,15 @@ static void call_fragments(void) {
     static struct net_base_run runs[RUNS];
     static uint8_t storage[CAPACITY];
     uint64_t which = below(16), count = scramble(), offset = number();
-    if (which == 0) net_base_fragments_reset(&fragments, (int64_t)offset);
-    else if (which == 1) eat(net_base_fragments_set_total_size(&fragments, CAPACITY, offset) == NET_BASE_DONE);
-    else eat(net_base_fragments_add(&fragments, storage, CAPACITY, runs, RUNS, offset, data, count) == NET_BASE_DONE);
-    struct net_base_front_length whole = net_base_fragments_complete(&fragments, CAPACITY, runs, RUNS);
+    if (which == 0)
+        net_base_fragments_reset(&fragments, (int64_t)offset);
+    else if (which == 1)
+        eat(net_base_fragments_set_total_size(&fragments, CAPACITY, offset) == NET_BASE_DONE);
+    else
+        eat(net_base_fragments_add(&fragments, storage, CAPACITY, runs, RUNS, offset, data, count)
+            == NET_BASE_DONE);
+    struct net_base_front_length whole =
+        net_base_fragments_complete(&fragments, CAPACITY, runs, RUNS);
     eat(whole.status == NET_BASE_DONE);
     if (whole.status == NET_BASE_DONE) eat_bytes(storage, whole.length);
     eat(net_base_fragments_is_expired(&fragments, (int64_t)draw()));
@@ -180,11 +209,13 @@ static void call_packets(void) {
     static uint8_t storage[CAPACITY];
     uint64_t which = below(2), count = scramble();
     if (which == 0) {
-        struct net_base_packet_place place = net_base_packets_enqueue(&packets, slots, SLOTS, CAPACITY, count);
+        struct net_base_packet_place place =
+            net_base_packets_enqueue(&packets, slots, SLOTS, CAPACITY, count);
         eat(place.slot != UINT64_MAX);
         if (place.slot != UINT64_MAX) memcpy(storage + place.from, data, count);
     } else {
-        struct net_base_first_packet first = net_base_packets_dequeue(&packets, slots, SLOTS, CAPACITY);
+        struct net_base_first_packet first =
+            net_base_packets_dequeue(&packets, slots, SLOTS, CAPACITY);
         eat(first.slot != UINT64_MAX);
         if (first.slot != UINT64_MAX) eat_bytes(storage + first.from, first.size);
     }
@@ -201,10 +232,8 @@ static void call_numbers(void) {
     case 1: eat(net_base_rand_source_port(&seed)); break;
     case 2: eat((uint64_t)net_base_instant_saturating_add((int64_t)one, other)); break;
     case 3: eat(net_base_instant_distance((int64_t)one, (int64_t)other)); break;
-    case 4: eat(net_base_sequence_number_is_before(left, right)); break;
-    default:
-        eat(net_base_sequence_number_position(left, right, other, &result));
-        eat(result);
+    case 4: eat(net_base_rand_below(&seed, left | 1)); break;
+    default: eat(net_base_sequence_number_position(left, right, other, &result)); eat(result);
     }
 }
 

@@ -38,7 +38,7 @@ PAIRS = {"(": ")", "[": "]", "{": "}"}
 def renamed():
     """The names that calls have in the Cargo crate alone, each with the one that it has here."""
     names = {}
-    for old, new in (pair for pairs in erase_list.REPLACED.values() for pair in pairs):
+    for _file, old, new in erase_list.REPLACED:
         here, there = re.findall(r"\bfn (\w+)", old), re.findall(r"\bfn (\w+)", new)
         names.update((rust, rattle) for rattle, rust in zip(here, there) if rattle != rust)
     return names

@@ -245,7 +245,7 @@ impl Values<'_> {
             1 => run.eat(self.rand.rand_source_port().into()),
             2 => run.eat((moment + Duration::from_micros(other)).total_micros() as u64),
             3 => run.eat((moment - Instant::from_micros(other as i64)).total_micros()),
-            4 => run.eat_truth(left.is_before(right)),
+            4 => run.eat(self.rand.below(left.get() | 1).into()),
             _ => {
                 let position = left.position(right, other);
                 run.eat_truth(position.is_some());

@@ -117,5 +117,8 @@ fn an_end_that_is_counted_is_within_the_window() {
     let mut storage = [0; 3];
     let mut receiver: FiniteReceiver<1> = FiniteReceiver::empty_at(&mut storage[..], 0);
     assert!(receiver.segment(0, b"abc", true).is_ok());
-    assert_eq!((receiver.acknowledged(), receiver.window_end(), receiver.receiver().window_end()), (4, Some(4), Some(3)));
+    assert_eq!(
+        (receiver.acknowledged(), receiver.window_end(), receiver.receiver().window_end()),
+        (4, Some(4), Some(3))
+    );
 }

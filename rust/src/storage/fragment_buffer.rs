@@ -16,10 +16,7 @@ impl<'a> FragmentBuffer<'a> {
     /// # let mut bytes = [0u8; 8];
     /// assert!(FragmentBuffer::new(&mut bytes[..], Instant::ZERO).is_empty());
     /// ```
-    pub fn new<S: Into<ManagedSlice<'a, u8>>>(
-        storage: S,
-        expires_at: Instant,
-    ) -> FragmentBuffer<'a> {
+    pub fn new<S: Into<ManagedSlice<'a, u8>>>(storage: S, expires_at: Instant) -> Self {
         FragmentBuffer::empty(storage, expires_at)
     }
 }
