@@ -12,7 +12,7 @@
 With --target NAME only that one. The archive of NAME is c/lib/NAME/libnet_ffi.a, and
 its digest is beside it, as `sha256sum` prints it. In crates/net_ffi `rt lib` proves what isn't proved yet. Its archive
 is that of x86-64 Linux. The kit compiles the crate for another processor that it knows. For the others, its module for
-wasm64 is rewritten (tools/retarget.py), joined to a shim for C's ABI, and compiled by the kit's clang.
+wasm64 is rewritten (tools/parts/retarget.py), joined to a shim for C's ABI, and compiled by the kit's clang.
 """
 import argparse
 import concurrent.futures
@@ -28,9 +28,9 @@ import subprocess
 import sys
 import tempfile
 
-import elf
+from parts import elf
 import ffi
-import retarget
+from parts import retarget
 
 ROOT = ffi.ROOT
 CRATE = ffi.EXPORTS
@@ -60,7 +60,7 @@ HEADERS = {
 
 
 # Who makes an archive: `rt lib` for this machine; the kit, for another one that it knows; or the kit's clang, of a module
-# that tools/retarget.py rewrites.
+# that tools/parts/retarget.py rewrites.
 RT_LIB, KIT, RETARGETED = "rt lib", "the kit", "rewritten"
 
 

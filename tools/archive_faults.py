@@ -1,7 +1,7 @@
 #!/usr/bin/env python3
 """Plants faults in what makes and checks the archives, and sees each of them: python3 tools/archive_faults.py
 
-- Lines of the module are changed, in ways that depend on the width of a pointer: tools/retarget.py has to refuse each.
+- Lines of the module are changed, in ways that depend on the width of a pointer: tools/parts/retarget.py has to refuse each.
 - A shim swaps two arguments: the test of the exports, or the digest of the sequence, has to differ.
 - Data layouts are another's: 64-bit numbers aligned to 4 bytes, big-endian.
 - An archive is changed, or is that of another target: `archive.py --digest` has to say so.
@@ -19,9 +19,9 @@ import sys
 import tempfile
 
 import archive
-import exports
+from parts import exports
 import ffi
-import retarget
+from parts import retarget
 from archive import TARGETS
 
 sys.path.insert(0, str(archive.ROOT / "c/targets"))

@@ -1,11 +1,11 @@
 #!/usr/bin/env python3
 """Erases Rattle to Rust: what is proved goes, what is executed stays, token by token.
 
-    python3 tools/erase.py             writes rust/src/proved, of the crates that tools/erase_list.py names
+    python3 tools/erase.py             writes rust/src/proved, of the crates that tools/parts/erase_list.py names
     python3 tools/erase.py --check     writes nothing, and names each file that isn't so
 
 A file becomes itself without its *ghost forms*, those of the tables below. A form that isn't known is refused, with its
-file and line. A function's contract becomes a section of its documentation. tools/erase_list.py says what else differs.
+file and line. A function's contract becomes a section of its documentation. tools/parts/erase_list.py says what else differs.
 
 A public function with a precondition begins with a guard, `prove!(..)`, which becomes `assert!(..)`; one without is
 refused, but for those that the list names. What is written has the source's tokens without those of ghost forms, and no
@@ -16,9 +16,9 @@ import sys
 from pathlib import Path
 
 sys.dont_write_bytecode = True
-import erase_list as given
-import erase_words
-from erase_tokens import SPACE, Refused, Text, words
+from parts import erase_list as given
+from parts import erase_words
+from parts.erase_tokens import SPACE, Refused, Text, words
 
 REPOSITORY = Path(__file__).resolve().parent.parent
 OUT = REPOSITORY / 'rust/src/proved'
@@ -286,7 +286,7 @@ def erased(said):
             unused, contracts = unused - eraser.used, contracts + eraser.contracts
             files[OUT / crate / ('mod.rs' if path.name == 'lib.rt' else path.with_suffix('.rs'))] = text
     files[OUT / 'contracts.rs'] = erase_words.page(REPOSITORY, given.CRATES, '\n'.join(contracts))
-    said += [f'tools/erase_list.py: nothing has use for: {text}' for text in sorted(unused)]
+    said += [f'tools/parts/erase_list.py: nothing has use for: {text}' for text in sorted(unused)]
     return files
 
 

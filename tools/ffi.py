@@ -378,8 +378,8 @@ def put(files, only_compares):
 
 
 def main():
-    import exports  # which import this file
-    import heads
+    from parts import exports  # which import this file
+    from parts import heads
 
     parser = argparse.ArgumentParser(description=__doc__.split("\n")[0])
     parser.add_argument("--check", action="store_true", help="compare, write nothing")

@@ -2,7 +2,7 @@
 """python3 tools/rust_faults.py [WORD]: plants the faults of tools/rust_faults.txt in a copy of the Cargo crate, one at a
 time, and says which of its tests see each; those whose line has WORD, or all.
 
-They are in what is by hand, in what tools/erase_list.py replaces, and in Cargo.toml. The list has a line for each, its
+They are in what is by hand, in what tools/parts/erase_list.py replaces, and in Cargo.toml. The list has a line for each, its
 file and its name, then pairs of lines, `- old` and `+ new`, in which `\\n` ends a line; `old` occurs once. Status 1 if a
 fault is seen by no test, or can't be planted. A fault that doesn't compile is seen by the compiler.
 """

@@ -28,7 +28,7 @@ import pathlib
 import re
 import sys
 
-import erase_list
+from parts import erase_list
 
 ROOT = pathlib.Path(__file__).resolve().parent.parent
 CRATES = ROOT / "crates"

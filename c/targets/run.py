@@ -19,10 +19,10 @@ sys.path.insert(0, str(ROOT / "tools"))
 
 import archive  # noqa: E402
 import disassembly  # noqa: E402
-import elf  # noqa: E402
-import exports  # noqa: E402
+from parts import elf  # noqa: E402
+from parts import exports  # noqa: E402
 import ffi  # noqa: E402
-import sequence  # noqa: E402
+from parts import sequence  # noqa: E402
 from archive import TARGETS  # noqa: E402
 
 FLAGS = ["-std=gnu11", "-O2", "-Wall", "-Wextra", "-Werror", "-ffunction-sections"]

@@ -15,7 +15,7 @@ import textwrap
 
 import ffi
 
-TABLE = pathlib.Path(__file__).with_name("heads.txt")
+TABLE = pathlib.Path(__file__).resolve().parents[1] / "heads.txt"
 WRITTEN = ffi.EXPORTS / "src/heads"
 # A value in a clause: a name, perhaps of a field, or what is in brackets.
 TERM = r"(\([^()]*\)|\S+)"

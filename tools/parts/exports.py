@@ -8,7 +8,7 @@ import sys
 
 import ffi
 
-TABLE = pathlib.Path(__file__).resolve().parent / "exports.txt"
+TABLE = pathlib.Path(__file__).resolve().parents[1] / "exports.txt"
 TOKEN = re.compile(r'"[^"]*"|[\[\]{}]|[^\s\[\]{}"]+')
 ANY, SAME = "_", "="
 HEAD = r"""/* Calls each export at the values of tools/exports.txt. Written by `python3 tools/ffi.py --tests`. */

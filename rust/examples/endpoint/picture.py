@@ -1,6 +1,6 @@
 """A picture of one run of rust/examples/endpoint: positions over time.
 
-    python3 tools/endpoint_picture.py TRACE > docs/endpoint.svg
+    python3 rust/examples/endpoint/picture.py TRACE > endpoint.svg
 
 TRACE is what the example writes with `trace=FILE`: for each segment that arrived, and after each read, the time in
 microseconds, the segment's position and length (0 after a read), how many bytes were read, the first missing position,

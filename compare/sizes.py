@@ -1,5 +1,5 @@
 #!/usr/bin/env python3
-"""SMOLTCP=path python3 tools/sizes.py [TARGET]
+"""SMOLTCP=path python3 compare/sizes.py [TARGET]
 
 The bytes of machine code of rust/examples/no_std, a ring, an assembler and a packet queue, over this crate and over
 smoltcp, at `opt-level` "s" and "z", all in one module; for a target that rustc has, or this machine.

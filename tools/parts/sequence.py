@@ -23,7 +23,7 @@ NEAR = {
     ("finite", "next"): "finite_sender.sender.first_unacknowledged",
 }
 
-HEAD = r"""/* sequence [CALLS]: calls of all exports, and a digest of what they return and leave. Written by tools/sequence.py. */
+HEAD = r"""/* sequence [CALLS]: calls of all exports, and a digest of what they return and leave. Written by tools/parts/sequence.py. */
 #include "net_base.h"
 #include <inttypes.h>
 #include <stdio.h>
@@ -313,7 +313,7 @@ def sequence(library):
 
 def empty(library):
     """The source of the empty functions."""
-    rows = ['/* Written by tools/sequence.py. */', '#include "net_base.h"', ""]
+    rows = ['/* Written by tools/parts/sequence.py. */', '#include "net_base.h"', ""]
     for item in library.exports():
         parts = [part for member in item.members for part in ffi.c_members(member)]
         result = ffi.c_type(item.type) if item.type else "void"

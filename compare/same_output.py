@@ -1,5 +1,5 @@
 #!/usr/bin/env python3
-"""SMOLTCP=path python3 tools/same_output.py [--keep FOLDER]
+"""SMOLTCP=path python3 compare/same_output.py [--keep FOLDER]
 
 Runs the program in `rust/examples/ported` over this crate and over smoltcp, and compares what they print; status 1 if
 it differs. smoltcp is a crate of the checkout's files, of which one is changed: what `rand.rs` has for its own crate

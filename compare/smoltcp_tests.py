@@ -1,5 +1,5 @@
 #!/usr/bin/env python3
-"""SMOLTCP=path python3 tools/smoltcp_tests.py [--keep FOLDER]
+"""SMOLTCP=path python3 compare/smoltcp_tests.py [--keep FOLDER]
 
 Runs smoltcp's own tests of `storage` and `time`, and the examples of its page on `phy`, over this crate. It copies the
 crate, appends to each of these files the test module of smoltcp's file of that name, makes the page's examples those of
