@@ -1,5 +1,5 @@
 /* SPDX-License-Identifier: 0BSD */
-/* net-base 0.4.0.
+/* net-base 0.5.0.
  *
  * Functions for C over memory that the caller keeps: rings, packet queues, assemblers, buffers of
  * fragments, receivers, senders and their scoreboards, sequence numbers, time and random words.
@@ -10,9 +10,9 @@
  * Memory
  *
  * A head is a struct of numbers, which the caller keeps beside a storage and, for some heads, runs
- * or slots. A head of zeros is empty. Storage, runs and slots need no initial values (gcc may warn
- * where the first call takes them by `const`). Lengths are in elements; a length of 0 is allowed,
- * of runs too: then no run is held.
+ * or slots. A head of zeros is new, but for what the comment of its kind says. Storage, runs and
+ * slots need no initial values (gcc may warn where the first call takes them by `const`). Lengths
+ * are in elements; a length of 0 is allowed, of runs too: then no run is held.
  *
  * Fields of a head may be read: `length` is how many elements are queued, `used` how many runs are
  * stored. `start` and `end` of a stored run are offsets from `first_start` of the head, so the
@@ -35,18 +35,19 @@
  *    by `net_base_receiver_..`, not its `place` by `net_base_ring_..` or its `held` by
  *    `net_base_assembler_..`. The caller may set a head to zeros, and then what the comment of its
  *    kind says: `first` of a receiver, `first_unacknowledged` of a sender, `base` of a scoreboard,
- *    `expires_at` of a buffer of fragments.
+ *    `expires_at` of a buffer of fragments, `end` of a receiver of a stream that ends.
  * 6. Where a comment says `Requires`, head and runs are sound, as a call whose name ends in
- *    `_is_sound` tests. What calls of its own kind wrote, from an empty head on, is sound.
+ *    `_is_sound` tests. What calls of its own kind wrote, from a new head on, is sound, if each
+ *    slot that `net_base_packets_take_slot` was given was the first one.
  *
  * Refusals
  *
- * All else is tested, before anything else that a comment names: a call that could be refused for
- * two reasons returns what it does if it is refused as nonsense. A refused call changes nothing. It
- * returns `false` if it returns a `bool`; `NET_BASE_REFUSED` if it returns a status, alone or as
- * the first field of a struct; otherwise `NET_BASE_NONE`, alone or as the first field of a struct.
- * `NET_BASE_REFUSED` always means a refusal; `false` and `NET_BASE_NONE` can also be results of
- * calls that are done, as the comments say.
+ * All else is tested, but that a slot that is taken is the first one. Arguments are tested first:
+ * if they are nonsense, that is the refusal, whatever else is wrong. A refused call changes
+ * nothing. It returns `false` if it returns a `bool`; `NET_BASE_REFUSED` if it returns a status,
+ * alone or as the first field of a struct; otherwise `NET_BASE_NONE`, alone or as the first field
+ * of a struct. `NET_BASE_REFUSED` always means a refusal; `false` and `NET_BASE_NONE` can also be
+ * results of calls that are done, as the comments say.
  */
 #ifndef NET_BASE_H
 #define NET_BASE_H
@@ -55,7 +56,7 @@
 
 /* The version: until 1.0 names and structs may change with each minor number. */
 #define NET_BASE_VERSION_MAJOR 0
-#define NET_BASE_VERSION_MINOR 4
+#define NET_BASE_VERSION_MINOR 5
 #define NET_BASE_VERSION_PATCH 0
 
 #ifdef __cplusplus
@@ -370,8 +371,9 @@ struct net_base_first_packet net_base_packets_peek(
     uint64_t slots_length, uint64_t capacity);
 
 /* Removes the first slot in use, which the caller passes as `first`, with its bytes, and returns
- * the index of the first of these bytes. `first` is the slot of the gap before the first packet, or
- * that of the first packet if it has no gap.
+ * the index of the first of these bytes. `first` must be the slot at the index `slots.read_at`:
+ * that of the gap before the first packet, or that of the first packet if it has no gap. Only its
+ * size is tested.
  *
  * A head whose numbers aren't those of rings is refused, and so is a slot that can't be the first
  * one: if none is in use, if its size is above the number of bytes in use, if its bytes aren't
@@ -792,7 +794,7 @@ bool net_base_sender_is_sound(const struct net_base_sender *sender, uint64_t cap
 
 /* Writes the position after the last byte that was written to `end`, and returns true.
  *
- * It is refused if the segment doesn't end within 64 bits: false, and nothing changes.
+ * It is refused if the position after the queue doesn't fit 64 bits: false, and nothing changes.
  */
 bool net_base_sender_end(const struct net_base_sender *sender, uint64_t *end);
 
@@ -836,7 +838,7 @@ bool net_base_sender_acknowledge(struct net_base_sender *sender, uint64_t capaci
  * the position after the last byte that was written. The caller keeps the mark, which begins as the
  * position of the stream's first byte.
  *
- * It is refused if the segment doesn't end within 64 bits: false, and nothing changes.
+ * It is refused if the position after the queue doesn't fit 64 bits: false, and nothing changes.
  */
 bool net_base_sender_mark_sent(
     const struct net_base_sender *sender, uint64_t *sent, uint64_t position);
@@ -906,9 +908,10 @@ uint32_t net_base_scoreboard_contains(
     const struct net_base_scoreboard *scoreboard, const struct net_base_run *runs,
     uint64_t runs_length, uint64_t position);
 
-/* Returns the next range to send again, as a start and an end: it begins at the first position from
- * `pos` on that wasn't reported, and ends at the next one that was, or at `limit`. If there is none
- * below `limit`, both are `limit`.
+/* Returns the next range that wasn't reported, as a start and an end: it begins at the first
+ * position from `position` on that wasn't, and ends at the next one that was, or at `limit`. If
+ * there is none below `limit`, both are `limit`. Most of it may be in flight:
+ * `net_base_scoreboard_lost_below` gives the limit of what is lost.
  *
  * It is refused if `scoreboard` isn't sound with `runs`: the status is `NET_BASE_REFUSED`, and
  * start and end 0.
@@ -981,7 +984,8 @@ bool net_base_finite_receiver_is_sound(
     uint64_t storage_length, const struct net_base_run *runs, uint64_t runs_length);
 
 /* Returns `NET_BASE_PRESENT` if the stream can end at `position`: it is the end that is known, or
- * none is, and no byte is queued or held at it or above. Otherwise `NET_BASE_MISSING`.
+ * none is, and it isn't below the first missing position or a held run's end. Otherwise
+ * `NET_BASE_MISSING`.
  *
  * It is refused if `place` isn't that of a ring of `storage_length` bytes, `next` doesn't fit 64
  * bits, or `held.used` is above `runs_length`: `NET_BASE_REFUSED`.

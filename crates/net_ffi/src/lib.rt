@@ -7,7 +7,7 @@
 //! # Memory
 //!
 //! A head is a struct of numbers, which the caller keeps beside a storage and, for some heads, runs or slots. A head
-//! of zeros is empty. Storage, runs and slots need no initial values (gcc may warn where the first call takes them by
+//! of zeros is new, but for what the comment of its kind says. Storage, runs and slots need no initial values (gcc may warn where the first call takes them by
 //! `const`). Lengths are in elements; a length of 0 is allowed, of runs too: then no run is held.
 //!
 //! Fields of a head may be read: `length` is how many elements are queued, `used` how many runs are stored. `start`
@@ -29,14 +29,16 @@
 //! 5. A head, its runs and its slots are written by calls of its own kind alone, those of a receiver by
 //!    `net_base_receiver_..`, not its `place` by `net_base_ring_..` or its `held` by `net_base_assembler_..`. The
 //!    caller may set a head to zeros, and then what the comment of its kind says: `first` of a receiver,
-//!    `first_unacknowledged` of a sender, `base` of a scoreboard, `expires_at` of a buffer of fragments.
+//!    `first_unacknowledged` of a sender, `base` of a scoreboard, `expires_at` of a buffer of fragments, `end` of a
+//!    receiver of a stream that ends.
 //! 6. Where a comment says `Requires`, head and runs are sound, as a call whose name ends in `_is_sound` tests. What
-//!    calls of its own kind wrote, from an empty head on, is sound.
+//!    calls of its own kind wrote, from a new head on, is sound, if each slot that `net_base_packets_take_slot` was given
+//!    was the first one.
 //!
 //! # Refusals
 //!
-//! All else is tested, before anything else that a comment names: a call that could be refused for two reasons returns
-//! what it does if it is refused as nonsense. A refused call changes nothing. It returns `false` if it returns a
+//! All else is tested, but that a slot that is taken is the first one. Arguments are tested first: if they are nonsense,
+//! that is the refusal, whatever else is wrong. A refused call changes nothing. It returns `false` if it returns a
 //! `bool`; `NET_BASE_REFUSED` if it returns a status, alone or as the first field of a struct; otherwise
 //! `NET_BASE_NONE`, alone or as the first field of a struct. `NET_BASE_REFUSED` always means a refusal; `false` and
 //! `NET_BASE_NONE` can also be results of calls that are done, as the comments say.

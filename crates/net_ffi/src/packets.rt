@@ -154,8 +154,8 @@ pub extern "C" fn net_base_packets_peek(
 }
 
 /// Removes the first slot in use, which the caller passes as `first`, with its bytes, and returns the index of the
-/// first of these bytes. `first` is the slot of the gap before the first packet, or that of the first packet if it has
-/// no gap.
+/// first of these bytes. `first` must be the slot at the index `slots.read_at`: that of the gap before the first packet,
+/// or that of the first packet if it has no gap. Only its size is tested.
 ///
 /// A head whose numbers aren't those of rings is refused, and so is a slot that can't be the first one: if none is in
 /// use, if its size is above the number of bytes in use, if its bytes aren't contiguous, or if it is a gap's that has

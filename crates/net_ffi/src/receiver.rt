@@ -21,7 +21,7 @@ ghost use Rattle.net_ffi.specs.ReceiverParts.{IsReadable, IsPlausible};
 
 use crate::refusals::{NET_BASE_DONE, NET_BASE_NONE, NET_BASE_REFUSED, NET_BASE_TOO_MANY_RUNS};
 use net_assembler::Run;
-use net_receiver::{HeldRun, ReceiverHead};
+use net_receiver::{HeldRun, ReceiverHead, laws};
 
 /// How many bytes of a segment were kept, and how many joined the queue.
 #[repr(C)]
@@ -119,7 +119,8 @@ pub extern "C" fn net_base_receiver_segment(
     if bytes.len() as u64 > u64::MAX - position {
         return NET_BASE_REFUSED;
     }
-    match receiver.segment(storage, runs, position, bytes) {
+    laws::schedules();
+    match receiver.keep(storage, runs, position, bytes) {
         Ok(accepted) => {
             *counts = KeptCounts {
                 kept: accepted.kept,

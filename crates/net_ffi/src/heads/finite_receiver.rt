@@ -38,7 +38,8 @@ pub extern "C" fn net_base_finite_receiver_is_sound(
 }
 
 /// Returns `NET_BASE_PRESENT` if the stream can end at `position`: it is the end that is known, or
-/// none is, and no byte is queued or held at it or above. Otherwise `NET_BASE_MISSING`.
+/// none is, and it isn't below the first missing position or a held run's end. Otherwise
+/// `NET_BASE_MISSING`.
 ///
 /// It is refused if `place` isn't that of a ring of `storage.len()` bytes, `next` doesn't fit 64
 /// bits, or `held.used` is above `runs.len()`: `NET_BASE_REFUSED`.

@@ -82,9 +82,10 @@ pub extern "C" fn net_base_scoreboard_contains(
     presence_of(scoreboard.contains(runs, position))
 }
 
-/// Returns the next range to send again, as a start and an end: it begins at the first position
-/// from `pos` on that wasn't reported, and ends at the next one that was, or at `limit`. If there
-/// is none below `limit`, both are `limit`.
+/// Returns the next range that wasn't reported, as a start and an end: it begins at the first
+/// position from `position` on that wasn't, and ends at the next one that was, or at `limit`. If
+/// there is none below `limit`, both are `limit`. Most of it may be in flight:
+/// `net_base_scoreboard_lost_below` gives the limit of what is lost.
 ///
 /// It is refused if `scoreboard` isn't sound with `runs`: the status is `NET_BASE_REFUSED`, and
 /// start and end 0.

@@ -28,7 +28,7 @@ pub extern "C" fn net_base_sender_is_sound(sender: &SenderHead, capacity: usize)
 
 /// Writes the position after the last byte that was written to `end`, and returns true.
 ///
-/// It is refused if the segment doesn't end within 64 bits: false, and nothing changes.
+/// It is refused if the position after the queue doesn't fit 64 bits: false, and nothing changes.
 #[unsafe(no_mangle)]
 pub extern "C" fn net_base_sender_end(sender: &SenderHead, end: &mut u64) -> bool
     ensures done { IsTrue result ↔ (sender.now.first_unacknowledged + sender.now.place.length < 2 ^ 64) }
@@ -163,7 +163,7 @@ pub extern "C" fn net_base_sender_acknowledge(
 /// the position after the last byte that was written. The caller keeps the mark, which begins as
 /// the position of the stream's first byte.
 ///
-/// It is refused if the segment doesn't end within 64 bits: false, and nothing changes.
+/// It is refused if the position after the queue doesn't fit 64 bits: false, and nothing changes.
 #[unsafe(no_mangle)]
 pub extern "C" fn net_base_sender_mark_sent(
     sender: &SenderHead,
