@@ -36,7 +36,7 @@
 //!
 //! `alloc`: storage may own a vector. `std`, which is on unless it is turned off: conversions from std's clocks, and
 //! `alloc`. smoltcp's other features are accepted; `segmentation-offload` adds a field, and the others change nothing.
-//! Each target that rustc has will do.
+//! Targets have 32 or 64 bits.
 //!
 //! Overflow panics here in every build, unless an item says otherwise.
 #![no_std]
@@ -66,5 +66,5 @@ pub mod time;
 pub use proved::contracts;
 
 #[cfg(doctest)]
-#[doc = include_str!("refused.md")]
+#[doc = include_str!("refused.txt")]
 struct Refused;
