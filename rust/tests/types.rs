@@ -1,5 +1,6 @@
 //! What the public types' traits give: clones, defaults, comparisons, texts, errors, constants, threads, lifetimes.
 //! Values are written by hand.
+#![allow(clippy::clone_on_copy)]
 use std::collections::hash_map::DefaultHasher;
 use std::error::Error;
 use std::fmt::{Debug, Display};
