@@ -166,7 +166,7 @@ fn assembled() {
 /// Elements of no size take no memory: a ring has as many as a `usize` counts.
 #[test]
 fn longest_ring() {
-    let mut storage = vec![(); usize::MAX];
+    let mut storage = [(); usize::MAX];
     let mut it = RingBuffer::new(&mut storage[..]);
     assert_eq!(
         (it.enqueue_many(usize::MAX).len(), it.window(), it.is_full()),
