@@ -11,7 +11,14 @@ import sys
 sys.dont_write_bytecode = True
 import common
 
-LOOPS = ["ring", "assembler", "stream"]
+LOOPS = {
+    "ring": "16 bytes through a ring",
+    "closures": "the same by closures",
+    "assembler": "an assembler in order",
+    "listed": "four runs listed",
+    "stream": "a segment of 64 bytes, and a read",
+    "times": "moments and lengths",
+}
 ROUNDS = [10_000, 20_000]
 DEFAULT_PROFILE = {"CARGO_PROFILE_RELEASE_LTO": "false", "CARGO_PROFILE_RELEASE_CODEGEN_UNITS": "16"}
 
@@ -37,11 +44,11 @@ def instructions(program, loop):
 
 def main():
     smoltcp = common.need(["cargo", "valgrind"])
-    print("| Crate | 16 bytes through a ring | An assembler in order | A segment of 64 bytes, and a read |")
-    print("|---|---:|---:|---:|")
-    for title, over_smoltcp in [("smoltcp", True), ("net-base", False)]:
-        program = built(smoltcp, over_smoltcp)
-        print(f"| {title} | {' | '.join(f'{instructions(program, loop):.0f}' for loop in LOOPS)} |")
+    programs = built(smoltcp, True), built(smoltcp, False)
+    print("| A round of | smoltcp | net-base |")
+    print("|---|---:|---:|")
+    for loop, title in LOOPS.items():
+        print(f"| {title} | {' | '.join(f'{instructions(program, loop):.0f}' for program in programs)} |")
 
 
 if __name__ == "__main__":

@@ -3,6 +3,10 @@ pub mod storage {
     pub use original4::storage::{Assembler, RingBuffer};
 }
 
+pub mod time {
+    pub use original4::time::{Duration, Instant};
+}
+
 pub mod receiver {
     use managed::ManagedSlice;
     use workloads::receiver::{self, Assembler4};
