@@ -6,6 +6,7 @@ use crate::calls::{
     next_delayed_frame, put_delayed_ack, put_delayed_frame,
 };
 use crate::counted::pattern;
+use net_base::phy::RxToken;
 use net_base::time::Duration;
 use net_ring::ManagedSlice;
 use net_stream::{

@@ -21,7 +21,7 @@ fn shows(
 fn the_first_datagram_is_shown_in_place(rt: HostRuntime) {
     let mut slots = [PacketMetadata::<Endpoint>::EMPTY; 1];
     let mut bytes = [0u8; 4];
-    let mut queue = PacketsOver::<Endpoint, &mut [PacketMetadata<Endpoint>], &mut [u8]>::new(
+    let mut queue = PacketsOver::<Endpoint, &mut [PacketMetadata<Endpoint>], &mut [u8]>::over(
         &mut slots, &mut bytes,
     );
     let from = Endpoint {
