@@ -144,7 +144,9 @@ fn play_packets(
     replies: &mut String,
 ) -> Result<bool, CaseError> {
     let mut packets = packets(alloc, slots, bytes, seed)?;
-    play(alloc, &mut packets, lines, replies)
+    let played = play(alloc, &mut packets, lines, replies);
+    drop(packets);
+    played
 }
 
 /// Appends the replies of a sender of a capacity and of a first position.

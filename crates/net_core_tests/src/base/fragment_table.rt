@@ -20,11 +20,26 @@ fn claims(slots: &mut [Slot<'_>]) -> bool {
 /// Completes the first packet. Returns whether it is handed out once, with its bytes.
 fn hands_out_once(slots: &mut [Slot<'_>]) -> bool {
     take_complete(slots, 7).is_none()
-        && slots[0].buffer.add(0, b"hi").is_ok()
-        && slots[0].buffer.set_total_size(2).is_ok()
+        && fills_first(slots)
         && take_complete(slots, 7) == Some(0)
-        && slots[0].buffer.assemble() == Some(b"hi".as_slice())
+        && first_is_hi(slots)
         && take_complete(slots, 7).is_none()
+}
+
+/// Gives the first slot's buffer all of its packet, `hi`.
+fn fills_first(slots: &mut [Slot<'_>]) -> bool {
+    match slots.first_mut() {
+        Some(slot) => slot.buffer.add(0, b"hi").is_ok() && slot.buffer.set_total_size(2).is_ok(),
+        None => false,
+    }
+}
+
+/// Returns whether the first slot's buffer has the packet `hi`.
+fn first_is_hi(slots: &[Slot<'_>]) -> bool {
+    match slots.first() {
+        Some(slot) => slot.buffer.assemble() == Some(b"hi".as_slice()),
+        None => false,
+    }
 }
 
 /// Lets the second packet expire. Returns whether it is kept up to its last moment.

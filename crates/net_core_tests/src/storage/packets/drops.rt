@@ -25,7 +25,9 @@ fn queue_refuses(alloc: Global, count: usize, drops: &Cell<u32>) -> Result<bool,
         ManagedSlice::Borrowed(&mut slots),
         ManagedSlice::Owned(bytes),
     );
-    Ok(packet_is_refused(&mut queue, drops))
+    let refused = packet_is_refused(&mut queue, drops);
+    drop(queue);
+    Ok(refused)
 }
 
 #[test]
