@@ -1,7 +1,8 @@
 #!/usr/bin/env python3
-"""plot.py [--table] TABLE [TABLE ..] > FILE
+"""plot.py [--table] [--rust] TABLE [TABLE] > FILE
 
-Draws what `timing.py` printed, as SVG: TABLE is the output of `timing.py`, and then of `timing.py --rust`. A row has a
+Draws what `timing.py` printed, as SVG: TABLE is the output of `timing.py`, and then of `timing.py --rust`, or with --rust
+of that alone. A row has a
 mark for each table: the median of the ratios to smoltcp, in a line from the lowest to the highest over placements, above
 a bar for smoltcp by itself. What is outside the scale is drawn at its edge.
 
@@ -96,7 +97,7 @@ def markdown(tables):
     groups = {}
     for name in tables[0]:
         groups.setdefault(name.split()[0], []).append(name)
-    titles = ["in Rattle", "in Rust"][: len(tables)]
+    titles = [title for title, _ in WAYS][: len(tables)]
     head = ["Row", *titles, *(f"instructions {title}" for title in titles)]
     lines = [line(head), "|---" + "|---:" * 2 * len(tables) + "|"]
     for title, group in groups.items():
@@ -111,7 +112,8 @@ def markdown(tables):
 
 
 def main():
-    files = [word for word in sys.argv[1:] if word != "--table"]
+    files = [word for word in sys.argv[1:] if not word.startswith("--")]
+    del WAYS[: "--rust" in sys.argv]
     if not 1 <= len(files) <= len(WAYS):
         sys.exit(__doc__.splitlines()[0])
     tables = [rows(Path(file).read_text()) for file in files]
