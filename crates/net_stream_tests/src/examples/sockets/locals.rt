@@ -34,7 +34,9 @@ fn queue_takes<'a>(slots: Slots<'a>, bytes: ManagedSlice<'a, u8>) -> bool {
 /// Returns whether an inbox over the storage is empty.
 fn inbox_is_empty<'a>(slots: Slots<'a>, bytes: ManagedSlice<'a, u8>) -> bool {
     let mut inbox = Inbox::new(PacketBuffer::new(slots, bytes));
-    inbox.first().is_err()
+    let is_empty = inbox.first().is_err();
+    drop(inbox);
+    is_empty
 }
 
 /// Returns whether a socket takes a datagram to send, over storage of two queues.
