@@ -165,11 +165,10 @@ fn grow_run(
     ensures turns { let n = length runs.old in
         TurnsWithin (binary_digits n) n turns.old turns.new }
 {
-    // The run may begin before the range.
-    let low = start_of(runs, first).min(start);
-    // It meets no other: that run grows.
+    // It meets no other: that run grows. It may begin before the range.
     let second = first + 1;
     if second == used || end < start_of(runs, second) {
+        let low = start_of(runs, first).min(start);
         let high = end_of(runs, first).max(end);
         runs[first] = Run {
             start: low,
@@ -177,14 +176,44 @@ fn grow_run(
         };
         return used;
     }
-    // It meets more of them, up to `next`: all become one run, which ends where the last of them
-    // does, or where the range does.
-    let next = runs_starting_by(&runs[..used], second + 1, end, turns);
+    join_several(runs, used, first, start, end, turns)
+}
+
+/// Joins a range that isn't empty with the run at `first`, the next one, and those after it that it
+/// meets or touches; it meets none before. Returns how many runs are left.
+// A range rarely meets two runs. If this were inline, with its loops, the callers would save more
+// registers for every range.
+#[inline(never)]
+fn join_several(
+    runs: &mut [Run],
+    used: usize,
+    first: usize,
+    start: usize,
+    end: usize,
+    turns: &mut Turns,
+) -> usize
+    requires used { used ≤ length runs.old }
+    requires runs { AreRuns (take used runs.old) }
+    requires some { start < end }
+    requires second { first + 1 < used }
+    requires before { (k : ℕ) → k < first → end_at (take used runs.old) k < start }
+    requires from { start ≤ end_at (take used runs.old) first }
+    requires meets { start_at (take used runs.old) (first + 1) ≤ end }
+    ensures joined { take result runs.new ≡ runs_with_range (take used runs.old) start end }
+    ensures within { result ≤ length runs.old }
+    ensures turns { let n = length runs.old in
+        TurnsWithin (binary_digits n) n turns.old turns.new }
+{
+    // The runs from `first` up to `next` become one, which may begin before the range, and ends
+    // where the last of them does, or where the range does.
+    let low = start_of(runs, first).min(start);
+    let next = runs_starting_by(&runs[..used], first + 2, end, turns);
     let high = end_of(runs, next - 1).max(end);
     runs[first] = Run {
         start: low,
         end: high,
     };
+    let second = first + 1;
     remove_runs(runs, used, second, next, turns);
     used - (next - second)
 }
