@@ -42,6 +42,9 @@ pub use turns::Turns;
 /// other present position touches. Two assemblers are equal exactly if their sets are.
 #[derive(Debug, Drop)]
 pub struct Assembler<const N: usize> {
+    // Invariant: the first `head.used` runs rise, with a hole between neighbours. They are counted from
+    // where the first of them starts, so that it starts at 0; that position is `head.first_start`. Each
+    // end is a number of 64 bits also where it is counted from position 0.
     // The head precedes the runs: so close to the value's beginning, its numbers are read by short
     // instructions.
     head: AssemblerHead,

@@ -1,4 +1,4 @@
-//! Laws of calls one after another, by equations as the contracts of calls state them.
+//! Laws of calls one after another.
 //!
 //! Each function does nothing.
 ghost use Rattle.std.specs.Prelude.{◌≡◌, ◌||◌, ℕ, List};

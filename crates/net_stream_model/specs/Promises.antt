@@ -192,7 +192,7 @@ ExactRounds = (s : Setup) (bytes : List ℕ) (n : ℕ) → HasRoomAtOnce s →
     let c = after s (bytes ∷ [] ∷ []) n in c.status ≡ Done →
     (length bytes ≤ c.rounds * most_read s) × (c.rounds * most_read s < length bytes + most_read s)
 
--- over a link that loses and delays nothing each round writes some bytes
+-- over a link that loses and delays nothing there are no more rounds than bytes
 abbrev pub RoundsAtOnce : Type 0
 RoundsAtOnce = (s : Setup) (reads : List (List ℕ)) (n : ℕ) → CanPass s (after s reads n) →
     AllCome s.fates → AllCome s.ack_fates →

@@ -33,7 +33,8 @@ pub fn rounds_anyway()
     known();
 }
 
-/// States that a round sends at most `3 * max_burst + 1` frames and acknowledgements.
+/// States that a copy sends at most `3 * max_burst + 1` frames and acknowledgements for each of its rounds,
+/// counted over all of them.
 #[tactic(auto, using(crate::proofs::Sizes::few_frames))]
 pub fn sent_frames()
     ensures { FewFrames }

@@ -1,4 +1,7 @@
 //! Laws: when a copy gives up, and what it counts.
+//!
+//! A copy can pass (`CanPass`) if its buffers have room for a byte, and positions are left. Other copies
+//! give up though nothing fails, as those of buffers of no bytes.
 ghost use Rattle.net_stream_model.specs.Promises.{GivesUpAfter, NeverLater, NoMoreRounds, GivesUpIfFailed};
 ghost use Rattle.net_stream_model.specs.Promises.{NeverByDelays, EndsIfAllCome, DoneIfAllCome, FewRounds};
 ghost use Rattle.net_stream_model.specs.Promises.{CountsRounds, CountsEachFate, GivesUpCounted, EnoughFailed};
@@ -29,8 +32,8 @@ pub fn gives_up()
     ensures at_once { NoMoreRounds }
 {}
 
-/// States that a copy gives up only if in each of its last `rounds` rounds the first frame or all
-/// acknowledgements failed to arrive.
+/// States that a copy that can pass gives up only if in each of its last `rounds` rounds the first frame
+/// or all acknowledgements failed to arrive.
 #[tactic(auto, using(crate::proofs::StuckRounds::gives_up_if_failed))]
 pub fn gives_up_if_failed()
     ensures { GivesUpIfFailed }
@@ -38,9 +41,9 @@ pub fn gives_up_if_failed()
     known_of_rounds();
 }
 
-/// States, of a copy whose contract says `Copied` or `HasCopied`, that if it gave up, each of its last `rounds`
-/// rounds failed: in each the first frame or all acknowledgements failed to arrive, in each but the last by
-/// loss. As many rounds were made as counts were told.
+/// States, of a copy that can pass and whose contract says `Copied` or `HasCopied`, that if it gave up, each
+/// of its last `rounds` rounds failed: in each the first frame or all acknowledgements failed to arrive, in
+/// each but the last by loss. As many rounds were made as counts were told.
 #[tactic(auto, using(crate::proofs::GivingUp::rounds_fail, crate::proofs::GivingUp::results_fail))]
 pub fn last_rounds<T>()
     ensures copied { GaveUpByFailing }
@@ -49,8 +52,8 @@ pub fn last_rounds<T>()
     known_of_rounds();
 }
 
-/// States that a copy never gives up if nothing is lost, whatever is delayed or duplicated, and its
-/// `rounds` is above 1.
+/// States that a copy that can pass never gives up if nothing is lost, whatever is delayed or duplicated,
+/// and its `rounds` is above 1.
 #[tactic(auto, using(crate::proofs::StuckRounds::never_by_delays))]
 pub fn delays()
     ensures { NeverByDelays }
@@ -58,8 +61,8 @@ pub fn delays()
     known_of_rounds();
 }
 
-/// States that over a link that loses and delays nothing a copy never gives up, and that it is done if the
-/// reads come to the input's end.
+/// States that over a link that loses and delays nothing a copy that can pass, and whose `rounds` is above
+/// 0, never gives up, and that it is done if the reads come to the input's end.
 #[tactic(auto, using(crate::proofs::StuckRounds::ends_if_all_come, crate::proofs::Written::done_if_all_come))]
 pub fn all_come()
     ensures never { EndsIfAllCome }
@@ -68,8 +71,8 @@ pub fn all_come()
     known_of_rounds();
 }
 
-/// States that a copy makes at most two rounds for each byte that was read, and one for each frame
-/// or acknowledgement that was lost or delayed.
+/// States that a copy that can pass makes at most two rounds for each byte that was read, and one for each
+/// frame or acknowledgement that was lost or delayed.
 #[tactic(auto, using(crate::proofs::StuckRounds::few_rounds))]
 pub fn rounds()
     ensures { FewRounds }
@@ -87,9 +90,9 @@ pub fn counts()
     known_of_rounds();
 }
 
-/// States what a copy that gives up has counted: at least `rounds` rounds, at least `rounds` frames
-/// and acknowledgements that were lost or delayed, and at least `rounds - 1` that were lost. If it
-/// read less than the sender has room for, it hasn't written all that it read.
+/// States what a copy that gives up has counted: at least `rounds` rounds; and, if it can pass, at least
+/// `rounds` frames and acknowledgements that were lost or delayed, and at least `rounds - 1` that were lost.
+/// If it can pass and read less than the sender has room for, it hasn't written all that it read.
 #[tactic(auto, using(crate::proofs::StuckRounds::laws_of_giving_up))]
 pub fn gives_up_counted()
     ensures rounds { GivesUpCounted }
@@ -100,8 +103,8 @@ pub fn gives_up_counted()
 }
 
 /// States that a copy that is done read no more than a chunk a round, and that over a link that
-/// loses and delays nothing each round wrote some bytes. If a round has room for the bytes of a
-/// read, and each read fills its room, a copy makes as many rounds as reads (`exact`).
+/// loses and delays nothing one that can pass makes no more rounds than there are bytes. If a round has room
+/// for the bytes of a read, and each read fills its room, a copy makes as many rounds as reads (`exact`).
 #[tactic(auto, using(crate::proofs::Exact::laws_of_rounds))]
 pub fn enough_rounds()
     ensures least { EnoughRounds }
