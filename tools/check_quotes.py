@@ -16,9 +16,12 @@ In prose, between backquotes,
 - a path has to be a file's, from the top, from `crates` or from a crate's folder on, and a file's name that of a file;
 - a name of a value in an answer, such as `c.part.ensures`, has to be in a file `proofs/**/*.antt`;
 - a path `Rattle.CRATE.specs.FILE` has to be that of a file of a crate's specs;
-- a file with a number of lines after it, such as `specs/Frames.antt`, 24 lines, has to have so many;
+- a file with a number of lines after it, such as `specs/Frames.antt`, 24 lines, has to have that number;
 - each name after the word "clause" has to be that of a clause of some function, and where "of" and a function's name
   follow, of one of that name.
+
+What docs/TRUST.md counts has to be as many in the crates: declarations of C functions, which are axioms, impls that are
+unsafe, and proofs by hand.
 
 Says what is not in the sources, and ends with status 1 if there is anything.
 """
@@ -33,10 +36,8 @@ EXAMPLES = ["net_examples", "net_core_tests", "net_stream_tests"]
 # Where names are looked for.
 SOURCES = ["crates/**/*", "models/*", "compare/**/*", "rust/**/*", "c/**/*", "tools/*", "crates.txt", "HANDLES", ".ci/run", "*", "docs/*"]
 ELSEWHERE = set("""
-    Gone FitsInMemory ManuallyDrop new_unchecked NonZero WouldBlock must_use non_exhaustive
-    pad_integral styled write_char plant tidy my_crate directory logic dac8208d650f15bf
-    axioms trusted nat nano compiler_builtins defmt Format Clinker iproute2 util my my_program CAUSE DATA END MODULE PATH dev null poll_at start_lib BUILD bazel
-    __builtin_add_overflow int32_t mtu Tag_ABI_VFP_args compatible softfp
+    WouldBlock must_use non_exhaustive plant tidy my_crate directory logic dac8208d650f15bf axioms trusted nat defmt
+    Format iproute2 util my CAUSE DATA END MODULE PATH start_lib __builtin_add_overflow int32_t mtu softfp
     c.storage-1.given
 """.split())
 NAME = re.compile(r"[A-Za-z_][A-Za-z0-9_]*")
@@ -219,9 +220,25 @@ def is_spec(span):
 
 
 def has_lines(span, count):
-    """Whether a file that a page names has so many lines; true if there is no such file."""
+    """Whether a file that a page names has `count` lines; true if there is no such file."""
     found = [path for path in ROOT.glob(f"**/{span}") if path.is_file() and "out" not in path.parts]
     return not found or any(len(path.read_text().splitlines()) == count for path in found)
+
+
+def miscounted():
+    """Each thing that docs/TRUST.md counts and of which the crates have another number."""
+    sources = "\n".join(path.read_text() for path in sorted(ROOT.glob("crates/*/src/**/*.rt")))
+    text = " ".join((ROOT / "docs/TRUST.md").read_text().split())
+    numbers = {"none": 0, "one": 1, "ten": 10}
+    counted = {
+        r"This repository declares (\w+)\.": re.findall(r'^\s*(?:unsafe )?extern(?: "\w+")? \{', sources, re.M),
+        r"(\w+) `unsafe impl`": re.findall(r"^\s*unsafe impl\b", sources, re.M),
+        r"Proofs by hand of \[(\w+) functions\]": list(ROOT.glob("crates/*/proofs/**/Proof.antt")),
+    }
+    for form, things in counted.items():
+        said = re.search(form, text)
+        if said is None or numbers.get(said.group(1).lower()) != len(things):
+            yield f"the crates have {len(things)} of what is counted by: {form}"
 
 
 def main():
@@ -284,6 +301,8 @@ def main():
             lines = re.match(r",? (\d+) lines", behind)
             if lines and not has_lines(span, int(lines.group(1))):
                 miss(page, number, f"{span} hasn't {lines.group(1)} lines")
+    for what in miscounted():
+        miss(ROOT / "docs/TRUST.md", 1, what)
     print(f"{counts['blocks']} quoted blocks are in the sources")
     print(f"{counts['examples']} examples of doc comments are in {', '.join(EXAMPLES)}")
     print(f"{counts['clauses']} clauses that pages name are those of their functions")
