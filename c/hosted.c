@@ -15,7 +15,7 @@ static void enqueue(struct net_base_ring *ring, uint8_t *storage, const char *te
     printf("enqueued %" PRIu64 " of %" PRIu64 "\n", count, (uint64_t)strlen(text));
 }
 
-/* Prints what is queued, up to so many bytes. */
+/* Prints what is queued, up to `size` bytes. */
 static void dequeue(struct net_base_ring *ring, const uint8_t *storage, uint64_t size) {
     uint8_t into[CAPACITY];
     uint64_t count = net_base_ring_dequeue_slice(ring, storage, CAPACITY, into, size);
@@ -32,7 +32,7 @@ static void use_ring(void) {
     struct net_base_ring nonsense = {3, CAPACITY + 1};
     uint8_t byte = 0;
     if (net_base_ring_enqueue_slice(&nonsense, storage, CAPACITY, &byte, 1) == UINT64_MAX) {
-        printf("refused: no ring of %d has so many elements\n", CAPACITY);
+        printf("refused: no ring of %d has %d elements\n", CAPACITY, CAPACITY + 1);
     }
 }
 

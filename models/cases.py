@@ -22,7 +22,7 @@ import texts
 import worked
 
 SEED = 54
-# What draws rows, and so many lines of them.
+# What draws rows, and how many lines of them.
 PARTS = [
     (ring.draw, 6200),
     (small.draw_cells, 700),

@@ -110,7 +110,7 @@ def copied(length, numbers, is_shown):
 
 
 def ended(length, words):
-    """The status, the output and what standard error says, of these words and an input of so many bytes."""
+    """The status, the output and what standard error says, of these words and an input of `length` bytes."""
     output, told = b"", ""
     if words and HELP(words[0] == "--help"):
         status, output = 0, USAGE.encode()
@@ -127,7 +127,7 @@ def ended(length, words):
 
 
 def reply(length, words):
-    """What comes of these words and an input of so many bytes, as a row shows it."""
+    """What comes of these words and an input of `length` bytes, as a row shows it."""
     status, output, told = ended(length, words)
     first = "".join(" " + line for line in told.split("\n")[:1] if told)
     return f"{STATUS.note(status)} {show_lent(output)} {show_lent(told.encode())}{first}"

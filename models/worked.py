@@ -18,8 +18,8 @@ import sender
 import small
 import tcp
 
-# The test of smoltcp, if there is one; and calls of a ring of so many bytes, each with how its reply begins: counts, and
-# what is lent or refused.
+# The test of smoltcp, if there is one; how many bytes a ring has; and its calls, each with how its reply begins: counts,
+# and what is lent or refused.
 RINGS = [
     ("test_buffer_enqueue_slice",
      12, "enqueue_slice 8 1: 8; dequeue_one 46: 1:; dequeue_one 46: 1:; dequeue_one 46: 1:; "
@@ -86,7 +86,7 @@ RINGS = [
     ("", 1, "dequeue_one_with 0 1: empty; enqueue_slice 2 1: 1; enqueue_one_with 0 1: full; dequeue_slice 1 2: 1"),
 ]
 
-# The same of a packet queue of so many slots and bytes.
+# The same of a packet queue: how many slots and bytes it has.
 PACKETS = [
     ("test_simple, test_peek",
      4, 16, "peek: empty; dequeue 1: empty; take 1: empty; pop_slice 0 1: empty; dequeue_with 1 1 1: empty; "
@@ -130,7 +130,7 @@ LONG_PACKETS = [
               "dequeue 6: 2 600#; pop_slice 2000 7: 3 2000"),
 ]
 
-# The same of an assembler of so many runs, and the runs then.
+# The same of an assembler: its most runs, its calls, and the runs then.
 ASSEMBLERS = [
     ("", 4, "add 10 3: ok; add 20 3: ok; hole_at 0: 0-10; hole_at 1: 13-20; hole_at 2: none; holes: 2#; "
      "shift 5: done|0 0 2 15-18 5-8; shift 6: done|2 0 2 9-12 0-2; hole_at 0: 2-9; hole_at 1: none; shift 0: done|2 0 2; "
@@ -204,7 +204,7 @@ SETS = [
        f"[ {f'({hole}) {data} ' * 32}]") for hole, data in ((7, 3), (7 * 10 ** 16, 5 * 10 ** 17))),
 ]
 
-# Calls of a sender of so many bytes, from a first position on.
+# How many bytes a sender has, its first position, and its calls.
 SENDERS = [
     (8, 100, "write 6 1: 6|0 6 6 2 0; acknowledge 104: done|4 6 2 6 0; write 4 2: 4|4 10 6 2 0; peek_at 104 9: 4:; "
      "peek_at 108 9: 2:; peek_at 109 9: 1:; peek_at 110 9: 0:; peek_at 103 9: 0:; peek_at 105 2: 2:; peek_at 104 0: 0:; "
@@ -229,7 +229,7 @@ MANY_BLOCKS = " ".join(f"{2 * at} {2 * at + 1}" for at in range(31)) + " 61 62"
 FEW_BLOCKS = " ".join("1 2" for _ in range(31))
 
 
-# The same of a receiver of so many bytes and four runs whose stream begins at a position.
+# The same of a receiver of four runs.
 RECEIVERS = [
     (100, 0, "segment 10 3 1: 3; newest_runs 10 3: 1 10-13; segment 20 3 2: 3; newest_runs 20 3: 2 20-23 10-13; "
              "segment 30 3 3: 3; newest_runs 30 3: 3 30-33 20-23 10-13; segment 40 3 4: 3; newest_runs 40 3: 3 40-43 30-33 20-23; "
@@ -656,7 +656,7 @@ def add_shown(cases):
 
 
 def play_all(cases, most, calls):
-    """Calls of an assembler of so many runs."""
+    """Calls of an assembler of `most` runs."""
     subject = assembler.Assembler(most)
     cases.begin(f"assembler {most}", subject.show())
     for name, numbers in calls:

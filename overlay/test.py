@@ -194,7 +194,7 @@ class Tests:
         return subprocess.run([*runner, path, *words.split()], capture_output=True, text=True, check=True).stdout
 
     def printed(self, checkout):
-        """What the programs print over a checkout, with so many runs; release builds print the same."""
+        """What the programs print over a checkout, by the number of runs; release builds print the same."""
         texts = {}
         for count in [1, 2, 4, 8, 32]:
             words = "" if count in (2, 4) else f"--features assembler-max-segment-count-{count}"

@@ -10,7 +10,7 @@ enum { MOST_BYTES = 24, MOST_RUNS = 6 };
 uint64_t draw(void);
 uint64_t below(uint64_t bound);
 
-/* Returns true once in so many times. */
+/* Returns true once in `times` times. */
 bool once_in(uint64_t times);
 
 /* Returns a number of 64 bits of any kind: small, near a power of two, near 2^64, or any. */

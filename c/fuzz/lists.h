@@ -11,13 +11,13 @@ struct list {
 
 uint64_t least(uint64_t one, uint64_t other);
 
-/* Returns a place, most often that of a ring of so many elements. */
+/* Returns a place, most often that of a ring of `capacity` elements. */
 struct net_base_ring draw_place(uint64_t capacity);
 
-/* Returns a place of any ring of so many elements, at least one. */
+/* Returns a place of any ring of `capacity` elements, at least one. */
 struct net_base_ring draw_place_below(uint64_t capacity);
 
-/* Returns whether a place is that of a ring of so many elements. */
+/* Returns whether a place is that of a ring of `capacity` elements. */
 bool is_sound_place(struct net_base_ring place, uint64_t capacity);
 
 /* Returns the place of an empty ring at the storage's beginning, and any other as it is. */

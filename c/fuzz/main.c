@@ -1,4 +1,4 @@
-/* fuzz SEED CALLS: makes so many calls of exports with random arguments, sensible and nonsense. */
+/* fuzz SEED CALLS: makes CALLS calls of exports with random arguments, sensible and nonsense. */
 #define _GNU_SOURCE
 #include "fuzz.h"
 #include <inttypes.h>

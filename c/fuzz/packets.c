@@ -90,7 +90,7 @@ static void fuzz_is_sound(void) {
     EXPECT(net_base_packets_is_sound(head, slots, slot_count, capacity) == sound && is_unchanged());
 }
 
-/* Where a packet of so many bytes goes. */
+/* Where a packet of `size` bytes goes. */
 static struct net_base_packet_place place_of(uint64_t size) {
     if (!is_sound_head()) return NONSENSE;
     struct list order = list_of(before.slots, slot_count);

@@ -140,7 +140,7 @@ static void fuzz_rewind(void) {
     EXPECT(place_is(wanted.read_at, wanted.length));
 }
 
-/* The index that is so many elements after a place's, by arithmetic that doesn't wrap, of any capacity. */
+/* The index that is `count` elements after a place's, by arithmetic that doesn't wrap, of any capacity. */
 static uint64_t index_after(struct net_base_ring it, uint64_t count) {
     if (capacity == 0) return 0;
     uint64_t at = it.read_at % capacity, to_end = capacity - at;

@@ -22,7 +22,7 @@ set first_run(set positions);
 /* Returns the positions from `by` on, counted from there. */
 set shifted_down(set positions, uint64_t by);
 
-/* Draws a set of positions below a bound, of at most so many runs. */
+/* Draws a set of positions below a bound, of at most `most_runs` runs. */
 set draw_set(uint64_t bound, uint64_t most_runs);
 
 /* Writes the runs of a set as an assembler stores them, counted from `base`; without runs both numbers

@@ -67,7 +67,7 @@ void say_run(uint64_t start, uint64_t end) {
     say_number(end);
 }
 
-/* Says a number in hex, with at least so many digits. */
+/* Says a number in hex, with at least `at_least` digits. */
 static void say_hex(uint64_t number, int at_least) {
     char text[17];
     int count = 0;

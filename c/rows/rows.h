@@ -39,7 +39,7 @@ extern const int KIND_COUNT;
 /* Returns whether a call has this name. */
 bool is(const struct call *call, const char *name);
 
-/* Returns memory of just so many bytes, which is given back at the end of the block. */
+/* Returns memory of just `size` bytes, which is given back at the end of the block. */
 void *take_memory(uint64_t size);
 
 /* Drops what was said of this call. */
@@ -65,7 +65,7 @@ void lend(uint8_t *bytes, uint64_t size, uint64_t seed);
 /* Writes the bytes that a seed stands for. */
 void fill(uint8_t *bytes, uint64_t size, uint64_t seed);
 
-/* Returns so many of the bytes that a seed stands for. */
+/* Returns the first `size` bytes that a seed stands for. */
 uint8_t *pattern(uint64_t size, uint64_t seed);
 
 /* The digest FNV-1a, a number at a time. */

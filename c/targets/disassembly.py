@@ -21,7 +21,7 @@ WORDS = {
     "riscv64gc": [(r"[ls]d\s+\w+,(-?\d+)\(", 8), (r"[ls]w\s+\w+,(-?\d+)\(", 4)],
     "thumbv6m": [(r"(?:ldr|str)\s+r\d+, \[\w+, #(-?\d+)", 4)],
 }
-# What an instruction takes off the stack pointer: a number, or registers of so many bytes.
+# What an instruction takes off the stack pointer: a number, or registers of this number of bytes.
 TAKEN = [
     (re.compile(r"sub[lq]?\s+\$(0x[0-9a-f]+),%rsp"), None),
     (re.compile(r"sub(?:\.w)?\s+sp,(?: sp,)? #(0x[0-9a-f]+|\d+)"), None),

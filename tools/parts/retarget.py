@@ -320,7 +320,7 @@ class Cells:
 
 
 def moved(pointer, by):
-    """A pointer so many bytes further on; by None if that isn't constant."""
+    """A pointer `by` bytes further on; by None if `by` isn't constant."""
     at, offset = pointer
     return at, None if by is None or offset is None else offset + by
 

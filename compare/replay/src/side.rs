@@ -95,7 +95,7 @@ pub fn receive(device: &mut Loopback, call: Call) -> u64 {
     })
 }
 
-/// Sends a frame of so many rising bytes, with metadata that the device doesn't keep.
+/// Sends a frame of `call.a` rising bytes, with metadata that the device doesn't keep.
 fn send(mut token: impl TxToken, call: Call) -> u64 {
     let mut meta = PacketMeta::default();
     meta.id = 7;

@@ -11,9 +11,9 @@ pub enum Subject {
     Cells { capacity: usize },
     /// A packet queue.
     Packets { slots: usize, bytes: usize },
-    /// An assembler of at most so many runs: 1, 4 or 32.
+    /// An assembler of at most `runs` runs: 1, 4 or 32.
     Assembler { runs: usize },
-    /// A receiver of at most so many runs, 1, 4 or 32, whose stream begins at the position `first`.
+    /// A receiver of at most `runs` runs, 1, 4 or 32, whose stream begins at the position `first`.
     Receiver { runs: usize, capacity: usize, first: u64 },
     /// Moments and durations; each call makes its own.
     Time,

@@ -1,4 +1,4 @@
--- Mode asm: a set of positions in at most so many maximal runs.
+-- Mode asm: a set of positions in at most `most_runs` maximal runs.
 --     asm_line words      what a line says, if its words are a line of the mode
 --     asm_does most_runs set line      what a line does to the set, and its reply
 --     asm_rules most_runs      the rules of the mode
@@ -70,7 +70,7 @@ asm_does most_runs set (AddThenRemoveFront offset size) =
 asm_does most_runs set RemoveFront = Ok (front_removal set)
 asm_does most_runs set Print = Ok (set, display_text set ++ codes "\n")
 
--- a line of the mode, with at most so many runs
+-- a line of the mode, with at most `most_runs` runs
 abbrev pub asm_rules : ℕ → Rules Positions
 asm_rules most_runs set words = asm_reply most_runs set (asm_line words)
   where

@@ -28,7 +28,7 @@ impl<A: Allocator + Copy> Buffers<A> {
         self.alloc
     }
 
-    /// Returns an empty text with room for so many bytes.
+    /// Returns an empty text with room for `room` bytes.
     pub fn take_text(&mut self, room: usize) -> Result<String<A>, AllocError>
         ensures { IfOk result (λ text. string_bytes text ≡ []) }
     {
@@ -43,7 +43,7 @@ impl<A: Allocator + Copy> Buffers<A> {
         self.text = text;
     }
 
-    /// Returns so many bytes, all 0.
+    /// Returns `count` bytes, all 0.
     pub fn take_bytes(&mut self, count: usize) -> Result<Vec<u8, A>, AllocError>
         ensures { IfOk result (λ bytes. length bytes.items ≡ count) }
     {

@@ -46,7 +46,7 @@ pub fn run<A: Allocator + Copy, R: Read, W: Write>(
     }
 }
 
-/// Does what `run` does in mode `ring`, over so many bytes of storage, all 0.
+/// Does what `run` does in mode `ring`, over `capacity` bytes of storage, all 0.
 fn run_ring<A: Allocator + Copy, R: Read, W: Write>(
     alloc: A,
     capacity: usize,
@@ -66,7 +66,7 @@ fn run_ring<A: Allocator + Copy, R: Read, W: Write>(
     run_lines(alloc, RingSession::new(&mut storage), reader, writer)
 }
 
-/// Runs mode `stream` over so many bytes of zeroed storage, with at most so many held runs.
+/// Runs mode `stream` over `capacity` bytes of zeroed storage, with at most `most_runs` held runs.
 fn run_stream<A: Allocator + Copy, R: Read, W: Write>(
     alloc: A,
     first: u64,

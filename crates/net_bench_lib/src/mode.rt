@@ -23,10 +23,10 @@ pub(crate) enum MostRuns {
 pub(crate) enum ModeKind {
     /// A ring over this many bytes of storage.
     Ring(usize),
-    /// An assembler of at most so many runs.
+    /// An assembler of at most this number of runs.
     Asm(MostRuns),
     /// Receivers of a stream that begins at this position, over this many bytes of storage, with at
-    /// most so many held runs.
+    /// most this number of held runs.
     Stream(u64, usize, MostRuns),
 }
 

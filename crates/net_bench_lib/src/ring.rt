@@ -25,7 +25,7 @@ const TOOK_ROOM: usize = 26;
 pub enum RingLine<A: Allocator + Copy> {
     /// `w HEX`: these bytes come in.
     Write(Vec<u8, A>),
-    /// `r NUM`: at most so many bytes go out.
+    /// `r NUM`: at most NUM bytes go out.
     Read(u64),
 }
 
@@ -94,7 +94,7 @@ impl<'a> RingSession<'a> {
         text::displayed(buffers, TOOK_ROOM, format_args!("took {count}\n"))
     }
 
-    /// Returns the reply that shows so many bytes from the head of the queue, which are in one or
+    /// Returns the reply that shows `count` bytes from the head of the queue, which are in one or
     /// two parts of the storage.
     fn shown<A: Allocator + Copy>(
         &self,

@@ -129,7 +129,7 @@ fn fits<A: Allocator + Copy, const N: usize>(command: &Command<A>) -> bool
     }
 }
 
-/// Reads at most so many bytes into memory of the buffers, and returns them.
+/// Reads at most `count` bytes into memory of the buffers, and returns them.
 // `execute` asks the allocator for the bytes of a read; this function reuses those of an earlier
 // line.
 fn read_in_buffers<A: Allocator + Copy, const N: usize>(

@@ -29,7 +29,7 @@ pub fn fill(bytes: &mut [u8], seed: u64) {
     }
 }
 
-/// Returns so many of the bytes that a number represents.
+/// Returns the first `count` bytes that a number represents.
 pub fn pattern(alloc: Global, count: u64, seed: u64) -> Result<Vec<u8>, AllocError> {
     let mut bytes = vec![in alloc; 0u8; count as usize]?;
     fill(&mut bytes, seed);

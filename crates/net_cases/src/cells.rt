@@ -42,7 +42,7 @@ static CALLS: [Entry<Kind>; 4] = [
     ("clear", 0, Kind::Clear),
 ];
 
-/// Returns an empty ring over so many cells, of which each has its index.
+/// Returns an empty ring over `capacity` cells, of which each has its index.
 pub fn cells(alloc: Global, capacity: u64) -> Result<Cells, AllocError> {
     let mut cells = Vec::new(alloc);
     for value in 0..capacity {

@@ -54,7 +54,7 @@ static COPIES: [Entry<Copying>; 2] = [
     ("pop_slice", 2, Copying::Pop),
 ];
 
-/// Returns a queue with no packets, so many slots, and so many bytes, which are those that the third
+/// Returns a queue with no packets, `slots` slots, and `bytes` bytes, which are those that the third
 /// number represents.
 pub fn packets(alloc: Global, slots: u64, bytes: u64, seed: u64) -> Result<Packets, AllocError> {
     let mut empty = Vec::new(alloc);
@@ -153,7 +153,7 @@ fn enqueue(queue: &mut Packets, size: usize, header: u32, seed: u64) -> Reply {
     }
 }
 
-/// Writes over the bytes that a closure is lent, of which at most so many are kept, and leaves the old ones in
+/// Writes over the bytes that a closure is lent, of which at most `count` are kept, and leaves the old ones in
 /// `lent`.
 fn keep_part(part: &mut [u8], count: usize, seed: u64, lent: &mut Part) -> usize
     ensures { result ≤ length part.old }

@@ -79,7 +79,7 @@ static CALLS: [Entry<Kind>; 9] = [
 ];
 
 impl<const N: usize> Pair<N> {
-    /// Returns two receivers over so many bytes each, of a stream that begins at `first`.
+    /// Returns two receivers over `capacity` bytes each, of a stream that begins at `first`.
     pub fn new(alloc: Global, capacity: u64, first: u64) -> Result<Self, AllocError>
         requires { 1 ≤ N }
     {
@@ -284,7 +284,7 @@ fn window_end<const N: usize>(receiver: &Receiver<'_, N>, first: u64) -> Reply {
     }
 }
 
-/// Returns a reply of the first runs, so many, counted from a first position, and of a digest.
+/// Returns a reply of the first `count` runs, counted from a first position, and of a digest.
 fn show_listed(listed: &[HeldRun], count: usize, first: u64, sum: u64) -> Reply {
     let mut reply = Reply::new().count(count);
     for run in listed.iter().take(count) {

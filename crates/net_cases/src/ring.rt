@@ -102,7 +102,7 @@ static AT_OFFSETS: [Entry<Copying>; 2] = [
     ("read_allocated", 3, Copying::ReadAllocated),
 ];
 
-/// Returns an empty ring over so many bytes, which are those that the second number represents.
+/// Returns an empty ring over `capacity` bytes, which are those that the second number represents.
 pub fn ring(alloc: Global, capacity: u64, seed: u64) -> Result<Bytes, AllocError> {
     Ok(RingBuffer::from(pattern(alloc, capacity, seed)?))
 }
@@ -213,7 +213,7 @@ fn dequeue_one_with(ring: &mut Bytes, byte: u8, keeps: bool) -> Reply {
     }
 }
 
-/// Writes over the elements that a closure is lent, of which at most so many are counted, and returns that
+/// Writes over the elements that a closure is lent, of which at most `size` are counted, and returns that
 /// count and the old elements.
 fn take_part(part: &mut [u8], size: usize, seed: u64) -> (usize, Part)
     ensures { result.0 ≤ length part.old }
@@ -260,7 +260,7 @@ fn pop_back(ring: &mut Bytes) -> Reply {
     }
 }
 
-/// Dequeues so many elements, if they are contiguous, and shows and writes over those dequeued last.
+/// Dequeues `size` elements, if they are contiguous, and shows and writes over those dequeued last.
 fn last_dequeued_mut(ring: &mut Bytes, size: usize, seed: u64) -> Reply {
     if ring.contiguous_allocated(0, size) < size {
         return allowed(false);

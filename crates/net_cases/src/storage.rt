@@ -28,7 +28,7 @@ static CALLS: [Entry<Kind>; 5] = [
     ("element_mut", 2, Kind::ElementMut),
 ];
 
-/// Returns storage of so many bytes, which are those that the second number represents.
+/// Returns storage of `count` bytes, which are those that the second number represents.
 pub fn storage(alloc: Global, count: u64, seed: u64) -> Result<OwnedStorage, AllocError> {
     Ok(ManagedSlice::from(pattern(alloc, count, seed)?))
 }

@@ -8,7 +8,7 @@ use net_stream::StreamLink;
 use std::alloc::{AllocError, Allocator};
 
 /// Sends a client's request over one link and, once all of it arrived, the server's reply over the
-/// other one. Each link has so many rounds. Returns how many bytes of the reply arrived, or `None`
+/// other one. Each link has `rounds` rounds. Returns how many bytes of the reply arrived, or `None`
 /// if the server didn't get the whole request.
 ///
 /// Each side then has the bytes that the other one wrote.
@@ -36,7 +36,7 @@ pub fn ask<A: Allocator + Copy>(
     Ok(Some(count))
 }
 
-/// Sends a text over a link in so many rounds, and reads what arrives. Returns how many bytes
+/// Sends a text over a link in `rounds` rounds, and reads what arrives. Returns how many bytes
 /// arrived.
 fn deliver<A: Allocator + Copy>(
     link: &mut StreamLink<'_, '_, A>,

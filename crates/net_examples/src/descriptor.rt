@@ -29,7 +29,7 @@ impl Descriptor {
         &self.bytes[..self.len]
     }
 
-    /// Calls a closure on so many zeros. Returns the frame that the closure left there, and what it
+    /// Calls a closure on `len` zeros. Returns the frame that the closure left there, and what it
     /// returned.
     pub fn written<R, F: FnOnce(&mut [u8]) -> R>(len: usize, f: F) -> (Descriptor, R)
         requires fits { len ≤ 128 }

@@ -7,7 +7,7 @@ ghost use Rattle.net_packets.specs.Packets.{placement};
 use net_packets::PacketBuffer;
 use net_ring::{Empty, Full};
 
-/// Writes a packet in place. It is refused exactly if the queue can't place so many bytes.
+/// Writes a packet in place. It is refused exactly if the queue can't place these bytes.
 pub fn push_packet(queue: &mut PacketBuffer<'_, u16>, header: u16, bytes: &[u8]) -> Result<(), Full>
     ensures full { IsErr result ↔ (placement queue.old (length bytes.now) ≡ None) }
     ensures pushed { OnOk result

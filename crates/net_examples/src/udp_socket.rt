@@ -58,9 +58,9 @@ impl<'a> UdpSocket<'a> {
 
     /// Appends a datagram of the bytes `data` to those to be sent. Any endpoint is accepted.
     ///
-    /// `Full` changes nothing. It is returned exactly if the queue can't place a packet of so many
-    /// bytes: if no slot is free for it or for the gap that it may need, or if there are not so
-    /// many contiguous free bytes.
+    /// `Full` changes nothing. It is returned exactly if the queue can't place a packet of
+    /// `data`'s length: if no slot is free for it or for the gap that it may need, or if fewer
+    /// contiguous bytes are free.
     pub fn send_slice(&mut self, data: &[u8], to: Endpoint) -> Result<(), Full>
         ensures inbound { self.new.inbound ≡ self.old.inbound }
         ensures full { IsErr result ↔ (placement self.old.outbound (length «data».now) ≡ None) }
@@ -137,7 +137,7 @@ impl<'a> UdpSocket<'a> {
     }
 
     /// Appends a datagram to those that were received. Returns false, drops it and changes nothing,
-    /// exactly if the queue can't place a packet of so many bytes.
+    /// exactly if the queue can't place a packet of `data`'s length.
     ///
     /// ```rust
     /// if !socket.process(from, bytes) {

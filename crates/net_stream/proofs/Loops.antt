@@ -2,7 +2,7 @@
 use Rattle.std.proofs.Common.{◌≡◌, ℕ, suc, ◌+◌, Result, Ok, Err, OnErr, refl, ap, ◌∙◌, arith}
 use Rattle.net_stream_model.specs.LinkState.{times}
 
--- from s to t so many steps were taken, each of which left one less
+-- from s to t `steps` steps were taken, each of which left one less
 pub record SoFar {S : Type 0} (step : S → S) (left : S → ℕ) (s t : S) : Type 0 where
   pub steps : ℕ
   pub is : t ≡ times steps step s

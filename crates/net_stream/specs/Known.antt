@@ -30,7 +30,7 @@ abbrev pub EndsFrom : Setup → Status → List (List ℕ) → List ℕ → Coun
 EndsFrom s status reads written counts =
     copied s reads ≡ record { status = status; written = written; counts = counts }
 
--- a copy that the error ended within a round, after so many turns and one more read, and what was written of that round
+-- a copy that the error ended within a round, after `turns` turns and one more read, and what was written of that round
 pub record StopsFrom (s : Setup) (error : CopyError) (reads : List (List ℕ)) (written : List ℕ) (counts : Counts)
     : Type 0 where
   pub turns : ℕ

@@ -123,7 +123,7 @@ impl<'a, 'f, A: Allocator + Copy> Copier<'a, 'f, A> {
         self.link.sender.room().min(chunk)
     }
 
-    /// Returns whether to read now, into so much room.
+    /// Returns whether to read now, into room for `room` bytes.
     fn may_read(&self, room: usize) -> bool
         ensures { result ≡ (self.now.more && nat_lt 0 room && is_written self.now.link) }
     {

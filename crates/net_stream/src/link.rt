@@ -120,7 +120,7 @@ impl<'a, 'f, A: Allocator + Copy> StreamLink<'a, 'f, A> {
         self.receiver.next() == self.sender.end() && self.receiver.queued() == 0
     }
 
-    /// Advances the clock by so much, up to 2^64 - 1 microseconds in all.
+    /// Advances the clock by `time`, up to 2^64 - 1 microseconds in all.
     pub fn advance_clock(&mut self, time: Duration)
         ensures state { self.new
             ≡ record self.old { elapsed = min (self.old.elapsed + time) (2 ^ 64 - 1) } }

@@ -66,7 +66,7 @@ with_acks r (Some (pos, xs)) reverse acks = both (nat_lt (pos + length xs) (2 ^ 
     both true = λ i. record reverse { in_flight = append_assoc reverse.in_flight (ack_of r ∷ []) acks i }
     both false = refl
 
--- the link, where these frames came, these are delayed, and so many drew their fates
+-- the link, where these frames came and these are delayed, with these fates and counts
 abbrev pub left : LinkState → List (List ℕ) → List (List ℕ) → FatesState → FrameCounts → LinkState
 left s arrived delayed fates counts = record s {
   receiver = receiver_after_all most_sack_blocks s.receiver arrived;
@@ -187,7 +187,7 @@ delayed_acked (frame ∷ rest) s is =
     let v = acknowledge (record s { reverse = record s.reverse { delayed = rest } }) frame in
     times_front (length rest) delayed_ack s v (ap (delayed_ack_of s) is) ∙ delayed_acked rest v refl
 
--- the link, where these came, these are delayed, and so many drew their fates
+-- the link, where these came and these are delayed, with these fates and counts
 abbrev pub acked : LinkState → List (List ℕ) → List (List ℕ) → FatesState → FrameCounts → LinkState
 acked s arrived delayed fates counts = record s {
   sender = acknowledge_frames s.sender arrived;
@@ -310,7 +310,7 @@ round_met v v' old new round h =
     }
 
 -- ======== What `transmit` sends, as parts of the sender's queue
--- the link with these frames in flight, and so many bytes counted
+-- the link with these frames in flight, and `bytes` bytes counted
 abbrev pub with_sent : LinkState → List (List ℕ) → ℕ → LinkState
 with_sent s in_flight bytes = record s {
   forward = record s.forward { in_flight = in_flight };

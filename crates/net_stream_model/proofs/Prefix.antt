@@ -38,7 +38,7 @@ head_grows v o = heard (λ (u : SenderState). v.first_unacknowledged ≤ u.first
     (omega arith)
 
 module _ (reads_nothing : SegmentReadsNothing) (from been : ℕ) where
-  -- the sender keeps no position before `from`, and so many bytes were read
+  -- the sender keeps no position before `from`, and `been` bytes were read
   abbrev pub Grown : LinkState → Type 0
   Grown s = (from ≤ s.sender.first_unacknowledged) × (s.receiver.read ≡ been)
 
@@ -228,7 +228,7 @@ module _ (known : StreamFacts) (s : Setup) (reads : List (List ℕ)) where
   so_far fits n = all_turned SoFar s.max_stalled_rounds s.chunk (λ c _. fed_so_far c)
       (λ c _. decided_so_far c) passed_so_far n (begin s reads) (begun_so_far fits)
 
--- so many first bytes
+-- the first bytes
 pub starts_with : (xs ys zs : List ℕ) → ys ++ zs ≡ xs → StartsWith xs ys
 starts_with xs ys zs e = ap (take (length ys)) (sym e) ∙ take-append_seam ys zs
 
@@ -319,7 +319,7 @@ module _ (reads_nothing : SegmentReadsNothing) (s : Setup) where
       (λ over. subst (Counted (suc n)) (sym (ended s.max_stalled_rounds s.chunk c over))
       (h.0, h.1, h.2, λ r. absurd (over r)))
 
--- so many at most, of r each
+-- x times r, and t, are at most 2 m + 1 times r
 few_of : (r x t m : ℕ) → x ≤ 2 * m → t ≤ r → x * r + t ≤ (2 * m + 1) * r
 few_of r x t m few less = omega (arith, mul-le-mul_right r few)
 

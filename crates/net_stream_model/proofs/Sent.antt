@@ -66,7 +66,7 @@ pushed s most b p ((t, y) ∷ parts) spared xs e marked ends one below end =
     )
 
 -- ---- several calls
--- parts so far, of which so many frames are left
+-- parts so far, of which `left` frames are left
 pub record SentSoFar (s : SenderState) (most burst left n : ℕ) (old new : PathState) : Type 0 where
   pub prefix : SendsPrefix s most burst n old new
   pub left_are : length (frames_from s.first_unacknowledged prefix.parts) + left ≡ burst

@@ -121,7 +121,7 @@ module _ (P : LinkState → Type 0) where
     pub burst : (s : LinkState) → P s → P (with_burst s)
 
   module _ (k : StepsKeep) where
-    -- so many delayed frames, or frames, of a round, and so many acknowledgements
+    -- the first n delayed frames, or frames, of a round, and the first n acknowledgements
     delayed_kept : (n : ℕ) (s : LinkState) → P s → P (times n delayed_frame (transmit s))
     delayed_kept n s h = keeps P delayed_frame
         (λ u g. by_first (λ l. P (delayed_frame_of u l)) u.forward.delayed g

@@ -244,7 +244,7 @@ module _ (known : RoundFacts) where
           subst (λ d. IsDue (waited d)) (sym (runs (feed s.chunk) (after s reads j)
           (runs_before known s reads j n few on))) (due_fed s.chunk (after s reads j) due)
 
-  -- one of the last rounds of a copy that gave up, after which so many others failed
+  -- one of the last rounds of a copy that gave up, after which `follow` others failed
   last_failed : (s : Setup) (reads : List (List ℕ)) (n follow : ℕ) → CanPass s (after s reads n) →
       (after s reads n).status ≡ GaveUp → follow < s.max_stalled_rounds →
       (k : ℕ) × (let l = before_round s reads k in Fails follow l ×
@@ -417,7 +417,7 @@ module _ (known : RoundFacts) where
       (omega arith, elim h.1 [ inl low ↦ omega arith | inr low ↦ omega arith ])) n gave can
 
 -- ---- enough rounds
--- a read gives no more than so many bytes
+-- a read gives no more than `chunk` bytes
 fed_few : (chunk : ℕ) (c : CopyState) → length (feed chunk c).given ≤ length c.given + chunk
 fed_few chunk c = fed_by (λ d. length d.given ≤ length c.given + chunk) chunk c (λ _ _. omega arith)
     (λ _ _ _. omega arith)

@@ -66,7 +66,7 @@ EndsRound WriteFailed chunk c link written = (link ≡ round (waited c))
 EndsRound GaveUp chunk c link written = ⊥
 EndsRound ReadFailed chunk c link written = ⊥
 
--- a copy that ended within a round: so many turns, the next read, and a part of that round, whose counts were
+-- a copy that ended within a round: `turns` turns, the next read, and a part of that round, whose counts were
 -- not told
 pub record CopiedPart (s : Setup) (error : CopyError) (reads : List (List ℕ)) (told : List Counts)
     (reader reader' writer writer' : Option (List ℕ)) (counts : Counts) : Type 0 where
@@ -114,7 +114,7 @@ HasCopiedIfBegun s result reads told reader reader' writer writer' counts =
     ⊎ HasNotBegun result reads told reader reader' writer writer' counts
 
 -- ---- in short
--- a reader gave so many bytes, and a prefix of them, of so many, was appended to what a writer has:
+-- a reader gave `read` bytes, and a prefix of them, of `wrote`, was appended to what a writer has:
 -- all that the reader had, if the copy is complete
 pub record Copies (reader reader' writer writer' : Option (List ℕ)) (read wrote : ℕ) (complete : Bool)
     : Type 0 where
@@ -134,7 +134,7 @@ gave_up OutOfMemory = false
 gave_up ReadFailed = false
 gave_up WriteFailed = false
 
--- a stream that begins at f, of which so many bytes were read, didn't use up all positions
+-- a stream that begins at f, of which `bytes_read` bytes were read, didn't use up all positions
 abbrev pub HasPositions : ℕ → ℕ → Type 0
 HasPositions f bytes_read = f + bytes_read < 2 ^ 64 - 1
 

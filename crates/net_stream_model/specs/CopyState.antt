@@ -107,7 +107,7 @@ with_read room c xs reads = record c {
   given = c.given ++ take room xs;
 }
 
--- a read into so much room: no bytes are the input's end, and none left is one that fails
+-- a read into room for this number of bytes: no bytes are the input's end, and none left is one that fails
 abbrev pub read_of : ℕ → CopyState → List (List ℕ) → CopyState
 read_of room c [] = record c { status = ReadFailed }
 read_of room c ([] ∷ reads) = record c { reads = reads; more = false }
@@ -195,7 +195,7 @@ abbrev pub concat : List (List ℕ) → List ℕ
 concat lists = flat_map (λ xs. xs) lists
 
 -- no more turns than this are made: each byte that is read makes progress twice, once at the writer and once at
--- the sender, each time after fewer than so many rounds without progress, and the last turn makes no round
+-- the sender, each time after fewer than `max_stalled_rounds` rounds without progress, and the last turn makes no round
 abbrev pub most_turns : Setup → List (List ℕ) → ℕ
 most_turns s reads = suc ((2 * length (concat reads) + 1) * s.max_stalled_rounds)
 

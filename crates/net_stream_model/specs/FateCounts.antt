@@ -9,7 +9,7 @@ use Rattle.net_stream_model.specs.declared.counts.FrameCounts.{FrameCounts}
 abbrev pub fates_only : FrameCounts → FrameCounts
 fates_only c = record c { payload = 0; refused = 0 }
 
--- of the fates v and v' so many frames and acknowledgements drew the first, so that u and u' are left, and the
+-- of the fates v and v' `frames` frames and `acks` acknowledgements drew the first, so that u and u' are left, and the
 -- counts of frames are those of the fates that were drawn
 pub record CountsFates (v v' u u' : FatesState) (counts : FrameCounts) : Type 0 where
   pub frames : ℕ

@@ -1,5 +1,5 @@
 -- Why a copy gave up.
---     LastRoundsFail s reads made      in each of the last `rounds` of so many rounds the link failed
+--     LastRoundsFail s reads made      in each of the last `rounds` of `made` rounds the link failed
 --     FailsIfGaveUp s result reads told counts      so it is of the rounds of a copy that gave up
 --     GaveUpByFailing, ResultsByFailing T      laws: of every copy
 use Rattle.std.specs.Prelude.{◌≡◌, ℕ, suc, ◌+◌, ◌-◌, ◌<◌, ◌≤◌, ◌^◌, min, List, Option, length, true, Result, IfErr}
@@ -9,7 +9,7 @@ use Rattle.net_stream_model.specs.CopyState.{Setup, GaveUp}
 use Rattle.net_stream_model.specs.CopyResult.{Copied, HasCopiedIfBegun, HasPositions, gave_up}
 use Rattle.net_stream_model.specs.Promises.{Fails, before_round}
 
--- of so many rounds, which are at least `rounds`, each of the last `rounds` failed: its first frame, or all of its
+-- of `made` rounds, which are at least `rounds`, each of the last `rounds` failed: its first frame, or all of its
 -- acknowledgements, didn't arrive in that round, and were lost, and not only delayed, if it isn't the last one
 pub record LastRoundsFail (s : Setup) (reads : List (List ℕ)) (made : ℕ) : Type 0 where
   pub enough : s.max_stalled_rounds ≤ made

@@ -8,7 +8,7 @@ use Rattle.net_stream_model.specs.CopyState.{Setup}
 use Rattle.net_stream_model.specs.CopyResult.{HasCopied, Copies}
 use Rattle.net_stream_model.specs.Promises.{StartsFits}
 
--- of so many bytes each as are counted, and on `Ok` it is all that the reader had
+-- of as many bytes each as are counted, and on `Ok` it is all that the reader had
 abbrev pub ResultsInShort : (T : Type 0) → Type 0
 ResultsInShort T = (s : Setup) (result : Result T CopyError) (reads : List (List ℕ)) (told : List Counts)
     (reader reader' writer writer' : Option (List ℕ)) (counts : Counts) → StartsFits s →

@@ -4,7 +4,7 @@
 --     CanPass s c      the buffers have room for a byte, and not all positions are used up
 --     before_end reads      the bytes before the input's end
 --     WritesPrefix, WritesAll      the bytes written are a prefix of those read, and in the end all of them
---     Ends      a copy ends after so many turns as `copied` makes
+--     Ends      a copy ends after as many turns as `copied` makes
 --     before_round s reads n      the link when round n + 1 begins
 --     MakesNoProgress s reads n      round n + 1 makes no progress
 --     GivesUpAfter, NeverLater      it gives up after `rounds` rounds in a row without progress
@@ -169,7 +169,7 @@ Unfinished = (s : Setup) (reads : List (List ℕ)) (n : ℕ) → CanPass s (afte
     length (after s reads n).written < length (after s reads n).given
 
 -- ---- bounds
--- no more is read than so many bytes a round
+-- no more is read than `chunk` bytes a round
 abbrev pub EnoughRounds : Type 0
 EnoughRounds = (s : Setup) (reads : List (List ℕ)) (n : ℕ) → StartsFits s →
     (after s reads n).status ≡ Done →

@@ -39,7 +39,7 @@ pub record RoundLeaves (old new : LinkState) : Type 0 where
   pub receiver_capacity : new.receiver.capacity ≡ old.receiver.capacity
   pub grows : next_position old.receiver ≤ next_position new.receiver
 
--- the fate of a frame in a stuck round that so many stuck rounds follow: it doesn't arrive in its round, and if
+-- the fate of a frame in a stuck round that `follow` stuck rounds follow: it doesn't arrive in its round, and if
 -- any stuck round follows it isn't delayed either, so it is lost
 abbrev pub HasFailed : ℕ → Fate → Type 0
 HasFailed follow fate = (arrives fate ≡ false) × (0 < follow → arrives_later fate ≡ false)
@@ -49,7 +49,7 @@ abbrev pub AllFail : ℕ → ℕ → FatesState → Type 0
 AllFail follow zero v = Unit {0}
 AllFail follow (suc n) v = HasFailed follow (next_fate v) × AllFail follow n (after_fate v)
 
--- in a round that so many stuck rounds follow: the first of its frames fails, which meet the next
+-- in a round that `follow` stuck rounds follow: the first of its frames fails, which meet the next
 -- fates of v, or each of its acknowledgements does, which meet those of v'
 abbrev pub FatesFail : ℕ → ℕ → ℕ → FatesState → FatesState → Type 0
 FatesFail follow frames acks v v' =
@@ -69,7 +69,7 @@ IsDue link =
     × (next_position link.receiver < e) × (e < 2 ^ 64))
     ⊎ FirstMatches link.reverse.delayed (λ p e. (link.sender.first_unacknowledged < p) × (p ≤ end_of link.sender))
 
--- a round of so many frames and acknowledgements that was stuck, and counted it: as a loss, or a delayed frame
+-- a round of `frames` frames and `acks` acknowledgements that was stuck, and counted it: as a loss, or a delayed frame
 -- or acknowledgement makes progress in the next round
 pub record IsStuck (frames acks : ℕ) (old new : LinkState) : Type 0 where
   pub why : FatesFail 0 frames acks old.forward.fates old.reverse.fates

@@ -35,7 +35,7 @@ AreSparedIfSacked ranges p [] = Unit {0}
 AreSparedIfSacked ranges p ((spared, xs) ∷ parts) =
     IsSackedIf ranges p (length xs) spared × AreSparedIfSacked ranges (p + length xs) parts
 
--- a part has bytes, and a frame of it at most so many
+-- a part has bytes, and a frame of it at most `most` bytes
 abbrev pub HasSize : ℕ → Part → Type 0
 HasSize most part = (0 < length part.1) × (part.0 ≡ false → length part.1 ≤ most)
 
@@ -66,7 +66,7 @@ pub record SendsPart (s : SenderState) (most p n k : ℕ) (old new : PathState) 
   pub sent : SendsFrames p ((spared, take n (drop (p - s.first_unacknowledged) s.queue)) ∷ []) old new
 
 -- frames of the first n bytes of the sender's queue were sent, in order: each byte is in one of them if it
--- isn't in a SACK block, and in none if it is; each frame has at least one byte, at most so many, and as many
+-- isn't in a SACK block, and in none if it is; each frame has at least one byte, at most `most`, and as many
 -- as possible
 pub record SendsPrefix (s : SenderState) (most burst n : ℕ) (old new : PathState) : Type 0 where
   pub parts : List Part

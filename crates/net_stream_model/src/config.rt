@@ -11,7 +11,7 @@ pub struct Config {
     /// The most bytes of a frame's payload; 0 counts as 1.
     pub max_payload: u32,
     /// The most frames that a round sends, new or again; 0 counts as 1. A copy takes memory for at
-    /// most so many frames in flight and as many delayed ones, and for at most twice as many
+    /// most this number of frames in flight and as many delayed ones, and for at most twice as many
     /// acknowledgements and one more, in flight and delayed each.
     pub max_burst: u32,
     /// After how many rounds in a row in which no byte was written and none acknowledged a copy

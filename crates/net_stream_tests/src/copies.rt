@@ -180,7 +180,7 @@ fn ends_so(
         && heap.live() == 0
 }
 
-/// Returns whether a writer has so many bytes, and a text begins with them.
+/// Returns whether a writer has `count` bytes, and a text begins with them.
 fn is_prefix(sink: &Sink, text: &[u8], count: u64) -> bool {
     text.starts_with(&sink.bytes) && sink.bytes.len() as u64 == count
 }
@@ -256,8 +256,8 @@ fn each_refused_request_leaves_a_prefix(rt: HostRuntime) {
     assert_holds(&rt, is_always_right && requests > Some(100), 0);
 }
 
-/// Returns whether a copy of so many bytes, with so much capacity, asks for at most so many bytes
-/// of memory, has at most so many at once, and flushes once.
+/// Returns whether a copy of `len` bytes, with this capacity, asks for at most `asked` bytes
+/// of memory, has at most `most` at once, and flushes once.
 fn asks_for(alloc: Global, len: usize, capacity: usize, asked: usize, most: usize) -> bool {
     let heap = Refusing::new(alloc, NEVER);
     let (Ok(text), Ok(mut sink)) = (pattern(alloc, len), Sink::new(alloc)) else {

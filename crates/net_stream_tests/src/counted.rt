@@ -65,7 +65,7 @@ fn setup_of(case: &Case) -> Setup {
     }
 }
 
-/// Returns whether the writer has a prefix of the text, as many bytes as are counted, after so many calls, and
+/// Returns whether the writer has a prefix of the text, as many bytes as are counted, after `calls` calls, and
 /// was flushed once, after all of them.
 fn is_written(sink: &Sink, text: &[u8], counts: &Counts, calls: usize) -> bool {
     sink.calls == calls

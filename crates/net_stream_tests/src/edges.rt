@@ -100,7 +100,7 @@ fn a_delayed_frame_without_memory_does_not_arrive(rt: HostRuntime) {
     assert_holds(&rt, is_always_right && requests > Some(10), 0);
 }
 
-/// Returns whether a copy over a link that delays everything has at most so many bytes at once.
+/// Returns whether a copy over a link that delays everything has at most `most` bytes at once.
 fn has_at_most(alloc: Global, len: usize, most: usize) -> bool {
     let heap = Refusing::new(alloc, NEVER);
     let (Ok(text), Ok(mut sink)) = (pattern(alloc, len), Sink::new(alloc)) else {
@@ -160,7 +160,7 @@ fn acknowledgements_take_their_bytes(rt: HostRuntime) {
     assert_holds(&rt, is_little && is_small, heap.bytes());
 }
 
-/// Returns how a copy of so many bytes ends if its flush fails.
+/// Returns how a copy of `len` bytes ends if its flush fails.
 fn ends_unflushed(alloc: Global, len: usize) -> &'static str {
     let (Ok(text), Ok(mut sink)) = (pattern(alloc, len), Sink::new(alloc)) else {
         return "no memory";

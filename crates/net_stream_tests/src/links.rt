@@ -14,7 +14,7 @@ use net_stream::{
 };
 use std::alloc::{AllocError, Global};
 
-/// Returns a link of these fates and of frames of at most so many bytes, from this position on.
+/// Returns a link of these fates and of frames of at most `payload` bytes, from position `first` on.
 pub fn setup(
     (forward, forward_rates): (&'static [Fate], Rates),
     (reverse, reverse_rates): (&'static [Fate], Rates),
@@ -44,7 +44,7 @@ pub fn setup(
 /// A call of a link, and what it gives.
 #[derive(Clone, Copy, Drop)]
 enum Step {
-    /// Writes these bytes: so many are taken.
+    /// Writes these bytes, of which this number are taken.
     Write(&'static [u8], usize),
     /// Puts a frame among the delayed ones.
     Frame(&'static [u8]),
@@ -215,7 +215,7 @@ fn a_count_of_payload_stops_at_its_last_number(rt: HostRuntime) {
 }
 
 /// Takes the next frame of a link over which everything is delayed, and returns whether it has this
-/// position and so many bytes of payload, which are those of the sender.
+/// position and `len` bytes of payload, which are those of the sender.
 fn is_next(link: &mut StreamLink<'_, '_, Global>, pos: u64, len: usize) -> bool {
     let Some(token) = next_delayed_frame(link) else {
         return false;
@@ -348,7 +348,7 @@ fn a_round_sends_all_in_long_frames(rt: HostRuntime) -> Result<(), AllocError> {
 }
 
 /// Returns whether a round of frames of at most three bytes sends 31 single bytes and then these frames, of 70
-/// bytes of which so many are SACK blocks of one byte, at positions 1, 3, ..
+/// bytes of which `count` are SACK blocks of one byte, at positions 1, 3, ..
 fn sends_of_seventy(alloc: Global, count: u64, frames: &[(u64, usize)]) -> bool {
     let Ok(ranges) = each_second(alloc, count) else {
         return false;
@@ -371,7 +371,7 @@ fn sends_of_seventy(alloc: Global, count: u64, frames: &[(u64, usize)]) -> bool 
         && are_next(&mut link, frames)
 }
 
-/// Returns the bytes of so many blocks of one position each, 1, 3, .., and 15 more bytes, which are
+/// Returns the bytes of `count` blocks of one position each, 1, 3, .., and 15 more bytes, which are
 /// no block.
 fn each_second(alloc: Global, count: u64) -> Result<Vec<u8>, AllocError> {
     let mut bytes = Vec::new(alloc);
@@ -383,7 +383,7 @@ fn each_second(alloc: Global, count: u64) -> Result<Vec<u8>, AllocError> {
     Ok(bytes)
 }
 
-/// Returns whether the next frames are so many single bytes, at positions 0, 2, ...
+/// Returns whether the next frames are `count` single bytes, at positions 0, 2, ...
 fn are_single(link: &mut StreamLink<'_, '_, Global>, count: u64) -> bool {
     for i in 0..count.min(100) {
         if !is_next(link, 2 * i, 1) {

@@ -21,7 +21,7 @@ struct Ledger {
     early: Cell<usize>,
 }
 
-/// A reader of bytes that are all `x`: so many in all, and at most so many a call.
+/// A reader of bytes that are all `x`: `left` more, and at most `per_call` a call.
 #[derive(Drop)]
 struct Asked<'a> {
     left: usize,

@@ -61,7 +61,7 @@ impl Watch for Calls {
     }
 }
 
-/// Returns whether a copy of ten bytes reads eleven times, and makes so many rounds.
+/// Returns whether a copy of ten bytes reads eleven times, and makes `rounds` rounds.
 fn reads_one_by_one(alloc: Global, forward: Way, rounds: u64) -> Result<bool, AllocError> {
     let setup = Setup {
         forward,

@@ -10,7 +10,7 @@ use std::cell::Cell;
 use std::io;
 use std::io::{ErrorKind, Write};
 
-/// A writer that takes at most so many bytes a call, and so many in all, and tells how many it has.
+/// A writer that takes at most `per_call` bytes a call, and `left` more in all, and tells how many it has.
 #[derive(Drop)]
 struct Telling<'a> {
     per_call: usize,

@@ -1,6 +1,6 @@
-//! bench tcp BYTES CHUNK: sends so many bytes from one TCP socket to another, so many a call.
-//! bench udp COUNT: sends so many datagrams of 100 bytes.
-//! bench asm COUNT PLACES: adds so many ranges of 100 bytes to an assembler, each at one of so many places: of two, the
+//! bench tcp BYTES CHUNK: sends BYTES bytes from one TCP socket to another, CHUNK a call.
+//! bench udp COUNT: sends COUNT datagrams of 100 bytes.
+//! bench asm COUNT PLACES: adds COUNT ranges of 100 bytes to an assembler, each at one of PLACES places: of two, the
 //! second and then the first; of more, any.
 //! bench sizes: the bytes of a ring, a packet queue, an assembler and a TCP socket.
 use smoltcp::iface::{Config, Interface, SocketHandle, SocketSet};

@@ -3,7 +3,7 @@ use crate::time::Instant;
 #[cfg(feature = "alloc")]
 use alloc::{collections::VecDeque, vec::Vec};
 
-/// Fragments begin at multiples of so many bytes.
+/// Fragments begin at multiples of this number of bytes.
 #[cfg(feature = "proto-ipv4-fragmentation")]
 pub const IPV4_FRAGMENT_PAYLOAD_ALIGNMENT: usize = 8;
 

@@ -77,7 +77,7 @@ fn flat(ranges: impl IntoIterator<Item = (usize, usize)>) -> Vec<usize> {
     ranges.into_iter().flat_map(|(offset, size)| [offset, size]).collect()
 }
 
-/// What is added to an assembler of so many runs.
+/// What is added to an assembler of `runs` runs.
 fn additions(runs: usize) -> [(&'static str, Vec<usize>); 5] {
     let apart = (0..runs).map(|at| ((2 * at + 1) * 100, 100));
     let between = (0..runs).map(|at| (2 * at * 100, 100));
@@ -91,7 +91,7 @@ fn additions(runs: usize) -> [(&'static str, Vec<usize>); 5] {
     ]
 }
 
-/// What is added to an assembler of so many runs whose front is removed each time.
+/// What is added to an assembler of `runs` runs whose front is removed each time.
 fn fronts(runs: usize) -> [(&'static str, Vec<usize>); 6] {
     let waiting = (1..runs).map(|at| ((1_000 + 2 * at) * SEGMENT, SEGMENT));
     let next = (0..64).map(|_| (0, SEGMENT));

@@ -1,4 +1,4 @@
-//! A packet queue: a `VecDeque` of headers with a `Vec` of bytes each, for so many packets and bytes.
+//! A packet queue: a `VecDeque` of headers with a `Vec` of bytes each, with room for `slots` packets and `room` bytes.
 use std::collections::VecDeque;
 
 pub struct Packets<H> {

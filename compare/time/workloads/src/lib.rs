@@ -60,7 +60,7 @@ pub fn mix(sum: u64, x: u64) -> u64 {
     (sum ^ x).wrapping_mul(0x100000001b3)
 }
 
-/// How many chunks are in a ring of so many bytes before the first round.
+/// How many chunks are in a ring of `bytes` bytes before the first round.
 pub fn lead(bytes: usize, chunk: usize) -> usize {
     (bytes / 2 / chunk).min(64)
 }

@@ -2,7 +2,7 @@
 use net_base::rand::Rand;
 use net_base::time::{Instant, earlier, earliest};
 
-/// Returns the moment so many microseconds after the origin.
+/// Returns the moment `micros` microseconds after the origin.
 fn moment(micros: i64) -> Option<Instant> {
     Some(Instant::from_micros(micros))
 }

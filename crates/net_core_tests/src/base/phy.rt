@@ -74,7 +74,7 @@ fn tells_apart<T: Eq>(value: &T, other: &T) -> bool {
     value == value && value != other
 }
 
-/// Returns metadata that asks for segments of so many bytes.
+/// Returns metadata that asks for segments of `size` bytes.
 fn cut_to(size: u16) -> PacketMeta {
     PacketMeta {
         id: 7,

@@ -15,7 +15,7 @@ enum Outcome {
     Other,
 }
 
-/// A step: a segment, or a read of so many bytes at most, which gives these; what is acknowledged
+/// A step: a segment, or a read of as many bytes as these, at most, which gives them; what is acknowledged
 /// then, whether all has arrived, and whether all was read.
 #[derive(Clone, Copy, Drop)]
 enum Step {

@@ -11,7 +11,7 @@ fn takes(receiver: &mut Receiver<'_, 4>, pos: u64, bytes: &[u8]) -> bool {
     Receiver::<4>::fits(pos, bytes.len()) && receiver.segment(pos, bytes).is_ok()
 }
 
-/// Returns whether so many bytes of a segment would be new.
+/// Returns whether `count` bytes of a segment would be new.
 fn brings(receiver: &Receiver<'_, 4>, pos: u64, len: usize, count: usize) -> bool {
     Receiver::<4>::fits(pos, len) && receiver.count_new(pos, len) == count
 }
@@ -53,7 +53,7 @@ fn the_newest_run_is_first(rt: HostRuntime) {
     assert_holds(&rt, newest, ("newest", 104));
 }
 
-/// Returns whether a receiver has so many bytes to read of eight at most, and the end of its window is at 108.
+/// Returns whether a receiver has `count` bytes to read of eight at most, and the end of its window is at 108.
 fn shows(receiver: &Receiver<'_, 4>, count: usize) -> bool {
     receiver.len() == count
         && receiver.is_empty() == (count == 0)

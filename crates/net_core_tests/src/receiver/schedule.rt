@@ -14,7 +14,7 @@ use std::process::Abort;
 enum Step<'a> {
     /// A segment by its position and bytes: how many are kept and queued, and the listed runs.
     Keeps(u64, &'a [u8], usize, usize, &'a [(u64, u64)]),
-    /// A read of at most so many bytes, and those that are read.
+    /// A read of at most this number of bytes, and those that are read.
     Reads(u64, &'a [u8]),
     /// The first missing position, the lengths of queue and window, and the held runs.
     Shows(u64, usize, usize, &'a [(u64, u64)]),
@@ -115,7 +115,7 @@ fn runs_as(alloc: Global, schedule: &Schedule<'_>) -> Result<bool, AllocError> {
     Ok(replies.len() == steps.len() && are_replies(steps, &replies))
 }
 
-/// Returns segments of three bytes, each followed by a read of one byte, so many times.
+/// Returns segments of three bytes, each followed by a read of one byte, `times` times.
 fn many_commands(alloc: Global, times: u64) -> Result<Vec<Command>, AllocError>
     ensures { IfOk result (λ commands. All CommandFits commands.items) }
 {
@@ -128,7 +128,7 @@ fn many_commands(alloc: Global, times: u64) -> Result<Vec<Command>, AllocError>
     Ok(commands)
 }
 
-/// Executes so many commands, and returns their replies.
+/// Executes `times` commands, and returns their replies.
 fn replies_to_many(
     alloc: Global,
     receiver: &mut Receiver<'_, 4>,
@@ -231,7 +231,7 @@ struct Ending {
     state: State,
 }
 
-/// Returns whether the steps below ended like this: with so many right replies, and with the
+/// Returns whether the steps below ended like this: with `replied` right replies, and with the
 /// receiver that they leave.
 fn ends_as(ending: &Ending, whole: bool, requests: usize, replied: usize) -> bool {
     ending.whole == whole
@@ -285,7 +285,7 @@ static STEPS_THAT_ASK: [Step<'static>; 9] = [
     Step::Reads(9, b""),
 ];
 
-/// Returns what a receiver has after so many of these steps.
+/// Returns what a receiver has after `count` of these steps.
 fn after(count: usize) -> State {
     match count {
         0 => (0, 0, [None, None]),
@@ -479,7 +479,7 @@ fn all_runs_are_shown(rt: HostRuntime) -> Result<(), AllocError> {
     Ok(())
 }
 
-/// Returns whether all runs are shown, in memory of so many bytes.
+/// Returns whether all runs are shown, in this memory.
 fn shows_all(memory: &Refusing, receiver: &mut Receiver<'_, 32>) -> bool {
     match execute(memory, receiver, &Command::Show) {
         Ok(Reply::Show { held, .. }) => are_all(&held),

@@ -12,7 +12,7 @@ enum Step {
     Report(u64, u64, bool),
     /// Takes an acknowledgement of all below a position, which leaves this base.
     Acknowledge(u64, u64),
-    /// Beyond the base so many positions were reported, and the last one ends there.
+    /// Beyond the base this number of positions were reported, and the last one ends there.
     Beyond(usize, u64),
     /// From the first position on and below the second, this range is sent next.
     Hole(u64, u64, (u64, u64)),

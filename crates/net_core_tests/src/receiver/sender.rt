@@ -8,9 +8,9 @@ use std::alloc::{AllocError, Global};
 /// A call of a sender, and what it gives.
 #[derive(Clone, Copy, Drop)]
 enum Step {
-    /// Writes these bytes: so many are taken.
+    /// Writes these bytes, of which this number are taken.
     Write(&'static [u8], usize),
-    /// Lends these bytes from this position on, at most so many.
+    /// Lends these bytes from this position on, at most this number.
     Peek(u64, usize, &'static [u8]),
     /// Takes an acknowledgement of this position, which leaves this first unacknowledged one and this
     /// end.
@@ -20,7 +20,7 @@ enum Step {
     AcknowledgeSent(u64, u64, bool, u64),
     /// Moves this mark of what was sent to this position: whether it does, and the mark that is left.
     MarkSent(u64, u64, bool, u64),
-    /// Has so much free room.
+    /// Has this number of free bytes.
     Window(usize),
 }
 

@@ -3,7 +3,7 @@ use crate::storage::assertions::assert_holds;
 use net_assembler::Assembler;
 use std::fmt::{self, Write};
 
-/// Takes so many writes, and refuses those after them.
+/// Takes `left` more writes, and refuses those after them.
 #[derive(Drop)]
 struct FewWrites {
     left: usize,
@@ -21,7 +21,7 @@ impl fmt::Write for FewWrites {
     }
 }
 
-/// Returns how many writes are refused where so many are taken, and whether the text says that it failed.
+/// Returns how many writes are refused where `left` are taken, and whether the text says that it failed.
 fn refusals(assembler: &Assembler<4>, left: usize) -> (usize, bool) {
     let mut text = FewWrites { left, refused: 0 };
     let has_failed = write!(text, "{assembler}").is_err();

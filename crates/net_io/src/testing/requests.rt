@@ -44,7 +44,7 @@ impl Requests {
         self.most.get()
     }
 
-    /// Counts a request of so many bytes, and returns whether it is the one to refuse.
+    /// Counts a request of `size` bytes, and returns whether it is the one to refuse.
     pub fn refuses_next(&self, size: usize) -> bool {
         let number = self.made.get();
         self.made.set(number.saturating_add(1));
@@ -58,7 +58,7 @@ impl Requests {
         false
     }
 
-    /// Counts that so many bytes are given back.
+    /// Counts that `size` bytes are given back.
     pub fn gives_back(&self, size: usize) {
         self.live.set(self.live.get().saturating_sub(size));
     }

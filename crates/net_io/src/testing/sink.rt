@@ -40,7 +40,7 @@ impl Sink {
         Sink::failing(alloc, usize::MAX, NEVER, None)
     }
 
-    /// Returns a writer that takes at most so many bytes a call, and fails at this call. Memory for
+    /// Returns a writer that takes at most `bytes_per_call` bytes a call, and fails at this call. Memory for
     /// 8,192 bytes is taken here.
     pub fn failing(
         alloc: Global,

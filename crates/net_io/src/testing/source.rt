@@ -34,7 +34,7 @@ impl<'a> Source<'a> {
         Source::failing(bytes, usize::MAX, NEVER, ErrorKind::Other)
     }
 
-    /// Returns a reader that gives at most so many bytes a call, and fails at this call.
+    /// Returns a reader that gives at most `bytes_per_call` bytes a call, and fails at this call.
     pub fn failing(
         bytes: &'a [u8],
         bytes_per_call: usize,

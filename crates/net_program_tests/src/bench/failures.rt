@@ -54,7 +54,7 @@ impl Write for Counter<'_> {
     }
 }
 
-/// Executes an input whose parts are read one a call: before each read so many bytes were written.
+/// Executes an input whose parts are read one a call: before each read as many bytes were written as `seen` says.
 fn check_written(
     rt: &impl Abort,
     alloc: Global,
@@ -146,7 +146,7 @@ fn check_failing_read(
     Ok(())
 }
 
-/// Executes each script by reads of so many bytes that fail in turn.
+/// Executes each script by reads of `bytes_per_call` bytes that fail in turn.
 fn check_failing_reads(
     rt: &impl Abort,
     alloc: Global,
@@ -170,7 +170,7 @@ fn each_read_fails_in_turn(rt: HostRuntime) -> Result<(), Fail> {
     check_failing_reads(&rt, rt.alloc(), &SCRIPTS, 100)
 }
 
-/// Returns how many calls a writer needs that takes so many bytes a call, for texts of these
+/// Returns how many calls a writer needs that takes `bytes_per_call` bytes a call, for texts of these
 /// lengths.
 fn calls_for(bytes_per_call: usize, together: &[usize]) -> usize {
     let mut calls = 0usize;
@@ -196,7 +196,7 @@ fn taken_before(failing_call: usize, bytes_per_call: usize, together: &[usize]) 
     taken
 }
 
-/// Executes a script, with so many bytes a read, over a writer whose call of this number fails with
+/// Executes a script, with `bytes_read` bytes a read, over a writer whose call of this number fails with
 /// this kind of error or takes 0 bytes. Replies of these lengths are written together.
 fn check_failing_write(
     rt: &impl Abort,
@@ -227,7 +227,7 @@ fn check_failing_write(
     Ok(())
 }
 
-/// Executes each script by writes of so many bytes that fail in turn, with all of the input in one read
+/// Executes each script by writes of `bytes_per_call` bytes that fail in turn, with all of the input in one read
 /// and with a byte a read.
 fn check_failing_writes(
     rt: &impl Abort,
@@ -261,7 +261,7 @@ fn each_write_fails_in_turn(rt: HostRuntime) -> Result<(), Fail> {
     Ok(())
 }
 
-/// A line of so many bytes without a line feed, read by reads of so many bytes of which one fails:
+/// How many bytes a line without a line feed has, how many each read gives, and which read fails:
 /// how `run` ends, and after how many reads.
 static LONG_LINES: [(usize, usize, usize, &str, usize); 8] = [
     (4096, 65536, 1, "read failed", 2),

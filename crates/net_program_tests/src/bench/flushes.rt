@@ -38,7 +38,7 @@ impl Write for Noting<'_> {
 }
 
 /// Returns whether the output is flushed before an error is said, so that a terminal shows the replies first: after
-/// this input, of which so many reads succeed, in memory that refuses a request.
+/// this input, of which `reads` reads succeed, in memory that refuses a request.
 fn flushes_first(
     alloc: Global,
     (input, reads, refused): (&[u8], usize, usize),

@@ -43,7 +43,7 @@ impl Read for Repeated<'_> {
 }
 
 /// A writer that compares what it takes with the same replies again and again, and fails once it
-/// has taken so many bytes.
+/// has taken `room` bytes.
 #[derive(Drop)]
 struct Expected<'a> {
     replies: &'a [u8],
@@ -81,7 +81,7 @@ impl Write for Expected<'_> {
 const TIMES: usize = 15000;
 
 /// Executes four lines again and again, followed by these last bytes or a failed read, over a
-/// writer with so much room.
+/// writer with room for `room` bytes.
 fn check_repeated(
     rt: &impl Abort,
     alloc: Global,
@@ -212,7 +212,7 @@ fn runs_a_long_stream(rt: HostRuntime) -> Result<(), Fail> {
     Ok(())
 }
 
-/// Returns a line of so many bytes, a command if it has bytes.
+/// Returns a line of `length` bytes, a command if it has bytes.
 fn line_of(alloc: Global, length: usize) -> Result<Vec<u8>, AllocError> {
     let mut line = Vec::new(alloc);
     line.push(b'w')?;
@@ -224,7 +224,7 @@ fn line_of(alloc: Global, length: usize) -> Result<Vec<u8>, AllocError> {
     Ok(line)
 }
 
-/// Executes a line of so many bytes by reads of 1,000 bytes.
+/// Executes a line of `length` bytes by reads of 1,000 bytes.
 fn check_line_of(rt: &impl Abort, alloc: Global, length: usize) -> Result<(), Fail> {
     let line = line_of(alloc, length)?;
     let mut source = Source::failing(&line, 1000, NEVER, ErrorKind::Other);

@@ -41,7 +41,7 @@ fn output_before(alloc: Global, parts: &[Part<'_>], refused: usize) -> Result<Ve
 /// few more.
 const MOST_BYTES: usize = 4_096 + 65_536 + 2_048;
 
-/// Refuses this request for memory of a call that makes so many. All memory that the call got is
+/// Refuses this request for memory of a call that makes `requests`. All memory that the call got is
 /// given back.
 fn check_refusal(
     rt: &impl Abort,
@@ -140,7 +140,7 @@ fn each_request_for_memory_is_refused_in_turn(rt: HostRuntime) -> Result<(), Fai
     check_refusals(&rt, rt.alloc(), "stream 4 4 1000", &DIFFERING)
 }
 
-/// Returns whether a call over this memory ends without an error, writes so many bytes, and flushes
+/// Returns whether a call over this memory ends without an error, writes `length` bytes, and flushes
 /// nothing.
 fn writes_all(
     alloc: Global,
@@ -162,8 +162,8 @@ fn writes_all(
     is_ok && sink.bytes.len() == length && sink.flushes == 0
 }
 
-/// Refuses each request for memory of a call in turn: it makes so many, for at most so many bytes in
-/// all, and at last it writes so many bytes.
+/// Refuses each request for memory of a call in turn: it makes `requests`, for at most `bytes` bytes in
+/// all, and at last it writes `length` bytes.
 fn check_memory(
     rt: &impl Abort,
     alloc: Global,
@@ -200,7 +200,7 @@ fn a_ring_asks_for_its_memory_once(rt: HostRuntime) -> Result<(), Fail> {
     Ok(())
 }
 
-/// Returns segments of 1,000 bytes each that fill a receiver of 64,000, and a read of all, so many
+/// Returns segments of 1,000 bytes each that fill a receiver of 64,000, and a read of all, `times`
 /// times: the lines of mode `stream`, and how many bytes are written.
 fn full_receivers(alloc: Global, times: usize) -> Result<(Vec<u8>, usize), AllocError> {
     let mut input = Vec::new(alloc);

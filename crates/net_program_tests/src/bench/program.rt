@@ -235,7 +235,7 @@ fn says_which_stream_failed(rt: HostRuntime) -> Result<(), Fail> {
     Ok(())
 }
 
-/// Returns whether standard error has this line if so many lines ask for the front, and the next
+/// Returns whether standard error has this line if `lines` lines ask for the front, and the next
 /// one for nothing.
 fn says_line(alloc: Global, lines: usize, told: &[u8]) -> Result<bool, Fail> {
     let words = words_of(alloc, "asm 4")?;
@@ -336,7 +336,7 @@ fn check_refused_memory(rt: &impl Abort, alloc: Global, refused: usize) -> Resul
     Ok(())
 }
 
-/// Refuses a request that isn't made: so many are, for the storage of 8 bytes, a line, replies, and
+/// Refuses a request that isn't made: `requests` are, for the storage of 8 bytes, a line, replies, and
 /// little more for one line's bytes and its reply.
 fn check_enough_memory(rt: &impl Abort, alloc: Global, requests: usize) -> Result<(), Fail> {
     let heap = Refusing::new(alloc, requests);

@@ -11,7 +11,7 @@ use std::test::Fail;
 /// A row: the mode's words, the input, the output and how `run` ends.
 type Row<'a> = (&'a str, &'a [u8], &'a [u8], &'a str);
 
-/// Executes a row by a reader and a writer that give and take so many bytes a call. Without a fault there is
+/// Executes a row by a reader and a writer that give and take at most `most` bytes a call. Without a fault there is
 /// one more read than those that give bytes: it finds the end.
 fn check_row(
     rt: &impl Abort,

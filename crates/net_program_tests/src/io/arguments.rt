@@ -47,7 +47,7 @@ fn gathers_all_words_or_none(rt: HostRuntime) -> Result<(), Fail> {
     Ok(())
 }
 
-/// Gathers so many words of one byte. Returns how many there are and how many bytes their list asked
+/// Gathers `count` words of one byte. Returns how many there are and how many bytes their list asked
 /// for, of places of 24 bytes, or `None` if it keeps some of its memory.
 fn gathers_many(alloc: Global, count: usize) -> Result<Option<(usize, usize)>, AllocError> {
     let mut words = Vec::new(alloc);

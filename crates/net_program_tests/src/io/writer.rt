@@ -10,8 +10,8 @@ use std::test::Fail;
 /// Ten bytes.
 const TEXT: &[u8] = b"0123456789";
 
-/// Writes a text to a writer that takes at most so many bytes a call, and one of whose calls
-/// fails, with an error of this kind or by taking nothing. So many bytes are written in so many
+/// Writes a text to a writer that takes at most `bytes_per_call` bytes a call, and one of whose calls
+/// fails, with an error of this kind or by taking nothing. `written` bytes are written in `calls`
 /// calls, and if these are not all bytes, the error says how many.
 fn check_text(
     rt: &impl Abort,

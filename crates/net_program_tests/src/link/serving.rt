@@ -11,7 +11,7 @@ use std::test::Fail;
 
 mod cases;
 
-/// Returns so many bytes, which repeat after 251 of them.
+/// Returns `len` bytes, which repeat after 251 of them.
 fn input_of(alloc: Global, len: usize) -> Result<Vec<u8>, AllocError> {
     let mut input = vec![in alloc; 0u8; len]?;
     for i in 0..len {
@@ -25,7 +25,7 @@ fn assert_bytes(rt: &impl Abort, found: &[u8], wanted: &[u8], words: &str) {
     assert!(rt; found == wanted, "{words}");
 }
 
-/// Stops the test unless these are so many bytes of the input.
+/// Stops the test unless these are the first `len` bytes of the input.
 fn assert_prefix(rt: &impl Abort, found: &[u8], input: &[u8], len: usize, words: &str) {
     let prefix = &input[..len.min(input.len())];
     assert!(rt; found == prefix, "{words}");
@@ -152,7 +152,7 @@ fn names_the_first_wrong_word(rt: HostRuntime) -> Result<(), Fail> {
     check_misuse(&rt, rt.alloc(), &[], "2, 4, 5 or 6 numbers, not 0")
 }
 
-/// Asks how the program is used, with a writer that takes so many bytes a call and whose call of
+/// Asks how the program is used, with a writer whose call of
 /// this number fails.
 fn check_help(
     rt: &impl Abort,

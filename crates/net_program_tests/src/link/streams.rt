@@ -6,14 +6,14 @@ use net_link_lib::Recording;
 use std::io;
 use std::io::{ErrorKind, Read, Write};
 
-/// A stream whose next call has this result: so many bytes, or an error of this kind.
+/// A stream whose next call has this result: a number of bytes, or an error of this kind.
 #[derive(Drop)]
 struct Told {
     next: Result<usize, ErrorKind>,
 }
 
 impl Told {
-    /// Returns the next result, of at most so many bytes.
+    /// Returns the next result, of at most `most` bytes.
     fn result(&self, most: usize) -> io::Result<usize>
         ensures { IfOk result (λ count. count ≤ most) }
     {

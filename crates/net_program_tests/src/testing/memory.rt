@@ -3,7 +3,7 @@
 use net_io::testing::{NEVER, Refusing, refuse_each};
 use std::alloc::{AllocError, Global};
 
-/// Makes so many requests of `size` bytes each, in memory that refuses request number `refused`.
+/// Makes `requests` requests of `size` bytes each, in memory that refuses request number `refused`.
 /// Returns whether that request was refused, and no other.
 fn refuses_one(alloc: Global, refused: usize, requests: usize, size: usize) -> bool {
     let memory = Refusing::new(alloc, refused);
@@ -71,7 +71,7 @@ fn grows_from_eight(memory: &Refusing) -> bool {
     is_alone && room > 8 && memory.live() == room && memory.most() == room.saturating_add(8)
 }
 
-/// Returns whether so many bytes are live while a block of them is there, and `most` doesn't
+/// Returns whether `size` bytes are live while a block of them is there, and `most` doesn't
 /// change.
 fn keeps_a_block(memory: &Refusing, size: usize) -> bool {
     let most = memory.most();
@@ -119,7 +119,7 @@ fn many_requests_are_refused_in_turn(rt: HostRuntime) {
     assert_eq!(rt; made, Some(300));
 }
 
-/// Returns whether so many blocks are made, one after another.
+/// Returns whether `count` blocks are made, one after another.
 fn makes_blocks(memory: &Refusing, count: usize) -> bool {
     for _ in 0..count {
         let block: Result<Vec<u8, &Refusing>, AllocError> = Vec::with_capacity(memory, 8);

@@ -15,7 +15,7 @@ fn bytes_wait_in_an_outbox(rt: HostRuntime) {
     assert!(rt; into.starts_with(b"abcd"));
 }
 
-/// Returns whether a line of so many bytes is taken off, with its newline, and `into` then begins
+/// Returns whether a line of `length` bytes is taken off, with its newline, and `into` then begins
 /// with these bytes.
 fn gives(ring: &mut RingBuffer<'_, u8>, into: &mut [u8], length: usize, bytes: &[u8]) -> bool {
     take_line(ring, into) == Some(length) && into.starts_with(bytes)

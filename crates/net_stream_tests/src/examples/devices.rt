@@ -33,7 +33,7 @@ fn sent_frames_are_counted(rt: HostRuntime) -> Result<(), AllocError> {
     Ok(())
 }
 
-/// Sends a frame of so many zeros, if there is room for it.
+/// Sends a frame of `length` zeros, if there is room for it.
 fn sends_zeros(device: &mut Counted<Loopback>, length: usize) -> Result<bool, AllocError> {
     let Some(token) = device.transmit(Instant::ZERO) else {
         return Ok(false);
@@ -104,7 +104,7 @@ pub fn is_next(device: &mut Loopback, bytes: &[u8]) -> bool {
     }
 }
 
-/// Returns whether so many frames pass on to the other device.
+/// Returns whether `count` frames pass on to the other device.
 fn passes(from: &mut DescriptorRings<'_>, to: &mut Loopback, count: usize) -> bool {
     forward_lists(from, to, Instant::ZERO, 5) == Ok(count)
 }

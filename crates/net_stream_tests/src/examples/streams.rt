@@ -53,8 +53,8 @@ impl Watch for Told {
     }
 }
 
-/// Copies a text over a link that loses so many frames of a hundred, to give up after 3 rounds without progress.
-/// Returns whether it gave up, after so many rounds.
+/// Copies a text over a link that loses `lost` frames of a hundred, to give up after 3 rounds without progress.
+/// Returns whether it gave up, after `rounds` rounds.
 fn gave_up_after(alloc: Global, lost: u32, rounds: u64) -> bool {
     let rates = Rates {
         lost,
@@ -94,7 +94,7 @@ fn a_copy_over_a_dead_link_gives_up(rt: HostRuntime) {
 }
 
 /// Returns how many bytes of a reply arrive in the buffer over links that lose a third of their
-/// frames, in so many rounds each.
+/// frames, in `rounds` rounds each.
 fn reply_to(
     alloc: Global,
     request: &[u8],

@@ -20,7 +20,7 @@ fn rotate_at(device: &mut Loopback, timestamp: Instant) -> Result<bool, AllocErr
     echo_once(device, timestamp)
 }
 
-/// Moves the first frame after the others, at so many microseconds, and returns whether there was
+/// Moves the first frame after the others, at `micros` microseconds, and returns whether there was
 /// one.
 fn rotates_at(device: &mut Loopback, micros: i64) -> bool {
     rotate_at(device, Instant::from_micros(micros)) == Ok(true)
@@ -148,7 +148,7 @@ impl Device for Asked {
     }
 }
 
-/// Returns whether an echo at so many microseconds asks for a frame then, and there is none.
+/// Returns whether an echo at `micros` microseconds asks for a frame then, and there is none.
 fn is_asked_at(device: &mut Asked, micros: i64) -> bool {
     let found = echo_once(device, Instant::from_micros(micros));
     found == Ok(false) && device.at.total_micros() == micros

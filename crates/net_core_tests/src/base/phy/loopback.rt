@@ -46,7 +46,7 @@ fn a_token_sends_where_it_is_spent(rt: HostRuntime) {
     assert!(rt; comes_elsewhere(&mut from, &mut to));
 }
 
-/// Sends a frame of so many bytes as it was lent, and returns whether it was lent as zeros.
+/// Sends a frame of `length` bytes as it was lent, and returns whether it was lent as zeros.
 fn sends_zeros(device: &mut Loopback, length: usize) -> bool {
     let token = device.transmit(Instant::ZERO).unwrap();
     let is_zeros = device.send(token, length, |buffer| {
@@ -122,7 +122,7 @@ fn its_tokens_have_no_metadata(rt: HostRuntime) {
     }
 }
 
-/// Sends so many frames, each five bytes longer than the one before it. Returns whether there was memory
+/// Sends `count` frames, each five bytes longer than the one before it. Returns whether there was memory
 /// for all.
 fn sends_many<A: Allocator + Copy>(device: &mut Loopback<A>, count: usize) -> bool {
     let bytes = [7u8; 1_000];
@@ -134,7 +134,7 @@ fn sends_many<A: Allocator + Copy>(device: &mut Loopback<A>, count: usize) -> bo
     true
 }
 
-/// Returns whether so many frames are sent and queued by at most this many requests more than there
+/// Returns whether `count` frames are sent and queued by at most this many requests more than there
 /// are frames with bytes, with at most 128 bytes of the queue for each frame.
 fn asks_for_little(memory: &Refusing, count: usize, growths: usize) -> bool {
     let mut device = Loopback::new(memory, Medium::Ip);
@@ -223,7 +223,7 @@ fn sends_number<A: Allocator + Copy>(
     sent.is_ok()
 }
 
-/// Takes so many frames off, and returns how many are 200 bytes that are the frame's number.
+/// Takes `sent` frames off, and returns how many are 200 bytes that are the frame's number.
 fn count_arrived<A: Allocator + Copy>(device: &mut Loopback<A>, sent: u8) -> u8 {
     let mut arrived = 0u8;
     for number in 0..sent {
@@ -234,7 +234,7 @@ fn count_arrived<A: Allocator + Copy>(device: &mut Loopback<A>, sent: u8) -> u8 
     arrived
 }
 
-/// Returns whether so many frames were sent and arrived, and no others, by so many requests, and no
+/// Returns whether `sent` frames were sent and arrived, and no others, by `requests` requests, and no
 /// closure was forgotten.
 fn is_expected(outcome: &Outcome, sent: u8, requests: usize) -> bool {
     outcome.sent == sent
@@ -280,7 +280,7 @@ fn a_frame_beyond_all_memory_is_refused(rt: HostRuntime) {
     assert!(rt; refused && next_is(&mut device, b"ab") && is_over(&mut device));
 }
 
-/// Sends a frame of so many bytes, and returns whether there was memory for it.
+/// Sends a frame of `length` bytes, and returns whether there was memory for it.
 fn sends_length<A: Allocator + Copy>(device: &mut Loopback<A>, length: usize) -> bool {
     let token = device.transmit(Instant::ZERO).unwrap();
     device.send(token, length, |buffer| buffer.fill(1)).is_ok()

@@ -39,7 +39,7 @@ fn put<A: Allocator + Copy>(
     Ok(())
 }
 
-/// Returns whether the first frame, if there is one, is sent back at so many microseconds, and the device is
+/// Returns whether the first frame, if there is one, is sent back at `micros` microseconds, and the device is
 /// asked at that moment. Two frames are then sent, the last of which is this one. The echo is sent by the token
 /// that came with the frame, as that token was: the device is never asked for room.
 fn is_sent_back(device: &mut TwoLists, micros: i64, found: bool) -> bool {
@@ -93,7 +93,7 @@ fn echoes<A: Allocator + Copy>(device: &mut TwoLists<A>) -> bool {
     echo_once(device, Instant::ZERO).is_ok()
 }
 
-/// Returns whether an echo in this memory succeeds exactly if it should, and so many requests were made.
+/// Returns whether an echo in this memory succeeds exactly if it should, and `requests` requests were made.
 fn goes_in(heap: &Refusing, succeeds: bool, requests: usize) -> bool {
     let mut device = without_frames(heap);
     let before = put_six(&mut device, heap).is_ok() && heap.requests() == 8;

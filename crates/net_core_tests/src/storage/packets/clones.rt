@@ -28,7 +28,7 @@ impl Clone for Header<'_> {
     }
 }
 
-/// Puts a header into the slot of a packet of so many bytes, and clones this slot and an empty one.
+/// Puts a header into the slot of a packet of `size` bytes, and clones this slot and an empty one.
 fn clones_slots<'c>(
     clones: &'c Cell<u32>,
     drops: &'c Cell<u32>,

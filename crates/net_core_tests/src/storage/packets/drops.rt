@@ -16,7 +16,7 @@ fn packet_is_refused(queue: &mut PacketBuffer<'_, u8>, drops: &Cell<u32>) -> boo
     result == Err(Empty)
 }
 
-/// Refuses a closure for want of packets, in a queue of one slot and so many bytes; returns whether
+/// Refuses a closure for want of packets, in a queue of one slot and `count` bytes; returns whether
 /// it was refused.
 fn queue_refuses(alloc: Global, count: usize, drops: &Cell<u32>) -> Result<bool, Fail> {
     let mut slots = [PacketMetadata::<u8>::EMPTY];
@@ -59,7 +59,7 @@ fn dequeues(queue: &mut PacketBuffer<'_, Counted<'_>>) -> bool {
     queue.dequeue().is_ok()
 }
 
-/// Returns whether a closure that refuses the first packet is shown so many bytes, and one that
+/// Returns whether a closure that refuses the first packet is shown `size` bytes, and one that
 /// accepts it as many, so that it is taken off.
 fn hands_out(queue: &mut PacketBuffer<'_, Counted<'_>>, size: usize) -> bool {
     let refused = queue.dequeue_with(|_, bytes| Result::<(), usize>::Err(bytes.len()));
@@ -88,7 +88,7 @@ fn takes_many_off(queue: &mut PacketBuffer<'_, Counted<'_>>, count: usize) -> bo
     true
 }
 
-/// Puts packets in and takes so many off; resets the queue and puts as many packets in again, if `resets` is
+/// Puts `put` packets in and takes `taken` off; resets the queue and puts as many packets in again, if `resets` is
 /// true; and drops the queue with the rest in it. Returns how many headers were dropped, or `None` if a call
 /// didn't do what was expected.
 fn drops_of_queue(
@@ -130,7 +130,7 @@ fn next_number(number: u32) -> u32 {
     number.wrapping_mul(1664525).wrapping_add(1013904223)
 }
 
-/// Appends a packet of so many bytes, by one of four calls.
+/// Appends a packet of `size` bytes, by one of four calls.
 fn puts<'c>(
     queue: &mut PacketBuffer<'_, Counted<'c>>,
     drops: &'c Cell<u32>,
@@ -195,9 +195,10 @@ fn makes_call<'c>(
     }
 }
 
-/// Makes many calls of a queue of so many slots and bytes; if `at_once` is true, only of those after which no header
-/// stays in a free slot. Returns whether then, after each call, each value that it was given and that is not a packet's
-/// header had been dropped; and how many values it was given, and how many were dropped once the queue was.
+/// Makes many calls of a queue of `slot_count` slots and `byte_count` bytes; if `at_once` is true, only of those after
+/// which no header stays in a free slot. Returns whether then, after each call, each value that it was given and that
+/// is not a packet's header had been dropped; and how many values it was given, and how many were dropped once the
+/// queue was.
 fn drops_of_calls(
     alloc: Global,
     (slot_count, byte_count): (u32, usize),

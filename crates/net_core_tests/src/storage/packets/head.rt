@@ -58,8 +58,8 @@ fn a_packet_after_a_gap(rt: HostRuntime) {
     assert!(rt; head.is_sound(0, 0));
 }
 
-/// Takes the first slot and so many bytes off, and returns the index of the first of these; `None` if there are not so
-/// many, or no slot.
+/// Takes the first slot and `size` bytes off, and returns the index of the first of these; `None` if there are
+/// fewer, or no slot.
 fn takes(head: &mut PacketsHead, size: usize) -> Option<usize>
     ensures { IsSoundHead 4 8 head.old → IsSoundHead 4 8 head.new }
 {

@@ -2,12 +2,12 @@
 use net_packets::{PacketBuffer, PacketMetadata};
 use net_ring::ManagedSlice;
 
-/// Returns whether a packet of so many bytes is appended.
+/// Returns whether a packet of `size` bytes is appended.
 fn takes(queue: &mut PacketBuffer<'_, u8>, size: usize) -> bool {
     queue.place(size, 0).is_ok()
 }
 
-/// Returns whether a queue has so many packets, in so many slots.
+/// Returns whether a queue has `packets` packets, in `slots` slots.
 fn has(queue: &PacketBuffer<'_, u8>, packets: usize, slots: usize) -> bool {
     queue.len() == packets && queue.slots_used() == slots
 }

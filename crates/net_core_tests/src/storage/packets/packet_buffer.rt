@@ -12,7 +12,7 @@ fn goes_in_and_out(queue: &mut PacketBuffer<'_, u8>, text: &[u8; 6]) -> bool {
     queue.push_slice(7, text).is_ok() && queue.pop_slice(&mut out) == Ok((7, 6)) && out == *text
 }
 
-/// Returns whether `enqueue_with_infallible` of so many bytes is refused and its closure isn't called.
+/// Returns whether `enqueue_with_infallible` of `size` bytes is refused and its closure isn't called.
 fn refuses_closure(queue: &mut PacketBuffer<'_, u8>, size: usize) -> bool {
     let called = Cell::new(false);
     let result = queue.enqueue_with_infallible(size, 0, |_| {
@@ -45,7 +45,7 @@ fn refusals_run_no_closure(rt: HostRuntime) {
     drop(queue);
 }
 
-/// Returns whether `place` refuses a packet of so many bytes.
+/// Returns whether `place` refuses a packet of `size` bytes.
 fn place_refuses<'c>(
     queue: &mut PacketBuffer<'_, Counted<'c>>,
     drops: &'c Cell<u32>,
@@ -54,7 +54,7 @@ fn place_refuses<'c>(
     queue.place(size, Counted { drops }).is_err()
 }
 
-/// Returns whether `enqueue` refuses a packet of so many bytes.
+/// Returns whether `enqueue` refuses a packet of `size` bytes.
 fn enqueue_refuses<'c>(
     queue: &mut PacketBuffer<'_, Counted<'c>>,
     drops: &'c Cell<u32>,
@@ -72,7 +72,7 @@ fn push_refuses<'c>(
     queue.push_slice(Counted { drops }, text).is_err()
 }
 
-/// Returns whether `enqueue_with_infallible` refuses a packet of so many bytes.
+/// Returns whether `enqueue_with_infallible` refuses a packet of `size` bytes.
 fn closure_is_refused<'c>(
     queue: &mut PacketBuffer<'_, Counted<'c>>,
     drops: &'c Cell<u32>,

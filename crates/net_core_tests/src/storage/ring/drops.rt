@@ -6,7 +6,7 @@ use std::alloc::Global;
 use std::cell::Cell;
 use std::test::Fail;
 
-/// Returns so many values that count how often they are dropped.
+/// Returns `count` values that count how often they are dropped.
 fn many<'c>(alloc: Global, drops: &'c Cell<u32>, count: u32) -> Result<Vec<Counted<'c>>, Fail> {
     let mut values = Vec::new(alloc);
     for _ in 0..count {
@@ -61,7 +61,7 @@ fn a_ring_drops_its_storage(rt: HostRuntime) -> Result<(), Fail> {
     Ok(())
 }
 
-/// Makes a ring over a vector itself, enqueues so many elements, and drops it; returns how many values were dropped.
+/// Makes a ring over a vector itself, enqueues `count` elements, and drops it; returns how many values were dropped.
 fn drops_of_vector(alloc: Global, count: u32, first: usize) -> Result<u32, Fail> {
     let drops = Cell::new(0);
     let mut ring = RingOver::<Counted<'_>, Vec<Counted<'_>>>::over(many(alloc, &drops, count)?);
@@ -87,7 +87,7 @@ fn pushes<'c, S: Storage<Counted<'c>>>(
     ring.push_one(Counted { drops }).is_ok()
 }
 
-/// Moves the read index of an empty ring of so many values, fills the ring by `push_one`, which drops those that it
+/// Moves the read index of an empty ring of `count` values, fills the ring by `push_one`, which drops those that it
 /// writes over and the one that it refuses, and drops the ring. Returns whether each call did so, and whether as many
 /// values were dropped as there were.
 fn drops_what_it_pushes<'c, S: Storage<Counted<'c>> + Drop>(
@@ -185,7 +185,7 @@ fn makes_call<'c>(ring: &mut RingBuffer<'_, Counted<'c>>, drops: &'c Cell<u32>, 
     }
 }
 
-/// Makes many calls of a ring of so many elements. Returns whether, after each call, each value that it was given and
+/// Makes many calls of a ring of `count` elements. Returns whether, after each call, each value that it was given and
 /// that is not one of its elements had been dropped; and how many values there were, those of the storage included,
 /// and how many were dropped once the ring was.
 fn drops_of_calls(alloc: Global, count: u32, number: u32) -> Result<(bool, u32, u32), Fail> {
@@ -232,7 +232,7 @@ fn first_is_refused(ring: &mut RingBuffer<'_, u8>, drops: &Cell<u32>) -> bool {
     result == Err(Empty)
 }
 
-/// Refuses closures for want of elements and for want of room, in a ring of so many elements, before and after its
+/// Refuses closures for want of elements and for want of room, in a ring of `count` elements, before and after its
 /// read index has moved; returns whether all four were refused.
 fn ring_refuses(alloc: Global, count: usize, drops: &Cell<u32>) -> Result<bool, Fail> {
     let mut ring = RingBuffer::from(vec![in alloc; 0u8; count]?);

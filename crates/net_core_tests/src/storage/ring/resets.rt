@@ -32,7 +32,7 @@ fn are_in_order(elements: &[Numbered<'_>]) -> bool {
     true
 }
 
-/// Moves the read index of a ring of so many elements and resets it; returns whether each was reset once, the first one
+/// Moves the read index of a ring of `count` elements and resets it; returns whether each was reset once, the first one
 /// of the storage first.
 fn resets_in_order(alloc: Global, count: u32) -> Result<bool, Fail> {
     let resets = Cell::new(0);

@@ -44,7 +44,7 @@ fn lends_what_left(ring: &mut RingBuffer<'_, u8>, data: &[u8]) -> bool {
     count == data.len() && *ring.last_dequeued_mut(count) == *data
 }
 
-/// Takes so many elements off, and returns whether as many were contiguous.
+/// Takes `count` elements off, and returns whether as many were contiguous.
 fn takes_off(ring: &mut RingBuffer<'_, u8>, count: usize) -> bool {
     ring.dequeue_many(count).len() == count
 }
@@ -79,7 +79,7 @@ fn the_head_is_shown_and_what_left_is_lent_again(rt: HostRuntime) {
     );
 }
 
-/// Returns whether `enqueue_many` of five elements that have no size enqueues so many.
+/// Returns whether `enqueue_many` of five elements that have no size enqueues `count`.
 fn enqueues_units(ring: &mut RingBuffer<'_, ()>, count: usize) -> bool {
     ring.enqueue_many(5).len() == count
 }
@@ -98,7 +98,7 @@ fn dequeues_two_units(ring: &mut RingBuffer<'_, ()>) -> bool {
     true
 }
 
-/// Returns whether a ring has so many elements, and so many free ones up to its storage's end.
+/// Returns whether a ring has `count` elements, and `free` free ones up to its storage's end.
 fn has_units(ring: &RingBuffer<'_, ()>, count: usize, free: usize) -> bool {
     ring.len() == count && ring.window() == free && ring.contiguous_window() == free
 }
@@ -174,7 +174,7 @@ fn callers_write_and_read_back(rt: HostRuntime) {
     assert!(rt; gives_three(&mut ring, b"bde\0") && gives_byte(&mut ring, Err(Empty)));
 }
 
-/// Returns whether so many bytes are taken into four zeros, which become these.
+/// Returns whether `count` bytes are taken into four zeros, which become these.
 fn takes_out(duplex: &mut Duplex<'_>, count: usize, after: &[u8; 4]) -> bool {
     let mut out = [0; 4];
     duplex.take(&mut out) == count && out == *after

@@ -128,7 +128,7 @@ fn a_closure_is_dropped_once(rt: HostRuntime) {
     assert_holds(&rt, drops_once(&mut socket, false), ("not called", 0));
 }
 
-/// Returns the bytes of a datagram of so many, at most 32.
+/// Returns `size` bytes, at most 32, of a datagram.
 fn datagram(size: usize) -> &'static [u8] {
     [7u8; 32].get(..size).unwrap_or(&[])
 }
@@ -154,7 +154,7 @@ fn goes_out(socket: &mut UdpSocket<'_>, sizes: &[usize], refused: usize) -> bool
     is_full && is_idle(socket)
 }
 
-/// Returns whether a datagram of so many bytes is taken off.
+/// Returns whether a datagram of `size` bytes is taken off.
 fn receives(socket: &mut UdpSocket<'_>, size: usize) -> bool {
     socket.recv_slice(&mut [0u8; 32]) == Ok((size, SERVER))
 }
