@@ -100,8 +100,8 @@ pub fn showing_changes_nothing<H>()
 /// States that the k-th packet to leave is the k-th that was accepted. Over any calls, in any
 /// order, from a new queue on, the packets that left, in order, followed by those that are still in
 /// the queue, are exactly the packets that were accepted, in order. Each left, or stays, with the
-/// header and the bytes last written to it, by the call that put it in or by a closure that refused
-/// it. What `reset` drops counts as never accepted.
+/// header and the bytes last written to it: by the call that put it in, through `last_mut`, or by a
+/// closure that refused it. What `reset` drops counts as never accepted.
 pub fn accepted_packets_leave_in_turn<H>()
     ensures { (slot_count : ℕ) (storage : List ℕ) (calls : List (QueueCall H)) (r : PacketsState H)
         → MakesAll calls (no_packets slot_count storage) r

@@ -31,7 +31,7 @@ pub fn rewinding_keeps_the_queue<T>()
 {}
 
 /// States that the k-th element to leave is the k-th that was enqueued. Over any calls, in any
-/// order, from an empty ring on, the elements that left, in order, followed by those that are still
+/// order, from a new ring on, the elements that left, in order, followed by those that are still
 /// queued, are exactly the elements that were enqueued, in order. An element leaves with the value
 /// that is shown then, and this is the value last written to it while it was queued, by the call
 /// that enqueued it or through a loan. Elements that `clear` and `reset` drop, and the one that
