@@ -9,7 +9,7 @@ use Rattle.std.specs.Prelude.{List, [], ◌∷◌, length, Option, Some, None}
 use Rattle.net_assembler.specs.Positions.{Positions, maximal_runs}
 use Rattle.net_receiver.specs.Scoreboards.{beyond, sizes, IsNextHole}
 
--- the runs that start above p
+-- the runs that start above p; if p isn't reported they are all runs that have a position above p
 abbrev pub runs_above : List (ℕ × ℕ) → ℕ → List (ℕ × ℕ)
 runs_above [] p = []
 runs_above (r ∷ rs) p = if nat_lt p r.0 then r ∷ runs_above rs p else runs_above rs p
