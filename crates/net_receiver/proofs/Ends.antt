@@ -18,11 +18,13 @@ use Rattle.net_receiver.specs.ReceiverState.{fresh_receiver}
 use Rattle.net_receiver.specs.Finite.{FiniteState, no_end, top_of, knows_end, can_end, below_end, end_after}
 use Rattle.net_receiver.specs.Finite.{has_other_end, finite_after, finite_after_read, bytes_result}
 use Rattle.net_receiver.specs.Finite.{finite_result, with_error, fresh_finite, IsSoundEnd}
+use Rattle.net_receiver.specs.declared.finite.receiver_head.FiniteReceiverHead.{FiniteReceiverHead}
 use Rattle.net_receiver.specs.declared.receiver.head.ReceiverHead.{ReceiverHead}
 use Rattle.net_assembler.specs.declared.assembler.error.TooManyHolesError.{TooManyHolesError}
 use Rattle.net_receiver.specs.declared.receiver.kept_bytes.KeptBytes.{KeptBytes}
 use Rattle.net_receiver.specs.declared.finite.error.FiniteError.TheVariants as errors
-use Rattle.net_receiver.specs.Head.{receiver_of, HasSoundParts}
+use Rattle.net_receiver.specs.FiniteHead.{finite_of, finite_storage_after}
+use Rattle.net_receiver.specs.Head.{receiver_of, HasSoundParts, storage_after}
 use Rattle.net_ring.specs.Ring.{RingState, queue, spare}
 use Rattle.net_ring.specs.RingHead.{ring_at}
 use Rattle.net_assembler.specs.RunLists.{set_of}
@@ -194,6 +196,19 @@ module _ (N : ℕ) (s : FiniteState) (pos : ℕ) (xs : List ℕ) (last : Bool) w
 
       pub left_result : with_error r ≡ finite_result N s pos xs last
       left_result = ap with_error result_is ∙ (λ i. cond (sym other i) (Err errors.OtherEnd) (with_error (bytes_result N s pos xs last)))
+
+-- the storage that is left
+module _ (h : FiniteReceiverHead) (xs : List ℕ) (rs : List (ℕ × ℕ)) (pos : ℕ) (bytes : List ℕ) (last : Bool) where
+  -- the storage after the bytes of a segment
+  abbrev written : List ℕ → List ℕ
+  written ys = storage_after h.receiver xs (verdict receiver_ops (length rs) (receiver_of h.receiver xs rs) (piece pos ys))
+
+  pub refused_storage : has_other_end (finite_of h xs rs) (pos + length bytes) last ≡ true → xs ≡ finite_storage_after h xs rs pos bytes last
+  refused_storage other = λ i. cond (sym other i) xs (written (below_end (finite_of h xs rs) pos bytes))
+
+  pub left_storage : has_other_end (finite_of h xs rs) (pos + length bytes) last ≡ false → (cut : List ℕ) → cut ≡ below_end (finite_of h xs rs) pos bytes →
+      (ys : List ℕ) → ys ≡ written cut → ys ≡ finite_storage_after h xs rs pos bytes last
+  left_storage other cut cut_is ys ys_is = ys_is ∙ ap written cut_is ∙ (λ i. cond (sym other i) xs (written (below_end (finite_of h xs rs) pos bytes)))
 
 -- nothing has arrived
 pub fresh_sound_end : (first capacity : ℕ) → first < no_end → IsSoundEnd (fresh_finite first capacity)

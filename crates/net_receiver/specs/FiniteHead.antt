@@ -2,10 +2,14 @@
 --     finite_of h xs rs      what is stored
 --     next_of h      the first missing position
 --     HasSoundFinite h xs rs      the parts are those of such a receiver
-use Rattle.std.specs.Prelude.{ℕ, ◌+◌, List}
+--     finite_storage_after h xs rs pos bytes last      the storage after a segment
+use Rattle.std.specs.Prelude.{ℕ, ◌+◌, List, length, Bool, if◌then◌else◌}
 use Rattle.net_receiver.specs.declared.finite.receiver_head.FiniteReceiverHead.{FiniteReceiverHead}
-use Rattle.net_receiver.specs.Head.{receiver_of, HasSoundParts}
-use Rattle.net_receiver.specs.Finite.{FiniteState, IsSoundEnd}
+use Rattle.net_receiver.specs.KeptList.{piece}
+use Rattle.net_receiver.specs.Rules.{verdict}
+use Rattle.net_receiver.specs.ReceiverState.{receiver_ops}
+use Rattle.net_receiver.specs.Head.{receiver_of, HasSoundParts, storage_after}
+use Rattle.net_receiver.specs.Finite.{FiniteState, IsSoundEnd, has_other_end, below_end}
 
 -- what is stored
 abbrev pub finite_of : FiniteReceiverHead → List ℕ → List (ℕ × ℕ) → FiniteState
@@ -19,3 +23,11 @@ next_of h = h.receiver.first + h.receiver.count_read + h.receiver.place.length
 pub record HasSoundFinite (h : FiniteReceiverHead) (xs : List ℕ) (rs : List (ℕ × ℕ)) : Type 0 where
   pub parts : HasSoundParts h.receiver xs rs
   pub end : IsSoundEnd (finite_of h xs rs)
+
+-- the storage after a segment: the bytes below the end are written as those of a segment of them alone are, and none
+-- if the segment says that the stream ends where it can't
+abbrev pub finite_storage_after : FiniteReceiverHead → List ℕ → List (ℕ × ℕ) → ℕ → List ℕ → Bool → List ℕ
+finite_storage_after h xs rs pos bytes last =
+    if has_other_end (finite_of h xs rs) (pos + length bytes) last then xs else
+    storage_after h.receiver xs (verdict receiver_ops (length rs) (receiver_of h.receiver xs rs)
+    (piece pos (below_end (finite_of h xs rs) pos bytes)))

@@ -10,7 +10,8 @@ ghost use Rattle.net_receiver.specs.Finite.{no_end, top_of, fresh_finite, can_en
 ghost use Rattle.net_receiver.specs.Finite.{finite_after, finite_result, finite_after_read, IsSameFinite};
 ghost use Rattle.net_receiver.specs.Finite.{is_complete, acknowledged, has_read_all};
 ghost use Rattle.net_receiver.specs.Head.{receiver_of, HasSoundParts};
-ghost use Rattle.net_receiver.specs.FiniteHead.{finite_of, HasSoundFinite, next_of};
+ghost use Rattle.net_receiver.specs.FiniteHead.{finite_of, HasSoundFinite, next_of, finite_storage_after};
+ghost use Rattle.net_assembler.specs.RunLists.{IsCanonical};
 
 use super::error::FiniteError;
 use crate::receiver::{KeptBytes, ReceiverHead};
@@ -49,6 +50,7 @@ impl FiniteReceiverHead {
         ensures sound { (storage : List ℕ) (runs : List (ℕ × ℕ)) → HasSoundFinite result storage runs }
         ensures state { (storage : List ℕ) (runs : List (ℕ × ℕ)) →
             finite_of result storage runs ≡ fresh_finite first (length storage) }
+        ensures canonical { IsCanonical result.receiver.held }
     {
         FiniteReceiverHead {
             receiver: ReceiverHead::new(first),
@@ -141,8 +143,9 @@ impl FiniteReceiverHead {
     /// `ReceiverOver::keep` does. `is_last` says that the stream ends after the segment.
     ///
     /// The end is taken if it is at most the end of the free window: an end beyond that is cut off,
-    /// as the bytes are before it, and is sent again. A segment is refused, and nothing changes, if
-    /// it says that the stream ends where it can't (`can_end`), or if its bytes are refused.
+    /// as the bytes before it are, and is sent again. An end alone at the first missing position is
+    /// taken where nothing is free too. A segment is refused, and nothing changes, if it says that the
+    /// stream ends where it can't (`can_end`), or if its bytes are refused.
     ///
     /// # Requires
     ///
@@ -164,8 +167,11 @@ impl FiniteReceiverHead {
             pos bytes.now is_last }
         ensures value { result ≡ finite_result (length runs.old)
             (finite_of self.old storage.old runs.old) pos bytes.now is_last }
+        ensures stored { storage.new
+            ≡ finite_storage_after self.old storage.old runs.old pos bytes.now is_last }
         ensures unchanged { OnErr result ((self.new ≡ self.old) × (storage.new ≡ storage.old)
             × (runs.new ≡ runs.old)) }
+        ensures canonical { IsCanonical self.old.receiver.held → IsCanonical self.new.receiver.held }
         ensures receives { (f : ℕ) (x : List ℕ) →
             ReceivesFinite f x (finite_of self.old storage.old runs.old) →
             MatchesFinite f x pos bytes.now is_last →
@@ -305,8 +311,8 @@ impl FiniteReceiverHead {
     /// 3.10.7.4, has it: its first number may arrive, or its last one. The end is a number. If the
     /// window is 0, only a segment without numbers at the acknowledged one is.
     ///
-    /// An end alone in a window of 0 isn't acceptable by this table, though `keep` takes it, as it needs
-    /// no room. A caller that wants it asks with the count of the bytes alone.
+    /// An end alone at the acknowledged number, in a window of 0, isn't acceptable by this table, though
+    /// `keep` takes it, as it needs no room. A caller that wants it asks with the count of the bytes alone.
     ///
     /// # Requires
     ///

@@ -3,7 +3,7 @@ use Rattle.net_receiver.specs.Finite.{FiniteState, IsSoundEnd}
 use Rattle.net_receiver.specs.FiniteHead.{finite_of}
 use Rattle.net_receiver.specs.FiniteLaws.{ReceivesFinite}
 use Rattle.net_receiver.proofs.EndLaws.{segment_of_stream}
-use Rattle.net_receiver.proofs.Ends.{no_other, left_state, left_result, sound_after, cut_is}
+use Rattle.net_receiver.proofs.Ends.{no_other, left_state, left_result, left_storage, sound_after, cut_is}
 use Rattle.net_receiver.proofs.finite.receiver_head.FiniteReceiverHead.keep.Goals as goal
 use Rattle.net_receiver.proofs.finite.receiver_head.FiniteReceiverHead.keep.Goals.{else-is_last-via-then-is_last+else-not-can_end}
 use Rattle.net_receiver.proofs.finite.receiver_head.FiniteReceiverHead.keep.Goals.{else-is_last-via-else-is_last}
@@ -57,3 +57,19 @@ pub returns-in-Err-clause-receives : goal.returns-in-Err-clause-receives
 returns-in-Err-clause-receives c = λ f x r h.
     subst (ReceivesFinite f x) (sym (returns-in-Err-clause-state c))
     (segment_of_stream (length c.args.runs.now) f x _ c.args.pos c.args.bytes.now c.args.is_last r h).1
+
+pub returns-in-Ok-clause-stored : goal.returns-in-Ok-clause-stored
+returns-in-Ok-clause-stored c =
+    let s : FiniteState = finite_of c.args.self.now c.args.storage.now c.args.runs.now in
+    left_storage c.args.self.now c.args.storage.now c.args.runs.now c.args.pos c.args.bytes.now c.args.is_last (no_other s (c.args.pos + length c.args.bytes.now) c.args.is_last
+    (elim c.else-is_last.branch [ else-is_last-via-then-is_last+else-not-can_end w ↦ inr (sym w.can_end.ensures ∙ w.if-not-can_end.false) | else-is_last-via-else-is_last w ↦ inl w.if-is_last.false ])) _
+    (cut_is _ c.count_below-count.result c.args.bytes.now c.count_below-count.ensures)
+    _ c.keep.ensures.stored
+
+pub returns-in-Err-clause-stored : goal.returns-in-Err-clause-stored
+returns-in-Err-clause-stored c =
+    let s : FiniteState = finite_of c.args.self.now c.args.storage.now c.args.runs.now in
+    left_storage c.args.self.now c.args.storage.now c.args.runs.now c.args.pos c.args.bytes.now c.args.is_last (no_other s (c.args.pos + length c.args.bytes.now) c.args.is_last
+    (elim c.else-is_last.branch [ else-is_last-via-then-is_last+else-not-can_end w ↦ inr (sym w.can_end.ensures ∙ w.if-not-can_end.false) | else-is_last-via-else-is_last w ↦ inl w.if-is_last.false ])) _
+    (cut_is _ c.count_below-count.result c.args.bytes.now c.count_below-count.ensures)
+    _ c.keep.ensures.stored
