@@ -524,6 +524,9 @@ ENDINGS = [
      "read 9: 4:; segment 4 0 0 1: 0 0|4 0 4 0 4 5 2"),
     (4, 1, 0, "segment 5 0 0 1: 0 0|0 0 4 0 - 0 0; segment 2 2 1 0: 2 0|0 0 4 1 - 0 0; segment 3 0 0 1: other_end; "
      "segment 4 0 0 1: 0 0|0 0 4 1 4 0 0"),
+    (2, 1, 100, "segment 100 2 1 0: 2 2|2 2 0 0 - 2 0; is_acceptable 102 0: 1; is_acceptable 102 1: 0; "
+     "segment 103 0 0 1: 0 0|2 2 0 0 - 2 0; segment 102 0 0 1: 0 0|2 2 0 0 2 3 1; is_acceptable 103 0: 1; "
+     "read 2: 2:; segment 102 0 0 1: 0 0|2 0 2 0 2 3 2"),
 ]
 # RFC 9293's table of acceptable segments; the window, the estimate and the sum of the RFCs that tcp.py names. The update
 # of a checksum is RFC 1624's example.
