@@ -32,11 +32,10 @@
 //! assert_eq!((receiver.read(&mut text), &text[..5], receiver.has_read_all()), (5, &b"hello"[..], true));
 //! ```
 //!
-//! By hand: storage that is converted, calls of the receiver of the bytes, what is printed, and the texts of the error.
-use core::{fmt, ops};
+//! By hand: storage that is converted, what is printed, and the texts of the error.
+use core::fmt;
 
 use crate::managed::ManagedSlice;
-use crate::proved::net_receiver::ReceiverOver;
 use crate::proved::net_ring::Storage;
 use crate::rattle::error_text;
 
@@ -59,38 +58,6 @@ impl<'a, const N: usize> FiniteReceiver<'a, N> {
     /// If `first` is `u64::MAX`: no number is left for the end.
     pub fn empty_at<S: Into<ManagedSlice<'a, u8>>>(storage: S, first: u64) -> Self {
         FiniteReceiverOver::over_at(storage.into(), first)
-    }
-}
-
-impl<S: Storage<u8>, const N: usize> FiniteReceiverOver<S, N> {
-    /// Returns the end of the free window, for what is announced: never below `acknowledged`, which is one above the free
-    /// window's end where the end is counted and the storage is full. `None` if it doesn't fit 64 bits.
-    pub fn window_end(&self) -> Option<u64> {
-        self.receiver().window_end().map(|end| end.max(self.acknowledged()))
-    }
-
-    /// Calls `f` on the contiguous bytes at the head of the queue, dequeues as many as it counts, and returns what it
-    /// returned.
-    ///
-    /// # Panics
-    ///
-    /// If `f` counts more bytes than it is lent. Then nothing changes.
-    pub fn read_with<R, F: FnOnce(&[u8]) -> (usize, R)>(&mut self, f: F) -> (usize, R) {
-        let part = self.as_slices().0;
-        let longest = part.len();
-        let answer = f(part);
-        assert!(answer.0 <= longest, "more bytes than were lent");
-        self.remove(answer.0);
-        answer
-    }
-}
-
-/// The receiver of the bytes, for the calls that change nothing.
-impl<S: Storage<u8>, const N: usize> ops::Deref for FiniteReceiverOver<S, N> {
-    type Target = ReceiverOver<S, N>;
-
-    fn deref(&self) -> &ReceiverOver<S, N> {
-        self.receiver()
     }
 }
 

@@ -80,4 +80,6 @@ REPLACED = [
     ('net_base/phy/device_capabilities.rt', 'pub struct Dev', '#[non_exhaustive]\npub struct Dev'),
     ('net_receiver/lib.rt', 'Kept, Kept,', 'Kept,'),
     ('net_receiver/receiver/newest.rt', 'fn newest<', 'fn newest_runs<'),
+    ('net_receiver/finite/receiver/bytes.rt', 'fn newest<', 'fn newest_runs<'),
+    ('net_receiver/finite/receiver/bytes.rt', '.newest(', '.newest_runs('),
 ]

@@ -218,9 +218,10 @@ impl<S: Storage<u8>, const N: usize> ReceiverOver<S, N> {
         self.head.remove(self.storage.count(), count);
     }
 
-    /// Shows the first part of the queue.
-    fn first_slice(&self) -> &[u8]
-        ensures { result.now ≡ first_part self.now }
+    /// Shows the first part of the queue, which is empty only if the queue is.
+    pub(crate) fn first_slice(&self) -> &[u8]
+        ensures value { result.now ≡ first_part self.now }
+        ensures some { 0 < length self.now.queue → 0 < contiguous_count self.now }
     {
         self.head.peek(whole(&self.storage), 0, self.head.queued())
     }

@@ -1,5 +1,7 @@
 //! A receiver of a stream that ends.
 
+mod bytes;
+
 use super::error::FiniteError;
 use super::receiver_head::{FiniteReceiverHead, NO_END};
 use crate::proved::net_receiver::receiver::{Kept, ReceiverOver};
@@ -232,8 +234,9 @@ impl<S: Storage<u8>, const N: usize> FiniteReceiverOver<S, N> {
     /// `ReceiverOver::keep` does. `is_last` says that the stream ends after the segment.
     ///
     /// The end is taken if it is at most the end of the free window: an end beyond that is cut off,
-    /// as the bytes before it are, and is sent again. A segment is refused, and nothing changes, if
-    /// it says that the stream ends where it can't (`can_end`), or if its bytes are refused.
+    /// as the bytes before it are, and is sent again. An end alone at the first missing position is
+    /// taken where nothing is free too. A segment is refused, and nothing changes, if it says that the
+    /// stream ends where it can't (`can_end`), or if its bytes are refused.
     ///
     /// # Requires, else it panics
     ///
@@ -413,8 +416,8 @@ impl<S: Storage<u8>, const N: usize> FiniteReceiverOver<S, N> {
     /// 3.10.7.4, has it: its first number may arrive, or its last one. The end is a number. If the
     /// window is 0, only a segment without numbers at the acknowledged one is.
     ///
-    /// An end alone in a window of 0 isn't acceptable by this table, though `keep` takes it, as it needs
-    /// no room. A caller that wants it asks with the count of the bytes alone.
+    /// An end alone at the acknowledged number, in a window of 0, isn't acceptable by this table, though
+    /// `keep` takes it, as it needs no room. A caller that wants it asks with the count of the bytes alone.
     ///
     /// # Requires, else it panics
     ///

@@ -5,7 +5,7 @@ use Rattle.net_receiver.specs.Contiguous.{contiguous_count}
 use Rattle.net_receiver.specs.Rules.{Read, ReadReply}
 use Rattle.net_receiver.specs.ReceiverState.{ReceiverState, next_position, receiver_after_read}
 use Rattle.net_receiver.proofs.Called.{read_receives, stays, head_bytes}
-use Rattle.net_receiver.proofs.Contiguous.{first_part_length, contiguous_some}
+use Rattle.net_receiver.proofs.Contiguous.{first_part_length}
 use Rattle.net_receiver.proofs.Heads.{queue_size, next_fits, sound_for}
 use Rattle.net_receiver.proofs.ReadLaws.{read_leaves_next}
 use Rattle.net_receiver.proofs.Run.{steps}
@@ -13,12 +13,12 @@ use Rattle.net_receiver.proofs.receiver.ReceiverOver.read_with.Given as given
 use Rattle.net_receiver.proofs.receiver.ReceiverOver.read_with.Goals as goal
 
 pub f-answer-requires : goal.f-answer-requires
-f-answer-requires g c = c.requires.callable c.first_slice-part.result c.first_slice-part.ensures
+f-answer-requires g c = c.requires.callable c.first_slice-part.result c.first_slice-part.ensures.value
 
 -- no more bytes are counted than were lent
 few : (g : given.Over) (c : goal.After-remove g) → c.f-answer.result.0 ≤ contiguous_count c.args.self.now
 few g c =
-    let counted = c.requires.count c.f-answer.result (c.first_slice-part.result, c.f-answer.ensures, c.first_slice-part.ensures) in
+    let counted = c.requires.count c.f-answer.result (c.first_slice-part.result, c.f-answer.ensures, c.first_slice-part.ensures.value) in
     omega (arith, counted, first_part_length c.args.self.now)
 
 pub remove-requires-clause-place : goal.remove-requires-clause-place
@@ -26,7 +26,7 @@ remove-requires-clause-place g c = subst (λ n. IsSoundPlace n c.self.inside.hea
 
 pub remove-requires-clause-queued : goal.remove-requires-clause-queued
 remove-requires-clause-queued g c =
-    let counted = c.requires.count c.f-answer.result (c.first_slice-part.result, c.f-answer.ensures, c.first_slice-part.ensures) in
+    let counted = c.requires.count c.f-answer.result (c.first_slice-part.result, c.f-answer.ensures, c.first_slice-part.ensures.value) in
     let size = first_part_length c.args.self.now in
     let queued = ap (λ (v : ReceiverState). length v.queue) c.self.view_is in
     omega (arith, counted, size, queued, queue_size c.self.invariant.0)
@@ -39,14 +39,10 @@ invariant_of-self g c =
     (c.remove.ensures.sound (g.S.Storage.elements c.self.inside.storage) c.self.inside.runs (sym c.count.ensures) c.self.invariant.0, c.self.invariant.1)
 
 pub returns-clause-called : goal.returns-clause-called
-returns-clause-called g c = (c.first_slice-part.result, c.f-answer.ensures, c.first_slice-part.ensures)
+returns-clause-called g c = (c.first_slice-part.result, c.f-answer.ensures, c.first_slice-part.ensures.value)
 
 pub returns-clause-count : goal.returns-clause-count
 returns-clause-count g c = few g c
-
-pub returns-clause-not_empty : goal.returns-clause-not_empty
-returns-clause-not_empty g c = λ some.
-    contiguous_some c.args.self.now (subst (λ (v : ReceiverState). length v.queue ≤ v.capacity) c.self.view_is c.self.invariant.0.state.fits) some
 
 pub returns-clause-state : goal.returns-clause-state
 returns-clause-state g c =
@@ -75,5 +71,5 @@ returns-clause-bytes g c = λ f x r.
 
 pub prove-unreachable-requires : goal.prove-unreachable-requires
 prove-unreachable-requires g c =
-    let counted = c.requires.count c.f-answer.result (c.first_slice-part.result, c.f-answer.ensures, c.first_slice-part.ensures) in
-    omega (arith, counted, ap length c.first_slice-part.ensures, c.if-prove.true)
+    let counted = c.requires.count c.f-answer.result (c.first_slice-part.result, c.f-answer.ensures, c.first_slice-part.ensures.value) in
+    omega (arith, counted, ap length c.first_slice-part.ensures.value, c.if-prove.true)
