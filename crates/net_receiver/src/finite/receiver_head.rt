@@ -9,7 +9,7 @@ ghost use Rattle.net_receiver.specs.FiniteLaws.{MatchesFinite, ReceivesFinite};
 ghost use Rattle.net_receiver.specs.Finite.{no_end, top_of, fresh_finite, can_end, end_after};
 ghost use Rattle.net_receiver.specs.Finite.{finite_after, finite_result, finite_after_read, IsSameFinite};
 ghost use Rattle.net_receiver.specs.Finite.{is_complete, acknowledged, has_read_all};
-ghost use Rattle.net_receiver.specs.Head.{receiver_of, HasSoundParts};
+ghost use Rattle.net_receiver.specs.Head.{receiver_of, HasSoundParts, head_after_read};
 ghost use Rattle.net_receiver.specs.FiniteHead.{finite_of, HasSoundFinite, next_of, finite_storage_after};
 ghost use Rattle.net_assembler.specs.RunLists.{IsCanonical};
 
@@ -255,6 +255,9 @@ impl FiniteReceiverHead {
         ensures count { result ≡ min (length into.old) self.old.receiver.place.length }
         ensures into { let queued = queue (ring_at storage.now self.old.receiver.place) in
             into.new ≡ take (length into.old) queued ++ drop (length queued) into.old }
+        ensures head { self.new.receiver
+            ≡ head_after_read (length storage.now) result self.old.receiver }
+        ensures end { self.new.end ≡ self.old.end }
         ensures sound { (runs : List (ℕ × ℕ)) → HasSoundFinite self.old storage.now runs →
             HasSoundFinite self.new storage.now runs }
         ensures state { (runs : List (ℕ × ℕ)) → HasSoundFinite self.old storage.now runs →

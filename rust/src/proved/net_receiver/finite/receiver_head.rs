@@ -318,6 +318,9 @@ impl FiniteReceiverHead {
     /// ensures count { result ≡ min (length into.old) self.old.receiver.place.length }
     /// ensures into { let queued = queue (ring_at storage.now self.old.receiver.place) in
     ///     into.new ≡ take (length into.old) queued ++ drop (length queued) into.old }
+    /// ensures head { self.new.receiver
+    ///     ≡ head_after_read (length storage.now) result self.old.receiver }
+    /// ensures end { self.new.end ≡ self.old.end }
     /// ensures sound { (runs : List (ℕ × ℕ)) → HasSoundFinite self.old storage.now runs →
     ///     HasSoundFinite self.new storage.now runs }
     /// ensures state { (runs : List (ℕ × ℕ)) → HasSoundFinite self.old storage.now runs →

@@ -120,6 +120,11 @@ impl FiniteSenderHead {
     ///     (finite_room (finite_sender_of self.old storage.old blocks)) }
     /// ensures state { (blocks : List (ℕ × ℕ)) → finite_sender_of self.new storage.new blocks
     ///     ≡ with_bytes (finite_sender_of self.old storage.old blocks) (take result bytes.now) }
+    /// ensures ring { self.old.closed ≡ 0 →
+    ///     let g = rewind_if_empty (ring_at storage.old self.old.sender.place) in
+    ///     ring_at storage.new self.new.sender.place
+    ///     ≡ with_enqueued result (with_elements_wrapping g (write_at g) (take result bytes.now)) }
+    /// ensures closed { 0 < self.old.closed → (self.new ≡ self.old) × (storage.new ≡ storage.old) }
     /// ensures sends { (blocks : List (ℕ × ℕ)) (f : ℕ) (w : List ℕ) →
     ///     Sends f w (finite_sender_of self.old storage.old blocks).sender →
     ///     Sends f (w ++ take result bytes.now)
