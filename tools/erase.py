@@ -33,7 +33,8 @@ GHOST_DERIVES, GHOST_ATTRIBUTES = {'Drop', 'Error'}, {'tactic', 'error'}      # 
 PLAIN_ATTRIBUTES = {'allow', 'cfg', 'default', 'derive', 'inline', 'must_use', 'non_exhaustive', 'repr', 'track_caller'}
 FOREIGN_IMPLS = {                                 # other traits in Rattle, and what their impls may have
     'Model': re.compile(''),
-    'Drop': re.compile(r'fn drop \( self \) { let \w+ { [\w ,:]* } = self ;(?: drop \( \w+ \) ;)* }'),
+    'Drop': re.compile(r'fn drop \( self \) { (?:let \w+ { [\w ,:]* } = self ;(?: drop \( \w+ \) ;)*|'
+                       r'match self {(?: \w+ :: \w+ \( (?:_ \) => { }|(\w+) \) => drop \( \1 \) ,))+ }) }'),
     'Clone': re.compile(r'fn clone \( & self \) -> Result < .* }'),           # it can be refused: the layer has another
 }
 LAWS = 'laws'                                     # modules of theorems; calls of their functions

@@ -49,6 +49,8 @@ GIVEN = [
      'trait T {\n    ' + CONTRACT.replace('\n', '\n    ') + '/// ensures { ⊤ }\n    /// ```\n    fn f(&self) -> [u8; 3];\n}\n'),
     ('impl<T: Drop> Drop for A<T> {\n    fn drop(self) {\n        let A { x, y: _, } = self;\n        drop(x);\n    }\n}\nfn f() {}\n',
      'fn f() {}\n'),
+    ('impl<T: Drop> Drop for A<T> {\n    fn drop(self) {\n        match self {\n            A::B(_) => {}\n            A::C(x) => drop(x),\n'
+     '        }\n    }\n}\nfn f() {}\n', 'fn f() {}\n'),
     ('impl Clone for A {\n    fn clone(&self) -> Result<A, E> {\n        Ok(b)\n    }\n}\nfn f() {}\n', 'fn f() {}\n'),
     ('#![tactic(auto)]\n#[tactic(auto, using(a::b))]\nfn f() {}\n', 'fn f() {}\n'),
     ('#[error("no room")]\nstruct A;\n', 'struct A;\n'),
@@ -107,6 +109,8 @@ REFUSED = [
     ('use a::{b, c::{d, e}};', 'braces in braces'),
     ('fn f() { (]; }\nimpl Model for A { ( }', 'bracket'),
     ('impl Drop for A {\n    fn drop(self) {\n        let A { x } = self;\n        close(x);\n    }\n}\n', 'does more'),
+    ('impl Drop for A {\n    fn drop(self) {\n        match self {\n            A::B(x) => close(x),\n        }\n    }\n}\n', 'does more'),
+    ('impl Drop for A {\n    fn drop(self) {\n        match self {\n            A::B(x) => drop(y),\n        }\n    }\n}\n', 'does more'),
     ('impl Model for A {\n    fn f() {}\n}\n', 'does more'),
     ('impl Clone for A {\n    fn clone(&self) -> A {\n        A\n    }\n}\n', 'does more'),
 ]

@@ -163,12 +163,23 @@ impl<T> Storage<T> for Vec<T> {
 /// storage[0] = 4;
 /// assert_eq!(&storage[..], [4, 2, 3]);
 /// ```
-#[derive(Debug, Drop)]
+#[derive(Debug)]
 pub enum ManagedSlice<'a, T> {
     /// Elements that are stored elsewhere, and lent.
     Borrowed(&'a mut [T]),
     /// Elements that it owns.
     Owned(Vec<T>),
+}
+
+/// Written by hand, so that a struct with a derived `Drop` over two of these can be a local: the
+/// borrow checker doesn't cover the derived drop of an enum that has a `&mut` and is in a field.
+impl<'a, T: Drop> Drop for ManagedSlice<'a, T> {
+    fn drop(self) {
+        match self {
+            ManagedSlice::Borrowed(_) => {}
+            ManagedSlice::Owned(vec) => drop(vec),
+        }
+    }
 }
 
 impl<'a, T> Storage<T> for ManagedSlice<'a, T> {
