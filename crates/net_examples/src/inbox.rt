@@ -14,16 +14,9 @@ use std::marker::Model;
 /// Generic in the storage, since over a `PacketBuffer` in a field no contract could say what the loan leaves.
 ///
 /// Contracts see the list of the datagrams, each with its endpoint and its bytes.
+#[derive(Drop)]
 pub struct Inbox<M: Storage<PacketMetadata<Endpoint>>, B: Storage<u8>> {
     queue: PacketsOver<Endpoint, M, B>,
-}
-
-/// Written by hand: with a derived `Drop` an inbox over a `ManagedSlice` could not be a local.
-impl<M: Storage<PacketMetadata<Endpoint>> + Drop, B: Storage<u8> + Drop> Drop for Inbox<M, B> {
-    fn drop(self) {
-        let Inbox { queue } = self;
-        drop(queue);
-    }
 }
 
 impl<M: Storage<PacketMetadata<Endpoint>>, B: Storage<u8>> Model for Inbox<M, B> {

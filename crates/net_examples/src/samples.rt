@@ -4,20 +4,13 @@ ghost use Rattle.std.specs.Prelude.{◌≡◌, ◌<◌, length, slice_get, slice
 use net_ring::Storage;
 
 /// The last sample of each sensor, in any storage.
-pub struct Samples<S: Storage<u16> + Drop> {
+#[derive(Drop)]
+pub struct Samples<S: Storage<u16>> {
     /// One for each sensor.
     pub samples: S,
 }
 
-/// Written by hand: with a derived one, `Samples` over a `ManagedSlice` could not be a local.
-impl<S: Storage<u16> + Drop> Drop for Samples<S> {
-    fn drop(self) {
-        let Samples { samples } = self;
-        drop(samples);
-    }
-}
-
-impl<S: Storage<u16> + Drop> Samples<S> {
+impl<S: Storage<u16>> Samples<S> {
     /// Returns the samples that the storage has.
     pub fn new(samples: S) -> Self
         ensures { result.samples ≡ samples }

@@ -24,18 +24,10 @@ use std::marker::Model;
 /// and `outbound_datagrams`, each datagram with its endpoint and its bytes. A call never changes
 /// how many slots and bytes a queue has. The user calls `send_slice`, `recv_slice` and
 /// `peek_slice`, and the stack below calls `process` and `dispatch`.
+#[derive(Drop)]
 pub struct UdpSocket<'a> {
     inbound: PacketBuffer<'a, Endpoint>,
     outbound: PacketBuffer<'a, Endpoint>,
-}
-
-/// Written by hand: with a derived `Drop` a `UdpSocket` could not be a local of this crate.
-impl<'a> Drop for UdpSocket<'a> {
-    fn drop(self) {
-        let UdpSocket { inbound, outbound } = self;
-        drop(inbound);
-        drop(outbound);
-    }
 }
 
 impl<'a> Model for UdpSocket<'a> {

@@ -20,22 +20,11 @@ use std::marker::Model;
 ///
 /// Contracts see the bytes of the storage, the set of the positions that arrived, the packet's
 /// size, once it is known, and the moment up to which the packet is waited for.
+#[derive(Drop)]
 pub struct FragmentsOver<B: Storage<u8>, const N: usize> {
     head: FragmentsHead,
     bytes: B,
     runs: [Run; N],
-}
-
-/// Written by hand: with a derived `Drop` a `FragmentBuffer` could not be a local.
-impl<B: Storage<u8> + Drop, const N: usize> Drop for FragmentsOver<B, N> {
-    fn drop(self) {
-        let FragmentsOver {
-            head: _,
-            bytes,
-            runs: _,
-        } = self;
-        drop(bytes);
-    }
 }
 
 /// The last moment at which the packet is waited for.
