@@ -144,9 +144,7 @@ fn play_packets(
     replies: &mut String,
 ) -> Result<bool, CaseError> {
     let mut packets = packets(alloc, slots, bytes, seed)?;
-    let played = play(alloc, &mut packets, lines, replies);
-    drop(packets);
-    played
+    play(alloc, &mut packets, lines, replies)
 }
 
 /// Appends the replies of a sender of a capacity and of a first position.

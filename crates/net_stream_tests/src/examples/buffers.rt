@@ -57,7 +57,6 @@ fn the_oldest_packets_make_room(rt: HostRuntime) {
     assert!(rt; push_newest(&mut queue, 4, b"123456789").is_none() && queue.len() == 3);
     assert!(rt; push_newest(&mut queue, 5, b"wxyz") == Some(2));
     assert!(rt; first(&mut queue) == Some((3, 3)) && first(&mut queue) == Some((5, 4)));
-    drop(queue);
 }
 
 /// Returns whether samples that are lent are noted, each in its place.

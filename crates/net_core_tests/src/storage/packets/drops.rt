@@ -25,9 +25,7 @@ fn queue_refuses(alloc: Global, count: usize, drops: &Cell<u32>) -> Result<bool,
         ManagedSlice::Borrowed(&mut slots),
         ManagedSlice::Owned(bytes),
     );
-    let refused = packet_is_refused(&mut queue, drops);
-    drop(queue);
-    Ok(refused)
+    Ok(packet_is_refused(&mut queue, drops))
 }
 
 #[test]

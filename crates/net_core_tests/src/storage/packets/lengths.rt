@@ -26,5 +26,4 @@ fn gaps_are_no_packets(rt: HostRuntime) {
     assert!(rt; has(&queue, 2, 2) && !queue.has_room(3) && queue.take().is_ok());
     assert!(rt; queue.has_room(3));
     assert!(rt; takes(&mut queue, 3) && has(&queue, 2, 3));
-    drop(queue);
 }

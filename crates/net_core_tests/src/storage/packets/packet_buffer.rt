@@ -42,7 +42,6 @@ fn refusals_run_no_closure(rt: HostRuntime) {
     );
     assert!(rt; hands_nothing(&mut queue) && refuses_closure(&mut queue, 17));
     assert!(rt; goes_in_and_out(&mut queue, b"abcdef") && hands_nothing(&mut queue));
-    drop(queue);
 }
 
 /// Returns whether `place` refuses a packet of `size` bytes.
@@ -118,7 +117,6 @@ fn headers_come_and_go(drops: &Cell<u32>) -> bool {
     let no_slot = drops_of_refused(&mut queue, drops, b"") == Some(4);
     let off = dequeue_takes_off(&mut queue);
     let off = off && drops.get() == 13 && closure_takes_off(&mut queue);
-    drop(queue);
     came && kept && no_bytes && too_long && last && no_slot && off
 }
 
@@ -146,12 +144,10 @@ fn passes_through(bytes: &mut [u8]) -> bool {
     let mut slots = [PacketMetadata::<u8>::EMPTY; 4];
     let mut queue = PacketBuffer::<u8>::new(
         ManagedSlice::Borrowed(&mut slots),
-        ManagedSlice::Borrowed(&mut bytes[..]),
+        ManagedSlice::Borrowed(bytes),
     );
     let put = queue.push_slice(1, b"abc").is_ok() && queue.push_slice(2, b"def").is_ok();
-    let passed = put && queue.take() == Ok((1, 3)) && queue.push_slice(3, b"ghi").is_ok();
-    drop(queue);
-    passed
+    put && queue.take() == Ok((1, 3)) && queue.push_slice(3, b"ghi").is_ok()
 }
 
 #[test]

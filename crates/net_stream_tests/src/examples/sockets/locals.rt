@@ -24,19 +24,15 @@ fn ring_takes(bytes: ManagedSlice<'_, u8>) -> bool {
 }
 
 /// Returns whether a queue over the storage takes a datagram.
-fn queue_takes<'a>(slots: Slots<'a>, bytes: ManagedSlice<'a, u8>) -> bool {
+fn queue_takes(slots: Slots<'_>, bytes: ManagedSlice<'_, u8>) -> bool {
     let mut queue = PacketBuffer::new(slots, bytes);
-    let takes = queue.push_slice(ENDPOINT, b"hi").is_ok() && !queue.is_empty();
-    drop(queue);
-    takes
+    queue.push_slice(ENDPOINT, b"hi").is_ok() && !queue.is_empty()
 }
 
 /// Returns whether an inbox over the storage is empty.
-fn inbox_is_empty<'a>(slots: Slots<'a>, bytes: ManagedSlice<'a, u8>) -> bool {
+fn inbox_is_empty(slots: Slots<'_>, bytes: ManagedSlice<'_, u8>) -> bool {
     let mut inbox = Inbox::new(PacketBuffer::new(slots, bytes));
-    let is_empty = inbox.first().is_err();
-    drop(inbox);
-    is_empty
+    inbox.first().is_err()
 }
 
 /// Returns whether a socket takes a datagram to send, over storage of two queues.
