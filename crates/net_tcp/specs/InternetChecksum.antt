@@ -69,7 +69,7 @@ abbrev pub ChecksumVerifies : Type 0
 ChecksumVerifies = (xs ys : List ℕ) → IsEven xs →
     folded (word_sum (xs ++ word_bytes (internet_checksum (xs ++ word_bytes 0 ++ ys)) ++ ys)) ≡ 65535
 
--- and no other field is valid there, except that 65535 is too where the checksum is 0
+-- and no other field is valid there, except perhaps 65535 where the checksum is 0
 abbrev pub OnlyChecksumVerifies : Type 0
 OnlyChecksumVerifies = (xs ys : List ℕ) (c : ℕ) → IsEven xs → c ≤ 65535 →
     folded (word_sum (xs ++ word_bytes c ++ ys)) ≡ 65535 →
@@ -82,7 +82,7 @@ UpdateIsChecksum = (xs ys : List ℕ) (m n : ℕ) → IsEven xs → m ≤ 65535 
     0 < word_sum (xs ++ word_bytes n ++ ys) →
     updated (internet_checksum (xs ++ word_bytes m ++ ys)) m n ≡ internet_checksum (xs ++ word_bytes n ++ ys)
 
--- an update leaves a message as valid as it was, unless it is all zeros then
+-- a message that is valid stays so after an update, unless it is all zeros then
 abbrev pub UpdateKeepsValid : Type 0
 UpdateKeepsValid = (xs ys zs : List ℕ) (c m n : ℕ) → IsEven xs → IsEven ys → c ≤ 65535 → m ≤ 65535 →
     n ≤ 65535 → 0 < word_sum (xs ++ ys ++ word_bytes n ++ zs) →

@@ -20,7 +20,15 @@ window_from seq ack window = record { edge = min (ack + window) (2 ^ 64 - 1); se
 abbrev pub with_segment : PeerWindow → ℕ → ℕ → ℕ → PeerWindow
 with_segment w seq ack window = if is_newer w seq ack then window_from seq ack window else w
 
+-- the window whose numbers are 0
+abbrev pub no_window : PeerWindow
+no_window = record { edge = 0; seq = 0; ack = 0 }
+
 -- ---- laws
+-- any segment's window replaces it
+abbrev pub NoWindowIsReplaced : Type 0
+NoWindowIsReplaced = (seq ack window : ℕ) → with_segment no_window seq ack window ≡ window_from seq ack window
+
 -- the order in which two segments arrive makes no difference, unless both numbers are the same
 abbrev pub OrderIsFree : Type 0
 OrderIsFree = (w : PeerWindow) (seq ack window seq' ack' window' : ℕ) → ((seq ≡ seq') → (ack ≢ ack')) →

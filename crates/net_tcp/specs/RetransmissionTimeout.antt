@@ -1,11 +1,13 @@
 -- The time until a retransmission (RFC 6298), in whole microseconds. An estimate e keeps eight times
 -- SRTT in e.srtt_8 and four times RTTVAR in e.rttvar_4.
 --     first_estimate r, next_estimate e r      the estimate after a first sample, and after one more
+--     before_samples t, estimate_of t      a timeout before any sample, and the estimate of one
 --     timeout_of b e      the timeout that it gives, within the bounds b
 --     doubled b t      the timeout after it passed
 --     after_acknowledgement b sent now t      what an acknowledgement leaves
 --     IsSmall e      no sum of it leaves 64 bits
 use Rattle.std.specs.Prelude.{◌≡◌, ℕ, ◌+◌, ◌-◌, ◌*◌, ◌/◌, ◌^◌, ◌<◌, ◌≤◌, min, max, Option, Some, None}
+use Rattle.std.specs.Prelude.{if◌then◌else◌, nat_eq}
 use Rattle.std.specs.Fn.{iterate}
 use Rattle.net_tcp.specs.declared.retransmission.RttEstimate.{RttEstimate}
 use Rattle.net_tcp.specs.declared.retransmission.TimeoutBounds.{TimeoutBounds}
@@ -43,13 +45,21 @@ abbrev pub estimate_after : Option RttEstimate → ℕ → RttEstimate
 estimate_after None r = first_estimate r
 estimate_after (Some e) r = next_estimate e r
 
+-- but for the timeout its numbers are 0
+abbrev pub before_samples : ℕ → RetransmissionTimeout
+before_samples t = record { estimate = record { srtt_8 = 0; rttvar_4 = 0 }; has_estimate = 0; timeout = t }
+
+abbrev pub estimate_of : RetransmissionTimeout → Option RttEstimate
+estimate_of t = if nat_eq t.has_estimate 0 then None else Some t.estimate
+
 abbrev pub IsSmallIfAny : Option RttEstimate → Type 0
 IsSmallIfAny None = Unit {0}
 IsSmallIfAny (Some e) = IsSmall e
 
 abbrev pub after_sample : TimeoutBounds → ℕ → RetransmissionTimeout → RetransmissionTimeout
 after_sample b r t =
-    let e = estimate_after t.estimate (sample r) in record { estimate = Some e; timeout = timeout_of b e }
+    let e = estimate_after (estimate_of t) (sample r) in
+    record { estimate = e; has_estimate = 1; timeout = timeout_of b e }
 
 -- by Karn's rule a segment that was sent again gives no sample, and leaves a doubled timeout as it is
 abbrev pub after_acknowledgement : TimeoutBounds → Transmission → ℕ → RetransmissionTimeout → RetransmissionTimeout

@@ -6,6 +6,8 @@ ghost use Rattle.net_tcp.specs.InternetChecksum.{Sums, word_bytes};
 ghost use Rattle.std.specs.Int.{from_bool};
 
 /// The sum of the bytes of several parts of a message, one after another, of any lengths.
+/// One of zeros is that of no bytes.
+#[repr(C)]
 #[derive(Copy, Clone, Debug)]
 pub struct PartsSum {
     /// The sum of the words, with carries out of 64 bits added at the low end.
@@ -17,7 +19,8 @@ pub struct PartsSum {
 impl PartsSum {
     /// Returns the sum of no bytes.
     pub const fn new() -> Self
-        ensures { Sums result [] }
+        ensures nothing { Sums result [] }
+        ensures zeros { (result.sum ≡ 0) × IsFalse result.odd }
     {
         PartsSum { sum: 0, odd: false }
     }

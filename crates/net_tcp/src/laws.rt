@@ -6,7 +6,7 @@ ghost use Rattle.net_tcp.specs.Acceptability.{TableIsAcceptable, AcceptableIsInT
 ghost use Rattle.net_tcp.specs.AdvertisedWindow.{ScaleOpens, Reopens, WholeUnitsAreKept};
 ghost use Rattle.net_tcp.specs.AdvertisedWindow.{NotEachPromiseIsKept};
 ghost use Rattle.net_tcp.specs.Agreement.{PeerKnowsPromise, SentIsAcceptable};
-ghost use Rattle.net_tcp.specs.PeerWindow.{OrderIsFree};
+ghost use Rattle.net_tcp.specs.PeerWindow.{OrderIsFree, NoWindowIsReplaced};
 ghost use Rattle.net_tcp.specs.RetransmissionTimeout.{FollowsFormulas, EqualSamplesSettle};
 ghost use Rattle.net_tcp.specs.RetransmissionTimeout.{DoublesToTheMost};
 
@@ -18,14 +18,15 @@ pub fn sums()
     ensures folds { FoldsAdd }
 {}
 
-/// States which checksums are valid: the one that is computed with a zero field, and no other, but
-/// for 65535 in place of 0.
+/// States which checksums are valid, at an even offset: the one that is computed with a zero field, and
+/// no other, except perhaps 65535 where that is 0.
 pub fn verification()
     ensures verifies { ChecksumVerifies }
     ensures only { OnlyChecksumVerifies }
 {}
 
-/// States what an update gives.
+/// States what an update gives, unless the message is all zeros then: from the checksum of the message
+/// before, the checksum of the message; and a message that was valid stays so.
 pub fn updates()
     ensures checksum { UpdateIsChecksum }
     ensures valid { UpdateKeepsValid }
@@ -37,9 +38,10 @@ pub fn acceptable_segments()
     ensures covers { AcceptableIsInTable }
 {}
 
-/// States that windows open: an empty receiver announces a part of its capacity, and once all is read
-/// an update is worth a segment. A promise is kept whole where its rest is a multiple of the unit;
-/// `not_each` shows that not every promise can be.
+/// States that windows open, of a receiver that has a capacity and the scale for it: an empty one
+/// announces a part of its capacity; and once all is read, and less than a unit of what was promised is
+/// left, an update is worth a segment. A promise is kept whole if there is room for it, and its rest is
+/// a multiple of the unit that a number can say; `not_each` shows that not every promise can be.
 pub fn announced_windows()
     ensures opens { ScaleOpens }
     ensures reopens { Reopens }
@@ -47,21 +49,26 @@ pub fn announced_windows()
     ensures not_each { NotEachPromiseIsKept }
 {}
 
-/// States that segments leave the same window in either order of arrival.
+/// States that two segments leave the same window in either order of arrival, unless both of their
+/// numbers are the same; and that the window of any segment replaces a window of zeros.
 pub fn peer_windows()
-    ensures { OrderIsFree }
+    ensures order { OrderIsFree }
+    ensures zeros { NoWindowIsReplaced }
 {}
 
-/// States what estimates and timeouts do: an estimate follows the formulas of RFC 6298, equal samples
-/// settle it, and a timeout that passes k times becomes 2^k times as long, up to the greatest.
+/// States what estimates and timeouts do: an estimate follows the formulas of RFC 6298, but for less
+/// than a microsecond that is rounded; equal samples settle it; and a timeout within its bounds that
+/// passes k times becomes 2^k times as long, up to the greatest.
 pub fn timeouts()
     ensures formulas { FollowsFormulas }
     ensures settle { EqualSamplesSettle }
     ensures doubles { DoublesToTheMost }
 {}
 
-/// States that a sender which keeps to the window that it was told sends nothing that the receiver
-/// refuses, but for what has come already.
+/// States that the edge of what a sender was told is not beyond what the receiver promised, now or
+/// before; and that a segment with positions, all below an edge that was promised, is acceptable to a
+/// receiver whose window reaches to all that it promised, unless all of them came already. That it is
+/// acceptable doesn't say that it is kept: a receiver may still refuse it for want of runs.
 pub fn agreement()
     ensures knows { PeerKnowsPromise }
     ensures sent { SentIsAcceptable }

@@ -3,12 +3,13 @@ ghost use Rattle.std.specs.Prelude.{◌≡◌, ◌≤◌, ◌/◌, ◌*◌, ◌^
 ghost use Rattle.net_tcp.specs.RetransmissionTimeout.{sample, first_estimate, next_estimate};
 ghost use Rattle.net_tcp.specs.RetransmissionTimeout.{IsSmall, IsSmallIfAny, timeout_of, doubled};
 ghost use Rattle.net_tcp.specs.RetransmissionTimeout.{after_acknowledgement, after_sample};
-ghost use Rattle.net_tcp.specs.RetransmissionTimeout.{estimate_after};
+ghost use Rattle.net_tcp.specs.RetransmissionTimeout.{estimate_after, estimate_of, before_samples};
 
 /// The longest round trip that counts, in microseconds: 2^60, some 36,000 years.
 const LONGEST_SAMPLE: u64 = 1 << 60;
 
 /// An estimate of the time of a round trip.
+#[repr(C)]
 #[derive(Copy, Clone, Debug)]
 pub struct RttEstimate {
     /// Eight times the smoothed time.
@@ -18,6 +19,7 @@ pub struct RttEstimate {
 }
 
 /// The bounds of a timeout, and the tick of the clock that the samples are read from.
+#[repr(C)]
 #[derive(Copy, Clone, Debug)]
 pub struct TimeoutBounds {
     /// The least timeout.
@@ -95,11 +97,14 @@ impl RttEstimate {
     }
 }
 
-/// The time until a retransmission.
+/// The time until a retransmission. Its numbers but `timeout` are 0 before any sample.
+#[repr(C)]
 #[derive(Copy, Clone, Debug)]
 pub struct RetransmissionTimeout {
-    /// The estimate, if there was a sample.
-    pub estimate: Option<RttEstimate>,
+    /// The estimate, once there was a sample.
+    pub estimate: RttEstimate,
+    /// Not 0 once there was a sample; this library writes 1 then.
+    pub has_estimate: u64,
     /// The timeout.
     pub timeout: u64,
 }
@@ -107,14 +112,28 @@ pub struct RetransmissionTimeout {
 impl RetransmissionTimeout {
     /// Returns a timeout before any sample. The RFC has 1 second.
     pub const fn new(timeout: u64) -> Self
-        ensures value { result.timeout ≡ timeout }
-        ensures none { result.estimate ≡ None }
-        ensures small { IsSmallIfAny result.estimate }
+        ensures value { result ≡ before_samples timeout }
+        ensures none { estimate_of result ≡ None }
+        ensures small { IsSmallIfAny (estimate_of result) }
     {
         RetransmissionTimeout {
-            estimate: None,
+            estimate: RttEstimate {
+                srtt_8: 0,
+                rttvar_4: 0,
+            },
+            has_estimate: 0,
             timeout,
         }
+    }
+
+    /// Returns the estimate, if there was a sample.
+    pub fn rtt(&self) -> Option<RttEstimate>
+        ensures { result ≡ estimate_of self.now }
+    {
+        if self.has_estimate == 0 {
+            return None;
+        }
+        Some(self.estimate)
     }
 
     /// Takes over the sample of a segment that was acknowledged now, if it was sent once.
@@ -123,9 +142,9 @@ impl RetransmissionTimeout {
     ///
     /// The estimate, if there is one, was made by samples, as `is_small` tests.
     pub fn acknowledged(&mut self, bounds: TimeoutBounds, sent: Transmission, now: u64)
-        requires { IsSmallIfAny self.old.estimate }
+        requires { IsSmallIfAny (estimate_of self.old) }
         ensures state { self.new ≡ after_acknowledgement bounds sent now self.old }
-        ensures small { IsSmallIfAny self.new.estimate }
+        ensures small { IsSmallIfAny (estimate_of self.new) }
     {
         prove!(self.is_small(), "an estimate that was not made by samples");
         match sent {
@@ -137,29 +156,34 @@ impl RetransmissionTimeout {
     /// Returns whether the estimate, if there is one, has room for a sample, as any has that was made
     /// by samples.
     pub fn is_small(&self) -> bool
-        ensures { IsTrue result ↔ IsSmallIfAny self.now.estimate }
+        ensures { IsTrue result ↔ IsSmallIfAny (estimate_of self.now) }
     {
-        match self.estimate {
-            Some(estimate) => estimate.is_small(),
-            None => true,
-        }
+        self.has_estimate == 0 || self.estimate.is_small()
     }
 
-    /// Takes over a sample.
-    fn take_sample(&mut self, bounds: TimeoutBounds, time: u64)
-        requires { IsSmallIfAny self.old.estimate }
+    /// Takes over a sample, the time from when a segment was sent until it was acknowledged. The
+    /// segment was sent once: of one that was sent again it is not known which of the copies was
+    /// acknowledged.
+    ///
+    /// # Requires
+    ///
+    /// The estimate, if there is one, was made by samples, as `is_small` tests.
+    pub fn take_sample(&mut self, bounds: TimeoutBounds, time: u64)
+        requires { IsSmallIfAny (estimate_of self.old) }
         ensures state { self.new ≡ after_sample bounds time self.old }
-        ensures small { IsSmallIfAny self.new.estimate }
+        ensures small { IsSmallIfAny (estimate_of self.new) }
     {
-        let estimate = updated(self.estimate, time);
-        self.estimate = Some(estimate);
-        self.timeout = estimate.timeout(bounds);
+        prove!(self.is_small(), "an estimate that was not made by samples");
+        self.estimate = updated(self.rtt(), time);
+        self.has_estimate = 1;
+        self.timeout = self.estimate.timeout(bounds);
     }
 
     /// Doubles the timeout, after it passed.
     pub fn expired(&mut self, bounds: TimeoutBounds)
         ensures timeout { self.new.timeout ≡ doubled bounds self.old.timeout }
         ensures estimate { self.new.estimate ≡ self.old.estimate }
+        ensures has_estimate { self.new.has_estimate ≡ self.old.has_estimate }
     {
         let timeout = self.timeout.saturating_mul(2);
         self.timeout = bounds.least.max(bounds.most.min(timeout));
