@@ -2,7 +2,8 @@
 /* net-base 0.5.0.
  *
  * Functions for C over memory that the caller keeps: rings, packet queues, assemblers, buffers of
- * fragments, receivers, senders and their scoreboards, sequence numbers, time and random words.
+ * fragments, receivers, senders and their scoreboards, windows, timeouts and sums of TCP, sequence
+ * numbers, time and random words.
  *
  * There is no heap and no global state. Each export calls a function of a library here, states its
  * clauses, and refuses arguments that no correct caller passes.
@@ -35,7 +36,8 @@
  *    by `net_base_receiver_..`, not its `place` by `net_base_ring_..` or its `held` by
  *    `net_base_assembler_..`. The caller may set a head to zeros, and then what the comment of its
  *    kind says: `first` of a receiver, `first_unacknowledged` of a sender, `base` of a scoreboard,
- *    `expires_at` of a buffer of fragments, `end` of a receiver of a stream that ends.
+ *    `expires_at` of a buffer of fragments, `end` of a receiver of a stream that ends, `edge` of an
+ *    announced window, `timeout` of a timeout.
  * 6. Where a comment says `Requires`, head and runs are sound, as a call whose name ends in
  *    `_is_sound` tests. What calls of its own kind wrote, from a new head on, is sound, if each
  *    slot that `net_base_packets_take_slot` was given was the first one.
@@ -892,6 +894,20 @@ bool net_base_scoreboard_is_sound(
  */
 void net_base_scoreboard_reset(struct net_base_scoreboard *scoreboard, uint64_t first);
 
+/* Reports the positions from `start` on and below `end`, as a SACK block of an acknowledgement
+ * does. Blocks may overlap. `sent` is the position after the last byte that was ever sent.
+ *
+ * Returns `NET_BASE_DONE`, or `NET_BASE_TOO_MANY_RUNS`, and nothing changes, if the block begins
+ * beyond the first position that wasn't reported, and there would be more runs beyond it than the
+ * slice has elements.
+ *
+ * It is refused if `start` isn't below `end`, or `end` is above `sent`, or if `scoreboard` isn't
+ * sound with `runs`: `NET_BASE_REFUSED`, and nothing changes.
+ */
+uint32_t net_base_scoreboard_report(
+    struct net_base_scoreboard *scoreboard, struct net_base_run *runs, uint64_t runs_length,
+    uint64_t start, uint64_t end, uint64_t sent);
+
 /* Reports all positions below `next`, whatever the number of runs, and returns true.
  *
  * It is refused if `scoreboard` isn't sound with `runs`: false, and nothing changes.
@@ -947,18 +963,6 @@ uint64_t net_base_scoreboard_count_beyond(
 bool net_base_scoreboard_lost_below(
     const struct net_base_scoreboard *scoreboard, const struct net_base_run *runs,
     uint64_t runs_length, uint64_t duplicates, uint64_t segment_size, uint64_t *limit);
-
-/* Reports the positions from `start` on and below `end`, as a SACK block of an acknowledgement
- * does. Blocks may overlap. `sent` is the position after the last byte that was ever sent.
- *
- * Returns `NET_BASE_DONE`, or `NET_BASE_TOO_MANY_RUNS` if the block begins beyond the first
- * position that wasn't reported, and there would be more runs beyond it than the slice has
- * elements; or `NET_BASE_REFUSED` if `start` isn't below `end`, if `end` is above `sent`, or if the
- * scoreboard isn't sound. If it isn't `NET_BASE_DONE`, nothing changes.
- */
-uint32_t net_base_scoreboard_report(
-    struct net_base_scoreboard *scoreboard, struct net_base_run *runs, uint64_t runs_length,
-    uint64_t start, uint64_t end, uint64_t sent);
 
 /* Receivers of a stream that ends. The end is the position after the last byte. It has a number, as
  * TCP's FIN has, and needs no room; `end` of the head is it, or `NET_BASE_NONE` while it isn't
@@ -1026,6 +1030,24 @@ uint32_t net_base_finite_receiver_has_read_all(const struct net_base_finite_rece
 uint64_t net_base_finite_receiver_read(
     struct net_base_finite_receiver *receiver, const uint8_t *storage, uint64_t storage_length,
     uint8_t *into, uint64_t into_length);
+
+/* Returns `NET_BASE_PRESENT` if a segment of `count` numbers from `position` on is acceptable by
+ * the table of RFC 9293, section 3.10.7.4, and `NET_BASE_MISSING` if it isn't: its first number may
+ * arrive, or its last one. The end is a number. If the window is 0, only a segment without numbers
+ * at the acknowledged one is. An end alone in a window of 0 isn't, though
+ * `net_base_finite_receiver_segment` takes it: a caller that wants it asks with the count of the
+ * bytes alone.
+ *
+ * It is refused if `place` isn't that of a ring of `storage_length` bytes, `next` doesn't fit 64
+ * bits, or `held.used` is above `runs_length`, or if the segment doesn't end within 64 bits:
+ * `NET_BASE_REFUSED`.
+ *
+ * Requires: head and runs are sound, as `net_base_finite_receiver_is_sound` tests.
+ */
+uint32_t net_base_finite_receiver_is_acceptable(
+    const struct net_base_finite_receiver *receiver, const uint8_t *storage,
+    uint64_t storage_length, const struct net_base_run *runs, uint64_t runs_length,
+    uint64_t position, uint64_t count);
 
 /* Returns how many bytes of a segment of `len` bytes at `position` would be new: those in the free
  * window and below the end whose positions are not held.
@@ -1145,6 +1167,12 @@ bool net_base_finite_sender_mark_sent(
 bool net_base_finite_sender_acknowledge(
     struct net_base_finite_sender *sender, uint64_t capacity, uint64_t next);
 
+/* Returns whether a SACK block can be right: it has a number, and none above those that were sent,
+ * of which the end's is one.
+ */
+bool net_base_finite_sender_is_block(
+    const struct net_base_finite_sender *sender, uint64_t start, uint64_t end);
+
 /* Returns whether the sender is closed. */
 bool net_base_finite_sender_is_closed(const struct net_base_finite_sender *sender);
 
@@ -1165,6 +1193,12 @@ bool net_base_tcp_is_acceptable(uint64_t next, uint64_t window, uint64_t seq, ui
 /* Returns the least scale by which this capacity can be announced, or 14 if none can. */
 uint8_t net_base_tcp_scale_for(uint64_t capacity);
 
+/* Writes how many bytes the field of a segment announces to `bytes`, and returns true.
+ *
+ * It is refused if `scale` is above 14: false, and nothing changes.
+ */
+bool net_base_tcp_scaled(uint16_t field, uint8_t scale, uint64_t *bytes);
+
 /* Returns the checksum of these bytes. */
 uint16_t net_base_tcp_checksum(const uint8_t *bytes, uint64_t bytes_length);
 
@@ -1175,6 +1209,180 @@ bool net_base_tcp_is_checksum_valid(const uint8_t *bytes, uint64_t bytes_length)
  * (RFC 1624, equation 3).
  */
 uint16_t net_base_tcp_updated_checksum(uint16_t checksum, uint16_t old, uint16_t new);
+
+/* What a receiver has announced.
+ *
+ * A head of zeros, but for `edge`, is new: nothing was announced, before the stream's byte at
+ * position `edge`.
+ */
+
+/* What a receiver has announced: how far its promise reaches. */
+struct net_base_advertised_window {
+    /* The position after the last one that was ever promised. The receiver accepts all below it. */
+    uint64_t edge;
+};
+
+/* Writes the number to announce to `number`, in units of 2^`scale`, and returns true; `next` is the
+ * first missing position, and `window_end` the end of the free room. It is the greatest that
+ * doesn't promise more than there is. In a segment with a SYN the scale is 0.
+ *
+ * No number keeps a promise whose rest isn't a multiple of the unit, unless there is room for a
+ * unit more: the number may then be one less than what was promised, by less than a unit. What was
+ * promised is still accepted, and `edge` stays.
+ *
+ * It is refused if `scale` is above 14, or if `window_end` is below `next`: false, and nothing
+ * changes.
+ */
+bool net_base_advertised_window_announce(
+    struct net_base_advertised_window *advertised, uint8_t scale, uint64_t next,
+    uint64_t window_end, uint16_t *number);
+
+/* Writes the number to announce in a segment that is sent anyway, as
+ * `net_base_advertised_window_announce` does, but moves the edge only if an update would be due:
+ * otherwise it announces what was promised before. So a sender is never told of a few bytes of room
+ * (RFC 9293, section 3.8.6.2.2).
+ *
+ * It is refused if `scale` is above 14, or if `window_end` is below `next`: false, and nothing
+ * changes.
+ */
+bool net_base_advertised_window_announce_in_steps(
+    struct net_base_advertised_window *advertised, uint8_t scale, uint64_t next,
+    uint64_t window_end, uint64_t capacity, uint16_t mss, uint16_t *number);
+
+/* Returns `NET_BASE_PRESENT` if an update is worth a segment of its own, and `NET_BASE_MISSING` if
+ * it isn't: whether the edge would move by half of the receiver's capacity, or by one segment of
+ * `mss` bytes.
+ *
+ * It is refused if `scale` is above 14, or if `window_end` is below `next`: `NET_BASE_REFUSED`.
+ */
+uint32_t net_base_advertised_window_is_update_due(
+    const struct net_base_advertised_window *advertised, uint8_t scale, uint64_t next,
+    uint64_t window_end, uint64_t capacity, uint16_t mss);
+
+/* The window that the peer announced.
+ *
+ * A head of zeros is that before any segment: nothing may be sent, and no segment is older.
+ */
+
+/* The window that the peer announced, and the segment that it is from. It is kept as its right
+ * edge, which acknowledgements don't move. One of zeros lets nothing be sent, and no segment is
+ * older.
+ */
+struct net_base_peer_window {
+    /* The position after the last that may be sent. */
+    uint64_t edge;
+    /* The position of the segment's first byte, in the peer's stream. */
+    uint64_t seq;
+    /* The position that it acknowledged. */
+    uint64_t ack;
+};
+
+/* Takes over the window of an acceptable segment, unless that is older than the one before, or
+ * acknowledges what was acknowledged before `first_unacknowledged`, or what was never sent. Returns
+ * whether it did. A window may shrink.
+ */
+bool net_base_peer_window_update(
+    struct net_base_peer_window *peer, uint64_t first_unacknowledged, uint64_t sent, uint64_t seq,
+    uint64_t ack, uint64_t window);
+
+/* Returns how many bytes from `position` on may be sent: none if the edge is at or below it, as it
+ * may be after the window shrank.
+ */
+uint64_t net_base_peer_window_usable(const struct net_base_peer_window *peer, uint64_t position);
+
+/* Returns the end of what may be sent of the bytes below `end`. */
+uint64_t net_base_peer_window_send_limit(const struct net_base_peer_window *peer, uint64_t end);
+
+/* Returns whether a probe may be sent, the one byte at `first_unacknowledged`: the window has
+ * closed, and there are bytes below `end` that wait.
+ */
+bool net_base_peer_window_is_probe_allowed(
+    const struct net_base_peer_window *peer, uint64_t first_unacknowledged, uint64_t end);
+
+/* The time until a retransmission (RFC 6298), in microseconds.
+ *
+ * A head of zeros, but for `timeout`, is new: there was no sample. The RFC begins with 1 second.
+ */
+
+/* An estimate of the time of a round trip. */
+struct net_base_rtt_estimate {
+    /* Eight times the smoothed time. */
+    uint64_t srtt_8;
+    /* Four times its variation. */
+    uint64_t rttvar_4;
+};
+
+/* The time until a retransmission. Its numbers but `timeout` are 0 before any sample. */
+struct net_base_retransmission_timeout {
+    /* The estimate, once there was a sample. */
+    struct net_base_rtt_estimate estimate;
+    /* Not 0 once there was a sample; this library writes 1 then. */
+    uint64_t has_estimate;
+    /* The timeout. */
+    uint64_t timeout;
+};
+
+/* The bounds of a timeout, and the tick of the clock that the samples are read from. */
+struct net_base_timeout_bounds {
+    /* The least timeout. */
+    uint64_t least;
+    /* The greatest. */
+    uint64_t most;
+    /* The time between two ticks of the clock. */
+    uint64_t tick;
+};
+
+/* Returns whether the estimate, if there is one, has room for a sample, as any has that was made by
+ * samples.
+ */
+bool net_base_retransmission_timeout_is_small(const struct net_base_retransmission_timeout *timer);
+
+/* Takes over a sample, the time from when a segment was sent until it was acknowledged, and returns
+ * true. The segment was sent once: of one that was sent again it isn't known which of the copies
+ * was acknowledged.
+ *
+ * It is refused if the estimate of `timer` has no room for a sample: false, and nothing changes.
+ */
+bool net_base_retransmission_timeout_take_sample(
+    struct net_base_retransmission_timeout *timer, const struct net_base_timeout_bounds *bounds,
+    uint64_t time);
+
+/* Doubles the timeout, after it passed. */
+void net_base_retransmission_timeout_expired(
+    struct net_base_retransmission_timeout *timer, const struct net_base_timeout_bounds *bounds);
+
+/* Estimates of the time of a round trip: `estimate` of a timeout, once it `has_estimate`. */
+
+/* Returns the timeout that it gives within the bounds: at least the smoothed time, but for the
+ * greatest timeout.
+ */
+uint64_t net_base_rtt_estimate_timeout(
+    const struct net_base_rtt_estimate *estimate, const struct net_base_timeout_bounds *bounds);
+
+/* The Internet checksum of a message in parts, such as a pseudo-header, a header and data.
+ *
+ * A head of zeros is new: no bytes were added.
+ */
+
+/* The sum of the bytes of several parts of a message, one after another, of any lengths. One of
+ * zeros is that of no bytes.
+ */
+struct net_base_parts_sum {
+    /* The sum of the words, with carries out of 64 bits added at the low end. */
+    uint64_t sum;
+    /* Whether the next byte is the low byte of a word. */
+    bool odd;
+};
+
+/* Adds the bytes that follow those which were added. */
+void net_base_parts_sum_add(
+    struct net_base_parts_sum *sum, const uint8_t *part, uint64_t part_length);
+
+/* Returns the checksum of the bytes that were added. */
+uint16_t net_base_parts_sum_checksum(const struct net_base_parts_sum *sum);
+
+/* Returns whether the bytes that were added, with a checksum among them, are valid. */
+bool net_base_parts_sum_is_valid(const struct net_base_parts_sum *sum);
 
 /* Random words, drawn from a state that the caller keeps. Any state is allowed; the words are not
  * fit for cryptography. The generator is smoltcp's, sPCG32: a step multiplies the state by

@@ -49,6 +49,7 @@ void fuzz_receiver(void);
 void fuzz_sender(void);
 void fuzz_scoreboard(void);
 void fuzz_fragments(void);
+void fuzz_tcp(void);
 void fuzz_time(void);
 void fuzz_sequence_number(void);
 void fuzz_rand(void);

@@ -50,6 +50,8 @@ static bool make(const struct call *call) {
         say(" ");
         uint64_t end = one + span.contiguous;
         say_truth(net_base_finite_sender_has_end_at(&head, capacity, end) == NET_BASE_PRESENT);
+    } else if (is(call, "is_block")) {
+        say_truth(net_base_finite_sender_is_block(&head, one, two));
     } else {
         return false;
     }

@@ -16,6 +16,20 @@ static struct net_base_hole hole(uint64_t position, uint64_t limit) {
     return net_base_scoreboard_next_hole(&head, runs, run_count, position, limit);
 }
 
+static void say_hole(struct net_base_hole it) {
+    if (it.start < it.end) {
+        say_run(it.start, it.end);
+    } else {
+        say("none");
+    }
+}
+
+static uint64_t lost_below(uint64_t duplicates, uint64_t segment_size) {
+    uint64_t limit = 7;
+    if (!net_base_scoreboard_lost_below(&head, runs, run_count, duplicates, segment_size, &limit)) say("unsound ");
+    return limit;
+}
+
 /* The first position that wasn't reported, and the highest one that was, both counted from the stream's first; how many
  * runs and positions are between these; the digest of the runs, which are between holes.
  */
@@ -50,12 +64,11 @@ static bool make(const struct call *call) {
     } else if (is(call, "first_missing")) {
         say_number(hole(one, UINT64_MAX).start);
     } else if (is(call, "next_hole")) {
-        struct net_base_hole next = hole(one, two);
-        if (next.start < next.end) {
-            say_run(next.start, next.end);
-        } else {
-            say("none");
-        }
+        say_hole(hole(one, two));
+    } else if (is(call, "lost_below")) {
+        say_number(lost_below(one, two));
+    } else if (is(call, "next_lost")) {
+        say_hole(hole(one, lost_below(two, call->numbers[2])));
     } else {
         return false;
     }

@@ -6,7 +6,7 @@ use net_base::scoreboard::Scoreboard;
 use net_base::sender::{Sender, SenderOver};
 use net_base::storage::fragment_table::{find_free, FragmentSlot};
 use net_base::storage::FragmentBuffer;
-use net_base::tcp::RetransmissionTimeout;
+use net_base::tcp::{RetransmissionTimeout, TimeoutBounds};
 use net_base::time::Instant;
 
 fn length(storage: ManagedSlice<u8>) -> usize {
@@ -82,7 +82,11 @@ fn a_scoreboard_and_a_buffer_of_fragments() {
     let mut buffer: FragmentBuffer<4> = FragmentBuffer::new(&mut storage[..], Instant::ZERO);
     assert!(buffer.add(3, b"d").is_ok());
     assert_eq!(length(buffer.into_storage()), 8);
-    assert!(RetransmissionTimeout::new(1_000_000).is_small());
+    let mut timer = RetransmissionTimeout::new(1_000_000);
+    assert!(timer.is_small() && timer.rtt().is_none());
+    timer.take_sample(TimeoutBounds { least: 1, most: 9_000, tick: 1 }, 800);
+    assert_eq!(timer.rtt().map(|it| it.srtt()), Some(800));
+    assert_eq!(timer.timeout, 2_400);
 }
 
 #[test]

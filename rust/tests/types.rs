@@ -59,7 +59,7 @@ fn texts_of_values() {
     assert_eq!(debug(RttEstimate::first(4)), "RttEstimate { srtt_8: 32, rttvar_4: 8 }");
     assert_eq!(
         debug(RetransmissionTimeout::new(5)),
-        "RetransmissionTimeout { estimate: None, timeout: 5 }"
+        "RetransmissionTimeout { estimate: RttEstimate { srtt_8: 0, rttvar_4: 0 }, has_estimate: 0, timeout: 5 }"
     );
     assert_eq!(debug([Transmission::Once(6), Transmission::Repeated]), "[Once(6), Repeated]");
     let bounds = TimeoutBounds { least: 1, most: 2, tick: 3 };

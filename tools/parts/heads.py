@@ -2,7 +2,7 @@
 ffi.py.
 
 An export is a line of heads.txt, whose first lines say what the line says. Of the method it has the comment, or another
-that follows the line; the parameters, where elements are bytes; and each clause `ensures`, after the test that it was
+that follows the line; the parameters, where elements are bytes, and a pointer is passed in place of a struct; and each clause `ensures`, after the test that it was
 not refused. What the method requires is tested, and where that isn't so, the clause `refused` says what is returned, and
 that nothing changes. What would cost a look at each run isn't tested: that is the export's own `requires`, where the
 tests hold. `TESTS` says how each is tested, `RESULTS` how a result of the method is returned.
@@ -46,6 +46,9 @@ TESTS = [
     (rf"count ≤ {TERM} - {TERM}", "{all}", "count > {c0} - {c1}", "fewer than `count` elements are free", True),
     (rf"count ≤ {TERM}", "{all}", "count > {c0}", "fewer than `count` elements are queued", True),
     (rf"{TERM} ≤ capacity", "{all}", "{c0} > capacity", "more than `capacity` elements are queued", True),
+    (r"scale ≤ 14", "{all}", "scale > MAX_SCALE", "`scale` is above 14", True),
+    (r"next ≤ window_end", "{all}", "window_end < next", "`window_end` is below `next`", True),
+    (r"IsSmallIfAny \(estimate_of (\S+)\)", "{all}", "!{c0}.is_small()", "the estimate of `{c0}` has no room for a sample", True),
     (rf"HasSoundRuns {TERM} {TERM}", "{0}.used ≤ length {1}", "{c0}.used > {c1}.len()", "`{f0}used` is above `{c1}.len()`",
      False),
     (rf"HasSoundParts (fragments\S+) {TERM} {TERM}", "IsPlausible (length {1}) (length {2}) {0}",
@@ -60,6 +63,8 @@ TESTS = [
      "`place` isn't that of a ring of `{c1}.len()` bytes, `next` doesn't fit 64 bits, or `held.used` is above `{c2}.len()`",
      False),
 ]
+# What a method requires and a row's own test says, by what that has.
+IMPLIED = {"start ≤ end": "(start < end)"}
 # Clauses of what a call leaves, which hold too where nothing changes; the last where the call counts no bytes.
 STAY = {"canonical", "exact", "others", "sends"}
 NONE = "NET_BASE_NONE"
@@ -129,10 +134,12 @@ def stop(message):
     sys.exit(f"heads: {message}")
 
 
-def methods_of(path):
-    """The public methods and functions of a file by name."""
-    text, found = path.read_text(), {}
-    head = re.compile(r"((?:^ *///.*\n)+)(?:^ *#\[.*\n)*^ *pub (?:const )?fn (\w+)(?:<T: Copy>)?(\()", flags=re.M)
+def methods_of(path, kind):
+    """The public methods of a type in a file by name, or its functions that are no methods."""
+    text, found, indent = path.read_text(), {}, "" if kind == FREE else "    "
+    if kind != FREE:
+        text = "\n".join(re.findall(rf"^impl {kind} \{{\n.*?^\}}$", text, flags=re.M | re.S))
+    head = re.compile(rf"((?:^{indent}///.*\n)+)(?:^{indent}#\[.*\n)*^{indent}pub (?:const )?fn (\w+)(?:<T: Copy>)?(\()", flags=re.M)
     for match in head.finditer(text):
         end = ffi.closing(text, match.start(3))
         body = re.compile(r"^(?:    )?\{$", flags=re.M).search(text, end).start()
@@ -156,30 +163,38 @@ def uses_of(path):
 
 
 class Export:
-    """The export of a row: METHOD or NAME = METHOD, perhaps `-> RESULT`, perhaps `if CODE : CLAUSE`."""
+    """The export of a row: METHOD or NAME = METHOD, perhaps more parameters, `-> RESULT`, `if CODE : CLAUSE : WORDS`."""
 
     def __init__(self, head, row, doc):
-        words = re.fullmatch(r"(\w+)(?: = (\w+))?(?: -> (.+?))?(?: if (.+?) : (.+?) : (.+))?", row)
+        words = re.fullmatch(r"(\w+)(?: = (\w+))?(?: with (.+?))?(?: -> (.+?))?(?: if (.+?) : (.+?) : (.+))?", row)
         if not words or (words[2] or words[1]) not in head.methods:
             stop(f"{head.section}: no method: {row}")
         self.head, self.name, self.method = head, words[1], words[2] or words[1]
         of = head.methods[self.method]
-        self.doc = doc or (of.doc[: of.doc.index("# Requires")] if "# Requires" in of.doc else list(of.doc))
-        self.parameters, given = [], of.parameters
+        of_doc = of.doc[: of.doc.index("# Requires")] if "# Requires" in of.doc else list(of.doc)
+        self.doc = doc or [re.sub(r"`(\w+)`", lambda it: f"`{head.names.get(it[1], it[1])}`", line) for line in of_doc]
+        self.parameters, self.copied, given = [], [], of.parameters
         if head.type != FREE:
             self.parameters = [(head.name, f"&{'mut ' * (given[0] == '&mut self')}{head.type}")]
             given = given[1:]
         for it in given:
             name, kind = it.split(": ", 1)
-            self.parameters.append((head.names.get(name, name), kind.replace("[T]", "[u8]")))
+            name, kind = head.names.get(name, name), kind.replace("[T]", "[u8]")
+            if kind[0] not in "&[" and kind not in ffi.C_TYPES:
+                self.copied.append(name)
+                kind = f"&{kind}"
+            self.parameters.append((name, kind))
+        self.besides = [tuple(it.split(": ")) for it in words[3].split(", ")] if words[3] else []
+        self.parameters += self.besides
         self.requires = [self.named(clause) for _, clause in of.requires]
         self.ensures = [(name, self.named(clause)) for name, clause in of.ensures]
         self.tests, self.duties = [], []
         for clause in self.requires:
-            self.take(clause)
-        if words[4]:
-            self.tests.insert(0, (words[5], words[4], words[6], True))
-        self.returned(words[3], of.result)
+            if clause not in IMPLIED or IMPLIED[clause] not in words[6]:
+                self.take(clause)
+        if words[5]:
+            self.tests.insert(0, (words[6], words[5], words[7], True))
+        self.returned(words[4], of.result)
 
     def named(self, clause):
         """A clause of the method with the export's names."""
@@ -188,6 +203,8 @@ class Export:
         clause = clause.replace("FragmentError.", "")
         for old, new in self.head.names.items():
             clause = re.sub(rf"(?<![\w.]){old}\b", new, clause)
+        for name in self.copied:
+            clause = re.sub(rf"(?<![\w.]){name}\b", f"{name}.now", clause)
         clause = re.sub(r"\bself(?=\.(?:old|new|now)\b)", self.head.name, clause)
         return re.sub(r"\bself\b", f"{self.head.name}.now", clause)
 
@@ -302,13 +319,14 @@ class Export:
         if self.tests:
             lines += [f"    if {' || '.join(it[1] for it in self.tests)} {{", f"        return {self.result.refusal};", "    }"]
         owner = f"{self.head.name}::" if self.head.type == FREE else f"{self.head.name}."
-        call = f"{owner}{self.method}({', '.join(name for name, _ in self.given())})"
+        call = f"{owner}{self.method}({', '.join('*' * (name in self.copied) + name for name, _ in self.given())})"
         lines += [f"    {it}" for it in self.result.body.replace("{call}", call).split("\n    ")]
         return lines + ["}"]
 
     def given(self):
         """The parameters that the method gets."""
-        return [it for it in self.parameters[self.head.type != FREE :] if not (isinstance(self.result.value, str) and f"{it[0]}.new" == self.result.value)]
+        return [it for it in self.parameters[self.head.type != FREE :] if it not in self.besides
+                and not (isinstance(self.result.value, str) and f"{it[0]}.new" == self.result.value)]
 
     def comment(self):
         """The comment: what the call does, when it is refused, and its duty."""
@@ -365,7 +383,7 @@ def heads_of(text):
             _, section, kind, name, *words = line.split()
             paths = [ffi.ROOT / "crates" / it for it in words if "=" not in it]
             names = dict(it.split("=") for it in words if "=" in it)
-            methods = {it: method for path in paths for it, method in methods_of(path).items()}
+            methods = {it: method for path in paths for it, method in methods_of(path, kind).items()}
             uses = {it: use for path in paths for it, use in uses_of(path).items()}
             head = Head(section, kind, name, names, methods, uses, comment_after(lines, at))
             found.append((head, []))
@@ -442,6 +460,7 @@ CODE = {name: module for module, names in {
     "crate::receiver": "has_next", "crate::finite_receiver": "has_number",
     "net_assembler": "AssemblerHead Run", "net_ring": "RingHead Span", "net_base::storage": "FragmentsHead",
     "net_packets": "PacketSlot PacketsHead", "net_receiver": "FiniteReceiverHead FiniteSenderHead HeldRun ReceiverHead ScoreboardHead SenderHead",
+    "net_tcp": "AdvertisedWindow MAX_SCALE PartsSum PeerWindow RetransmissionTimeout RttEstimate TimeoutBounds",
 }.items() for name in names.split()}
 
 

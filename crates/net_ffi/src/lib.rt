@@ -1,14 +1,16 @@
 //! Functions for C over memory that the caller keeps: rings, packet queues, assemblers, buffers of fragments,
-//! receivers, senders and their scoreboards, sequence numbers, time and random words.
+//! receivers, senders and their scoreboards, windows, timeouts and sums of TCP, sequence numbers, time and random
+//! words.
 //!
 //! There is no heap and no global state. Each export calls a function of a library here, states its clauses, and
 //! refuses arguments that no correct caller passes.
 //!
 //! # Memory
 //!
-//! A head is a struct of numbers, which the caller keeps beside a storage and, for some heads, runs or slots. A head
-//! of zeros is new, but for what the comment of its kind says. Storage, runs and slots need no initial values (gcc may warn where the first call takes them by
-//! `const`). Lengths are in elements; a length of 0 is allowed, of runs too: then no run is held.
+//! A head is a struct of numbers, which the caller keeps beside a storage and, for some heads, runs or slots. A head of
+//! zeros is new, but for what the comment of its kind says. Storage, runs and slots need no initial values (gcc may
+//! warn where the first call takes them by `const`). Lengths are in elements; a length of 0 is allowed, of runs too:
+//! then no run is held.
 //!
 //! Fields of a head may be read: `length` is how many elements are queued, `used` how many runs are stored. `start`
 //! and `end` of a stored run are offsets from `first_start` of the head, so the first one starts at 0. A run that a
@@ -30,7 +32,7 @@
 //!    `net_base_receiver_..`, not its `place` by `net_base_ring_..` or its `held` by `net_base_assembler_..`. The
 //!    caller may set a head to zeros, and then what the comment of its kind says: `first` of a receiver,
 //!    `first_unacknowledged` of a sender, `base` of a scoreboard, `expires_at` of a buffer of fragments, `end` of a
-//!    receiver of a stream that ends.
+//!    receiver of a stream that ends, `edge` of an announced window, `timeout` of a timeout.
 //! 6. Where a comment says `Requires`, head and runs are sound, as a call whose name ends in `_is_sound` tests. What
 //!    calls of its own kind wrote, from a new head on, is sound, if each slot that `net_base_packets_take_slot` was given
 //!    was the first one.
@@ -53,7 +55,6 @@ mod receiver;
 mod refusals;
 mod results;
 mod ring;
-mod scoreboard;
 mod sequence_number;
 mod time;
 mod version;

@@ -1,16 +1,12 @@
 //! Packets that are placed, taken and looked at.
-ghost use Rattle.std.specs.Prelude.{◌≡◌, ◌↔◌, ◌≤◌, ◌⊎◌, ◌-◌, ◌+◌, ◌^◌, ℕ, List, IsTrue, IsFalse};
-ghost use Rattle.std.specs.Prelude.{length, set, slice_get};
+ghost use Rattle.std.specs.Prelude.{◌≡◌, ◌≤◌, ◌⊎◌, ◌-◌, ◌^◌, ℕ, List, length, slice_get};
 ghost use Rattle.std.specs.declared.option.Option.TheVariants.{Some, None};
 ghost use Rattle.net_ring.specs.RingHead.{place};
-ghost use Rattle.net_packets.specs.Packets.{with_packet_if_room, with_last_size};
-ghost use Rattle.net_packets.specs.Packets.{without_first_and_gap};
-ghost use Rattle.net_packets.specs.PacketsHead.{IsSoundHead, placement_in, place_after_gap};
-ghost use Rattle.net_packets.specs.PacketsHead.{packets_head, with_packet_placed, with_slot_taken};
-ghost use Rattle.net_packets.specs.HeadQueue.{HasSoundSlots, queue_of, slots_written};
-ghost use Rattle.net_packets.specs.HeadQueue.{HasFirst, first_packet, head_after_first, IsFirstAt};
-ghost use Rattle.net_packets.specs.HeadQueue.{CanTake, after_slot, CanShorten, packet_slot};
-ghost use Rattle.net_packets.specs.HeadQueue.{last_slot, last_slot_index};
+ghost use Rattle.net_packets.specs.Packets.{with_packet_if_room, without_first_and_gap};
+ghost use Rattle.net_packets.specs.PacketsHead.{IsSoundHead, placement_in, place_after_gap, with_packet_placed};
+ghost use Rattle.net_packets.specs.PacketsHead.{with_slot_taken};
+ghost use Rattle.net_packets.specs.HeadQueue.{HasSoundSlots, queue_of, slots_written, HasFirst, first_packet};
+ghost use Rattle.net_packets.specs.HeadQueue.{head_after_first, IsFirstAt, CanTake, after_slot};
 ghost use Rattle.net_packets.specs.declared.packet_slot.PacketSlot.{PacketSlot};
 ghost use Rattle.net_ffi.specs.PacketPlaces.{no_place, nonsense_place, no_first, nonsense_first};
 

@@ -1,22 +1,15 @@
 //! Segments, held runs and the end of the window.
-ghost use Rattle.std.specs.Prelude.{◌≡◌, ◌↔◌, ◌+◌, ◌-◌, ◌<◌, ◌≤◌, ◌^◌, ◌++◌, ◌∷◌, ℕ, List, min, length};
-ghost use Rattle.std.specs.Prelude.{take, drop, slice_get, slice_range, unwrap_or, IsTrue, IsFalse};
-ghost use Rattle.std.specs.Prelude.{MatchResult};
+ghost use Rattle.std.specs.Prelude.{◌≡◌, ◌↔◌, ◌+◌, ◌-◌, ◌<◌, ◌≤◌, ◌^◌, ℕ, List, length, slice_get, unwrap_or};
+ghost use Rattle.std.specs.Prelude.{IsTrue, IsFalse, MatchResult};
 ghost use Rattle.net_ring.specs.Ring.{queue};
-ghost use Rattle.net_ring.specs.RingHead.{ring_at, IsSound as IsSoundPlace};
 ghost use Rattle.net_assembler.specs.Positions.{maximal_runs};
 ghost use Rattle.net_assembler.specs.RunLists.{IsCanonical};
 ghost use Rattle.net_receiver.specs.KeptList.{piece};
-ghost use Rattle.net_receiver.specs.Rules.{verdict, state_after, segment_result};
-ghost use Rattle.net_receiver.specs.Rules.{Segment, Read, ReadReply};
+ghost use Rattle.net_receiver.specs.Rules.{verdict, state_after, segment_result, Segment};
 ghost use Rattle.net_receiver.specs.Schedule.{KeptState, kept_after_command, kept_result};
-ghost use Rattle.net_receiver.specs.ReceiverState.{receiver_ops, receiver_after_read, domain};
-ghost use Rattle.net_receiver.specs.ReceiverState.{setting, Refines, StepRefines, limit_of};
-ghost use Rattle.net_receiver.specs.Segments.{new_count};
-ghost use Rattle.net_receiver.specs.NewestRuns.{newest_runs, with_starts};
+ghost use Rattle.net_receiver.specs.ReceiverState.{receiver_ops, domain, setting, Refines, limit_of};
 ghost use Rattle.net_receiver.specs.OneStream.{ReceivesFrom, MatchesStream};
-ghost use Rattle.net_receiver.specs.Head.{receiver_of, HasSoundParts, head_after_read};
-ghost use Rattle.net_receiver.specs.Head.{storage_after};
+ghost use Rattle.net_receiver.specs.Head.{receiver_of, HasSoundParts, storage_after};
 ghost use Rattle.net_ffi.specs.ReceiverParts.{IsReadable, IsPlausible};
 
 use crate::refusals::{NET_BASE_DONE, NET_BASE_NONE, NET_BASE_REFUSED, NET_BASE_TOO_MANY_RUNS};

@@ -1,5 +1,5 @@
 //! Results of methods, as exports return them.
-ghost use Rattle.std.specs.Prelude.{◌≡◌, ◌<◌, ◌⊎◌, IsTrue, IsFalse, if◌then◌else◌, unwrap_or};
+ghost use Rattle.std.specs.Prelude.{◌≡◌, ◌<◌, IsTrue, IsFalse, if◌then◌else◌, unwrap_or};
 ghost use Rattle.net_ffi.specs.Results.{done_or_many, length_or_many, done_or_error, IsStatus};
 
 use crate::refusals::{

@@ -1445,9 +1445,21 @@
 //! abbrev pub doubled : TimeoutBounds → ℕ → ℕ
 //! doubled b t = max b.least (min b.most (2 * t))
 //!
+//! -- but for the timeout its numbers are 0
+//! abbrev pub before_samples : ℕ → RetransmissionTimeout
+//! before_samples t = record { estimate = record { srtt_8 = 0; rttvar_4 = 0 }; has_estimate = 0; timeout = t }
+//!
+//! abbrev pub estimate_of : RetransmissionTimeout → Option RttEstimate
+//! estimate_of t = if nat_eq t.has_estimate 0 then None else Some t.estimate
+//!
 //! abbrev pub IsSmallIfAny : Option RttEstimate → Type 0
 //! IsSmallIfAny None = Unit {0}
 //! IsSmallIfAny (Some e) = IsSmall e
+//!
+//! abbrev pub after_sample : TimeoutBounds → ℕ → RetransmissionTimeout → RetransmissionTimeout
+//! after_sample b r t =
+//!     let e = estimate_after (estimate_of t) (sample r) in
+//!     record { estimate = e; has_estimate = 1; timeout = timeout_of b e }
 //!
 //! -- by Karn's rule a segment that was sent again gives no sample, and leaves a doubled timeout as it is
 //! abbrev pub after_acknowledgement : TimeoutBounds → Transmission → ℕ → RetransmissionTimeout → RetransmissionTimeout

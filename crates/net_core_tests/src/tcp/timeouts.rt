@@ -34,6 +34,16 @@ fn a_timeout_that_passes(rt: HostRuntime) {
     assert_eq!(rt; timeout.timeout, 1_200_000);
 }
 
+#[test]
+fn an_estimate(rt: HostRuntime) {
+    let mut timeout = RetransmissionTimeout::new(1_000_000);
+    assert!(rt; timeout.rtt().is_none());
+    timeout.take_sample(bounds(), 800_000);
+    assert!(rt; timeout.rtt().is_some());
+    assert_eq!(rt; timeout.estimate.srtt(), 800_000);
+    assert_eq!(rt; timeout.timeout, 2_400_000);
+}
+
 // From a sample that is no time to the longest
 #[test]
 fn extremes(rt: HostRuntime) {

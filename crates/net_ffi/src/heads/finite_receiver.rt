@@ -6,8 +6,8 @@
 //! `receiver` is a receiver, whose calls that only look may be made on it.
 // Written by tools/ffi.py.
 ghost use Rattle.net_ffi.specs.ReceiverParts.{IsPlausible};
-ghost use Rattle.net_receiver.specs.Finite.{acknowledged, can_end, finite_after_read, has_read_all, is_complete};
-ghost use Rattle.net_receiver.specs.Finite.{no_end};
+ghost use Rattle.net_receiver.specs.Finite.{acknowledged, can_end, finite_after_read, has_read_all, is_acceptable};
+ghost use Rattle.net_receiver.specs.Finite.{is_complete, no_end};
 ghost use Rattle.net_receiver.specs.FiniteHead.{HasSoundFinite, finite_of, next_of};
 ghost use Rattle.net_receiver.specs.FiniteLaws.{ReceivesFinite};
 ghost use Rattle.net_receiver.specs.Head.{receiver_of};
@@ -155,6 +155,44 @@ pub extern "C" fn net_base_finite_receiver_read(
         return NET_BASE_NONE;
     }
     receiver.read(storage, into)
+}
+
+/// Returns `NET_BASE_PRESENT` if a segment of `count` numbers from `position` on is acceptable by
+/// the table of RFC 9293, section 3.10.7.4, and `NET_BASE_MISSING` if it isn't: its first number
+/// may arrive, or its last one. The end is a number. If the window is 0, only a segment without
+/// numbers at the acknowledged one is. An end alone in a window of 0 isn't, though
+/// `net_base_finite_receiver_segment` takes it: a caller that wants it asks with the count of the
+/// bytes alone.
+///
+/// It is refused if `place` isn't that of a ring of `storage.len()` bytes, `next` doesn't fit 64
+/// bits, or `held.used` is above `runs.len()`, or if the segment doesn't end within 64 bits:
+/// `NET_BASE_REFUSED`.
+///
+/// # Requires
+///
+/// Head and runs are sound, as `net_base_finite_receiver_is_sound` tests.
+#[unsafe(no_mangle)]
+pub extern "C" fn net_base_finite_receiver_is_acceptable(
+    receiver: &FiniteReceiverHead,
+    storage: &[u8],
+    runs: &[Run],
+    position: u64,
+    count: u64,
+) -> u32
+    requires sound { IsPlausible (length storage.now) (length runs.now) receiver.now.receiver → HasSoundFinite
+        receiver.now storage.now runs.now }
+    ensures done { (IsPlausible (length storage.now) (length runs.now) receiver.now.receiver) × (position + count <
+        2 ^ 64) → result ≡ (if is_acceptable (finite_of receiver.now storage.now runs.now) position count then
+        NET_BASE_PRESENT else NET_BASE_MISSING) }
+    ensures refused { ((IsPlausible (length storage.now) (length runs.now) receiver.now.receiver) × (position +
+        count < 2 ^ 64) → ⊥) → result ≡ NET_BASE_REFUSED }
+{
+    if !is_plausible(&receiver.receiver, storage.len(), runs.len())
+        || count as u64 > u64::MAX - position
+    {
+        return NET_BASE_REFUSED;
+    }
+    presence_of(receiver.is_acceptable(storage, runs, position, count))
 }
 
 /// Returns how many bytes of a segment of `len` bytes at `position` would be new: those in the free

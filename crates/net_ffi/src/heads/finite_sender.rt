@@ -9,7 +9,7 @@ ghost use Rattle.net_receiver.specs.FiniteSender.{IsSoundFiniteSender, acknowled
 ghost use Rattle.net_receiver.specs.FiniteSender.{finite_room, finite_sender_of, has_end_at, with_bytes};
 ghost use Rattle.net_receiver.specs.SenderState.{Sends};
 ghost use Rattle.std.specs.Prelude.{IsFalse, IsTrue, List, if◌then◌else◌, length, max, min, take, ℕ, ◌++◌, ◌+◌};
-ghost use Rattle.std.specs.Prelude.{◌-◌, ◌==◌, ◌^◌, ◌↔◌, ◌≡◌, ◌≤◌};
+ghost use Rattle.std.specs.Prelude.{◌-◌, ◌<◌, ◌==◌, ◌^◌, ◌↔◌, ◌≡◌, ◌≤◌};
 
 use crate::refusals::{NET_BASE_MISSING, NET_BASE_NONE, NET_BASE_PRESENT, NET_BASE_REFUSED};
 use crate::results::presence_of;
@@ -201,6 +201,19 @@ pub extern "C" fn net_base_finite_sender_acknowledge(
         return false;
     }
     sender.acknowledge(capacity, next)
+}
+
+/// Returns whether a SACK block can be right: it has a number, and none above those that were sent,
+/// of which the end's is one.
+#[unsafe(no_mangle)]
+pub extern "C" fn net_base_finite_sender_is_block(
+    sender: &FiniteSenderHead,
+    start: u64,
+    end: u64,
+) -> bool
+    ensures { IsTrue result ↔ ((start < end) × (end ≤ sender.now.sent)) }
+{
+    sender.is_block(start, end)
 }
 
 /// Returns whether the sender is closed.

@@ -7,14 +7,16 @@
 // Written by tools/ffi.py.
 ghost use Rattle.net_assembler.specs.Positions.{contains, nothing, positions, with_range};
 ghost use Rattle.net_assembler.specs.RunLists.{IsCanonical};
+ghost use Rattle.net_ffi.specs.Results.{done_or_many};
 ghost use Rattle.net_receiver.specs.Losses.{IsLossBound};
-ghost use Rattle.net_receiver.specs.Scoreboards.{IsEnd, IsNextHole, IsSoundBoard, beyond, reported_by};
-ghost use Rattle.std.specs.Prelude.{IsFalse, IsTrue, List, if◌then◌else◌, length, ℕ, ◌-◌, ◌^◌, ◌↔◌, ◌≡◌};
+ghost use Rattle.net_receiver.specs.Scoreboards.{HasNoRoom, IsEnd, IsNextHole, IsSoundBoard, beyond, reported_by};
+ghost use Rattle.std.specs.Prelude.{IsErr, IsFalse, IsTrue, List, OnErr, OnOk, if◌then◌else◌, length, ℕ, ◌-◌, ◌<◌};
+ghost use Rattle.std.specs.Prelude.{◌^◌, ◌↔◌, ◌≡◌, ◌≤◌};
 
 use crate::refusals::{
     NET_BASE_DONE, NET_BASE_MISSING, NET_BASE_NONE, NET_BASE_PRESENT, NET_BASE_REFUSED,
 };
-use crate::results::{Hole, presence_of};
+use crate::results::{Hole, presence_of, status_of};
 use net_assembler::Run;
 use net_receiver::ScoreboardHead;
 
@@ -38,6 +40,43 @@ pub extern "C" fn net_base_scoreboard_reset(scoreboard: &mut ScoreboardHead, fir
     ensures empty { (runs : List (ℕ × ℕ)) → reported_by scoreboard.new runs ≡ with_range nothing 0 first }
 {
     scoreboard.reset_at(first);
+}
+
+/// Reports the positions from `start` on and below `end`, as a SACK block of an acknowledgement
+/// does. Blocks may overlap. `sent` is the position after the last byte that was ever sent.
+///
+/// Returns `NET_BASE_DONE`, or `NET_BASE_TOO_MANY_RUNS`, and nothing changes, if the block begins
+/// beyond the first position that wasn't reported, and there would be more runs beyond it than the
+/// slice has elements.
+///
+/// It is refused if `start` isn't below `end`, or `end` is above `sent`, or if `scoreboard` isn't
+/// sound with `runs`: `NET_BASE_REFUSED`, and nothing changes.
+#[unsafe(no_mangle)]
+pub extern "C" fn net_base_scoreboard_report(
+    scoreboard: &mut ScoreboardHead,
+    runs: &mut [Run],
+    start: u64,
+    end: u64,
+    sent: u64,
+) -> u32
+    ensures sound { ((start < end) × (end ≤ sent)) × (IsSoundBoard scoreboard.old runs.old) → IsSoundBoard
+        scoreboard.new runs.new }
+    ensures ok { ((start < end) × (end ≤ sent)) × (IsSoundBoard scoreboard.old runs.old) → OnOk (done_or_many
+        result) (reported_by scoreboard.new runs.new ≡ with_range (reported_by scoreboard.old runs.old) start (end -
+        start)) }
+    ensures unchanged { ((start < end) × (end ≤ sent)) × (IsSoundBoard scoreboard.old runs.old) → OnErr
+        (done_or_many result) ((scoreboard.new ≡ scoreboard.old) × (runs.new ≡ runs.old)) }
+    ensures refused { ((start < end) × (end ≤ sent)) × (IsSoundBoard scoreboard.old runs.old) → (IsErr (done_or_many
+        result) ↔ HasNoRoom (length runs.old) (reported_by scoreboard.old runs.old) start (end - start)) }
+    ensures canonical { IsCanonical scoreboard.old.reported → IsCanonical scoreboard.new.reported }
+    ensures status { ((start < end) × (end ≤ sent)) × (IsSoundBoard scoreboard.old runs.old) → result < 2 }
+    ensures unsound { (((start < end) × (end ≤ sent)) × (IsSoundBoard scoreboard.old runs.old) → ⊥) → (result ≡
+        NET_BASE_REFUSED) × (scoreboard.new ≡ scoreboard.old) × (runs.new ≡ runs.old) }
+{
+    if !ScoreboardHead::is_block(start, end, sent) || !scoreboard.is_sound(runs) {
+        return NET_BASE_REFUSED;
+    }
+    status_of(scoreboard.report(runs, start, end))
 }
 
 /// Reports all positions below `next`, whatever the number of runs, and returns true.

@@ -3,7 +3,9 @@
 ghost use Rattle.net_tcp.specs.Acceptability.{IsAcceptable};
 ghost use Rattle.net_tcp.specs.AdvertisedWindow.{IsScaleFor};
 ghost use Rattle.net_tcp.specs.InternetChecksum.{folded, internet_checksum, updated, word_sum};
-ghost use Rattle.std.specs.Prelude.{IsTrue, ◌↔◌, ◌≡◌};
+ghost use Rattle.std.specs.Prelude.{IsFalse, IsTrue, ◌*◌, ◌<◌, ◌^◌, ◌↔◌, ◌≡◌, ◌≤◌};
+
+use net_tcp::MAX_SCALE;
 
 /// Returns whether a segment is acceptable to a receiver whose first missing position is `next`,
 /// and which announced `window` positions from there on. The segment's first position is `seq`, and
@@ -24,6 +26,23 @@ pub extern "C" fn net_base_tcp_scale_for(capacity: u64) -> u8
     ensures { IsScaleFor capacity result }
 {
     net_tcp::scale_for(capacity)
+}
+
+/// Writes how many bytes the field of a segment announces to `bytes`, and returns true.
+///
+/// It is refused if `scale` is above 14: false, and nothing changes.
+#[unsafe(no_mangle)]
+pub extern "C" fn net_base_tcp_scaled(field: u16, scale: u8, bytes: &mut u64) -> bool
+    ensures done { IsTrue result ↔ (scale ≤ 14) }
+    ensures value { IsTrue result → bytes.new ≡ field * 2 ^ scale }
+    ensures few { IsTrue result → bytes.new < 2 ^ 30 }
+    ensures unchanged { IsFalse result → (bytes.new ≡ bytes.old) }
+{
+    if scale > MAX_SCALE {
+        return false;
+    }
+    *bytes = net_tcp::scaled(field, scale);
+    true
 }
 
 /// Returns the checksum of these bytes.

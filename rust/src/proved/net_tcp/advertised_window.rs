@@ -22,6 +22,7 @@ pub fn scale_for(capacity: u64) -> u8 {
 }
 
 /// What a receiver has announced: how far its promise reaches.
+#[repr(C)]
 #[derive(Copy, Clone, Debug)]
 pub struct AdvertisedWindow {
     /// The position after the last one that was ever promised. The receiver accepts all below it.

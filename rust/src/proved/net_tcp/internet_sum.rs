@@ -1,6 +1,8 @@
 //! The Internet checksum (RFC 1071), over one part or several, and its update (RFC 1624).
 
 /// The sum of the bytes of several parts of a message, one after another, of any lengths.
+/// One of zeros is that of no bytes.
+#[repr(C)]
 #[derive(Copy, Clone, Debug)]
 pub struct PartsSum {
     /// The sum of the words, with carries out of 64 bits added at the low end.
@@ -17,7 +19,8 @@ impl PartsSum {
     /// In the words of [`contracts`](crate::contracts):
     ///
     /// ```text
-    /// ensures { Sums result [] }
+    /// ensures nothing { Sums result [] }
+    /// ensures zeros { (result.sum ≡ 0) × IsFalse result.odd }
     /// ```
     pub const fn new() -> Self {
         PartsSum { sum: 0, odd: false }

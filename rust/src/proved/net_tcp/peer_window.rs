@@ -3,7 +3,8 @@
 use crate::proved::net_tcp::advertised_window::MAX_SCALE;
 
 /// The window that the peer announced, and the segment that it is from. It is kept as its right edge,
-/// which acknowledgements don't move.
+/// which acknowledgements don't move. One of zeros lets nothing be sent, and no segment is older.
+#[repr(C)]
 #[derive(Copy, Clone, Debug)]
 pub struct PeerWindow {
     /// The position after the last that may be sent.

@@ -4,6 +4,7 @@
 const LONGEST_SAMPLE: u64 = 1 << 60;
 
 /// An estimate of the time of a round trip.
+#[repr(C)]
 #[derive(Copy, Clone, Debug)]
 pub struct RttEstimate {
     /// Eight times the smoothed time.
@@ -13,6 +14,7 @@ pub struct RttEstimate {
 }
 
 /// The bounds of a timeout, and the tick of the clock that the samples are read from.
+#[repr(C)]
 #[derive(Copy, Clone, Debug)]
 pub struct TimeoutBounds {
     /// The least timeout.
@@ -121,11 +123,14 @@ impl RttEstimate {
     }
 }
 
-/// The time until a retransmission.
+/// The time until a retransmission. Its numbers but `timeout` are 0 before any sample.
+#[repr(C)]
 #[derive(Copy, Clone, Debug)]
 pub struct RetransmissionTimeout {
-    /// The estimate, if there was a sample.
-    pub estimate: Option<RttEstimate>,
+    /// The estimate, once there was a sample.
+    pub estimate: RttEstimate,
+    /// Not 0 once there was a sample; this library writes 1 then.
+    pub has_estimate: u64,
     /// The timeout.
     pub timeout: u64,
 }
@@ -138,15 +143,35 @@ impl RetransmissionTimeout {
     /// In the words of [`contracts`](crate::contracts):
     ///
     /// ```text
-    /// ensures value { result.timeout ≡ timeout }
-    /// ensures none { result.estimate ≡ None }
-    /// ensures small { IsSmallIfAny result.estimate }
+    /// ensures value { result ≡ before_samples timeout }
+    /// ensures none { estimate_of result ≡ None }
+    /// ensures small { IsSmallIfAny (estimate_of result) }
     /// ```
     pub const fn new(timeout: u64) -> Self {
         RetransmissionTimeout {
-            estimate: None,
+            estimate: RttEstimate {
+                srtt_8: 0,
+                rttvar_4: 0,
+            },
+            has_estimate: 0,
             timeout,
         }
+    }
+
+    /// Returns the estimate, if there was a sample.
+    ///
+    /// # Contract
+    ///
+    /// In the words of [`contracts`](crate::contracts):
+    ///
+    /// ```text
+    /// ensures { result ≡ estimate_of self.now }
+    /// ```
+    pub fn rtt(&self) -> Option<RttEstimate> {
+        if self.has_estimate == 0 {
+            return None;
+        }
+        Some(self.estimate)
     }
 
     /// Takes over the sample of a segment that was acknowledged now, if it was sent once.
@@ -160,9 +185,9 @@ impl RetransmissionTimeout {
     /// In the words of [`contracts`](crate::contracts):
     ///
     /// ```text
-    /// requires { IsSmallIfAny self.old.estimate }
+    /// requires { IsSmallIfAny (estimate_of self.old) }
     /// ensures state { self.new ≡ after_acknowledgement bounds sent now self.old }
-    /// ensures small { IsSmallIfAny self.new.estimate }
+    /// ensures small { IsSmallIfAny (estimate_of self.new) }
     /// ```
     #[track_caller]
     pub fn acknowledged(&mut self, bounds: TimeoutBounds, sent: Transmission, now: u64) {
@@ -181,30 +206,35 @@ impl RetransmissionTimeout {
     /// In the words of [`contracts`](crate::contracts):
     ///
     /// ```text
-    /// ensures { IsTrue result ↔ IsSmallIfAny self.now.estimate }
+    /// ensures { IsTrue result ↔ IsSmallIfAny (estimate_of self.now) }
     /// ```
     pub fn is_small(&self) -> bool {
-        match self.estimate {
-            Some(estimate) => estimate.is_small(),
-            None => true,
-        }
+        self.has_estimate == 0 || self.estimate.is_small()
     }
 
-    /// Takes over a sample.
+    /// Takes over a sample, the time from when a segment was sent until it was acknowledged. The
+    /// segment was sent once: of one that was sent again it is not known which of the copies was
+    /// acknowledged.
+    ///
+    /// # Requires, else it panics
+    ///
+    /// The estimate, if there is one, was made by samples, as `is_small` tests.
     ///
     /// # Contract
     ///
     /// In the words of [`contracts`](crate::contracts):
     ///
     /// ```text
-    /// requires { IsSmallIfAny self.old.estimate }
+    /// requires { IsSmallIfAny (estimate_of self.old) }
     /// ensures state { self.new ≡ after_sample bounds time self.old }
-    /// ensures small { IsSmallIfAny self.new.estimate }
+    /// ensures small { IsSmallIfAny (estimate_of self.new) }
     /// ```
-    fn take_sample(&mut self, bounds: TimeoutBounds, time: u64) {
-        let estimate = updated(self.estimate, time);
-        self.estimate = Some(estimate);
-        self.timeout = estimate.timeout(bounds);
+    #[track_caller]
+    pub fn take_sample(&mut self, bounds: TimeoutBounds, time: u64) {
+        assert!(self.is_small(), "an estimate that was not made by samples");
+        self.estimate = updated(self.rtt(), time);
+        self.has_estimate = 1;
+        self.timeout = self.estimate.timeout(bounds);
     }
 
     /// Doubles the timeout, after it passed.
@@ -216,6 +246,7 @@ impl RetransmissionTimeout {
     /// ```text
     /// ensures timeout { self.new.timeout ≡ doubled bounds self.old.timeout }
     /// ensures estimate { self.new.estimate ≡ self.old.estimate }
+    /// ensures has_estimate { self.new.has_estimate ≡ self.old.has_estimate }
     /// ```
     pub fn expired(&mut self, bounds: TimeoutBounds) {
         let timeout = self.timeout.saturating_mul(2);

@@ -1,0 +1,32 @@
+//! The Internet checksum of a message in parts, such as a pseudo-header, a header and data.
+//!
+//! A head of zeros is new: no bytes were added.
+// Written by tools/ffi.py.
+ghost use Rattle.net_tcp.specs.InternetChecksum.{Sums, folded, internet_checksum, word_sum};
+ghost use Rattle.std.specs.Prelude.{IsTrue, List, ℕ, ◌++◌, ◌↔◌, ◌≡◌};
+
+use net_tcp::PartsSum;
+
+/// Adds the bytes that follow those which were added.
+#[unsafe(no_mangle)]
+pub extern "C" fn net_base_parts_sum_add(sum: &mut PartsSum, part: &[u8])
+    ensures { (xs : List ℕ) → Sums sum.old xs → Sums sum.new (xs ++ part.now) }
+{
+    sum.add(part);
+}
+
+/// Returns the checksum of the bytes that were added.
+#[unsafe(no_mangle)]
+pub extern "C" fn net_base_parts_sum_checksum(sum: &PartsSum) -> u16
+    ensures { (xs : List ℕ) → Sums sum.now xs → result ≡ internet_checksum xs }
+{
+    sum.checksum()
+}
+
+/// Returns whether the bytes that were added, with a checksum among them, are valid.
+#[unsafe(no_mangle)]
+pub extern "C" fn net_base_parts_sum_is_valid(sum: &PartsSum) -> bool
+    ensures { (xs : List ℕ) → Sums sum.now xs → (IsTrue result ↔ (folded (word_sum xs) ≡ 65535)) }
+{
+    sum.is_valid()
+}

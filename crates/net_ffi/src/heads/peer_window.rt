@@ -1,0 +1,59 @@
+//! The window that the peer announced.
+//!
+//! A head of zeros is that before any segment: nothing may be sent, and no segment is older.
+// Written by tools/ffi.py.
+ghost use Rattle.net_tcp.specs.PeerWindow.{IsNewer, window_from, with_segment};
+ghost use Rattle.std.specs.Prelude.{IsFalse, IsTrue, min, ◌-◌, ◌<◌, ◌↔◌, ◌≡◌, ◌≤◌};
+
+use net_tcp::PeerWindow;
+
+/// Takes over the window of an acceptable segment, unless that is older than the one before, or
+/// acknowledges what was acknowledged before `first_unacknowledged`, or what was never sent.
+/// Returns whether it did. A window may shrink.
+#[unsafe(no_mangle)]
+pub extern "C" fn net_base_peer_window_update(
+    peer: &mut PeerWindow,
+    first_unacknowledged: u64,
+    sent: u64,
+    seq: u64,
+    ack: u64,
+    window: u64,
+) -> bool
+    ensures accepted { IsTrue result ↔ ((first_unacknowledged ≤ ack) × (ack ≤ sent) × (IsNewer peer.old seq ack)) }
+    ensures window { IsTrue result → peer.new ≡ window_from seq ack window }
+    ensures refused { IsFalse result → peer.new ≡ peer.old }
+    ensures state { first_unacknowledged ≤ ack → ack ≤ sent → peer.new ≡ with_segment peer.old seq ack window }
+{
+    peer.update(first_unacknowledged, sent, seq, ack, window)
+}
+
+/// Returns how many bytes from `position` on may be sent: none if the edge is at or below it, as it
+/// may be after the window shrank.
+#[unsafe(no_mangle)]
+pub extern "C" fn net_base_peer_window_usable(peer: &PeerWindow, position: u64) -> u64
+    ensures { result ≡ peer.now.edge - position }
+{
+    peer.usable(position)
+}
+
+/// Returns the end of what may be sent of the bytes below `end`.
+#[unsafe(no_mangle)]
+pub extern "C" fn net_base_peer_window_send_limit(peer: &PeerWindow, end: u64) -> u64
+    ensures { result ≡ min peer.now.edge end }
+{
+    peer.send_limit(end)
+}
+
+/// Returns whether a probe may be sent, the one byte at `first_unacknowledged`: the window has
+/// closed, and there are bytes below `end` that wait.
+#[unsafe(no_mangle)]
+pub extern "C" fn net_base_peer_window_is_probe_allowed(
+    peer: &PeerWindow,
+    first_unacknowledged: u64,
+    end: u64,
+) -> bool
+    ensures value { IsTrue result ↔ ((peer.now.edge ≤ first_unacknowledged) × (first_unacknowledged < end)) }
+    ensures progress { first_unacknowledged < end → IsFalse result → first_unacknowledged < min peer.now.edge end }
+{
+    peer.is_probe_allowed(first_unacknowledged, end)
+}

@@ -1,0 +1,53 @@
+//! The time until a retransmission (RFC 6298), in microseconds.
+//!
+//! A head of zeros, but for `timeout`, is new: there was no sample. The RFC begins with 1 second.
+// Written by tools/ffi.py.
+ghost use Rattle.net_tcp.specs.RetransmissionTimeout.{IsSmallIfAny, after_sample, doubled, estimate_of};
+ghost use Rattle.std.specs.Prelude.{IsFalse, IsTrue, ◌↔◌, ◌≡◌};
+
+use net_tcp::{RetransmissionTimeout, TimeoutBounds};
+
+/// Returns whether the estimate, if there is one, has room for a sample, as any has that was made
+/// by samples.
+#[unsafe(no_mangle)]
+pub extern "C" fn net_base_retransmission_timeout_is_small(timer: &RetransmissionTimeout) -> bool
+    ensures { IsTrue result ↔ IsSmallIfAny (estimate_of timer.now) }
+{
+    timer.is_small()
+}
+
+/// Takes over a sample, the time from when a segment was sent until it was acknowledged, and
+/// returns true. The segment was sent once: of one that was sent again it isn't known which of the
+/// copies was acknowledged.
+///
+/// It is refused if the estimate of `timer` has no room for a sample: false, and nothing changes.
+#[unsafe(no_mangle)]
+pub extern "C" fn net_base_retransmission_timeout_take_sample(
+    timer: &mut RetransmissionTimeout,
+    bounds: &TimeoutBounds,
+    time: u64,
+) -> bool
+    ensures done { IsTrue result ↔ (IsSmallIfAny (estimate_of timer.old)) }
+    ensures state { IsTrue result → timer.new ≡ after_sample bounds.now time timer.old }
+    ensures small { IsTrue result → IsSmallIfAny (estimate_of timer.new) }
+    ensures unchanged { IsFalse result → (timer.new ≡ timer.old) }
+{
+    if !timer.is_small() {
+        return false;
+    }
+    timer.take_sample(*bounds, time);
+    true
+}
+
+/// Doubles the timeout, after it passed.
+#[unsafe(no_mangle)]
+pub extern "C" fn net_base_retransmission_timeout_expired(
+    timer: &mut RetransmissionTimeout,
+    bounds: &TimeoutBounds,
+)
+    ensures timeout { timer.new.timeout ≡ doubled bounds.now timer.old.timeout }
+    ensures estimate { timer.new.estimate ≡ timer.old.estimate }
+    ensures has_estimate { timer.new.has_estimate ≡ timer.old.has_estimate }
+{
+    timer.expired(*bounds);
+}
