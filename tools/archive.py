@@ -87,6 +87,8 @@ class Target:
 
 
 SMALL = "-Os"
+# A program may have a Cortex-M trap words that aren't aligned, and bytes may have any alignment.
+ALIGNED_WORDS = "-mno-unaligned-access"
 TARGETS = {target.name: target for target in [
     Target("x86_64", "x86-64 Linux", RT_LIB, "x86_64-unknown-linux-gnu", "x86-64", 64),
     Target("x86_64-none", "x86-64, bare: no red zone, no SSE", RETARGETED,
@@ -97,11 +99,11 @@ TARGETS = {target.name: target for target in [
     Target("thumbv6m", "Cortex-M0, M0+, M1; M23", RETARGETED,
            "--target=thumbv6m-none-eabi -mcpu=cortex-m0 -mfloat-abi=soft", "ARM", 32, SMALL, "12 M"),
     Target("thumbv7m", "Cortex-M3", RETARGETED,
-           "--target=thumbv7m-none-eabi -mcpu=cortex-m3 -mfloat-abi=soft", "ARM", 32, SMALL, "10 M"),
+           f"--target=thumbv7m-none-eabi -mcpu=cortex-m3 -mfloat-abi=soft {ALIGNED_WORDS}", "ARM", 32, SMALL, "10 M"),
     Target("thumbv7em", "Cortex-M4, M7", RETARGETED,
-           "--target=thumbv7em-none-eabi -mcpu=cortex-m4 -mfloat-abi=soft", "ARM", 32, SMALL, "13 M", True),
+           f"--target=thumbv7em-none-eabi -mcpu=cortex-m4 -mfloat-abi=soft {ALIGNED_WORDS}", "ARM", 32, SMALL, "13 M", True),
     Target("thumbv8m.main", "Cortex-M33, M55", RETARGETED,
-           "--target=thumbv8m.main-none-eabi -mcpu=cortex-m33 -mfloat-abi=soft", "ARM", 32, SMALL, "17 M", True),
+           f"--target=thumbv8m.main-none-eabi -mcpu=cortex-m33 -mfloat-abi=soft {ALIGNED_WORDS}", "ARM", 32, SMALL, "17 M", True),
     Target("armv7", "ARMv7-A Linux, floats in registers", RETARGETED,
            "--target=armv7-unknown-linux-gnueabihf -march=armv7-a -mfpu=vfpv3-d16 -mfloat-abi=hard -fPIC", "ARM", 32, processor="10 A 4"),
     Target("riscv32imac", "RISC-V 32, bare, with or without atomics", RETARGETED,

@@ -1,24 +1,26 @@
-/* Windows, acceptable segments, timeouts and sums of TCP, by numbers of 128 bits. */
+/* Windows, acceptable segments, timeouts and sums of TCP. */
 #include "fuzz.h"
 #include <string.h>
-
-__extension__ typedef __int128 wide;
 
 static struct room room, other_room;
 
 /* The bounds of a sample and of an estimate. */
-static const wide LONGEST = (wide)1 << 60, MOST_SRTT_8 = (wide)1 << 63, MOST_RTTVAR_4 = (wide)1 << 62;
+static const uint64_t LONGEST = UINT64_C(1) << 60, MOST_SRTT_8 = UINT64_C(1) << 63, MOST_RTTVAR_4 = UINT64_C(1) << 62;
 
-static wide lower(wide one, wide other) {
+static uint64_t lower(uint64_t one, uint64_t other) {
     return one < other ? one : other;
 }
 
-static wide higher(wide one, wide other) {
+static uint64_t higher(uint64_t one, uint64_t other) {
     return one > other ? one : other;
 }
 
-static wide from_zero(wide number) {
-    return higher(number, 0);
+static uint64_t sum_up_to_last(uint64_t one, uint64_t other) {
+    return other > UINT64_MAX - one ? UINT64_MAX : one + other;
+}
+
+static uint64_t difference_or_none(uint64_t one, uint64_t other) {
+    return one > other ? one - other : 0;
 }
 
 /* Returns a number about another one, or any. */
@@ -27,8 +29,9 @@ static uint64_t about(uint64_t number) {
 }
 
 /* Whether a number from `start` on, of `count`, is one from `other` on, of `other_count`. */
-static bool meet(wide start, wide count, wide other, wide other_count) {
-    return higher(start, other) < lower(start + count, other + other_count);
+static bool meet(uint64_t start, uint64_t count, uint64_t other, uint64_t other_count) {
+    if (count == 0 || other_count == 0) return false;
+    return start <= other ? other - start < count : start - other < other_count;
 }
 
 static void fuzz_acceptable(void) {
@@ -41,16 +44,16 @@ static void fuzz_acceptable(void) {
 static void fuzz_scale(void) {
     uint64_t capacity = any_number(), bytes = 7, scale = below(18);
     uint16_t field = (uint16_t)any_number();
-    wide wanted = 0;
-    while (wanted < 14 && capacity / ((wide)1 << wanted) > 65535) wanted++;
+    unsigned wanted = 0;
+    while (wanted < 14 && capacity >> wanted > 65535) wanted++;
     EXPECT(net_base_tcp_scale_for(capacity) == wanted);
     EXPECT(net_base_tcp_scaled(field, (uint8_t)scale, &bytes) == (scale <= 14));
-    EXPECT(bytes == (scale <= 14 ? field * ((wide)1 << scale) : 7));
+    EXPECT(bytes == (scale <= 14 ? (uint64_t)field << scale : 7));
 }
 
-/* What a receiver announces up to a position, and the edge then. */
-static wide number_for(wide unit, wide next, wide end) {
-    return lower((end - next) / unit, 65535);
+/* What a receiver announces up to a position. */
+static uint64_t number_for(int scale, uint64_t next, uint64_t end) {
+    return lower((end - next) >> scale, 65535);
 }
 
 static void fuzz_announced(void) {
@@ -61,17 +64,17 @@ static void fuzz_announced(void) {
     uint64_t capacity = any_number();
     uint16_t mss = (uint16_t)any_number();
     window->edge = once_in(2) ? about(end) : about(next);
-    wide edge = window->edge, unit = (wide)1 << (scale & 15);
+    uint64_t edge = window->edge;
     bool is_right = scale <= 14 && next <= end;
-    wide gained = is_right ? next + number_for(unit, next, end) * unit - edge : 0;
-    bool is_due = gained >= higher(1, lower(((wide)capacity + 1) / 2, mss));
+    uint64_t reached = is_right ? next + (number_for(scale, next, end) << scale) : 0;
+    bool is_due = difference_or_none(reached, edge) >= higher(1, lower(capacity - capacity / 2, mss));
     if (once_in(3)) {
         uint32_t wanted = !is_right ? NET_BASE_REFUSED : is_due ? NET_BASE_PRESENT : NET_BASE_MISSING;
         EXPECT(net_base_advertised_window_is_update_due(window, scale, next, end, capacity, mss) == wanted);
         EXPECT(window->edge == edge && room_is_whole(&room));
         return;
     }
-    wide until = end;
+    uint64_t until = end;
     bool done;
     if (once_in(2)) {
         done = net_base_advertised_window_announce(window, scale, next, end, number);
@@ -79,9 +82,9 @@ static void fuzz_announced(void) {
         if (!is_due) until = higher(next, lower(edge, end));
         done = net_base_advertised_window_announce_in_steps(window, scale, next, end, capacity, mss, number);
     }
-    wide wanted = is_right ? number_for(unit, next, until) : before;
+    uint64_t wanted = is_right ? number_for(scale, next, until) : before;
     EXPECT(done == is_right && *number == wanted);
-    EXPECT(window->edge == (is_right ? higher(edge, next + wanted * unit) : edge));
+    EXPECT(window->edge == (is_right ? higher(edge, next + (wanted << scale)) : edge));
     EXPECT(room_is_whole(&room) && room_is_whole(&other_room));
 }
 
@@ -94,20 +97,20 @@ static void fuzz_peer(void) {
     bool is_newer = old.seq < seq || (old.seq == seq && old.ack <= ack);
     bool wanted = first <= ack && ack <= sent && is_newer;
     EXPECT(net_base_peer_window_update(peer, first, sent, seq, ack, window) == wanted);
-    if (wanted) old = (struct net_base_peer_window){(uint64_t)lower((wide)ack + window, UINT64_MAX), seq, ack};
+    if (wanted) old = (struct net_base_peer_window){sum_up_to_last(ack, window), seq, ack};
     EXPECT(memcmp(peer, &old, sizeof old) == 0 && room_is_whole(&room));
     uint64_t position = about(old.edge), end = about(old.edge);
-    EXPECT(net_base_peer_window_usable(peer, position) == from_zero((wide)old.edge - position));
+    EXPECT(net_base_peer_window_usable(peer, position) == difference_or_none(old.edge, position));
     EXPECT(net_base_peer_window_send_limit(peer, end) == lower(old.edge, end));
     EXPECT(net_base_peer_window_is_probe_allowed(peer, position, end) == (old.edge <= position && position < end));
 }
 
-static wide within(const struct net_base_timeout_bounds *bounds, wide time) {
+static uint64_t within(const struct net_base_timeout_bounds *bounds, uint64_t time) {
     return higher(bounds->least, lower(bounds->most, time));
 }
 
-static wide timeout_of(const struct net_base_timeout_bounds *bounds, const struct net_base_rtt_estimate *it) {
-    return within(bounds, it->srtt_8 / 8 + higher(bounds->tick, it->rttvar_4));
+static uint64_t timeout_of(const struct net_base_timeout_bounds *bounds, const struct net_base_rtt_estimate *it) {
+    return within(bounds, sum_up_to_last(it->srtt_8 / 8, higher(bounds->tick, it->rttvar_4)));
 }
 
 static void fuzz_timeout(void) {
@@ -122,17 +125,18 @@ static void fuzz_timeout(void) {
     EXPECT(net_base_rtt_estimate_timeout(it, &bounds) == timeout_of(&bounds, it));
     if (once_in(3)) {
         net_base_retransmission_timeout_expired(timer, &bounds);
-        old.timeout = (uint64_t)within(&bounds, (wide)2 * old.timeout);
+        old.timeout = within(&bounds, sum_up_to_last(old.timeout, old.timeout));
     } else {
         uint64_t time = once_in(2) ? any_number() : about(it->srtt_8 / 8);
-        wide sample = lower(time, LONGEST), off = (wide)(it->srtt_8 / 8) - sample;
+        uint64_t sample = lower(time, LONGEST), srtt = it->srtt_8 / 8;
+        uint64_t off = higher(srtt, sample) - lower(srtt, sample);
         EXPECT(net_base_retransmission_timeout_take_sample(timer, &bounds, time) == is_small);
         if (is_small) {
             bool is_first = old.has_estimate == 0;
-            it->srtt_8 = (uint64_t)(is_first ? 8 * sample : it->srtt_8 - it->srtt_8 / 8 + sample);
-            it->rttvar_4 = (uint64_t)(is_first ? 2 * sample : it->rttvar_4 - it->rttvar_4 / 4 + (off < 0 ? -off : off));
+            it->srtt_8 = is_first ? 8 * sample : it->srtt_8 - srtt + sample;
+            it->rttvar_4 = is_first ? 2 * sample : it->rttvar_4 - it->rttvar_4 / 4 + off;
             old.has_estimate = 1;
-            old.timeout = (uint64_t)timeout_of(&bounds, it);
+            old.timeout = timeout_of(&bounds, it);
         }
     }
     EXPECT(memcmp(timer, &old, sizeof old) == 0 && room_is_whole(&room));

@@ -54,6 +54,10 @@ void __aeabi_memmove(void *to, const void *from, unsigned size) {
 void __aeabi_memcpy(void *to, const void *from, unsigned size) {
     memmove(to, from, size);
 }
+
+/* clang calls these, which newlib has beside the one above. */
+void __aeabi_memcpy4(void *to, const void *from, unsigned size) __attribute__((alias("__aeabi_memcpy")));
+void __aeabi_memcpy8(void *to, const void *from, unsigned size) __attribute__((alias("__aeabi_memcpy")));
 #endif
 
 /* newlib's start calls these. */

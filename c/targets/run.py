@@ -82,7 +82,7 @@ def memory(rom, rom_size, ram, ram_size):
 
 
 def cortex_m(target, machine, words, memory_words, small=False):
-    return Way(target, f"qemu-system-arm -M {machine}{', hard floats' * ('-mfloat-abi=hard' in words)}", ("arm-none-eabi-gcc", "-mthumb", *words),
+    return Way(target, f"qemu-system-arm -M {machine}{', hard floats' * ('-mfloat-abi=hard' in words)}", ("arm-none-eabi-gcc", "-mthumb", "-mno-unaligned-access", *words),
                ("--specs=rdimon.specs", "-nostartfiles", "-Wl,--gc-sections", f"-T{HERE}/cortex_m.ld", *memory_words),
                ("qemu-system-arm", "-M", machine, "-nographic", "-semihosting", "-kernel"), True, small)
 
@@ -162,6 +162,8 @@ def wide_compiler(way):
     if not found:
         raise Failed(f"{way.compiler[0]} names no folders of headers: {last(said)}")
     words = [word for word in TARGETS[way.target].words.split() if not word.startswith("-mcpu")]
+    if "-mfloat-abi=hard" in way.compiler:
+        words[words.index("-mfloat-abi=soft")] = "-mfloat-abi=hard"
     return ["clang", *words, "-nostdlibinc", *[word for folder in found[1].split() for word in ("-isystem", folder)],
             "-D__INT32_C(n)=n", "-D__UINT32_C(n)=n##U", "-D__INT64_C(n)=n##LL", "-D__UINT64_C(n)=n##ULL",
             "-D__int128=_BitInt(128)", "-Wno-bit-int-extension", "-Wno-keyword-macro", "-Wno-builtin-macro-redefined"]
