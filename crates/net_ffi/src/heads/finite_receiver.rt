@@ -10,7 +10,7 @@ ghost use Rattle.net_receiver.specs.Finite.{acknowledged, can_end, finite_after_
 ghost use Rattle.net_receiver.specs.Finite.{is_complete, no_end};
 ghost use Rattle.net_receiver.specs.FiniteHead.{HasSoundFinite, finite_of, next_of};
 ghost use Rattle.net_receiver.specs.FiniteLaws.{ReceivesFinite};
-ghost use Rattle.net_receiver.specs.Head.{receiver_of};
+ghost use Rattle.net_receiver.specs.Head.{head_after_read, receiver_of};
 ghost use Rattle.net_receiver.specs.Segments.{new_count};
 ghost use Rattle.net_ring.specs.Ring.{queue};
 ghost use Rattle.net_ring.specs.RingHead.{IsSound as IsSoundPlace, ring_at};
@@ -137,6 +137,10 @@ pub extern "C" fn net_base_finite_receiver_read(
     ensures into { let queued = queue (ring_at storage.now receiver.old.receiver.place) in (IsSoundPlace (length
         storage.now) receiver.old.receiver.place) × (next_of receiver.old < 2 ^ 64) → into.new ≡ take (length
         into.old) queued ++ drop (length queued) into.old }
+    ensures head { (IsSoundPlace (length storage.now) receiver.old.receiver.place) × (next_of receiver.old < 2 ^ 64)
+        → receiver.new.receiver ≡ head_after_read (length storage.now) result receiver.old.receiver }
+    ensures end { (IsSoundPlace (length storage.now) receiver.old.receiver.place) × (next_of receiver.old < 2 ^ 64)
+        → receiver.new.end ≡ receiver.old.end }
     ensures sound { (IsSoundPlace (length storage.now) receiver.old.receiver.place) × (next_of receiver.old < 2 ^
         64) → (runs : List (ℕ × ℕ)) → HasSoundFinite receiver.old storage.now runs → HasSoundFinite receiver.new
         storage.now runs }

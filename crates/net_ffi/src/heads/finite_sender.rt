@@ -8,6 +8,8 @@ ghost use Rattle.net_receiver.specs.Finite.{no_end};
 ghost use Rattle.net_receiver.specs.FiniteSender.{IsSoundFiniteSender, acknowledged_below, closed_sender};
 ghost use Rattle.net_receiver.specs.FiniteSender.{finite_room, finite_sender_of, has_end_at, with_bytes};
 ghost use Rattle.net_receiver.specs.SenderState.{Sends};
+ghost use Rattle.net_ring.specs.Ring.{rewind_if_empty, with_elements_wrapping, with_enqueued, write_at};
+ghost use Rattle.net_ring.specs.RingHead.{ring_at};
 ghost use Rattle.std.specs.Prelude.{IsFalse, IsTrue, List, if◌then◌else◌, length, max, min, take, ℕ, ◌++◌, ◌+◌};
 ghost use Rattle.std.specs.Prelude.{◌-◌, ◌<◌, ◌==◌, ◌^◌, ◌↔◌, ◌≡◌, ◌≤◌};
 
@@ -89,6 +91,11 @@ pub extern "C" fn net_base_finite_sender_write(
     ensures state { IsSoundFiniteSender (length storage.old) sender.old → (blocks : List (ℕ × ℕ)) → finite_sender_of
         sender.new storage.new blocks ≡ with_bytes (finite_sender_of sender.old storage.old blocks) (take result
         bytes.now) }
+    ensures ring { IsSoundFiniteSender (length storage.old) sender.old → sender.old.closed ≡ 0 → let g =
+        rewind_if_empty (ring_at storage.old sender.old.sender.place) in ring_at storage.new sender.new.sender.place
+        ≡ with_enqueued result (with_elements_wrapping g (write_at g) (take result bytes.now)) }
+    ensures closed { IsSoundFiniteSender (length storage.old) sender.old → 0 < sender.old.closed → (sender.new ≡
+        sender.old) × (storage.new ≡ storage.old) }
     ensures sends { IsSoundFiniteSender (length storage.old) sender.old → (blocks : List (ℕ × ℕ)) (f : ℕ) (w : List
         ℕ) → Sends f w (finite_sender_of sender.old storage.old blocks).sender → Sends f (w ++ take result
         bytes.now) (finite_sender_of sender.new storage.new blocks).sender }
