@@ -32,6 +32,9 @@ mod taking;
 /// determine which packets are refused.
 #[derive(Debug, Drop)]
 pub struct PacketsOver<H, M: Storage<PacketMetadata<H>>, B: Storage<u8>> {
+    // Invariant: the head has the numbers of a ring of the slots and of one of the bytes. The slots in
+    // use are packets and gaps, whose sizes add up to the bytes in use. A packet is contiguous; a gap
+    // has bytes, ends at the storage's end, and has a packet after it.
     head: PacketsHead,
     slots: M,
     bytes: B,

@@ -33,6 +33,8 @@ use std::marker::Model;
 /// ```
 #[derive(Clone, Drop)]
 pub struct Scoreboard<const N: usize> {
+    // Invariant: the runs are those of an assembler, counted from the first position that wasn't
+    // reported, which is in none of them. Each end fits 64 bits.
     head: ScoreboardHead,
     runs: [Run; N],
 }

@@ -24,6 +24,8 @@ use std::marker::Model;
 /// all bytes that were ever written to it are `w`, the first at position `f`. No call takes memory.
 /// smoltcp's TCP socket has its transmit buffer inside.
 pub struct SenderOver<S: Storage<u8>> {
+    // Invariant: the head has the numbers of a ring of the storage, and the position after the queue
+    // fits 64 bits.
     head: SenderHead,
     storage: S,
 }

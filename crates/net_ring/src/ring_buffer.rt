@@ -32,6 +32,8 @@ mod unallocated;
 /// or changed in place.
 #[derive(Debug)]
 pub struct RingOver<T, S: Storage<T>> {
+    // Invariant: the read index is one of the storage, or 0 if that has no elements. No more elements
+    // are queued than the storage has.
     storage: S,
     place: RingHead,
     elements: PhantomData<T>,

@@ -28,6 +28,8 @@ use std::marker::Model;
 ///
 /// Contracts see what the receiver of the bytes stores, and the end, `no_end` while it isn't known.
 pub struct FiniteReceiverOver<S: Storage<u8>, const N: usize> {
+    // Invariant: no byte that is queued or held is at or above the end, which is the greatest number
+    // of 64 bits while it isn't known; and each of these bytes is below that.
     receiver: ReceiverOver<S, N>,
     end: u64,
 }

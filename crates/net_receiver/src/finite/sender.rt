@@ -23,6 +23,8 @@ use std::marker::Model;
 /// is acknowledged; and the number after the last one that was sent. No call takes memory. smoltcp has
 /// no such type.
 pub struct FiniteSenderOver<S: Storage<u8>> {
+    // Invariant: the end is acknowledged only once the sender is closed and its queue is empty. What
+    // was sent ends between what is acknowledged and what was written, the end counted.
     head: FiniteSenderHead,
     storage: S,
 }

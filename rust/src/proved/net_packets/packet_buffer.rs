@@ -23,6 +23,9 @@ mod taking;
 /// number of slots, the storage, the read index and the list of packets (header, size, gap)
 /// determine which packets are refused.
 pub struct PacketsOver<H, M: Storage<PacketMetadata<H>>, B: Storage<u8>> {
+    // Invariant: the head has the numbers of a ring of the slots and of one of the bytes. The slots in
+    // use are packets and gaps, whose sizes add up to the bytes in use. A packet is contiguous; a gap
+    // has bytes, ends at the storage's end, and has a packet after it.
     head: PacketsHead,
     slots: M,
     bytes: B,

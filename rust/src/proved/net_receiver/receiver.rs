@@ -31,6 +31,9 @@ pub use newest_runs::HeldRun;
 /// bytes by their positions. No call takes memory. smoltcp's TCP socket joins ring and assembler in
 /// its own `process`; this is the part of it that stores what was received.
 pub struct ReceiverOver<S: Storage<u8>, const N: usize> {
+    // Invariant: the queue is that of the ring, whose read index is the count of bytes read modulo the
+    // capacity. At most N runs are held, each after the first missing position and within the free
+    // window. All positions fit 64 bits.
     head: ReceiverHead,
     storage: S,
     runs: [Run; N],

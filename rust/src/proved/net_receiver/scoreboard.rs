@@ -27,6 +27,8 @@ use crate::proved::net_assembler::{Run, TooManyHolesError};
 /// ```
 #[derive(Clone)]
 pub struct Scoreboard<const N: usize> {
+    // Invariant: the runs are those of an assembler, counted from the first position that wasn't
+    // reported, which is in none of them. Each end fits 64 bits.
     head: ScoreboardHead,
     runs: [Run; N],
 }

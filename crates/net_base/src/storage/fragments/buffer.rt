@@ -22,6 +22,8 @@ use std::marker::Model;
 /// size, once it is known, and the moment up to which the packet is waited for.
 #[derive(Drop)]
 pub struct FragmentsOver<B: Storage<u8>, const N: usize> {
+    // Invariant: the runs are those of an assembler, the positions of the bytes that arrived. If the
+    // total is known, the storage has room for it.
     head: FragmentsHead,
     bytes: B,
     runs: [Run; N],

@@ -13,6 +13,8 @@ use crate::proved::net_ring::{ManagedSlice, Storage};
 /// Contracts see the bytes of the storage, the set of the positions that arrived, the packet's
 /// size, once it is known, and the moment up to which the packet is waited for.
 pub struct FragmentsOver<B: Storage<u8>, const N: usize> {
+    // Invariant: the runs are those of an assembler, the positions of the bytes that arrived. If the
+    // total is known, the storage has room for it.
     head: FragmentsHead,
     bytes: B,
     runs: [Run; N],
