@@ -39,6 +39,7 @@ impl SequenceNumber {
     /// # use net_base::sequence_number::SequenceNumber;
     /// assert_eq!(SequenceNumber::new(7).get(), 7);
     /// ```
+    #[inline]
     pub const fn new(number: u32) -> Self
         ensures { result ≡ number }
     {
@@ -51,6 +52,7 @@ impl SequenceNumber {
     /// # use net_base::sequence_number::SequenceNumber;
     /// assert_eq!(SequenceNumber::new(7).get(), 7);
     /// ```
+    #[inline]
     pub const fn get(self) -> u32
         ensures { result ≡ self }
     {
@@ -71,6 +73,7 @@ impl SequenceNumber {
     /// let initial = SequenceNumber::new(u32::MAX);
     /// assert_eq!(SequenceNumber::at(initial, 3).get(), 2);
     /// ```
+    #[inline]
     pub fn at(initial: SequenceNumber, pos: u64) -> Self
         ensures { result ≡ number_at initial pos }
     {
@@ -98,6 +101,7 @@ impl SequenceNumber {
     /// assert_eq!(number.position(initial, 1 << 32), Some((1 << 32) + 3));
     /// assert_eq!(SequenceNumber::new(u32::MAX - 1).position(initial, 0), None);
     /// ```
+    #[inline]
     pub fn position(self, initial: SequenceNumber, next: u64) -> Option<u64>
         ensures number { IfSome result (λ pos. number_at initial pos ≡ self) }
         ensures near { IfSome result (λ pos. IsNear next pos) }
@@ -118,6 +122,7 @@ impl SequenceNumber {
     /// # use net_base::sequence_number::SequenceNumber;
     /// assert_eq!(SequenceNumber::new(2).ahead_of(SequenceNumber::new(u32::MAX)), 3);
     /// ```
+    #[inline]
     pub fn ahead_of(self, other: SequenceNumber) -> u32
         ensures { result ≡ ahead_of other self }
     {
@@ -132,6 +137,7 @@ impl SequenceNumber {
     /// let (one, other) = (SequenceNumber::new(u32::MAX), SequenceNumber::new(2));
     /// assert!(one.is_before(other) && !other.is_before(one) && !one.is_before(one));
     /// ```
+    #[inline]
     pub fn is_before(self, other: SequenceNumber) -> bool
         ensures { IsTrue result ↔ ComesBefore self other }
     {
@@ -148,6 +154,7 @@ impl Add<u32> for SequenceNumber {
 
     ghost add_gives = { λ s n r. r ≡ (s + n) % 2 ^ 32 };
 
+    #[inline]
     fn add(self, rhs: u32) -> SequenceNumber {
         SequenceNumber {
             number: self.number.wrapping_add(rhs),

@@ -33,6 +33,7 @@ impl<'a> Model for HoleIter<'a> {
 
 impl<'a> HoleIter<'a> {
     /// Returns the holes before these runs, the first of which begins at `from`.
+    #[inline]
     pub(crate) fn before(runs: RunIter<'a>, from: usize) -> Self
         requires { IsRising (from + 1) runs }
         ensures { result ≡ holes_before from runs.entry }
@@ -50,6 +51,7 @@ impl<'a> Iterator for HoleIter<'a> {
 
     ghost remaining = { item_count (λ s. s) };
 
+    #[inline]
     fn next(&mut self) -> Option<(usize, usize)> {
         let (start, end) = self.runs.next()?;
         let from = mem::replace(&mut self.from, end);

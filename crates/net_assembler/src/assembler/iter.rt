@@ -33,6 +33,7 @@ impl<'a> Model for RunIter<'a> {
 
 impl<'a> RunIter<'a> {
     /// Returns these runs, counted from `first_start`.
+    #[inline]
     pub(crate) fn over(runs: &'a [Run], first_start: usize) -> Self
         requires runs { AreRuns runs.now }
         requires fits { FitsFrom first_start runs.now }
@@ -54,6 +55,7 @@ impl<'a> Iterator for RunIter<'a> {
 
     ghost remaining = { item_count (λ s. s) };
 
+    #[inline]
     fn next(&mut self) -> Option<(usize, usize)> {
         let (run, rest) = self.rest.split_first()?;
         self.rest = rest;

@@ -60,6 +60,7 @@ impl Duration {
     /// # use net_base::time::Duration;
     /// assert_eq!(Duration::from_micros(1_500).total_millis(), 1);
     /// ```
+    #[inline]
     pub const fn from_micros(micros: u64) -> Duration
         ensures { result ≡ micros }
     {
@@ -67,6 +68,7 @@ impl Duration {
     }
 
     /// Returns whether the value fits; precondition of `from_millis`.
+    #[inline]
     pub const fn fits_millis(millis: u64) -> bool
         ensures { IsTrue result ↔ IsLength (millis * 1_000) }
     {
@@ -83,6 +85,7 @@ impl Duration {
     /// # Requires
     ///
     /// The microseconds fit 64 bits, as `fits_millis` tests.
+    #[inline]
     pub const fn from_millis(millis: u64) -> Duration
         requires fits_millis { IsLength (millis * 1_000) }
         ensures { result ≡ millis * 1_000 }
@@ -95,6 +98,7 @@ impl Duration {
     }
 
     /// Returns whether the value fits; precondition of `from_secs`.
+    #[inline]
     pub const fn fits_secs(secs: u64) -> bool
         ensures { IsTrue result ↔ IsLength (secs * 1_000_000) }
     {
@@ -111,6 +115,7 @@ impl Duration {
     /// # Requires
     ///
     /// The microseconds fit 64 bits, as `fits_secs` tests.
+    #[inline]
     pub const fn from_secs(secs: u64) -> Duration
         requires fits_secs { IsLength (secs * 1_000_000) }
         ensures { result ≡ secs * 1_000_000 }
@@ -128,6 +133,7 @@ impl Duration {
     /// # use net_base::time::Duration;
     /// assert_eq!(Duration::from_millis(4_934).millis(), 934);
     /// ```
+    #[inline]
     pub const fn millis(&self) -> u64
         ensures { result ≡ length_millis self.now }
     {
@@ -140,6 +146,7 @@ impl Duration {
     /// # use net_base::time::Duration;
     /// assert_eq!(Duration::from_millis(4_934).micros(), 934_000);
     /// ```
+    #[inline]
     pub const fn micros(&self) -> u64
         ensures { result ≡ self.now % 1_000_000 }
     {
@@ -152,6 +159,7 @@ impl Duration {
     /// # use net_base::time::Duration;
     /// assert_eq!(Duration::from_millis(4_934).secs(), 4);
     /// ```
+    #[inline]
     pub const fn secs(&self) -> u64
         ensures { result ≡ self.now / 1_000_000 }
     {
@@ -164,6 +172,7 @@ impl Duration {
     /// # use net_base::time::Duration;
     /// assert_eq!(Duration::from_micros(4_934).total_millis(), 4);
     /// ```
+    #[inline]
     pub const fn total_millis(&self) -> u64
         ensures { result ≡ self.now / 1_000 }
     {
@@ -176,6 +185,7 @@ impl Duration {
     /// # use net_base::time::Duration;
     /// assert_eq!(Duration::from_millis(4).total_micros(), 4_000);
     /// ```
+    #[inline]
     pub const fn total_micros(&self) -> u64
         ensures { result ≡ self.now }
     {
@@ -207,6 +217,7 @@ impl Duration {
     }
 
     /// Returns whether the sum fits; precondition of `+` and `+=`.
+    #[inline]
     pub fn can_add(&self, duration: Duration) -> bool
         ensures { IsTrue result ↔ IsLength (self.now + duration) }
     {
@@ -214,6 +225,7 @@ impl Duration {
     }
 
     /// Returns whether the difference isn't below 0; precondition of `-` and `-=`.
+    #[inline]
     pub fn can_sub(&self, duration: Duration) -> bool
         ensures { IsTrue result ↔ (duration ≤ self.now) }
     {
@@ -221,6 +233,7 @@ impl Duration {
     }
 
     /// Returns whether the product fits; precondition of `*` and `*=`.
+    #[inline]
     pub fn can_mul(&self, factor: u32) -> bool
         ensures { IsTrue result ↔ IsLength (self.now * factor) }
     {
@@ -233,6 +246,7 @@ impl Duration {
     /// # use net_base::time::Duration;
     /// assert_eq!(Duration::MAX.checked_add(Duration::from_micros(1)), None);
     /// ```
+    #[inline]
     pub fn checked_add(self, rhs: Duration) -> Option<Duration>
         ensures { SomeIff result (IsLength (self + rhs)) (self + rhs) }
     {
@@ -247,6 +261,7 @@ impl Duration {
     /// # use net_base::time::Duration;
     /// assert_eq!(Duration::ZERO.checked_sub(Duration::from_micros(1)), None);
     /// ```
+    #[inline]
     pub fn checked_sub(self, rhs: Duration) -> Option<Duration>
         ensures { SomeIff result (rhs ≤ self) (self - rhs) }
     {
@@ -261,6 +276,7 @@ impl Duration {
     /// # use net_base::time::Duration;
     /// assert_eq!(Duration::MAX.checked_mul(2), None);
     /// ```
+    #[inline]
     pub fn checked_mul(self, rhs: u32) -> Option<Duration>
         ensures { SomeIff result (IsLength (self * rhs)) (self * rhs) }
     {
@@ -275,6 +291,7 @@ impl Duration {
     /// # use net_base::time::Duration;
     /// assert_eq!(Duration::MAX.checked_div(0), None);
     /// ```
+    #[inline]
     pub fn checked_div(self, rhs: u32) -> Option<Duration>
         ensures { SomeIff result (0 < rhs) (self / rhs) }
     {
@@ -289,6 +306,7 @@ impl Duration {
     /// # use net_base::time::Duration;
     /// assert_eq!(Duration::MAX.saturating_add(Duration::from_micros(1)), Duration::MAX);
     /// ```
+    #[inline]
     pub fn saturating_add(self, rhs: Duration) -> Duration
         ensures { result ≡ min (self + rhs) (2 ^ 64 - 1) }
     {
@@ -301,6 +319,7 @@ impl Duration {
     /// # use net_base::time::Duration;
     /// assert_eq!(Duration::ZERO.saturating_sub(Duration::from_micros(1)), Duration::ZERO);
     /// ```
+    #[inline]
     pub fn saturating_sub(self, rhs: Duration) -> Duration
         ensures { result ≡ self - rhs }
     {
@@ -318,6 +337,7 @@ impl Duration {
     /// # use net_base::time::Duration;
     /// assert_eq!(Duration::MAX.saturating_mul(2), Duration::MAX);
     /// ```
+    #[inline]
     pub fn saturating_mul(self, rhs: u32) -> Duration
         ensures { result ≡ min (self * rhs) (2 ^ 64 - 1) }
     {
@@ -353,6 +373,7 @@ impl fmt::Display for Duration {
 impl From<Duration> for std::time::Duration {
     ghost from_gives = { λ d r. as_nanos r ≡ d * 1_000 };
 
+    #[inline]
     fn from(duration: Duration) -> std::time::Duration {
         std::time::Duration::from_micros(duration.micros)
     }

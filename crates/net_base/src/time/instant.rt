@@ -55,6 +55,7 @@ impl Instant {
     /// # use net_base::time::Instant;
     /// assert_eq!(Instant::from_micros(1_500).total_millis(), 1);
     /// ```
+    #[inline]
     pub fn from_micros(micros: i64) -> Instant
         ensures { result ≡ micros }
     {
@@ -68,6 +69,7 @@ impl Instant {
     /// const LATER: Instant = Instant::from_micros_const(1_500);
     /// assert_eq!(LATER, Instant::from_micros(1_500));
     /// ```
+    #[inline]
     pub const fn from_micros_const(micros: i64) -> Instant
         ensures { result ≡ micros }
     {
@@ -75,6 +77,7 @@ impl Instant {
     }
 
     /// Returns whether the value fits; precondition of `from_millis`.
+    #[inline]
     pub const fn fits_millis(millis: i64) -> bool
         ensures { IsTrue result ↔ IsMoment (millis *ℤ pos 1_000) }
     {
@@ -91,6 +94,7 @@ impl Instant {
     /// # Requires
     ///
     /// So many microseconds fit 64 bits with a sign, as `fits_millis` tests.
+    #[inline]
     pub fn from_millis(millis: i64) -> Instant
         requires fits_millis { IsMoment (millis *ℤ pos 1_000) }
         ensures { result ≡ millis *ℤ pos 1_000 }
@@ -113,6 +117,7 @@ impl Instant {
     /// # Requires
     ///
     /// So many microseconds fit 64 bits with a sign, as `fits_millis` tests.
+    #[inline]
     pub const fn from_millis_const(millis: i64) -> Instant
         requires fits_millis { IsMoment (millis *ℤ pos 1_000) }
         ensures { result ≡ millis *ℤ pos 1_000 }
@@ -127,6 +132,7 @@ impl Instant {
     }
 
     /// Returns whether the value fits; precondition of `from_secs`.
+    #[inline]
     pub const fn fits_secs(secs: i64) -> bool
         ensures { IsTrue result ↔ IsMoment (secs *ℤ pos 1_000_000) }
     {
@@ -143,6 +149,7 @@ impl Instant {
     /// # Requires
     ///
     /// So many microseconds fit 64 bits with a sign, as `fits_secs` tests.
+    #[inline]
     pub fn from_secs(secs: i64) -> Instant
         requires fits_secs { IsMoment (secs *ℤ pos 1_000_000) }
         ensures { result ≡ secs *ℤ pos 1_000_000 }
@@ -160,6 +167,7 @@ impl Instant {
     /// # use net_base::time::Instant;
     /// assert_eq!(Instant::from_millis(5_674).millis(), 674);
     /// ```
+    #[inline]
     pub const fn millis(&self) -> i64
         ensures { result ≡ moment_millis self.now }
     {
@@ -172,6 +180,7 @@ impl Instant {
     /// # use net_base::time::Instant;
     /// assert_eq!(Instant::from_millis(5_674).micros(), 674_000);
     /// ```
+    #[inline]
     pub const fn micros(&self) -> i64
         ensures { result ≡ moment_micros self.now }
     {
@@ -184,6 +193,7 @@ impl Instant {
     /// # use net_base::time::Instant;
     /// assert_eq!(Instant::from_millis(5_674).secs(), 5);
     /// ```
+    #[inline]
     pub const fn secs(&self) -> i64
         ensures { result ≡ moment_secs self.now }
     {
@@ -196,6 +206,7 @@ impl Instant {
     /// # use net_base::time::Instant;
     /// assert_eq!(Instant::from_micros(5_674).total_millis(), 5);
     /// ```
+    #[inline]
     pub const fn total_millis(&self) -> i64
         ensures { result ≡ int_div self.now (pos 1_000) }
     {
@@ -208,6 +219,7 @@ impl Instant {
     /// # use net_base::time::Instant;
     /// assert_eq!(Instant::from_millis(5).total_micros(), 5_000);
     /// ```
+    #[inline]
     pub const fn total_micros(&self) -> i64
         ensures { result ≡ self.now }
     {
@@ -215,6 +227,7 @@ impl Instant {
     }
 
     /// Returns whether the sum fits: whether `+` and `+=` don't saturate.
+    #[inline]
     pub fn can_add(&self, duration: Duration) -> bool
         ensures { IsTrue result ↔ IsMoment (self.now +ℤ pos duration) }
     {
@@ -222,6 +235,7 @@ impl Instant {
     }
 
     /// Returns whether the difference fits: whether `-` and `-=` don't saturate.
+    #[inline]
     pub fn can_sub(&self, duration: Duration) -> bool
         ensures { IsTrue result ↔ IsMoment (self.now -ℤ pos duration) }
     {
@@ -235,6 +249,7 @@ impl Instant {
     /// let last = Instant::from_micros(i64::MAX);
     /// assert_eq!(last.checked_add(Duration::from_micros(1)), None);
     /// ```
+    #[inline]
     pub fn checked_add(&self, duration: Duration) -> Option<Instant>
         ensures { SomeIff result (IsMoment (self.now +ℤ pos duration)) (self.now +ℤ pos duration) }
     {
@@ -251,6 +266,7 @@ impl Instant {
     /// let first = Instant::from_micros(i64::MIN);
     /// assert_eq!(first.checked_sub(Duration::from_micros(1)), None);
     /// ```
+    #[inline]
     pub fn checked_sub(&self, duration: Duration) -> Option<Instant>
         ensures { SomeIff result (IsMoment (self.now -ℤ pos duration)) (self.now -ℤ pos duration) }
     {
@@ -272,6 +288,7 @@ impl Instant {
     /// let moment = Instant::ZERO.saturating_add(Duration::MAX);
     /// assert_eq!(moment, Instant::from_micros(i64::MAX));
     /// ```
+    #[inline]
     pub fn saturating_add(&self, duration: Duration) -> Instant
         ensures exact { IsMoment (self.now +ℤ pos duration) → result ≡ self.now +ℤ pos duration }
         ensures last { (IsMoment (self.now +ℤ pos duration) → ⊥) → result ≡ pos (2 ^ 63 - 1) }
@@ -289,6 +306,7 @@ impl Instant {
     /// let moment = Instant::ZERO.saturating_sub(Duration::MAX);
     /// assert_eq!(moment, Instant::from_micros(i64::MIN));
     /// ```
+    #[inline]
     pub fn saturating_sub(&self, duration: Duration) -> Instant
         ensures exact { IsMoment (self.now -ℤ pos duration) → result ≡ self.now -ℤ pos duration }
         ensures first { (IsMoment (self.now -ℤ pos duration) → ⊥) → result ≡ negsuc (2 ^ 63 - 1) }
@@ -333,6 +351,7 @@ impl Add<Duration> for Instant {
     ghost add_gives = { λ i d r. (IsMoment (i +ℤ pos d) → r ≡ i +ℤ pos d) ×
         ((IsMoment (i +ℤ pos d) → ⊥) → r ≡ pos (2 ^ 63 - 1)) };
 
+    #[inline]
     fn add(self, rhs: Duration) -> Instant {
         self.saturating_add(rhs)
     }
@@ -343,6 +362,7 @@ impl AddAssign<Duration> for Instant {
     ghost add_assign_gives = { λ i d r. (IsMoment (i +ℤ pos d) → r ≡ i +ℤ pos d) ×
         ((IsMoment (i +ℤ pos d) → ⊥) → r ≡ pos (2 ^ 63 - 1)) };
 
+    #[inline]
     fn add_assign(&mut self, rhs: Duration) {
         *self = *self + rhs;
     }
@@ -355,6 +375,7 @@ impl Sub<Duration> for Instant {
     ghost sub_gives = { λ i d r. (IsMoment (i -ℤ pos d) → r ≡ i -ℤ pos d) ×
         ((IsMoment (i -ℤ pos d) → ⊥) → r ≡ negsuc (2 ^ 63 - 1)) };
 
+    #[inline]
     fn sub(self, rhs: Duration) -> Instant {
         self.saturating_sub(rhs)
     }
@@ -365,6 +386,7 @@ impl SubAssign<Duration> for Instant {
     ghost sub_assign_gives = { λ i d r. (IsMoment (i -ℤ pos d) → r ≡ i -ℤ pos d) ×
         ((IsMoment (i -ℤ pos d) → ⊥) → r ≡ negsuc (2 ^ 63 - 1)) };
 
+    #[inline]
     fn sub_assign(&mut self, rhs: Duration) {
         *self = *self - rhs;
     }
@@ -377,6 +399,7 @@ impl Sub<Instant> for Instant {
 
     ghost sub_gives = { λ i j r. r ≡ distance i j };
 
+    #[inline]
     fn sub(self, rhs: Instant) -> Duration {
         Duration::from_micros(self.micros.abs_diff(rhs.micros))
     }

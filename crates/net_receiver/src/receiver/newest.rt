@@ -38,6 +38,7 @@ impl<const K: usize> Iterator for NewestRunIter<K> {
 
     ghost remaining = { item_count (λ s. s) };
 
+    #[inline]
     fn next(&mut self) -> Option<(u64, u64)> {
         if self.from >= self.count {
             return None;

@@ -13,6 +13,7 @@ use crate::assembler::search::holds;
 
 impl AssemblerHead {
     /// Returns how many maximal runs there are: `used`.
+    #[inline]
     pub fn run_count(&self) -> usize
         ensures used { result ≡ self.now.used }
         ensures count { (runs : List (ℕ × ℕ)) → HasSoundRuns self.now runs →
@@ -22,6 +23,7 @@ impl AssemblerHead {
     }
 
     /// Returns whether no position is present.
+    #[inline]
     pub fn is_empty(&self) -> bool
         ensures used { IsTrue result ↔ (self.now.used ≡ 0) }
         ensures empty { (runs : List (ℕ × ℕ)) → HasSoundRuns self.now runs →
@@ -71,6 +73,7 @@ impl AssemblerHead {
     /// # Requires
     ///
     /// The head is sound with the runs, as `is_sound` tests.
+    #[inline]
     pub fn run_at(&self, runs: &[Run], k: usize) -> Option<(usize, usize)>
         requires { HasSoundRuns self.now runs.now }
         ensures run { result ≡ slice_get (maximal_runs (set_of self.now runs.now)) k }
@@ -102,6 +105,7 @@ impl AssemblerHead {
     /// # Requires
     ///
     /// The head is sound with the runs, as `is_sound` tests.
+    #[inline]
     pub fn iter_data<'a>(&self, runs: &'a [Run]) -> RunIter<'a>
         requires { HasSoundRuns self.now runs.now }
         ensures runs { result ≡ maximal_runs (set_of self.now runs.now) }
@@ -156,6 +160,7 @@ impl AssemblerHead {
     /// # Requires
     ///
     /// The head is sound with the runs, as `is_sound` tests.
+    #[inline]
     pub fn holes<'a>(&self, runs: &'a [Run]) -> HoleIter<'a>
         requires { HasSoundRuns self.now runs.now }
         ensures holes { result ≡ holes (set_of self.now runs.now) }

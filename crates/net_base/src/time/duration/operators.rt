@@ -15,6 +15,7 @@ impl Add for Duration {
 
     ghost add_gives = { λ d e r. r ≡ d + e };
 
+    #[inline]
     fn add(self, rhs: Duration) -> Duration {
         let fits = self.can_add(rhs);
         prove!(fits, "attempt to add with overflow");
@@ -30,6 +31,7 @@ impl AddAssign for Duration {
 
     ghost add_assign_gives = { λ d e r. r ≡ d + e };
 
+    #[inline]
     fn add_assign(&mut self, rhs: Duration) {
         let fits = self.can_add(rhs);
         prove!(fits, "attempt to add with overflow");
@@ -45,6 +47,7 @@ impl Sub for Duration {
 
     ghost sub_gives = { λ d e r. r ≡ d - e };
 
+    #[inline]
     fn sub(self, rhs: Duration) -> Duration {
         let fits = self.can_sub(rhs);
         prove!(fits, "overflow when subtracting durations");
@@ -60,6 +63,7 @@ impl SubAssign for Duration {
 
     ghost sub_assign_gives = { λ d e r. r ≡ d - e };
 
+    #[inline]
     fn sub_assign(&mut self, rhs: Duration) {
         let fits = self.can_sub(rhs);
         prove!(fits, "overflow when subtracting durations");
@@ -75,6 +79,7 @@ impl Mul<u32> for Duration {
 
     ghost mul_gives = { λ d k r. r ≡ d * k };
 
+    #[inline]
     fn mul(self, rhs: u32) -> Duration {
         let fits = self.can_mul(rhs);
         prove!(fits, "attempt to multiply with overflow");
@@ -90,6 +95,7 @@ impl MulAssign<u32> for Duration {
 
     ghost mul_assign_gives = { λ d k r. r ≡ d * k };
 
+    #[inline]
     fn mul_assign(&mut self, rhs: u32) {
         let fits = self.can_mul(rhs);
         prove!(fits, "attempt to multiply with overflow");
@@ -105,6 +111,7 @@ impl Div<u32> for Duration {
 
     ghost div_gives = { λ d k r. r ≡ d / k };
 
+    #[inline]
     fn div(self, rhs: u32) -> Duration {
         Duration {
             micros: self.micros / u64::from(rhs),
@@ -118,6 +125,7 @@ impl DivAssign<u32> for Duration {
 
     ghost div_assign_gives = { λ d k r. r ≡ d / k };
 
+    #[inline]
     fn div_assign(&mut self, rhs: u32) {
         self.micros /= u64::from(rhs);
     }
@@ -131,6 +139,7 @@ impl Shl<u32> for Duration {
 
     ghost shl_gives = { λ d k r. r ≡ d * 2 ^ k % 2 ^ 64 };
 
+    #[inline]
     fn shl(self, rhs: u32) -> Duration {
         prove!(rhs < 64, "attempt to shift left with overflow");
         Duration {
@@ -145,6 +154,7 @@ impl ShlAssign<u32> for Duration {
 
     ghost shl_assign_gives = { λ d k r. r ≡ d * 2 ^ k % 2 ^ 64 };
 
+    #[inline]
     fn shl_assign(&mut self, rhs: u32) {
         prove!(rhs < 64, "attempt to shift left with overflow");
         self.micros <<= rhs;
@@ -159,6 +169,7 @@ impl Shr<u32> for Duration {
 
     ghost shr_gives = { λ d k r. r ≡ d / 2 ^ k };
 
+    #[inline]
     fn shr(self, rhs: u32) -> Duration {
         prove!(rhs < 64, "attempt to shift right with overflow");
         Duration {
@@ -173,6 +184,7 @@ impl ShrAssign<u32> for Duration {
 
     ghost shr_assign_gives = { λ d k r. r ≡ d / 2 ^ k };
 
+    #[inline]
     fn shr_assign(&mut self, rhs: u32) {
         prove!(rhs < 64, "attempt to shift right with overflow");
         self.micros >>= rhs;

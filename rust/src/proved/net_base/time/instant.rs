@@ -48,6 +48,7 @@ impl Instant {
     /// ```text
     /// ensures { result ≡ micros }
     /// ```
+    #[inline]
     pub fn from_micros<A: Into<i64>>(micros: A) -> Instant {
         let micros = micros.into();
         Instant { micros }
@@ -68,6 +69,7 @@ impl Instant {
     /// ```text
     /// ensures { result ≡ micros }
     /// ```
+    #[inline]
     pub const fn from_micros_const(micros: i64) -> Instant {
         Instant { micros }
     }
@@ -81,6 +83,7 @@ impl Instant {
     /// ```text
     /// ensures { IsTrue result ↔ IsMoment (millis *ℤ pos 1_000) }
     /// ```
+    #[inline]
     pub const fn fits_millis(millis: i64) -> bool {
         matches!(millis.checked_mul(1_000), Some(_))
     }
@@ -104,6 +107,7 @@ impl Instant {
     /// requires fits_millis { IsMoment (millis *ℤ pos 1_000) }
     /// ensures { result ≡ millis *ℤ pos 1_000 }
     /// ```
+    #[inline]
     #[track_caller]
     pub fn from_millis<A: Into<i64>>(millis: A) -> Instant {
         let millis = millis.into();
@@ -134,6 +138,7 @@ impl Instant {
     /// requires fits_millis { IsMoment (millis *ℤ pos 1_000) }
     /// ensures { result ≡ millis *ℤ pos 1_000 }
     /// ```
+    #[inline]
     #[track_caller]
     pub const fn from_millis_const(millis: i64) -> Instant {
         assert!(
@@ -154,6 +159,7 @@ impl Instant {
     /// ```text
     /// ensures { IsTrue result ↔ IsMoment (secs *ℤ pos 1_000_000) }
     /// ```
+    #[inline]
     pub const fn fits_secs(secs: i64) -> bool {
         matches!(secs.checked_mul(1_000_000), Some(_))
     }
@@ -177,6 +183,7 @@ impl Instant {
     /// requires fits_secs { IsMoment (secs *ℤ pos 1_000_000) }
     /// ensures { result ≡ secs *ℤ pos 1_000_000 }
     /// ```
+    #[inline]
     #[track_caller]
     pub fn from_secs<A: Into<i64>>(secs: A) -> Instant {
         let secs = secs.into();
@@ -201,6 +208,7 @@ impl Instant {
     /// ```text
     /// ensures { result ≡ moment_millis self.now }
     /// ```
+    #[inline]
     pub const fn millis(&self) -> i64 {
         self.micros() / 1_000
     }
@@ -219,6 +227,7 @@ impl Instant {
     /// ```text
     /// ensures { result ≡ moment_micros self.now }
     /// ```
+    #[inline]
     pub const fn micros(&self) -> i64 {
         self.micros % 1_000_000
     }
@@ -237,6 +246,7 @@ impl Instant {
     /// ```text
     /// ensures { result ≡ moment_secs self.now }
     /// ```
+    #[inline]
     pub const fn secs(&self) -> i64 {
         self.micros / 1_000_000
     }
@@ -255,6 +265,7 @@ impl Instant {
     /// ```text
     /// ensures { result ≡ int_div self.now (pos 1_000) }
     /// ```
+    #[inline]
     pub const fn total_millis(&self) -> i64 {
         self.micros / 1_000
     }
@@ -273,6 +284,7 @@ impl Instant {
     /// ```text
     /// ensures { result ≡ self.now }
     /// ```
+    #[inline]
     pub const fn total_micros(&self) -> i64 {
         self.micros
     }
@@ -286,6 +298,7 @@ impl Instant {
     /// ```text
     /// ensures { IsTrue result ↔ IsMoment (self.now +ℤ pos duration) }
     /// ```
+    #[inline]
     pub fn can_add(&self, duration: Duration) -> bool {
         self.checked_add(duration).is_some()
     }
@@ -299,6 +312,7 @@ impl Instant {
     /// ```text
     /// ensures { IsTrue result ↔ IsMoment (self.now -ℤ pos duration) }
     /// ```
+    #[inline]
     pub fn can_sub(&self, duration: Duration) -> bool {
         self.checked_sub(duration).is_some()
     }
@@ -318,6 +332,7 @@ impl Instant {
     /// ```text
     /// ensures { SomeIff result (IsMoment (self.now +ℤ pos duration)) (self.now +ℤ pos duration) }
     /// ```
+    #[inline]
     pub fn checked_add(&self, duration: Duration) -> Option<Instant> {
         match self.micros.checked_add_unsigned(duration.total_micros()) {
             Some(micros) => Some(Instant { micros }),
@@ -340,6 +355,7 @@ impl Instant {
     /// ```text
     /// ensures { SomeIff result (IsMoment (self.now -ℤ pos duration)) (self.now -ℤ pos duration) }
     /// ```
+    #[inline]
     pub fn checked_sub(&self, duration: Duration) -> Option<Instant> {
         match self.micros.checked_sub_unsigned(duration.total_micros()) {
             Some(micros) => Some(Instant { micros }),
@@ -368,6 +384,7 @@ impl Instant {
     /// ensures exact { IsMoment (self.now +ℤ pos duration) → result ≡ self.now +ℤ pos duration }
     /// ensures last { (IsMoment (self.now +ℤ pos duration) → ⊥) → result ≡ pos (2 ^ 63 - 1) }
     /// ```
+    #[inline]
     pub fn saturating_add(&self, duration: Duration) -> Instant {
         match self.micros.checked_add_unsigned(duration.total_micros()) {
             Some(micros) => Instant { micros },
@@ -391,6 +408,7 @@ impl Instant {
     /// ensures exact { IsMoment (self.now -ℤ pos duration) → result ≡ self.now -ℤ pos duration }
     /// ensures first { (IsMoment (self.now -ℤ pos duration) → ⊥) → result ≡ negsuc (2 ^ 63 - 1) }
     /// ```
+    #[inline]
     pub fn saturating_sub(&self, duration: Duration) -> Instant {
         match self.micros.checked_sub_unsigned(duration.total_micros()) {
             Some(micros) => Instant { micros },
@@ -431,6 +449,7 @@ impl fmt::Display for Instant {
 impl Add<Duration> for Instant {
     type Output = Instant;
 
+    #[inline]
     fn add(self, rhs: Duration) -> Instant {
         self.saturating_add(rhs)
     }
@@ -438,6 +457,7 @@ impl Add<Duration> for Instant {
 
 /// Moves to the moment `rhs` later, or to the last moment if that is after it.
 impl AddAssign<Duration> for Instant {
+    #[inline]
     fn add_assign(&mut self, rhs: Duration) {
         *self = *self + rhs;
     }
@@ -447,6 +467,7 @@ impl AddAssign<Duration> for Instant {
 impl Sub<Duration> for Instant {
     type Output = Instant;
 
+    #[inline]
     fn sub(self, rhs: Duration) -> Instant {
         self.saturating_sub(rhs)
     }
@@ -454,6 +475,7 @@ impl Sub<Duration> for Instant {
 
 /// Moves to the moment `rhs` earlier, or to the first moment if that is before it.
 impl SubAssign<Duration> for Instant {
+    #[inline]
     fn sub_assign(&mut self, rhs: Duration) {
         *self = *self - rhs;
     }
@@ -464,6 +486,7 @@ impl SubAssign<Duration> for Instant {
 impl Sub<Instant> for Instant {
     type Output = Duration;
 
+    #[inline]
     fn sub(self, rhs: Instant) -> Duration {
         Duration::from_micros(self.micros.abs_diff(rhs.micros))
     }

@@ -18,6 +18,7 @@ pub struct NewestRunIter<const K: usize> {
 impl<const K: usize> Iterator for NewestRunIter<K> {
     type Item = (u64, u64);
 
+    #[inline]
     fn next(&mut self) -> Option<(u64, u64)> {
         if self.from >= self.count {
             return None;

@@ -18,6 +18,7 @@ impl AssemblerHead {
     /// ensures count { (runs : List (ℕ × ℕ)) → HasSoundRuns self.now runs →
     ///     result ≡ run_count (set_of self.now runs) }
     /// ```
+    #[inline]
     pub fn run_count(&self) -> usize {
         self.used
     }
@@ -33,6 +34,7 @@ impl AssemblerHead {
     /// ensures empty { (runs : List (ℕ × ℕ)) → HasSoundRuns self.now runs →
     ///     (IsTrue result ↔ (set_of self.now runs ≡ nothing)) }
     /// ```
+    #[inline]
     pub fn is_empty(&self) -> bool {
         self.used == 0
     }
@@ -100,6 +102,7 @@ impl AssemblerHead {
     /// ensures run { result ≡ slice_get (maximal_runs (set_of self.now runs.now)) k }
     /// ensures some { IfSome result (λ r. r.0 < r.1) }
     /// ```
+    #[inline]
     pub fn run_at(&self, runs: &[Run], k: usize) -> Option<(usize, usize)> {
         if k < self.used {
             let start = self.first_start + start_of(runs, k);
@@ -143,6 +146,7 @@ impl AssemblerHead {
     /// ensures runs { result ≡ maximal_runs (set_of self.now runs.now) }
     /// ensures bound { length result ≤ length runs.now }
     /// ```
+    #[inline]
     pub fn iter_data<'a>(&self, runs: &'a [Run]) -> RunIter<'a> {
         RunIter::over(&runs[..self.used], self.first_start)
     }
@@ -215,6 +219,7 @@ impl AssemblerHead {
     /// ensures holes { result ≡ holes (set_of self.now runs.now) }
     /// ensures bound { length result ≤ length runs.now }
     /// ```
+    #[inline]
     pub fn holes<'a>(&self, runs: &'a [Run]) -> HoleIter<'a> {
         let mut rest = self.iter_data(runs);
         if self.first_start > 0 {

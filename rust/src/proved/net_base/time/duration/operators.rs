@@ -9,6 +9,7 @@ use core::ops::{
 impl Add for Duration {
     type Output = Duration;
 
+    #[inline]
     #[track_caller]
     fn add(self, rhs: Duration) -> Duration {
         let fits = self.can_add(rhs);
@@ -21,6 +22,7 @@ impl Add for Duration {
 
 /// Adds a length. `can_add` tells whether the sum is one.
 impl AddAssign for Duration {
+    #[inline]
     #[track_caller]
     fn add_assign(&mut self, rhs: Duration) {
         let fits = self.can_add(rhs);
@@ -33,6 +35,7 @@ impl AddAssign for Duration {
 impl Sub for Duration {
     type Output = Duration;
 
+    #[inline]
     #[track_caller]
     fn sub(self, rhs: Duration) -> Duration {
         let fits = self.can_sub(rhs);
@@ -45,6 +48,7 @@ impl Sub for Duration {
 
 /// Subtracts a length. `can_sub` tells whether the difference is one.
 impl SubAssign for Duration {
+    #[inline]
     #[track_caller]
     fn sub_assign(&mut self, rhs: Duration) {
         let fits = self.can_sub(rhs);
@@ -57,6 +61,7 @@ impl SubAssign for Duration {
 impl Mul<u32> for Duration {
     type Output = Duration;
 
+    #[inline]
     #[track_caller]
     fn mul(self, rhs: u32) -> Duration {
         let fits = self.can_mul(rhs);
@@ -69,6 +74,7 @@ impl Mul<u32> for Duration {
 
 /// Multiplies the length. `can_mul` tells whether the product is one.
 impl MulAssign<u32> for Duration {
+    #[inline]
     #[track_caller]
     fn mul_assign(&mut self, rhs: u32) {
         let fits = self.can_mul(rhs);
@@ -81,6 +87,7 @@ impl MulAssign<u32> for Duration {
 impl Div<u32> for Duration {
     type Output = Duration;
 
+    #[inline]
     fn div(self, rhs: u32) -> Duration {
         Duration {
             micros: self.micros / u64::from(rhs),
@@ -90,6 +97,7 @@ impl Div<u32> for Duration {
 
 /// Divides the length. The divisor must not be 0.
 impl DivAssign<u32> for Duration {
+    #[inline]
     fn div_assign(&mut self, rhs: u32) {
         self.micros /= u64::from(rhs);
     }
@@ -99,6 +107,7 @@ impl DivAssign<u32> for Duration {
 impl Shl<u32> for Duration {
     type Output = Duration;
 
+    #[inline]
     #[track_caller]
     fn shl(self, rhs: u32) -> Duration {
         assert!(rhs < 64, "attempt to shift left with overflow");
@@ -110,6 +119,7 @@ impl Shl<u32> for Duration {
 
 /// Shifts the microseconds left, and keeps the low 64 bits. The shift must be below 64.
 impl ShlAssign<u32> for Duration {
+    #[inline]
     #[track_caller]
     fn shl_assign(&mut self, rhs: u32) {
         assert!(rhs < 64, "attempt to shift left with overflow");
@@ -121,6 +131,7 @@ impl ShlAssign<u32> for Duration {
 impl Shr<u32> for Duration {
     type Output = Duration;
 
+    #[inline]
     #[track_caller]
     fn shr(self, rhs: u32) -> Duration {
         assert!(rhs < 64, "attempt to shift right with overflow");
@@ -132,6 +143,7 @@ impl Shr<u32> for Duration {
 
 /// Shifts the microseconds right. The shift must be below 64.
 impl ShrAssign<u32> for Duration {
+    #[inline]
     #[track_caller]
     fn shr_assign(&mut self, rhs: u32) {
         assert!(rhs < 64, "attempt to shift right with overflow");
