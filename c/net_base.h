@@ -1347,7 +1347,7 @@ bool net_base_retransmission_timeout_take_sample(
     struct net_base_retransmission_timeout *timer, const struct net_base_timeout_bounds *bounds,
     uint64_t time);
 
-/* Doubles the timeout, after it passed. */
+/* Doubles the timeout within the bounds, after it passed. */
 void net_base_retransmission_timeout_expired(
     struct net_base_retransmission_timeout *timer, const struct net_base_timeout_bounds *bounds);
 

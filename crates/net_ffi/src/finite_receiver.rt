@@ -1,7 +1,8 @@
 //! Segments of a stream that ends.
 ghost use Rattle.std.specs.Prelude.{◌≡◌, ◌↔◌, ◌+◌, ◌<◌, ℕ, List, length, IsTrue, MatchResult};
 ghost use Rattle.net_receiver.specs.Finite.{no_end, finite_after, finite_result};
-ghost use Rattle.net_receiver.specs.FiniteHead.{finite_of, HasSoundFinite, next_of};
+ghost use Rattle.net_assembler.specs.RunLists.{IsCanonical};
+ghost use Rattle.net_receiver.specs.FiniteHead.{finite_of, finite_storage_after, HasSoundFinite, next_of};
 ghost use Rattle.net_receiver.specs.FiniteLaws.{MatchesFinite, ReceivesFinite};
 ghost use Rattle.net_ffi.specs.ReceiverParts.{IsPlausible};
 ghost use Rattle.net_ffi.specs.Results.{status_of_finite};
@@ -56,6 +57,10 @@ pub extern "C" fn net_base_finite_receiver_segment(
         bytes.now < no_end → (f : ℕ) (x : List ℕ) → ReceivesFinite f x (finite_of receiver.old storage.old runs.old) →
         MatchesFinite f x position bytes.now is_last → ReceivesFinite f x (finite_of receiver.new storage.new
         runs.new) }
+    ensures stored { IsPlausible (length storage.old) (length runs.old) receiver.old.receiver → position + length
+        bytes.now < no_end → storage.new ≡ finite_storage_after receiver.old storage.old runs.old position bytes.now
+        is_last }
+    ensures canonical { IsCanonical receiver.old.receiver.held → IsCanonical receiver.new.receiver.held }
     ensures sound { IsPlausible (length storage.old) (length runs.old) receiver.old.receiver → HasSoundFinite
         receiver.new storage.new runs.new }
     ensures refused { (IsPlausible (length storage.old) (length runs.old) receiver.old.receiver × (position + length

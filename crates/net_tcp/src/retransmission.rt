@@ -179,7 +179,7 @@ impl RetransmissionTimeout {
         self.timeout = self.estimate.timeout(bounds);
     }
 
-    /// Doubles the timeout, after it passed.
+    /// Doubles the timeout within the bounds, after it passed.
     pub fn expired(&mut self, bounds: TimeoutBounds)
         ensures timeout { self.new.timeout ≡ doubled bounds self.old.timeout }
         ensures estimate { self.new.estimate ≡ self.old.estimate }

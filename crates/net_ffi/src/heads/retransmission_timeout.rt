@@ -39,7 +39,7 @@ pub extern "C" fn net_base_retransmission_timeout_take_sample(
     true
 }
 
-/// Doubles the timeout, after it passed.
+/// Doubles the timeout within the bounds, after it passed.
 #[unsafe(no_mangle)]
 pub extern "C" fn net_base_retransmission_timeout_expired(
     timer: &mut RetransmissionTimeout,

@@ -237,7 +237,7 @@ impl RetransmissionTimeout {
         self.timeout = self.estimate.timeout(bounds);
     }
 
-    /// Doubles the timeout, after it passed.
+    /// Doubles the timeout within the bounds, after it passed.
     ///
     /// # Contract
     ///
