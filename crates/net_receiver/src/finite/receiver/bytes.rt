@@ -15,8 +15,8 @@ use net_ring::Storage;
 
 /// Calls of the receiver of the bytes.
 impl<S: Storage<u8>, const N: usize> FiniteReceiverOver<S, N> {
-    /// Returns the first missing position, as `ReceiverOver::next` does; the end has none here, so what
-    /// is acknowledged is `acknowledged`.
+    /// Returns the first missing position, as `ReceiverOver::next` does. It doesn't count the end:
+    /// `acknowledged` does.
     pub fn next(&self) -> u64
         ensures { result ≡ next_position self.now.receiver }
     {
