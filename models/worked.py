@@ -6,6 +6,7 @@ test expects. A row without a name is worked out by hand from the pages: CALLING
 for lines of modes.
 """
 import assembler
+import closing
 import ending
 import fragments
 import modes
@@ -216,6 +217,13 @@ SENDERS = [
      "acknowledge_sent 52 53: refused; acknowledge_sent 53 52: refused; acknowledge_sent 54 59: refused; spared_from 55: 1; "
      "acknowledge_sent 58 58: done|8 8 0 8 1; mark_sent 0 0: done 0; acknowledge_sent 58 57: refused"),
     (0, 7, "write 1 1: 0|0 0 0 0 1; peek_at 7 1: 0:; acknowledge 7: done; acknowledge 8: refused"),
+    # Of the second three bytes only the first has room before the storage's end, and the others are at its beginning.
+    (5, 10, "acknowledge 10: done|0 0 0 5 1; write 4 1: 4|0 4 4 1 0; peek_at 11 2: 2:; acknowledge 13: done|3 4 1 4 0; "
+     "write 3 2: 3|3 7 4 1 0; peek_at 13 100: 2:; peek_at 14 100: 1:; peek_at 15 100: 2:; peek_at 16 1: 1:; "
+     "peek_at 17 100: 0:; peek_at 12 100: 0:; acknowledge 12: refused|3 7 4; acknowledge 18: refused|3 7 4; "
+     "acknowledge 17: done|7 7 0 5 1; write 6 3: 5|7 12 5 0 0; peek_at 17 100: 5:; acknowledge 19: done|9 12 3 2 0; "
+     "acknowledge 22: done|12 12 0 5 1; write 3 4: 3; acknowledge 24: done|14 15 1 4 0; write 4 5: 4|14 19 5 0 0; "
+     "peek_at 24 9: 3:; peek_at 27 9: 2:"),
     (20, 10, "write 15 1: 15; acknowledge 10 12 14 16 40 13 19: done; spared_from 11: 0; spared_from 12: 2; spared_from 13: 1; "
      "spared_from 14: 5; spared_from 17: 8; spared_from 25: 0; spared_from 30: 0; next_block 9: 12; next_block 12: 13; "
      "next_block 13: 16; next_block 16: 25; next_block 30: 25; send_limit: 25; are_sack_blocks_full: 0; "
@@ -242,6 +250,10 @@ RECEIVERS = [
               "count_new 103 3: 2; count_new 104 6: 6; count_new 104 18: 13; count_new 100 999: 13; count_new 110 3: 0; "
               "count_new 109 5: 2; count_new 112 4: 2; count_new 121 1: 1; count_new 122 9: 0; count_new 0 18446744073709551615: 13; "
               "count_new 1 18446744073709551615: forbidden; count_new 117 0: 0"),
+    (16, 100, "segment 104 1 1: 1; segment 102 1 2: 1; segment 108 2 3: 2; newest_runs 108 2: 2 8-10 2-3; "
+              "segment 105 1 4: 1; newest_runs 105 2: 2 4-6 8-10"),
+    (8, 100, "segment 103 2 1: 2 0 3-5; count_new 103 2: 0; count_new 102 4: 2; count_new 90 40: 6; window_end: 8; "
+             "segment 100 3 2: 3 5 -; window_end: 8"),
     (10, 2 ** 64 - 6, "window_end: none"),
     (5, 2 ** 64 - 6, "window_end: 5"),
     (16, 0, "segment 0 5 1: 5 5 - - -; read 3 2: 3; execute 2 0 0 0: 5 2 14 0#"),
@@ -504,6 +516,11 @@ FRAGMENTS = [
      "is_expired 50: 0; is_expired 51: 1; reset 9: done|0 0 1 0 0 9; assemble: none; set_total_size 0: ok; assemble: 0:"),
     (8, 1, -5, "add 3 1 1: ok|1 3 0 0 0 -5; add 5 1 1: refused|1 3 0; add 4 1 1: ok|1 3 0; add 7 2 1: too_long; "
      "add 8 0 1: ok|1 3 0; add 9 0 1: too_long; is_expired -5: 0; is_expired -4: 1"),
+    # Three fragments out of order, and one of them twice, with other bytes. The next packet never becomes complete.
+    (8, 4, 30, "add 6 2 1: ok|1; add 3 2 2: ok|2; add 6 8 3: too_long|2; set_total_size 8: ok|2; set_total_size 7: other_size; "
+     "overlaps 0 3: 0; overlaps 0 4: 1; overlaps 5 1: 0; assemble: none; add 3 3 4: ok|1; add 0 3 5: ok|1; assemble: 8:; "
+     "reset 60: done|0; set_total_size 9: too_long; set_total_size 2: ok; add 0 1 6: ok|1; is_expired 60: 0; "
+     "is_expired 61: 1; assemble: none"),
 ]
 # Scoreboards: runs, first position, and calls.
 SCOREBOARDS = [
@@ -515,6 +532,17 @@ SCOREBOARDS = [
     (4, 0, "report 10 20 100: 1; report 30 40 100: 1; lost_below 3 10: 0; next_lost 0 3 10: none; report 50 60 100: 1; "
      "lost_below 3 10: 10; next_lost 0 3 10: 0-10; next_lost 10 3 10: none; report 40 41 100: 1|0 60 3 31; "
      "lost_below 3 10: 30; next_lost 10 3 10: 20-30; lost_below 0 10: 50"),
+    (4, 100, "next_hole 100 130: 100-130; report 110 115 200: 1; report 118 119 200: 1; acknowledge 105: done|5 19 2 6; "
+     "next_hole 100 130: 105-110; next_hole 110 130: 115-118; next_hole 118 130: 119-130; next_hole 112 114: none; "
+     "contains 114: 1; first_missing 114: 115; contains 115: 0; first_missing 115: 115; report 112 120 200: 1|5 20 1 10; "
+     "acknowledge 104: done|5 20 1 10; next_hole 0 130: 105-110; acknowledge 110: done|20 20 0 0; next_hole 0 130: 120-130"),
+    # Those at 100, 120 and 140 didn't come: more than 9 bytes of a segment tell that of 100, and then three runs.
+    (4, 100, "report 110 120 200: 1; report 130 140 200: 1; report 150 201 200: 0; next_lost 100 3 10: none; "
+     "next_lost 100 3 9: 100-110; report 150 151 200: 1; next_lost 100 3 1000: 100-110; next_lost 110 3 1000: none; "
+     "next_lost 110 3 5: 120-130; next_lost 130 3 5: none; next_hole 130 200: 140-150; acknowledge 125: done; "
+     "next_lost 0 3 5: 125-130"),
+    (1, 0, "report 5 7 6: 0; report 5 5 6: 0; report 6 5 6: 0; report 5 6 6: 1|0 6 1 1"),
+    (1, 0, "report 1 18446744073709551615 18446744073709551615: 1|0 18446744073709551615 1 18446744073709551614"),
 ]
 # Receivers of streams that end: bytes, runs, first position, and calls.
 ENDINGS = [
@@ -527,6 +555,25 @@ ENDINGS = [
     (2, 1, 100, "segment 100 2 1 0: 2 2|2 2 0 0 - 2 0; is_acceptable 102 0: 1; is_acceptable 102 1: 0; "
      "segment 103 0 0 1: 0 0|2 2 0 0 - 2 0; segment 102 0 0 1: 0 0|2 2 0 0 2 3 1; is_acceptable 103 0: 1; "
      "read 2: 2:; segment 102 0 0 1: 0 0|2 0 2 0 2 3 2"),
+    # The end below a held byte; the end alone and out of order; another end, and bytes past the end; what was missing;
+    # text after the end, the end again, another end.
+    (8, 1, 100, "segment 100 2 1 0: 2 2|2 2 6 0 - 2 0; segment 106 1 2 0: 1 0|2 2 6 1 - 2 0; segment 104 2 3 1: other_end; "
+     "segment 107 0 0 1: 0 0|2 2 6 1 7 2 0; segment 106 0 0 1: other_end; segment 106 2 4 1: other_end|2 2 6 1 7 2 0; "
+     "segment 105 3 5 0: 2 0|2 2 6 1 7 2 0; segment 107 1 6 0: 0 0; segment 200 3 7 0: 0 0|2 2 6 1 7 2 0; "
+     "segment 102 3 8 0: 3 5|7 7 1 0 7 8 1; read 8: 7:; segment 107 3 9 0: 0 0|7 0 8 0 7 8 2; segment 102 5 1 1: 0 0; "
+     "segment 107 1 2 1: other_end; read 8: 0:; segment 108 1 3 0: 0 0|7 0 8 0 7 8 2"),
+    # An end beyond the free window is cut off; one at its end needs no room.
+    (4, 1, 0, "segment 0 6 1 1: 4 4|4 4 0 0 - 4 0; read 9: 4:; segment 4 4 2 1: 4 4|8 4 0 0 8 9 1; read 9: 4:; "
+     "segment 8 0 0 0: 0 0|8 0 4 0 8 9 2"),
+    # The peer's acknowledgements after its end are within a window of 1.
+    (1, 1, 7, "is_acceptable 7 2: 1; is_acceptable 8 0: 0; segment 7 1 1 1: 1 1|1 1 0 0 1 2 1; is_acceptable 9 0: 1; "
+     "read 9: 1:; is_acceptable 9 0: 1; is_acceptable 8 0: 0; is_acceptable 10 0: 0"),
+]
+# Senders of streams that end: bytes, first position, and calls.
+CLOSINGS = [
+    (4, 10, "write 3 1: 3|0 3 0 3 0; mark_sent 14: 0; close: 1|0 4 0 3 1; write 1 2: 0; mark_sent 13: 1|0 4 3 3 1; "
+     "acknowledge 14: 0; is_block 13 14: 0; mark_sent 14: 1|0 4 4 3 1; is_block 12 14: 1; acknowledge 13: 1|3 4 4 0 1; "
+     "acknowledge 14: 1|4 4 4 0 2; acknowledge 13: 0; acknowledge 15: 0|4 4 4 0 2"),
 ]
 # RFC 9293's table of acceptable segments; the window, the estimate and the sum of the RFCs that tcp.py names. The update
 # of a checksum is RFC 1624's example.
@@ -535,7 +582,23 @@ TCP = [
     ("is_acceptable", [100, 0, 100, 1], "0"), ("is_acceptable", [100, 10, 109, 0], "1"),
     ("is_acceptable", [100, 10, 110, 0], "0"), ("is_acceptable", [100, 10, 95, 5], "0"),
     ("is_acceptable", [100, 10, 95, 6], "1"), ("is_acceptable", [100, 10, 95, 99], "1"),
+    ("is_acceptable", [100, 0, 99, 0], "0"), ("is_acceptable", [100, 10, 99, 1], "0"), ("is_acceptable", [100, 10, 99, 2], "1"),
+    ("is_acceptable", [100, 10, 50, 100], "1"), ("is_acceptable", [2 ** 64 - 1, 10, 2 ** 64 - 1, 10], "1"),
     ("scale_for", [65_535], "0"), ("scale_for", [65_536], "1"), ("scale_for", [65_536 << 14], "14"),
+    ("scale_for", [0], "0"), ("scale_for", [131_071], "1"), ("scale_for", [131_072], "2"), ("scale_for", [1 << 40], "14"),
+    # A receiver of 100 bytes that announces units of 4: after 1 byte the number is less by one, and what was promised stays.
+    ("announce", [0, 2, 0, 100], "25 100"), ("announce", [100, 2, 100, 100], "0 100"),
+    ("is_update_due", [100, 2, 100, 149, 100, 1460], "0"), ("is_update_due", [100, 2, 100, 152, 100, 1460], "1"),
+    # One of 4000 bytes, and segments of 1460: 1459 bytes of room aren't announced, 1460 are.
+    ("announce_in_steps", [0, 0, 0, 4000, 4000, 1460], "4000 4000"),
+    ("announce_in_steps", [4000, 0, 4000, 5459, 4000, 1460], "0 4000"),
+    ("announce_in_steps", [4000, 0, 4000, 5460, 4000, 1460], "1460 5460"),
+    ("announce_in_steps", [5460, 0, 4100, 5560, 4000, 1460], "1360 5460"),
+    # A window of 50 after 100; then one of 5 after 120.
+    ("peer_room", [150, 120, 140], "30 0"), ("peer_update", [150, 10, 100, 100, 140, 10, 120, 5], "1 125 10 120"),
+    ("peer_room", [125, 140, 140], "0 0"), ("peer_update", [125, 10, 120, 120, 140, 9, 130, 500], "0 125 10 120"),
+    ("peer_update", [125, 10, 120, 120, 140, 11, 141, 500], "0 125 10 120"), ("peer_room", [125, 125, 140], "0 1"),
+    ("peer_room", [125, 125, 125], "0 0"), ("scaled", [0xffff, 14], "1073725440"),
     ("announce", [0, 2, 1, 100], "24 97"), ("announce", [100, 2, 1, 100], "24 100"),
     ("announce", [0, 15, 1, 100], "forbidden"), ("announce", [0, 0, 5, 4], "forbidden"),
     ("announce_in_steps", [100, 0, 100, 150, 100, 50], "50 150"), ("announce_in_steps", [100, 0, 100, 149, 100, 50], "0 100"),
@@ -544,10 +607,16 @@ TCP = [
     ("peer_update", [200, 10, 100, 110, 150, 10, 109, 30], "0 200 10 100"),
     ("peer_update", [200, 10, 100, 110, 150, 10, 151, 30], "0 200 10 100"),
     ("updated_checksum", [0xdd2f, 0x5555, 0x3285], "0"),
+    ("updated_checksum", [0xb861, 0x4011, 0x3f11], str(0xb961)),
     ("first_sample", [100_000], "800000 200000"), ("next_sample", [800_000, 200_000, 100_000], "800000 150000"),
+    # After a sample of 800 ms RTTVAR is 400 ms; after one of 400 ms more SRTT is 750 ms, and RTTVAR 400 ms.
+    ("first_sample", [800_000], "6400000 1600000"), ("next_sample", [6_400_000, 1_600_000, 400_000], "6000000 1600000"),
+    ("timeout", [6_400_000, 1_600_000, 1_000_000, 60_000_000, 1], "2400000"),
+    ("timeout", [6_000_000, 1_600_000, 1_000_000, 60_000_000, 1], "2350000"),
     ("timeout", [800_000, 200_000, 0, 60_000_000, 1], "300000"),
     ("timeout", [800_000, 200_000, 1_000_000, 60_000_000, 1], "1000000"),
     ("expired", [1_000_000, 1_000_000, 60_000_000], "2000000"), ("expired", [40_000_000, 0, 60_000_000], "60000000"),
+    ("expired", [2 ** 64 - 1, 1_000_000, 60_000_000], "60000000"),
 ]
 
 
@@ -627,6 +696,10 @@ def add_ends(cases):
     for capacity, most, first, text in ENDINGS:
         subject = ending.Ending(capacity, most, first)
         play(cases, f"ending {capacity} {most} {first}", subject, text,
+             lambda name, numbers: getattr(subject, name)(*numbers))
+    for capacity, first, text in CLOSINGS:
+        subject = closing.Closing(capacity, first)
+        play(cases, f"closing {capacity} {first}", subject, text,
              lambda name, numbers: getattr(subject, name)(*numbers))
     cases.begin("tcp")
     for name, numbers, reply in TCP:

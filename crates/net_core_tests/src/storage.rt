@@ -2,7 +2,6 @@
 
 mod assembler;
 mod assembler_text;
-mod assertions;
 mod counted;
 mod packets;
 mod ring;

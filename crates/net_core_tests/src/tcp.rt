@@ -3,4 +3,3 @@
 mod receiving;
 mod sums;
 mod timeouts;
-mod windows;

@@ -1,5 +1,5 @@
 //! Packets of three sources in two slots.
-use crate::base::assertions::assert_holds;
+use crate::assertions::assert_holds;
 use net_base::storage::fragments::table::{
     FragmentSlot, claim, find, remove_expired, take_complete,
 };

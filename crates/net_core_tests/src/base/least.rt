@@ -1,4 +1,5 @@
 //! A number below a bound, and the earliest of moments that may be missing.
+use crate::assertions::assert_holds;
 use net_base::rand::Rand;
 use net_base::time::{Instant, earlier, earliest};
 
@@ -15,20 +16,44 @@ fn draws_below(seed: u64, bound: u32, number: u32) -> bool {
 /// The first words of the seeds 0 and 1 are 3 and 788327601.
 #[test]
 fn numbers_below_a_bound(rt: HostRuntime) {
-    assert!(rt; draws_below(0, 6, 0) && draws_below(0, 0xffff_ffff, 2));
-    assert!(rt; draws_below(1, 6, 1) && draws_below(1, 100, 18) && draws_below(1, 1, 0));
-    assert!(rt; draws_below(1, 0, 0));
+    assert_holds(
+        &rt,
+        draws_below(0, 6, 0) && draws_below(0, 0xffff_ffff, 2),
+        ("step", 1),
+    );
+    assert_holds(
+        &rt,
+        draws_below(1, 6, 1) && draws_below(1, 100, 18) && draws_below(1, 1, 0),
+        ("step", 2),
+    );
+    assert_holds(&rt, draws_below(1, 0, 0), ("step", 3));
 }
 
 #[test]
 fn the_earlier_of_two(rt: HostRuntime) {
-    assert!(rt; earlier(moment(-2), moment(3)) == moment(-2));
-    assert!(rt; earlier(moment(3), None) == moment(3) && earlier(None, moment(3)) == moment(3));
-    assert!(rt; earlier(None, None).is_none());
+    assert_holds(
+        &rt,
+        earlier(moment(-2), moment(3)) == moment(-2),
+        ("step", 1),
+    );
+    assert_holds(
+        &rt,
+        earlier(moment(3), None) == moment(3) && earlier(None, moment(3)) == moment(3),
+        ("step", 2),
+    );
+    assert_holds(&rt, earlier(None, None).is_none(), ("step", 3));
 }
 
 #[test]
 fn the_earliest_of_some(rt: HostRuntime) {
-    assert!(rt; earliest(&[moment(5), None, moment(-7), moment(9)]) == moment(-7));
-    assert!(rt; earliest(&[None, None]).is_none() && earliest(&[]).is_none());
+    assert_holds(
+        &rt,
+        earliest(&[moment(5), None, moment(-7), moment(9)]) == moment(-7),
+        ("step", 1),
+    );
+    assert_holds(
+        &rt,
+        earliest(&[None, None]).is_none() && earliest(&[]).is_none(),
+        ("step", 2),
+    );
 }

@@ -10,6 +10,7 @@ mod non_zero_usize;
 mod packet_meta;
 mod rx_token;
 
+use crate::assertions::assert_holds;
 use net_base::phy::{Device, Loopback, Medium, NonZeroU16, NonZeroUsize, PacketMeta, RxToken};
 use net_base::time::Instant;
 use std::alloc::{AllocError, Allocator};
@@ -84,8 +85,24 @@ fn cut_to(size: u16) -> PacketMeta {
 
 #[test]
 fn what_differs_is_not_equal(rt: HostRuntime) {
-    assert!(rt; tells_apart(&Medium::Ip, &Medium::Ethernet));
-    assert!(rt; tells_apart(&cut_to(1_448), &cut_to(1_449)) && tells_apart(&cut_to(1), &cut_to(0)));
-    assert!(rt; tells_apart(&NonZeroU16::new(256), &NonZeroU16::new(257)));
-    assert!(rt; tells_apart(&NonZeroUsize::new(1 << 32), &NonZeroUsize::new(1)));
+    assert_holds(
+        &rt,
+        tells_apart(&Medium::Ip, &Medium::Ethernet),
+        ("step", 1),
+    );
+    assert_holds(
+        &rt,
+        tells_apart(&cut_to(1_448), &cut_to(1_449)) && tells_apart(&cut_to(1), &cut_to(0)),
+        ("step", 2),
+    );
+    assert_holds(
+        &rt,
+        tells_apart(&NonZeroU16::new(256), &NonZeroU16::new(257)),
+        ("step", 3),
+    );
+    assert_holds(
+        &rt,
+        tells_apart(&NonZeroUsize::new(1 << 32), &NonZeroUsize::new(1)),
+        ("step", 4),
+    );
 }

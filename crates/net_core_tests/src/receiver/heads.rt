@@ -1,7 +1,9 @@
-//! Heads at their ends: of a stream that ends, of a scoreboard and of a sender that begin elsewhere.
-use crate::receiver::assertions::assert_holds;
+//! Heads at their ends: of streams that end, of a scoreboard and of a sender that begin elsewhere.
+use crate::assertions::assert_holds;
 use net_assembler::Run;
-use net_receiver::{FiniteReceiverHead, ReceiverHead, ScoreboardHead, SenderHead};
+use net_receiver::{
+    FiniteReceiverHead, FiniteSenderHead, ReceiverHead, ScoreboardHead, SenderHead,
+};
 
 /// No run.
 const NONE: Run = Run { start: 0, end: 0 };
@@ -22,14 +24,22 @@ fn ends_at_seven(head: &mut FiniteReceiverHead, storage: &mut [u8], runs: &mut [
         && head.is_acceptable(storage, runs, 8, 1)
 }
 
-/// Returns whether no byte of a new receiver is queued or held at 5 or above.
+/// Returns whether no byte of a new receiver is queued or held at 5 or above, and it is in its own state.
 fn has_nothing(head: &ReceiverHead, storage: &[u8], runs: &[Run]) -> bool {
-    head.is_sound(storage, runs) && head.has_all_below(storage, runs, 5)
+    head.is_sound(storage, runs)
+        && head.has_all_below(storage, runs, 5)
+        && head.is_same_state(storage, runs, head, storage, runs)
 }
 
-/// Returns whether nothing below 9 is expected by a scoreboard that begins there.
-fn begins_at_nine(head: &ScoreboardHead, runs: &[Run]) -> bool {
-    head.is_sound(runs) && head.first_unreported(runs) == 9
+/// Returns whether this is the first position that wasn't reported to a scoreboard.
+fn begins_at(head: &ScoreboardHead, runs: &[Run], first: u64) -> bool {
+    head.is_sound(runs) && head.first_unreported(runs) == first
+}
+
+/// Returns whether a sender of a stream that begins at 9 has its first number there.
+fn sends_from_nine() -> bool {
+    let head = FiniteSenderHead::new(9);
+    head.is_sound(4) && head.first_number(4) == 9
 }
 
 #[test]
@@ -41,8 +51,11 @@ fn heads_at_their_ends(rt: HostRuntime) {
     assert_holds(&rt, ends, ("end", 7));
     let nothing = has_nothing(&ReceiverHead::new(5), &storage, &runs);
     assert_holds(&rt, nothing, ("below", 5));
-    let begins = begins_at_nine(&ScoreboardHead::new_at(9), &runs);
+    let begins = begins_at(&ScoreboardHead::new_at(9), &runs, 9);
     assert_holds(&rt, begins, ("unreported", 9));
+    let begins = begins_at(&ScoreboardHead::new(), &runs, 0);
+    assert_holds(&rt, begins, ("unreported", 0));
+    assert_holds(&rt, sends_from_nine(), ("number", 9));
     let fits = SenderHead::new(u64::MAX).end_fits();
     assert_holds(&rt, fits, ("a sender's end", 0));
 }

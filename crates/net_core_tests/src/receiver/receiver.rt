@@ -1,6 +1,6 @@
 //! What the rows of `net_cases` don't show: two receivers of streams that begin at different positions, and what
 //! storage has once its receiver is gone.
-use crate::receiver::assertions::assert_holds;
+use crate::assertions::assert_holds;
 use net_receiver::Receiver;
 use net_ring::ManagedSlice;
 

@@ -2,7 +2,7 @@
 ghost use Rattle.std.specs.Prelude.{All, IfOk};
 ghost use Rattle.net_receiver.specs.Commands.{CommandFits};
 
-use crate::receiver::assertions::{assert_count, assert_holds};
+use crate::assertions::{assert_count, assert_holds};
 use net_io::testing::Refusing;
 use net_receiver::{Command, Receiver, Reply, execute, replay};
 use net_ring::ManagedSlice;

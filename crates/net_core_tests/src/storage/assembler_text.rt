@@ -1,5 +1,5 @@
 //! What no clause says of the text of an assembler: where a write fails, it ends.
-use crate::storage::assertions::assert_holds;
+use crate::assertions::assert_holds;
 use net_assembler::Assembler;
 use std::fmt::{self, Write};
 

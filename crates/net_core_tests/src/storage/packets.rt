@@ -3,6 +3,5 @@
 mod clones;
 mod drops;
 mod head;
-mod head_slots;
 mod lengths;
 mod packet_buffer;

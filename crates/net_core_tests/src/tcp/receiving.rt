@@ -1,4 +1,5 @@
 //! The receiving side of a TCP: numbers that wrap, the window that is announced, and the end.
+use crate::assertions::assert_holds;
 use net_receiver::{FiniteReceiver, SequenceNumber};
 use net_ring::ManagedSlice;
 use net_tcp::{AdvertisedWindow, MAX_SCALE};
@@ -45,13 +46,17 @@ fn a_stream_is_received(rt: HostRuntime) {
     let initial = SequenceNumber::new(0xffff_fffe);
     arrives(&mut receiver, initial, SequenceNumber::new(1), b"def", true);
     let told = acknowledgement(&receiver, &mut window, initial, 0);
-    assert_eq!(rt; told, (0xffff_fffe, 8));
+    assert_holds(&rt, told == (0xffff_fffe, 8), ("step", 1));
     arrives(&mut receiver, initial, initial, b"abc", false);
     let told = acknowledgement(&receiver, &mut window, initial, 0);
-    assert_eq!(rt; told, (5, 2));
+    assert_holds(&rt, told == (5, 2), ("step", 2));
     let mut into = [0u8; 8];
-    assert_eq!(rt; receiver.read(&mut into), 6);
-    assert!(rt; into.starts_with(b"abcdef") && receiver.has_read_all());
+    assert_holds(&rt, receiver.read(&mut into) == 6, ("step", 3));
+    assert_holds(
+        &rt,
+        into.starts_with(b"abcdef") && receiver.has_read_all(),
+        ("step", 4),
+    );
     let told = acknowledgement(&receiver, &mut window, initial, 0);
-    assert_eq!(rt; told, (5, 8));
+    assert_holds(&rt, told == (5, 8), ("step", 5));
 }

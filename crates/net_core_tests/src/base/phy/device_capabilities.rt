@@ -1,4 +1,5 @@
 //! Sizes of packets and fragments that a device's capabilities allow.
+use crate::assertions::assert_holds;
 use net_base::phy::{ChecksumCapabilities, DeviceCapabilities, Medium};
 use std::alloc::AllocError;
 
@@ -46,17 +47,21 @@ fn sizes_that_fit(rt: HostRuntime) {
         (Medium::Ethernet, 1513, Some(1499), Some(1472)),
         (Medium::Ip, 1500, Some(1500), Some(1480)),
     ] {
-        assert!(rt; has_sizes(row), "at {}", row.1);
+        assert_holds(&rt, has_sizes(row), ("bytes", row.1));
     }
 }
 
 #[test]
 fn sizes_that_do_not_fit(rt: HostRuntime) {
     let medium = DeviceCapabilities::default().medium;
-    assert!(rt; has_sizes((medium, 14, Some(0), None)));
-    assert!(rt; has_sizes((medium, 13, None, None)));
+    assert_holds(&rt, has_sizes((medium, 14, Some(0), None)), ("step", 1));
+    assert_holds(&rt, has_sizes((medium, 13, None, None)), ("step", 2));
     let by_default = DeviceCapabilities::default();
-    assert!(rt; !by_default.has_ip_mtu() && !by_default.fits_ip_header(0));
+    assert_holds(
+        &rt,
+        !by_default.has_ip_mtu() && !by_default.fits_ip_header(0),
+        ("step", 3),
+    );
 }
 
 /// Returns whether a checksum of each kind is handled, in and out.
@@ -72,7 +77,11 @@ fn ignores(checksum: &ChecksumCapabilities) -> bool {
 #[test]
 fn handles_all_checksums_or_none(rt: HostRuntime) {
     let all = handles(&DeviceCapabilities::default().checksum);
-    assert!(rt; all && ignores(&ChecksumCapabilities::ignored()));
+    assert_holds(
+        &rt,
+        all && ignores(&ChecksumCapabilities::ignored()),
+        ("step", 1),
+    );
 }
 
 /// Returns whether a copy was made, and has this greatest size of a frame.
@@ -86,5 +95,5 @@ fn is_copy(made: Result<DeviceCapabilities, AllocError>, size: usize) -> bool {
 #[test]
 fn clones(rt: HostRuntime) {
     let capabilities = with_size(Medium::Ethernet, 1514);
-    assert!(rt; is_copy(capabilities.clone(), 1514));
+    assert_holds(&rt, is_copy(capabilities.clone(), 1514), ("step", 1));
 }

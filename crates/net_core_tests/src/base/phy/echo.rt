@@ -3,6 +3,7 @@ ghost use Rattle.std.specs.Prelude.{◌≡◌, ◌∷◌, ◌++◌, [], List, �
 ghost use Rattle.net_base.specs.DeviceCapabilities.{default_capabilities};
 
 use super::{is_over, next_has_length, next_is, sends, write_length};
+use crate::assertions::assert_holds;
 use net_base::phy::{
     Device, DeviceCapabilities, Loopback, Medium, RxToken, TxToken, echo_once, loopback,
 };
@@ -35,14 +36,26 @@ fn finds_nothing(device: &mut Loopback) -> bool {
 fn echoes_on_a_loopback_device(rt: HostRuntime) {
     let mut device = Loopback::new(rt.alloc(), Medium::Ethernet);
     let sent = sends(&mut device, b"ab") && sends(&mut device, b"cd");
-    assert!(rt; sent && rotates_at(&mut device, 0) && next_is(&mut device, b"cd"));
-    assert!(rt; next_is(&mut device, b"ab") && is_over(&mut device));
+    assert_holds(
+        &rt,
+        sent && rotates_at(&mut device, 0) && next_is(&mut device, b"cd"),
+        ("step", 1),
+    );
+    assert_holds(
+        &rt,
+        next_is(&mut device, b"ab") && is_over(&mut device),
+        ("step", 2),
+    );
 }
 
 #[test]
 fn finds_nothing_on_an_empty_device(rt: HostRuntime) {
     let mut device = Loopback::new(rt.alloc(), Medium::Ethernet);
-    assert!(rt; finds_nothing(&mut device) && is_over(&mut device));
+    assert_holds(
+        &rt,
+        finds_nothing(&mut device) && is_over(&mut device),
+        ("step", 1),
+    );
 }
 
 /// Sends a frame of that length, and returns whether there was memory for it.
@@ -58,17 +71,25 @@ fn comes_back(device: &mut Loopback, length: usize) -> bool {
 
 /// Checks that a frame of that length comes back.
 fn check_length(rt: &impl Abort, device: &mut Loopback, length: usize) {
-    assert!(rt; comes_back(device, length), "at {length} bytes");
+    assert_holds(rt, comes_back(device, length), ("bytes", length));
 }
 
 #[test]
 fn echoes_at_any_moment(rt: HostRuntime) {
     let mut device = Loopback::new(rt.alloc(), Medium::Ethernet);
-    assert!(rt; sends(&mut device, b"ab"));
+    assert_holds(&rt, sends(&mut device, b"ab"), ("step", 1));
     for micros in [i64::MIN, -1, 1, 1_000_000, i64::MAX] {
-        assert!(rt; rotates_at(&mut device, micros), "at {micros}");
+        assert_holds(
+            &rt,
+            rotates_at(&mut device, micros),
+            ("at", micros.unsigned_abs() as usize),
+        );
     }
-    assert!(rt; next_is(&mut device, b"ab") && is_over(&mut device));
+    assert_holds(
+        &rt,
+        next_is(&mut device, b"ab") && is_over(&mut device),
+        ("step", 3),
+    );
 }
 
 #[test]
@@ -91,15 +112,15 @@ fn frames_of_many_lengths_are_sent_and_sent_back(rt: HostRuntime) {
 fn a_thousand_frames_at_a_time_keep_their_order(rt: HostRuntime) {
     let mut device = Loopback::new(rt.alloc(), Medium::Ethernet);
     for length in 0..1_000 {
-        assert!(rt; sends_length(&mut device, length), "at {length} bytes");
+        assert_holds(&rt, sends_length(&mut device, length), ("bytes", length));
     }
     for length in 0..1_000usize {
-        assert!(rt; rotates_at(&mut device, 0), "at {length} bytes");
+        assert_holds(&rt, rotates_at(&mut device, 0), ("bytes", length));
     }
     for length in 0..1_000 {
-        assert!(rt; next_has_length(&mut device, length), "at {length} bytes");
+        assert_holds(&rt, next_has_length(&mut device, length), ("bytes", length));
     }
-    assert!(rt; is_over(&mut device));
+    assert_holds(&rt, is_over(&mut device), ("step", 4));
 }
 
 /// A device without frames, which stores the moment at which it was last asked for one.
@@ -168,7 +189,11 @@ fn asks_at_the_moment_that_it_was_given(rt: HostRuntime) {
         1_700_000_000_123_456,
         i64::MAX,
     ] {
-        assert!(rt; is_asked_at(&mut device, micros), "at {micros}");
+        assert_holds(
+            &rt,
+            is_asked_at(&mut device, micros),
+            ("at", micros.unsigned_abs() as usize),
+        );
     }
 }
 
@@ -226,6 +251,10 @@ fn is_expected(outcome: &Outcome, echoed: bool) -> bool {
 fn its_request_for_memory_is_refused(rt: HostRuntime) {
     for refused in 3..5usize {
         let outcome = rotate_refused(rt.alloc(), refused);
-        assert!(rt; is_expected(&outcome, refused == 4), "at request {refused}");
+        assert_holds(
+            &rt,
+            is_expected(&outcome, refused == 4),
+            ("request", refused),
+        );
     }
 }

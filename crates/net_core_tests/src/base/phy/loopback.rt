@@ -2,6 +2,7 @@
 ghost use Rattle.std.specs.Prelude.{◌≡◌, List, ℕ, [], ◌∷◌, ◌++◌, codes, OnOk, IsTrue};
 
 use super::{is_over, next_is, sends};
+use crate::assertions::assert_holds;
 use net_base::phy::loopback::{Loopback, RxToken, TxToken};
 use net_base::phy::{Device, Medium, PacketMeta, RxToken as _, TxToken as _};
 use net_base::time::Instant;
@@ -31,7 +32,7 @@ fn frames_come_in_order_until_none_is_left(rt: HostRuntime) {
     let mut device = Loopback::new(rt.alloc(), Medium::Ethernet);
     let sent = sends(&mut device, b"ab") && sends(&mut device, b"");
     let came = let_go(&mut device) && next_is(&mut device, b"");
-    assert!(rt; sent && came && is_over(&mut device));
+    assert_holds(&rt, sent && came && is_over(&mut device), ("step", 1));
 }
 
 /// Spends the token of one device on another, and returns whether the frame arrives only there.
@@ -43,7 +44,7 @@ fn comes_elsewhere(from: &mut Loopback, to: &mut Loopback) -> bool {
 fn a_token_sends_where_it_is_spent(rt: HostRuntime) {
     let mut from = Loopback::new(rt.alloc(), Medium::Ethernet);
     let mut to = Loopback::new(rt.alloc(), Medium::Ip);
-    assert!(rt; comes_elsewhere(&mut from, &mut to));
+    assert_holds(&rt, comes_elsewhere(&mut from, &mut to), ("step", 1));
 }
 
 /// Sends a frame of `length` bytes as it was lent, and returns whether it was lent as zeros.
@@ -75,10 +76,10 @@ fn says_what_it_can(device: &Loopback) -> bool {
 #[test]
 fn sends_frames_beyond_its_longest(rt: HostRuntime) {
     let mut device = Loopback::new(rt.alloc(), Medium::Ip);
-    assert!(rt; says_what_it_can(&device));
+    assert_holds(&rt, says_what_it_can(&device), ("step", 1));
     for length in [65_536, 70_001, 100_000, 1_000_000] {
         let passed = sends_zeros(&mut device, length) && consumes_length(&mut device, length);
-        assert!(rt; passed, "at {length} bytes");
+        assert_holds(&rt, passed, ("bytes", length));
     }
 }
 
@@ -114,10 +115,10 @@ fn its_tokens_have_no_metadata(rt: HostRuntime) {
         &[7; 70_000],
     ] {
         let sent = sends(&mut device, frame);
-        assert!(rt;
+        assert_holds(
+            &rt,
             sent && comes_unmarked(&mut device),
-            "{} bytes",
-            frame.len()
+            ("bytes", frame.len()),
         );
     }
 }
@@ -153,8 +154,12 @@ fn asks_for_little(memory: &Refusing, count: usize, growths: usize) -> bool {
 fn a_queue_grows_by_doubling_and_gives_all_back(rt: HostRuntime) {
     for (count, growths) in [(20usize, 4usize), (200, 7)] {
         let memory = Refusing::new(rt.alloc(), usize::MAX);
-        assert!(rt; asks_for_little(&memory, count, growths), "{count} frames");
-        assert!(rt; memory.live() == 0, "{count} frames");
+        assert_holds(
+            &rt,
+            asks_for_little(&memory, count, growths),
+            ("frames", count),
+        );
+        assert_holds(&rt, memory.live() == 0, ("frames", count));
     }
 }
 
@@ -253,9 +258,10 @@ fn each_request_for_memory_is_refused_in_turn(rt: HostRuntime) {
     for (refused, sent) in [0, 0, 1, 2, 3, 4, 4, 5].iter().enumerate() {
         let outcome = send_refused(rt.alloc(), refused);
         let requests = refused.min(6).saturating_add(1);
-        assert!(rt;
+        assert_holds(
+            &rt,
             is_expected(&outcome, *sent, requests),
-            "at request {refused}"
+            ("request", refused),
         );
     }
 }
@@ -277,7 +283,11 @@ fn refuses_greatest(device: &mut Loopback) -> bool {
 fn a_frame_beyond_all_memory_is_refused(rt: HostRuntime) {
     let mut device = Loopback::new(rt.alloc(), Medium::Ip);
     let refused = sends(&mut device, b"ab") && refuses_greatest(&mut device);
-    assert!(rt; refused && next_is(&mut device, b"ab") && is_over(&mut device));
+    assert_holds(
+        &rt,
+        refused && next_is(&mut device, b"ab") && is_over(&mut device),
+        ("step", 1),
+    );
 }
 
 /// Sends a frame of `length` bytes, and returns whether there was memory for it.
@@ -302,9 +312,10 @@ fn asked_for(alloc: Global, length: usize) -> usize {
 #[test]
 fn a_frame_asks_for_as_many_bytes_as_it_has(rt: HostRuntime) {
     for length in [1, 2, 200, 300, 301, 1_514, 65_536, 1_000_000] {
-        assert!(rt;
+        assert_holds(
+            &rt,
             asked_for(rt.alloc(), length) == length,
-            "at {length} bytes"
+            ("bytes", length),
         );
     }
 }
@@ -321,7 +332,11 @@ fn requests_after_idling(alloc: Global) -> Option<usize> {
 /// The room of the queue is asked for once: three requests, with those for two frames.
 #[test]
 fn a_device_without_frames_keeps_its_room(rt: HostRuntime) {
-    assert!(rt; requests_after_idling(rt.alloc()) == Some(3));
+    assert_holds(
+        &rt,
+        requests_after_idling(rt.alloc()) == Some(3),
+        ("step", 1),
+    );
 }
 
 /// Takes one frame off and drops it, and consumes another. Returns whether both were there.
@@ -347,6 +362,6 @@ fn gives_back(alloc: Global, length: usize) -> bool {
 #[test]
 fn a_frame_that_is_taken_gives_its_bytes_back(rt: HostRuntime) {
     for length in [1, 3, 1_514, 70_000] {
-        assert!(rt; gives_back(rt.alloc(), length), "at {length} bytes");
+        assert_holds(&rt, gives_back(rt.alloc(), length), ("bytes", length));
     }
 }

@@ -1,4 +1,5 @@
 //! Metadata of packets, compared and hashed.
+use crate::assertions::assert_holds;
 use net_base::phy::{NonZeroU16, PacketMeta};
 use std::hash::{DefaultHasher, Hash, Hasher};
 
@@ -12,13 +13,25 @@ fn hash_of(meta: PacketMeta) -> u64 {
 #[test]
 fn equal_metadata_hash_alike(rt: HostRuntime) {
     let plain = PacketMeta::default();
-    assert!(rt; plain.id == 0 && plain.segmentation_offload_size.is_none());
+    assert_holds(
+        &rt,
+        plain.id == 0 && plain.segmentation_offload_size.is_none(),
+        ("step", 1),
+    );
     let marked = PacketMeta {
         id: 7,
         segmentation_offload_size: NonZeroU16::new(1_448),
     };
-    assert!(rt; marked != plain);
-    assert!(rt; marked.clone().is_ok_and(|copy| copy == marked));
+    assert_holds(&rt, marked != plain, ("step", 2));
+    assert_holds(
+        &rt,
+        marked.clone().is_ok_and(|copy| copy == marked),
+        ("step", 3),
+    );
     let again = PacketMeta { id: 7, ..marked };
-    assert!(rt; again == marked && hash_of(again) == hash_of(marked));
+    assert_holds(
+        &rt,
+        again == marked && hash_of(again) == hash_of(marked),
+        ("step", 4),
+    );
 }

@@ -3,6 +3,7 @@ ghost use Rattle.std.specs.Prelude.{◌≡◌};
 ghost use Rattle.net_base.specs.PacketMeta.{no_metadata};
 
 use super::sends;
+use crate::assertions::assert_holds;
 use net_base::phy::{Device, Loopback, Medium, PacketMeta, RxToken};
 use net_base::time::Instant;
 
@@ -52,8 +53,8 @@ fn a_token_can_carry_metadata(rt: HostRuntime) {
         meta,
     };
     let (first, shown) = first_byte_and_meta(token);
-    assert!(rt; first == Some(b'a'));
-    assert!(rt; shown == meta);
+    assert_holds(&rt, first == Some(b'a'), ("step", 1));
+    assert_holds(&rt, shown == meta, ("step", 2));
 }
 
 /// Takes the next frame off, and returns whether it begins with this byte and has no metadata.
@@ -67,5 +68,9 @@ fn comes_plain(device: &mut Loopback, byte: u8) -> bool {
 #[test]
 fn a_loopback_frame_has_no_metadata(rt: HostRuntime) {
     let mut device = Loopback::new(rt.alloc(), Medium::Ip);
-    assert!(rt; sends(&mut device, b"bc") && comes_plain(&mut device, b'b'));
+    assert_holds(
+        &rt,
+        sends(&mut device, b"bc") && comes_plain(&mut device, b'b'),
+        ("step", 1),
+    );
 }

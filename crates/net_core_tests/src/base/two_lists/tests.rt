@@ -2,6 +2,7 @@
 ghost use Rattle.std.specs.Prelude.{◌≡◌, ◌∷◌, ◌++◌, [], List, ℕ, Ok, true, false};
 
 use super::*;
+use crate::assertions::assert_holds;
 use net_base::phy::echo_once;
 use net_io::testing::Refusing;
 
@@ -58,8 +59,12 @@ fn echoes_over_two_lists(rt: HostRuntime) {
     let mut device = without_frames(rt.alloc());
     let waits = put(&mut device.to_come, rt.alloc(), b"ab").is_ok();
     let is_put = put(&mut device.sent, rt.alloc(), b"xy").is_ok();
-    assert!(rt; waits && is_put && is_sent_back(&mut device, 7, true));
-    assert!(rt; is_sent_back(&mut device, 8, false));
+    assert_holds(
+        &rt,
+        waits && is_put && is_sent_back(&mut device, 7, true),
+        ("step", 1),
+    );
+    assert_holds(&rt, is_sent_back(&mut device, 8, false), ("step", 2));
 }
 
 /// A frame of 1,514 bytes is sent back as its token was.
@@ -67,8 +72,16 @@ fn echoes_over_two_lists(rt: HostRuntime) {
 fn a_long_echo_has_no_metadata(rt: HostRuntime) {
     let mut device = without_frames(rt.alloc());
     let waits = put(&mut device.to_come, rt.alloc(), &[7; 1_514]).is_ok();
-    assert!(rt; waits && send_back(&mut device, Instant::ZERO) == Ok(true));
-    assert!(rt; device.sent_with == 0 && device.rooms == 0 && is_back(&device.sent, &[7; 1_514]));
+    assert_holds(
+        &rt,
+        waits && send_back(&mut device, Instant::ZERO) == Ok(true),
+        ("step", 1),
+    );
+    assert_holds(
+        &rt,
+        device.sent_with == 0 && device.rooms == 0 && is_back(&device.sent, &[7; 1_514]),
+        ("step", 2),
+    );
 }
 
 /// Puts in two received frames and four that were sent.
@@ -114,6 +127,6 @@ fn goes_so(alloc: Global, (refused, succeeds, requests): (usize, bool, usize)) -
 #[test]
 fn each_refusal_takes_the_frame_and_sends_nothing(rt: HostRuntime) {
     for row in [(8, false, 9), (9, false, 10), (10, true, 10)] {
-        assert!(rt; goes_so(rt.alloc(), row), "request {}", row.0);
+        assert_holds(&rt, goes_so(rt.alloc(), row), ("request", row.0));
     }
 }

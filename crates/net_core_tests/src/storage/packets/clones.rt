@@ -1,4 +1,5 @@
 //! A clone of a slot clones its header once.
+use crate::assertions::assert_holds;
 use net_packets::{PacketBuffer, PacketMetadata};
 use net_ring::ManagedSlice;
 use std::alloc::AllocError;
@@ -52,8 +53,8 @@ fn a_slot_clones_its_header_once(rt: HostRuntime) -> Result<(), Fail> {
     for size in 0..2 {
         let clones = Cell::new(0);
         let drops = Cell::new(0);
-        assert!(rt; clones_slots(&clones, &drops, size)?);
-        assert_eq!(rt; (clones.get(), drops.get()), (1, 2));
+        assert_holds(&rt, clones_slots(&clones, &drops, size)?, ("step", 1));
+        assert_holds(&rt, (clones.get(), drops.get()) == (1, 2), ("step", 2));
     }
     Ok(())
 }

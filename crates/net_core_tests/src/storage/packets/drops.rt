@@ -1,4 +1,5 @@
 //! The headers and closures that a packet queue is given are dropped once, whatever a call returns.
+use crate::assertions::assert_holds;
 use crate::storage::counted::Counted;
 use net_packets::{PacketBuffer, PacketMetadata};
 use net_ring::{Empty, ManagedSlice};
@@ -32,8 +33,8 @@ fn queue_refuses(alloc: Global, count: usize, drops: &Cell<u32>) -> Result<bool,
 fn refused_closures_are_dropped(rt: HostRuntime) -> Result<(), Fail> {
     for count in [0, 1, 2, 300, 70000, 100000] {
         let drops = Cell::new(0);
-        assert!(rt; queue_refuses(rt.alloc(), count, &drops)?);
-        assert_eq!(rt; drops.get(), 1);
+        assert_holds(&rt, queue_refuses(rt.alloc(), count, &drops)?, ("step", 1));
+        assert_holds(&rt, drops.get() == 1, ("step", 2));
     }
     Ok(())
 }
@@ -117,8 +118,16 @@ fn drops_of_queue(
 #[test]
 fn every_header_is_dropped_once(rt: HostRuntime) -> Result<(), Fail> {
     for taken in [0, 1, 2, 3, 50, 99, 100] {
-        assert_eq!(rt; drops_of_queue(rt.alloc(), 100, taken, false)?, Some(100));
-        assert_eq!(rt; drops_of_queue(rt.alloc(), 100, taken, true)?, Some(200));
+        assert_holds(
+            &rt,
+            drops_of_queue(rt.alloc(), 100, taken, false)? == Some(100),
+            ("step", 1),
+        );
+        assert_holds(
+            &rt,
+            drops_of_queue(rt.alloc(), 100, taken, true)? == Some(200),
+            ("step", 2),
+        );
     }
     Ok(())
 }
@@ -242,9 +251,9 @@ fn every_value_is_dropped_once_whatever_the_calls(rt: HostRuntime) -> Result<(),
     for number in 0..300u32 {
         let room = (number % 6, (number / 6 % 12) as usize);
         let (_, given, dropped) = drops_of_calls(rt.alloc(), room, false, number)?;
-        assert_eq!(rt; given, dropped);
+        assert_holds(&rt, given == dropped, ("step", 1));
         let (at_once, given, dropped) = drops_of_calls(rt.alloc(), room, true, number)?;
-        assert!(rt; at_once && given == dropped);
+        assert_holds(&rt, at_once && given == dropped, ("step", 2));
     }
     Ok(())
 }

@@ -1,82 +1,71 @@
-//! The numbers of a packet queue by themselves.
-ghost use Rattle.std.specs.Prelude.{◌≡◌};
-ghost use Rattle.net_ring.specs.RingHead.{place};
-ghost use Rattle.net_packets.specs.PacketsHead.{packets_head, IsSoundHead};
-
-use net_packets::{PacketPlace, PacketsHead};
+//! The numbers of a packet queue by themselves: the calls that neither a row nor an export makes.
+use crate::assertions::assert_holds;
+use net_packets::{PacketSlot, PacketsHead};
 use net_ring::RingHead;
 
-/// Returns gap, slot of the gap, slot and first byte of a packet that was placed.
-fn numbers(placed: Option<PacketPlace>) -> Option<(usize, usize, usize, usize)> {
-    placed.map(|place| (place.gap, place.gap_slot, place.slot, place.from))
-}
-
-/// Returns the numbers of a queue with no packets.
-pub(super) fn empty() -> PacketsHead
-    ensures { result ≡ packets_head (place 0 0) (place 0 0) }
-{
-    let start = RingHead {
-        read_at: 0,
-        length: 0,
-    };
+/// Returns the numbers of a queue of one packet, of three bytes from index 3 on.
+fn three_at_three() -> PacketsHead {
     PacketsHead {
-        slots: start,
-        bytes: start,
+        slots: RingHead {
+            read_at: 1,
+            length: 1,
+        },
+        bytes: RingHead {
+            read_at: 3,
+            length: 3,
+        },
     }
 }
 
-/// Returns how many slots and how many bytes are used.
-fn used(head: PacketsHead) -> (usize, usize) {
-    (head.slots.length, head.bytes.length)
-}
-
-/// Of 8 bytes, the first packet takes 3 and the second 3; the third has room only in the place of the first,
-/// after a gap of 2 bytes. It is then made a byte shorter.
-#[test]
-fn a_packet_after_a_gap(rt: HostRuntime) {
-    let mut head = empty();
-    assert_eq!(rt; numbers(head.place(4, 8, 3)), Some((0, 0, 0, 0)));
-    assert_eq!(rt; numbers(head.place(4, 8, 3)), Some((0, 1, 1, 3)));
-    assert_eq!(rt;
-        (head.placement(4, 8, 3), numbers(head.place(4, 8, 3))),
-        (None, None)
-    );
-    assert_eq!(rt; (used(head), takes(&mut head, 3)), ((2, 6), Some(0)));
-    assert_eq!(rt; head.placement(4, 8, 3), Some(2));
-    assert_eq!(rt; numbers(head.place(4, 8, 3)), Some((2, 2, 3, 0)));
-    assert!(rt; is_shortened(&mut head) && head.is_sound(4, 8) && !head.is_sound(2, 8));
-    assert_eq!(rt;
-        (
-            takes(&mut head, 3),
-            takes(&mut head, 2),
-            takes(&mut head, 2)
-        ),
-        (Some(3), Some(6), Some(0))
-    );
-    assert_eq!(rt; (used(head), takes(&mut head, 0)), ((0, 0), None));
-    head.clear();
-    assert!(rt; head.is_sound(0, 0));
-}
-
-/// Takes the first slot and `size` bytes off, and returns the index of the first of these; `None` if there are
-/// fewer, or no slot.
-fn takes(head: &mut PacketsHead, size: usize) -> Option<usize>
-    ensures { IsSoundHead 4 8 head.old → IsSoundHead 4 8 head.new }
-{
-    if !head.is_sound(4, 8) || head.slots.length == 0 || head.bytes.length < size {
+/// Returns the gap before a packet in a queue of 8 bytes; `None` if it has no room.
+fn gap_before(head: PacketsHead, size: usize) -> Option<usize> {
+    if !head.is_sound(4, 8) {
         return None;
     }
-    Some(head.take(4, 8, size))
+    head.placement(4, 8, size)
 }
 
-/// Takes a byte off the last packet, and returns whether one byte fewer is used then.
-fn is_shortened(head: &mut PacketsHead) -> bool
-    ensures { IsSoundHead 4 8 head.old → IsSoundHead 4 8 head.new }
-{
-    let before = head.bytes.length;
-    if before == 0 {
-        return false;
+/// Takes a byte off the last packet, and returns how many bytes are used then.
+fn shortens_last(head: &mut PacketsHead) -> usize {
+    if head.bytes.length > 0 {
+        head.shorten_last(1);
     }
-    head.shorten_last(1);
-    head.bytes.length == before - 1
+    head.bytes.length
+}
+
+/// Takes bytes off the last packet if its slot can be that, and returns the slot's size.
+fn shortens_slot(head: &mut PacketsHead, size: usize, count: usize) -> Option<usize> {
+    let mut last = PacketSlot { size, is_gap: 0 };
+    if !head.can_shorten(&last, count) {
+        return None;
+    }
+    head.shorten_slot(&mut last, count);
+    Some(last.size)
+}
+
+/// Two bytes are free up to the storage's end, and three at its beginning.
+#[test]
+fn a_packet_has_room_after_a_gap(rt: HostRuntime) {
+    let head = three_at_three();
+    assert_holds(
+        &rt,
+        gap_before(head, 2) == Some(0) && gap_before(head, 3) == Some(2),
+        ("step", 1),
+    );
+    assert_holds(&rt, gap_before(head, 4).is_none(), ("step", 2));
+}
+
+#[test]
+fn the_last_packet_is_made_shorter(rt: HostRuntime) {
+    let mut head = three_at_three();
+    assert_holds(
+        &rt,
+        shortens_last(&mut head) == 2 && shortens_slot(&mut head, 2, 3).is_none(),
+        ("step", 1),
+    );
+    assert_holds(
+        &rt,
+        shortens_slot(&mut head, 2, 1) == Some(1) && head.bytes.length == 1,
+        ("step", 2),
+    );
 }

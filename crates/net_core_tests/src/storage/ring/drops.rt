@@ -1,5 +1,6 @@
 //! The storage of a ring, and the closures that it is given, are dropped once, whatever a call
 //! returns.
+use crate::assertions::assert_holds;
 use crate::storage::counted::Counted;
 use net_ring::{Empty, Full, RingBuffer, RingOver, Storage};
 use std::alloc::Global;
@@ -55,7 +56,11 @@ fn a_ring_drops_its_storage(rt: HostRuntime) -> Result<(), Fail> {
             wraps,
             wraps_far,
         ] {
-            assert_eq!(rt; drops_of_ring(rt.alloc(), count, moves)?, (count, 0));
+            assert_holds(
+                &rt,
+                drops_of_ring(rt.alloc(), count, moves)? == (count, 0),
+                ("step", 1),
+            );
         }
     }
     Ok(())
@@ -73,8 +78,16 @@ fn drops_of_vector(alloc: Global, count: u32, first: usize) -> Result<u32, Fail>
 #[test]
 fn a_ring_over_a_vector_drops_it(rt: HostRuntime) -> Result<(), Fail> {
     for count in [0, 1, 300] {
-        assert_eq!(rt; drops_of_vector(rt.alloc(), count, 0)?, count);
-        assert_eq!(rt; drops_of_vector(rt.alloc(), count, 2)?, count);
+        assert_holds(
+            &rt,
+            drops_of_vector(rt.alloc(), count, 0)? == count,
+            ("step", 1),
+        );
+        assert_holds(
+            &rt,
+            drops_of_vector(rt.alloc(), count, 2)? == count,
+            ("step", 2),
+        );
     }
     Ok(())
 }
@@ -123,7 +136,11 @@ fn drops_of_pushes(alloc: Global, count: u32, read_at: usize) -> Result<bool, Fa
 #[test]
 fn an_element_that_is_written_over_or_refused_is_dropped(rt: HostRuntime) -> Result<(), Fail> {
     for (count, read_at) in [(0, 0), (1, 0), (2, 1), (20, 12), (300, 0), (3_000, 2_999)] {
-        assert!(rt; drops_of_pushes(rt.alloc(), count, read_at)?);
+        assert_holds(
+            &rt,
+            drops_of_pushes(rt.alloc(), count, read_at)?,
+            ("step", 1),
+        );
     }
     Ok(())
 }
@@ -207,7 +224,7 @@ fn drops_of_calls(alloc: Global, count: u32, number: u32) -> Result<(bool, u32, 
 fn every_value_is_dropped_once_whatever_the_calls(rt: HostRuntime) -> Result<(), Fail> {
     for number in 0..200 {
         let (at_once, all, dropped) = drops_of_calls(rt.alloc(), number % 6, number)?;
-        assert!(rt; at_once && all == dropped);
+        assert_holds(&rt, at_once && all == dropped, ("step", 1));
     }
     Ok(())
 }
@@ -251,8 +268,8 @@ fn ring_refuses(alloc: Global, count: usize, drops: &Cell<u32>) -> Result<bool, 
 fn refused_closures_are_dropped(rt: HostRuntime) -> Result<(), Fail> {
     for count in [0, 1, 2, 300, 70000, 100000] {
         let drops = Cell::new(0);
-        assert!(rt; ring_refuses(rt.alloc(), count, &drops)?);
-        assert_eq!(rt; drops.get(), 4);
+        assert_holds(&rt, ring_refuses(rt.alloc(), count, &drops)?, ("step", 1));
+        assert_holds(&rt, drops.get() == 4, ("step", 2));
     }
     Ok(())
 }

@@ -1,4 +1,5 @@
 //! Storage that is lent, at a concrete type. Rows of `net_cases` show storage that is owned.
+use crate::assertions::assert_holds;
 use net_ring::{ManagedSlice, Storage};
 
 /// Reverses the elements of a storage, and returns whether they are then these.
@@ -42,5 +43,9 @@ fn shows_and_writes_parts(storage: &mut ManagedSlice<'_, u8>) -> bool {
 fn lent_storage_shows_its_elements(rt: HostRuntime) {
     let mut buffer = [1u8, 2, 3];
     let mut lent = ManagedSlice::from(buffer.as_mut_slice());
-    assert!(rt; turns_into(&mut lent, &[3, 2, 1]) && shows_and_writes_parts(&mut lent));
+    assert_holds(
+        &rt,
+        turns_into(&mut lent, &[3, 2, 1]) && shows_and_writes_parts(&mut lent),
+        ("step", 1),
+    );
 }

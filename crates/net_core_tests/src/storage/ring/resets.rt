@@ -1,4 +1,5 @@
 //! The order in which `reset` resets the elements.
+use crate::assertions::assert_holds;
 use net_ring::{Resettable, RingBuffer};
 use std::alloc::Global;
 use std::cell::Cell;
@@ -54,7 +55,7 @@ fn resets_in_order(alloc: Global, count: u32) -> Result<bool, Fail> {
 #[test]
 fn elements_are_reset_in_order(rt: HostRuntime) -> Result<(), Fail> {
     for count in [0, 1, 2, 5, 300, 70_000] {
-        assert!(rt; resets_in_order(rt.alloc(), count)?);
+        assert_holds(&rt, resets_in_order(rt.alloc(), count)?, ("step", 1));
     }
     Ok(())
 }

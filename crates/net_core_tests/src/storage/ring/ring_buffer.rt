@@ -4,6 +4,7 @@ ghost use Rattle.std.specs.Prelude.{◌≡◌};
 
 mod callers;
 
+use crate::assertions::assert_holds;
 use callers::{
     Duplex, dequeue_one_byte, enqueue_one_byte, room_of_slice, room_of_vector, write_and_enqueue,
     write_and_refuse,
@@ -22,11 +23,27 @@ fn lends_eight_and_four(ring: &mut RingBuffer<'_, u8>) -> bool {
 #[test]
 fn lent_and_owned_storage_are_alike(rt: HostRuntime) -> Result<(), Fail> {
     let vector = [0u8; 12].to_vec(rt.alloc())?;
-    assert!(rt; lends_eight_and_four(&mut RingBuffer::from(vector)));
+    assert_holds(
+        &rt,
+        lends_eight_and_four(&mut RingBuffer::from(vector)),
+        ("step", 1),
+    );
     let storage = ManagedSlice::from([0u8; 12].to_vec(rt.alloc())?);
-    assert!(rt; lends_eight_and_four(&mut RingBuffer::from(storage)));
-    assert!(rt; lends_eight_and_four(&mut RingBuffer::from(&mut [0u8; 12])));
-    assert!(rt; lends_eight_and_four(&mut RingBuffer::from([0u8; 12].as_mut_slice())));
+    assert_holds(
+        &rt,
+        lends_eight_and_four(&mut RingBuffer::from(storage)),
+        ("step", 2),
+    );
+    assert_holds(
+        &rt,
+        lends_eight_and_four(&mut RingBuffer::from(&mut [0u8; 12])),
+        ("step", 3),
+    );
+    assert_holds(
+        &rt,
+        lends_eight_and_four(&mut RingBuffer::from([0u8; 12].as_mut_slice())),
+        ("step", 4),
+    );
     Ok(())
 }
 
@@ -71,11 +88,17 @@ fn rewinds(ring: &mut RingBuffer<'_, u8>) -> bool {
 fn the_head_is_shown_and_what_left_is_lent_again(rt: HostRuntime) {
     let mut buffer = [0u8; 4];
     let mut ring = RingBuffer::from(&mut buffer);
-    assert!(rt; keeps_its_head(&mut ring) && rewinds(&mut ring));
-    assert!(rt;
+    assert_holds(
+        &rt,
+        keeps_its_head(&mut ring) && rewinds(&mut ring),
+        ("step", 1),
+    );
+    assert_holds(
+        &rt,
         lends_what_left(&mut ring, b"xyz")
             && lends_what_left(&mut ring, b"vxyz")
-            && lends_what_left(&mut ring, b"")
+            && lends_what_left(&mut ring, b""),
+        ("step", 2),
     );
 }
 
@@ -110,8 +133,12 @@ fn zero_sized_elements(rt: HostRuntime) {
     let filled = enqueues_units(&mut ring, 3) && enqueues_no_unit(&mut ring);
     let taken = has_units(&ring, 3, 0) && dequeues_two_units(&mut ring);
     let again = has_units(&ring, 1, 2) && enqueues_units(&mut ring, 2);
-    assert!(rt; filled && taken && again && enqueues_units(&mut ring, 0));
-    assert!(rt; has_units(&ring, 3, 0));
+    assert_holds(
+        &rt,
+        filled && taken && again && enqueues_units(&mut ring, 0),
+        ("step", 1),
+    );
+    assert_holds(&rt, has_units(&ring, 3, 0), ("step", 2));
 }
 
 /// Returns whether `enqueue_one_with` is refused and its closure isn't called.
@@ -138,8 +165,16 @@ fn refuses_first(ring: &mut RingBuffer<'_, u8>) -> bool {
 fn refusals_run_no_closure(rt: HostRuntime) {
     let mut buffer = [0u8; 1];
     let mut ring = RingBuffer::from(&mut buffer);
-    assert!(rt; refuses_first(&mut ring) && ring.enqueue_slice(b"ab") == 1);
-    assert!(rt; refuses_next(&mut ring) && gives_byte(&mut ring, Ok(b'a')));
+    assert_holds(
+        &rt,
+        refuses_first(&mut ring) && ring.enqueue_slice(b"ab") == 1,
+        ("step", 1),
+    );
+    assert_holds(
+        &rt,
+        refuses_next(&mut ring) && gives_byte(&mut ring, Ok(b'a')),
+        ("step", 2),
+    );
 }
 
 /// Returns whether a caller enqueues a byte.
@@ -167,11 +202,23 @@ fn gives_three(ring: &mut RingBuffer<'_, u8>, bytes: &[u8; 4]) -> bool {
 fn callers_write_and_read_back(rt: HostRuntime) {
     let mut buffer = [0; 4];
     let mut ring = RingBuffer::from(&mut buffer);
-    assert!(rt; takes_byte(&mut ring, b'a') && takes_byte(&mut ring, b'b'));
+    assert_holds(
+        &rt,
+        takes_byte(&mut ring, b'a') && takes_byte(&mut ring, b'b'),
+        ("step", 1),
+    );
     write_and_refuse(&mut ring, b'c');
     let written = shows_free(&mut ring, b'c') && write_and_enqueue(&mut ring, b"def") == 2;
-    assert!(rt; written && !takes_byte(&mut ring, b'g') && gives_byte(&mut ring, Ok(b'a')));
-    assert!(rt; gives_three(&mut ring, b"bde\0") && gives_byte(&mut ring, Err(Empty)));
+    assert_holds(
+        &rt,
+        written && !takes_byte(&mut ring, b'g') && gives_byte(&mut ring, Ok(b'a')),
+        ("step", 2),
+    );
+    assert_holds(
+        &rt,
+        gives_three(&mut ring, b"bde\0") && gives_byte(&mut ring, Err(Empty)),
+        ("step", 3),
+    );
 }
 
 /// Returns whether `count` bytes are taken into four zeros, which become these.
@@ -188,16 +235,24 @@ fn two_rings_in_one_struct(rt: HostRuntime) -> Result<(), Fail> {
         ManagedSlice::Borrowed(&mut buffer),
         ManagedSlice::Owned(vector),
     );
-    assert!(rt; duplex.send(b"abc") == 2 && duplex.receive(b"xyz") == 3);
-    assert!(rt; takes_out(&mut duplex, 3, b"xyz\0"));
+    assert_holds(
+        &rt,
+        duplex.send(b"abc") == 2 && duplex.receive(b"xyz") == 3,
+        ("step", 1),
+    );
+    assert_holds(&rt, takes_out(&mut duplex, 3, b"xyz\0"), ("step", 2));
     Ok(())
 }
 
 #[test]
 fn rings_are_made_and_dropped(rt: HostRuntime) -> Result<(), Fail> {
     let mut other = [0u8; 3];
-    assert_eq!(rt; room_of_slice(&mut other), 3);
-    assert_eq!(rt; room_of_vector([0u8; 5].to_vec(rt.alloc())?), 5);
+    assert_holds(&rt, room_of_slice(&mut other) == 3, ("step", 1));
+    assert_holds(
+        &rt,
+        room_of_vector([0u8; 5].to_vec(rt.alloc())?) == 5,
+        ("step", 2),
+    );
     Ok(())
 }
 
@@ -266,6 +321,6 @@ fn leaves_its_storage(passage: &Passage) -> bool {
 #[test]
 fn lent_storage_stays_as_it_is_once_its_ring_is_gone(rt: HostRuntime) {
     for passage in &PASSAGES {
-        assert!(rt; leaves_its_storage(passage));
+        assert_holds(&rt, leaves_its_storage(passage), ("step", 1));
     }
 }
