@@ -87,8 +87,8 @@ class Target:
 
 
 SMALL = "-Os"
-# A program may have a Cortex-M trap words that aren't aligned, and bytes may have any alignment.
-ALIGNED_WORDS = "-mno-unaligned-access"
+# Where words needn't be aligned, unless a program has them trapped.
+UNALIGNED = {"thumbv7m", "thumbv7em", "thumbv8m.main"}
 TARGETS = {target.name: target for target in [
     Target("x86_64", "x86-64 Linux", RT_LIB, "x86_64-unknown-linux-gnu", "x86-64", 64),
     Target("x86_64-none", "x86-64, bare: no red zone, no SSE", RETARGETED,
@@ -99,11 +99,11 @@ TARGETS = {target.name: target for target in [
     Target("thumbv6m", "Cortex-M0, M0+, M1; M23", RETARGETED,
            "--target=thumbv6m-none-eabi -mcpu=cortex-m0 -mfloat-abi=soft", "ARM", 32, SMALL, "12 M"),
     Target("thumbv7m", "Cortex-M3", RETARGETED,
-           f"--target=thumbv7m-none-eabi -mcpu=cortex-m3 -mfloat-abi=soft {ALIGNED_WORDS}", "ARM", 32, SMALL, "10 M"),
+           "--target=thumbv7m-none-eabi -mcpu=cortex-m3 -mfloat-abi=soft", "ARM", 32, SMALL, "10 M"),
     Target("thumbv7em", "Cortex-M4, M7", RETARGETED,
-           f"--target=thumbv7em-none-eabi -mcpu=cortex-m4 -mfloat-abi=soft {ALIGNED_WORDS}", "ARM", 32, SMALL, "13 M", True),
+           "--target=thumbv7em-none-eabi -mcpu=cortex-m4 -mfloat-abi=soft", "ARM", 32, SMALL, "13 M", True),
     Target("thumbv8m.main", "Cortex-M33, M55", RETARGETED,
-           f"--target=thumbv8m.main-none-eabi -mcpu=cortex-m33 -mfloat-abi=soft {ALIGNED_WORDS}", "ARM", 32, SMALL, "17 M", True),
+           "--target=thumbv8m.main-none-eabi -mcpu=cortex-m33 -mfloat-abi=soft", "ARM", 32, SMALL, "17 M", True),
     Target("armv7", "ARMv7-A Linux, floats in registers", RETARGETED,
            "--target=armv7-unknown-linux-gnueabihf -march=armv7-a -mfpu=vfpv3-d16 -mfloat-abi=hard -fPIC", "ARM", 32, processor="10 A 4"),
     Target("riscv32imac", "RISC-V 32, bare, with or without atomics", RETARGETED,
@@ -274,7 +274,10 @@ class Build:
         text = (folder / "shim.ll").read_text()
         try:
             retarget.check_layout(re.search(r'^target datalayout = "(.*)"$', text, flags=re.M)[1])
-            (folder / "joined.ll").write_text(retarget.joined(core, text, size) + NO_FLOATS * target.floats)
+            text = retarget.joined(core, text, size)
+            if target.name in UNALIGNED:
+                text = retarget.with_aligned_words(text)
+            (folder / "joined.ll").write_text(text + NO_FLOATS * target.floats)
         except retarget.Refused as error:
             stop(f"{target.name} is refused: {error}")
         clang([*words, "-c", "-x", "ir", folder / "joined.ll", "-o", folder / target.member()])

@@ -86,7 +86,6 @@ WORDS = (
     ("x86_64-none", " -mgeneral-regs-only", ""),
     ("aarch64-none", " -mgeneral-regs-only", ""),
     ("aarch64-none", " -mstrict-align", ""),
-    ("thumbv7em", " -mno-unaligned-access", ""),
     ("thumbv7em", "-mcpu=cortex-m4", "-mcpu=cortex-m33"),
     ("riscv32imac", "-march=rv32imc -mabi=ilp32", "-march=rv32imafdc -mabi=ilp32d"),
 )

@@ -162,6 +162,7 @@ def wide_compiler(way):
     if not found:
         raise Failed(f"{way.compiler[0]} names no folders of headers: {last(said)}")
     words = [word for word in TARGETS[way.target].words.split() if not word.startswith("-mcpu")]
+    words += [word for word in way.compiler if word == "-mno-unaligned-access"]
     if "-mfloat-abi=hard" in way.compiler:
         words[words.index("-mfloat-abi=soft")] = "-mfloat-abi=hard"
     return ["clang", *words, "-nostdlibinc", *[word for folder in found[1].split() for word in ("-isystem", folder)],

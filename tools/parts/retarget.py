@@ -89,6 +89,8 @@ DROPPED_ATTRIBUTES = {"target-cpu", "probe-stack", "stack-probe-size", "wasm-exp
 KEPT_ATTRIBUTES = {"no-builtin-bcmp", "no-builtin-memcmp", "no-builtin-strlen"}
 # The words of a group that a function which is defined may have.
 KEPT_WORDS = {"alwaysinline", "inlinehint", "noinline", "nounwind"}
+# The functions that read bytes as words, and their groups where no word may be touched that isn't aligned.
+READS_WORDS, ALIGNED_GROUPS = r"net_tcp::internet_sum::[\w:]+", 3000
 # The group of the exports' own functions, which are inlined into the shim.
 EXPORT_GROUP = 1000
 SIZES = {"i1": 1, "i8": 1, "i16": 2, "i32": 4, "i64": 8, "i128": 16, "ptr": 8}
@@ -567,3 +569,18 @@ def with_attributes(core, of_target, size_words):
         return f"attributes #{match[1]} = {{ {words} {of_target} {size_words} }}"
 
     return GROUP.sub(group, core)
+
+
+def with_aligned_words(text):
+    """The joined text, in which what reads bytes as words touches none that isn't aligned: bytes may have any alignment."""
+    heads = re.compile(rf'^(define .*@"(?:{READS_WORDS})"\(.*\)) #(\d+) \{{$', flags=re.M)
+    groups = sorted({head[2] for head in heads.finditer(text)})
+    if not groups:
+        raise Refused("no function reads bytes as words")
+    for group in groups:
+        words = re.search(rf"^attributes #{group} = \{{ (.*) \}}$", text, flags=re.M)[1]
+        aligned = re.sub(r'("target-features"="[^"]*)"', r'\1,+strict-align"', words)
+        if aligned == words:
+            raise Refused("the functions that read bytes as words have no features of a processor")
+        text += f"attributes #{ALIGNED_GROUPS + int(group)} = {{ {aligned} }}\n"
+    return heads.sub(lambda head: f"{head[1]} #{ALIGNED_GROUPS + int(head[2])} {{", text)
