@@ -106,7 +106,7 @@ def check(root):
 
 
 def proved_files():
-    """The files of src/proved. What is always inline there only may be here, which is less code for firmware."""
+    """The files of src/proved. What is always inline there, or never, may be here, which is less code for firmware."""
     source, new = NET_BASE / "src/proved", {}
     for part in PROVED:
         for path in [source / part] if part.endswith(".rs") else sorted((source / part).rglob("*.rs")):
@@ -118,7 +118,7 @@ def proved_files():
         text = re.sub(r"\bcrate::(rattle|contracts)\b", r"crate::proved::\1", text)
         # Examples are net-base's, which runs them.
         text = re.sub(r"```(.*)\n((?:.*\n)*?.*```)", lambda fence: f"```{fence[1] or 'ignore'}\n{fence[2]}", text)
-        new[name] = text.replace("#[inline(always)]", "#[inline]")
+        new[name] = re.sub(r"#\[inline\((?:always|never)\)\]", "#[inline]", text)
     new["mod.rs"] = (MODULES / "proved/mod.rs").read_text()
     return {f"src/proved/{name}": text for name, text in new.items()}
 
