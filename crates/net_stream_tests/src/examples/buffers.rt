@@ -1,5 +1,6 @@
 //! Rings of bytes, lines and samples, and a queue of packets.
 
+use crate::assertions::assert_holds;
 use net_examples::{Outbox, Samples, line_end, push_newest, take_line};
 use net_packets::{PacketBuffer, PacketMetadata};
 use net_ring::{ManagedSlice, RingBuffer};
@@ -10,9 +11,9 @@ fn bytes_wait_in_an_outbox(rt: HostRuntime) {
     let mut storage = [0u8; 4];
     let mut outbox = Outbox::new(ManagedSlice::Borrowed(&mut storage));
     let mut into = [0u8; 8];
-    assert_eq!(rt; outbox.put(b"abcdef"), 4);
-    assert_eq!(rt; outbox.give(&mut into), 4);
-    assert!(rt; into.starts_with(b"abcd"));
+    assert_holds(&rt, outbox.put(b"abcdef") == 4, 1);
+    assert_holds(&rt, outbox.give(&mut into) == 4, 2);
+    assert_holds(&rt, into.starts_with(b"abcd"), 3);
 }
 
 /// Returns whether a line of `length` bytes is taken off, with its newline, and `into` then begins
@@ -28,13 +29,25 @@ fn lines_are_taken_off_a_ring(rt: HostRuntime) {
     let mut ring = RingBuffer::new(ManagedSlice::Borrowed(&mut storage));
     let mut into = [0u8; 4];
     let came = ring.enqueue_slice(b"abc\nde") == 6;
-    assert!(rt; came && gives(&mut ring, &mut into, 3, b"abc\n"));
-    assert!(rt; take_line(&mut ring, &mut into).is_none() && ring.len() == 2);
+    assert_holds(&rt, came && gives(&mut ring, &mut into, 3, b"abc\n"), 1);
+    assert_holds(
+        &rt,
+        take_line(&mut ring, &mut into).is_none() && ring.len() == 2,
+        2,
+    );
     let came = ring.enqueue_slice(b"f\nlong\n") == 6;
-    assert!(rt; came && line_end(&ring) == Some(3) && gives(&mut ring, &mut into, 3, b"def\n"));
+    assert_holds(
+        &rt,
+        came && line_end(&ring) == Some(3) && gives(&mut ring, &mut into, 3, b"def\n"),
+        3,
+    );
     let came = ring.enqueue_slice(b"\nx") == 2;
-    assert!(rt; came && take_line(&mut ring, &mut into).is_none());
-    assert!(rt; gives(&mut ring, &mut [0u8; 5], 4, b"long\n") && line_end(&ring).is_none());
+    assert_holds(&rt, came && take_line(&mut ring, &mut into).is_none(), 4);
+    assert_holds(
+        &rt,
+        gives(&mut ring, &mut [0u8; 5], 4, b"long\n") && line_end(&ring).is_none(),
+        5,
+    );
 }
 
 /// Returns the header and the length of the first packet, which is taken off.
@@ -81,7 +94,7 @@ fn notes_owned_samples(storage: Vec<u16>) -> bool {
 
 #[test]
 fn samples_are_noted(rt: HostRuntime) -> Result<(), AllocError> {
-    assert!(rt; notes_lent_samples());
-    assert!(rt; notes_owned_samples(vec![in rt.alloc(); 0; 3]?));
+    assert_holds(&rt, notes_lent_samples(), 1);
+    assert_holds(&rt, notes_owned_samples(vec![in rt.alloc(); 0; 3]?), 2);
     Ok(())
 }

@@ -1,5 +1,6 @@
 //! Datagrams of a socket, and of a socket over a device.
 
+use crate::assertions::assert_holds;
 use crate::examples::devices::is_next;
 use net_base::phy::{Loopback, Medium};
 use net_examples::{Endpoint, UdpSocket, pass_through, send_datagram};
@@ -13,9 +14,9 @@ fn a_datagram_passes(rt: HostRuntime) {
         port: 53,
     };
     let mut into = [0u8; 4];
-    assert!(rt; pass_through(from, b"hello", &mut into) == Some(4));
-    assert_eq!(rt; &into, b"hell");
-    assert!(rt; pass_through(from, &[0; 65], &mut into).is_none());
+    assert_holds(&rt, pass_through(from, b"hello", &mut into) == Some(4), 1);
+    assert_holds(&rt, &into == b"hell", 2);
+    assert_holds(&rt, pass_through(from, &[0; 65], &mut into).is_none(), 3);
 }
 
 /// Sends the first datagram of a socket, and returns whether a frame with these bytes was sent.
@@ -45,7 +46,11 @@ fn datagrams_are_sent_in_order(rt: HostRuntime) {
     let queued = socket.send_slice(b"first", to).is_ok()
         && socket.send_slice(b"second", to).is_ok();
     let mut device = Loopback::new(rt.alloc(), Medium::Ip);
-    assert!(rt; queued && sends_datagram(&mut socket, &mut device, b"first"));
-    assert!(rt; sends_datagram(&mut socket, &mut device, b"second"));
-    assert!(rt; !sends_datagram(&mut socket, &mut device, b""));
+    assert_holds(
+        &rt,
+        queued && sends_datagram(&mut socket, &mut device, b"first"),
+        1,
+    );
+    assert_holds(&rt, sends_datagram(&mut socket, &mut device, b"second"), 2);
+    assert_holds(&rt, !sends_datagram(&mut socket, &mut device, b""), 3);
 }

@@ -1,5 +1,6 @@
 //! Devices, and frames that pass between them.
 
+use crate::assertions::assert_holds;
 use net_base::phy::{Device, Loopback, Medium, RxToken};
 use net_base::time::Instant;
 use net_examples::{
@@ -15,8 +16,8 @@ fn short_frames_are_dropped(rt: HostRuntime) -> Result<(), AllocError> {
     send_bytes(&mut loopback, b"short")?;
     send_bytes(&mut loopback, b"fourteen bytes")?;
     let mut device = Undamaged { device: loopback };
-    assert!(rt; device.receive(Instant::ZERO).is_none());
-    assert!(rt; device.receive(Instant::ZERO).is_some());
+    assert_holds(&rt, device.receive(Instant::ZERO).is_none(), 1);
+    assert_holds(&rt, device.receive(Instant::ZERO).is_some(), 2);
     Ok(())
 }
 
@@ -27,9 +28,13 @@ fn sent_frames_are_counted(rt: HostRuntime) -> Result<(), AllocError> {
         sent: 0,
     };
     for length in 0..3usize {
-        assert!(rt; sends_zeros(&mut device, length)?);
+        assert_holds(&rt, sends_zeros(&mut device, length)?, 1);
     }
-    assert!(rt; device.receive(Instant::ZERO).is_some() && device.sent == 3);
+    assert_holds(
+        &rt,
+        device.receive(Instant::ZERO).is_some() && device.sent == 3,
+        2,
+    );
     Ok(())
 }
 
@@ -73,10 +78,26 @@ fn frames_are_sent_back_while_a_descriptor_is_free(rt: HostRuntime) {
         to_send: RingBuffer::new(ManagedSlice::Borrowed(&mut to_send)),
     };
     let came = comes(&mut device, b"abc") && comes(&mut device, b"de");
-    assert!(rt; came && !comes(&mut device, b"f") && bounces(&mut device, true));
-    assert!(rt; bounces(&mut device, false) && goes(&mut device, b"abc"));
-    assert!(rt; bounces(&mut device, true) && goes(&mut device, b"de"));
-    assert!(rt; bounces(&mut device, false) && !goes(&mut device, b""));
+    assert_holds(
+        &rt,
+        came && !comes(&mut device, b"f") && bounces(&mut device, true),
+        1,
+    );
+    assert_holds(
+        &rt,
+        bounces(&mut device, false) && goes(&mut device, b"abc"),
+        2,
+    );
+    assert_holds(
+        &rt,
+        bounces(&mut device, true) && goes(&mut device, b"de"),
+        3,
+    );
+    assert_holds(
+        &rt,
+        bounces(&mut device, false) && !goes(&mut device, b""),
+        4,
+    );
 }
 
 /// Returns whether the bytes are sent as one frame.
@@ -91,9 +112,17 @@ fn a_frame_is_sent_where_it_fits(rt: HostRuntime) {
         received: RingBuffer::new(ManagedSlice::Borrowed(&mut [])),
         to_send: RingBuffer::new(ManagedSlice::Borrowed(&mut to_send)),
     };
-    assert!(rt; !sends(&mut device, &[7; 129]) && sends(&mut device, &[7; 128]));
-    assert!(rt; !sends(&mut device, b"") && goes(&mut device, &[7; 128]));
-    assert!(rt; sends(&mut device, b"") && goes(&mut device, b""));
+    assert_holds(
+        &rt,
+        !sends(&mut device, &[7; 129]) && sends(&mut device, &[7; 128]),
+        1,
+    );
+    assert_holds(
+        &rt,
+        !sends(&mut device, b"") && goes(&mut device, &[7; 128]),
+        2,
+    );
+    assert_holds(&rt, sends(&mut device, b"") && goes(&mut device, b""), 3);
 }
 
 /// Returns whether the next frame of the device has these bytes.
@@ -119,6 +148,10 @@ fn frames_pass_from_a_ring_of_descriptors(rt: HostRuntime) {
     };
     let mut other = Loopback::new(rt.alloc(), Medium::Ethernet);
     let came = comes(&mut device, b"abc") && comes(&mut device, b"de");
-    assert!(rt; came && passes(&mut device, &mut other, 2));
-    assert!(rt; is_next(&mut other, b"abc") && is_next(&mut other, b"de"));
+    assert_holds(&rt, came && passes(&mut device, &mut other, 2), 1);
+    assert_holds(
+        &rt,
+        is_next(&mut other, b"abc") && is_next(&mut other, b"de"),
+        2,
+    );
 }

@@ -1,6 +1,5 @@
 //! A socket of datagrams, an inbox, a bridge, and each type that holds storage as a local.
 
-mod assertions;
 mod bridge;
 mod endpoint;
 mod inbox;

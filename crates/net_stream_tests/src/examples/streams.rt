@@ -1,5 +1,6 @@
 //! Segments in order, streams over links, and timers.
 
+use crate::assertions::assert_holds;
 use net_base::time::{Duration, Instant};
 use net_examples::{Timer, acknowledge, ask, copy_or_say_why, over_a_bad_link, poll_at, receive};
 use net_receiver::{Receiver, SequenceNumber};
@@ -12,9 +13,13 @@ fn segments_are_read_in_order(rt: HostRuntime) {
     let mut storage = [0u8; 16];
     let mut receiver = Receiver::<4>::new(ManagedSlice::Borrowed(&mut storage));
     let mut into = [0u8; 16];
-    assert_eq!(rt; receive(&mut receiver, 5, b", world", &mut into), 0);
-    assert_eq!(rt; receive(&mut receiver, 0, b"hello", &mut into), 12);
-    assert!(rt; into.starts_with(b"hello, world"));
+    assert_holds(
+        &rt,
+        receive(&mut receiver, 5, b", world", &mut into) == 0,
+        1,
+    );
+    assert_holds(&rt, receive(&mut receiver, 0, b"hello", &mut into) == 12, 2);
+    assert_holds(&rt, into.starts_with(b"hello, world"), 3);
 }
 
 /// Returns whether a segment of this number is acknowledged by this number and this window.
@@ -29,9 +34,13 @@ fn answers(receiver: &mut Receiver<'_, 4>, number: u32, bytes: &[u8], wanted: (u
 fn segments_are_acknowledged(rt: HostRuntime) {
     let mut storage = [0u8; 8];
     let mut receiver = Receiver::<4>::new(ManagedSlice::Borrowed(&mut storage));
-    assert!(rt; answers(&mut receiver, 1, b"defgh", (0xffff_fffe, 8)));
-    assert!(rt; answers(&mut receiver, 0xffff_fffe, b"abc", (6, 0)));
-    assert!(rt; answers(&mut receiver, 0xffff_fffe, b"abc", (6, 0)));
+    assert_holds(
+        &rt,
+        answers(&mut receiver, 1, b"defgh", (0xffff_fffe, 8)),
+        1,
+    );
+    assert_holds(&rt, answers(&mut receiver, 0xffff_fffe, b"abc", (6, 0)), 2);
+    assert_holds(&rt, answers(&mut receiver, 0xffff_fffe, b"abc", (6, 0)), 3);
 }
 
 #[test]
@@ -39,8 +48,8 @@ fn a_stream_crosses_a_bad_link(rt: HostRuntime) {
     let mut reader = b"abcdef".as_slice();
     let mut writer = Vec::new(rt.alloc());
     let (ended, counts) = over_a_bad_link(rt.alloc(), &mut reader, &mut writer);
-    assert!(rt; ended.is_ok() && counts.bytes_written == 6);
-    assert_eq!(rt; writer.as_slice(), b"abcdef".as_slice());
+    assert_holds(&rt, ended.is_ok() && counts.bytes_written == 6, 1);
+    assert_holds(&rt, writer.as_slice() == b"abcdef".as_slice(), 2);
 }
 
 /// A watch that counts the rounds of which it is told.
@@ -89,8 +98,8 @@ fn gave_up_after(alloc: Global, lost: u32, rounds: u64) -> bool {
 
 #[test]
 fn a_copy_over_a_dead_link_gives_up(rt: HostRuntime) {
-    assert!(rt; gave_up_after(rt.alloc(), 100, 3));
-    assert!(rt; !gave_up_after(rt.alloc(), 0, 1));
+    assert_holds(&rt, gave_up_after(rt.alloc(), 100, 3), 1);
+    assert_holds(&rt, !gave_up_after(rt.alloc(), 0, 1), 2);
 }
 
 /// Returns how many bytes of a reply arrive in the buffer over links that lose a third of their
@@ -151,9 +160,9 @@ fn reply_to(
 fn a_reply_comes_over_bad_links(rt: HostRuntime) -> Result<(), AllocError> {
     let mut into = [0u8; 16];
     let came = reply_to(rt.alloc(), b"how are you?", b"very well", &mut into, 40)?;
-    assert!(rt; came == Some(9) && into.starts_with(b"very well"));
+    assert_holds(&rt, came == Some(9) && into.starts_with(b"very well"), 1);
     let came = reply_to(rt.alloc(), b"how are you?", b"very well", &mut into, 1)?;
-    assert!(rt; came.is_none());
+    assert_holds(&rt, came.is_none(), 2);
     Ok(())
 }
 
@@ -161,10 +170,18 @@ fn a_reply_comes_over_bad_links(rt: HostRuntime) -> Result<(), AllocError> {
 fn a_timer_expires_and_waits_longer(rt: HostRuntime) {
     let mut timer = Timer::new(Duration::from_secs(1), Instant::ZERO);
     let now = Instant::from_secs(1);
-    assert!(rt; !timer.is_expired(Instant::from_micros(999_999)) && timer.is_expired(now));
+    assert_holds(
+        &rt,
+        !timer.is_expired(Instant::from_micros(999_999)) && timer.is_expired(now),
+        1,
+    );
     timer.back_off(now);
-    assert!(rt; !timer.is_expired(Instant::from_micros(2_999_999)));
-    assert!(rt; timer.is_expired(Instant::from_secs(3)));
+    assert_holds(&rt, !timer.is_expired(Instant::from_micros(2_999_999)), 2);
+    assert_holds(&rt, timer.is_expired(Instant::from_secs(3)), 3);
     let slow = Timer::new(Duration::from_secs(9), now);
-    assert!(rt; poll_at(&[slow, timer]) == Some(Instant::from_secs(3)) && poll_at(&[]).is_none());
+    assert_holds(
+        &rt,
+        poll_at(&[slow, timer]) == Some(Instant::from_secs(3)) && poll_at(&[]).is_none(),
+        4,
+    );
 }

@@ -3,7 +3,7 @@ ghost use Rattle.std.specs.Prelude.{◌≡◌, ◌∷◌, ◌++◌, []};
 ghost use Rattle.std.proofs.Common.{ap};
 ghost use Rattle.net_base.specs.Loopback.{LoopbackState, loopback_capabilities};
 
-use crate::examples::sockets::assertions::assert_holds;
+use crate::assertions::assert_holds;
 use net_base::phy::{
     Device, DeviceCapabilities, FrameLists, Loopback, Medium, PacketMeta, RxToken, TxToken,
     loopback,
@@ -15,7 +15,7 @@ use std::alloc::{AllocError, Allocator, Global};
 use std::cell::Cell;
 use std::marker::Model;
 
-/// Sends a frame of `length` bytes of one value on a device. Returns whether it had room.
+/// Sends a frame of so many bytes of one value on a device. Returns whether it had room.
 fn sends(device: &mut Loopback, now: Instant, length: usize, byte: u8) -> Result<bool, AllocError> {
     let Some(token) = device.transmit(now) else {
         return Ok(false);
@@ -24,7 +24,7 @@ fn sends(device: &mut Loopback, now: Instant, length: usize, byte: u8) -> Result
     Ok(true)
 }
 
-/// Takes the next frame off a device, and returns whether it is `length` bytes of one value.
+/// Takes the next frame off a device, and returns whether it is so many bytes of one value.
 fn gives(device: &mut Loopback, now: Instant, length: usize, byte: u8) -> bool {
     device.receive(now).is_some_and(|(token, _token)| {
         let frame = token.frame();
@@ -67,9 +67,9 @@ fn passes_three(from: &mut Loopback, to: &mut Loopback) -> Result<bool, AllocErr
 fn frames_pass_from_one_device_to_the_other(rt: HostRuntime) -> Result<(), AllocError> {
     let mut from = Loopback::new(rt.alloc(), Medium::Ip);
     let mut to = Loopback::new(rt.alloc(), Medium::Ip);
-    assert_holds(&rt, sends_three(&mut from)?, ("sent", 3));
-    assert_holds(&rt, passes_three(&mut from, &mut to)?, ("passed", 3));
-    assert_holds(&rt, gives_three(&mut to), ("taken", 3));
+    assert_holds(&rt, sends_three(&mut from)?, 0);
+    assert_holds(&rt, passes_three(&mut from, &mut to)?, 1);
+    assert_holds(&rt, gives_three(&mut to), 2);
     Ok(())
 }
 
@@ -107,12 +107,12 @@ fn a_frame_of_any_length_passes(rt: HostRuntime) -> Result<(), AllocError> {
     for index in 0..9usize {
         let (length, micros) = LENGTHS[index];
         let passed = one_passes(&mut from, &mut to, Instant::from_micros(micros), length)?;
-        assert_holds(&rt, passed, ("bytes", length));
+        assert_holds(&rt, passed, length);
     }
     Ok(())
 }
 
-/// Sends `count` frames, each of as many bytes as were sent before it.
+/// Sends so many frames, each of as many bytes as were sent before it.
 fn sends_many(device: &mut Loopback, count: usize) -> Result<bool, AllocError> {
     for length in 0..count {
         if !sends(device, Instant::ZERO, length, 7)? {
@@ -122,7 +122,7 @@ fn sends_many(device: &mut Loopback, count: usize) -> Result<bool, AllocError> {
     Ok(true)
 }
 
-/// Returns whether `count` frames arrive as they were sent, and no other.
+/// Returns whether so many frames arrive as they were sent, and no other.
 fn gives_many(device: &mut Loopback, count: usize) -> bool {
     for length in 0..count {
         if !gives(device, Instant::ZERO, length, 7) {
@@ -137,10 +137,10 @@ fn gives_many(device: &mut Loopback, count: usize) -> bool {
 fn many_frames_pass_at_once(rt: HostRuntime) -> Result<(), AllocError> {
     let mut from = Loopback::new(rt.alloc(), Medium::Ip);
     let mut to = Loopback::new(rt.alloc(), Medium::Ip);
-    assert_holds(&rt, sends_many(&mut from, 300)?, ("sent", 300));
+    assert_holds(&rt, sends_many(&mut from, 300)?, 0);
     let passed = forward(&mut from, &mut to, Instant::ZERO, usize::MAX)?;
-    assert_holds(&rt, passed == 300, ("passed", passed));
-    assert_holds(&rt, gives_many(&mut to, 300), ("taken", 300));
+    assert_holds(&rt, passed == 300, passed);
+    assert_holds(&rt, gives_many(&mut to, 300), 1);
     Ok(())
 }
 
@@ -300,19 +300,32 @@ fn without_frames(alloc: Global, tokens: &Cell<usize>) -> Noting<'_> {
     }
 }
 
-/// Returns whether both devices are asked at `micros` microseconds, by one bridge or the other.
-fn are_asked_at(from: &mut Noting<'_>, to: &mut Noting<'_>, micros: i64, many: bool) -> bool {
+/// Returns whether a device was last asked for a frame, and the other one for room, so often in all, at that moment; the
+/// first one never for room; and no token is left.
+fn are_asked(from: &Noting<'_>, to: &Noting<'_>, now: Instant, rooms: usize) -> bool {
+    from.asked_for_a_frame == now
+        && to.asked_for_room == now
+        && to.rooms == rooms
+        && from.rooms == 0
+        && from.tokens.get() == 0
+}
+
+/// Forwards one frame, and then none by each bridge, at `micros` microseconds. Returns whether each call asks both devices
+/// at that moment, and the one that it sends on for room once, even if no frame waits.
+fn asks_once(from: &mut Noting<'_>, to: &mut Noting<'_>, micros: i64) -> Result<bool, AllocError> {
     let now = Instant::from_micros(micros);
-    let stopped = if many {
-        forward(from, to, now, 3) == Ok(0)
-    } else {
-        forward_one(from, to, now) == Ok(false)
-    };
-    stopped && from.asked_for_a_frame == now && to.asked_for_room == now && from.tokens.get() == 0
+    let rooms = to.rooms;
+    let passed = sends(&mut from.device, Instant::ZERO, 9, 7)? && forward_one(from, to, now)?;
+    let asked = are_asked(from, to, now, rooms.saturating_add(1));
+    let came = gives(&mut to.device, Instant::ZERO, 9, 7);
+    let none = !forward_one(from, to, now)? && forward(from, to, now, 3)? == 0;
+    Ok(passed && asked && came && none && are_asked(from, to, now, rooms.saturating_add(3)))
 }
 
 #[test]
-fn both_devices_are_asked_at_the_moment_that_was_given(rt: HostRuntime) {
+fn both_devices_are_asked_once_at_the_moment_that_was_given(
+    rt: HostRuntime,
+) -> Result<(), AllocError> {
     let tokens = Cell::new(0);
     let mut from = without_frames(rt.alloc(), &tokens);
     let mut to = without_frames(rt.alloc(), &tokens);
@@ -326,115 +339,68 @@ fn both_devices_are_asked_at_the_moment_that_was_given(rt: HostRuntime) {
         1_700_000_000_123_456,
         i64::MAX,
     ] {
-        let asked = are_asked_at(&mut from, &mut to, micros, false)
-            && are_asked_at(&mut from, &mut to, micros - micros % 7, true);
-        assert_holds(&rt, asked, ("at", micros.unsigned_abs() as usize));
+        let asked = asks_once(&mut from, &mut to, micros)?;
+        assert_holds(&rt, asked, micros.unsigned_abs() as usize);
     }
-}
-
-/// Returns whether a frame passes, and the device that it goes to is asked for room once, and the
-/// other one never.
-fn asks_once(from: &mut Noting<'_>, to: &mut Noting<'_>) -> Result<bool, AllocError> {
-    let rooms = to.rooms;
-    let passed = sends(&mut from.device, Instant::ZERO, 9, 7)?
-        && forward_one(from, to, Instant::ZERO)?
-        && gives(&mut to.device, Instant::ZERO, 9, 7);
-    Ok(passed && to.rooms == rooms.saturating_add(1) && from.rooms == 0)
-}
-
-/// Each call asks the device that it sends on for one token, even if no frame waits, and the other
-/// device for none.
-#[test]
-fn room_is_asked_for_once_a_frame(rt: HostRuntime) -> Result<(), AllocError> {
-    let tokens = Cell::new(0);
-    let mut from = without_frames(rt.alloc(), &tokens);
-    let mut to = without_frames(rt.alloc(), &tokens);
-    assert_holds(&rt, asks_once(&mut from, &mut to)?, ("frame", 1));
-    assert_holds(&rt, asks_once(&mut from, &mut to)?, ("frame", 2));
-    let passed = forward_one(&mut from, &mut to, Instant::ZERO)?;
-    assert_holds(&rt, !passed && to.rooms == 3, ("no frame", to.rooms));
     Ok(())
 }
 
-/// Sends four frames on the first device, of which three pass to the other, by one bridge or the other, at `micros`
-/// microseconds. Returns whether the devices are asked for each of these at that moment, and for no other one, and the
-/// frames are sent as their tokens were; and whether no token is left.
-fn three_of_four_pass(
+/// Forwards frames by one bridge or the other.
+fn pass(
     from: &mut Noting<'_>,
     to: &mut Noting<'_>,
-    micros: i64,
+    now: Instant,
+    max: usize,
+    lists: bool,
+) -> Result<usize, AllocError> {
+    if lists {
+        forward_lists(from, to, now, max)
+    } else {
+        forward(from, to, now, max)
+    }
+}
+
+/// Sends a frame more than may pass, each of `length` bytes, and forwards them at `micros` microseconds. Returns whether as
+/// many pass as may, the devices are asked for each of these at that moment, and for no other one, they are sent as their
+/// tokens were, and one stays.
+fn all_but_one_pass(
+    from: &mut Noting<'_>,
+    to: &mut Noting<'_>,
+    (micros, length, max): (i64, usize, usize),
     lists: bool,
 ) -> Result<bool, AllocError> {
     let now = Instant::from_micros(micros);
-    let rooms = to.rooms;
-    for _ in 0..4 {
-        sends(&mut from.device, Instant::ZERO, 9, 7)?;
+    let rooms = to.rooms.saturating_add(max);
+    for _ in 0..max.saturating_add(1) {
+        sends(&mut from.device, Instant::ZERO, length, 7)?;
     }
-    let passed = if lists {
-        forward_lists(from, to, now, 3)?
-    } else {
-        forward(from, to, now, 3)?
-    };
-    let asked = to.rooms == rooms.saturating_add(3) && from.rooms == 0;
-    let at = from.asked_for_a_frame == now && to.asked_for_room == now;
-    let left = gives(&mut from.device, Instant::ZERO, 9, 7);
-    Ok(passed == 3 && asked && at && left && to.sent_with == 0 && to.tokens.get() == 0)
+    let passed = pass(from, to, now, max, lists)? == max;
+    let asked = (max == 0 && to.rooms == rooms) || are_asked(from, to, now, rooms);
+    let left = gives(&mut from.device, Instant::ZERO, length, 7);
+    Ok(passed && asked && left && to.sent_with == 0 && to.tokens.get() == 0)
 }
+
+/// Moments, lengths of frames, and how many of them may pass: if none may, no room is asked for.
+static PASSES: [(i64, usize, usize); 7] = [
+    (i64::MIN, 9, 3),
+    (-1, 9, 3),
+    (60_000_000, 9, 3),
+    (7, 1_514, 0),
+    (7, 1_514, 1),
+    (7, 1_514, 5),
+    (7, 1_514, 40),
+];
 
 #[test]
 fn each_frame_is_asked_for_once_and_at_that_moment(rt: HostRuntime) -> Result<(), AllocError> {
     let tokens = Cell::new(0);
     let mut from = without_frames(rt.alloc(), &tokens);
     let mut to = without_frames(rt.alloc(), &tokens);
-    for micros in [i64::MIN, -1, 60_000_000] {
-        let place = ("at", micros.unsigned_abs() as usize);
-        assert_holds(
-            &rt,
-            three_of_four_pass(&mut from, &mut to, micros, false)?,
-            place,
-        );
-        assert_holds(
-            &rt,
-            three_of_four_pass(&mut from, &mut to, micros, true)?,
-            place,
-        );
-    }
-    Ok(())
-}
-
-/// Sends frames of 1,514 bytes, as many as may pass, and forwards them. Returns whether room is asked for once a
-/// frame, the frames are sent as their tokens were, and no token is left.
-fn long_frames_pass(
-    from: &mut Noting<'_>,
-    to: &mut Noting<'_>,
-    max: usize,
-) -> Result<bool, AllocError> {
-    let rooms = to.rooms;
-    for _ in 0..max {
-        sends(&mut from.device, Instant::ZERO, 1_514, 7)?;
-    }
-    let passed = forward(from, to, Instant::ZERO, max)? == max;
-    Ok(
-        passed
-            && to.rooms == rooms.saturating_add(max)
-            && from.rooms == 0
-            && to.sent_with == 0
-            && to.tokens.get() == 0,
-    )
-}
-
-/// If no frame may pass, no room is asked for.
-#[test]
-fn room_is_asked_for_as_often_as_frames_may_pass(rt: HostRuntime) -> Result<(), AllocError> {
-    let tokens = Cell::new(0);
-    let mut from = without_frames(rt.alloc(), &tokens);
-    let mut to = without_frames(rt.alloc(), &tokens);
-    for max in [0, 1, 5, 40] {
-        assert_holds(
-            &rt,
-            long_frames_pass(&mut from, &mut to, max)?,
-            ("frames", max),
-        );
+    for index in 0..PASSES.len() {
+        for lists in [false, true] {
+            let passed = all_but_one_pass(&mut from, &mut to, PASSES[index], lists)?;
+            assert_holds(&rt, passed, index);
+        }
     }
     Ok(())
 }
@@ -473,8 +439,8 @@ fn passes_long(from: &Refusing, to: &Refusing) -> (Option<usize>, usize, usize) 
     (passed, count_left(&mut other), count_left(&mut one))
 }
 
-/// Refuses the request for memory of that number to the second device. Returns whether `came` frames come and
-/// `stayed` stay, and one is lost exactly if a request is refused; all memory is given back.
+/// Refuses the request for memory of that number to the second device. Returns whether so many frames come and so
+/// many stay, and one is lost exactly if a request is refused; all memory is given back.
 fn passes_so(alloc: Global, (refused, came, stayed): (usize, usize, usize)) -> bool {
     let from = Refusing::new(alloc, usize::MAX);
     let to = Refusing::new(alloc, refused);
@@ -486,6 +452,6 @@ fn passes_so(alloc: Global, (refused, came, stayed): (usize, usize, usize)) -> b
 #[test]
 fn a_refusal_of_memory_loses_one_frame(rt: HostRuntime) {
     for row in [(0, 0, 2), (1, 0, 2), (2, 1, 1), (3, 2, 0), (4, 3, 0)] {
-        assert_holds(&rt, passes_so(rt.alloc(), row), ("request", row.0));
+        assert_holds(&rt, passes_so(rt.alloc(), row), row.0);
     }
 }

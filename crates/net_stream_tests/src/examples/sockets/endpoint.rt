@@ -1,5 +1,5 @@
 //! Endpoints, compared.
-use crate::examples::sockets::assertions::assert_holds;
+use crate::assertions::assert_holds;
 use net_examples::Endpoint;
 
 /// Two endpoints, and whether they are equal.
@@ -20,6 +20,6 @@ fn endpoints_are_equal_by_address_and_port(rt: HostRuntime) {
     for index in 0..4usize {
         let (one, other, are_equal) = PAIRS[index];
         let holds = (endpoint(one) == endpoint(other)) == are_equal;
-        assert_holds(&rt, holds, ("pair", index));
+        assert_holds(&rt, holds, index);
     }
 }

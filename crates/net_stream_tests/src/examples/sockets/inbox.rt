@@ -1,5 +1,5 @@
 //! A datagram that is shown in place.
-use crate::examples::sockets::assertions::assert_holds;
+use crate::assertions::assert_holds;
 use net_examples::{Endpoint, Inbox};
 use net_packets::{PacketMetadata, PacketsOver};
 use net_ring::Empty;
@@ -28,9 +28,9 @@ fn the_first_datagram_is_shown_in_place(rt: HostRuntime) {
         address: 0x0a000001,
         port: 53,
     };
-    assert_holds(&rt, queue.push_slice(from, b"hi").is_ok(), ("queued", 1));
+    assert_holds(&rt, queue.push_slice(from, b"hi").is_ok(), 1);
     let mut inbox = Inbox::new(queue);
     for turn in 0..2usize {
-        assert_holds(&rt, shows(&mut inbox, from, b"hi"), ("shown", turn));
+        assert_holds(&rt, shows(&mut inbox, from, b"hi"), turn);
     }
 }

@@ -1,5 +1,5 @@
 //! Each type that holds storage, as a local over lent and over owned storage.
-use crate::examples::sockets::assertions::assert_holds;
+use crate::assertions::assert_holds;
 use net_base::storage::FragmentBuffer;
 use net_base::time::Instant;
 use net_examples::{Endpoint, Inbox, UdpSocket};
@@ -92,40 +92,40 @@ fn owned_packet_is_whole(bytes: Vec<u8>) -> bool {
 #[test]
 fn locals_over_lent_storage(rt: HostRuntime) {
     let mut bytes = [0u8; 2];
-    assert_holds(&rt, lent_packet_is_whole(&mut bytes), ("packet", 0));
-    assert_holds(&rt, ring_takes((&mut bytes).into()), ("ring", 0));
+    assert_holds(&rt, lent_packet_is_whole(&mut bytes), 0);
+    assert_holds(&rt, ring_takes((&mut bytes).into()), 1);
     let mut slots = [PacketMetadata::<Endpoint>::EMPTY; 1];
     let takes = queue_takes((&mut slots).into(), (&mut bytes).into());
-    assert_holds(&rt, takes, ("queue", 0));
+    assert_holds(&rt, takes, 2);
     let is_empty = inbox_is_empty((&mut slots).into(), (&mut bytes).into());
-    assert_holds(&rt, is_empty, ("inbox", 0));
-    assert_holds(&rt, lent_socket_sends(), ("socket", 0));
+    assert_holds(&rt, is_empty, 3);
+    assert_holds(&rt, lent_socket_sends(), 4);
 }
 
 #[test]
 fn a_packet_over_owned_storage(rt: HostRuntime) -> Result<(), Fail> {
     let whole = owned_packet_is_whole([0u8; 2].to_vec(rt.alloc())?);
-    assert_holds(&rt, whole, ("packet", 0));
+    assert_holds(&rt, whole, 0);
     Ok(())
 }
 
 #[test]
 fn a_ring_over_owned_storage(rt: HostRuntime) -> Result<(), Fail> {
     let takes = ring_takes(owned_bytes(rt.alloc())?);
-    assert_holds(&rt, takes, ("ring", 0));
+    assert_holds(&rt, takes, 0);
     Ok(())
 }
 
 #[test]
 fn a_queue_over_owned_storage(rt: HostRuntime) -> Result<(), Fail> {
     let takes = queue_takes(owned_slots(rt.alloc())?, owned_bytes(rt.alloc())?);
-    assert_holds(&rt, takes, ("queue", 0));
+    assert_holds(&rt, takes, 0);
     Ok(())
 }
 
 #[test]
 fn an_inbox_over_owned_storage(rt: HostRuntime) -> Result<(), Fail> {
     let is_empty = inbox_is_empty(owned_slots(rt.alloc())?, owned_bytes(rt.alloc())?);
-    assert_holds(&rt, is_empty, ("inbox", 0));
+    assert_holds(&rt, is_empty, 0);
     Ok(())
 }
