@@ -1,4 +1,5 @@
 //! The words of the command line, with memory and without.
+use crate::assertions::assert_holds;
 use net_io::testing::Refusing;
 use net_io::{command_words, gather};
 use std::alloc::{AllocError, Allocator, Global};
@@ -20,9 +21,9 @@ fn words_of(alloc: Global) -> Result<Vec<String>, AllocError> {
 
 /// Stops the test unless these are the words of the line.
 fn assert_words<A: Allocator + Copy>(rt: &impl Abort, words: &Vec<String, A>) {
-    assert!(rt; words.len() == 6);
+    assert_holds(rt, words.len() == 6, ("step", 1));
     for (word, wanted) in words.iter().zip(LINE.split(' ')) {
-        assert!(rt; word.as_str() == wanted, "{word}, not {wanted}");
+        assert_holds(rt, word.as_str() == wanted, ("word", 0));
     }
 }
 
@@ -31,19 +32,23 @@ fn assert_words<A: Allocator + Copy>(rt: &impl Abort, words: &Vec<String, A>) {
 fn is_refused(rt: &impl Abort, alloc: Global, refused: usize) -> Result<bool, Fail> {
     let heap = Refusing::new(alloc, refused);
     let Ok(gathered) = gather(&heap, words_of(alloc)?.into_iter()) else {
-        assert!(rt; heap.requests() == refused.saturating_add(1));
+        assert_holds(
+            rt,
+            heap.requests() == refused.saturating_add(1),
+            ("step", 1),
+        );
         return Ok(true);
     };
-    assert!(rt; heap.requests() == 2);
+    assert_holds(rt, heap.requests() == 2, ("step", 2));
     assert_words(rt, &gathered);
     Ok(false)
 }
 
 #[test]
 fn gathers_all_words_or_none(rt: HostRuntime) -> Result<(), Fail> {
-    assert!(rt; is_refused(&rt, rt.alloc(), 0)?);
-    assert!(rt; is_refused(&rt, rt.alloc(), 1)?);
-    assert!(rt; !is_refused(&rt, rt.alloc(), 2)?);
+    assert_holds(&rt, is_refused(&rt, rt.alloc(), 0)?, ("step", 1));
+    assert_holds(&rt, is_refused(&rt, rt.alloc(), 1)?, ("step", 2));
+    assert_holds(&rt, !is_refused(&rt, rt.alloc(), 2)?, ("step", 3));
     Ok(())
 }
 
@@ -65,7 +70,11 @@ fn a_list_of_words_grows_by_doubling(rt: HostRuntime) -> Result<(), Fail> {
     let Some((count, bytes)) = gathers_many(rt.alloc(), 40)? else {
         return Err(Fail::from(AllocError));
     };
-    assert!(rt; count == 40 && bytes <= (4 + 8 + 16 + 32 + 64) * 64);
+    assert_holds(
+        &rt,
+        count == 40 && bytes <= (4 + 8 + 16 + 32 + 64) * 64,
+        ("step", 1),
+    );
     Ok(())
 }
 
@@ -128,9 +137,13 @@ fn has_words(alloc: Global, line: &[&[u8]]) -> bool {
 
 #[test]
 fn words_stay_as_they_are(rt: HostRuntime) -> Result<(), Fail> {
-    assert!(rt; has_words(rt.alloc(), &ODD_WORDS));
+    assert_holds(&rt, has_words(rt.alloc(), &ODD_WORDS), ("step", 1));
     let long = vec![in rt.alloc(); b'7'; 5_000]?;
-    assert!(rt; has_words(rt.alloc(), &[b"program", &long, b"8", &long]));
+    assert_holds(
+        &rt,
+        has_words(rt.alloc(), &[b"program", &long, b"8", &long]),
+        ("step", 2),
+    );
     Ok(())
 }
 
@@ -158,10 +171,26 @@ fn the_words_of_a_command_line_are_those_after_its_first(rt: HostRuntime) -> Res
         LONG_WORD,
     ];
     let words = command_words(&(CommandLine(&long), rt.alloc()));
-    assert!(rt; words.len() == 8 && words[7].as_bytes() == LONG_WORD);
+    assert_holds(
+        &rt,
+        words.len() == 8 && words[7].as_bytes() == LONG_WORD,
+        ("step", 1),
+    );
     let unreadable = [b"program".as_slice(), b"8".as_slice(), b"\xff".as_slice()];
-    assert!(rt; command_words(&(CommandLine(&unreadable), rt.alloc())).is_empty());
-    assert!(rt; command_words(&(CommandLine(&line[..1]), rt.alloc())).is_empty());
-    assert!(rt; command_words(&(CommandLine(&[]), rt.alloc())).is_empty());
+    assert_holds(
+        &rt,
+        command_words(&(CommandLine(&unreadable), rt.alloc())).is_empty(),
+        ("step", 2),
+    );
+    assert_holds(
+        &rt,
+        command_words(&(CommandLine(&line[..1]), rt.alloc())).is_empty(),
+        ("step", 3),
+    );
+    assert_holds(
+        &rt,
+        command_words(&(CommandLine(&[]), rt.alloc())).is_empty(),
+        ("step", 4),
+    );
     Ok(())
 }

@@ -1,4 +1,5 @@
 //! Texts that are written completely, or up to an error, and flushes.
+use crate::assertions::assert_holds;
 use net_io::testing::{NEVER, Sink};
 use net_io::{flush_after, write_text};
 use std::alloc::Global;
@@ -27,9 +28,13 @@ fn check_text(
     } else {
         Err(written)
     };
-    assert!(rt; found == wanted);
-    assert!(rt; sink.bytes.as_slice() == &text[..written.min(text.len())]);
-    assert!(rt; sink.calls == calls && sink.flushes == 0);
+    assert_holds(rt, found == wanted, ("step", 1));
+    assert_holds(
+        rt,
+        sink.bytes.as_slice() == &text[..written.min(text.len())],
+        ("step", 2),
+    );
+    assert_holds(rt, sink.calls == calls && sink.flushes == 0, ("step", 3));
     Ok(())
 }
 
@@ -71,7 +76,11 @@ fn a_long_text_needs_one_write(rt: HostRuntime) -> Result<(), Fail> {
 #[test]
 fn a_text_of_no_bytes_needs_no_write(rt: HostRuntime) -> Result<(), Fail> {
     let mut sink = Sink::failing(rt.alloc(), 1, 0, None)?;
-    assert!(rt; write_text(&mut sink, b"").is_ok() && sink.calls == 0);
+    assert_holds(
+        &rt,
+        write_text(&mut sink, b"").is_ok() && sink.calls == 0,
+        ("step", 1),
+    );
     Ok(())
 }
 
@@ -85,8 +94,8 @@ fn flush(
 ) -> Result<(), Fail> {
     let mut sink = Sink::new(alloc)?;
     sink.flush_kind = kind;
-    assert!(rt; flush_after(ended, 7, &mut sink) == wanted);
-    assert!(rt; sink.flushes == 1 && sink.calls == 0);
+    assert_holds(rt, flush_after(ended, 7, &mut sink) == wanted, ("step", 1));
+    assert_holds(rt, sink.flushes == 1 && sink.calls == 0, ("step", 2));
     Ok(())
 }
 
@@ -140,7 +149,11 @@ fn drops_error(alloc: Global, kind: Option<ErrorKind>) -> Result<bool, Fail> {
 
 #[test]
 fn an_error_that_is_not_used_is_dropped(rt: HostRuntime) -> Result<(), Fail> {
-    assert!(rt; drops_error(rt.alloc(), None)?);
-    assert!(rt; drops_error(rt.alloc(), Some(ErrorKind::Other))?);
+    assert_holds(&rt, drops_error(rt.alloc(), None)?, ("step", 1));
+    assert_holds(
+        &rt,
+        drops_error(rt.alloc(), Some(ErrorKind::Other))?,
+        ("step", 2),
+    );
     Ok(())
 }

@@ -1,5 +1,6 @@
 //! The results of copies, of wrong words and of a request for help.
 use self::cases::{CASES, Case};
+use crate::assertions::assert_holds;
 use crate::words::words_of;
 use net_io::testing::{NEVER, Refusing, Sink, Source};
 use net_io::{Ended, Status};
@@ -64,7 +65,7 @@ fn check(rt: &impl Abort, alloc: Global, case: &Case) -> Result<(), Fail> {
     assert_ended(rt, ended, case.status, case.words);
     assert_prefix(rt, &sink.bytes, &input, case.written, case.words);
     assert_bytes(rt, &errors.stream.bytes, case.told.as_bytes(), case.words);
-    assert!(rt; sink.flushes == 1, "{}", case.words);
+    assert_holds(rt, sink.flushes == 1, (case.words, 0));
     Ok(())
 }
 
@@ -99,13 +100,17 @@ fn check_misuse(rt: &impl Abort, alloc: Global, words: &[String], line: &str) ->
     let mut errors = messages(alloc)?;
     let memory = Refusing::new(alloc, NEVER);
     let ended = serve(&memory, words, &mut reader, &mut writer, &mut errors);
-    assert!(rt; memory.requests() == 0);
+    assert_holds(rt, memory.requests() == 0, ("step", 1));
     let wanted = format!(in alloc; "net_link: {line}\n{USAGE}")?;
     assert_ended(rt, ended, Status::Misused, line);
     assert_bytes(rt, &errors.stream.bytes, wanted.as_bytes(), line);
     let sink = &writer.stream;
-    assert!(rt; reader.stream.calls == 0 && sink.calls == 0 && sink.flushes == 0);
-    assert!(rt; errors.stream.flushes == 0);
+    assert_holds(
+        rt,
+        reader.stream.calls == 0 && sink.calls == 0 && sink.flushes == 0,
+        ("step", 2),
+    );
+    assert_holds(rt, errors.stream.flushes == 0, ("step", 3));
     Ok(())
 }
 
@@ -170,13 +175,21 @@ fn check_help(
     let ended = serve(&memory, &words, &mut reader, &mut writer, &mut errors);
     let sink = &writer.stream;
     let calls = written.div_ceil(100) + usize::from(status == Status::Failed);
-    assert!(rt; sink.calls == calls && memory.live() == 0);
-    assert!(rt; status == Status::Failed || memory.requests() == 0);
+    assert_holds(rt, sink.calls == calls && memory.live() == 0, ("step", 1));
+    assert_holds(
+        rt,
+        status == Status::Failed || memory.requests() == 0,
+        ("step", 2),
+    );
     assert_ended(rt, ended, status, line);
     assert_prefix(rt, &sink.bytes, USAGE.as_bytes(), written, line);
     assert_bytes(rt, &errors.stream.bytes, told.as_bytes(), line);
-    assert!(rt; reader.stream.calls == 0 && sink.flushes == 1);
-    assert!(rt; errors.stream.flushes == 0);
+    assert_holds(
+        rt,
+        reader.stream.calls == 0 && sink.flushes == 1,
+        ("step", 3),
+    );
+    assert_holds(rt, errors.stream.flushes == 0, ("step", 4));
     Ok(())
 }
 
@@ -204,7 +217,7 @@ fn check_refused_memory(rt: &impl Abort, alloc: Global, refused: usize) -> Resul
         b"net_link: out of memory\n0 bytes, 0 frames, 0 lost, 0 duplicated, 0 delayed, 0 refused, \
         0 bytes sent again, 0 rounds, 0 bytes a second\n";
     assert_bytes(rt, &errors.stream.bytes, told, "refused");
-    assert!(rt; errors.stream.flushes == 0);
+    assert_holds(rt, errors.stream.flushes == 0, ("step", 1));
     Ok(())
 }
 
@@ -233,7 +246,7 @@ fn check_untold(
     let sink = Sink::failing(alloc, usize::MAX, 0, Some(kind))?;
     let mut errors = ProgressWriter::new(sink);
     let ended = serve(&heap, &words, &mut reader, &mut writer, &mut errors);
-    assert!(rt; ended.status == status && !ended.is_told, "{line}");
+    assert_holds(rt, ended.status == status && !ended.is_told, (line, 0));
     assert_bytes(rt, &errors.stream.bytes, b"", line);
     Ok(())
 }

@@ -1,5 +1,6 @@
 //! Requests for memory that are counted and refused.
 
+use crate::assertions::assert_holds;
 use net_io::testing::{NEVER, Refusing, refuse_each};
 use std::alloc::{AllocError, Global};
 
@@ -24,9 +25,10 @@ fn one_request_is_refused(rt: HostRuntime) {
         (3, 3, 8),
         (1_000, 1_100, 4_096),
     ] {
-        assert!(rt;
+        assert_holds(
+            &rt,
             refuses_one(rt.alloc(), refused, requests, size),
-            "{refused} of {requests}"
+            ("request", refused),
         );
     }
 }
@@ -36,12 +38,16 @@ fn one_request_is_refused(rt: HostRuntime) {
 fn a_list_keeps_its_bytes_where_it_can_not_grow(rt: HostRuntime) -> Result<(), AllocError> {
     let memory = Refusing::new(rt.alloc(), 1);
     let mut bytes: Vec<u8, &Refusing> = Vec::from_slice(&memory, b"abcdefgh")?;
-    assert_eq!(rt; memory.bytes(), 8);
-    assert!(rt; bytes.push(b'i').is_err());
-    assert!(rt; bytes.as_slice() == b"abcdefgh".as_slice());
+    assert_holds(&rt, memory.bytes() == 8, ("step", 1));
+    assert_holds(&rt, bytes.push(b'i').is_err(), ("step", 2));
+    assert_holds(&rt, bytes.as_slice() == b"abcdefgh".as_slice(), ("step", 3));
     bytes.push(b'j')?;
-    assert!(rt; bytes.as_slice() == b"abcdefghj".as_slice());
-    assert_eq!(rt; memory.requests(), 3);
+    assert_holds(
+        &rt,
+        bytes.as_slice() == b"abcdefghj".as_slice(),
+        ("step", 4),
+    );
+    assert_holds(&rt, memory.requests() == 3, ("step", 5));
     Ok(())
 }
 
@@ -50,10 +56,10 @@ fn a_list_keeps_its_bytes_where_it_can_not_grow(rt: HostRuntime) -> Result<(), A
 #[test]
 fn what_is_given_back_is_counted(rt: HostRuntime) {
     let memory = Refusing::new(rt.alloc(), NEVER);
-    assert!(rt; grows_from_eight(&memory));
-    assert_eq!(rt; memory.live(), 0);
-    assert!(rt; keeps_a_block(&memory, 5));
-    assert_eq!(rt; memory.live(), 0);
+    assert_holds(&rt, grows_from_eight(&memory), ("step", 1));
+    assert_holds(&rt, memory.live() == 0, ("step", 2));
+    assert_holds(&rt, keeps_a_block(&memory, 5), ("step", 3));
+    assert_holds(&rt, memory.live() == 0, ("step", 4));
 }
 
 /// Returns whether eight bytes are live while a list of eight is there, and never more than both
@@ -83,8 +89,12 @@ fn keeps_a_block(memory: &Refusing, size: usize) -> bool {
 #[test]
 fn refused_bytes_are_not_live(rt: HostRuntime) {
     let memory = Refusing::new(rt.alloc(), 0);
-    assert!(rt; !keeps_a_block(&memory, 5) && memory.bytes() == 5);
-    assert!(rt; memory.live() == 0 && memory.most() == 0);
+    assert_holds(
+        &rt,
+        !keeps_a_block(&memory, 5) && memory.bytes() == 5,
+        ("step", 1),
+    );
+    assert_holds(&rt, memory.live() == 0 && memory.most() == 0, ("step", 2));
 }
 
 /// Returns whether a list of eight bytes is made and grows by one, and whether each was tried.
@@ -98,25 +108,30 @@ fn makes_and_grows(memory: &Refusing) -> bool {
 
 #[test]
 fn each_request_of_a_run_is_refused_in_turn(rt: HostRuntime) {
-    assert_eq!(rt;
-        refuse_each(rt.alloc(), |memory| makes_and_grows(memory)),
-        Some(2)
+    assert_holds(
+        &rt,
+        refuse_each(rt.alloc(), |memory| makes_and_grows(memory)) == Some(2),
+        ("step", 1),
     );
-    assert_eq!(rt; refuse_each(rt.alloc(), |_| true), Some(0));
-    assert_eq!(rt; refuse_each(rt.alloc(), |_| false), None);
+    assert_holds(
+        &rt,
+        refuse_each(rt.alloc(), |_| true) == Some(0),
+        ("step", 2),
+    );
+    assert_holds(&rt, refuse_each(rt.alloc(), |_| false) == None, ("step", 3));
     let mut runs = 0usize;
     let gives_up = refuse_each(rt.alloc(), |memory| {
         runs = runs.saturating_add(1);
         makes_and_grows(memory) || runs == 2
     });
-    assert_eq!(rt; gives_up, None);
+    assert_holds(&rt, gives_up == None, ("step", 4));
 }
 
 /// A run of many requests is begun as often.
 #[test]
 fn many_requests_are_refused_in_turn(rt: HostRuntime) {
     let made = refuse_each(rt.alloc(), |memory| makes_blocks(memory, 300));
-    assert_eq!(rt; made, Some(300));
+    assert_holds(&rt, made == Some(300), ("step", 1));
 }
 
 /// Returns whether `count` blocks are made, one after another.
@@ -134,7 +149,7 @@ fn makes_blocks(memory: &Refusing, count: usize) -> bool {
 #[test]
 fn memory_that_is_kept_is_seen(rt: HostRuntime) {
     let kept = refuse_each(rt.alloc(), |memory| forgets_a_list(memory));
-    assert_eq!(rt; kept, None);
+    assert_holds(&rt, kept == None, ("step", 1));
 }
 
 /// Makes a list that is never dropped, and returns whether it was made.

@@ -1,4 +1,5 @@
 //! Readers and writers that fail at one call.
+use crate::assertions::assert_holds;
 use net_io::testing::{Sink, Source};
 use std::alloc::{AllocError, Global};
 use std::io::{ErrorKind, Read, Write};
@@ -27,7 +28,7 @@ fn a_reader_fails_at_one_call(rt: HostRuntime) {
         ErrorKind::BrokenPipe,
         ErrorKind::Other,
     ] {
-        assert!(rt; reads_again(kind));
+        assert_holds(&rt, reads_again(kind), ("step", 1));
     }
 }
 
@@ -65,9 +66,9 @@ fn a_writer_fails_at_one_call(rt: HostRuntime) -> Result<(), AllocError> {
         ErrorKind::BrokenPipe,
         ErrorKind::Other,
     ] {
-        assert!(rt; writes_again(rt.alloc(), kind)?);
-        assert!(rt; fails_to_flush(rt.alloc(), kind)?);
+        assert_holds(&rt, writes_again(rt.alloc(), kind)?, ("step", 1));
+        assert_holds(&rt, fails_to_flush(rt.alloc(), kind)?, ("step", 2));
     }
-    assert!(rt; takes_nothing_once(rt.alloc())?);
+    assert_holds(&rt, takes_nothing_once(rt.alloc())?, ("step", 3));
     Ok(())
 }
