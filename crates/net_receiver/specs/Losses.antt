@@ -1,6 +1,6 @@
 -- Which positions of a sender are lost, by the rule of RFC 6675, section 4.
 --     runs_above rs p      those of some runs that start above position p
---     tell_loss duplicates size rs      so many runs tell that what is below them is lost
+--     tell_loss duplicates size rs      there are enough runs to tell that what is below them is lost
 --     is_lost duplicates size s p      what isn't reported at position p is lost
 --     IsLossBound duplicates size s limit      it is so exactly at the positions below the limit
 --     IsHole s p limit hole      the first range of positions from p on, below the limit, that s lacks, if there is one

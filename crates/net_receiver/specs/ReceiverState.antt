@@ -136,7 +136,7 @@ module _ (most_runs : ℕ) where
   abbrev pub setting : ReceiverState → Setting
   setting v = record { first = v.first; capacity = v.capacity; most_runs = most_runs }
 
--- a receiver's first position and its capacity stay, and at most so many runs are held
+-- a receiver's first position and its capacity stay, and no more runs are held than that number
 pub record StaysInSetting (most_runs : ℕ) (v u : ReceiverState) : Type 0 where
   pub first : u.first ≡ v.first
   pub capacity : u.capacity ≡ v.capacity

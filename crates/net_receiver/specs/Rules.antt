@@ -69,7 +69,7 @@ pub record ReceiverOps (S : Type 0) : Type 0 where
   pub held : S → Positions
   -- the state with one more kept piece
   pub with_piece : S → Piece → S
-  -- the state after a read of so many bytes, or of the whole queue if it is shorter
+  -- the state after a read of at most this number of bytes, or of the whole queue if it is shorter
   pub after_read : S → ℕ → S
 
 module _ {S : Type 0} (ops : ReceiverOps S) where

@@ -77,7 +77,7 @@ abbrev pub ByteComputed : Type 0
 ByteComputed = (k : List Piece) (p : ℕ) → byte_at k p ≡ byte_in k p
 
 -- ---- a schedule in full
--- the reply to a segment of which so many bytes are kept, and after which so many join the queue
+-- the reply to a segment, by how many of its bytes are kept, and how many join the queue
 abbrev pub segment_reply : ℕ → ℕ → List (Option (ℕ × ℕ)) → ReplyValue
 segment_reply kept queued sack = SegmentReply (Ok (record { kept = kept; queued = queued; sack = sack }))
 

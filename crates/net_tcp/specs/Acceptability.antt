@@ -1,5 +1,5 @@
 -- Which arriving segments are acceptable (RFC 9293, section 3.10.7.4), where positions don't wrap.
---     IsWithin next window pos      the window of so many positions from next on contains pos
+--     IsWithin next window pos      the window of `window` positions from next on contains pos
 --     IsInTable      the four cases of the RFC's table
 --     Meets a m b n      the m positions from a on and the n positions from b on have one in common
 --     IsAcceptable      the segment's positions meet the window

@@ -1,5 +1,5 @@
 -- The window that a receiver announces (RFC 9293, section 3.8.6; RFC 7323, section 2).
---     field_for scale free      the number announced if so many positions are free
+--     field_for scale free      the number announced if `free` positions are free
 --     announced next scale field      the right edge that it promises, with this first missing position
 --     IsScaleFor capacity scale      the least scale by which a capacity can be announced
 --     worth capacity mss      how far the edge must move for an update of its own

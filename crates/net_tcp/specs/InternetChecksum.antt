@@ -32,7 +32,7 @@ updated c m n = 65535 - folded ((65535 - c) + (65535 - m) + n)
 abbrev pub word_bytes : ℕ → List ℕ
 word_bytes w = w / 256 ∷ w % 256 ∷ []
 
--- so many bytes that the next one is a high byte
+-- an even number of bytes: the next one is a high byte
 abbrev pub IsEven : List ℕ → Type 0
 IsEven xs = length xs % 2 ≡ 0
 

@@ -15,7 +15,7 @@ use std::alloc::{AllocError, Allocator, Global};
 use std::cell::Cell;
 use std::marker::Model;
 
-/// Sends a frame of so many bytes of one value on a device. Returns whether it had room.
+/// Sends a frame of `length` bytes of one value on a device. Returns whether it had room.
 fn sends(device: &mut Loopback, now: Instant, length: usize, byte: u8) -> Result<bool, AllocError> {
     let Some(token) = device.transmit(now) else {
         return Ok(false);
@@ -24,7 +24,7 @@ fn sends(device: &mut Loopback, now: Instant, length: usize, byte: u8) -> Result
     Ok(true)
 }
 
-/// Takes the next frame off a device, and returns whether it is so many bytes of one value.
+/// Takes the next frame off a device, and returns whether it is `length` bytes of one value.
 fn gives(device: &mut Loopback, now: Instant, length: usize, byte: u8) -> bool {
     device.receive(now).is_some_and(|(token, _token)| {
         let frame = token.frame();
@@ -112,7 +112,7 @@ fn a_frame_of_any_length_passes(rt: HostRuntime) -> Result<(), AllocError> {
     Ok(())
 }
 
-/// Sends so many frames, each of as many bytes as were sent before it.
+/// Sends `count` frames, each of as many bytes as were sent before it.
 fn sends_many(device: &mut Loopback, count: usize) -> Result<bool, AllocError> {
     for length in 0..count {
         if !sends(device, Instant::ZERO, length, 7)? {
@@ -122,7 +122,7 @@ fn sends_many(device: &mut Loopback, count: usize) -> Result<bool, AllocError> {
     Ok(true)
 }
 
-/// Returns whether so many frames arrive as they were sent, and no other.
+/// Returns whether `count` frames arrive as they were sent, and no other.
 fn gives_many(device: &mut Loopback, count: usize) -> bool {
     for length in 0..count {
         if !gives(device, Instant::ZERO, length, 7) {
@@ -439,8 +439,8 @@ fn passes_long(from: &Refusing, to: &Refusing) -> (Option<usize>, usize, usize) 
     (passed, count_left(&mut other), count_left(&mut one))
 }
 
-/// Refuses the request for memory of that number to the second device. Returns whether so many frames come and so
-/// many stay, and one is lost exactly if a request is refused; all memory is given back.
+/// Refuses the request for memory of that number to the second device. Returns whether `came` frames
+/// come and `stayed` stay, and one is lost exactly if a request is refused; all memory is given back.
 fn passes_so(alloc: Global, (refused, came, stayed): (usize, usize, usize)) -> bool {
     let from = Refusing::new(alloc, usize::MAX);
     let to = Refusing::new(alloc, refused);
