@@ -35,9 +35,9 @@
  * 5. A head, its runs and its slots are written by calls of its own kind alone, those of a receiver
  *    by `net_base_receiver_..`, not its `place` by `net_base_ring_..` or its `held` by
  *    `net_base_assembler_..`. The caller may set a head to zeros, and then what the comment of its
- *    kind says: `first` of a receiver, `first_unacknowledged` of a sender, `base` of a scoreboard,
- *    `expires_at` of a buffer of fragments, `end` of a receiver of a stream that ends, `edge` of an
- *    announced window, `timeout` of a timeout.
+ *    kind says: `first` of a receiver, `first_unacknowledged` of a sender, and `sent` of one of a
+ *    stream that ends, `base` of a scoreboard, `expires_at` of a buffer of fragments, `end` of a
+ *    receiver of a stream that ends, `edge` of an announced window, `timeout` of a timeout.
  * 6. Where a comment says `Requires`, head and runs are sound, as a call whose name ends in
  *    `_is_sound` tests. What calls of its own kind wrote, from a new head on, is sound, if each
  *    slot that `net_base_packets_take_slot` was given was the first one.
@@ -872,7 +872,7 @@ struct net_base_scoreboard {
     struct net_base_assembler reported;
 };
 
-/* A range of positions to send again, and whether the call was done. */
+/* A range of positions that weren't reported, and whether the call was done. */
 struct net_base_hole {
     /* `NET_BASE_DONE` or `NET_BASE_REFUSED`. */
     uint32_t status;
@@ -954,7 +954,7 @@ uint64_t net_base_scoreboard_count_beyond(
     uint64_t runs_length);
 
 /* Writes to `limit` the position below which all that wasn't reported is lost, by the rule of RFC
- * 6675, section 4, and returns true: above it `duplicates` runs were reported (3 in TCP; 0 counts
+ * 6675, section 4, and returns true: from it on `duplicates` runs were reported (3 in TCP; 0 counts
  * as 1), or more bytes than `duplicates - 1` segments of `segment_size` bytes have. It is 0 if
  * nothing is lost.
  *
@@ -968,8 +968,8 @@ bool net_base_scoreboard_lost_below(
  * TCP's FIN has, and needs no room; `end` of the head is it, or `NET_BASE_NONE` while it isn't
  * known.
  *
- * A new head has `end` set to `NET_BASE_NONE`, and is zeros but for `receiver.first` otherwise.
- * `receiver` is a receiver, whose calls that only look may be made on it.
+ * A new head has `end` set to `NET_BASE_NONE`, and is zeros but for `receiver.first` otherwise,
+ * which is below that. `receiver` is a receiver, whose calls that only look may be made on it.
  */
 
 /* What a receiver of a stream that ends has besides its storage and its held runs: numbers. */
@@ -989,7 +989,7 @@ bool net_base_finite_receiver_is_sound(
 
 /* Returns `NET_BASE_PRESENT` if the stream can end at `position`: it is the end that is known, or
  * none is, and it isn't below the first missing position or a held run's end. Otherwise
- * `NET_BASE_MISSING`.
+ * `NET_BASE_MISSING`. `NET_BASE_NONE` is no end, which isn't tested here.
  *
  * It is refused if `place` isn't that of a ring of `storage_length` bytes, `next` doesn't fit 64
  * bits, or `held.used` is above `runs_length`: `NET_BASE_REFUSED`.
@@ -1050,7 +1050,7 @@ uint32_t net_base_finite_receiver_is_acceptable(
     uint64_t position, uint64_t count);
 
 /* Returns how many bytes of a segment of `len` bytes at `position` would be new: those in the free
- * window and below the end whose positions are not held.
+ * window and below the end whose positions are not held. It looks at each run.
  *
  * It is refused if `place` isn't that of a ring of `storage_length` bytes, `next` doesn't fit 64
  * bits, or `held.used` is above `runs_length`, or if the segment and an end after it don't fit 64
@@ -1205,8 +1205,8 @@ uint16_t net_base_tcp_checksum(const uint8_t *bytes, uint64_t bytes_length);
 /* Returns whether these bytes, with their checksum among them at an even offset, are valid. */
 bool net_base_tcp_is_checksum_valid(const uint8_t *bytes, uint64_t bytes_length);
 
-/* Returns the checksum of a message in which the word `old` became `new`, from its checksum before
- * (RFC 1624, equation 3).
+/* Returns the checksum of a message in which the word `old`, at an even offset, became `new`, from
+ * its checksum before (RFC 1624, equation 3); of one that is all zeros then, 0 in place of 65535.
  */
 uint16_t net_base_tcp_updated_checksum(uint16_t checksum, uint16_t old, uint16_t new);
 
@@ -1218,7 +1218,7 @@ uint16_t net_base_tcp_updated_checksum(uint16_t checksum, uint16_t old, uint16_t
 
 /* What a receiver has announced: how far its promise reaches. */
 struct net_base_advertised_window {
-    /* The position after the last one that was ever promised. The receiver accepts all below it. */
+    /* The position after the last one that was ever promised. All below it is acceptable. */
     uint64_t edge;
 };
 
@@ -1227,8 +1227,8 @@ struct net_base_advertised_window {
  * doesn't promise more than there is. In a segment with a SYN the scale is 0.
  *
  * No number keeps a promise whose rest isn't a multiple of the unit, unless there is room for a
- * unit more: the number may then be one less than what was promised, by less than a unit. What was
- * promised is still accepted, and `edge` stays.
+ * unit more: at one scale the number may then be less than what was promised, by less than a unit.
+ * What was promised is still acceptable, and `edge` stays.
  *
  * It is refused if `scale` is above 14, or if `window_end` is below `next`: false, and nothing
  * changes.
@@ -1238,9 +1238,9 @@ bool net_base_advertised_window_announce(
     uint64_t window_end, uint16_t *number);
 
 /* Writes the number to announce in a segment that is sent anyway, as
- * `net_base_advertised_window_announce` does, but moves the edge only if an update would be due:
- * otherwise it announces what was promised before. So a sender is never told of a few bytes of room
- * (RFC 9293, section 3.8.6.2.2).
+ * `net_base_advertised_window_announce` does, but moves the edge beyond `next` only if an update
+ * would be due: otherwise it announces what was promised before, rounded down. So a sender is never
+ * told of a few bytes of room (RFC 9293, section 3.8.6.2.2).
  *
  * It is refused if `scale` is above 14, or if `window_end` is below `next`: false, and nothing
  * changes.
@@ -1250,8 +1250,8 @@ bool net_base_advertised_window_announce_in_steps(
     uint64_t window_end, uint64_t capacity, uint16_t mss, uint16_t *number);
 
 /* Returns `NET_BASE_PRESENT` if an update is worth a segment of its own, and `NET_BASE_MISSING` if
- * it isn't: whether the edge would move by half of the receiver's capacity, or by one segment of
- * `mss` bytes.
+ * it isn't: whether the edge would move by half of the receiver's capacity, rounded up, or by one
+ * segment of `mss` bytes, and by 1 at least.
  *
  * It is refused if `scale` is above 14, or if `window_end` is below `next`: `NET_BASE_REFUSED`.
  */
@@ -1261,12 +1261,12 @@ uint32_t net_base_advertised_window_is_update_due(
 
 /* The window that the peer announced.
  *
- * A head of zeros is that before any segment: nothing may be sent, and no segment is older.
+ * A head of zeros is that before any segment: nothing may be sent but a probe, and no segment is
+ * older.
  */
 
 /* The window that the peer announced, and the segment that it is from. It is kept as its right
- * edge, which acknowledgements don't move. One of zeros lets nothing be sent, and no segment is
- * older.
+ * edge, a position. One of zeros lets nothing be sent but a probe, and no segment is older.
  */
 struct net_base_peer_window {
     /* The position after the last that may be sent. */
@@ -1278,8 +1278,8 @@ struct net_base_peer_window {
 };
 
 /* Takes over the window of an acceptable segment, unless that is older than the one before, or
- * acknowledges what was acknowledged before `first_unacknowledged`, or what was never sent. Returns
- * whether it did. A window may shrink.
+ * acknowledges a position below `first_unacknowledged` or above `sent`. Returns whether it did. A
+ * window may shrink.
  */
 bool net_base_peer_window_update(
     struct net_base_peer_window *peer, uint64_t first_unacknowledged, uint64_t sent, uint64_t seq,
@@ -1337,9 +1337,9 @@ struct net_base_timeout_bounds {
  */
 bool net_base_retransmission_timeout_is_small(const struct net_base_retransmission_timeout *timer);
 
-/* Takes over a sample, the time from when a segment was sent until it was acknowledged, and returns
- * true. The segment was sent once: of one that was sent again it isn't known which of the copies
- * was acknowledged.
+/* Takes over a sample, the time from when a segment was sent until it was acknowledged, of which at
+ * most 2^60 count, and returns true. The segment was sent once: of one that was sent again it isn't
+ * known which of the copies was acknowledged.
  *
  * It is refused if the estimate of `timer` has no room for a sample: false, and nothing changes.
  */
@@ -1381,7 +1381,9 @@ void net_base_parts_sum_add(
 /* Returns the checksum of the bytes that were added. */
 uint16_t net_base_parts_sum_checksum(const struct net_base_parts_sum *sum);
 
-/* Returns whether the bytes that were added, with a checksum among them, are valid. */
+/* Returns whether the bytes that were added, with a checksum among them at an even offset, are
+ * valid.
+ */
 bool net_base_parts_sum_is_valid(const struct net_base_parts_sum *sum);
 
 /* Random words, drawn from a state that the caller keeps. Any state is allowed; the words are not

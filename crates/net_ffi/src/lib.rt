@@ -31,8 +31,9 @@
 //! 5. A head, its runs and its slots are written by calls of its own kind alone, those of a receiver by
 //!    `net_base_receiver_..`, not its `place` by `net_base_ring_..` or its `held` by `net_base_assembler_..`. The
 //!    caller may set a head to zeros, and then what the comment of its kind says: `first` of a receiver,
-//!    `first_unacknowledged` of a sender, `base` of a scoreboard, `expires_at` of a buffer of fragments, `end` of a
-//!    receiver of a stream that ends, `edge` of an announced window, `timeout` of a timeout.
+//!    `first_unacknowledged` of a sender, and `sent` of one of a stream that ends, `base` of a scoreboard, `expires_at`
+//!    of a buffer of fragments, `end` of a receiver of a stream that ends, `edge` of an announced window, `timeout` of
+//!    a timeout.
 //! 6. Where a comment says `Requires`, head and runs are sound, as a call whose name ends in `_is_sound` tests. What
 //!    calls of its own kind wrote, from a new head on, is sound, if each slot that `net_base_packets_take_slot` was given
 //!    was the first one.

@@ -20,7 +20,7 @@ pub struct FrontLength {
     pub length: usize,
 }
 
-/// A range of positions to send again, and whether the call was done.
+/// A range of positions that weren't reported, and whether the call was done.
 #[repr(C)]
 #[derive(Debug, Clone, Copy)]
 pub struct Hole {

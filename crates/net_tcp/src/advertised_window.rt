@@ -21,7 +21,7 @@ pub fn scale_for(capacity: u64) -> u8
 #[repr(C)]
 #[derive(Copy, Clone, Debug)]
 pub struct AdvertisedWindow {
-    /// The position after the last one that was ever promised. The receiver accepts all below it.
+    /// The position after the last one that was ever promised. All below it is acceptable.
     pub edge: u64,
 }
 
@@ -38,8 +38,8 @@ impl AdvertisedWindow {
     /// is. In a segment with a SYN the scale is 0.
     ///
     /// No number keeps a promise whose rest is not a multiple of the unit, unless there is room for a
-    /// unit more: the number may then be one less than what was promised, by less than a unit. What
-    /// was promised is still accepted, and `edge` stays.
+    /// unit more: at one scale the number may then be less than what was promised, by less than a
+    /// unit. What was promised is still acceptable, and `edge` stays.
     ///
     /// # Requires
     ///
@@ -68,8 +68,9 @@ impl AdvertisedWindow {
     }
 
     /// Returns the number to announce in a segment that is sent anyway, as `announce` does, but moves
-    /// the edge only if an update would be due: otherwise it announces what was promised before. So
-    /// a sender is never told of a few bytes of room (RFC 9293, section 3.8.6.2.2).
+    /// the edge beyond `next` only if an update would be due: otherwise it announces what was promised
+    /// before, rounded down. So a sender is never told of a few bytes of room (RFC 9293, section
+    /// 3.8.6.2.2).
     ///
     /// # Requires
     ///

@@ -86,7 +86,8 @@ impl PartsSum {
         u16::MAX - fold(self.sum)
     }
 
-    /// Returns whether the bytes that were added, with a checksum among them, are valid.
+    /// Returns whether the bytes that were added, with a checksum among them at an even offset, are
+    /// valid.
     pub fn is_valid(&self) -> bool
         ensures { (xs : List ℕ) → Sums self.now xs
             → (IsTrue result ↔ (folded (word_sum xs) ≡ 65535)) }
@@ -109,8 +110,8 @@ pub fn is_valid(bytes: &[u8]) -> bool
     fold(sum_words(0, bytes)) == u16::MAX
 }
 
-/// Returns the checksum of a message in which the word `old` became `new`, from its checksum before
-/// (RFC 1624, equation 3).
+/// Returns the checksum of a message in which the word `old`, at an even offset, became `new`, from its
+/// checksum before (RFC 1624, equation 3); of one that is all zeros then, 0 in place of 65535.
 pub fn updated_checksum(checksum: u16, old: u16, new: u16) -> u16
     ensures { result ≡ updated checksum old new }
 {

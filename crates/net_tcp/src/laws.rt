@@ -50,7 +50,7 @@ pub fn announced_windows()
 {}
 
 /// States that two segments leave the same window in either order of arrival, unless both of their
-/// numbers are the same; and that the window of any segment replaces a window of zeros.
+/// numbers are the same; and that no segment is older than a window of zeros.
 pub fn peer_windows()
     ensures order { OrderIsFree }
     ensures zeros { NoWindowIsReplaced }

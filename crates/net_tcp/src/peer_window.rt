@@ -5,8 +5,8 @@ ghost use Rattle.net_tcp.specs.PeerWindow.{IsNewer, window_from, with_segment, i
 
 use crate::advertised_window::MAX_SCALE;
 
-/// The window that the peer announced, and the segment that it is from. It is kept as its right edge,
-/// which acknowledgements don't move. One of zeros lets nothing be sent, and no segment is older.
+/// The window that the peer announced, and the segment that it is from. It is kept as its right edge, a
+/// position. One of zeros lets nothing be sent but a probe, and no segment is older.
 #[repr(C)]
 #[derive(Copy, Clone, Debug)]
 pub struct PeerWindow {
@@ -45,7 +45,7 @@ impl PeerWindow {
     }
 
     /// Takes over the window of an acceptable segment, unless that is older than the one before, or
-    /// acknowledges what was acknowledged before `first_unacknowledged`, or what was never sent.
+    /// acknowledges a position below `first_unacknowledged` or above `sent`.
     /// Returns whether it did. A window may shrink.
     pub fn update(
         &mut self,

@@ -15,8 +15,8 @@ use net_tcp::{AdvertisedWindow, MAX_SCALE};
 /// doesn't promise more than there is. In a segment with a SYN the scale is 0.
 ///
 /// No number keeps a promise whose rest isn't a multiple of the unit, unless there is room for a
-/// unit more: the number may then be one less than what was promised, by less than a unit. What was
-/// promised is still accepted, and `edge` stays.
+/// unit more: at one scale the number may then be less than what was promised, by less than a unit.
+/// What was promised is still acceptable, and `edge` stays.
 ///
 /// It is refused if `scale` is above 14, or if `window_end` is below `next`: false, and nothing
 /// changes.
@@ -47,9 +47,9 @@ pub extern "C" fn net_base_advertised_window_announce(
 }
 
 /// Writes the number to announce in a segment that is sent anyway, as
-/// `net_base_advertised_window_announce` does, but moves the edge only if an update would be due:
-/// otherwise it announces what was promised before. So a sender is never told of a few bytes of
-/// room (RFC 9293, section 3.8.6.2.2).
+/// `net_base_advertised_window_announce` does, but moves the edge beyond `next` only if an update
+/// would be due: otherwise it announces what was promised before, rounded down. So a sender is
+/// never told of a few bytes of room (RFC 9293, section 3.8.6.2.2).
 ///
 /// It is refused if `scale` is above 14, or if `window_end` is below `next`: false, and nothing
 /// changes.
@@ -83,8 +83,8 @@ pub extern "C" fn net_base_advertised_window_announce_in_steps(
 }
 
 /// Returns `NET_BASE_PRESENT` if an update is worth a segment of its own, and `NET_BASE_MISSING` if
-/// it isn't: whether the edge would move by half of the receiver's capacity, or by one segment of
-/// `mss` bytes.
+/// it isn't: whether the edge would move by half of the receiver's capacity, rounded up, or by one
+/// segment of `mss` bytes, and by 1 at least.
 ///
 /// It is refused if `scale` is above 14, or if `window_end` is below `next`: `NET_BASE_REFUSED`.
 #[unsafe(no_mangle)]

@@ -2,8 +2,8 @@
 //! as TCP's FIN has, and needs no room; `end` of the head is it, or `NET_BASE_NONE` while it isn't
 //! known.
 //!
-//! A new head has `end` set to `NET_BASE_NONE`, and is zeros but for `receiver.first` otherwise.
-//! `receiver` is a receiver, whose calls that only look may be made on it.
+//! A new head has `end` set to `NET_BASE_NONE`, and is zeros but for `receiver.first` otherwise,
+//! which is below that. `receiver` is a receiver, whose calls that only look may be made on it.
 // Written by tools/ffi.py.
 ghost use Rattle.net_ffi.specs.ReceiverParts.{IsPlausible};
 ghost use Rattle.net_receiver.specs.Finite.{acknowledged, can_end, finite_after_read, has_read_all, is_acceptable};
@@ -39,7 +39,7 @@ pub extern "C" fn net_base_finite_receiver_is_sound(
 
 /// Returns `NET_BASE_PRESENT` if the stream can end at `position`: it is the end that is known, or
 /// none is, and it isn't below the first missing position or a held run's end. Otherwise
-/// `NET_BASE_MISSING`.
+/// `NET_BASE_MISSING`. `NET_BASE_NONE` is no end, which isn't tested here.
 ///
 /// It is refused if `place` isn't that of a ring of `storage.len()` bytes, `next` doesn't fit 64
 /// bits, or `held.used` is above `runs.len()`: `NET_BASE_REFUSED`.
@@ -97,6 +97,8 @@ pub extern "C" fn net_base_finite_receiver_acknowledged(
     ensures done { IsTrue result ↔ (next_of receiver.now < no_end) }
     ensures state { IsTrue result → (storage : List ℕ) (runs : List (ℕ × ℕ)) → HasSoundFinite receiver.now storage
         runs → number.new ≡ acknowledged (finite_of receiver.now storage runs) }
+    ensures value { IsTrue result → number.new ≡ (if next_of receiver.now == receiver.now.end then next_of
+        receiver.now + 1 else next_of receiver.now) }
     ensures unchanged { IsFalse result → (number.new ≡ number.old) }
 {
     if !has_number(receiver) {
@@ -200,7 +202,7 @@ pub extern "C" fn net_base_finite_receiver_is_acceptable(
 }
 
 /// Returns how many bytes of a segment of `len` bytes at `position` would be new: those in the free
-/// window and below the end whose positions are not held.
+/// window and below the end whose positions are not held. It looks at each run.
 ///
 /// It is refused if `place` isn't that of a ring of `storage.len()` bytes, `next` doesn't fit 64
 /// bits, or `held.used` is above `runs.len()`, or if the segment and an end after it don't fit 64

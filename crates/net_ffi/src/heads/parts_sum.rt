@@ -23,7 +23,8 @@ pub extern "C" fn net_base_parts_sum_checksum(sum: &PartsSum) -> u16
     sum.checksum()
 }
 
-/// Returns whether the bytes that were added, with a checksum among them, are valid.
+/// Returns whether the bytes that were added, with a checksum among them at an even offset, are
+/// valid.
 #[unsafe(no_mangle)]
 pub extern "C" fn net_base_parts_sum_is_valid(sum: &PartsSum) -> bool
     ensures { (xs : List ℕ) → Sums sum.now xs → (IsTrue result ↔ (folded (word_sum xs) ≡ 65535)) }

@@ -1,6 +1,7 @@
 //! The window that the peer announced.
 //!
-//! A head of zeros is that before any segment: nothing may be sent, and no segment is older.
+//! A head of zeros is that before any segment: nothing may be sent but a probe, and no segment is
+//! older.
 // Written by tools/ffi.py.
 ghost use Rattle.net_tcp.specs.PeerWindow.{IsNewer, window_from, with_segment};
 ghost use Rattle.std.specs.Prelude.{IsFalse, IsTrue, min, ◌-◌, ◌<◌, ◌↔◌, ◌≡◌, ◌≤◌};
@@ -8,8 +9,8 @@ ghost use Rattle.std.specs.Prelude.{IsFalse, IsTrue, min, ◌-◌, ◌<◌, ◌�
 use net_tcp::PeerWindow;
 
 /// Takes over the window of an acceptable segment, unless that is older than the one before, or
-/// acknowledges what was acknowledged before `first_unacknowledged`, or what was never sent.
-/// Returns whether it did. A window may shrink.
+/// acknowledges a position below `first_unacknowledged` or above `sent`. Returns whether it did. A
+/// window may shrink.
 #[unsafe(no_mangle)]
 pub extern "C" fn net_base_peer_window_update(
     peer: &mut PeerWindow,

@@ -16,9 +16,9 @@ pub extern "C" fn net_base_retransmission_timeout_is_small(timer: &Retransmissio
     timer.is_small()
 }
 
-/// Takes over a sample, the time from when a segment was sent until it was acknowledged, and
-/// returns true. The segment was sent once: of one that was sent again it isn't known which of the
-/// copies was acknowledged.
+/// Takes over a sample, the time from when a segment was sent until it was acknowledged, of which
+/// at most 2^60 count, and returns true. The segment was sent once: of one that was sent again it
+/// isn't known which of the copies was acknowledged.
 ///
 /// It is refused if the estimate of `timer` has no room for a sample: false, and nothing changes.
 #[unsafe(no_mangle)]

@@ -196,9 +196,9 @@ pub extern "C" fn net_base_scoreboard_count_beyond(
 }
 
 /// Writes to `limit` the position below which all that wasn't reported is lost, by the rule of RFC
-/// 6675, section 4, and returns true: above it `duplicates` runs were reported (3 in TCP; 0 counts
-/// as 1), or more bytes than `duplicates - 1` segments of `segment_size` bytes have. It is 0 if
-/// nothing is lost.
+/// 6675, section 4, and returns true: from it on `duplicates` runs were reported (3 in TCP; 0
+/// counts as 1), or more bytes than `duplicates - 1` segments of `segment_size` bytes have. It is 0
+/// if nothing is lost.
 ///
 /// It is refused if `scoreboard` isn't sound with `runs`: false, and nothing changes.
 #[unsafe(no_mangle)]

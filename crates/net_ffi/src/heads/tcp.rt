@@ -61,8 +61,8 @@ pub extern "C" fn net_base_tcp_is_checksum_valid(bytes: &[u8]) -> bool
     net_tcp::is_valid(bytes)
 }
 
-/// Returns the checksum of a message in which the word `old` became `new`, from its checksum before
-/// (RFC 1624, equation 3).
+/// Returns the checksum of a message in which the word `old`, at an even offset, became `new`, from
+/// its checksum before (RFC 1624, equation 3); of one that is all zeros then, 0 in place of 65535.
 #[unsafe(no_mangle)]
 pub extern "C" fn net_base_tcp_updated_checksum(checksum: u16, old: u16, new: u16) -> u16
     ensures { result ≡ updated checksum old new }

@@ -1,6 +1,6 @@
 //! A receiver of a stream that ends, in parts.
 ghost use Rattle.std.specs.Prelude.{◌≡◌, ◌↔◌, ℕ, ◌+◌, ◌-◌, ◌<◌, ◌≤◌, ◌^◌, min, List, length};
-ghost use Rattle.std.specs.Prelude.{IsTrue, OnErr, Some, None, ◌==◌, ◌++◌, nat_lt, take, drop, slice_range};
+ghost use Rattle.std.specs.Prelude.{IsTrue, OnErr, Some, None, ◌==◌, ◌++◌, nat_lt, take, drop, slice_range, if◌then◌else◌};
 ghost use Rattle.net_ring.specs.Ring.{queue};
 ghost use Rattle.net_ring.specs.RingHead.{IsSound as IsSoundPlace, ring_at};
 ghost use Rattle.net_receiver.specs.Finite.{in_window, is_acceptable};
@@ -99,7 +99,7 @@ impl FiniteReceiverHead {
     }
 
     /// Returns whether the stream can end at a position: it is the end that is known, or none is,
-    /// and no byte is queued or held at it or above.
+    /// and no byte is queued or held at it or above. `u64::MAX` is no end, which isn't tested here.
     ///
     /// # Requires
     ///
@@ -222,6 +222,8 @@ impl FiniteReceiverHead {
         ensures state { (storage : List ℕ) (runs : List (ℕ × ℕ)) →
             HasSoundFinite self.now storage runs →
             result ≡ acknowledged (finite_of self.now storage runs) }
+        ensures value { result
+            ≡ (if next_of self.now == self.now.end then next_of self.now + 1 else next_of self.now) }
     {
         let next = self.receiver.next();
         if next == self.end { next + 1 } else { next }

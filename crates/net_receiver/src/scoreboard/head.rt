@@ -251,7 +251,7 @@ impl ScoreboardHead {
     }
 
     /// Returns the position below which all that wasn't reported is lost, by the rule of RFC 6675,
-    /// section 4: above it `duplicates` runs were reported (3 in TCP; 0 counts as 1), or more bytes than
+    /// section 4: from it on `duplicates` runs were reported (3 in TCP; 0 counts as 1), or more bytes than
     /// `duplicates - 1` segments of `segment_size` bytes have. It is 0 if nothing is lost. A run counts as
     /// above a position if it begins above it; of a position that wasn't reported that is the RFC's rule
     /// exactly, since each run that has a position above it then begins above it.
@@ -278,7 +278,7 @@ impl ScoreboardHead {
         limit
     }
 
-    /// Returns the next range to send again, as a start and an end: it begins at the first position
+    /// Returns the next range that wasn't reported, as a start and an end: it begins at the first position
     /// from `pos` on that wasn't reported, and ends at the next one that was, or at `limit`. If there
     /// is none below `limit`, both are `limit`.
     ///

@@ -370,7 +370,7 @@ impl<S: Storage<u8>, const N: usize> ReceiverOver<S, N> {
         self.head.held(whole(&self.storage), &self.runs)
     }
 
-    /// Returns how many runs are held, in constant time: as many as `held` yields, at most `N`.
+    /// Returns how many runs are held, without a look at them: as many as `held` yields, at most `N`.
     ///
     /// # Contract
     ///

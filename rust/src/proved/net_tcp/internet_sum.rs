@@ -118,7 +118,8 @@ impl PartsSum {
         u16::MAX - fold(self.sum)
     }
 
-    /// Returns whether the bytes that were added, with a checksum among them, are valid.
+    /// Returns whether the bytes that were added, with a checksum among them at an even offset, are
+    /// valid.
     ///
     /// # Contract
     ///
@@ -159,8 +160,8 @@ pub fn is_valid(bytes: &[u8]) -> bool {
     fold(sum_words(0, bytes)) == u16::MAX
 }
 
-/// Returns the checksum of a message in which the word `old` became `new`, from its checksum before
-/// (RFC 1624, equation 3).
+/// Returns the checksum of a message in which the word `old`, at an even offset, became `new`, from its
+/// checksum before (RFC 1624, equation 3); of one that is all zeros then, 0 in place of 65535.
 ///
 /// # Contract
 ///

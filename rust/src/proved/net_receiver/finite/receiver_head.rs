@@ -116,7 +116,7 @@ impl FiniteReceiverHead {
     }
 
     /// Returns whether the stream can end at a position: it is the end that is known, or none is,
-    /// and no byte is queued or held at it or above.
+    /// and no byte is queued or held at it or above. `u64::MAX` is no end, which isn't tested here.
     ///
     /// # Requires, else it panics
     ///
@@ -273,6 +273,8 @@ impl FiniteReceiverHead {
     /// ensures state { (storage : List ℕ) (runs : List (ℕ × ℕ)) →
     ///     HasSoundFinite self.now storage runs →
     ///     result ≡ acknowledged (finite_of self.now storage runs) }
+    /// ensures value { result
+    ///     ≡ (if next_of self.now == self.now.end then next_of self.now + 1 else next_of self.now) }
     /// ```
     #[inline]
     pub fn acknowledged(&self) -> u64 {

@@ -102,7 +102,7 @@ impl<S: Storage<u8>, const N: usize> FiniteReceiverOver<S, N> {
         self.receiver.held()
     }
 
-    /// Returns how many runs are held, in constant time: as many as `held` yields, at most `N`.
+    /// Returns how many runs are held, without a look at them: as many as `held` yields, at most `N`.
     ///
     /// # Contract
     ///
