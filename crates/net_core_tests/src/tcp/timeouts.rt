@@ -36,16 +36,6 @@ fn a_timeout_that_passes(rt: HostRuntime) {
     );
 }
 
-#[test]
-fn an_estimate(rt: HostRuntime) {
-    let mut timeout = RetransmissionTimeout::new(1_000_000);
-    assert!(rt; timeout.rtt().is_none());
-    timeout.take_sample(bounds(), 800_000);
-    assert!(rt; timeout.rtt().is_some());
-    assert_eq!(rt; timeout.estimate.srtt(), 800_000);
-    assert_eq!(rt; timeout.timeout, 2_400_000);
-}
-
 // From a sample that is no time to the longest
 #[test]
 fn extremes(rt: HostRuntime) {
@@ -62,11 +52,18 @@ fn extremes(rt: HostRuntime) {
     );
 }
 
+// After a sample of 800 ms RTTVAR is 400 ms, so the timeout is 0.8 + 4 * 0.4 = 2.4 s
 #[test]
 fn an_estimate(rt: HostRuntime) {
+    let mut timeout = RetransmissionTimeout::new(1_000_000);
+    assert_holds(&rt, timeout.rtt().is_none(), ("step", 1));
+    timeout.take_sample(BOUNDS, 800_000);
+    assert_holds(&rt, timeout.rtt().is_some(), ("step", 2));
+    assert_holds(&rt, timeout.estimate.srtt() == 800_000, ("step", 3));
+    assert_holds(&rt, timeout.timeout == 2_400_000, ("step", 4));
     assert_holds(
         &rt,
         RttEstimate::first(800_000).srtt() == 800_000,
-        ("step", 1),
+        ("step", 5),
     );
 }
