@@ -20,7 +20,8 @@ import small
 import tcp
 
 # The test of smoltcp, if there is one; how many bytes a ring has; and its calls, each with how its reply begins: counts,
-# and what is lent or refused.
+# and what is lent or refused. After a call's name are its sizes and offsets, and then the seed of its bytes, as the
+# parameters of that call in ring.py. What is written of a reply may go on after `|`, with what is seen of the ring then.
 RINGS = [
     ("test_buffer_enqueue_slice",
      12, "enqueue_slice 8 1: 8; dequeue_one 46: 1:; dequeue_one 46: 1:; dequeue_one 46: 1:; "
