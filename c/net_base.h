@@ -49,7 +49,7 @@
  * nothing. It returns `false` if it returns a `bool`; `NET_BASE_REFUSED` if it returns a status,
  * alone or as the first field of a struct; otherwise `NET_BASE_NONE`, alone or as the first field
  * of a struct. `NET_BASE_REFUSED` always means a refusal; `false` and `NET_BASE_NONE` can also be
- * results of calls that are done, as the comments say.
+ * results of calls that are done.
  */
 #ifndef NET_BASE_H
 #define NET_BASE_H
@@ -93,7 +93,7 @@ extern "C" {
 /* The stream can't end there. Nothing changes. */
 #define NET_BASE_OTHER_END UINT32_C(7)
 
-/* No count, index or position of a right call: what was passed is nonsense, or there is none. */
+/* In place of a count, index or position: what was passed is nonsense, or there is none. */
 #define NET_BASE_NONE UINT64_MAX
 
 /* Rings: where elements are in a storage that the caller keeps, and the numbers after a call.
@@ -818,8 +818,7 @@ uint64_t net_base_sender_write(
     uint64_t bytes_length);
 
 /* Returns where at most `max` queued bytes are, from the one at `position` on. The caller copies or
- * sends them. If that byte isn't queued, `count` and `contiguous` are 0, and `from` is no byte's
- * index.
+ * sends them. If that byte isn't queued, `count` and `contiguous` are 0, and `from` says nothing.
  *
  * It is refused if `sender` isn't that of a sender over `capacity` bytes: `from` is
  * `NET_BASE_NONE`, `count` and `contiguous` are 0.

@@ -44,7 +44,7 @@
 //! that is the refusal, whatever else is wrong. A refused call changes nothing. It returns `false` if it returns a
 //! `bool`; `NET_BASE_REFUSED` if it returns a status, alone or as the first field of a struct; otherwise
 //! `NET_BASE_NONE`, alone or as the first field of a struct. `NET_BASE_REFUSED` always means a refusal; `false` and
-//! `NET_BASE_NONE` can also be results of calls that are done, as the comments say.
+//! `NET_BASE_NONE` can also be results of calls that are done.
 #![tactic(auto)]
 
 mod finite_receiver;

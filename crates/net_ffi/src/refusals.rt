@@ -30,7 +30,7 @@ pub const NET_BASE_OTHER_SIZE: u32 = 6;
 /// The stream can't end there. Nothing changes.
 pub const NET_BASE_OTHER_END: u32 = 7;
 
-/// No count, index or position of a right call: what was passed is nonsense, or there is none.
+/// In place of a count, index or position: what was passed is nonsense, or there is none.
 pub const NET_BASE_NONE: usize = usize::MAX;
 
 /// The span of a refused call.

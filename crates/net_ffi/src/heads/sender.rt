@@ -90,8 +90,8 @@ pub extern "C" fn net_base_sender_write(
 }
 
 /// Returns where at most `max` queued bytes are, from the one at `position` on. The caller copies
-/// or sends them. If that byte isn't queued, `count` and `contiguous` are 0, and `from` is no
-/// byte's index.
+/// or sends them. If that byte isn't queued, `count` and `contiguous` are 0, and `from` says
+/// nothing.
 ///
 /// It is refused if `sender` isn't that of a sender over `capacity` bytes: `from` is
 /// `NET_BASE_NONE`, `count` and `contiguous` are 0.
