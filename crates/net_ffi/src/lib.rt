@@ -40,7 +40,7 @@
 //!
 //! # Refusals
 //!
-//! All else is tested, but that a slot that is taken is the first one. Arguments are tested first: if they are nonsense,
+//! All else that calls need is tested, but that a taken slot is the first one. Arguments are tested first: if they are nonsense,
 //! that is the refusal, whatever else is wrong. A refused call changes nothing. It returns `false` if it returns a
 //! `bool`; `NET_BASE_REFUSED` if it returns a status, alone or as the first field of a struct; otherwise
 //! `NET_BASE_NONE`, alone or as the first field of a struct. `NET_BASE_REFUSED` always means a refusal; `false` and
