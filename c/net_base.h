@@ -28,9 +28,9 @@
  *    as the parameter after it says, here `data_length`; if that is 0, it may be null. Any other is
  *    valid for one value, and isn't null.
  * 2. What a call may write overlaps nothing else that it is passed.
- * 3. Two calls that share a head, a storage, runs or slots aren't made at once, in threads or in an
- *    interrupt and what it interrupts, unless both take by `const` what they share. So mask the
- *    interrupt around each call, and around what reads fields.
+ * 3. Two calls that share memory aren't made at once, in threads or in an interrupt and what it
+ *    interrupts, unless both take it by `const`. So mask the interrupt around each call, and around
+ *    what reads fields.
  * 4. A storage, its runs and its slots have the same lengths in each call on a head.
  * 5. A head, its runs and its slots are written by calls of its own kind alone, those of a receiver
  *    by `net_base_receiver_..`, not its `place` by `net_base_ring_..` or its `held` by
@@ -412,7 +412,9 @@ struct net_base_front_length {
      * `net_base_fragments_complete` also `NET_BASE_MISSING`.
      */
     uint32_t status;
-    /* How many positions the run has; 0 if position 0 is missing, or the call wasn't done. */
+    /* How many positions the run has, 0 if position 0 is missing; of `net_base_fragments_complete`
+     * the packet's size. It is 0 if the call wasn't done.
+     */
     uint64_t length;
 };
 
@@ -858,9 +860,10 @@ bool net_base_sender_acknowledge_sent(
 /* Scoreboards: what a sender knows of the positions that the other end has, in runs that the caller
  * keeps.
  *
- * At most as many runs are stored, beyond the first position that wasn't reported, as the slice has
- * elements. Each call but `net_base_scoreboard_reset` looks at each run, and refuses a scoreboard
- * that isn't sound.
+ * A head of zeros, but for `base`, is new: all positions below `base` count as reported. At most as
+ * many runs are stored, beyond the first position that wasn't reported, as the slice has elements.
+ * Each call but `net_base_scoreboard_reset` looks at each run, and refuses a scoreboard that isn't
+ * sound.
  */
 
 /* What a scoreboard has besides its runs. */
@@ -1033,9 +1036,8 @@ uint64_t net_base_finite_receiver_read(
 /* Returns `NET_BASE_PRESENT` if a segment of `count` numbers from `position` on is acceptable by
  * the table of RFC 9293, section 3.10.7.4, and `NET_BASE_MISSING` if it isn't: its first number may
  * arrive, or its last one. The end is a number. If the window is 0, only a segment without numbers
- * at the acknowledged one is. An end alone in a window of 0 isn't, though
- * `net_base_finite_receiver_segment` takes it: a caller that wants it asks with the count of the
- * bytes alone.
+ * at the acknowledged one is. An end alone there isn't, though `net_base_finite_receiver_segment`
+ * takes it: a caller that wants it asks with the count of the bytes alone.
  *
  * It is refused if `place` isn't that of a ring of `storage_length` bytes, `next` doesn't fit 64
  * bits, or `held.used` is above `runs_length`, or if the segment doesn't end within 64 bits:
@@ -1189,7 +1191,9 @@ bool net_base_finite_sender_is_closed_and_acknowledged(const struct net_base_fin
  */
 bool net_base_tcp_is_acceptable(uint64_t next, uint64_t window, uint64_t seq, uint64_t len);
 
-/* Returns the least scale by which this capacity can be announced, or 14 if none can. */
+/* Returns the least scale by which this capacity, rounded down to a unit, can be announced, or 14
+ * if none can.
+ */
 uint8_t net_base_tcp_scale_for(uint64_t capacity);
 
 /* Writes how many bytes the field of a segment announces to `bytes`, and returns true.
@@ -1204,10 +1208,11 @@ uint16_t net_base_tcp_checksum(const uint8_t *bytes, uint64_t bytes_length);
 /* Returns whether these bytes, with their checksum among them at an even offset, are valid. */
 bool net_base_tcp_is_checksum_valid(const uint8_t *bytes, uint64_t bytes_length);
 
-/* Returns the checksum of a message in which the word `old`, at an even offset, became `new`, from
- * its checksum before (RFC 1624, equation 3); of one that is all zeros then, 0 in place of 65535.
+/* Returns the checksum of a message in which the word `old`, at an even offset, became `value`,
+ * from its checksum before (RFC 1624, equation 3); of one that is all zeros then, 0 in place of
+ * 65535.
  */
-uint16_t net_base_tcp_updated_checksum(uint16_t checksum, uint16_t old, uint16_t new);
+uint16_t net_base_tcp_updated_checksum(uint16_t checksum, uint16_t old, uint16_t value);
 
 /* What a receiver has announced.
  *
@@ -1225,9 +1230,9 @@ struct net_base_advertised_window {
  * first missing position, and `window_end` the end of the free room. It is the greatest that
  * doesn't promise more than there is. In a segment with a SYN the scale is 0.
  *
- * No number keeps a promise whose rest isn't a multiple of the unit, unless there is room for a
- * unit more: at one scale the number may then be less than what was promised, by less than a unit.
- * What was promised is still acceptable, and `edge` stays.
+ * No number keeps a promise whose rest isn't a multiple of the unit, unless there is room up to the
+ * next multiple: at one scale the number may then be less than what was promised, by less than a
+ * unit. What was promised is still acceptable, and `edge` stays.
  *
  * It is refused if `scale` is above 14, or if `window_end` is below `next`: false, and nothing
  * changes.
@@ -1239,7 +1244,7 @@ bool net_base_advertised_window_announce(
 /* Writes the number to announce in a segment that is sent anyway, as
  * `net_base_advertised_window_announce` does, but moves the edge beyond `next` only if an update
  * would be due: otherwise it announces what was promised before, rounded down. So a sender is never
- * told of a few bytes of room (RFC 9293, section 3.8.6.2.2).
+ * told of only a few bytes more (RFC 9293, section 3.8.6.2.2).
  *
  * It is refused if `scale` is above 14, or if `window_end` is below `next`: false, and nothing
  * changes.
@@ -1325,7 +1330,7 @@ struct net_base_retransmission_timeout {
 struct net_base_timeout_bounds {
     /* The least timeout. */
     uint64_t least;
-    /* The greatest. */
+    /* The greatest, unless `least` is above it. */
     uint64_t most;
     /* The time between two ticks of the clock. */
     uint64_t tick;
@@ -1367,7 +1372,7 @@ uint64_t net_base_rtt_estimate_timeout(
  * zeros is that of no bytes.
  */
 struct net_base_parts_sum {
-    /* The sum of the words, with carries out of 64 bits added at the low end. */
+    /* The sum of the words, up to a multiple of 65535; 0 only if that sum is 0. */
     uint64_t sum;
     /* Whether the next byte is the low byte of a word. */
     bool odd;
@@ -1412,8 +1417,8 @@ uint64_t net_base_rand_below(uint64_t *state, uint32_t bound);
  * A receiver and a sender count in positions; TCP's segments have numbers. If position 0 has the
  * number `initial`, each position has one number, and a number has one position near a given one.
  * In TCP segments with numbers before that of the first byte arrive too, as old duplicates. If the
- * first byte has position 0, no position has such a number. If it has the position 2^32 + its
- * number, each has one: then `initial` is 0, and the low 32 bits of a position are its number.
+ * first byte has position 0, no position near 0 has such a number. If it has the position 2^32 +
+ * its number, each has one: then `initial` is 0, and the low 32 bits of a position are its number.
  */
 
 /* Returns whether a position near `next` has a number, if position 0 has the number `initial`, and

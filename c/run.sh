@@ -1,9 +1,10 @@
 #!/bin/sh
 # Builds and runs the programs of this folder over the archive: sh c/run.sh [SEED CALLS]
 #
-# It compares the archive's symbols with the header, and runs bare (no C library), hosted, each export
-# at the values of tools/exports.txt, the rows of crates/net_cases, and the fuzzer, CALLS calls with
-# random arguments from SEED. CC names the C compiler, NET_BASE_ARCHIVE another archive.
+# It compares the archive's symbols with the header, tries the header in C++, and runs bare (no C
+# library), hosted, each export at the values of tools/exports.txt, the rows of crates/net_cases, and
+# the fuzzer, CALLS calls with random arguments from SEED. CC and CXX name the compilers of C and C++,
+# NET_BASE_ARCHIVE another archive.
 set -eu
 
 here=$(cd "$(dirname "$0")" && pwd)
@@ -47,6 +48,15 @@ nm "$archive" | awk '$2 == "T" && $3 ~ /^net_base_/ { print $3 }' | sort -u > "$
 grep -oE '\bnet_base_[a-z0-9_]+\(' "$here/net_base.h" | tr -d '(' | sort -u > "$out/declared"
 diff "$out/defined" "$out/declared" || fail "archive (<) and header (>) differ"
 echo "header: $(wc -l < "$out/declared") exports"
+
+# A program in C++ includes the header, and links.
+if command -v "${CXX:-c++}" > /dev/null; then
+    printf '#include "net_base.h"\nint main() { net_base_abi_2(); }\n' > "$out/plus.cc"
+    "${CXX:-c++}" -std=c++11 -Wall -Wextra -Werror -I "$here" "$out/plus.cc" "$archive" -o "$out/plus"
+    "$out/plus"
+else
+    echo "run.sh: there is no C++ compiler here: C++ isn't tried" >&2
+fi
 
 "$compiler" $flags -ffreestanding -fno-stack-protector -fno-builtin -nostdlib -static \
     -Wl,--gc-sections "$here/bare.c" "$archive" -o "$out/bare"

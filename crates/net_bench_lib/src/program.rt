@@ -1,7 +1,7 @@
 //! The program `net_bench`, from its words and streams to its exit status.
 ghost use Rattle.std.specs.Prelude.{◌≡◌, ◌↔◌, map, IfSome, OnOk, IfErr, None, true, string_bytes};
 ghost use Rattle.std.specs.Io.KnownBytes.{Appends, Keeps};
-ghost use Rattle.net_io.specs.declared.status.Status.TheVariants.{Done, Failed, Misused};
+ghost use Rattle.net_io.specs.declared.status.Status.TheVariants.{Done, Failed, GaveUp, Misused};
 ghost use Rattle.net_bench_lib.specs.Modes.{output, fault, mode_of, transcript_of};
 ghost use Rattle.net_bench_lib.specs.Program.{usage_line, error_line, status_of, FailsOnInput};
 
@@ -28,6 +28,7 @@ pub fn serve<A: Allocator + Copy, R: Read, W: Write, E: Write>(
     errors: &mut E,
 ) -> Ended
     ensures usage { (result.status ≡ Misused) ↔ (mode_of (map string_bytes words.now) ≡ None) }
+    ensures never { result.status ≡ GaveUp → ⊥ }
     ensures unchanged { result.status ≡ Misused →
         Keeps (R.remaining reader.old) (R.remaining reader.new)
         × Keeps (W.contents writer.old) (W.contents writer.new) }

@@ -24,9 +24,8 @@
 //!    after it says, here `data_length`; if that is 0, it may be null. Any other is valid for one value, and isn't
 //!    null.
 //! 2. What a call may write overlaps nothing else that it is passed.
-//! 3. Two calls that share a head, a storage, runs or slots aren't made at once, in threads or in an interrupt and
-//!    what it interrupts, unless both take by `const` what they share. So mask the interrupt around each call, and
-//!    around what reads fields.
+//! 3. Two calls that share memory aren't made at once, in threads or in an interrupt and what it interrupts, unless
+//!    both take it by `const`. So mask the interrupt around each call, and around what reads fields.
 //! 4. A storage, its runs and its slots have the same lengths in each call on a head.
 //! 5. A head, its runs and its slots are written by calls of its own kind alone, those of a receiver by
 //!    `net_base_receiver_..`, not its `place` by `net_base_ring_..` or its `held` by `net_base_assembler_..`. The
@@ -40,9 +39,9 @@
 //!
 //! # Refusals
 //!
-//! All else that calls need is tested, but that a taken slot is the first one. Arguments are tested first: if they are nonsense,
-//! that is the refusal, whatever else is wrong. A refused call changes nothing. It returns `false` if it returns a
-//! `bool`; `NET_BASE_REFUSED` if it returns a status, alone or as the first field of a struct; otherwise
+//! All else that calls need is tested, but that a taken slot is the first one. Arguments are tested first: if they are
+//! nonsense, that is the refusal, whatever else is wrong. A refused call changes nothing. It returns `false` if it
+//! returns a `bool`; `NET_BASE_REFUSED` if it returns a status, alone or as the first field of a struct; otherwise
 //! `NET_BASE_NONE`, alone or as the first field of a struct. `NET_BASE_REFUSED` always means a refusal; `false` and
 //! `NET_BASE_NONE` can also be results of calls that are done.
 #![tactic(auto)]

@@ -16,7 +16,8 @@ pub struct FrontLength {
     /// `NET_BASE_DONE`, `NET_BASE_TOO_MANY_RUNS` or `NET_BASE_REFUSED`, and of `net_base_fragments_complete` also
     /// `NET_BASE_MISSING`.
     pub status: u32,
-    /// How many positions the run has; 0 if position 0 is missing, or the call wasn't done.
+    /// How many positions the run has, 0 if position 0 is missing; of `net_base_fragments_complete` the packet's size.
+    /// It is 0 if the call wasn't done.
     pub length: usize,
 }
 

@@ -10,7 +10,7 @@ ghost use Rattle.std.specs.Int.{from_bool};
 #[repr(C)]
 #[derive(Copy, Clone, Debug)]
 pub struct PartsSum {
-    /// The sum of the words, with carries out of 64 bits added at the low end.
+    /// The sum of the words, up to a multiple of 65535; 0 only if that sum is 0.
     pub sum: u64,
     /// Whether the next byte is the low byte of a word.
     pub odd: bool,

@@ -24,7 +24,7 @@ pub struct RttEstimate {
 pub struct TimeoutBounds {
     /// The least timeout.
     pub least: u64,
-    /// The greatest.
+    /// The greatest, unless `least` is above it.
     pub most: u64,
     /// The time between two ticks of the clock.
     pub tick: u64,

@@ -14,9 +14,9 @@ use net_tcp::{AdvertisedWindow, MAX_SCALE};
 /// the first missing position, and `window_end` the end of the free room. It is the greatest that
 /// doesn't promise more than there is. In a segment with a SYN the scale is 0.
 ///
-/// No number keeps a promise whose rest isn't a multiple of the unit, unless there is room for a
-/// unit more: at one scale the number may then be less than what was promised, by less than a unit.
-/// What was promised is still acceptable, and `edge` stays.
+/// No number keeps a promise whose rest isn't a multiple of the unit, unless there is room up to
+/// the next multiple: at one scale the number may then be less than what was promised, by less than
+/// a unit. What was promised is still acceptable, and `edge` stays.
 ///
 /// It is refused if `scale` is above 14, or if `window_end` is below `next`: false, and nothing
 /// changes.
@@ -49,7 +49,7 @@ pub extern "C" fn net_base_advertised_window_announce(
 /// Writes the number to announce in a segment that is sent anyway, as
 /// `net_base_advertised_window_announce` does, but moves the edge beyond `next` only if an update
 /// would be due: otherwise it announces what was promised before, rounded down. So a sender is
-/// never told of a few bytes of room (RFC 9293, section 3.8.6.2.2).
+/// never told of only a few bytes more (RFC 9293, section 3.8.6.2.2).
 ///
 /// It is refused if `scale` is above 14, or if `window_end` is below `next`: false, and nothing
 /// changes.

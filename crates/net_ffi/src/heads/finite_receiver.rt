@@ -166,7 +166,7 @@ pub extern "C" fn net_base_finite_receiver_read(
 /// Returns `NET_BASE_PRESENT` if a segment of `count` numbers from `position` on is acceptable by
 /// the table of RFC 9293, section 3.10.7.4, and `NET_BASE_MISSING` if it isn't: its first number
 /// may arrive, or its last one. The end is a number. If the window is 0, only a segment without
-/// numbers at the acknowledged one is. An end alone in a window of 0 isn't, though
+/// numbers at the acknowledged one is. An end alone there isn't, though
 /// `net_base_finite_receiver_segment` takes it: a caller that wants it asks with the count of the
 /// bytes alone.
 ///

@@ -1,9 +1,10 @@
 //! Scoreboards: what a sender knows of the positions that the other end has, in runs that the
 //! caller keeps.
 //!
-//! At most as many runs are stored, beyond the first position that wasn't reported, as the slice
-//! has elements. Each call but `net_base_scoreboard_reset` looks at each run, and refuses a
-//! scoreboard that isn't sound.
+//! A head of zeros, but for `base`, is new: all positions below `base` count as reported. At most
+//! as many runs are stored, beyond the first position that wasn't reported, as the slice has
+//! elements. Each call but `net_base_scoreboard_reset` looks at each run, and refuses a scoreboard
+//! that isn't sound.
 // Written by tools/ffi.py.
 ghost use Rattle.net_assembler.specs.Positions.{contains, nothing, positions, with_range};
 ghost use Rattle.net_assembler.specs.RunLists.{IsCanonical};

@@ -20,7 +20,8 @@ pub extern "C" fn net_base_tcp_is_acceptable(next: u64, window: u64, seq: u64, l
     net_tcp::is_acceptable(next, window, seq, len)
 }
 
-/// Returns the least scale by which this capacity can be announced, or 14 if none can.
+/// Returns the least scale by which this capacity, rounded down to a unit, can be announced, or 14
+/// if none can.
 #[unsafe(no_mangle)]
 pub extern "C" fn net_base_tcp_scale_for(capacity: u64) -> u8
     ensures { IsScaleFor capacity result }
@@ -61,11 +62,12 @@ pub extern "C" fn net_base_tcp_is_checksum_valid(bytes: &[u8]) -> bool
     net_tcp::is_valid(bytes)
 }
 
-/// Returns the checksum of a message in which the word `old`, at an even offset, became `new`, from
-/// its checksum before (RFC 1624, equation 3); of one that is all zeros then, 0 in place of 65535.
+/// Returns the checksum of a message in which the word `old`, at an even offset, became `value`,
+/// from its checksum before (RFC 1624, equation 3); of one that is all zeros then, 0 in place of
+/// 65535.
 #[unsafe(no_mangle)]
-pub extern "C" fn net_base_tcp_updated_checksum(checksum: u16, old: u16, new: u16) -> u16
-    ensures { result ≡ updated checksum old new }
+pub extern "C" fn net_base_tcp_updated_checksum(checksum: u16, old: u16, value: u16) -> u16
+    ensures { result ≡ updated checksum old value }
 {
-    net_tcp::updated_checksum(checksum, old, new)
+    net_tcp::updated_checksum(checksum, old, value)
 }

@@ -3,7 +3,8 @@
 /// The greatest window scale (RFC 7323, section 2.3).
 pub const MAX_SCALE: u8 = 14;
 
-/// Returns the least scale by which this capacity can be announced, or 14 if none can.
+/// Returns the least scale by which this capacity, rounded down to a unit, can be announced, or 14 if
+/// none can.
 ///
 /// # Contract
 ///
@@ -47,8 +48,8 @@ impl AdvertisedWindow {
     /// and `window_end` the end of the free room: the greatest that doesn't promise more than there
     /// is. In a segment with a SYN the scale is 0.
     ///
-    /// No number keeps a promise whose rest is not a multiple of the unit, unless there is room for a
-    /// unit more: at one scale the number may then be less than what was promised, by less than a
+    /// No number keeps a promise whose rest is not a multiple of the unit, unless there is room up to the
+    /// next multiple: at one scale the number may then be less than what was promised, by less than a
     /// unit. What was promised is still acceptable, and `edge` stays.
     ///
     /// # Requires, else it panics
@@ -86,7 +87,7 @@ impl AdvertisedWindow {
 
     /// Returns the number to announce in a segment that is sent anyway, as `announce` does, but moves
     /// the edge beyond `next` only if an update would be due: otherwise it announces what was promised
-    /// before, rounded down. So a sender is never told of a few bytes of room (RFC 9293, section
+    /// before, rounded down. So a sender is never told of only a few bytes more (RFC 9293, section
     /// 3.8.6.2.2).
     ///
     /// # Requires, else it panics

@@ -180,7 +180,8 @@ impl<B: Storage<u8>, const N: usize> FragmentsOver<B, N> {
     /// Adds a fragment, whose first byte is that of the packet at `offset`.
     ///
     /// It is refused, and nothing changes, exactly if it reaches past the buffer's end, which is
-    /// `TooLong`, or would leave more than `N` maximal runs. The end of an accepted fragment fits `usize`.
+    /// `TooLong`, or else would leave more than `N` maximal runs, which is `TooManyHoles`. The end of an
+    /// accepted fragment fits `usize`.
     ///
     /// ```
     /// # use net_base::storage::{FragmentBuffer, FragmentError};
@@ -197,6 +198,9 @@ impl<B: Storage<u8>, const N: usize> FragmentsOver<B, N> {
         ensures fits { OnOk result (offset + length «data».now < 2 ^ 64) }
         ensures too_long { (result ≡ Err FragmentError.TooLong)
             ↔ (length self.old.bytes < offset + length «data».now) }
+        ensures too_many { (result ≡ Err FragmentError.TooManyHoles)
+            ↔ ((offset + length «data».now ≤ length self.old.bytes)
+            × MakesTooManyRuns N self.old.present offset (length «data».now)) }
         ensures refused { IsErr result ↔ ((length self.old.bytes < offset + length «data».now)
             ⊎ MakesTooManyRuns N self.old.present offset (length «data».now)) }
     {

@@ -104,7 +104,7 @@ impl FragmentsHead {
     /// Adds a fragment, whose first byte is that of the packet at `offset`.
     ///
     /// It is refused, and nothing changes, exactly if it reaches past the buffer's end, which is
-    /// `TooLong`, or would leave more maximal runs than there is room for.
+    /// `TooLong`, or else would leave more maximal runs than there is room for, which is `TooManyHoles`.
     ///
     /// # Requires, else it panics
     ///
@@ -123,6 +123,9 @@ impl FragmentsHead {
     ///     ((self.new ≡ self.old) × (bytes.new ≡ bytes.old) × (runs.new ≡ runs.old)) }
     /// ensures too_long { (result ≡ Err FragmentError.TooLong)
     ///     ↔ (length bytes.old < offset + length «data».now) }
+    /// ensures too_many { (result ≡ Err FragmentError.TooManyHoles)
+    ///     ↔ ((offset + length «data».now ≤ length bytes.old) × MakesTooManyRuns (length runs.old)
+    ///     (set_of self.old.present runs.old) offset (length «data».now)) }
     /// ensures refused { IsErr result ↔ ((length bytes.old < offset + length «data».now)
     ///     ⊎ MakesTooManyRuns (length runs.old) (set_of self.old.present runs.old)
     ///     offset (length «data».now)) }

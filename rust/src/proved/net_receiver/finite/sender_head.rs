@@ -199,7 +199,13 @@ impl FiniteSenderHead {
     /// ensures count { (storage : List ℕ) (blocks : List (ℕ × ℕ)) → length storage ≡ capacity →
     ///     self.now.sender.first_unacknowledged ≤ pos → result.0.contiguous ≡ min max
     ///     (contiguous_end (finite_sender_of self.now storage blocks).sender pos - pos) }
-    /// ensures before { pos < self.now.sender.first_unacknowledged → result.0.contiguous ≡ 0 }
+    /// ensures before { pos < self.now.sender.first_unacknowledged →
+    ///     (result.0.contiguous ≡ 0) × (result.0.from ≡ 0) × (result.0.count ≡ 0) }
+    /// ensures from { self.now.sender.first_unacknowledged ≤ pos →
+    ///     result.0.from ≡ queued_index capacity self.now.sender.place
+    ///     (pos - self.now.sender.first_unacknowledged) }
+    /// ensures whole { self.now.sender.first_unacknowledged ≤ pos → result.0.count ≡ min max
+    ///     (self.now.sender.place.length - (pos - self.now.sender.first_unacknowledged)) }
     /// ensures end { IsTrue result.1 ↔ ((self.now.closed ≡ 1) × (pos + result.0.contiguous
     ///     ≡ self.now.sender.first_unacknowledged + self.now.sender.place.length)) }
     /// ensures bytes { (storage : List ℕ) → length storage ≡ capacity →

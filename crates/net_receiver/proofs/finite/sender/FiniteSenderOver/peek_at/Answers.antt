@@ -26,7 +26,7 @@ returns g c =
           ∙ ap (λ n. take n (drop (c.args.pos - c.args.self.now.sender.first_unacknowledged) c.args.self.now.sender.queue)) (sym long);
       count = λ from. long ∙ met.count xs [] (sym c.count.ensures) (omega (arith, from, first))
           ∙ ap (λ (o : FiniteSenderState). min c.args.max (contiguous_end o.sender c.args.pos - c.args.pos)) c.self.view_is;
-      before = λ below. nil_from_length now (long ∙ met.before (omega (arith, below, first)));
+      before = λ below. nil_from_length now (long ∙ (met.before (omega (arith, below, first))).0);
       end = (
         λ on. (let at = met.end.0 on in (sym closed ∙ at.0, omega (arith, at.1, long, first, queued, size))),
         λ h. met.end.1 (closed ∙ h.0, omega (arith, h.1, long, first, queued, size)),
