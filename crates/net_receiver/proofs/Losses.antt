@@ -1,15 +1,21 @@
 -- Up to where what isn't reported is lost, run by run.
 use Rattle.std.proofs.Common.{◌≡◌, ℕ, ◌+◌, ◌-◌, ◌*◌, ◌<◌, ◌≤◌, ◌↔◌, max, true, false, List, [], ◌∷◌, length}
-use Rattle.std.proofs.Common.{refl, ap, subst, ◌∙◌, arith, IsTrue, nat_lt, ◌⊎◌, inl, inr}
-use Rattle.std.proofs.lemmas.Bool.{both_ways, cases_lt}
+use Rattle.std.proofs.Common.{refl, ap, sym, subst, ◌∙◌, arith, IsTrue, cond, nat_lt, ◌⊎◌, inl, inr}
+use Rattle.std.specs.List.{count_by}
+use Rattle.std.specs.Int.{from_bool}
+use Rattle.std.proofs.lemmas.Bool.{both_ways, cases_Bool, cases_lt}
 use Rattle.std.proofs.lemmas.Bool.Decides.{nat_tests}
-use Rattle.net_assembler.specs.Positions.{Positions, contains, first_missing, maximal_runs}
+use Rattle.std.proofs.lemmas.List.Sums.{sum_by-cons}
+use Rattle.net_assembler.specs.Positions.{Positions, contains, first_missing, front, shift_down, maximal_runs, lies_in}
 use Rattle.net_assembler.specs.RunLists.{IsRising}
-use Rattle.net_assembler.proofs.Positions.{first_missing-misses}
+use Rattle.net_assembler.proofs.Positions.{first_missing-misses, contains-shift_up, contains-shift_down}
 use Rattle.net_assembler.proofs.Runs.{rising_from}
-use Rattle.net_assembler.proofs.MaximalRuns.{rising-maximal_runs}
-use Rattle.net_receiver.specs.Scoreboards.{sizes, IsNextHole}
-use Rattle.net_receiver.specs.Losses.{runs_above, tell_loss, IsLossBound}
+use Rattle.net_assembler.proofs.MaximalRuns.{are_maximal_runs, rising-maximal_runs}
+use Rattle.net_receiver.specs.SackBlocks.{is_sacked}
+use Rattle.net_receiver.specs.Scoreboards.{beyond, sizes, IsNextHole}
+use Rattle.net_receiver.specs.Losses.{runs_above, tell_loss, IsLossBound, LossesCountAll}
+use Rattle.net_receiver.proofs.Boards.{front_has}
+use Rattle.net_receiver.proofs.Scoreboards.{not_sacked}
 
 -- runs that begin above p are all above it
 all_above : (low p : ℕ) (rs : List (ℕ × ℕ)) → IsRising low rs → p < low → runs_above rs p ≡ rs
@@ -111,3 +117,52 @@ no_hole s p limit start end h le =
           (subst (λ q. IsTrue (contains s q)) (let begins = h.begins in omega (arith, begins, same, l)) (h.ended l)))
     ] in
     subst (λ q. IsNextHole s p limit limit q) (same ∙ at) (subst (λ q. IsNextHole s p limit q end) at h)
+
+-- ---- which runs are above a position that isn't reported
+-- what is beyond the first missing position
+contains-beyond : (s : Positions) (q : ℕ) → front s ≤ q → contains (beyond s) q ≡ contains s q
+contains-beyond s q from =
+    let up = contains-shift_up (shift_down s (front s)) (front s) q in
+    let down = contains-shift_down s (front s) (q - front s) in
+    let back : q - front s + front s ≡ q = omega (arith, from) in
+    let at = ap (contains s) back in
+    grind (arith, nat_tests)
+
+-- a run that begins at p or below has no position above p, if it lacks p
+counted_above_one : (r : ℕ × ℕ) (rs : List (ℕ × ℕ)) (p q : ℕ) → count_by (lies_in q) (runs_above rs p) ≡ count_by (lies_in q) rs →
+    lies_in p r ≡ false → p < q → count_by (lies_in q) (runs_above (r ∷ rs) p) ≡ count_by (lies_in q) (r ∷ rs)
+counted_above_one r rs p q others h l =
+    let all = sum_by-cons (λ x. cond (lies_in q x) 1 0) r rs in
+    let above = sum_by-cons (λ x. cond (lies_in q x) 1 0) r (runs_above rs p) in
+    grind (arith, nat_tests)
+
+first_lacks : (r : ℕ × ℕ) (rs : List (ℕ × ℕ)) (p : ℕ) → is_sacked (r ∷ rs) p ≡ false → (lies_in p r ≡ false) × (is_sacked rs p ≡ false)
+first_lacks r rs p h = (grind arith, grind arith)
+
+counted_above : (rs : List (ℕ × ℕ)) (p q : ℕ) → is_sacked rs p ≡ false → p < q →
+    count_by (lies_in q) (runs_above rs p) ≡ count_by (lies_in q) rs
+counted_above [] p q h l = refl
+counted_above (r ∷ rs) p q h l =
+    let lacks = first_lacks r rs p h in
+    counted_above_one r rs p q (counted_above rs p q lacks.1 l) lacks.0 l
+
+uncounted : (rs : List (ℕ × ℕ)) (q : ℕ) → is_sacked rs q ≡ false → count_by (lies_in q) rs ≡ 0
+uncounted [] q h = refl
+uncounted (r ∷ rs) q h = let others = uncounted rs q in grind (arith, nat_tests)
+
+-- how many of all runs have a position
+counted : (s : Positions) (q : ℕ) → count_by (lies_in q) (maximal_runs s) ≡ from_bool (contains s q)
+counted s q = elim (cases_Bool (contains s q)) [
+  | inl on ↦ (are_maximal_runs s).complete q on ∙ ap from_bool (sym on)
+  | inr off ↦ uncounted (maximal_runs s) q (not_sacked s q off) ∙ ap from_bool (sym off)
+]
+
+pub losses_count_all : LossesCountAll
+losses_count_all s p q misses l =
+    let from : front s ≤ p = elim (cases_lt p (front s)) [
+      | inl below ↦ absurd (both_ways (contains s p) misses (front_has s p below))
+      | inr le ↦ le
+    ] in
+    let off = contains-beyond s p from ∙ misses in
+    counted_above (maximal_runs (beyond s)) p q (not_sacked (beyond s) p off) l
+    ∙ counted (beyond s) q ∙ ap from_bool (contains-beyond s q (omega (arith, from, l)))

@@ -67,7 +67,7 @@ none_counted : (rs : List (ℕ × ℕ)) (p : ℕ) → is_sacked rs p ≡ false �
 none_counted [] p h = refl
 none_counted (r ∷ rs) p h = let others = none_counted rs p in grind (arith, nat_tests)
 
-not_sacked : (s : Positions) (p : ℕ) → contains s p ≡ false → is_sacked (maximal_runs s) p ≡ false
+pub not_sacked : (s : Positions) (p : ℕ) → contains s p ≡ false → is_sacked (maximal_runs s) p ≡ false
 not_sacked s p h =
     either (cases_Bool (is_sacked (maximal_runs s) p))
     (λ on. absurd (both_ways (contains s p) h (inside s (maximal_runs s) p (are_maximal_runs s).maximal on)))

@@ -3,13 +3,15 @@
 --     tell_loss duplicates size rs      there are enough runs to tell that what is below them is lost
 --     is_lost duplicates size s p      what isn't reported at position p is lost
 --     IsLossBound duplicates size s limit      it is so exactly at the positions below the limit
+--     LossesCountAll      which runs are above a position that isn't reported
 --     IsHole s p limit hole      the first range of positions from p on, below the limit, that s lacks, if there is one
-use Rattle.std.specs.Prelude.{ℕ, ◌-◌, ◌<◌, ◌*◌, ◌↔◌, ◌||◌, max, nat_le, nat_lt, Bool, IsTrue, if◌then◌else◌}
-use Rattle.std.specs.Prelude.{List, [], ◌∷◌, length, Option, Some, None}
-use Rattle.net_assembler.specs.Positions.{Positions, maximal_runs}
+use Rattle.std.specs.Prelude.{◌≡◌, ℕ, ◌-◌, ◌<◌, ◌*◌, ◌↔◌, ◌||◌, max, nat_le, nat_lt, Bool, IsTrue, IsFalse}
+use Rattle.std.specs.Prelude.{if◌then◌else◌, List, [], ◌∷◌, length, count_by, Option, Some, None}
+use Rattle.std.specs.Int.{from_bool}
+use Rattle.net_assembler.specs.Positions.{Positions, contains, maximal_runs, lies_in}
 use Rattle.net_receiver.specs.Scoreboards.{beyond, sizes, IsNextHole}
 
--- the runs that start above p; if p isn't reported they are all runs that have a position above p
+-- the runs that start above p
 abbrev pub runs_above : List (ℕ × ℕ) → ℕ → List (ℕ × ℕ)
 runs_above [] p = []
 runs_above (r ∷ rs) p = if nat_lt p r.0 then r ∷ runs_above rs p else runs_above rs p
@@ -26,6 +28,12 @@ is_lost duplicates size s p = tell_loss duplicates size (runs_above (maximal_run
 -- the limit bounds the positions of which it is so
 abbrev pub IsLossBound : ℕ → ℕ → Positions → ℕ → Type 0
 IsLossBound duplicates size s limit = (p : ℕ) → (p < limit) ↔ IsTrue (is_lost duplicates size s p)
+
+-- above a position p that isn't reported, each reported position is in one of the runs that start above p, and no
+-- other position is in any
+abbrev pub LossesCountAll : Type 0
+LossesCountAll = (s : Positions) (p q : ℕ) → IsFalse (contains s p) → p < q →
+    count_by (lies_in q) (runs_above (maximal_runs (beyond s)) p) ≡ from_bool (contains s q)
 
 -- the next hole, or none below the limit
 abbrev pub IsHole : Positions → ℕ → ℕ → Option (ℕ × ℕ) → Type 0

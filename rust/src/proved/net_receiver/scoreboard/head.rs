@@ -322,7 +322,7 @@ impl ScoreboardHead {
     /// section 4: from it on `duplicates` runs were reported (3 in TCP; 0 counts as 1), or more bytes than
     /// `duplicates - 1` segments of `segment_size` bytes have. It is 0 if nothing is lost. A run counts as
     /// above a position if it begins above it; of a position that wasn't reported that is the RFC's rule
-    /// exactly, since each run that has a position above it then begins above it.
+    /// exactly, by law `losses` of `net_receiver`.
     ///
     /// # Requires, else it panics
     ///
