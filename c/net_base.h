@@ -6,7 +6,7 @@
  * numbers, time and random words.
  *
  * There is no heap and no global state. Each export calls a function of a library here, states its
- * clauses, and refuses arguments that no correct caller passes.
+ * clauses, and tests what that function needs, but for the duties below.
  *
  * Memory
  *
@@ -29,8 +29,8 @@
  *    valid for one value, and isn't null.
  * 2. What a call may write overlaps nothing else that it is passed.
  * 3. Two calls that share memory aren't made at once, in threads or in an interrupt and what it
- *    interrupts, unless both take it by `const`. So mask the interrupt around each call, and around
- *    what reads fields.
+ *    interrupts, unless both take it by `const`. So mask the interrupt around each call, with what
+ *    copies its elements, and around what reads fields.
  * 4. A storage, its runs and its slots have the same lengths in each call on a head.
  * 5. A head, its runs and its slots are written by calls of its own kind alone, those of a receiver
  *    by `net_base_receiver_..`, not its `place` by `net_base_ring_..` or its `held` by
@@ -41,6 +41,7 @@
  * 6. Where a comment says `Requires`, head and runs are sound, as a call whose name ends in
  *    `_is_sound` tests. What calls of its own kind wrote, from a new head on, is sound, if each
  *    slot that `net_base_packets_take_slot` was given was the first one.
+ * 7. There is stack enough for a call.
  *
  * Refusals
  *
@@ -98,9 +99,9 @@ extern "C" {
 
 /* Rings: where elements are in a storage that the caller keeps, and the numbers after a call.
  *
- * If the elements aren't bytes, pass only the capacity: the call returns indices, and you copy. A
- * head that doesn't fit the capacity is refused. An empty queue may begin at any index; `read_at`
- * is 0 if the capacity is.
+ * If the elements aren't bytes, pass only the capacity: the call returns indices, and you copy
+ * before the next call. A head that doesn't fit the capacity is refused. An empty queue may begin
+ * at any index; `read_at` is 0 if the capacity is.
  */
 
 /* The numbers of a ring apart from its storage. */
@@ -549,8 +550,8 @@ struct net_base_fragments {
     int64_t expires_at;
 };
 
-/* Returns whether the head is that of a buffer of `capacity` bytes and of these runs. It looks at
- * each run.
+/* Returns whether `present` and the runs are those of an assembler, and a known size is at most
+ * `capacity`. It looks at each run.
  */
 bool net_base_fragments_is_sound(
     const struct net_base_fragments *fragments, uint64_t capacity, const struct net_base_run *runs,
@@ -617,8 +618,8 @@ struct net_base_front_length net_base_fragments_complete(
  *
  * A head of zeros, but for `first`, is that of a receiver of a stream that begins there, of which
  * nothing is read, queued or held. The queue is the ring of `place`. `next` is the first missing
- * position, which `net_base_receiver_next` returns. The held runs are those of the assembler
- * `held`, whose position 0 is `next`: the first of them starts `held.first_start` after it.
+ * position, which `net_base_receiver_next` writes. The held runs are those of the assembler `held`,
+ * whose position 0 is `next`: the first of them starts `held.first_start` after it.
  */
 
 /* What a receiver has besides its storage and its held runs: numbers. */
@@ -691,7 +692,7 @@ uint64_t net_base_receiver_peek_slice(
     uint8_t *into, uint64_t into_length);
 
 /* Removes `count` bytes from the head of the queue, as `net_base_receiver_read` does, but copies
- * none, and returns true; `net_base_ring_allocated` of `place` tells where they are.
+ * none, and returns true; `net_base_ring_allocated` of `place` tells before where they are.
  *
  * It is refused if `receiver.place` isn't that of a ring of `capacity` elements, or if fewer than
  * `count` elements are queued, or if `next` doesn't fit 64 bits: false, and nothing changes.
@@ -703,12 +704,12 @@ bool net_base_receiver_remove(
  * are held, or as `into` has elements. The rest of `into` stays as it is.
  *
  * The first is the run that has `position`, that of the segment just taken, if it is held; then
- * come the runs last listed, which `recent` remembers, and then the others, in rising order; each
- * comes once. The call writes the starts of the runs that it lists to the beginning of `recent`, as
- * many as there is room for. The caller sets `recent` to zeros before the first call, and doesn't
- * change it afterwards. It is enough if `recent` has as many elements as an acknowledgement has
- * SACK blocks. RFC 2018, section 4, wants this order of them. The time grows with the number of
- * runs times the number of runs and of elements of `recent` together.
+ * come the runs of the starts in `recent`, in their order, and then the others, in rising order;
+ * each comes once. The call writes the starts of the runs that it lists to the beginning of
+ * `recent`, as many as there is room for. The caller sets `recent` to zeros before the first call,
+ * and doesn't change it afterwards. It is enough if `recent` has as many elements as an
+ * acknowledgement has SACK blocks. RFC 2018, section 4, wants this order of them. The time grows
+ * with the number of runs times the number of runs and of elements of `recent` together.
  *
  * It is refused if `place` isn't that of a ring of `storage_length` bytes, `next` doesn't fit 64
  * bits, or `held.used` is above `runs_length`: `NET_BASE_NONE`, and nothing changes.
@@ -982,8 +983,9 @@ struct net_base_finite_receiver {
     uint64_t end;
 };
 
-/* Returns whether these are the head, the storage and the runs of a receiver of a stream that ends.
- * It looks at each run, and at no byte.
+/* Returns whether `receiver`, the storage and the runs are those of a receiver, and the position
+ * after its last byte, held ones too, is at most `end` and below 2^64 - 1. It looks at each run,
+ * and at no byte.
  */
 bool net_base_finite_receiver_is_sound(
     const struct net_base_finite_receiver *receiver, const uint8_t *storage,
@@ -1222,7 +1224,9 @@ uint16_t net_base_tcp_updated_checksum(uint16_t checksum, uint16_t old, uint16_t
 
 /* What a receiver has announced: how far its promise reaches. */
 struct net_base_advertised_window {
-    /* The position after the last one that was ever promised. All below it is acceptable. */
+    /* The position after the last one that was ever promised. All from the first missing one up to
+     * it is acceptable.
+     */
     uint64_t edge;
 };
 
@@ -1243,8 +1247,8 @@ bool net_base_advertised_window_announce(
 
 /* Writes the number to announce in a segment that is sent anyway, as
  * `net_base_advertised_window_announce` does, but moves the edge beyond `next` only if an update
- * would be due: otherwise it announces what was promised before, rounded down. So a sender is never
- * told of only a few bytes more (RFC 9293, section 3.8.6.2.2).
+ * would be due: otherwise it announces what was promised before, rounded down. So the edge grows by
+ * what is worth an update, or only up to `next` (RFC 9293, section 3.8.6.2.2).
  *
  * It is refused if `scale` is above 14, or if `window_end` is below `next`: false, and nothing
  * changes.

@@ -2,8 +2,8 @@
 //! receivers, senders and their scoreboards, windows, timeouts and sums of TCP, sequence numbers, time and random
 //! words.
 //!
-//! There is no heap and no global state. Each export calls a function of a library here, states its clauses, and
-//! refuses arguments that no correct caller passes.
+//! There is no heap and no global state. Each export calls a function of a library here, states its clauses, and tests
+//! what that function needs, but for the duties below.
 //!
 //! # Memory
 //!
@@ -25,7 +25,8 @@
 //!    null.
 //! 2. What a call may write overlaps nothing else that it is passed.
 //! 3. Two calls that share memory aren't made at once, in threads or in an interrupt and what it interrupts, unless
-//!    both take it by `const`. So mask the interrupt around each call, and around what reads fields.
+//!    both take it by `const`. So mask the interrupt around each call, with what copies its elements, and around what
+//!    reads fields.
 //! 4. A storage, its runs and its slots have the same lengths in each call on a head.
 //! 5. A head, its runs and its slots are written by calls of its own kind alone, those of a receiver by
 //!    `net_base_receiver_..`, not its `place` by `net_base_ring_..` or its `held` by `net_base_assembler_..`. The
@@ -36,6 +37,7 @@
 //! 6. Where a comment says `Requires`, head and runs are sound, as a call whose name ends in `_is_sound` tests. What
 //!    calls of its own kind wrote, from a new head on, is sound, if each slot that `net_base_packets_take_slot` was given
 //!    was the first one.
+//! 7. There is stack enough for a call.
 //!
 //! # Refusals
 //!

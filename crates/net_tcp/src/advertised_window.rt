@@ -22,7 +22,8 @@ pub fn scale_for(capacity: u64) -> u8
 #[repr(C)]
 #[derive(Copy, Clone, Debug)]
 pub struct AdvertisedWindow {
-    /// The position after the last one that was ever promised. All below it is acceptable.
+    /// The position after the last one that was ever promised. All from the first missing one up to it
+    /// is acceptable.
     pub edge: u64,
 }
 
@@ -70,8 +71,8 @@ impl AdvertisedWindow {
 
     /// Returns the number to announce in a segment that is sent anyway, as `announce` does, but moves
     /// the edge beyond `next` only if an update would be due: otherwise it announces what was promised
-    /// before, rounded down. So a sender is never told of only a few bytes more (RFC 9293, section
-    /// 3.8.6.2.2).
+    /// before, rounded down. So the edge grows by what is worth an update, or only up to `next` (RFC
+    /// 9293, section 3.8.6.2.2).
     ///
     /// # Requires
     ///

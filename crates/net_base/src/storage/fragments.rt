@@ -83,8 +83,8 @@ impl FragmentsHead {
         *self = FragmentsHead::new(expires_at);
     }
 
-    /// Returns whether the head is that of a buffer of `capacity` bytes and of these runs, for any numbers in both. It
-    /// looks at each used run.
+    /// Returns whether `present` and these runs are those of an assembler, and a known size is at most `capacity`, for
+    /// any numbers. It looks at each used run.
     pub fn is_sound(&self, capacity: usize, runs: &[Run]) -> bool
         ensures { (bytes : List ℕ) → length bytes ≡ capacity →
             (IsTrue result ↔ HasSoundParts self.now bytes runs.now) }

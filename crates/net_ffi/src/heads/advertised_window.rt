@@ -48,8 +48,8 @@ pub extern "C" fn net_base_advertised_window_announce(
 
 /// Writes the number to announce in a segment that is sent anyway, as
 /// `net_base_advertised_window_announce` does, but moves the edge beyond `next` only if an update
-/// would be due: otherwise it announces what was promised before, rounded down. So a sender is
-/// never told of only a few bytes more (RFC 9293, section 3.8.6.2.2).
+/// would be due: otherwise it announces what was promised before, rounded down. So the edge grows
+/// by what is worth an update, or only up to `next` (RFC 9293, section 3.8.6.2.2).
 ///
 /// It is refused if `scale` is above 14, or if `window_end` is below `next`: false, and nothing
 /// changes.

@@ -24,8 +24,9 @@ use crate::results::presence_of;
 use net_assembler::Run;
 use net_receiver::FiniteReceiverHead;
 
-/// Returns whether these are the head, the storage and the runs of a receiver of a stream that
-/// ends. It looks at each run, and at no byte.
+/// Returns whether `receiver`, the storage and the runs are those of a receiver, and the position
+/// after its last byte, held ones too, is at most `end` and below 2^64 - 1. It looks at each run,
+/// and at no byte.
 #[unsafe(no_mangle)]
 pub extern "C" fn net_base_finite_receiver_is_sound(
     receiver: &FiniteReceiverHead,

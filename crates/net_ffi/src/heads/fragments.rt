@@ -19,8 +19,8 @@ use crate::results::{presence_of, status_of_fragment};
 use net_assembler::Run;
 use net_base::storage::FragmentsHead;
 
-/// Returns whether the head is that of a buffer of `capacity` bytes and of these runs. It looks at
-/// each run.
+/// Returns whether `present` and the runs are those of an assembler, and a known size is at most
+/// `capacity`. It looks at each run.
 #[unsafe(no_mangle)]
 pub extern "C" fn net_base_fragments_is_sound(
     fragments: &FragmentsHead,

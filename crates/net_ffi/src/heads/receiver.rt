@@ -2,7 +2,7 @@
 //!
 //! A head of zeros, but for `first`, is that of a receiver of a stream that begins there, of which
 //! nothing is read, queued or held. The queue is the ring of `place`. `next` is the first missing
-//! position, which `net_base_receiver_next` returns. The held runs are those of the assembler
+//! position, which `net_base_receiver_next` writes. The held runs are those of the assembler
 //! `held`, whose position 0 is `next`: the first of them starts `held.first_start` after it.
 // Written by tools/ffi.py.
 ghost use Rattle.net_ffi.specs.ReceiverParts.{IsPlausible};
@@ -143,7 +143,7 @@ pub extern "C" fn net_base_receiver_peek_slice(
 }
 
 /// Removes `count` bytes from the head of the queue, as `net_base_receiver_read` does, but copies
-/// none, and returns true; `net_base_ring_allocated` of `place` tells where they are.
+/// none, and returns true; `net_base_ring_allocated` of `place` tells before where they are.
 ///
 /// It is refused if `receiver.place` isn't that of a ring of `capacity` elements, or if fewer than
 /// `count` elements are queued, or if `next` doesn't fit 64 bits: false, and nothing changes.
@@ -182,10 +182,10 @@ pub extern "C" fn net_base_receiver_remove(
 /// are held, or as `into` has elements. The rest of `into` stays as it is.
 ///
 /// The first is the run that has `position`, that of the segment just taken, if it is held; then
-/// come the runs last listed, which `recent` remembers, and then the others, in rising order; each
-/// comes once. The call writes the starts of the runs that it lists to the beginning of `recent`,
-/// as many as there is room for. The caller sets `recent` to zeros before the first call, and
-/// doesn't change it afterwards. It is enough if `recent` has as many elements as an
+/// come the runs of the starts in `recent`, in their order, and then the others, in rising order;
+/// each comes once. The call writes the starts of the runs that it lists to the beginning of
+/// `recent`, as many as there is room for. The caller sets `recent` to zeros before the first call,
+/// and doesn't change it afterwards. It is enough if `recent` has as many elements as an
 /// acknowledgement has SACK blocks. RFC 2018, section 4, wants this order of them. The time grows
 /// with the number of runs times the number of runs and of elements of `recent` together.
 ///

@@ -1,8 +1,8 @@
 //! Rings: where elements are in a storage that the caller keeps, and the numbers after a call.
 //!
-//! If the elements aren't bytes, pass only the capacity: the call returns indices, and you copy. A
-//! head that doesn't fit the capacity is refused. An empty queue may begin at any index; `read_at`
-//! is 0 if the capacity is.
+//! If the elements aren't bytes, pass only the capacity: the call returns indices, and you copy
+//! before the next call. A head that doesn't fit the capacity is refused. An empty queue may begin
+//! at any index; `read_at` is 0 if the capacity is.
 // Written by tools/ffi.py.
 ghost use Rattle.net_ffi.specs.Refusals.{nowhere};
 ghost use Rattle.net_ring.specs.Ring.{Dequeues, Enqueues, WritesSpare, queue, rewind_if_empty, spare_index, window};

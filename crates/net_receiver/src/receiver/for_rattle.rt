@@ -63,7 +63,7 @@ impl<S: Storage<u8>, const N: usize> ReceiverOver<S, N> {
     /// as are held, or as `into` has elements. The rest of `into` stays as it is.
     ///
     /// The first is the run that has `position`, that of the segment just taken, if it is held;
-    /// then come the runs last listed, which `recent` remembers, and then the others, in rising
+    /// then come the runs of the starts in `recent`, in their order, and then the others, in rising
     /// order; each comes once. `recent` has as many numbers as runs are sent, zeros at first.
     ///
     /// It is the order of RFC 2018, section 4. A sender that is told the first runs again and again

@@ -55,8 +55,8 @@ impl<S: Storage<u8>, const N: usize> ReceiverOver<S, N> {
     /// included: the order that RFC 2018, section 4, wants of a selective acknowledgement.
     ///
     /// The first is the run that has `position`, that of the segment just taken, if it is held. Then
-    /// come the runs last listed, which `recent` remembers, and then the others, in rising order; each
-    /// comes once. The caller keeps `recent` from call to call, zeros at first.
+    /// come the runs of the starts in `recent`, in their order, and then the others, in rising order;
+    /// each comes once. The caller keeps `recent` from call to call, zeros at first.
     ///
     /// A sender that is told the first runs again and again learns late of others. smoltcp reports the
     /// first run alone.
