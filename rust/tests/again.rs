@@ -126,3 +126,41 @@ fn an_end_that_is_counted_is_within_the_window() {
         (4, Some(4), Some(3))
     );
 }
+
+/// Returns what is left of eight bytes `.` after they were a storage.
+fn left_by(calls: impl FnOnce(&mut [u8])) -> [u8; 8] {
+    let mut storage = *b"........";
+    calls(&mut storage);
+    storage
+}
+
+#[test]
+fn storage_is_written_only_where_bytes_are_kept() {
+    let receiver = left_by(|storage| {
+        let mut receiver: Receiver<1> = Receiver::empty(storage);
+        assert!(receiver.segment(0, b"ab").is_ok() && receiver.segment(4, b"e").is_ok());
+        assert!(receiver.segment(6, b"g").is_err());
+        assert_eq!((receiver.read(&mut [0; 2]), receiver.segment(10, b"xyz").is_ok()), (2, true));
+        receiver.reset_at(7);
+    });
+    assert_eq!(&receiver, b"ab..e...");
+    let finite = left_by(|storage| {
+        let mut finite: FiniteReceiver<1> = FiniteReceiver::empty_at(storage, 0);
+        assert!(finite.segment(0, b"ab", false).is_ok() && finite.segment(4, b"e", true).is_ok());
+        assert!(finite.segment(6, b"g", true).is_err() && finite.segment(4, b"fg", false).is_ok());
+        assert_eq!(finite.read(&mut [0; 2]), 2);
+    });
+    assert_eq!(&finite, b"ab..f...");
+    let sender = left_by(|storage| {
+        let mut sender: Sender = Sender::new_at(storage, 0);
+        assert!(sender.write(b"abc") == 3 && sender.acknowledge(2) && sender.write(b"de") == 2);
+        assert_eq!(sender.peek_at(3, 9), b"de");
+    });
+    assert_eq!(&sender, b"abcde...");
+    let ending = left_by(|storage| {
+        let mut ending: FiniteSender = FiniteSender::new_at(storage, 0);
+        assert!(ending.write(b"abc") == 3 && ending.mark_sent(2) && ending.acknowledge(2));
+        assert!(ending.write(b"de") == 2 && ending.close() && ending.write(b"f") == 0);
+    });
+    assert_eq!(&ending, b"abcde...");
+}
