@@ -5,8 +5,8 @@
  * fragments, receivers, senders and their scoreboards, windows, timeouts and sums of TCP, sequence
  * numbers, time and random words.
  *
- * There is no heap and no global state. Each export calls a function of a library here, states its
- * clauses, and tests what that function needs, but for the duties below.
+ * There is no heap and no global state. Each export, but for the version, calls a function of a
+ * library here, and tests what that function needs, but for the duties below.
  *
  * Memory
  *
@@ -332,8 +332,8 @@ void net_base_packets_clear(struct net_base_packets *packets);
  * below `count` or above the number of bytes in use. It is for a caller that wrote fewer bytes than
  * it placed.
  *
- * It is refused if `packets` isn't that of a queue of `slots_length` slots and `capacity` bytes:
- * false, and nothing changes.
+ * It is refused if the numbers of `packets` aren't those of rings of `slots_length` slots and of
+ * `capacity` bytes: false, and nothing changes.
  */
 bool net_base_packets_shorten_last(
     struct net_base_packets *packets, struct net_base_packet_slot *slots, uint64_t slots_length,
@@ -642,7 +642,9 @@ struct net_base_held_run {
 
 /* How many bytes of a segment were kept, and how many joined the queue. */
 struct net_base_kept_counts {
-    /* How many bytes were kept: those of the segment whose positions are in the free window. */
+    /* How many bytes were kept: those of the segment whose positions are in the free window, and
+     * below an end that is known.
+     */
     uint64_t kept;
     /* How many bytes joined the queue: by how many positions the first missing position moved up.
      */
@@ -707,9 +709,10 @@ bool net_base_receiver_remove(
  * come the runs of the starts in `recent`, in their order, and then the others, in rising order;
  * each comes once. The call writes the starts of the runs that it lists to the beginning of
  * `recent`, as many as there is room for. The caller sets `recent` to zeros before the first call,
- * and doesn't change it afterwards. It is enough if `recent` has as many elements as an
- * acknowledgement has SACK blocks. RFC 2018, section 4, wants this order of them. The time grows
- * with the number of runs times the number of runs and of elements of `recent` together.
+ * and doesn't change it afterwards. It is enough if `recent` and `into` have as many elements in
+ * each call as the longest acknowledgement has SACK blocks; a shorter one has the first of them.
+ * RFC 2018, section 4, wants this order. The time grows with the number of runs times the number of
+ * runs and of elements of `recent` together.
  *
  * It is refused if `place` isn't that of a ring of `storage_length` bytes, `next` doesn't fit 64
  * bits, or `held.used` is above `runs_length`: `NET_BASE_NONE`, and nothing changes.
@@ -1124,8 +1127,8 @@ bool net_base_finite_sender_first_number(
 bool net_base_finite_sender_numbers_end(
     const struct net_base_finite_sender *sender, uint64_t capacity, uint64_t *number);
 
-/* Enqueues the first of these bytes, as many as have room, and returns how many: none once the
- * sender is closed.
+/* Enqueues the first of these bytes, as many as `net_base_sender_room` of `sender` says, and
+ * returns how many: none once the sender is closed.
  *
  * It is refused if `sender` isn't that of a sender over `storage_length` bytes: `NET_BASE_NONE`,
  * and nothing changes.
@@ -1419,10 +1422,11 @@ uint64_t net_base_rand_below(uint64_t *state, uint32_t bound);
 /* Sequence numbers of 32 bits, which wrap, and the positions of 64 bits, which don't.
  *
  * A receiver and a sender count in positions; TCP's segments have numbers. If position 0 has the
- * number `initial`, each position has one number, and a number has one position near a given one.
- * In TCP segments with numbers before that of the first byte arrive too, as old duplicates. If the
- * first byte has position 0, no position near 0 has such a number. If it has the position 2^32 +
- * its number, each has one: then `initial` is 0, and the low 32 bits of a position are its number.
+ * number `initial`, each position has one number, and a number has at most one position near a
+ * given one. In TCP segments with numbers before that of the first byte arrive too, as old
+ * duplicates. If the first byte has position 0, no position near 0 has such a number. If it has the
+ * position 2^32 + its number, each has one: then `initial` is 0, and the low 32 bits of a position
+ * are its number.
  */
 
 /* Returns whether a position near `next` has a number, if position 0 has the number `initial`, and

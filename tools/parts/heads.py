@@ -27,7 +27,7 @@ TESTS = [
     (rf"IsSoundHead {TERM} {TERM}", "{all}", "!{c1}.is_sound({c0})",
      "`{c1}` isn't that of a sender over `{c0}` bytes", True),
     (rf"IsSoundHead {TERM} {TERM} {TERM}", "{all}", "!{c2}.is_sound({c0}, {c1})",
-     "`{c2}` isn't that of a queue of `{c0}` slots and `{c1}` bytes", True),
+     "the numbers of `{c2}` aren't those of rings of `{c0}` slots and of `{c1}` bytes", True),
     (rf"IsSoundFiniteSender {TERM} {TERM}", "{all}", "!{c1}.is_sound({c0})",
      "`{c1}` isn't that of a sender over `{c0}` bytes", True),
     (rf"next_of {TERM} < no_end", "{all}", "!has_number({c0})", "the number after `next` doesn't fit 64 bits", True),

@@ -2,7 +2,7 @@
 //! receivers, senders and their scoreboards, windows, timeouts and sums of TCP, sequence numbers, time and random
 //! words.
 //!
-//! There is no heap and no global state. Each export calls a function of a library here, states its clauses, and tests
+//! There is no heap and no global state. Each export, but for the version, calls a function of a library here, and tests
 //! what that function needs, but for the duties below.
 //!
 //! # Memory

@@ -20,7 +20,8 @@ use net_receiver::{HeldRun, ReceiverHead, laws};
 #[repr(C)]
 #[derive(Debug, Clone, Copy)]
 pub struct KeptCounts {
-    /// How many bytes were kept: those of the segment whose positions are in the free window.
+    /// How many bytes were kept: those of the segment whose positions are in the free window, and below an end that
+    /// is known.
     pub kept: usize,
     /// How many bytes joined the queue: by how many positions the first missing position moved up.
     pub queued: usize,

@@ -1,10 +1,10 @@
 //! Sequence numbers of 32 bits, which wrap, and the positions of 64 bits, which don't.
 //!
 //! A receiver and a sender count in positions; TCP's segments have numbers. If position 0 has the number `initial`,
-//! each position has one number, and a number has one position near a given one. In TCP segments with numbers before
-//! that of the first byte arrive too, as old duplicates. If the first byte has position 0, no position near 0 has
-//! such a number. If it has the position 2^32 + its number, each has one: then `initial` is 0, and the low 32 bits of a
-//! position are its number.
+//! each position has one number, and a number has at most one position near a given one. In TCP segments with numbers
+//! before that of the first byte arrive too, as old duplicates. If the first byte has position 0, no position near 0
+//! has such a number. If it has the position 2^32 + its number, each has one: then `initial` is 0, and the low 32 bits
+//! of a position are its number.
 ghost use Rattle.std.specs.Prelude.{◌≡◌, ◌+◌, ◌<◌, ◌^◌, ℕ, IsTrue, IsFalse};
 ghost use Rattle.net_receiver.specs.SequenceNumbers.{number_at, IsNear};
 

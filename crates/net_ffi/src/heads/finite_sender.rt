@@ -73,8 +73,8 @@ pub extern "C" fn net_base_finite_sender_numbers_end(
     true
 }
 
-/// Enqueues the first of these bytes, as many as have room, and returns how many: none once the
-/// sender is closed.
+/// Enqueues the first of these bytes, as many as `net_base_sender_room` of `sender` says, and
+/// returns how many: none once the sender is closed.
 ///
 /// It is refused if `sender` isn't that of a sender over `storage.len()` bytes: `NET_BASE_NONE`,
 /// and nothing changes.

@@ -42,8 +42,8 @@ pub extern "C" fn net_base_packets_clear(packets: &mut PacketsHead)
 /// below `count` or above the number of bytes in use. It is for a caller that wrote fewer bytes
 /// than it placed.
 ///
-/// It is refused if `packets` isn't that of a queue of `slots.len()` slots and `capacity` bytes:
-/// false, and nothing changes.
+/// It is refused if the numbers of `packets` aren't those of rings of `slots.len()` slots and of
+/// `capacity` bytes: false, and nothing changes.
 #[unsafe(no_mangle)]
 pub extern "C" fn net_base_packets_shorten_last(
     packets: &mut PacketsHead,

@@ -185,9 +185,10 @@ pub extern "C" fn net_base_receiver_remove(
 /// come the runs of the starts in `recent`, in their order, and then the others, in rising order;
 /// each comes once. The call writes the starts of the runs that it lists to the beginning of
 /// `recent`, as many as there is room for. The caller sets `recent` to zeros before the first call,
-/// and doesn't change it afterwards. It is enough if `recent` has as many elements as an
-/// acknowledgement has SACK blocks. RFC 2018, section 4, wants this order of them. The time grows
-/// with the number of runs times the number of runs and of elements of `recent` together.
+/// and doesn't change it afterwards. It is enough if `recent` and `into` have as many elements in
+/// each call as the longest acknowledgement has SACK blocks; a shorter one has the first of them.
+/// RFC 2018, section 4, wants this order. The time grows with the number of runs times the number
+/// of runs and of elements of `recent` together.
 ///
 /// It is refused if `place` isn't that of a ring of `storage.len()` bytes, `next` doesn't fit 64
 /// bits, or `held.used` is above `runs.len()`: `NET_BASE_NONE`, and nothing changes.
