@@ -1362,7 +1362,9 @@ bool net_base_retransmission_timeout_take_sample(
 void net_base_retransmission_timeout_expired(
     struct net_base_retransmission_timeout *timer, const struct net_base_timeout_bounds *bounds);
 
-/* Estimates of the time of a round trip: `estimate` of a timeout, once it `has_estimate`. */
+/* Estimates of the time of a round trip: `estimate` of a timeout, once it `has_estimate`; zeros are
+ * none.
+ */
 
 /* Returns the timeout that it gives within the bounds: at least the smoothed time, but for the
  * greatest timeout.

@@ -1,4 +1,5 @@
-//! Estimates of the time of a round trip: `estimate` of a timeout, once it `has_estimate`.
+//! Estimates of the time of a round trip: `estimate` of a timeout, once it `has_estimate`; zeros
+//! are none.
 // Written by tools/ffi.py.
 ghost use Rattle.net_tcp.specs.RetransmissionTimeout.{timeout_of};
 ghost use Rattle.std.specs.Prelude.{min, ◌/◌, ◌≡◌, ◌≤◌};
