@@ -1,4 +1,4 @@
-/* A program with no C library and no heap: its own _start, and the four functions that the archive
+/* A program with no C library and no heap: its own _start, and the four functions that the library
  * may want. It runs on a stack of 4 KB, exits with the number of the first step that fails, or 0,
  * and prints how much stack it took.
  */
@@ -64,7 +64,7 @@ static int run_ring(void) {
     if (net_base_ring_dequeue_slice(&ring, storage, 8, into, 8) != 8) return 4;
     if (!are_equal(into, "efghijkl", 8)) return 5;
     struct net_base_ring nonsense = {3, 9};
-    if (net_base_ring_enqueue_slice(&nonsense, storage, 8, into, 1) != UINT64_MAX) return 6;
+    if (net_base_ring_enqueue_slice(&nonsense, storage, 8, into, 1) != NET_BASE_NONE) return 6;
     return 0;
 }
 

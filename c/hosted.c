@@ -2,7 +2,6 @@
  * segments of a stream arrive at a receiver in any order. It prints hosted.stdout.
  */
 #include "net_base.h"
-#include <inttypes.h>
 #include <stdio.h>
 #include <string.h>
 
@@ -10,15 +9,14 @@ enum { CAPACITY = 16, MOST_RUNS = 2, SLOTS = 4 };
 
 /* Writes a text into a ring as far as there is room, and says how much was taken. */
 static void enqueue(struct net_base_ring *ring, uint8_t *storage, const char *text) {
-    uint64_t count =
-        net_base_ring_enqueue_slice(ring, storage, CAPACITY, (const uint8_t *)text, (uint64_t)strlen(text));
-    printf("enqueued %" PRIu64 " of %" PRIu64 "\n", count, (uint64_t)strlen(text));
+    size_t count = net_base_ring_enqueue_slice(ring, storage, CAPACITY, (const uint8_t *)text, strlen(text));
+    printf("enqueued %u of %u\n", (unsigned)count, (unsigned)strlen(text));
 }
 
 /* Prints what is queued, up to `size` bytes. */
-static void dequeue(struct net_base_ring *ring, const uint8_t *storage, uint64_t size) {
+static void dequeue(struct net_base_ring *ring, const uint8_t *storage, size_t size) {
     uint8_t into[CAPACITY];
-    uint64_t count = net_base_ring_dequeue_slice(ring, storage, CAPACITY, into, size);
+    size_t count = net_base_ring_dequeue_slice(ring, storage, CAPACITY, into, size);
     printf("dequeued \"%.*s\"\n", (int)count, (const char *)into);
 }
 
@@ -31,7 +29,7 @@ static void use_ring(void) {
     dequeue(&ring, storage, CAPACITY);
     struct net_base_ring nonsense = {3, CAPACITY + 1};
     uint8_t byte = 0;
-    if (net_base_ring_enqueue_slice(&nonsense, storage, CAPACITY, &byte, 1) == UINT64_MAX) {
+    if (net_base_ring_enqueue_slice(&nonsense, storage, CAPACITY, &byte, 1) == NET_BASE_NONE) {
         printf("refused: no ring of %d has %d elements\n", CAPACITY, CAPACITY + 1);
     }
 }
@@ -46,7 +44,7 @@ struct packet_queue {
 
 /* Queues a text as a packet, and says where it is. */
 static void enqueue_packet(struct packet_queue *queue, uint16_t port, const char *text) {
-    uint64_t size = (uint64_t)strlen(text);
+    size_t size = strlen(text);
     struct net_base_packet_place place =
         net_base_packets_enqueue(&queue->head, queue->slots, SLOTS, CAPACITY, size);
     if (place.slot == NET_BASE_NONE) {
@@ -55,7 +53,7 @@ static void enqueue_packet(struct packet_queue *queue, uint16_t port, const char
     }
     queue->ports[place.slot] = port;
     memcpy(&queue->bytes[place.from], text, (size_t)size);
-    printf("\"%s\" is at %" PRIu64 ", after a gap of %" PRIu64 "\n", text, place.from, place.gap);
+    printf("\"%s\" is at %u, after a gap of %u\n", text, (unsigned)place.from, (unsigned)place.gap);
 }
 
 /* Takes the first packet off, and prints it. */
@@ -84,15 +82,15 @@ static void use_packets(void) {
 
 /* Hands a part of a text over as a segment, and says what became of it. */
 static void receive(struct net_base_receiver *receiver, uint8_t *storage, struct net_base_run *runs,
-    const char *text, uint64_t from, uint64_t size) {
+    const char *text, unsigned from, unsigned size) {
     struct net_base_kept_counts counts = {0, 0};
     uint32_t status = net_base_receiver_segment(receiver, storage, CAPACITY, runs, MOST_RUNS, from,
         (const uint8_t *)text + from, size, &counts);
     if (status == NET_BASE_DONE)
-        printf("%" PRIu64 " to %" PRIu64 ": kept %" PRIu64 ", ", from, from + size, counts.kept);
+        printf("%u to %u: kept %u, ", from, from + size, (unsigned)counts.kept);
     else
-        printf("%" PRIu64 " to %" PRIu64 ": too many runs, ", from, from + size);
-    printf("%" PRIu64 " are queued\n", receiver->place.length);
+        printf("%u to %u: too many runs, ", from, from + size);
+    printf("%u are queued\n", (unsigned)receiver->place.length);
 }
 
 /* Segments arrive in any order. Position 0 is the text's first byte. */
@@ -105,7 +103,7 @@ static void use_receiver(void) {
     receive(&receiver, storage, runs, text, 10, 2);
     receive(&receiver, storage, runs, text, 13, 2);
     receive(&receiver, storage, runs, text, 0, 6);
-    uint64_t count = net_base_receiver_read(&receiver, storage, CAPACITY, into, CAPACITY);
+    size_t count = net_base_receiver_read(&receiver, storage, CAPACITY, into, CAPACITY);
     printf("read \"%.*s\"\n", (int)count, (const char *)into);
 }
 

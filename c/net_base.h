@@ -12,8 +12,10 @@
  *
  * A head is a struct of numbers, which the caller keeps beside a storage and, for some heads, runs
  * or slots. A head of zeros is new, but for what the comment of its kind says. Storage, runs and
- * slots need no initial values (gcc may warn where the first call takes them by `const`). Lengths
- * are in elements; a length of 0 is allowed, of runs too: then no run is held.
+ * slots need no particular values. Lengths are in elements; a length of 0 is allowed, of runs too:
+ * then no run is held. A length, an index or a count is a `size_t`, a position or a time a
+ * `uint64_t` or an `int64_t` on every processor. A flag is as wide as the number beside it, so that
+ * heads and slots have no padding.
  *
  * Fields of a head may be read: `length` is how many elements are queued, `used` how many runs are
  * stored. `start` and `end` of a stored run are offsets from `first_start` of the head, so the
@@ -22,39 +24,46 @@
  *
  * Duties
  *
- * Nothing checks these, and the proofs assume them. A call that breaks one can touch any memory.
+ * Nothing checks these. The first four are about memory: a call that breaks one can touch any
+ * memory. The others are about answers, and the proofs assume them: a call that breaks one touches
+ * no other memory than it was passed, but may answer anything, or trap.
  *
- * 1. A pointer is aligned and valid. That of a slice, such as `data`, is valid for as many elements
- *    as the parameter after it says, here `data_length`; if that is 0, it may be null. Any other is
- *    valid for one value, and isn't null.
+ * 1. A pointer that isn't null is aligned, and valid: that of a slice, such as `data`, for as many
+ *    elements as the parameter after it says, here `data_length`, of at most `PTRDIFF_MAX` bytes
+ *    together; any other for one value. If the length is 0, the pointer may be any. A `bool` is 0
+ *    or 1. If program and library are optimized together when they are linked, the program has
+ *    written before what it passes, with any values.
  * 2. What a call may write overlaps nothing else that it is passed.
  * 3. Two calls that share memory aren't made at once, in threads or in an interrupt and what it
  *    interrupts, unless both take it by `const`. So mask the interrupt around each call, with what
  *    copies its elements, and around what reads fields.
- * 4. A storage, its runs and its slots have the same lengths in each call on a head.
- * 5. A head, its runs and its slots are written by calls of its own kind alone, those of a receiver
+ * 4. There is stack enough for a call.
+ * 5. A storage, its runs and its slots have the same lengths in each call on a head.
+ * 6. A head, its runs and its slots are written by calls of its own kind alone, those of a receiver
  *    by `net_base_receiver_..`, not its `place` by `net_base_ring_..` or its `held` by
  *    `net_base_assembler_..`. The caller may set a head to zeros, and then what the comment of its
  *    kind says: `first` of a receiver, `first_unacknowledged` of a sender, and `sent` of one of a
  *    stream that ends, `base` of a scoreboard, `expires_at` of a buffer of fragments, `end` of a
  *    receiver of a stream that ends, `edge` of an announced window, `timeout` of a timeout.
- * 6. Where a comment says `Requires`, head and runs are sound, as a call whose name ends in
+ * 7. Where a comment says `Requires`, head and runs are sound, as a call whose name ends in
  *    `_is_sound` tests. What calls of its own kind wrote, from a new head on, is sound, if each
  *    slot that `net_base_packets_take_slot` was given was the first one.
- * 7. There is stack enough for a call.
  *
  * Refusals
  *
  * All else that calls need is tested, but that a taken slot is the first one. Arguments are tested
- * first: if they are nonsense, that is the refusal, whatever else is wrong. A refused call changes
- * nothing. It returns `false` if it returns a `bool`; `NET_BASE_REFUSED` if it returns a status,
- * alone or as the first field of a struct; otherwise `NET_BASE_NONE`, alone or as the first field
- * of a struct. `NET_BASE_REFUSED` always means a refusal; `false` and `NET_BASE_NONE` can also be
- * results of calls that are done.
+ * first: if they are nonsense, that is the refusal, whatever else is wrong. A null pointer is
+ * nonsense, but to a slice of length 0. A refused call changes nothing. It returns `false` if it
+ * returns a `bool`; `NET_BASE_REFUSED` if it returns a status, alone or as the first field of a
+ * struct; `NET_BASE_NONE` if it returns a `size_t`, `UINT64_MAX` if it returns a `uint64_t`, alone
+ * or as the first field of a struct; and 0 if it returns another number, which is refused for null
+ * alone. `NET_BASE_REFUSED` always means a refusal; the others can also be results of calls that
+ * are done.
  */
 #ifndef NET_BASE_H
 #define NET_BASE_H
 #include <stdbool.h>
+#include <stddef.h>
 #include <stdint.h>
 
 /* The version: until 1.0 names and structs may change with each minor number. */
@@ -94,22 +103,41 @@ extern "C" {
 /* The stream can't end there. Nothing changes. */
 #define NET_BASE_OTHER_END UINT32_C(7)
 
-/* In place of a count, index or position: what was passed is nonsense, or there is none. */
-#define NET_BASE_NONE UINT64_MAX
+/* Take what a segment acknowledges, its window, its bytes and its end. */
+#define NET_BASE_TAKE UINT32_C(8)
+
+/* Take what a segment acknowledges and its window, but not its bytes, and answer it: the own window
+ * is shut, and the peer asks whether it has opened.
+ */
+#define NET_BASE_ACKNOWLEDGEMENT_ONLY UINT32_C(9)
+
+/* Send an acknowledgement, and take nothing of a segment. */
+#define NET_BASE_ANSWER UINT32_C(10)
+
+/* Take nothing of a segment, and send nothing. */
+#define NET_BASE_IGNORE UINT32_C(11)
+
+/* The peer has reset the connection. */
+#define NET_BASE_RESET UINT32_C(12)
+
+/* In place of a length, an index or a count: what was passed is nonsense, or there is none. */
+#define NET_BASE_NONE SIZE_MAX
 
 /* Rings: where elements are in a storage that the caller keeps, and the numbers after a call.
  *
  * If the elements aren't bytes, pass only the capacity: the call returns indices, and you copy
  * before the next call. A head that doesn't fit the capacity is refused. An empty queue may begin
- * at any index; `read_at` is 0 if the capacity is.
+ * at any index; `read_at` is 0 if the capacity is. A call that takes the last element off leaves
+ * `read_at` after it, and doesn't rewind. In a span of no elements `from` is where the first would
+ * be.
  */
 
-/* The numbers of a ring apart from its storage. */
+/* The head of a ring: its numbers without its storage. */
 struct net_base_ring {
     /* The index of the first element of the queue, 0 if the storage is empty. */
-    uint64_t read_at;
+    size_t read_at;
     /* How many elements are queued. */
-    uint64_t length;
+    size_t length;
 };
 
 /* A range of a ring: `contiguous` elements from the index `from` on, and the rest of `count` from
@@ -117,17 +145,17 @@ struct net_base_ring {
  */
 struct net_base_span {
     /* The index of the first one. */
-    uint64_t from;
+    size_t from;
     /* How many there are. */
-    uint64_t count;
+    size_t count;
     /* How many of them are contiguous, from the first one on. */
-    uint64_t contiguous;
+    size_t contiguous;
 };
 
 /* Returns whether `place` is that of a ring of `capacity` elements: its read index is an index of
  * the storage, or 0, and it has no more elements than the storage.
  */
-bool net_base_ring_is_sound(const struct net_base_ring *place, uint64_t capacity);
+bool net_base_ring_is_sound(const struct net_base_ring *place, size_t capacity);
 
 /* Returns where at most `size` free elements are, from the one at `offset` on; none if `offset` is
  * past the free elements.
@@ -136,7 +164,7 @@ bool net_base_ring_is_sound(const struct net_base_ring *place, uint64_t capacity
  * `count` and `contiguous` are 0.
  */
 struct net_base_span net_base_ring_unallocated(
-    const struct net_base_ring *place, uint64_t capacity, uint64_t offset, uint64_t size);
+    const struct net_base_ring *place, size_t capacity, size_t offset, size_t size);
 
 /* Returns where at most `size` elements of the queue are, from the one at `offset` on; none if
  * `offset` is past the queue.
@@ -145,13 +173,13 @@ struct net_base_span net_base_ring_unallocated(
  * `count` and `contiguous` are 0.
  */
 struct net_base_span net_base_ring_allocated(
-    const struct net_base_ring *place, uint64_t capacity, uint64_t offset, uint64_t size);
+    const struct net_base_ring *place, size_t capacity, size_t offset, size_t size);
 
 /* Empties the queue, and moves the read index to the storage's beginning. */
 void net_base_ring_clear(struct net_base_ring *place);
 
 /* Moves the read index of an empty ring to the storage's beginning: then all its free elements are
- * contiguous. Otherwise the numbers stay as they are.
+ * contiguous. Otherwise the head stays as it is.
  */
 void net_base_ring_rewind_if_empty(struct net_base_ring *place);
 
@@ -160,21 +188,21 @@ void net_base_ring_rewind_if_empty(struct net_base_ring *place);
  * It is refused if `place` isn't that of a ring of `capacity` elements, or if fewer than `count`
  * elements are free: false, and nothing changes.
  */
-bool net_base_ring_enqueue(struct net_base_ring *place, uint64_t capacity, uint64_t count);
+bool net_base_ring_enqueue(struct net_base_ring *place, size_t capacity, size_t count);
 
 /* Dequeues `count` elements, and returns true.
  *
  * It is refused if `place` isn't that of a ring of `capacity` elements, or if fewer than `count`
  * elements are queued: false, and nothing changes.
  */
-bool net_base_ring_dequeue(struct net_base_ring *place, uint64_t capacity, uint64_t count);
+bool net_base_ring_dequeue(struct net_base_ring *place, size_t capacity, size_t count);
 
 /* Takes the last `count` elements off the queue, so that they are the first free ones, and returns
  * true.
  *
  * It is refused if fewer than `count` elements are queued: false, and nothing changes.
  */
-bool net_base_ring_drop_last(struct net_base_ring *place, uint64_t count);
+bool net_base_ring_drop_last(struct net_base_ring *place, size_t count);
 
 /* Enqueues as many elements as there is room for, at most `size`, and returns where they are.
  *
@@ -184,7 +212,7 @@ bool net_base_ring_drop_last(struct net_base_ring *place, uint64_t count);
  * `count` and `contiguous` are 0, and nothing changes.
  */
 struct net_base_span net_base_ring_enqueue_span(
-    struct net_base_ring *place, uint64_t capacity, uint64_t size);
+    struct net_base_ring *place, size_t capacity, size_t size);
 
 /* Enqueues contiguous elements, at most `size`, and returns where they are: the span has no others.
  *
@@ -194,7 +222,7 @@ struct net_base_span net_base_ring_enqueue_span(
  * `count` and `contiguous` are 0, and nothing changes.
  */
 struct net_base_span net_base_ring_enqueue_many(
-    struct net_base_ring *place, uint64_t capacity, uint64_t size);
+    struct net_base_ring *place, size_t capacity, size_t size);
 
 /* Dequeues as many elements as are queued, at most `size`, and returns where they are.
  *
@@ -202,7 +230,7 @@ struct net_base_span net_base_ring_enqueue_many(
  * `count` and `contiguous` are 0, and nothing changes.
  */
 struct net_base_span net_base_ring_dequeue_span(
-    struct net_base_ring *place, uint64_t capacity, uint64_t size);
+    struct net_base_ring *place, size_t capacity, size_t size);
 
 /* Dequeues contiguous elements, at most `size`, and returns where they are: the span has no others.
  *
@@ -210,7 +238,7 @@ struct net_base_span net_base_ring_dequeue_span(
  * `count` and `contiguous` are 0, and nothing changes.
  */
 struct net_base_span net_base_ring_dequeue_many(
-    struct net_base_ring *place, uint64_t capacity, uint64_t size);
+    struct net_base_ring *place, size_t capacity, size_t size);
 
 /* Writes as many elements of `data` as there is room for to the free elements from the one at
  * `offset` on, and returns how many; 0 if `offset` is past the free elements. Nothing is enqueued.
@@ -218,9 +246,9 @@ struct net_base_span net_base_ring_dequeue_many(
  * It is refused if `place` isn't that of a ring of `storage_length` elements: `NET_BASE_NONE`, and
  * nothing changes.
  */
-uint64_t net_base_ring_write_unallocated(
-    const struct net_base_ring *place, uint8_t *storage, uint64_t storage_length, uint64_t offset,
-    const uint8_t *data, uint64_t data_length);
+size_t net_base_ring_write_unallocated(
+    const struct net_base_ring *place, uint8_t *storage, size_t storage_length, size_t offset,
+    const uint8_t *data, size_t data_length);
 
 /* Copies as many elements of the queue as `into` has room for, from the one at `offset` on, to the
  * beginning of `into`, and returns how many; 0 if `offset` is past the queue. The rest of `into`
@@ -229,9 +257,9 @@ uint64_t net_base_ring_write_unallocated(
  * It is refused if `place` isn't that of a ring of `storage_length` elements: `NET_BASE_NONE`, and
  * nothing changes.
  */
-uint64_t net_base_ring_read_allocated(
-    const struct net_base_ring *place, const uint8_t *storage, uint64_t storage_length,
-    uint64_t offset, uint8_t *into, uint64_t into_length);
+size_t net_base_ring_read_allocated(
+    const struct net_base_ring *place, const uint8_t *storage, size_t storage_length, size_t offset,
+    uint8_t *into, size_t into_length);
 
 /* Enqueues as many elements of `data` as there is room for, and returns how many.
  *
@@ -240,9 +268,9 @@ uint64_t net_base_ring_read_allocated(
  * It is refused if `place` isn't that of a ring of `storage_length` elements: `NET_BASE_NONE`, and
  * nothing changes.
  */
-uint64_t net_base_ring_enqueue_slice(
-    struct net_base_ring *place, uint8_t *storage, uint64_t storage_length, const uint8_t *data,
-    uint64_t data_length);
+size_t net_base_ring_enqueue_slice(
+    struct net_base_ring *place, uint8_t *storage, size_t storage_length, const uint8_t *data,
+    size_t data_length);
 
 /* Dequeues as many elements as `into` has room for and are queued, copies them to the beginning of
  * `into`, and returns how many. The rest of `into` stays as it is.
@@ -250,21 +278,21 @@ uint64_t net_base_ring_enqueue_slice(
  * It is refused if `place` isn't that of a ring of `storage_length` elements: `NET_BASE_NONE`, and
  * nothing changes.
  */
-uint64_t net_base_ring_dequeue_slice(
-    struct net_base_ring *place, const uint8_t *storage, uint64_t storage_length, uint8_t *into,
-    uint64_t into_length);
+size_t net_base_ring_dequeue_slice(
+    struct net_base_ring *place, const uint8_t *storage, size_t storage_length, uint8_t *into,
+    size_t into_length);
 
 /* Enqueues one element, and returns its index in the storage.
  *
  * If none is free, or the place isn't sound: `NET_BASE_NONE`, and nothing changes.
  */
-uint64_t net_base_ring_enqueue_one(struct net_base_ring *place, uint64_t capacity);
+size_t net_base_ring_enqueue_one(struct net_base_ring *place, size_t capacity);
 
 /* Dequeues one element, and returns its index in the storage.
  *
  * If none is queued, or the place isn't sound: `NET_BASE_NONE`, and nothing changes.
  */
-uint64_t net_base_ring_dequeue_one(struct net_base_ring *place, uint64_t capacity);
+size_t net_base_ring_dequeue_one(struct net_base_ring *place, size_t capacity);
 
 /* Packet queues: where a packet has its slots and its bytes, in storages that the caller keeps.
  *
@@ -274,45 +302,45 @@ uint64_t net_base_ring_dequeue_one(struct net_base_ring *place, uint64_t capacit
  * `shorten_last` write; `take_slot` takes one. What is refused changes nothing.
  */
 
-/* The numbers of a packet queue apart from its storages. */
+/* The head of a packet queue: the heads of its two rings. */
 struct net_base_packets {
-    /* The numbers of the ring of slots. */
+    /* The head of the ring of slots. */
     struct net_base_ring slots;
-    /* The numbers of the ring of bytes. */
+    /* The head of the ring of bytes. */
     struct net_base_ring bytes;
 };
 
 /* A slot of a packet queue without its header: that of a packet, or of the gap before one. */
 struct net_base_packet_slot {
     /* How many bytes the packet or the gap has. */
-    uint64_t size;
+    size_t size;
     /* 0 if the slot is a packet's. Any other number says that it is a gap's. */
-    uint64_t is_gap;
+    size_t is_gap;
 };
 
 /* Where a packet was placed. */
 struct net_base_packet_place {
     /* How many bytes are skipped before the packet: 0, or those up to the storage's end. */
-    uint64_t gap;
+    size_t gap;
     /* The index of the slot of the gap. If the gap has 0 bytes, it has no slot, and this is `slot`.
      */
-    uint64_t gap_slot;
+    size_t gap_slot;
     /* The index of the packet's slot. */
-    uint64_t slot;
+    size_t slot;
     /* The index of the packet's first byte. */
-    uint64_t from;
+    size_t from;
 };
 
 /* Where the first packet is. */
 struct net_base_first_packet {
     /* How many bytes are skipped before the packet. */
-    uint64_t gap;
+    size_t gap;
     /* The index of the packet's slot. */
-    uint64_t slot;
+    size_t slot;
     /* The index of the packet's first byte. */
-    uint64_t from;
+    size_t from;
     /* How many bytes the packet has. */
-    uint64_t size;
+    size_t size;
 };
 
 /* Returns whether head and slots are those of a queue over `capacity` bytes: the numbers are those
@@ -322,7 +350,7 @@ struct net_base_first_packet {
  */
 bool net_base_packets_is_sound(
     const struct net_base_packets *packets, const struct net_base_packet_slot *slots,
-    uint64_t slots_length, uint64_t capacity);
+    size_t slots_length, size_t capacity);
 
 /* Empties the queue. No head is refused: this makes one sound for all storages. */
 void net_base_packets_clear(struct net_base_packets *packets);
@@ -336,8 +364,8 @@ void net_base_packets_clear(struct net_base_packets *packets);
  * `capacity` bytes: false, and nothing changes.
  */
 bool net_base_packets_shorten_last(
-    struct net_base_packets *packets, struct net_base_packet_slot *slots, uint64_t slots_length,
-    uint64_t capacity, uint64_t count);
+    struct net_base_packets *packets, struct net_base_packet_slot *slots, size_t slots_length,
+    size_t capacity, size_t count);
 
 /* Appends a packet of `size` bytes, writes its slot and that of its gap, whose `is_gap` is 1, and
  * returns where they and the packet's bytes are. If no byte is in use, which is so too where all
@@ -348,8 +376,8 @@ bool net_base_packets_shorten_last(
  * rings of the slots and of `capacity` bytes is refused: then all four are `NET_BASE_NONE`.
  */
 struct net_base_packet_place net_base_packets_enqueue(
-    struct net_base_packets *packets, struct net_base_packet_slot *slots, uint64_t slots_length,
-    uint64_t capacity, uint64_t size);
+    struct net_base_packets *packets, struct net_base_packet_slot *slots, size_t slots_length,
+    size_t capacity, size_t size);
 
 /* Takes the first packet off, and the gap before it, and returns where it is. Its bytes stay until
  * another packet is placed there.
@@ -360,8 +388,8 @@ struct net_base_packet_place net_base_packets_enqueue(
  * refused.
  */
 struct net_base_first_packet net_base_packets_dequeue(
-    struct net_base_packets *packets, const struct net_base_packet_slot *slots,
-    uint64_t slots_length, uint64_t capacity);
+    struct net_base_packets *packets, const struct net_base_packet_slot *slots, size_t slots_length,
+    size_t capacity);
 
 /* Returns where the first packet is, which stays.
  *
@@ -371,7 +399,7 @@ struct net_base_first_packet net_base_packets_dequeue(
  */
 struct net_base_first_packet net_base_packets_peek(
     const struct net_base_packets *packets, const struct net_base_packet_slot *slots,
-    uint64_t slots_length, uint64_t capacity);
+    size_t slots_length, size_t capacity);
 
 /* Removes the first slot in use, which the caller passes as `first`, with its bytes, and returns
  * the index of the first of these bytes. `first` must be the slot at the index `slots.read_at`:
@@ -383,8 +411,8 @@ struct net_base_first_packet net_base_packets_peek(
  * contiguous, or if it is a gap's that has no bytes or doesn't end at the storage's end. Then
  * `NET_BASE_NONE` is returned, and nothing changes.
  */
-uint64_t net_base_packets_take_slot(
-    struct net_base_packets *packets, uint64_t slot_count, uint64_t capacity,
+size_t net_base_packets_take_slot(
+    struct net_base_packets *packets, size_t slot_count, size_t capacity,
     const struct net_base_packet_slot *first);
 
 /* Assemblers: sets of positions, stored as runs in memory that the caller keeps.
@@ -395,16 +423,16 @@ uint64_t net_base_packets_take_slot(
 /* What an assembler has besides its runs: how many there are, and where the first of them starts.
  */
 struct net_base_assembler {
-    uint64_t used;
-    uint64_t first_start;
+    size_t used;
+    size_t first_start;
 };
 
 /* A range of positions that is stored as a run: from `start` on, up to `end`, which is not
  * included.
  */
 struct net_base_run {
-    uint64_t start;
-    uint64_t end;
+    size_t start;
+    size_t end;
 };
 
 /* The length of the run at position 0, and whether the call was done. */
@@ -416,16 +444,16 @@ struct net_base_front_length {
     /* How many positions the run has, 0 if position 0 is missing; of `net_base_fragments_complete`
      * the packet's size. It is 0 if the call wasn't done.
      */
-    uint64_t length;
+    size_t length;
 };
 
 /* Returns whether `assembler` and `runs` are those of an assembler: there are `used` runs, which
- * rise, with a hole between neighbours; the first starts at 0; and each end fits 64 bits also with
- * `first_start` added. It looks at each run.
+ * rise, with a hole between neighbours; the first starts at 0; and each end fits a `size_t` also
+ * with `first_start` added. It looks at each run.
  */
 bool net_base_assembler_is_sound(
     const struct net_base_assembler *assembler, const struct net_base_run *runs,
-    uint64_t runs_length);
+    size_t runs_length);
 
 /* Removes every position: `used` and `first_start` are 0 then. Nothing is refused: this makes an
  * assembler of any memory.
@@ -441,14 +469,14 @@ void net_base_assembler_clear(struct net_base_assembler *assembler);
  * Returns `NET_BASE_DONE`, or `NET_BASE_TOO_MANY_RUNS`, and nothing changes, if there would be more
  * runs than the slice has elements.
  *
- * It is refused if `used` is above `runs_length`, or if `offset + size` doesn't fit 64 bits:
+ * It is refused if `used` is above `runs_length`, or if `offset + size` doesn't fit a `size_t`:
  * `NET_BASE_REFUSED`, and nothing changes.
  *
  * Requires: head and runs are sound, as `net_base_assembler_is_sound` tests.
  */
 uint32_t net_base_assembler_add(
-    struct net_base_assembler *assembler, struct net_base_run *runs, uint64_t runs_length,
-    uint64_t offset, uint64_t size);
+    struct net_base_assembler *assembler, struct net_base_run *runs, size_t runs_length,
+    size_t offset, size_t size);
 
 /* Adds the positions from `offset` to `offset + size - 1`, then removes the run at position 0,
  * returns its length, and counts all later positions from its end. If position 0 is missing,
@@ -457,14 +485,14 @@ uint32_t net_base_assembler_add(
  * The status is `NET_BASE_DONE`, or `NET_BASE_TOO_MANY_RUNS` if `offset` isn't 0 and there would be
  * more runs than the slice has elements: then the length is 0, and nothing changes.
  *
- * It is refused if `used` is above `runs_length`, or if `offset + size` doesn't fit 64 bits: the
+ * It is refused if `used` is above `runs_length`, or if `offset + size` doesn't fit a `size_t`: the
  * status is `NET_BASE_REFUSED`, and the length 0, and nothing changes.
  *
  * Requires: head and runs are sound, as `net_base_assembler_is_sound` tests.
  */
 struct net_base_front_length net_base_assembler_add_then_remove_front(
-    struct net_base_assembler *assembler, struct net_base_run *runs, uint64_t runs_length,
-    uint64_t offset, uint64_t size);
+    struct net_base_assembler *assembler, struct net_base_run *runs, size_t runs_length,
+    size_t offset, size_t size);
 
 /* Removes the run at position 0, returns its length, and counts all later positions from its end.
  * If position 0 is missing, nothing is removed, and the length is 0.
@@ -475,7 +503,7 @@ struct net_base_front_length net_base_assembler_add_then_remove_front(
  * Requires: head and runs are sound, as `net_base_assembler_is_sound` tests.
  */
 struct net_base_front_length net_base_assembler_remove_front(
-    struct net_base_assembler *assembler, struct net_base_run *runs, uint64_t runs_length);
+    struct net_base_assembler *assembler, struct net_base_run *runs, size_t runs_length);
 
 /* Removes the positions below `count`, counts the others from there, so that position `count` is
  * position 0 then, and returns true. A run that `count` cuts keeps what is at or after it.
@@ -485,8 +513,8 @@ struct net_base_front_length net_base_assembler_remove_front(
  * Requires: head and runs are sound, as `net_base_assembler_is_sound` tests.
  */
 bool net_base_assembler_shift(
-    struct net_base_assembler *assembler, struct net_base_run *runs, uint64_t runs_length,
-    uint64_t count);
+    struct net_base_assembler *assembler, struct net_base_run *runs, size_t runs_length,
+    size_t count);
 
 /* Returns the length of the run at position 0, which is 0 if position 0 is missing.
  *
@@ -496,7 +524,7 @@ bool net_base_assembler_shift(
  */
 struct net_base_front_length net_base_assembler_peek_front(
     const struct net_base_assembler *assembler, const struct net_base_run *runs,
-    uint64_t runs_length);
+    size_t runs_length);
 
 /* Returns `NET_BASE_PRESENT` if `position` is present, and `NET_BASE_MISSING` if it isn't.
  *
@@ -505,8 +533,8 @@ struct net_base_front_length net_base_assembler_peek_front(
  * Requires: head and runs are sound, as `net_base_assembler_is_sound` tests.
  */
 uint32_t net_base_assembler_contains(
-    const struct net_base_assembler *assembler, const struct net_base_run *runs,
-    uint64_t runs_length, uint64_t position);
+    const struct net_base_assembler *assembler, const struct net_base_run *runs, size_t runs_length,
+    size_t position);
 
 /* Returns the run with number `index`, counted from 0 in rising order: its start, and its end,
  * which isn't included. If there are no more than `index` runs, both are 0.
@@ -516,8 +544,8 @@ uint32_t net_base_assembler_contains(
  * Requires: head and runs are sound, as `net_base_assembler_is_sound` tests.
  */
 struct net_base_run net_base_assembler_run_at(
-    const struct net_base_assembler *assembler, const struct net_base_run *runs,
-    uint64_t runs_length, uint64_t index);
+    const struct net_base_assembler *assembler, const struct net_base_run *runs, size_t runs_length,
+    size_t index);
 
 /* Returns the hole with number `index`, counted from 0 in rising order: its start, and its end,
  * which isn't included. Holes are the missing ranges below the end of the last run. If there are no
@@ -528,8 +556,8 @@ struct net_base_run net_base_assembler_run_at(
  * Requires: head and runs are sound, as `net_base_assembler_is_sound` tests.
  */
 struct net_base_run net_base_assembler_hole_at(
-    const struct net_base_assembler *assembler, const struct net_base_run *runs,
-    uint64_t runs_length, uint64_t index);
+    const struct net_base_assembler *assembler, const struct net_base_run *runs, size_t runs_length,
+    size_t index);
 
 /* Packets that arrive in fragments, as those of IPv4 do, over bytes and runs that the caller keeps.
  *
@@ -543,9 +571,9 @@ struct net_base_fragments {
     /* The positions that arrived: the head of an assembler. */
     struct net_base_assembler present;
     /* Not 0 once the packet's size is known; this library writes 1 then. */
-    uint64_t has_total;
+    size_t has_total;
     /* The packet's size in bytes, once it is known. */
-    uint64_t total;
+    size_t total;
     /* The last moment at which the packet is waited for, in microseconds. */
     int64_t expires_at;
 };
@@ -554,33 +582,35 @@ struct net_base_fragments {
  * `capacity`. It looks at each run.
  */
 bool net_base_fragments_is_sound(
-    const struct net_base_fragments *fragments, uint64_t capacity, const struct net_base_run *runs,
-    uint64_t runs_length);
+    const struct net_base_fragments *fragments, size_t capacity, const struct net_base_run *runs,
+    size_t runs_length);
 
-/* Starts over for a packet that is waited for up to `expires_at`, in microseconds. No head is
- * refused: this makes one sound for any memory.
+/* Starts over for a packet that is waited for up to `expires_at`, in microseconds: the other
+ * numbers are 0 then. No head is refused: this makes one sound for any memory.
  */
 void net_base_fragments_reset(struct net_base_fragments *fragments, int64_t expires_at);
 
-/* Sets the packet's size to `size` bytes, in a storage of `capacity` bytes.
+/* Sets the packet's size to `size` bytes, in a storage of `capacity` bytes: `has_total` is 1 then,
+ * whatever it was.
  *
  * Returns `NET_BASE_DONE`, also if bytes past that size have arrived; or, and nothing changes,
  * `NET_BASE_TOO_LONG` if the storage has fewer bytes, or else `NET_BASE_OTHER_SIZE` if another size
  * is known.
  */
 uint32_t net_base_fragments_set_total_size(
-    struct net_base_fragments *fragments, uint64_t capacity, uint64_t size);
+    struct net_base_fragments *fragments, size_t capacity, size_t size);
 
 /* Returns `NET_BASE_PRESENT` if one of the `count` positions from `offset` on has arrived, so that
- * a fragment there overlaps bytes that are present, and `NET_BASE_MISSING` if none has.
+ * a fragment there overlaps bytes that are present, and `NET_BASE_MISSING` if none has. If `offset
+ * + count` doesn't fit a `size_t`, these are all positions from `offset` on.
  *
  * It is refused if `present.used` is above `runs_length`: `NET_BASE_REFUSED`.
  *
  * Requires: head and runs are sound, as `net_base_fragments_is_sound` tests.
  */
 uint32_t net_base_fragments_overlaps(
-    const struct net_base_fragments *fragments, const struct net_base_run *runs,
-    uint64_t runs_length, uint64_t offset, uint64_t count);
+    const struct net_base_fragments *fragments, const struct net_base_run *runs, size_t runs_length,
+    size_t offset, size_t count);
 
 /* Returns whether `now` is after the last moment at which the packet is waited for. */
 bool net_base_fragments_is_expired(const struct net_base_fragments *fragments, int64_t now);
@@ -589,7 +619,8 @@ bool net_base_fragments_is_expired(const struct net_base_fragments *fragments, i
  *
  * Returns `NET_BASE_DONE`; or, and nothing changes, `NET_BASE_TOO_LONG` if the fragment reaches
  * past the storage's end, or else `NET_BASE_TOO_MANY_RUNS` if there would be more runs than the
- * slice has elements. A fragment past a known size is kept, and one without bytes too.
+ * slice has elements. A fragment past a known size is kept; one without bytes changes nothing, and
+ * is too long as well if `offset` is above the storage's length.
  *
  * It is refused if `present.used` is above `runs_length`, or a known size above `storage_length`:
  * `NET_BASE_REFUSED`, and nothing changes.
@@ -597,9 +628,9 @@ bool net_base_fragments_is_expired(const struct net_base_fragments *fragments, i
  * Requires: head and runs are sound, as `net_base_fragments_is_sound` tests.
  */
 uint32_t net_base_fragments_add(
-    struct net_base_fragments *fragments, uint8_t *storage, uint64_t storage_length,
-    struct net_base_run *runs, uint64_t runs_length, uint64_t offset, const uint8_t *data,
-    uint64_t data_length);
+    struct net_base_fragments *fragments, uint8_t *storage, size_t storage_length,
+    struct net_base_run *runs, size_t runs_length, size_t offset, const uint8_t *data,
+    size_t data_length);
 
 /* Returns the packet's size, if it is known and all its bytes have arrived: they are the first ones
  * of the storage, which has `capacity` bytes.
@@ -611,8 +642,8 @@ uint32_t net_base_fragments_add(
  * Requires: head and runs are sound, as `net_base_fragments_is_sound` tests.
  */
 struct net_base_front_length net_base_fragments_complete(
-    const struct net_base_fragments *fragments, uint64_t capacity, const struct net_base_run *runs,
-    uint64_t runs_length);
+    const struct net_base_fragments *fragments, size_t capacity, const struct net_base_run *runs,
+    size_t runs_length);
 
 /* Receivers of one stream of bytes, over a storage and runs that the caller keeps.
  *
@@ -645,18 +676,20 @@ struct net_base_kept_counts {
     /* How many bytes were kept: those of the segment whose positions are in the free window, and
      * below an end that is known.
      */
-    uint64_t kept;
+    size_t kept;
     /* How many bytes joined the queue: by how many positions the first missing position moved up.
      */
-    uint64_t queued;
+    size_t queued;
 };
 
-/* Returns whether these are the head, the storage and the runs of a receiver. It looks at each run,
- * and at no byte.
+/* Returns whether these are the head, the storage and the runs of a receiver: `place` is that of a
+ * ring of the storage, whose `read_at` is `count_read` modulo the capacity; `next` fits 64 bits;
+ * `held` and the runs are those of an assembler without position 0; and each held position is in
+ * the free window, and the one after it fits 64 bits. It looks at each run, and at no byte.
  */
 bool net_base_receiver_is_sound(
-    const struct net_base_receiver *receiver, const uint8_t *storage, uint64_t storage_length,
-    const struct net_base_run *runs, uint64_t runs_length);
+    const struct net_base_receiver *receiver, const uint8_t *storage, size_t storage_length,
+    const struct net_base_run *runs, size_t runs_length);
 
 /* Writes the first missing position to `next`: the first position, plus the bytes read, plus those
  * queued. Returns true.
@@ -671,7 +704,7 @@ bool net_base_receiver_next(const struct net_base_receiver *receiver, uint64_t *
  * It is refused if `capacity` is `NET_BASE_NONE`, or if more than `capacity` elements are queued:
  * `NET_BASE_NONE`.
  */
-uint64_t net_base_receiver_window(const struct net_base_receiver *receiver, uint64_t capacity);
+size_t net_base_receiver_window(const struct net_base_receiver *receiver, size_t capacity);
 
 /* Moves bytes from the head of the queue to the beginning of `into`, and returns how many: as many
  * as are queued and as `into` has room for. The rest of `into` stays as it is.
@@ -679,9 +712,9 @@ uint64_t net_base_receiver_window(const struct net_base_receiver *receiver, uint
  * It is refused if `receiver.place` isn't that of a ring of `storage_length` elements, or if `next`
  * doesn't fit 64 bits: `NET_BASE_NONE`, and nothing changes.
  */
-uint64_t net_base_receiver_read(
-    struct net_base_receiver *receiver, const uint8_t *storage, uint64_t storage_length,
-    uint8_t *into, uint64_t into_length);
+size_t net_base_receiver_read(
+    struct net_base_receiver *receiver, const uint8_t *storage, size_t storage_length,
+    uint8_t *into, size_t into_length);
 
 /* Copies bytes from the head of the queue to the beginning of `into`, and returns how many: as many
  * as are queued and as `into` has room for. The rest of `into` stays as it is, and the queue too.
@@ -689,9 +722,9 @@ uint64_t net_base_receiver_read(
  * It is refused if `receiver.place` isn't that of a ring of `storage_length` elements:
  * `NET_BASE_NONE`, and nothing changes.
  */
-uint64_t net_base_receiver_peek_slice(
-    const struct net_base_receiver *receiver, const uint8_t *storage, uint64_t storage_length,
-    uint8_t *into, uint64_t into_length);
+size_t net_base_receiver_peek_slice(
+    const struct net_base_receiver *receiver, const uint8_t *storage, size_t storage_length,
+    uint8_t *into, size_t into_length);
 
 /* Removes `count` bytes from the head of the queue, as `net_base_receiver_read` does, but copies
  * none, and returns true; `net_base_ring_allocated` of `place` tells before where they are.
@@ -699,15 +732,14 @@ uint64_t net_base_receiver_peek_slice(
  * It is refused if `receiver.place` isn't that of a ring of `capacity` elements, or if fewer than
  * `count` elements are queued, or if `next` doesn't fit 64 bits: false, and nothing changes.
  */
-bool net_base_receiver_remove(
-    struct net_base_receiver *receiver, uint64_t capacity, uint64_t count);
+bool net_base_receiver_remove(struct net_base_receiver *receiver, size_t capacity, size_t count);
 
 /* Lists held runs at the beginning of `into`, the newest first, and returns how many: as many as
  * are held, or as `into` has elements. The rest of `into` stays as it is.
  *
  * The first is the run that has `position`, that of the segment just taken, if it is held; then
- * come the runs of the starts in `recent`, in their order, and then the others, in rising order;
- * each comes once. The call writes the starts of the runs that it lists to the beginning of
+ * come the runs that have the positions in `recent`, in their order, and then the others, in rising
+ * order; each comes once. The call writes the starts of the runs that it lists to the beginning of
  * `recent`, as many as there is room for. The caller sets `recent` to zeros before the first call,
  * and doesn't change it afterwards. It is enough if `recent` and `into` have as many elements in
  * each call as the longest acknowledgement has SACK blocks; a shorter one has the first of them.
@@ -719,10 +751,10 @@ bool net_base_receiver_remove(
  *
  * Requires: head and runs are sound, as `net_base_receiver_is_sound` tests.
  */
-uint64_t net_base_receiver_newest_runs(
-    const struct net_base_receiver *receiver, const uint8_t *storage, uint64_t storage_length,
-    const struct net_base_run *runs, uint64_t runs_length, uint64_t position, uint64_t *recent,
-    uint64_t recent_length, struct net_base_held_run *into, uint64_t into_length);
+size_t net_base_receiver_newest_runs(
+    const struct net_base_receiver *receiver, const uint8_t *storage, size_t storage_length,
+    const struct net_base_run *runs, size_t runs_length, uint64_t position, uint64_t *recent,
+    size_t recent_length, struct net_base_held_run *into, size_t into_length);
 
 /* Returns how many bytes of a segment of `len` bytes at `position` would be new: those in the free
  * window whose positions are not held. Call it before `net_base_receiver_segment`, which also keeps
@@ -736,9 +768,9 @@ uint64_t net_base_receiver_newest_runs(
  *
  * Requires: head and runs are sound, as `net_base_receiver_is_sound` tests.
  */
-uint64_t net_base_receiver_count_new(
-    const struct net_base_receiver *receiver, const uint8_t *storage, uint64_t storage_length,
-    const struct net_base_run *runs, uint64_t runs_length, uint64_t position, uint64_t len);
+size_t net_base_receiver_count_new(
+    const struct net_base_receiver *receiver, const uint8_t *storage, size_t storage_length,
+    const struct net_base_run *runs, size_t runs_length, uint64_t position, size_t len);
 
 /* Keeps the bytes of a segment that are in the free window, and writes to `counts` how many. The
  * segment's first byte is at `position`.
@@ -755,9 +787,9 @@ uint64_t net_base_receiver_count_new(
  * Requires: head, storage and runs are sound, as `net_base_receiver_is_sound` tests.
  */
 uint32_t net_base_receiver_segment(
-    struct net_base_receiver *receiver, uint8_t *storage, uint64_t storage_length,
-    struct net_base_run *runs, uint64_t runs_length, uint64_t position, const uint8_t *bytes,
-    uint64_t bytes_length, struct net_base_kept_counts *counts);
+    struct net_base_receiver *receiver, uint8_t *storage, size_t storage_length,
+    struct net_base_run *runs, size_t runs_length, uint64_t position, const uint8_t *bytes,
+    size_t bytes_length, struct net_base_kept_counts *counts);
 
 /* Returns whether the end of the free window fits 64 bits, where the storage has `capacity` bytes,
  * and if so writes it to `end`: the first position for which there is no room, `next` plus the
@@ -766,28 +798,28 @@ uint32_t net_base_receiver_segment(
  * If more than `capacity` bytes are queued, it is refused: false, and nothing changes.
  */
 bool net_base_receiver_window_end(
-    const struct net_base_receiver *receiver, uint64_t capacity, uint64_t *end);
+    const struct net_base_receiver *receiver, size_t capacity, uint64_t *end);
 
 /* Returns the held run with number `index`, counted from 0 in rising order. If there are no more
  * than `index`, start and end are 0.
  *
  * If `place` isn't that of a ring of `storage_length` bytes, `next` doesn't fit 64 bits, or
- * `held.used` is above `runs_length`, it is refused: start and end are `NET_BASE_NONE`.
+ * `held.used` is above `runs_length`, it is refused: start and end are `UINT64_MAX`.
  *
  * Requires: head, storage and runs are sound, as `net_base_receiver_is_sound` tests.
  */
 struct net_base_held_run net_base_receiver_run_at(
-    const struct net_base_receiver *receiver, const uint8_t *storage, uint64_t storage_length,
-    const struct net_base_run *runs, uint64_t runs_length, uint64_t index);
+    const struct net_base_receiver *receiver, const uint8_t *storage, size_t storage_length,
+    const struct net_base_run *runs, size_t runs_length, size_t index);
 
 /* Senders of one stream of bytes, over a storage that the caller keeps.
  *
  * A head of zeros, but for `first_unacknowledged`, is that of a sender of a stream that begins
  * there, to which nothing was written. The queue, of bytes that are not acknowledged, is the ring
- * of `place`. These calls take no SACK blocks: what these report is kept in a scoreboard.
+ * of `place`. What SACK blocks report is kept in a scoreboard.
  */
 
-/* What a sender has besides its storage and its SACK blocks: numbers. */
+/* What a sender has besides its storage: numbers. */
 struct net_base_sender {
     /* The position of the queue's first byte. */
     uint64_t first_unacknowledged;
@@ -798,7 +830,7 @@ struct net_base_sender {
 /* Returns whether this is the head of a sender over a storage of `capacity` bytes: `place` is that
  * of a ring of as many, and the position after the queue fits 64 bits.
  */
-bool net_base_sender_is_sound(const struct net_base_sender *sender, uint64_t capacity);
+bool net_base_sender_is_sound(const struct net_base_sender *sender, size_t capacity);
 
 /* Writes the position after the last byte that was written to `end`, and returns true.
  *
@@ -812,25 +844,26 @@ bool net_base_sender_end(const struct net_base_sender *sender, uint64_t *end);
  * It is refused if `capacity` is `NET_BASE_NONE`, or if `sender` isn't that of a sender over
  * `capacity` bytes: `NET_BASE_NONE`.
  */
-uint64_t net_base_sender_room(const struct net_base_sender *sender, uint64_t capacity);
+size_t net_base_sender_room(const struct net_base_sender *sender, size_t capacity);
 
-/* Enqueues the first of these bytes, as many as there is room for, and returns how many.
+/* Enqueues the first of these bytes, as many as there is room for, and returns how many. An empty
+ * queue is rewound before, also for no bytes: `place.read_at` becomes 0.
  *
  * It is refused if `sender` isn't that of a sender over `storage_length` bytes: `NET_BASE_NONE`,
  * and nothing changes.
  */
-uint64_t net_base_sender_write(
-    struct net_base_sender *sender, uint8_t *storage, uint64_t storage_length, const uint8_t *bytes,
-    uint64_t bytes_length);
+size_t net_base_sender_write(
+    struct net_base_sender *sender, uint8_t *storage, size_t storage_length, const uint8_t *bytes,
+    size_t bytes_length);
 
 /* Returns where at most `max` queued bytes are, from the one at `position` on. The caller copies or
- * sends them. If that byte isn't queued, `count` and `contiguous` are 0, and `from` says nothing.
+ * sends them. If that byte isn't queued, `count` and `contiguous` are 0, and `from` is any index.
  *
  * It is refused if `sender` isn't that of a sender over `capacity` bytes: `from` is
  * `NET_BASE_NONE`, `count` and `contiguous` are 0.
  */
 struct net_base_span net_base_sender_peek_at(
-    const struct net_base_sender *sender, uint64_t capacity, uint64_t position, uint64_t max);
+    const struct net_base_sender *sender, size_t capacity, uint64_t position, size_t max);
 
 /* Drops the bytes below `next`, and returns whether it did: false, and nothing changes, if `next`
  * is below `first_unacknowledged` or above the position after the last byte.
@@ -838,7 +871,7 @@ struct net_base_span net_base_sender_peek_at(
  * It is refused if `sender` isn't that of a sender over `capacity` bytes: false, and nothing
  * changes.
  */
-bool net_base_sender_acknowledge(struct net_base_sender *sender, uint64_t capacity, uint64_t next);
+bool net_base_sender_acknowledge(struct net_base_sender *sender, size_t capacity, uint64_t next);
 
 /* Moves the mark `sent`, the position after the last byte that was ever sent, up to `position`, if
  * that is above it, and returns true; false, and nothing changes, if `sent` or `position` is above
@@ -859,7 +892,7 @@ bool net_base_sender_mark_sent(
  * changes.
  */
 bool net_base_sender_acknowledge_sent(
-    struct net_base_sender *sender, uint64_t capacity, uint64_t next, uint64_t sent);
+    struct net_base_sender *sender, size_t capacity, uint64_t next, uint64_t sent);
 
 /* Scoreboards: what a sender knows of the positions that the other end has, in runs that the caller
  * keeps.
@@ -893,7 +926,7 @@ struct net_base_hole {
  */
 bool net_base_scoreboard_is_sound(
     const struct net_base_scoreboard *scoreboard, const struct net_base_run *runs,
-    uint64_t runs_length);
+    size_t runs_length);
 
 /* Forgets all that was reported, for a stream that begins at position `first`: all positions below
  * it count as reported. Nothing is refused: this makes a scoreboard of any memory.
@@ -905,13 +938,13 @@ void net_base_scoreboard_reset(struct net_base_scoreboard *scoreboard, uint64_t 
  *
  * Returns `NET_BASE_DONE`, or `NET_BASE_TOO_MANY_RUNS`, and nothing changes, if the block begins
  * beyond the first position that wasn't reported, and there would be more runs beyond it than the
- * slice has elements.
+ * slice has elements, or it ends more than `SIZE_MAX` after that position.
  *
  * It is refused if `start` isn't below `end`, or `end` is above `sent`, or if `scoreboard` isn't
  * sound with `runs`: `NET_BASE_REFUSED`, and nothing changes.
  */
 uint32_t net_base_scoreboard_report(
-    struct net_base_scoreboard *scoreboard, struct net_base_run *runs, uint64_t runs_length,
+    struct net_base_scoreboard *scoreboard, struct net_base_run *runs, size_t runs_length,
     uint64_t start, uint64_t end, uint64_t sent);
 
 /* Reports all positions below `next`, whatever the number of runs, and returns true.
@@ -919,7 +952,7 @@ uint32_t net_base_scoreboard_report(
  * It is refused if `scoreboard` isn't sound with `runs`: false, and nothing changes.
  */
 bool net_base_scoreboard_acknowledge(
-    struct net_base_scoreboard *scoreboard, struct net_base_run *runs, uint64_t runs_length,
+    struct net_base_scoreboard *scoreboard, struct net_base_run *runs, size_t runs_length,
     uint64_t next);
 
 /* Returns `NET_BASE_PRESENT` if `position` was reported, and `NET_BASE_MISSING` if it wasn't.
@@ -928,7 +961,7 @@ bool net_base_scoreboard_acknowledge(
  */
 uint32_t net_base_scoreboard_contains(
     const struct net_base_scoreboard *scoreboard, const struct net_base_run *runs,
-    uint64_t runs_length, uint64_t position);
+    size_t runs_length, uint64_t position);
 
 /* Returns the next range that wasn't reported, as a start and an end: it begins at the first
  * position from `position` on that wasn't, and ends at the next one that was, or at `limit`. If
@@ -940,42 +973,42 @@ uint32_t net_base_scoreboard_contains(
  */
 struct net_base_hole net_base_scoreboard_next_hole(
     const struct net_base_scoreboard *scoreboard, const struct net_base_run *runs,
-    uint64_t runs_length, uint64_t position, uint64_t limit);
+    size_t runs_length, uint64_t position, uint64_t limit);
 
-/* Writes the position after the last one that was reported to `end`, 0 if none was, and returns
- * true.
+/* Writes the position after the last one that was reported to `end`, which is `base` if no run is
+ * stored, and returns true.
  *
  * It is refused if `scoreboard` isn't sound with `runs`: false, and nothing changes.
  */
 bool net_base_scoreboard_highest_reported(
     const struct net_base_scoreboard *scoreboard, const struct net_base_run *runs,
-    uint64_t runs_length, uint64_t *end);
+    size_t runs_length, uint64_t *end);
 
 /* Returns how many positions were reported beyond the first one that wasn't, which is `base`.
  *
  * It is refused if `scoreboard` isn't sound with `runs`: `NET_BASE_NONE`.
  */
-uint64_t net_base_scoreboard_count_beyond(
+size_t net_base_scoreboard_count_beyond(
     const struct net_base_scoreboard *scoreboard, const struct net_base_run *runs,
-    uint64_t runs_length);
+    size_t runs_length);
 
 /* Writes to `limit` the position below which all that wasn't reported is lost, by the rule of RFC
  * 6675, section 4, and returns true: from it on `duplicates` runs were reported (3 in TCP; 0 counts
- * as 1), or more bytes than `duplicates - 1` segments of `segment_size` bytes have. It is 0 if
- * nothing is lost.
+ * as 1), or more bytes than `duplicates - 1` segments of `segment_size` bytes have. It is the start
+ * of a stored run, the last one of which this holds, or 0 if nothing is lost. `duplicates - 1`
+ * times `segment_size` counts up to `SIZE_MAX`.
  *
  * It is refused if `scoreboard` isn't sound with `runs`: false, and nothing changes.
  */
 bool net_base_scoreboard_lost_below(
     const struct net_base_scoreboard *scoreboard, const struct net_base_run *runs,
-    uint64_t runs_length, uint64_t duplicates, uint64_t segment_size, uint64_t *limit);
+    size_t runs_length, size_t duplicates, size_t segment_size, uint64_t *limit);
 
 /* Receivers of a stream that ends. The end is the position after the last byte. It has a number, as
- * TCP's FIN has, and needs no room; `end` of the head is it, or `NET_BASE_NONE` while it isn't
- * known.
+ * TCP's FIN has, and needs no room; `end` of the head is it, or `UINT64_MAX` while it isn't known.
  *
- * A new head has `end` set to `NET_BASE_NONE`, and is zeros but for `receiver.first` otherwise,
- * which is below that. `receiver` is a receiver, whose calls that only look may be made on it.
+ * A new head has `end` set to `UINT64_MAX`, and is zeros but for `receiver.first` otherwise, which
+ * is below that. `receiver` is a receiver, whose calls that only look may be made on it.
  */
 
 /* What a receiver of a stream that ends has besides its storage and its held runs: numbers. */
@@ -991,12 +1024,13 @@ struct net_base_finite_receiver {
  * and at no byte.
  */
 bool net_base_finite_receiver_is_sound(
-    const struct net_base_finite_receiver *receiver, const uint8_t *storage,
-    uint64_t storage_length, const struct net_base_run *runs, uint64_t runs_length);
+    const struct net_base_finite_receiver *receiver, const uint8_t *storage, size_t storage_length,
+    const struct net_base_run *runs, size_t runs_length);
 
 /* Returns `NET_BASE_PRESENT` if the stream can end at `position`: it is the end that is known, or
  * none is, and it isn't below the first missing position or a held run's end. Otherwise
- * `NET_BASE_MISSING`. `NET_BASE_NONE` is no end, which isn't tested here.
+ * `NET_BASE_MISSING`. `UINT64_MAX` is no end; while none is known this says `NET_BASE_PRESENT` of
+ * it too.
  *
  * It is refused if `place` isn't that of a ring of `storage_length` bytes, `next` doesn't fit 64
  * bits, or `held.used` is above `runs_length`: `NET_BASE_REFUSED`.
@@ -1004,9 +1038,8 @@ bool net_base_finite_receiver_is_sound(
  * Requires: head and runs are sound, as `net_base_finite_receiver_is_sound` tests.
  */
 uint32_t net_base_finite_receiver_can_end(
-    const struct net_base_finite_receiver *receiver, const uint8_t *storage,
-    uint64_t storage_length, const struct net_base_run *runs, uint64_t runs_length,
-    uint64_t position);
+    const struct net_base_finite_receiver *receiver, const uint8_t *storage, size_t storage_length,
+    const struct net_base_run *runs, size_t runs_length, uint64_t position);
 
 /* Returns `NET_BASE_PRESENT` if all bytes and the end have arrived, and `NET_BASE_MISSING` if not.
  *
@@ -1034,15 +1067,17 @@ uint32_t net_base_finite_receiver_has_read_all(const struct net_base_finite_rece
  * It is refused if `receiver.receiver.place` isn't that of a ring of `storage_length` elements, or
  * if `next` doesn't fit 64 bits: `NET_BASE_NONE`, and nothing changes.
  */
-uint64_t net_base_finite_receiver_read(
-    struct net_base_finite_receiver *receiver, const uint8_t *storage, uint64_t storage_length,
-    uint8_t *into, uint64_t into_length);
+size_t net_base_finite_receiver_read(
+    struct net_base_finite_receiver *receiver, const uint8_t *storage, size_t storage_length,
+    uint8_t *into, size_t into_length);
 
 /* Returns `NET_BASE_PRESENT` if a segment of `count` numbers from `position` on is acceptable by
  * the table of RFC 9293, section 3.10.7.4, and `NET_BASE_MISSING` if it isn't: its first number may
- * arrive, or its last one. The end is a number. If the window is 0, only a segment without numbers
- * at the acknowledged one is. An end alone there isn't, though `net_base_finite_receiver_segment`
- * takes it: a caller that wants it asks with the count of the bytes alone.
+ * arrive, or its last one. The end is a number. The table's window has as many numbers as the free
+ * window has bytes, from the acknowledged number on, also once all arrived. If it is 0, only a
+ * segment without numbers at the acknowledged one is. An end alone there isn't, though
+ * `net_base_finite_receiver_segment` takes it: a caller that wants it asks with the count of the
+ * bytes alone.
  *
  * It is refused if `place` isn't that of a ring of `storage_length` bytes, `next` doesn't fit 64
  * bits, or `held.used` is above `runs_length`, or if the segment doesn't end within 64 bits:
@@ -1051,9 +1086,8 @@ uint64_t net_base_finite_receiver_read(
  * Requires: head and runs are sound, as `net_base_finite_receiver_is_sound` tests.
  */
 uint32_t net_base_finite_receiver_is_acceptable(
-    const struct net_base_finite_receiver *receiver, const uint8_t *storage,
-    uint64_t storage_length, const struct net_base_run *runs, uint64_t runs_length,
-    uint64_t position, uint64_t count);
+    const struct net_base_finite_receiver *receiver, const uint8_t *storage, size_t storage_length,
+    const struct net_base_run *runs, size_t runs_length, uint64_t position, uint64_t count);
 
 /* Returns how many bytes of a segment of `len` bytes at `position` would be new: those in the free
  * window and below the end whose positions are not held. It looks at each run.
@@ -1064,10 +1098,9 @@ uint32_t net_base_finite_receiver_is_acceptable(
  *
  * Requires: head and runs are sound, as `net_base_finite_receiver_is_sound` tests.
  */
-uint64_t net_base_finite_receiver_count_new(
-    const struct net_base_finite_receiver *receiver, const uint8_t *storage,
-    uint64_t storage_length, const struct net_base_run *runs, uint64_t runs_length,
-    uint64_t position, uint64_t len);
+size_t net_base_finite_receiver_count_new(
+    const struct net_base_finite_receiver *receiver, const uint8_t *storage, size_t storage_length,
+    const struct net_base_run *runs, size_t runs_length, uint64_t position, size_t len);
 
 /* Keeps the bytes of a segment that are in the free window and below the end, as
  * `net_base_receiver_segment` does. `is_last` says that the stream ends after the segment; the end
@@ -1076,23 +1109,25 @@ uint64_t net_base_finite_receiver_count_new(
  * Returns what `net_base_receiver_segment` does, and is refused where that is, and also if the
  * number after the segment doesn't fit 64 bits; or `NET_BASE_OTHER_END`, and nothing changes, if
  * the segment says that the stream ends where it can't, as `net_base_finite_receiver_can_end`
- * tells.
+ * tells, also if there would be too many runs. A segment that is refused for its runs doesn't set
+ * the end.
  *
  * Requires: head, storage and runs are sound, as `net_base_finite_receiver_is_sound` tests.
  */
 uint32_t net_base_finite_receiver_segment(
-    struct net_base_finite_receiver *receiver, uint8_t *storage, uint64_t storage_length,
-    struct net_base_run *runs, uint64_t runs_length, uint64_t position, const uint8_t *bytes,
-    uint64_t bytes_length, bool is_last, struct net_base_kept_counts *counts);
+    struct net_base_finite_receiver *receiver, uint8_t *storage, size_t storage_length,
+    struct net_base_run *runs, size_t runs_length, uint64_t position, const uint8_t *bytes,
+    size_t bytes_length, bool is_last, struct net_base_kept_counts *counts);
 
 /* Senders of a stream that ends. Once one is closed nothing can be written, and the end has the
  * number after the last byte's: it is sent and acknowledged as a byte is, and takes no room.
  *
- * A head of zeros, but for `sender.first_unacknowledged` and `sent`, which are equal then, is new.
- * Where bytes are tells `net_base_sender_peek_at` of `sender`.
+ * A head of zeros, but for `sender.first_unacknowledged` and `sent`, which are equal then and below
+ * 2^64 - 1, is new. A number is kept for the end. Where bytes are tells `net_base_sender_peek_at`
+ * of `sender`.
  */
 
-/* What a sender of a stream that ends has besides its storage and its SACK blocks: numbers. */
+/* What a sender of a stream that ends has besides its storage: numbers. */
 struct net_base_finite_sender {
     /* The sender of the bytes. */
     struct net_base_sender sender;
@@ -1105,10 +1140,11 @@ struct net_base_finite_sender {
 };
 
 /* Returns whether this is the head of a sender of a stream that ends over a storage of `capacity`
- * bytes.
+ * bytes: `sender` is that of a sender; `closed` and `finished` are 0 or 1, and `finished` is 1 only
+ * if `closed` is and the queue is empty; and `sent` is from the first number that isn't
+ * acknowledged up to the number after the last one, which fits 64 bits.
  */
-bool net_base_finite_sender_is_sound(
-    const struct net_base_finite_sender *sender, uint64_t capacity);
+bool net_base_finite_sender_is_sound(const struct net_base_finite_sender *sender, size_t capacity);
 
 /* Writes the first number that isn't acknowledged to `number`, and returns true.
  *
@@ -1116,7 +1152,7 @@ bool net_base_finite_sender_is_sound(
  * changes.
  */
 bool net_base_finite_sender_first_number(
-    const struct net_base_finite_sender *sender, uint64_t capacity, uint64_t *number);
+    const struct net_base_finite_sender *sender, size_t capacity, uint64_t *number);
 
 /* Writes the number after the last byte's, and after the end's once the sender is closed, to
  * `number`, and returns true.
@@ -1125,25 +1161,32 @@ bool net_base_finite_sender_first_number(
  * changes.
  */
 bool net_base_finite_sender_numbers_end(
-    const struct net_base_finite_sender *sender, uint64_t capacity, uint64_t *number);
+    const struct net_base_finite_sender *sender, size_t capacity, uint64_t *number);
 
-/* Enqueues the first of these bytes, as many as `net_base_sender_room` of `sender` says, and
- * returns how many: none once the sender is closed.
+/* Returns how many bytes `net_base_finite_sender_write` would take: none once the sender is closed.
+ * The last number, 2^64 - 1, is kept for the end.
+ *
+ * It is refused if `capacity` is `NET_BASE_NONE`, or if `sender` isn't that of a sender over
+ * `capacity` bytes: `NET_BASE_NONE`.
+ */
+size_t net_base_finite_sender_room(const struct net_base_finite_sender *sender, size_t capacity);
+
+/* Enqueues the first of these bytes, as many as `net_base_finite_sender_room` says, and returns how
+ * many; once the sender is closed none, and nothing changes.
  *
  * It is refused if `sender` isn't that of a sender over `storage_length` bytes: `NET_BASE_NONE`,
  * and nothing changes.
  */
-uint64_t net_base_finite_sender_write(
-    struct net_base_finite_sender *sender, uint8_t *storage, uint64_t storage_length,
-    const uint8_t *bytes, uint64_t bytes_length);
+size_t net_base_finite_sender_write(
+    struct net_base_finite_sender *sender, uint8_t *storage, size_t storage_length,
+    const uint8_t *bytes, size_t bytes_length);
 
-/* Ends the stream after what was written, and returns true; false, and nothing changes, if there is
- * no number left for the end. A second call changes nothing.
+/* Ends the stream after what was written, and returns true. A second call changes nothing.
  *
  * It is refused if `sender` isn't that of a sender over `capacity` bytes: false, and nothing
  * changes.
  */
-bool net_base_finite_sender_close(struct net_base_finite_sender *sender, uint64_t capacity);
+bool net_base_finite_sender_close(struct net_base_finite_sender *sender, size_t capacity);
 
 /* Returns `NET_BASE_PRESENT` if a segment whose bytes end at `position` ends the stream, since the
  * sender is closed and that is the position after the last byte. Otherwise `NET_BASE_MISSING`.
@@ -1151,7 +1194,7 @@ bool net_base_finite_sender_close(struct net_base_finite_sender *sender, uint64_
  * It is refused if `sender` isn't that of a sender over `capacity` bytes: `NET_BASE_REFUSED`.
  */
 uint32_t net_base_finite_sender_has_end_at(
-    const struct net_base_finite_sender *sender, uint64_t capacity, uint64_t position);
+    const struct net_base_finite_sender *sender, size_t capacity, uint64_t position);
 
 /* Notes that all numbers below `position` were sent, the end's among them if `position` is past it,
  * and returns true; false, and nothing changes, if `position` is above the number after the last
@@ -1161,7 +1204,7 @@ uint32_t net_base_finite_sender_has_end_at(
  * changes.
  */
 bool net_base_finite_sender_mark_sent(
-    struct net_base_finite_sender *sender, uint64_t capacity, uint64_t position);
+    struct net_base_finite_sender *sender, size_t capacity, uint64_t position);
 
 /* Drops the bytes below `next`, notes that the end is acknowledged if `next` is past it, and
  * returns true; false, and nothing changes, if `next` is below the first number that isn't
@@ -1171,7 +1214,7 @@ bool net_base_finite_sender_mark_sent(
  * changes.
  */
 bool net_base_finite_sender_acknowledge(
-    struct net_base_finite_sender *sender, uint64_t capacity, uint64_t next);
+    struct net_base_finite_sender *sender, size_t capacity, uint64_t next);
 
 /* Returns whether a SACK block can be right: it has a number, and none above those that were sent,
  * of which the end's is one.
@@ -1179,22 +1222,57 @@ bool net_base_finite_sender_acknowledge(
 bool net_base_finite_sender_is_block(
     const struct net_base_finite_sender *sender, uint64_t start, uint64_t end);
 
-/* Returns whether the sender is closed. */
+/* Returns whether the sender is closed: whether `closed` is 1. */
 bool net_base_finite_sender_is_closed(const struct net_base_finite_sender *sender);
 
-/* Returns whether all bytes and the end are acknowledged. */
+/* Returns whether all bytes and the end are acknowledged: whether `finished` is 1. */
 bool net_base_finite_sender_is_closed_and_acknowledged(const struct net_base_finite_sender *sender);
 
 /* What a TCP computes: acceptable segments, the scale of its window, the Internet checksum. */
+
+/* The positions and the flags of an arriving segment. */
+struct net_base_segment {
+    /* The position of its first byte, or of its SYN. */
+    uint64_t seq;
+    /* How many positions it has: its bytes, and one each for a SYN and a FIN. */
+    uint64_t len;
+    /* Whether its flag SYN is set. */
+    bool syn;
+    /* Whether its flag ACK is set. */
+    bool ack;
+    /* Whether its flag RST is set. */
+    bool rst;
+};
 
 /* Returns whether a segment is acceptable to a receiver whose first missing position is `next`, and
  * which announced `window` positions from there on. The segment's first position is `seq`, and it
  * has `len` positions: its bytes, and one each for a SYN and a FIN.
  *
- * It is if it has a position within the window. If it has none at all it must stand within the
- * window, or at `next` if the window is empty.
+ * It is if it has a position within the window. If it has none at all it must be within the window
+ * itself, or at `next` if the window is empty.
  */
 bool net_base_tcp_is_acceptable(uint64_t next, uint64_t window, uint64_t seq, uint64_t len);
+
+/* Returns what to do with a segment, for a receiver whose first missing position is `next`, and
+ * which announced `window` positions from there on: `NET_BASE_TAKE`,
+ * `NET_BASE_ACKNOWLEDGEMENT_ONLY`, `NET_BASE_ANSWER`, `NET_BASE_IGNORE` or `NET_BASE_RESET`, as RFC
+ * 9293, section 3.10.7.4, has it. Resets and SYNs are answered as RFC 5961 has it: a reset counts
+ * only at `next`.
+ *
+ * No position is in a window that is shut. Of a segment with positions that begins at `next` then,
+ * as a probe does, the acknowledgement is taken all the same: otherwise two ends that both fill the
+ * other's window never hear of one another. Whether a segment may acknowledge what it does is
+ * tested afterwards, by `net_base_tcp_is_acknowledgement`.
+ */
+uint32_t net_base_tcp_classify(
+    uint64_t next, uint64_t window, const struct net_base_segment *segment);
+
+/* Returns whether a segment may acknowledge `ack`: it isn't above `sent`, nor below
+ * `first_unacknowledged` by more than the greatest window that the peer ever announced (RFC 5961,
+ * section 5). If it may not, nothing of the segment is taken, and it is answered.
+ */
+bool net_base_tcp_is_acknowledgement(
+    uint64_t first_unacknowledged, uint64_t sent, uint64_t greatest_window, uint64_t ack);
 
 /* Returns the least scale by which this capacity, rounded down to a unit, can be announced, or 14
  * if none can.
@@ -1208,10 +1286,12 @@ uint8_t net_base_tcp_scale_for(uint64_t capacity);
 bool net_base_tcp_scaled(uint16_t field, uint8_t scale, uint64_t *bytes);
 
 /* Returns the checksum of these bytes. */
-uint16_t net_base_tcp_checksum(const uint8_t *bytes, uint64_t bytes_length);
+uint16_t net_base_tcp_checksum(const uint8_t *bytes, size_t bytes_length);
 
-/* Returns whether these bytes, with their checksum among them at an even offset, are valid. */
-bool net_base_tcp_is_checksum_valid(const uint8_t *bytes, uint64_t bytes_length);
+/* Returns whether these bytes, with their checksum among them at an even offset, are valid. No
+ * bytes aren't.
+ */
+bool net_base_tcp_is_checksum_valid(const uint8_t *bytes, size_t bytes_length);
 
 /* Returns the checksum of a message in which the word `old`, at an even offset, became `value`,
  * from its checksum before (RFC 1624, equation 3); of one that is all zeros then, 0 in place of
@@ -1261,8 +1341,8 @@ bool net_base_advertised_window_announce_in_steps(
     uint64_t window_end, uint64_t capacity, uint16_t mss, uint16_t *number);
 
 /* Returns `NET_BASE_PRESENT` if an update is worth a segment of its own, and `NET_BASE_MISSING` if
- * it isn't: whether the edge would move by half of the receiver's capacity, rounded up, or by one
- * segment of `mss` bytes, and by 1 at least.
+ * it isn't: whether the edge would move, from where it is, below `next` too, by half of the
+ * receiver's capacity, rounded up, or by one segment of `mss` bytes, and by 1 at least.
  *
  * It is refused if `scale` is above 14, or if `window_end` is below `next`: `NET_BASE_REFUSED`.
  */
@@ -1290,7 +1370,8 @@ struct net_base_peer_window {
 
 /* Takes over the window of an acceptable segment, unless that is older than the one before, or
  * acknowledges a position below `first_unacknowledged` or above `sent`. Returns whether it did. A
- * window may shrink.
+ * window may shrink. It is older if its `seq` is below that of the head, or equal and its `ack` is.
+ * The new edge is `ack + window`, or `UINT64_MAX` if that is above it.
  */
 bool net_base_peer_window_update(
     struct net_base_peer_window *peer, uint64_t first_unacknowledged, uint64_t sent, uint64_t seq,
@@ -1309,6 +1390,15 @@ uint64_t net_base_peer_window_send_limit(const struct net_base_peer_window *peer
  */
 bool net_base_peer_window_is_probe_allowed(
     const struct net_base_peer_window *peer, uint64_t first_unacknowledged, uint64_t end);
+
+/* Returns the number of a segment without positions, as an acknowledgement is: `sent`, or the end
+ * of the window if that is below it, or `first_unacknowledged` if the window ends before that.
+ *
+ * A peer whose window is shut takes no number beyond it, though a probe was sent there, nor what
+ * such a segment acknowledges.
+ */
+uint64_t net_base_peer_window_acknowledgement_number(
+    const struct net_base_peer_window *peer, uint64_t first_unacknowledged, uint64_t sent);
 
 /* The time until a retransmission (RFC 6298), in microseconds.
  *
@@ -1343,14 +1433,19 @@ struct net_base_timeout_bounds {
     uint64_t tick;
 };
 
-/* Returns whether the estimate, if there is one, has room for a sample, as any has that was made by
- * samples.
+/* Returns whether the estimate, if there is one, has room for a sample: `srtt_8` is at most 2^63,
+ * and `rttvar_4` at most 2^62. Any has that was made by samples.
  */
 bool net_base_retransmission_timeout_is_small(const struct net_base_retransmission_timeout *timer);
 
 /* Takes over a sample, the time from when a segment was sent until it was acknowledged, of which at
  * most 2^60 count, and returns true. The segment was sent once: of one that was sent again it isn't
  * known which of the copies was acknowledged.
+ *
+ * After the first sample `srtt_8` is 8 times it, and `rttvar_4` 2 times. After another one, with
+ * quotients rounded down, `srtt_8` is less by an eighth of it and more by the sample, and
+ * `rttvar_4` less by a quarter of it and more by how far the sample is from an eighth of the old
+ * `srtt_8`. The timeout is that of `net_base_rtt_estimate_timeout` then.
  *
  * It is refused if the estimate of `timer` has no room for a sample: false, and nothing changes.
  */
@@ -1366,8 +1461,9 @@ void net_base_retransmission_timeout_expired(
  * none.
  */
 
-/* Returns the timeout that it gives within the bounds: at least the smoothed time, but for the
- * greatest timeout.
+/* Returns the timeout that it gives within the bounds: an eighth of `srtt_8`, rounded down, plus
+ * the greater of `rttvar_4` and `tick`. A sum above `UINT64_MAX` is that. If `least` is above
+ * `most`, it is `least`.
  */
 uint64_t net_base_rtt_estimate_timeout(
     const struct net_base_rtt_estimate *estimate, const struct net_base_timeout_bounds *bounds);
@@ -1383,19 +1479,19 @@ uint64_t net_base_rtt_estimate_timeout(
 struct net_base_parts_sum {
     /* The sum of the words, up to a multiple of 65535; 0 only if that sum is 0. */
     uint64_t sum;
-    /* Whether the next byte is the low byte of a word. */
-    bool odd;
+    /* 1 if the next byte is the low byte of a word, 0 if it is the high one. */
+    uint64_t odd;
 };
 
 /* Adds the bytes that follow those which were added. */
 void net_base_parts_sum_add(
-    struct net_base_parts_sum *sum, const uint8_t *part, uint64_t part_length);
+    struct net_base_parts_sum *sum, const uint8_t *part, size_t part_length);
 
 /* Returns the checksum of the bytes that were added. */
 uint16_t net_base_parts_sum_checksum(const struct net_base_parts_sum *sum);
 
 /* Returns whether the bytes that were added, with a checksum among them at an even offset, are
- * valid.
+ * valid. No bytes aren't.
  */
 bool net_base_parts_sum_is_valid(const struct net_base_parts_sum *sum);
 
@@ -1452,10 +1548,10 @@ uint64_t net_base_instant_distance(int64_t instant, int64_t other);
 /* The version of this interface. */
 
 /* Returns the version of this interface, which is in the name too: a program that calls this
- * doesn't link with an archive of another version. Each version whose structs or functions differ
+ * doesn't link with a library of another version. Each version whose structs or functions differ
  * has another number.
  */
-uint32_t net_base_abi_2(void);
+uint32_t net_base_abi_3(void);
 
 /* END */
 

@@ -14,7 +14,7 @@ FILES = [
     "phy/mod.rs", "phy/loopback.rs", "rand.rs", "time.rs",
 ]
 # The crates of the port's workspace whose sources are here.
-STATIC_LIBRARIES = {"net_replay": ["replay/port", "replay/calls"], "net_perf": ["time/perf"]}
+STATIC_LIBRARIES = {"net_perf": ["time/perf"]}
 
 
 def need(programs=("cargo", "rt")):
@@ -43,7 +43,7 @@ def run(words, log, **options):
 
 
 def port():
-    """A workspace with the repository's crates, `net_replay` and `net_perf`. What `rt` keeps in out/ is taken over once."""
+    """A workspace with the repository's crates and `net_perf`. What `rt` keeps in out/ is taken over once."""
     workspace = OUT / "port"
     for crate in (REPOSITORY / "crates").iterdir():
         to = workspace / "crates" / crate.name

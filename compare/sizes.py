@@ -1,11 +1,15 @@
 #!/usr/bin/env python3
-"""SMOLTCP=path python3 compare/sizes.py [TARGET]
+"""SMOLTCP=path [RUST_KIT=folder] python3 compare/sizes.py
 
-The bytes of machine code of rust/examples/no_std, a ring, an assembler and a packet queue, over this crate and over
-smoltcp, at `opt-level` "s" and "z", all in one module; for a target that rustc has, or this machine.
+Prints what this crate and smoltcp take in a program of one module without std. Of rust/examples/no_std, a ring, an
+assembler and a packet queue, the bytes of `.text` and `.rodata` at `opt-level` "s" and "z", with a panic handler that
+reads nothing and with one that reads places. Of receive.rs, a receive path, those of the Cortex-M4, and there, under
+QEMU, the instructions of a round and the bytes of stack. Other processors than this machine's are there if RUST_KIT
+names the folder that `sh rust/targets.sh FOLDER` fills, and their linkers are.
 """
 import os
 import re
+import shutil
 import subprocess
 import sys
 import tempfile
@@ -38,43 +42,141 @@ impl<T> core::ops::DerefMut for ManagedSlice<'_, T> {
     }
 }
 """
-PROGRAM = same_output.CRATE / "examples/no_std"
+MANIFEST = """[package]
+name = "program"
+version = "0.0.0"
+edition = "2021"
+[workspace]
+[dependencies]
+smoltcp = {{ {}, default-features = false }}
+[profile.release]
+panic = "abort"
+lto = true
+codegen-units = 1
+"""
+EXAMPLES = same_output.CRATE / "examples"
+HANDLER = "fn panic(_: &core::panic::PanicInfo) -> ! {\n    loop {}"
+READS_PLACES = "fn panic(info: &core::panic::PanicInfo) -> ! {\n    black_box(info.location());\n    loop {}"
+
+HOST = "-C link-arg=-nostartfiles -C link-arg=-static -C relocation-model=static " \
+       "-C link-arg=-Wl,--gc-sections,--unresolved-symbols=ignore-all"
+BARE = "-C linker-flavor=ld -C linker={}ld -C link-arg=--gc-sections -C link-arg=--unresolved-symbols=ignore-all"
+M4 = "thumbv7em-none-eabihf"
+# Each target, the prefix of its tools, and flags of rustc; of the first by the machine's rustc.
+TARGETS = {
+    "x86_64-unknown-linux-gnu": ("", HOST),
+    M4: ("arm-none-eabi-", BARE),
+    "thumbv6m-none-eabi": ("arm-none-eabi-", BARE),
+    "riscv32imac-unknown-none-elf": ("riscv64-unknown-elf-", BARE + " -C link-arg=-melf32lriscv"),
+}
+EMULATED = f"--cfg emulated -C linker=arm-none-eabi-gcc -C link-arg=-nostartfiles -C link-arg=-Wl,--gc-sections " \
+           f"-C link-arg=-T{EXAMPLES}/cortex_m/memory.ld -C link-arg=-lc -C link-arg=-lgcc -C link-arg=-mthumb " \
+           f"-C link-arg=-mcpu=cortex-m4 -C link-arg=-mfloat-abi=hard -C link-arg=-mfpu=fpv4-sp-d16"
+RUN = "qemu-system-arm -M mps2-an386 -nographic -icount shift=0 -semihosting -kernel".split()
 
 
-def code(folder, line, target, level):
-    """How many bytes of code the program has, with this dependency."""
-    manifest = (PROGRAM / "Cargo.toml").read_text()
-    (folder / "Cargo.toml").write_text(re.sub(r"^smoltcp = .*$", lambda _: line, manifest, flags=re.M))
-    (folder / "src").mkdir(exist_ok=True)
-    (folder / "src/main.rs").write_text((PROGRAM / "src/main.rs").read_text())
-    words = ["cargo", "build", "--release", "--offline", "--quiet", "--target", target]
-    flags = "-C link-arg=-nostartfiles -C link-arg=-static -C relocation-model=static -C link-arg=-Wl,--gc-sections,--unresolved-symbols=ignore-all"
-    variables = {"CARGO_PROFILE_RELEASE_OPT_LEVEL": level, "RUSTFLAGS": os.environ.get("RUSTFLAGS", flags),
-                 "CARGO_TARGET_DIR": str(folder / "target")}
-    subprocess.run(words, cwd=folder, env=os.environ | variables, check=True)
-    said = subprocess.run(["size", folder / "target" / target / "release/no_std"], capture_output=True, text=True, check=True)
-    return int(said.stdout.split("\n")[1].split()[0])
+def said(*words, **options):
+    return subprocess.run(words, stdout=subprocess.PIPE, text=True, check=True, **options).stdout
 
 
-def main(target=None):
-    target = target or re.search(r"^host: (.*)$", subprocess.run(["rustc", "-vV"], capture_output=True, text=True).stdout,
-                                 flags=re.M)[1]
-    with tempfile.TemporaryDirectory() as name:
-        folder, smoltcp = Path(name), Path(name) / "smoltcp"
-        same_output.smoltcp_crate(Path(os.environ["SMOLTCP"]) / "src", smoltcp)
-        (folder / "managed/src").mkdir(parents=True)
-        (folder / "managed/src/lib.rs").write_text(MANAGED)
-        (folder / "managed/Cargo.toml").write_text('[package]\nname = "managed"\nedition = "2024"\n')
-        manifest = smoltcp / "Cargo.toml"
-        manifest.write_text(re.sub(r"managed = .*", f'managed = {{ path = "{folder}/managed" }}', manifest.read_text()))
-        root = smoltcp / "src/lib.rs"
-        root.write_text(root.read_text().replace("extern crate alloc;\n", "").replace("#![allow", "#![no_std]\n#![allow", 1))
-        for crate, line in (("net-base", f'smoltcp = {{ package = "net-base", path = "{same_output.CRATE}", default-features = false }}'),
-                            ("smoltcp", f'smoltcp = {{ path = "{smoltcp}", default-features = false }}')):
-            (folder / crate / "program").mkdir(parents=True, exist_ok=True)
-            sizes = [code(folder / crate / "program", line, target, level) for level in ("s", "z")]
-            print(f"| {target} | {crate} | {sizes[0]:,} | {sizes[1]:,} |")
+class Sizes:
+    def __init__(self, folder):
+        self.folder, self.kit = folder, os.environ.get("RUST_KIT") and Path(os.environ["RUST_KIT"]).resolve()
+        if self.kit:
+            libraries = f"{self.kit}/usr/lib/x86_64-linux-gnu:{self.kit}/usr/lib:{self.kit}/usr/lib/llvm-19/lib"
+            self.rustc = folder / "rustc"
+            self.rustc.write_text(f'#!/bin/sh\nLD_LIBRARY_PATH={libraries} exec {self.kit}/usr/bin/rustc '
+                                  f'--sysroot {self.kit}/usr "$@"\n')
+            self.rustc.chmod(0o755)
+        sources, managed = folder / "smoltcp", folder / "managed"
+        same_output.smoltcp_crate(Path(os.environ["SMOLTCP"]) / "src", sources)
+        (managed / "src").mkdir(parents=True)
+        (managed / "src/lib.rs").write_text(MANAGED)
+        (managed / "Cargo.toml").write_text('[package]\nname = "managed"\nedition = "2024"\n')
+        manifest, root = sources / "Cargo.toml", sources / "src/lib.rs"
+        manifest.write_text(re.sub(r"managed = .*", f'managed = {{ path = "{managed}" }}', manifest.read_text()))
+        text = root.read_text().replace("extern crate alloc;\n", "")
+        root.write_text(text.replace("#![allow", "#![no_std]\n#![allow", 1))
+        self.crates = {"smoltcp": f'path = "{sources}"',
+                       "net-base": f'package = "net-base", path = "{same_output.CRATE}"'}
+
+    def has(self, target):
+        """Whether there is a compiler and a linker, with the core library, which is built from its source."""
+        prefix, _ = TARGETS[target]
+        if not prefix:
+            return True
+        if not (self.kit and shutil.which(f"{prefix}ld")):
+            return False
+        library, source = self.kit / f"usr/lib/rustlib/{target}/lib", self.folder / "compiler_builtins.rs"
+        if not any(library.glob("libcompiler_builtins*.rlib")):
+            library.mkdir(parents=True, exist_ok=True)
+            source.write_text("#![feature(compiler_builtins)]\n#![compiler_builtins]\n#![no_std]\n")
+            core, = self.kit.glob("usr/src/rustc-*/library/core/src/lib.rs")
+            words = "--edition 2021 --crate-type rlib -C opt-level=2 -C panic=abort --cap-lints allow --target"
+            for name, file in [("core", core), ("compiler_builtins", source)]:
+                said(self.rustc, *words.split(), target, "--crate-name", name, "--out-dir", library, file,
+                     env=os.environ | {"RUSTC_BOOTSTRAP": "1"})
+        return True
+
+    def built(self, crate, text, target, level, flags):
+        """The program of a text, over a crate."""
+        folder, prefix = self.folder / "program", TARGETS[target][0]
+        (folder / "src").mkdir(parents=True, exist_ok=True)
+        (folder / "Cargo.toml").write_text(MANIFEST.format(self.crates[crate]))
+        (folder / "src/main.rs").write_text(text)
+        words = "cargo build --release --offline --quiet --ignore-rust-version --target"
+        # Places have paths, which shouldn't depend on where the crates are.
+        paths = f"--remap-path-prefix={self.folder}=. --remap-path-prefix={same_output.CRATE}=./net-base"
+        variables = {"CARGO_PROFILE_RELEASE_OPT_LEVEL": level, "RUSTFLAGS": f"{flags.format(prefix)} {paths}",
+                     "CARGO_TARGET_DIR": str(self.folder / "target" / crate)}
+        if prefix:
+            variables["RUSTC"] = str(self.rustc)
+        said(*words.split(), target, cwd=folder, env=os.environ | variables)
+        return Path(variables["CARGO_TARGET_DIR"]) / target / "release/program"
+
+    def sections(self, crate, text, target, level, flags=""):
+        """The bytes of `.text` and of `.rodata`."""
+        prefix, own = TARGETS[target]
+        sizes = said(f"{prefix}size", "-A", self.built(crate, text, target, level, f"{own} {flags}"))
+        count = lambda names: sum(int(size) for size in re.findall(rf"^\.(?:{names})\S*\s+(\d+)", sizes, flags=re.M))
+        return count("text"), count("rodata|data.rel.ro|srodata")
+
+    def programs(self):
+        text = (EXAMPLES / "no_std/src/main.rs").read_text()
+        places = text.replace(HANDLER, READS_PLACES)
+        print("| `.text` + `.rodata` | | smoltcp | net-base | reads places: smoltcp | net-base |")
+        print("|---|---|---:|---:|---:|---:|")
+        for target in filter(self.has, TARGETS):
+            for level in "sz":
+                sizes = [self.sections(crate, it, target, level) for it in (text, places) for crate in self.crates]
+                cells = " | ".join(f"{code:,} + {data:,} = {code + data:,}" for code, data in sizes)
+                print(f"| {target} | {level} | {cells} |", flush=True)
+
+    def receive_path(self):
+        if not (self.has(M4) and shutil.which("qemu-system-arm") and shutil.which("arm-none-eabi-gcc")):
+            return
+        text = (Path(__file__).parent / "receive.rs").read_text()
+        print("\n| Receive path on a Cortex-M4 | | bytes | instructions a round | stack |\n|---|---|---:|---:|---:|")
+        sums = set()
+        for level in "sz3":
+            for name, crate, flags in [("smoltcp", "smoltcp", ""), ("net-base, joined", "net-base", ""),
+                                       ("net-base's `Receiver`", "net-base", "--cfg receiver")]:
+                code, data = self.sections(crate, text, M4, level, flags)
+                program = self.built(crate, text, M4, level, f"{EMULATED} {flags}")
+                printed = said(*RUN, program, stdin=subprocess.DEVNULL, stderr=subprocess.STDOUT, timeout=120)
+                ticks, stack, result = map(int, printed.split())
+                sums.add(result)
+                print(f"| {name} | {level} | {code:,} + {data:,} | {ticks * 40 / 1000:.0f} | {stack} |", flush=True)
+        if len(sums) > 1:
+            sys.exit(f"the receive paths don't give the same: {sums}")
+
+
+def main():
+    with tempfile.TemporaryDirectory() as folder:
+        sizes = Sizes(Path(folder))
+        sizes.programs()
+        sizes.receive_path()
 
 
 if __name__ == "__main__":
-    main(*sys.argv[1:])
+    main()

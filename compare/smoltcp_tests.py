@@ -30,21 +30,21 @@ HELPER = """    impl From<Vec<(usize, usize)>> for Assembler {
     }
 """
 
-# The tests of the ring write and read its field `length`, which is in `place` here.
+# The tests of the ring write and read its field `length`, which is in `head` here.
 FIELDS = """
 #[cfg(test)]
 impl<T, S: Storage<T>> core::ops::Deref for RingOver<T, S> {
     type Target = crate::proved::net_ring::RingHead;
 
     fn deref(&self) -> &Self::Target {
-        &self.place
+        &self.head
     }
 }
 
 #[cfg(test)]
 impl<T, S: Storage<T>> core::ops::DerefMut for RingOver<T, S> {
     fn deref_mut(&mut self) -> &mut Self::Target {
-        &mut self.place
+        &mut self.head
     }
 }
 """
@@ -125,7 +125,7 @@ def show_fields(proved):
     """Shows the fields that the tests name, that of a packet queue's slots under smoltcp's name."""
     for path, pairs in {
         "net_ring/ring_buffer.rs": [
-            ("    storage: S,\n    place: RingHead,", "    pub(crate) storage: S,\n    pub(crate) place: RingHead,")],
+            ("    storage: S,\n    head: RingHead,", "    pub(crate) storage: S,\n    pub(crate) head: RingHead,")],
         "net_packets/packet_buffer.rs": [("    head: PacketsHead,", "    pub(crate) head: PacketsHead,")],
     }.items():
         text = (proved / path).read_text()

@@ -5,7 +5,7 @@ SMOLTCP=path timing.py --rust [--once] [--samples N] [--milliseconds N] [--only 
 
 Times the workloads of `perf` over the port and over smoltcp in turns, each side linked once for each placement of
 its code, counts instructions and branches if valgrind is there, and times whole runs of net_bench beside a plain
-program over smoltcp. Prints tables in Markdown, which plot.py draws. Status 1 if results differ.
+program over smoltcp, of which it also counts mispredicted branches. Prints tables in Markdown, which plot.py draws. Status 1 if results differ.
 With --once: one placement. With --peers: the workloads over the port and over types of std in turns, and the memory
 of both. With --rust: the workloads over the crate net-base in place of the port, both sides built as a user builds a
 program, in cargo's default profile without flags; without whole runs and the loopback device, and `rt` isn't needed.
@@ -39,6 +39,8 @@ DEFAULT_PROFILE = {"CARGO_PROFILE_RELEASE_LTO": "false", "CARGO_PROFILE_RELEASE_
 PLACEMENTS = [0, 16, 32, 48]
 # Where a side's code begins, before it is moved by a placement.
 TEXT = 0x400000
+# How many lines of a whole run are counted.
+COUNTED = 4000
 SYSTEM = ["-lgcc_s", "-lutil", "-lrt", "-lpthread", "-lm", "-ldl", "-lc"]
 
 
@@ -96,13 +98,18 @@ def counted(built, sides, arguments):
         return counts
 
 
+def events(dump):
+    """The counts of a file of callgrind: Ir instructions, Bc and Bi branches, of which Bcm and Bim were mispredicted."""
+    lines = dump.read_text().splitlines()
+    names = next(line for line in lines if line.startswith("events:")).split()[1:]
+    numbers = next(line for line in lines if line.startswith(("totals:", "summary:"))).split()[1:]
+    return Counter(dict(zip(names, map(int, numbers))))
+
+
 def total(dump):
     """The instructions and the branches, conditional and indirect, of a file of callgrind."""
-    lines = dump.read_text().splitlines()
-    events = next(line for line in lines if line.startswith("events:")).split()[1:]
-    numbers = next(line for line in lines if line.startswith(("totals:", "summary:"))).split()[1:]
-    known = dict(zip(events, map(int, numbers)))
-    return known["Ir"], known.get("Bc", 0) + known.get("Bi", 0)
+    known = events(dump)
+    return known["Ir"], known["Bc"] + known["Bi"]
 
 
 def mean(ratios):
@@ -188,10 +195,28 @@ def whole_run(words, data):
     return (time.perf_counter() - start) * 1000, (done.stdout, done.stderr, done.returncode)
 
 
+def counted_run(words, lines):
+    """Instructions and mispredicted branches a line of a program, besides those on no input. None without valgrind."""
+    if not shutil.which("valgrind"):
+        return None
+    counts = []
+    for data in ("", "".join(lines)):
+        with tempfile.TemporaryDirectory() as folder:
+            out = Path(folder) / "counts"
+            tool = ["valgrind", "--tool=callgrind", "--branch-sim=yes", f"--callgrind-out-file={out}"]
+            subprocess.run([*tool, *words], input=data.encode(), capture_output=True, check=True)
+            counts.append(events(out))
+    none, all_lines = counts
+    all_lines.subtract(none)
+    return all_lines["Ir"] / len(lines), (all_lines["Bcm"] + all_lines["Bim"]) / len(lines)
+
+
 def whole_runs(bench, plain, count, samples):
     """Whole runs in turns: a table, and what differs."""
     differ = []
-    print("| Whole run | Lines | Original, ms | Here, ms | Pairs | Noise |\n|---|---:|---:|---:|---:|---:|")
+    print("| Whole run | Lines | Original, ms | Here, ms | Pairs | Noise "
+          "| Instructions a line, original | Here | Mispredicted branches a line, original | Here |")
+    print("|---|---:|---:|---:|---:|---:|---:|---:|---:|---:|")
     for title, mode, lines in inputs(count):
         # What the mode of streams shows is asked of the program itself.
         _, (shown, _, status) = whole_run([bench, *mode], b"s 0 61\n")
@@ -209,8 +234,11 @@ def whole_runs(bench, plain, count, samples):
             differ.append(title)
         pairs, noise = (statistics.median(a / b for a, b in zip(times[side], times[1])) for side in (0, 2))
         here, original = statistics.median(times[0]), statistics.median(times[1])
-        number = f"{lines.count(chr(10)):,}"
-        print(f"| {title} | {number} | {original:.0f} | {here:.0f} | {pairs:.2f} | {noise:.2f} |")
+        some = lines.splitlines(keepends=True)
+        counts = [counted_run(side, some[:COUNTED]) or ("not counted",) * 2 for side in (sides[1], sides[0])]
+        columns = [value if isinstance(value, str) else f"{value:,.1f}" for pair in zip(*counts) for value in pair]
+        print(f"| {title} | {len(some):,} | {original:.0f} | {here:.0f} | {pairs:.2f} | {noise:.2f} "
+              f"| {' | '.join(columns)} |")
     return differ
 
 

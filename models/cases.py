@@ -8,7 +8,6 @@ import closing
 import drawing
 import ending
 import fragments
-import link_words
 import modes
 import moments
 import packets
@@ -36,13 +35,12 @@ PARTS = [
     (moments.draw_texts, 700),
     (texts.draw, 400),
     (modes.draw, 2100),
-    (link_words.draw, 450),
-    (sender.draw, 3200),
+    (closing.draw, 1500),
+    (sender.draw, 2500),
     (fragments.draw, 1800),
     (scoreboard.draw, 1800),
     (ending.draw, 1800),
     (tcp.draw, 1800),
-    (closing.draw, 1500),
 ]
 
 

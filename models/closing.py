@@ -5,7 +5,7 @@ from drawing import TOP
 from showing import START, mix, show_digest, truth
 
 SHUT = Test("closing: bytes are written to a closed sender")
-LEFT = Test("closing: a number is left for the end")
+KEPT = Test("closing: the number of the end leaves less room than the storage")
 TWICE = Test("closing: a closed sender is closed again")
 MARK = Order("closing: mark_sent, number and the one after the last")
 MARKED = Order("closing: mark_sent, number and mark")
@@ -20,7 +20,8 @@ NO_BLOCK = Test("closing: a block has no number")
 
 class Closing:
     def __init__(self, capacity, first):
-        self.bytes, self.closed, self.finished, self.sent = sender.Sender(capacity, first), False, False, first
+        """A number is kept for the end."""
+        self.bytes, self.closed, self.finished, self.sent = sender.Sender(capacity, first, TOP - 1), False, False, first
 
     def numbers_end(self):
         return self.bytes.end + self.closed
@@ -35,14 +36,13 @@ class Closing:
                 f"{self.sent - first} {bytes_.count} {self.closed + self.finished} {digest}")
 
     def write(self, size, seed):
+        KEPT(TOP - 1 - self.bytes.end < self.bytes.capacity - self.bytes.count)
         return "0" if SHUT(self.closed) else self.bytes.write(size, seed)
 
     def close(self):
         TWICE(self.closed)
-        if not LEFT(self.bytes.end < TOP):
-            return truth(False)
         self.closed = True
-        return truth(True)
+        return "done"
 
     def mark_sent(self, pos):
         MARK.least(pos, self.numbers_end())
@@ -60,7 +60,7 @@ class Closing:
             return truth(False)
         end = self.bytes.end
         self.finished = FINISHED(pos > end)
-        self.bytes.acknowledge_up_to(min(pos, end), end, ())
+        self.bytes.acknowledge_up_to(min(pos, end), end)
         return truth(True)
 
     def peek_at(self, pos, most):
@@ -102,7 +102,7 @@ def draw(random, cases, lines):
     """So many lines of senders of 0 to 40 bytes."""
     until = len(cases.lines) + lines
     while len(cases.lines) < until:
-        first = random.of([0, TOP - random.below(12), random.of_digits(63, "closing")])
+        first = random.of([0, TOP - 1 - random.below(12), random.of_digits(63, "closing")])
         closing = Closing(random.of([0, 1, 2, 5, 8, 40]), first)
         cases.begin(f"closing {closing.bytes.capacity} {first}", closing.show())
         for _ in range(12 + random.below(24)):

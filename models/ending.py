@@ -54,7 +54,7 @@ class Ending:
         held = self.bytes.held_runs()
         return held[-1][1] if held else self.bytes.next
 
-    def segment(self, pos, size, seed, last):
+    def keep(self, pos, size, seed, last):
         NUMBER.least(pos + size, TOP)
         if pos + size >= TOP:
             return "forbidden"
@@ -113,7 +113,7 @@ def position(random, ending):
 
 
 def numbers_of(random, ending, name):
-    if name == "segment":
+    if name == "keep":
         pos, last = position(random, ending), int(random.one_in(3))
         if random.one_in(3):
             pos = ending.bytes.next
@@ -129,7 +129,7 @@ def numbers_of(random, ending, name):
     return [position(random, ending)]
 
 
-CALLS = ["segment"] * 9 + ["read"] * 4 + ["can_end"] * 2 + ["is_acceptable"] * 4
+CALLS = ["keep"] * 9 + ["read"] * 4 + ["can_end"] * 2 + ["is_acceptable"] * 4
 
 
 def draw(random, cases, lines):

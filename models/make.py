@@ -1,7 +1,7 @@
 #!/usr/bin/env python3
 """Writes the files that the models of this folder give, or compares them.
 
-    python3 models/make.py                 writes crates/net_cases/stdin and stdout, and the rows of net_stream_tests
+    python3 models/make.py                 writes crates/net_cases/stdin and stdout, and rust/tests/rows/stdin and stdout
     python3 models/make.py --check         writes nothing, and names each file that is not as the models give it
     python3 models/make.py --kinds         writes nothing, and prints how many rows there are of each kind
     python3 models/make.py --cases FOLDER  writes the rows of each subject to files of their own in a folder, as
@@ -20,8 +20,8 @@ import sys
 
 sys.dont_write_bytecode = True
 import branches
+import by_hand
 import cases
-import copies
 import worked
 
 REPOSITORY = pathlib.Path(__file__).resolve().parent.parent
@@ -37,11 +37,9 @@ def given():
     """The rows of each subject, each file with its text, and a line for each thing that is wrong."""
     subjects, wrong = cases.drawn()
     blocks = [block for of_subject in subjects.values() for block in of_subject]
-    files = {
-        "crates/net_cases/stdin": text_of(blocks, 0),
-        "crates/net_cases/stdout": text_of(blocks, 1),
-        "crates/net_stream_tests/src/counted/rows.rt": copies.text(),
-    }
+    files = {}
+    for folder, of_folder in [("crates/net_cases", blocks), ("rust/tests/rows", by_hand.drawn())]:
+        files[f"{folder}/stdin"], files[f"{folder}/stdout"] = text_of(of_folder, 0), text_of(of_folder, 1)
     for name, of_subject in subjects.items():
         size = len(text_of(of_subject, 1).encode())
         rows = sum(len(lines) for lines, _ in of_subject)

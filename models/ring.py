@@ -41,9 +41,6 @@ PUSHED = Test("ring: push_one has room")
 POPPED = Test("ring: pop_back has an element")
 POPPED_WRAPS = Test("ring: pop_back finds a queue that goes round the storage's end")
 REWOUND = Test("ring: rewind_if_empty finds an empty ring")
-LAST_DEQUEUED = Order("ring: last_dequeued_mut, size and contiguous queue")
-LAST_DEQUEUED_SIZE = Size("ring: last_dequeued_mut lends", 9, by=2)
-LAST_DEQUEUED_AT_END = Test("ring: last_dequeued_mut lends up to the storage's end")
 
 
 class Ring:
@@ -292,17 +289,6 @@ class Bytes(Ring):
         self.begin()
         return "done"
 
-    def last_dequeued_mut(self, size, seed):
-        """Of elements that are contiguous, and dequeued first."""
-        LAST_DEQUEUED.least(size, self.contiguous_queued())
-        if size > self.contiguous_queued():
-            return "forbidden"
-        part = self.part(0, LAST_DEQUEUED_SIZE(size))
-        if size:
-            LAST_DEQUEUED_AT_END(self.at + size == self.capacity)
-        self.take(size)
-        return self.lend(part, seed)
-
     def clear(self):
         CLEARED(self.count > 0)
         self.at = self.count = 0
@@ -316,7 +302,7 @@ CALLS = {
     "contiguous_allocated": "oz", "get_unallocated": "ozs", "get_allocated": "oz",
     "get_allocated_mut": "ozs", "write_unallocated": "ozs", "read_allocated": "ozs",
     "enqueue_unallocated": "c", "dequeue_allocated": "c", "as_slices": "", "clear": "",
-    "push_one": "b", "pop_back": "", "rewind_if_empty": "", "last_dequeued_mut": "cs",
+    "push_one": "b", "pop_back": "", "rewind_if_empty": "",
 }
 OFTEN = ["enqueue_slice", "dequeue_slice", "enqueue_many", "dequeue_many", "enqueue_unallocated",
          "write_unallocated", "dequeue_allocated"]
@@ -336,8 +322,7 @@ def number(random, ring, name, kind):
     if kind == "o":
         return random.offset(limits, 13)
     if kind == "c":
-        most = {"enqueue_unallocated": ring.window, "last_dequeued_mut": ring.contiguous_queued()}
-        return random.offset([most.get(name, ring.count)], 12)
+        return random.offset([ring.window if name == "enqueue_unallocated" else ring.count], 12)
     if name not in COPIES and random.one_in(20):
         return random.wide()
     return min(random.about(limits, digits), 6000) if name in COPIES else random.about(limits, digits)

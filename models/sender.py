@@ -1,9 +1,7 @@
-"""Senders of one stream: a queue of bytes that are not acknowledged, over a storage, and the last SACK blocks."""
+"""Senders of one stream: a queue of bytes that are not acknowledged, over a storage."""
 from branches import Order, Size, Test
 from drawing import TOP
 from showing import START, mix, pattern, show_bytes, show_digest, truth
-
-MOST_BLOCKS = 32
 
 CAPACITY = Size("sender: capacity", 12)
 FIRST = Size("sender: first position", 64, by=4)
@@ -17,24 +15,18 @@ PEEK_CUT = Test("sender: peek_at is cut at the storage's end")
 PEEK_MOST = Order("sender: peek_at, most and queued bytes from the position on")
 ACKNOWLEDGED = Order("sender: acknowledge, position and first unacknowledged one")
 ABOVE = Order("sender: acknowledge, position and end")
-BLOCKS = Size("sender: SACK blocks", 6)
 SENT = Order("sender: acknowledge_sent, position and mark")
 SENT_ABOVE = Order("sender: acknowledge_sent, mark and end")
 MARK = Order("sender: mark_sent, mark and end")
 MARKED = Order("sender: mark_sent, position and mark")
 MARKED_ABOVE = Order("sender: mark_sent, position and end")
-SPARED = Test("sender: spared_from finds a block")
-SPARED_CUT = Order("sender: spared_from, end of a block and of the queue")
-NEXT = Order("sender: next_block, start of a block and position")
-NEXT_END = Order("sender: next_block, the least start and the end")
-LIMIT = Test("sender: send_limit finds as many blocks as there can be")
-LIMIT_END = Order("sender: send_limit, the position after the last block and the end")
 
 
 class Sender:
-    def __init__(self, capacity, first):
+    def __init__(self, capacity, first, last=TOP):
+        """`last`: the greatest position after the queue."""
         self.storage, self.at, self.count = pattern(CAPACITY(capacity), 0), 0, 0
-        self.first, self.first_unacknowledged, self.blocks = FIRST(first), first, []
+        self.first, self.first_unacknowledged, self.last = FIRST(first), first, last
 
     @property
     def capacity(self):
@@ -46,8 +38,8 @@ class Sender:
 
     def room(self):
         free = self.capacity - self.count
-        NEAR_LAST(TOP - self.end < free)
-        return min(free, TOP - self.end)
+        NEAR_LAST(self.last - self.end < free)
+        return min(free, self.last - self.end)
 
     def index(self, offset):
         return (self.at + offset) % self.capacity if self.capacity else 0
@@ -84,23 +76,21 @@ class Sender:
         PEEK_CUT(count > to_end)
         return show_bytes(self.part(offset, min(count, to_end)))
 
-    def acknowledge(self, pos, *ends):
+    def acknowledge(self, pos):
         ABOVE.least(pos, self.end)
-        return self.acknowledge_up_to(pos, self.end, ends)
+        return self.acknowledge_up_to(pos, self.end)
 
-    def acknowledge_sent(self, pos, sent, *ends):
+    def acknowledge_sent(self, pos, sent):
         SENT.least(pos, sent)
         SENT_ABOVE.least(sent, self.end)
-        return self.acknowledge_up_to(pos, sent if sent <= self.end else -1, ends)
+        return self.acknowledge_up_to(pos, sent if sent <= self.end else -1)
 
-    def acknowledge_up_to(self, pos, most, ends):
+    def acknowledge_up_to(self, pos, most):
         ACKNOWLEDGED.least(pos, self.first_unacknowledged)
         if not self.first_unacknowledged <= pos <= most:
             return "refused"
         count = pos - self.first_unacknowledged
         self.at, self.count, self.first_unacknowledged = self.index(count), self.count - count, pos
-        self.blocks = list(zip(ends[::2], ends[1::2]))[:MOST_BLOCKS]
-        BLOCKS(len(self.blocks))
         return "done"
 
     def mark_sent(self, sent, pos):
@@ -111,46 +101,15 @@ class Sender:
             return f"refused {sent}"
         return f"done {max(sent, pos)}"
 
-    def spared_from(self, pos):
-        found = [end for start, end in self.blocks if start <= pos < end]
-        if not SPARED(bool(found)):
-            return "0"
-        return str(max(0, SPARED_CUT.least(found[0], self.end) - pos))
-
-    def next_block(self, pos):
-        for start, _ in self.blocks:
-            NEXT.least(start, pos)
-        above = [start for start, _ in self.blocks if start > pos]
-        return str(NEXT_END.least(min(above, default=TOP), self.end))
-
-    def are_sack_blocks_full(self):
-        return truth(len(self.blocks) == MOST_BLOCKS)
-
-    def send_limit(self):
-        if not LIMIT(len(self.blocks) == MOST_BLOCKS):
-            return str(self.end)
-        last = max(self.first_unacknowledged, *(end for _, end in self.blocks))
-        return str(LIMIT_END.least(min(last + 1, TOP), self.end))
-
 
 def position(random, sender):
-    """A position about an end of the queue or of a block, or any in the queue, or any at all."""
+    """A position about an end of the queue, or any in it, or any at all."""
     choice = random.below(8)
     if choice == 0:
         return random.wide()
     if choice < 4:
-        limits = [sender.first_unacknowledged, sender.end] + [end for block in sender.blocks for end in block]
-        return min(TOP, max(0, random.of(limits) - 1 + random.below(3)))
+        return min(TOP, max(0, random.of([sender.first_unacknowledged, sender.end]) - 1 + random.below(3)))
     return min(TOP, sender.first_unacknowledged + random.below(sender.count + 2))
-
-
-def blocks(random, sender):
-    """The ends of blocks, most of them in the queue: rising ones, or any, which may overlap or end before they start."""
-    count = random.of_digits(3)
-    if random.one_in(8):
-        count = random.of([8, 16, MOST_BLOCKS - 1, MOST_BLOCKS, MOST_BLOCKS, MOST_BLOCKS + 2])
-    ends = [position(random, sender) for _ in range(2 * count)]
-    return ends if random.one_in(4) else sorted(ends)
 
 
 def numbers_of(random, sender, name):
@@ -159,16 +118,11 @@ def numbers_of(random, sender, name):
     if name == "peek_at":
         return [position(random, sender), random.wide() if random.one_in(6) else random.below(sender.count + 3)]
     if name == "acknowledge":
-        return [position(random, sender), *blocks(random, sender)]
-    if name == "acknowledge_sent":
-        return [position(random, sender), position(random, sender), *blocks(random, sender)]
-    if name == "mark_sent":
-        return [position(random, sender), position(random, sender)]
-    return [position(random, sender)] if name in ("spared_from", "next_block") else []
+        return [position(random, sender)]
+    return [position(random, sender), position(random, sender)]
 
 
-CALLS = (["write"] * 5 + ["acknowledge"] * 3 + ["acknowledge_sent"] * 3 + ["mark_sent"] * 2 + ["peek_at"] * 4 + ["spared_from"] * 3 + ["next_block"] * 3
-         + ["send_limit", "are_sack_blocks_full"])
+CALLS = ["write"] * 5 + ["acknowledge"] * 3 + ["acknowledge_sent"] * 3 + ["mark_sent"] * 2 + ["peek_at"] * 4
 
 
 def first_position(random, capacity):

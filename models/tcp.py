@@ -18,8 +18,17 @@ DUE = Test("tcp: an update of the window is due")
 OLD = Order("tcp: acknowledged number and first one that isn't")
 SENT = Order("tcp: acknowledged number and those sent")
 WL1 = Order("tcp: number of a segment and of the one before")
-WL2 = Order("tcp: acknowledged number of a segment with the same number and of the one before")
+WL2 = Order("tcp: acknowledged number of a segment and of the one before")
 SHRINKS = Test("tcp: a window shrinks")
+RESET = Test("tcp: a segment resets")
+NEXT = Test("tcp: a reset is at the first missing position")
+PROBES = Test("tcp: a segment probes a shut window")
+SYN = Test("tcp: a segment has a SYN")
+ACK = Test("tcp: a segment acknowledges")
+TOO_OLD = Order("tcp: acknowledged number and the lowest that counts")
+TOO_NEW = Order("tcp: acknowledged number and the highest that counts")
+BEYOND = Order("tcp: what was sent and the window's edge")
+BELOW = Order("tcp: the window's edge and what isn't acknowledged")
 USABLE = Order("tcp: position and edge")
 PROBE = Test("tcp: a probe is allowed")
 ODD = Test("tcp: a message has an odd count of bytes")
@@ -35,6 +44,35 @@ def is_acceptable(first, window, seq, count):
     if EMPTY(count == 0):
         return truth(seq == first if SHUT(window == 0) else first <= seq < first + window)
     return truth(ACCEPTABLE(max(first, seq) < min(first + window, seq + count)))
+
+
+def classify(first, window, seq, count, syn, ack, rst):
+    """The first four checks and the sixth of RFC 9293, 3.10.7.4, with its special allowance for a window of zero, and
+    RFC 5961's answers to a reset and to a SYN."""
+    acceptable = is_acceptable(first, window, seq, count) == "1"
+    if RESET(rst):
+        return "reset" if NEXT(seq == first) else "answer" if acceptable else "ignore"
+    if PROBES(not acceptable and window == 0 and seq == first):
+        accepted = "acknowledgement"
+    else:
+        accepted = "take" if acceptable else "answer"
+    if SYN(syn) or accepted == "answer":
+        return "answer"
+    return accepted if ACK(ack) else "ignore"
+
+
+def is_acknowledgement(unacknowledged, sent, greatest, ack):
+    """SND.UNA - MAX.SND.WND <= SEG.ACK <= SND.NXT, of RFC 5961, 5.2."""
+    TOO_OLD.least(ack, unacknowledged - greatest)
+    TOO_NEW.least(ack, sent)
+    return truth(unacknowledged - greatest <= ack <= sent)
+
+
+def acknowledgement_number(edge, unacknowledged, sent):
+    """SND.NXT, but none beyond the window, unless that ends below SND.UNA."""
+    BEYOND.least(sent, edge)
+    BELOW.least(edge, unacknowledged)
+    return str(sent if sent <= max(edge, unacknowledged) else max(edge, unacknowledged))
 
 
 def scale_for(capacity):
@@ -86,13 +124,13 @@ def announce_in_steps(edge, scale, first, window_end, capacity, mss):
 
 
 def peer_update(edge, wl1, wl2, unacknowledged, sent, seq, ack, window):
-    """SND.WND, SND.WL1 and SND.WL2 of RFC 9293, 3.10.7.4, with the window's edge in place of its size."""
+    """SND.WND, SND.WL1 and SND.WL2 of RFC 9293, 3.10.7.4, with the window's edge in place of its size; what acknowledges
+    more is taken though its number is older."""
     OLD.least(ack, unacknowledged)
     SENT.least(ack, sent)
     WL1.least(seq, wl1)
-    if seq == wl1:
-        WL2.least(ack, wl2)
-    if not unacknowledged <= ack <= sent or not (wl1 < seq or wl1 == seq and wl2 <= ack):
+    WL2.least(ack, wl2)
+    if not unacknowledged <= ack <= sent or not (wl2 < ack or wl1 < seq or (wl1, wl2) == (seq, ack)):
         return f"0 {edge} {wl1} {wl2}"
     reached = min(TOP, ack + window)
     SHRINKS(reached < edge)
@@ -175,8 +213,9 @@ def expired(before, least, most):
 
 
 CALLS = {call.__name__: call for call in (
-    is_acceptable, scale_for, announce, is_update_due, announce_in_steps, peer_update, peer_room, scaled, checksum,
-    checksum_parts, is_valid, updated_checksum, first_sample, next_sample, timeout, expired)}
+    is_acceptable, classify, is_acknowledgement, scale_for, announce, is_update_due, announce_in_steps, peer_update,
+    peer_room, acknowledgement_number, scaled, checksum, checksum_parts, is_valid, updated_checksum, first_sample,
+    next_sample, timeout, expired)}
 
 
 def near(random, *limits):
@@ -198,9 +237,18 @@ def windows(random):
 
 
 def numbers_of(random, name):
-    if name == "is_acceptable":
+    if name in ("is_acceptable", "classify"):
         first, window, count = random.of_digits(64), random.of_digits(17), random.of_digits(12)
-        return [first, window, near(random, first, first + window, first - count), count if random.one_in(3) else random.below(3)]
+        numbers = [first, window, near(random, first, first + window, first - count), count if random.one_in(3) else random.below(3)]
+        return numbers + [random.below(2) for _ in range(3)] if name == "classify" else numbers
+    if name == "is_acknowledgement":
+        unacknowledged, greatest = random.of_digits(63), random.of_digits(30)
+        sent = unacknowledged + random.of_digits(16)
+        return [unacknowledged, sent, greatest, near(random, sent, unacknowledged, unacknowledged - greatest)]
+    if name == "acknowledgement_number":
+        edge = random.of_digits(63)
+        unacknowledged = near(random, edge, random.of_digits(63))
+        return [edge, unacknowledged, near(random, edge, unacknowledged, unacknowledged + random.of_digits(16))]
     if name == "scale_for":
         return [near(random, random.wide(), 65535 << random.below(16))]
     if name == "announce":

@@ -1,14 +1,16 @@
 #!/usr/bin/env python3
 """overlay.py CHECKOUT [--into COPY] [--dry-run]
-overlay.py CHECKOUT --undo
+overlay.py CHECKOUT --undo [--dry-run]
 
 Makes `storage`, `time` and `rand` of a checkout of smoltcp 0.14.0 the proved text of net-base, so that smoltcp's sockets
 and interfaces run over it. No dependency is added: `src/proved` is new, `src/storage`, `src/time.rs` and `src/rand.rs`
 become what is written by hand around it, and `src/lib.rs` gets one item more. Test modules stay. --into changes a copy,
-which is made; --dry-run prints what would change; --undo puts back what was there, byte for byte.
+which is made; --dry-run prints what would change; --undo puts back what was there, byte for byte, also if the command,
+or an undo, was interrupted anywhere.
 
-Refuses another version, a replaced file whose code, up to its test module, isn't 0.14.0's by SHA-256, a second overlay,
-an undo after an edit, and a net-base that doesn't fit: one line says so, the status is 1, and nothing is changed.
+Refuses another version, a replaced file whose code, up to its test module, isn't 0.14.0's by SHA-256, a link in place of
+one, a second overlay, an undo after an edit, and a net-base that doesn't fit: one line says so, the status is 1, and
+nothing is changed.
 """
 import argparse
 import hashlib
@@ -23,6 +25,8 @@ HERE = Path(__file__).resolve().parent
 MODULES, NET_BASE = HERE / "modules", HERE.parent / "rust"
 VERSION = "0.14.0"
 SAVED = ".net-base-overlay"
+# The digests of each file before and after, the first of none if it was added. Without this nothing was replaced.
+RECORD = f"{SAVED}/files.json"
 
 # SHA-256 of smoltcp's files, up to their test modules, without empty lines at the end.
 DIGESTS = {
@@ -44,9 +48,9 @@ DEFMT = '#[cfg_attr(feature = "defmt", derive(defmt::Format))]\n'
 CHANGES = [
     # Storage is that of the crate `managed`, and nothing else becomes a ring by `into`.
     ("net_ring/managed.rs", r"^use .*?^(/// A list.*?)^impl<'a, T> Storage<T> for &'a mut .*\Z", r"\1" + MANAGED, 1),
-    ("net_ring/ring_buffer.rs", r"^use crate::rattle::Vec;\n(.*?)^impl<'a, T> From<&.*?^(?=impl<'a, T> RingB)", r"\1", 1),
+    ("net_ring/ring_buffer.rs", r"^use crate::rattle::Vec;\n(.*?)^impl<'a, T> From<&.*?(?=^/// Resets each)", r"\1", 1),
     # What is printed, and what smoltcp's tests look at.
-    ("net_ring/ring_buffer.rs", r"^    (?=(?:storage: S|place: RingHead),$)", "    pub(crate) ", 2),
+    ("net_ring/ring_buffer.rs", r"^    (?=(?:storage: S|head: RingHead),$)", "    pub(crate) ", 2),
     ("net_packets/packet_buffer.rs", r"^    (?=(?:head: PacketsHead|slots: M|bytes: B),$)", "    pub(crate) ", 3),
     # What smoltcp derives.
     ("net_ring/error.rs", r"^(?=pub struct (?:Full|Empty);)", DEFMT, 2),
@@ -57,17 +61,23 @@ CHANGES = [
 TESTS = [
     ("src/storage/ring_buffer.rs", r"\buse super::\*;", "use crate::storage::*;"),
     ("src/storage/packet_buffer.rs", r"\buse super::\*;", "use crate::storage::*;"),
-    ("src/storage/ring_buffer.rs", r"\bring\.length\b", "ring.place.length"),
+    ("src/storage/ring_buffer.rs", r"\bring\.length\b", "ring.head.length"),
     ("src/storage/packet_buffer.rs", r"\bmetadata_ring\.len\(\)", "slots_used()"),
     ("src/storage/assembler.rs", r"^    impl From<Vec<.*?^    }\n", (MODULES / "storage/assembler_tests.rs").read_text()),
 ]
 
+# Functions whose body is shorter than a call.
+ACCESSORS = "start_of|end_of|wrapped"
 # What of smoltcp's own `time` stays: std's clocks, its texts for defmt, and core's lengths.
 TIME = r"""^(?:#\[cfg\(feature = "(?:std|defmt)"\)\]\nimpl |impl From<::core::time::Duration> for Duration ).*?^}\n"""
 
 
 def digest(data):
     return hashlib.sha256(data).hexdigest()
+
+
+def digest_of(path):
+    return digest(path.read_bytes()) if path.is_file() else None
 
 
 def read(path):
@@ -94,11 +104,16 @@ def check(root):
     facts = dict(re.findall(r'^(name|version) *= *"([^"]*)"', package, flags=re.M))
     if facts.get("name") != "smoltcp":
         sys.exit(f"{root} has no Cargo.toml of smoltcp")
-    if facts.get("version") != VERSION:
-        sys.exit(f"{root} is smoltcp {facts.get('version')}, and not {VERSION}")
-    if (root / SAVED).exists():
+    if "version" not in facts:
+        sys.exit(f"{root} has no version in its Cargo.toml")
+    if facts["version"] != VERSION:
+        sys.exit(f"{root} is smoltcp {facts['version']}, and not {VERSION}")
+    if (root / RECORD).exists():
         sys.exit(f"{root} has an overlay already; --undo takes it off")
-    if (root / "src/proved").exists():
+    links = [name for name in ["src", "src/storage", "src/lib.rs", *DIGESTS, SAVED] if (root / name).is_symlink()]
+    if links:
+        sys.exit(f"{root / links[0]} is a link, which may lead out of the checkout")
+    if os.path.lexists(root / "src/proved"):
         sys.exit(f"{root} has a folder src/proved already")
     edited = [name for name, is_so in DIGESTS.items() if digest(parts(read(root / name))[0].encode()) != is_so]
     if edited:
@@ -106,7 +121,9 @@ def check(root):
 
 
 def proved_files():
-    """The files of src/proved. What is always inline there, or never, may be here, which is less code for firmware."""
+    """The files of src/proved. What is always inline there, or never, may be here, which is less code for firmware; but
+    accessors stay always inline, since a call of one is more code than its body.
+    """
     source, new = NET_BASE / "src/proved", {}
     for part in PROVED:
         for path in [source / part] if part.endswith(".rs") else sorted((source / part).rglob("*.rs")):
@@ -118,7 +135,7 @@ def proved_files():
         text = re.sub(r"\bcrate::(rattle|contracts)\b", r"crate::proved::\1", text)
         # Examples are net-base's, which runs them.
         text = re.sub(r"```(.*)\n((?:.*\n)*?.*```)", lambda fence: f"```{fence[1] or 'ignore'}\n{fence[2]}", text)
-        new[name] = re.sub(r"#\[inline\((?:always|never)\)\]", "#[inline]", text)
+        new[name] = re.sub(rf"#\[inline\((?:always|never)\)\](?!\n(?:pub\(crate\) )?fn (?:{ACCESSORS})\b)", "#[inline]", text)
     new["mod.rs"] = (MODULES / "proved/mod.rs").read_text()
     return {f"src/proved/{name}": text for name, text in new.items()}
 
@@ -140,60 +157,66 @@ def other_files(root):
     return new
 
 
-def put_back(root, record):
-    """Puts back what was there, as far as it was changed."""
-    for name in record["now"]:
-        path, was = root / name, root / SAVED / "was" / name
-        if name in record["added"]:
+def put_back(root, files):
+    """Puts back what was there, as far as it was changed, and then removes what was saved."""
+    for name, (was, _) in files.items():
+        path, saved = root / name, root / SAVED
+        if was is None:
             path.unlink(missing_ok=True)
-        elif path.read_bytes() != was.read_bytes():
-            os.replace(was, path)
-    for folder in sorted({folder for name in record["added"] for folder in Path(name).parents}, reverse=True):
+        elif digest_of(path) != was:
+            os.replace(shutil.copy(saved / "was" / name, saved / "back"), path)
+    added = [Path(name) for name, (was, _) in files.items() if was is None]
+    for folder in sorted({folder for name in added for folder in name.parents}, reverse=True):
         if (root / folder).is_dir() and not any((root / folder).iterdir()):
             (root / folder).rmdir()
     shutil.rmtree(root / SAVED)
 
 
-def undo(root):
-    if not (root / SAVED / "files.json").is_file():
+def undo(root, dry_run):
+    if not (root / SAVED).is_dir():
         sys.exit(f"{root} has no overlay")
-    record = json.loads(read(root / SAVED / "files.json"))
-    is_so = lambda name, now: (root / name).is_file() and digest((root / name).read_bytes()) == now
-    edited = [name for name, now in record["now"].items() if not is_so(name, now)]
+    files = json.loads(read(root / RECORD) or "{}")
+    edited = [name for name, digests in files.items() if digest_of(root / name) not in digests]
     if edited:
         sys.exit(f"edited since: {', '.join(edited)}; what was there is in {root / SAVED}")
-    for folder in {(root / name).parent for name in record["now"]}:
-        if not os.access(folder, os.W_OK):
+    if dry_run:
+        return print("\n".join(f"{'put back' if was else 'removed'}: {name}" for name, (was, _) in files.items()))
+    for folder in {(root / name).parent for name in files}:
+        if folder.is_dir() and not os.access(folder, os.W_OK):
             raise PermissionError(13, "Permission denied", str(folder))
-    put_back(root, record)
-    print(f"{root} is as it was: {len(record['now'])} files")
+    put_back(root, files)
+    print(f"{root} is as it was: {len(files)} files")
 
 
 def write(root, new):
-    """Writes all texts beside what is there, then moves them into place."""
-    saved, added = root / SAVED, [name for name in new if not (root / name).exists()]
-    record = {"added": added, "now": {name: digest(text.encode()) for name, text in new.items()}}
+    """Writes all texts beside what is there, and the record of them, then moves them into place."""
+    saved = root / SAVED
+    files = {name: (digest_of(root / name), digest(text.encode())) for name, text in new.items()}
+    shutil.rmtree(saved, ignore_errors=True)
     try:
         for name, text in new.items():
             for folder in ["new", "was"]:
                 (saved / folder / name).parent.mkdir(parents=True, exist_ok=True)
             (saved / "new" / name).write_bytes(text.encode())
-            if name not in added:
+            if files[name][0]:
                 shutil.copy(root / name, saved / "was" / name)
                 shutil.copymode(root / name, saved / "new" / name)
-        (saved / "files.json").write_text(json.dumps(record, indent=1) + "\n")
-    except OSError:
+        (saved / ".gitignore").write_text("*\n")
+        (saved / "record").write_text(json.dumps(files, indent=1) + "\n")
+        os.replace(saved / "record", root / RECORD)
+    except BaseException:
         shutil.rmtree(saved, ignore_errors=True)
         raise
     try:
         for name in new:
             (root / name).parent.mkdir(parents=True, exist_ok=True)
             os.replace(saved / "new" / name, root / name)
-    except OSError:
-        put_back(root, record)
+    except BaseException:
+        put_back(root, files)
         raise
     shutil.rmtree(saved / "new")
-    print(f"{root}: {len(added)} files added, {len(new) - len(added)} changed; --undo puts them back")
+    added = sum(was is None for was, _ in files.values())
+    print(f"{root}: {added} files added, {len(new) - added} changed; --undo puts them back")
 
 
 def run(root, into, dry_run):
@@ -209,7 +232,7 @@ def run(root, into, dry_run):
         try:
             shutil.copytree(root, into, symlinks=True, ignore=shutil.ignore_patterns("target"))
             write(into, new)
-        except OSError:
+        except BaseException:
             shutil.rmtree(into, ignore_errors=True)
             raise
 
@@ -222,12 +245,16 @@ def main():
     parser.add_argument("--undo", action="store_true")
     arguments = parser.parse_args()
     try:
-        if arguments.undo:
-            undo(arguments.checkout)
+        if arguments.undo and arguments.into:
+            sys.exit("--undo changes the checkout itself, and makes no copy")
+        elif arguments.undo:
+            undo(arguments.checkout, arguments.dry_run)
         else:
             run(arguments.checkout, arguments.into, arguments.dry_run)
     except OSError as error:
         sys.exit(f"nothing was changed: {error}")
+    except KeyboardInterrupt:
+        sys.exit(f"interrupted; if there is a folder {arguments.checkout / SAVED}, --undo puts back what was there")
 
 
 if __name__ == "__main__":

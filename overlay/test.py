@@ -13,10 +13,13 @@ import os
 import re
 import resource
 import shutil
+import signal
 import subprocess
 import sys
 import tempfile
 from pathlib import Path
+
+import overlay
 
 HERE = Path(__file__).resolve().parent
 FILES = [f"storage/{name}.rs" for name in ["mod", "assembler", "packet_buffer", "ring_buffer"]] + ["time.rs", "rand.rs"]
@@ -54,6 +57,9 @@ FAULTS = [
     ("storage/assembler.rs", "from = end;\n            Contig", "from = start;\n            Contig"),
     ("storage/packet_buffer.rs", "&Shown(&self.bytes, self.head.bytes)", "&Shown(&self.bytes, self.head.slots)"),
     ("time.rs", "val.total_micros() as", "val.total_millis() as"),
+    # The join that the receiver is compared with.
+    ("../examples/calls.rs", "if queued > 0 {", "if queued > 1 {"),
+    ("../examples/calls.rs", "self.2 += count as u64", "self.2 += count.saturating_sub(1) as u64"),
 ]
 
 
@@ -65,10 +71,44 @@ def digests(texts):
     return "".join(f"{name}: {hashlib.sha256(text.encode()).hexdigest()}\n" for name, text in texts.items())
 
 
+def changes(event, words):
+    """Whether an event that Python audits is a change of files: one that is opened to be written, or another call."""
+    return event in ("os.mkdir", "os.rename", "os.remove", "os.rmdir", "os.chmod") or (
+        event == "open" and isinstance(words[2], int) and words[2] & (os.O_WRONLY | os.O_RDWR | os.O_CREAT))
+
+
+def interrupted(call, by, at):
+    """Makes a call in a process of its own, which gets a signal before each change from that number on. Returns whether it
+    ended before that."""
+    child = os.fork()
+    if child:
+        return os.waitpid(child, 0)[1] == 0
+    count = 0
+
+    def audit(event, words):
+        nonlocal count
+        if changes(event, words):
+            count += 1
+            if count > at:
+                os.kill(os.getpid(), by)
+
+    sys.stdout = sys.stderr = open(os.devnull, "w")
+    sys.addaudithook(audit)
+    try:
+        call()
+    except BaseException:
+        os._exit(1)
+    os._exit(0)
+
+
 def tree(folder):
     """Each file of a folder, and a digest of its bytes."""
     files = [path for path in folder.rglob("*") if path.is_file()]
     return {path.relative_to(folder): hashlib.sha256(path.read_bytes()).hexdigest() for path in files}
+
+
+def folders(folder):
+    return {path for path in folder.rglob("*") if path.is_dir()}
 
 
 class Tests:
@@ -79,15 +119,14 @@ class Tests:
         for file in FILES if smoltcp else []:
             shutil.copy(smoltcp / "src" / file, folder / "original/src" / file)
         # A user who isn't root reads this copy.
-        for part in ["overlay/overlay.py", "overlay/modules", "rust/Cargo.toml", "rust/src"]:
-            (folder / "net-base" / part).parent.mkdir(parents=True, exist_ok=True)
-            copy = shutil.copytree if (HERE.parent / part).is_dir() else shutil.copy
-            copy(HERE.parent / part, folder / "net-base" / part)
+        shutil.copytree(HERE.parent / "rust", folder / "net-base/rust", ignore=shutil.ignore_patterns("target"))
+        shutil.copytree(HERE / "modules", folder / "net-base/overlay/modules")
+        shutil.copy(HERE / "overlay.py", folder / "net-base/overlay")
         # The stand-in's own files have digests of their own.
-        self.start = "import overlay, pathlib; "
         if not smoltcp:
-            code = f"overlay.parts(overlay.read(pathlib.Path({str(folder / 'original')!r}) / name))[0]"
-            self.start += f"overlay.DIGESTS = {{name: overlay.digest({code}.encode()) for name in overlay.DIGESTS}}; "
+            code = lambda name: overlay.parts(overlay.read(folder / "original" / name))[0]
+            overlay.DIGESTS = {name: overlay.digest(code(name).encode()) for name in overlay.DIGESTS}
+        self.start = f"import overlay; overlay.DIGESTS = {overlay.DIGESTS!r}; "
 
     def overlay(self, *words, nobody=False, **options):
         user = "import locale, os; os.geteuid() or os.setuid(65534); " if nobody else ""
@@ -103,6 +142,12 @@ class Tests:
     def copy(self, name, source="original"):
         shutil.rmtree(self.folder / name, ignore_errors=True)
         return Path(shutil.copytree(self.folder / source, self.folder / name))
+
+    def edited(self, file, old, new):
+        """A copy of the checkout with another text in a file."""
+        path = self.copy("checkout") / file
+        path.write_bytes(path.read_bytes().replace(old.encode(), new.encode("latin-1"), 1))
+        return self.folder / "checkout"
 
     def refused(self, what, words, **options):
         """What is refused by one line and status 1, and changes nothing."""
@@ -132,6 +177,9 @@ class Tests:
             if tree(checkout) != after:
                 stop("an overlay in place isn't that of a copy")
             self.refused("has an overlay already", [checkout])
+            self.made(checkout, "--undo", "--dry-run")
+            if tree(checkout) != after:
+                stop("--undo --dry-run changes something")
             self.made(checkout, "--undo")
             if tree(checkout) != before or (checkout / "src/proved").exists():
                 stop("--undo doesn't give back what was there")
@@ -146,10 +194,8 @@ class Tests:
             ("0.14.0 was released: src/rand.rs", "src/rand.rs", "\n", "\n\x80"),
             ("src/lib.rs doesn't fit", "src/lib.rs", "mod rand;", "pub mod rand;"),
         ]
-        for what, file, old, new in edits:
-            path = self.copy("checkout") / file
-            path.write_bytes(path.read_bytes().replace(old.encode(), new.encode("latin-1"), 1))
-            self.refused(re.escape(what), [checkout])
+        for what, *edit in edits:
+            self.refused(re.escape(what), [self.edited(*edit)])
         checkout, path = self.copy("checkout"), self.folder / "net-base/rust/src/proved/net_ring/error.rs"
         text = path.read_text()
         for other in [text.replace("struct Full", "struct  Full"), ""]:
@@ -163,7 +209,8 @@ class Tests:
         path.write_text(path.read_text() + "\n")
         self.refused("edited since: src/proved/net_ring/head.rs", [checkout, "--undo"])
         path.unlink()
-        self.refused("edited since: src/proved/net_ring/head.rs", [checkout, "--undo"])
+        (checkout / "src/rand.rs").unlink()
+        self.refused("edited since: src/rand.rs", [checkout, "--undo"])
         checkout = self.copy("checkout")
         limit = lambda: resource.setrlimit(resource.RLIMIT_FSIZE, (8000, 8000))
         for words in [[checkout], [original, "--into", self.folder / "none"]]:
@@ -178,7 +225,36 @@ class Tests:
         (checkout / "src/storage").chmod(0o555)
         self.refused("nothing was changed: .*Permission denied", [checkout, "--undo"], nobody=True)
         (checkout / "src/storage").chmod(0o777)
+        self.refused("makes no copy", [checkout, "--undo", "--into", self.folder / "none"])
+        self.refused("has no version", [self.edited("Cargo.toml", 'version = "0.14.0"', "version.workspace = true")])
+        for name in ["src", "src/storage", "src/time.rs"]:
+            path = self.copy("checkout") / name
+            path.rename(checkout / "moved")
+            path.symlink_to(checkout / "moved")
+            self.refused(f"{name} is a link", [checkout])
+            self.refused(f"{name} is a link", [checkout, "--into", self.folder / "none"])
         print(f"script: {len(listed)} files, listed, made, taken back; {self.refusals} refusals, which change nothing")
+
+    def interruptions(self):
+        """Killed, or interrupted, before any of its changes of files, the command is taken back by --undo; so is an --undo
+        by another one. Some of the added files are enough."""
+        root = self.copy("checkout")
+        before, other = (tree(root), folders(root)), overlay.other_files(root)
+        new = dict(list(overlay.proved_files().items())[:5]) | other
+        undo, places = lambda: overlay.undo(root, False), 0
+        for by in (signal.SIGKILL, signal.SIGINT):
+            for is_undo in (False, True):
+                at, is_ended = 0, False
+                while not is_ended:
+                    if is_undo and not interrupted(lambda: overlay.write(root, new), by, 10_000):
+                        stop("an overlay that isn't interrupted fails")
+                    is_ended = interrupted(undo if is_undo else lambda: overlay.write(root, new), by, at)
+                    interrupted(undo, by, 10_000)
+                    if (tree(root), folders(root)) != before:
+                        stop(f"{by.name} before change {at} of {'--undo' if is_undo else 'an overlay'}: not as it was")
+                    at += 1
+                places += at
+        print(f"interruptions: {places}, each taken back")
 
     def cargo(self, checkout, words, variables=(), check=True):
         own = {"CARGO_TARGET_DIR": str(self.folder / "target" / checkout), "CARGO_NET_OFFLINE": "true"}
@@ -291,7 +367,7 @@ class Tests:
         print(f"tests: smoltcp's {count} and {passed - count} of the stand-in, passed")
 
     def faults(self, good):
-        good = "".join(good.splitlines(keepends=True)[:1500])
+        good = "".join(good.splitlines(keepends=True)[: 7 * 300])
         self.copy("faulty", "overlaid")
         for file, old, new in FAULTS:
             path = self.folder / "faulty/src" / file
@@ -307,6 +383,7 @@ class Tests:
 
     def all(self, record):
         self.script()
+        self.interruptions()
         self.compiles()
         self.shadowed()
         self.own_tests()
@@ -330,7 +407,7 @@ class Tests:
         if digests(ours) != expected.read_text():
             stop(f"this is not what smoltcp printed:\n{digests(ours)}")
         panics = sum(map(int, ours["calls"].split()[2::4]))
-        print(f"printed: the same as over smoltcp, {len(ours)} texts; of 750,000 random calls {panics} panic")
+        print(f"printed: the same as over smoltcp, {len(ours)} texts; of 1,110,000 random calls {panics} panic")
         self.faults(ours["calls"])
         self.never()
         self.armv7(ours)

@@ -32,7 +32,7 @@ import sys
 
 ROOT = pathlib.Path(__file__).resolve().parent.parent
 # The crates whose lines doc comments quote as examples.
-EXAMPLES = ["net_examples", "net_core_tests", "net_stream_tests"]
+EXAMPLES = ["net_examples", "net_core_tests"]
 # Where names are looked for.
 SOURCES = ["crates/**/*", "models/*", "compare/**/*", "rust/**/*", "c/**/*", "tools/*", "crates.txt", "HANDLES", ".ci/run", "*", "docs/*"]
 ELSEWHERE = set("""

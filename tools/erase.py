@@ -39,7 +39,7 @@ FOREIGN_IMPLS = {                                 # other traits in Rattle, and 
 }
 LAWS = 'laws'                                     # modules of theorems; calls of their functions
 CONTRACT_WORDS = {'ghost', 'requires', 'ensures', 'tactic', 'Model', 'Drop', 'prove'}
-DROP = re.compile(r'(?<=: )Drop \+ |(?:: | \+ )Drop\b(?=[,>]| \{| for)')      # a bound that all types of Rust meet
+AFTER_BOUND = (',', '>', '{', 'for')              # what may follow the last bound of a type
 SOME_RUNS = re.compile(r'requires(?: \w+)? { 1 ≤ N }')                        # tested when the program is compiled
 HAS_RUNS = 'const { assert!(N >= 1, "N is at least 1") };'
 ANGLES = r'<(?:[^<>]|<(?:[^<>]|<[^<>]*>)*>)*>'
@@ -60,7 +60,7 @@ class Eraser(Text):
     `new` has the text that is written for a token, where that is another one; `before` and `after` what is added."""
 
     def __init__(self, text, crate, public=(), unguarded={}, into={}):
-        super().__init__(DROP.sub('', text))
+        super().__init__(text)
         self.crate, self.public, self.unguarded, self.into = crate, public, unguarded, into
         self.new, self.before, self.after = {}, {}, {}
         self.owner, self.used, self.contracts = ('', 0), set(), []
@@ -93,13 +93,15 @@ class Eraser(Text):
             if kind == 'doc':
                 head = k if begins and word.startswith('///') else head
                 line = re.sub(r'^(//[/!] *```)rust$', r'\1ignore', word)        # parts of proved functions
-                line = re.sub(r'(?<=^/// # Requires)$', ', else it panics', line)
+                line = re.sub(r'(?<=^/// # Requires)$', ', else it panics' * (self.crate != given.EXPORTS), line)
                 k = self.put(k, k + 1, re.sub(r'(?<=\()\w+(?:::\w+)+(?=\))', lambda m: self.path(m.group()), line))
             elif kind in SPACE:
                 k += 1
             elif word == '#':
                 head = k if begins and self.tokens[k + 1][1] != '!' else head
                 k = self.attribute(k)
+            elif fresh and word == 'extern' and self.crate == given.EXPORTS:
+                k = self.put(k, self.until(k, 'fn'), GONE)                      # the shim of `c` has C's convention
             elif fresh and (word in ('pub', 'unsafe', 'extern') or word == 'const' and
                             self.tokens[self.next(k + 1)][1] == 'fn'):
                 head, k = k if begins else head, self.next(k + 1)
@@ -119,13 +121,18 @@ class Eraser(Text):
         if kind != 'word':
             return word in ('{', '}', ';', ','), k + 1
         if word == 'fn':
-            return False, self.function(k, head)
+            end = self.function(k, head)
+            return end > k + 1, end                     # one that goes ends here
         if fresh and word == 'use':
             return True, self.use(k, self.until(k, ';') + 1, head)
         if fresh and word == 'mod' and self.tokens[after][1] in (LAWS, *given.CRATES[self.crate]):
             return True, self.put(head, self.until(k, ';') + 1, GONE)
+        if fresh and word == 'mod' and self.crate == given.EXPORTS and self.source(head, k) != 'pub ':
+            return False, self.put(k, k + 1, 'pub mod')
         if fresh and word == 'impl':
             return self.implementation(k, head)
+        if word == 'Drop' and (self.tokens[after][1] in ('+', *AFTER_BOUND)):
+            return False, self.bound(k, after)
         if word == 'prove' and self.tokens[after][1] == '!':
             if self.text.startswith('prove!(N >= 1, ', at):             # tested when the program is compiled
                 end = self.group(self.next(after + 1))
@@ -143,6 +150,19 @@ class Eraser(Text):
                 return True, self.put(k, self.until(k, ';') + 1, GONE)
             return False, self.put(k, end, self.path(path))
         return False, k + 1
+
+    def bound(self, k, after):
+        """A bound by `Drop`, which all types of Rust meet, goes with the sign that joins it to others."""
+        before = k - 1
+        while self.tokens[before][0] in SPACE:
+            before -= 1
+        if self.tokens[before][1] == '+':
+            self.put(before - (self.tokens[before - 1][0] == 'space'), k + 1, '')
+        elif self.tokens[before][1] == ':' and self.tokens[after][1] == '+':
+            return self.put(k, self.next(after + 1), '')
+        elif self.tokens[before][1] == ':':
+            self.put(before, k + 1, '')
+        return k + 1
 
     def implementation(self, k, head):
         """An impl of a trait that is another one in Rust goes; of another one the type's name is kept."""
@@ -185,7 +205,7 @@ class Eraser(Text):
             self.convert(k, begin, body, margin, self.into[name])
         if any(map(SOME_RUNS.fullmatch, contract)) and 'prove!(N >= 1, ' not in self.source(body, self.group(body)):
             self.after[body] = f'\n{margin}    {HAS_RUNS}'
-        if contract:
+        if contract and self.crate != given.EXPORTS:                          # what isn't seen has no page
             self.document(k, head, margin, contract)
         return k + 1
 
@@ -220,6 +240,8 @@ class Eraser(Text):
     def attribute(self, k):
         bracket = k + 1 + (self.tokens[k + 1][1] == '!')
         end, name = self.group(bracket), self.tokens[self.next(bracket + 1)][1]
+        if name == 'unsafe' and self.crate == given.EXPORTS:                    # an export becomes a part of the shim's
+            return self.put(k, end, '#[inline(always)]')
         if name in GHOST_ATTRIBUTES:
             return self.put(k, end, GONE)
         if name not in PLAIN_ATTRIBUTES:
@@ -265,7 +287,8 @@ def erased(said):
     layer = ''.join(file.read_text() for file in OUT.parent.rglob('*.rs') if OUT not in file.parents)
     public = set(re.findall(r'\w+', ' '.join(re.findall(r'pub use crate::proved([^;]*);', layer))))
     names, contracts = ('contracts', *given.CRATES), []
-    files = {OUT / 'mod.rs': TOP + ''.join(f'pub mod {name};\n' for name in names)}
+    modules = ''.join('#[cfg(feature = "c")]\n' * (name == given.EXPORTS) + f'pub mod {name};\n' for name in names)
+    files = {OUT / 'mod.rs': TOP + modules}
     unused = {old for _, old, _ in given.REPLACED} | given.UNGUARDED.keys()
     for crate, omitted in given.CRATES.items():
         source = REPOSITORY / 'crates' / crate / 'src'
@@ -277,8 +300,8 @@ def erased(said):
                 if file in ('', f'{crate}/{path}') and old in text:
                     unused -= {old}
                     text = text.replace(old, new)
+            eraser = Eraser(text, crate, public, given.UNGUARDED, given.INTO)
             try:
-                eraser = Eraser(text, crate, public, given.UNGUARDED, given.INTO)
                 text = eraser.run()
                 if Eraser(text, crate).run() != text:
                     raise Refused('erased again, it is another text')

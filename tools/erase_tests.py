@@ -1,6 +1,11 @@
 #!/usr/bin/env python3
-"""What tools/erase.py makes of small texts, and texts that it refuses: python3 tools/erase_tests.py"""
+"""What tools/erase.py makes of small texts, texts that it refuses, its own checks, and what `--check` answers:
+python3 tools/erase_tests.py"""
+import contextlib
+import io
+import pathlib
 import sys
+import tempfile
 
 sys.dont_write_bytecode = True
 import erase
@@ -43,6 +48,16 @@ GIVEN = [
     ('#[derive(Debug, Drop)]\nstruct A<H: Drop, G: Drop + Copy, F: Copy + Drop> {\n    ghost fits: { x },\n    a: H,\n}\n',
      '#[derive(Debug)]\nstruct A<H, G: Copy, F: Copy> {\n    a: H,\n}\n'),
     ('#[derive(Drop)]\nstruct A;\n', 'struct A;\n'),
+    ('fn f<T: Drop + Copy>(x: T)\nwhere\n    T: Copy + Drop,\n{\n}\ntrait B: Drop {}\nimpl<T: Drop> B for T {}\n',
+     'fn f<T: Copy>(x: T)\nwhere\n    T: Copy,\n{\n}\ntrait B {}\nimpl<T> B for T {}\n'),
+    # A text in quotes, and a comment, is no bound.
+    ('fn f() {\n    // a: Drop + b\n    g("x: Drop + y, a: Drop, b + Drop>");\n}\n',
+     'fn f() {\n    // a: Drop + b\n    g("x: Drop + y, a: Drop, b + Drop>");\n}\n'),
+    # Attributes of Rust, and impls of traits that both languages have, stay.
+    ('#[repr(C)]\n#[must_use]\n#[inline(always)]\n#[allow(a)]\n#[cfg(b)]\n#[non_exhaustive]\n#[track_caller]\nstruct A;\n',
+     '#[repr(C)]\n#[must_use]\n#[inline(always)]\n#[allow(a)]\n#[cfg(b)]\n#[non_exhaustive]\n#[track_caller]\nstruct A;\n'),
+    ('impl Default for A {\n    fn default() -> A {\n        A\n    }\n}\nimpl PartialEq for A {}\nimpl Iterator for A {}\n',
+     'impl Default for A {\n    fn default() -> A {\n        A\n    }\n}\nimpl PartialEq for A {}\nimpl Iterator for A {}\n'),
     ('struct A;\n\n/// M.\nimpl Model for A {\n    ghost use x.y;\n    ghost Value = { ℕ };\n}\n\nfn f() {}\n',
      'struct A;\n\nfn f() {}\n'),
     ('trait T {\n    /// X.\n    ghost x: { A } = { b };\n\n    ghost y: { C };\n\n    fn f(&self) -> [u8; 3]\n        ensures { ⊤ };\n}\n',
@@ -125,6 +140,15 @@ CALLED = [
     ('impl B {\n    pub fn f(x: u8)\n        requires { x < 3 }\n    {\n        g(x)\n    }\n}\n', None),
     ('impl A {\n    pub fn listed(x: u8)\n        requires { x < 3 }\n    {\n        g(x)\n    }\n}\n', None),
     ('impl A<B> {\n    pub fn f(x: u8)\n        requires { 1 ≤ N }\n        requires { x < 3 }\n    {\n        g(x)\n    }\n}\n', 'no guard'),
+    # A guard after a branch, a loop or a match may be passed by; the list names a function with its type.
+    ('impl A {\n    pub fn f(x: u8)\n        requires { x < 3 }\n    {\n        if y {\n            return;\n        }\n'
+     '        prove!(x < 3);\n    }\n}\n', 'no guard'),
+    ('impl A {\n    pub fn f(x: u8)\n        requires { x < 3 }\n    {\n        for y in z {}\n        prove!(x < 3);\n    }\n}\n',
+     'no guard'),
+    ('impl A {\n    pub fn f(x: u8)\n        requires { x < 3 }\n    {\n        match y {\n            _ => return,\n        }\n'
+     '        prove!(x < 3);\n    }\n}\n', 'no guard'),
+    ('impl A {\n    pub fn f(x: u8)\n        requires { (1 ≤ N) × (x < 3) }\n    {\n        g(x)\n    }\n}\n', 'no guard'),
+    ('impl C {\n    pub fn listed(x: u8)\n        requires { x < 3 }\n    {\n        g(x)\n    }\n}\n', 'no guard'),
 ]
 
 
@@ -136,6 +160,72 @@ def said(text, **settings):
         return str(refused)
 
 
+def own_checks():
+    """What the eraser checks of its own work: its tokens, its words, a second erasure, and its list."""
+    for token, part in (('b', 'other tokens'), (' Model ', 'is left: Model'), (' ℕ ', 'is left: ℕ')):
+        eraser = erase.Eraser('fn a b', 'net_tcp')
+        eraser.new = {3: '', 4: token} if token == 'b' else {3: token}
+        try:
+            eraser.finish()
+        except erase.Refused as refused:
+            assert part in str(refused), (token, refused)
+        else:
+            raise AssertionError(token)
+    kept = erase.given.CRATES, erase.given.REPLACED, erase.given.UNGUARDED, erase.Eraser
+
+    class Longer(erase.Eraser):
+        def run(self):
+            return f'{super().run()}// once more\n'
+
+    try:
+        erase.given.CRATES, erase.given.REPLACED, erase.given.UNGUARDED = {}, [('', 'no such text', '')], {'A::f': 'none'}
+        found = []
+        erase.erased(found)
+        assert [line.rpartition(': ')[2] for line in found] == ['A::f', 'no such text'], found
+        erase.given.CRATES, erase.given.REPLACED, erase.given.UNGUARDED = {'net_tcp': []}, [], {}
+        erase.Eraser, found = Longer, []
+        erase.erased(found)
+        assert found and all('erased again' in line for line in found), found
+    finally:
+        erase.given.CRATES, erase.given.REPLACED, erase.given.UNGUARDED, erase.Eraser = kept
+
+
+def statuses():
+    """`--check` ends with 1 if a file differs, is missing, or comes from no source; without it files are written."""
+    kept = erase.OUT, erase.erased
+    with tempfile.TemporaryDirectory() as folder, contextlib.redirect_stderr(io.StringIO()) as told:
+        erase.OUT = pathlib.Path(folder)
+        one, two = erase.OUT / 'a/one.rs', erase.OUT / 'two.rs'
+        erase.erased = lambda said: {one: 'fn a() {}\n', two: 'fn b() {}\n'}
+        assert erase.main(['--check']) and not one.exists()
+        assert not erase.main([]) and one.read_text() == 'fn a() {}\n'
+        assert not erase.main(['--check'])
+        for change in (lambda: two.write_text('fn c() {}\n'), two.unlink, lambda: (erase.OUT / 'three.rs').write_text('')):
+            change()
+            told.truncate(0)
+            assert erase.main(['--check']) and 'is not as' in told.getvalue()
+            assert not erase.main([]) and not erase.main(['--check'])
+        assert sorted(erase.OUT.rglob('*.rs')) == [one, two]
+        erase.erased = lambda said: said.append('refused') or {one: 'fn d() {}\n'}
+        assert erase.main([]) and erase.main(['--check']) and one.read_text() == 'fn a() {}\n'
+    erase.OUT, erase.erased = kept
+
+
+def page():
+    """The page of contracts has each definition that contracts name, whole, and no other."""
+    with tempfile.TemporaryDirectory() as folder:
+        root = pathlib.Path(folder)
+        (root / 'docs').mkdir()
+        (root / 'docs/NOTATION.md').write_text('A.\n\n| Written | Read |\n|---|---|\n| `result` | it |\n\nB.\n')
+        (root / 'crates/c/specs').mkdir(parents=True)
+        (root / 'crates/c/specs/S.antt').write_text(
+            '-- One.\npub one : ℕ\none = 1\n\n-- Two.\nabbrev pub two : ℕ\ntwo = 2\n\npub record Three : Type 0\n    field x : ℕ\n')
+        text = erase.erase_words.page(root, ['c'], "ensures { result ≡ one } requires { Three }")
+        rows = [row.removeprefix('//!').strip() for row in text.split('\n')]
+        assert all(row in rows for row in ('| `result` | it |', '# c, S', '-- One.', 'one = 1', 'field x : ℕ')), rows
+        assert not any('two' in row for row in rows), rows
+
+
 def main():
     for text, wanted in GIVEN:
         assert of(text) == wanted, (text, of(text), wanted)
@@ -143,13 +233,16 @@ def main():
     for text, part in REFUSED:
         assert part in (said(text) or ''), (text, part, said(text))
     for text, part in CALLED:
-        why = said(text, public={'A'}, unguarded={'A::listed': 'a reason'})
-        assert part in why if part else why is None, (text, part, why)
+        why = said(text, public={'A', 'C'}, unguarded={'A::listed': 'a reason'})
+        assert part in (why or '') if part else why is None, (text, part, why)
     # A head stays inside; parameters are converted.
     head = 'impl A {\n    pub fn place(&self) -> AHead {\n        self.a\n    }\n}\n'
     assert of(head, public={'A'}) == head.replace('pub fn', 'pub(crate) fn')
     wanted = 'impl A {\n    pub fn f<A: Into<B<C, D>>>(x: A, y: u8) {\n        let x = x.into();\n        g(x);\n    }\n}\n'
     assert of('impl A {\n    pub fn f(x: B<C, D>, y: u8) {\n        g(x);\n    }\n}\n', into={'A::f': ['x']}) == wanted
+    own_checks()
+    statuses()
+    page()
     print(f'{len(GIVEN)} texts erased, {len(REFUSED)} refused, {len(CALLED)} asked for a guard')
 
 

@@ -1,10 +1,10 @@
 #!/usr/bin/env python3
 """Writes the declarations of the library for C from the exports of crates/net_ffi.
 
-    python3 tools/ffi.py               writes the exports of heads, c/net_base.h, and duties and refusals in docs/FFI.md
+    python3 tools/ffi.py               writes the exports of heads, header, shim and net_base.pc of c, and duties and refusals in docs/FFI.md
     python3 tools/ffi.py --check       compares the files with what it would write; status 1 if one is stale
     python3 tools/ffi.py --tests FILE  writes the program that calls each export at the values of exports.txt
-    python3 tools/ffi.py --names       prints the names of the exports
+    python3 tools/ffi.py --sequence FILE    writes the program that makes one long sequence of calls of all
 
 It reads, in the order of the modules in lib.rt, but those in FIRST before,
 - each `#[unsafe(no_mangle)] pub extern "C" fn`, with its doc comment;
@@ -26,6 +26,7 @@ import textwrap
 ROOT = pathlib.Path(__file__).resolve().parent.parent
 EXPORTS = ROOT / "crates/net_ffi"
 HEADER = ROOT / "c/net_base.h"
+CONFIG = ROOT / "c/net_base.pc"
 # Modules whose sections come first: what the others refer to.
 FIRST = ["refusals", "ring", "results", "packets", "assembler", "fragments", "receiver", "sender", "scoreboard"]
 FIRST += ["finite_receiver", "finite_sender", "tcp", "advertised_window", "peer_window",
@@ -36,10 +37,9 @@ PAGE_END = "<!-- END -->"
 BEGIN = "/* Written by tools/ffi.py, up to the line END. */"
 END = "/* END */"
 WIDTH = 100
-# Numbers that cross have 64 bits on every processor.
-C_TYPES = {"usize": "uint64_t", "isize": "int64_t", "bool": "bool"}
+C_TYPES = {"usize": "size_t", "bool": "bool"}
 C_TYPES |= {f"{sign}{bits}": f"{'u' * (sign == 'u')}int{bits}_t" for sign in "iu" for bits in (8, 16, 32, 64)}
-C_LIMITS = {"usize": "UINT64", "isize": "INT64"}
+C_LIMITS = {"usize": "SIZE"}
 C_LIMITS |= {f"{sign}{bits}": f"{'U' * (sign == 'u')}INT{bits}" for sign in "iu" for bits in (8, 16, 32, 64)}
 
 
@@ -178,6 +178,23 @@ def structs_of(name):
     return name
 
 
+# What a refused call returns in place of a number, by its type; fields that say how many there are, which are 0 then.
+REFUSED = {"bool": "false", "usize": "MAX", "u64": "MAX", "i64": "MAX"}
+COUNTS = {"count", "contiguous", "length", "size"}
+
+
+def refusal(item, structs):
+    """What a refused call of an export returns: a word, or one for each field of a struct. `MAX` is the greatest number."""
+    if item.type in structs:
+        fields = structs[item.type].members
+        if fields[0].name == "status":
+            return ["REFUSED", *["0" for _ in fields[1:]]]
+        return ["0" if it.name in COUNTS else REFUSED[it.type] for it in fields]
+    if item.type == "u32" and "NET_BASE_" in "".join(item.doc):
+        return "REFUSED"
+    return REFUSED.get(item.type, "0") if item.type else ""
+
+
 class Library:
     """The sections of the declarations: each a text and its items."""
 
@@ -236,7 +253,7 @@ def c_members(member):
     kind, name = member.type, member.name
     if slice_of := re.fullmatch(r"&(mut )?\[([^;]+)\]", kind):
         const = "" if slice_of[1] else "const "
-        return [f"{const}{c_type(slice_of[2])} *{name}", f"uint64_t {name}_length"]
+        return [f"{const}{c_type(slice_of[2])} *{name}", f"size_t {name}_length"]
     if pointer := re.fullmatch(r"[&*](mut |const )?(.+)", kind):
         const = "" if pointer[1] == "mut " else "const "
         return [f"{const}{c_type(pointer[2])} *{name}"]
@@ -326,9 +343,21 @@ def root_sections(crate):
     return list(zip(["", *parts[1::2]], [part.strip() for part in parts[::2]]))
 
 
+def version_of(crate):
+    """The version of a Cargo crate."""
+    return re.search(r'^version = "(.*)"$', (ROOT / crate / "Cargo.toml").read_text(), flags=re.M)[1]
+
+
+def config():
+    """What pkg-config says of the library where cargo builds it."""
+    lines = ["prefix=${pcfiledir}", "Name: net_base", "Description: the buffers below a TCP socket, proved",
+             f"Version: {version_of('c')}", "Cflags: -I${prefix}", "Libs: ${prefix}/target/release/libnet_base.a"]
+    return "\n".join(lines) + "\n"
+
+
 def c_part(library, crate):
     """The first comment of the header, and the declarations for C."""
-    version = re.search(r'^version = "(.*)"$', (ROOT / "rust/Cargo.toml").read_text(), flags=re.M)[1]
+    version = version_of("rust")
     lines = ["/* SPDX-License-Identifier: 0BSD */", f"/* net-base {version}.", " *"]
     for heading, text in root_sections(crate):
         lines += [f" * {heading}", " *"] * bool(heading)
@@ -336,7 +365,7 @@ def c_part(library, crate):
         lines += [" *"]
     lines[-1] = " */"
     numbers = zip(("MAJOR", "MINOR", "PATCH"), version.split("."))
-    lines += ["#ifndef NET_BASE_H", "#define NET_BASE_H", "#include <stdbool.h>", "#include <stdint.h>", ""]
+    lines += ["#ifndef NET_BASE_H", "#define NET_BASE_H", "#include <stdbool.h>", "#include <stddef.h>", "#include <stdint.h>", ""]
     lines += ["/* The version: until 1.0 names and structs may change with each minor number. */"]
     lines += [f"#define NET_BASE_VERSION_{name} {number}" for name, number in numbers]
     lines += ["", "#ifdef __cplusplus", 'extern "C" {', "#endif", "", BEGIN]
@@ -369,10 +398,12 @@ def put(files, only_compares):
     stale = False
     for path, text in files.items():
         same = without_layout if path.suffix == ".rt" else str
+        if path.exists() and same(path.read_text()) == same(text):
+            continue
         if not only_compares:
             path.parent.mkdir(exist_ok=True)
             path.write_text(text)
-        elif not path.exists() or same(path.read_text()) != same(text):
+        else:
             print(f"{path.relative_to(ROOT)}: stale, run python3 tools/ffi.py")
             stale = True
     return stale
@@ -381,21 +412,23 @@ def put(files, only_compares):
 def main():
     from parts import exports  # which import this file
     from parts import heads
+    from parts import sequence
+    from parts import shim
 
     parser = argparse.ArgumentParser(description=__doc__.split("\n")[0])
     parser.add_argument("--check", action="store_true", help="compare, write nothing")
     parser.add_argument("--tests", type=pathlib.Path, help="write the program of exports.txt to a file")
-    parser.add_argument("--names", action="store_true", help="print the names of the exports")
+    parser.add_argument("--sequence", type=pathlib.Path, help="write the program of a sequence of calls to a file")
     options = parser.parse_args()
-    stale = not (options.names or options.tests) and put(heads.written(), options.check)
+    programs = {options.tests: exports.program, options.sequence: sequence.sequence}
+    stale = not any(programs) and put(heads.written(), options.check)
     library = Library(EXPORTS)
-    if options.names:
-        print("\n".join(item.name for item in library.exports()))
+    if any(programs):
+        for path in filter(None, programs):
+            path.write_text(programs[path](library))
         return
-    if options.tests:
-        options.tests.write_text(exports.program(library))
-        return
-    stale |= put({HEADER: c_part(library, EXPORTS), PAGE: page(EXPORTS, PAGE)}, options.check)
+    texts = {HEADER: c_part(library, EXPORTS), CONFIG: config(), shim.OUT: shim.text(library), PAGE: page(EXPORTS, PAGE)}
+    stale |= put(texts, options.check)
     sys.exit(stale)
 
 

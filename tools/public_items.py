@@ -1,62 +1,81 @@
 #!/usr/bin/env python3
-"""python3 tools/public_items.py OLD NEW: what of a crate's documentation at OLD isn't in that at NEW, or reads otherwise.
+"""python3 tools/public_items.py --check | --write: compares the public items of the Cargo crate with
+tools/public_items.txt, or writes that list. `git diff` of two versions of it says what a user of the crate has to know.
 
-Each is a folder of the crate's pages as `cargo doc` writes them, such as target/doc/net_base. It compares modules, types,
-traits, functions, constants, fields, variants, and the signatures of methods and of impls.
+Each line is what rustdoc shows of a module, a type, a trait, a function, a constant, a method or an impl, with attributes,
+fields and automatic traits. `+` are those that only all features give, `-` those that are there without features alone.
+Status 1 if the lists differ.
 """
+import difflib
 import html
 import re
+import subprocess
 import sys
+import tempfile
 from pathlib import Path
 
-# A type over any storage has the methods of its usual form, which is an alias.
-ALIASES = {'RingOver': 'RingBuffer', 'PacketsOver': 'PacketBuffer', 'FragmentsOver': 'FragmentBuffer',
-           'ReceiverOver': 'Receiver', 'SenderOver': 'Sender'}
-AUTOMATIC = re.compile(r'(?:Freeze|RefUnwindSafe|Send|Sync|Unpin|UnwindSafe|UnsafeUnpin) for|^impl<.*> (?:Any|Borrow|BorrowMut|From<T>|'
-                       r'From<!>|Into<U>|TryFrom<U>|TryInto<U>|ToOwned|ToString|CloneToUninit|IntoIterator)\b.* for [TI]\b')
+ROOT = Path(__file__).resolve().parent.parent
+LIST = ROOT / "tools/public_items.txt"
+SETS = {"+": "--all-features", "-": "--no-default-features"}
+# Traits that programs can't name.
+UNNAMED = re.compile(r"\b(?:Freeze|UnsafeUnpin|StructuralPartialEq) for ")
+# Of a page: methods of what a type derefs to, and impls for all types.
+OF_STD = re.compile(r'<h2 id="deref-methods.*?(?=<h2 id="(?:trait|synthetic)-)|<h2 id="blanket-implementations.*', re.S)
 
 
 def plain(text):
     """The text of a piece of a page."""
-    text = html.unescape(re.sub(r'<[^>]*>', '', text))
-    return re.sub(r'\s+', ' ', text).replace('( ', '(').replace(', )', ')').strip()
+    text = re.sub(r'<a class="(?:src|anchor|doc-anchor).*?</a>|<details.*?</summary>', "", text, flags=re.S)
+    text = html.unescape(re.sub(r"<[^>]*>", "", re.sub(r'</div>|<div class="where">', " ", text))).replace("ⓘ", "")
+    return re.sub(r"\s+", " ", text).replace("( ", "(").replace(", )", ")").strip()
 
 
 def items(pages):
     """Each item, by its path, with what its page says of it."""
-    found = {}
-    for page in sorted(pages.rglob('*.html')):
-        kind, _, name = page.stem.partition('.')
-        if 'proved' in page.relative_to(pages).parts or 'Redirecting to' in page.read_text() or not name:
+    for page in sorted(pages.rglob("*.html")):
+        text, path = OF_STD.sub("", page.read_text()), "::".join(page.relative_to(pages).parts[:-1])
+        if "Redirecting to" in text:
             continue
-        name = ALIASES.get(name, name)
-        path = '/'.join([*page.relative_to(pages).parts[:-1], name])
-        text = page.read_text()
-        if kind != 'type':
-            found.setdefault(path, kind)
-        for word, section in re.findall(r'<(?:section|span|div) id="([\w.]+)"[^>]*>(.*?)</(?:h4|code|section)>', text, re.S):
-            what, _, member = word.partition('.')
-            if what in ('method', 'tymethod', 'structfield', 'variant', 'associatedconstant', 'associatedtype') and \
-                    'trait-impl' not in text[max(0, text.find(f'id="{word}"') - 9):text.find(f'id="{word}"') + 60]:
-                found[f'{path}::{re.sub(r"-[0-9]+$", "", member)}'] = plain(re.sub(r'<a class="(?:src|anchor).*?</a>', '', section))
-        for said in re.findall(r'<h3 class="code-header">(impl.*?)</h3>', text, re.S):
-            said = re.sub(r' where .*', '', plain(said))
-            if ' for ' in said and not AUTOMATIC.search(said):
-                trait = re.sub(r"^impl(?:<.*?>)? |'\w+ |<'_>", '', said.split(' for ')[0])
-                found[f'{path} is {re.sub(r".*> (?=[A-Z])", "", trait)}'] = ''
-    return found
+        if page.name == "index.html":
+            yield f"mod {path or 'net_base'}"
+        for said in re.findall(r'<pre class="rust item-decl"><code>(.*?)</code></pre>', text, re.S):
+            yield f"{path}: {plain(said)}"
+        name = f"{path}::{page.stem.partition('.')[2]}"
+        for said in re.findall(r'<section id="method[^"]*" class="method"><.*?<h4 [^>]*>(.*?)</h4>', text, re.S):
+            yield f"{name}: {plain(said)}"
+        if page.name.startswith(("struct.", "enum.")):
+            for said in re.findall(r'<h3 class="code-header">(impl.*?)</h3>', text, re.S):
+                if " for " in plain(said) and not UNNAMED.search(plain(said)):
+                    yield f"{path}: {plain(said)}"
 
 
-def main(old, new):
-    old, new = items(Path(old)), items(Path(new))
-    for path in old:
-        if path not in new:
-            print(f'gone     {path}    {old[path]}')
-        elif old[path] != new[path]:
-            print(f'changed  {path}\n    {old[path]}\n    {new[path]}')
-    for path in sorted(new.keys() - old.keys()):
-        print(f'new      {path}')
+def listed():
+    """The lines of the list, after the version of rustdoc and the crate's own attributes."""
+    found = {}
+    with tempfile.TemporaryDirectory() as folder:
+        for mark, features in SETS.items():
+            words = f"cargo doc --offline --quiet --no-deps --lib {features} --target-dir".split()
+            subprocess.run([*words, f"{folder}/{mark}"], cwd=ROOT / "rust", check=True)
+            found[mark] = set(items(Path(folder) / mark / "doc/net_base"))
+    lines = [f"  {it}" for it in found["+"] & found["-"]]
+    lines += [f"{mark} {it}" for mark, other in ("+-", "-+") for it in found[mark] - found[other]]
+    version = subprocess.run(["rustdoc", "--version"], capture_output=True, text=True, check=True).stdout.split()[1]
+    own = re.findall(r"^#!\[.*\]$", (ROOT / "rust/src/lib.rs").read_text(), re.M)
+    return [f"rustdoc {version}", *own, *sorted(lines, key=lambda line: (line[2:], line))]
 
 
-if __name__ == '__main__':
-    main(*sys.argv[1:])
+def main(way):
+    now = listed()
+    if way == "--write":
+        LIST.write_text("\n".join(now) + "\n")
+    was = LIST.read_text().splitlines() if LIST.is_file() else [""]
+    names = f"tools/public_items.txt, by {was[0]}", now[0]
+    different = list(difflib.unified_diff(was[1:], now[1:], *names, n=0, lineterm=""))
+    print("\n".join(different) or f"{len(now) - 1} public items, as listed")
+    return bool(different)
+
+
+if __name__ == "__main__":
+    if sys.argv[1:] not in (["--check"], ["--write"]):
+        sys.exit(__doc__)
+    sys.exit(main(sys.argv[1]))

@@ -1,6 +1,7 @@
 #!/usr/bin/env python3
-"""python3 tools/rust_faults.py [WORD]: plants the faults of tools/rust_faults.txt in a copy of the Cargo crate, one at a
-time, and says which of its tests see each; those whose line has WORD, or all.
+"""python3 tools/rust_faults.py [WORD ..]: plants the faults of tools/rust_faults.txt in a copy of the Cargo crate, one at a
+time, and says which of its tests see each, or the list of its public items, or features.sh; those whose line has one of the
+words, or all.
 
 They are in what is by hand, in what tools/parts/erase_list.py replaces, and in Cargo.toml. The list has a line for each, its
 file and its name, then pairs of lines, `- old` and `+ new`, in which `\\n` ends a line; `old` occurs once. Status 1 if a
@@ -44,22 +45,31 @@ def failing(crate, target, *words):
     return sorted(set(re.findall(r"(?:^ +|rerun pass )`--(?:test )?(\w+)`$", done.stderr, re.M))) if done.returncode else []
 
 
+def script(crate, target, *words):
+    """The script, if it fails."""
+    environment = os.environ | {"CARGO_TARGET_DIR": str(target)}
+    done = subprocess.run(words, cwd=crate, env=environment, capture_output=True)
+    return words[1:2] if done.returncode else []
+
+
 def test(crate, target):
-    """The tests that fail, or else, if examples do, those."""
-    return failing(crate, target, "--lib", "--tests") or failing(crate, target, "--doc")
+    """The tests that fail, or else, if examples do, those, or else what else does."""
+    return (failing(crate, target, "--lib", "--tests") or failing(crate, target, "--doc")
+            or script(crate, target, "python3", "../tools/public_items.py", "--check")
+            or script(crate, target, "sh", "features.sh"))
 
 
-def main(word=""):
+def main(*words):
     unseen = 0
     with tempfile.TemporaryDirectory() as folder:
         crate, target = Path(folder) / "rust", Path(folder) / "target"
         shutil.copytree(ROOT / "rust", crate, ignore=shutil.ignore_patterns("target"))
-        for name in ("crates", "models"):
-            (Path(folder) / name).symlink_to(ROOT / name)
+        (Path(folder) / "crates").symlink_to(ROOT / "crates")
+        shutil.copytree(ROOT / "tools", Path(folder) / "tools")
         if seen := test(crate, target):
             sys.exit(f"without a fault these fail: {seen}")
         for file, name, pairs in faults():
-            if word not in f"{file} {name}":
+            if words and not any(word in f"{file} {name}" for word in words):
                 continue
             path = crate / file
             text = changed = path.read_text()

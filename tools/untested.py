@@ -1,5 +1,5 @@
 #!/usr/bin/env python3
-"""Lists the public functions and methods of the libraries that no test and no example names.
+"""Lists the public functions and methods of the libraries, and of the Cargo crate, that no test and no example names.
 
     python3 tools/untested.py [CRATE ..]
 
@@ -21,17 +21,26 @@ Named there is
   (`assembler.rt` for `Assembler`). A method of a trait counts by each of the trait's types, and where a test
   implements the trait, since a library then calls it.
 
+A call of the Cargo crate, here the crate `rust`, is named by a test or an example of Rust, as the compiler sees it: in a
+copy of the crate each call is deprecated, and each use is warned of. An example in the call's own doc comment counts too.
+A call with a parameter of a type that isn't exported can't be made.
+
 Ends with status 1 if there is something to list.
 """
 import collections
+import json
 import pathlib
 import re
+import shutil
+import subprocess
 import sys
+import tempfile
 
 from parts import erase_list
 
 ROOT = pathlib.Path(__file__).resolve().parent.parent
 CRATES = ROOT / "crates"
+RUST = ROOT / "rust"
 PAIRS = {"(": ")", "[": "]", "{": "}"}
 
 
@@ -61,7 +70,7 @@ def code(text):
 
 
 def is_test(file):
-    crate = file.relative_to(CRATES).parts[0]
+    crate = file.relative_to(ROOT).parts[1]
     return crate.endswith("_tests") or crate in ("net_examples", "net_cases", "net_ffi") or file.name == "tests.rt"
 
 
@@ -139,15 +148,14 @@ def blocks(text):
 
 
 class Library:
-    """The public types and calls of all libraries."""
+    """The public types and calls of libraries, each by the file that is its root."""
 
-    def __init__(self):
+    def __init__(self, roots):
         self.crate_of, self.alias, self.fields, self.calls = {}, {}, collections.defaultdict(dict), {}
-        self.implementors, self.implemented = collections.defaultdict(set), set()
-        for root in sorted(CRATES.glob("*/src/lib.rt")):
-            if not is_test(root):
-                self.files = [it for it in sorted(root.parent.rglob("*.rt")) if not is_test(it)]
-                self.read(root.parent.parent.name, {it: source(it) for it in self.files})
+        self.implementors, self.implemented, self.places = collections.defaultdict(set), set(), {}
+        for root in roots:
+            files = [it for it in sorted(root.parent.rglob(f"*{root.suffix}")) if not is_test(it)]
+            self.read(root, {it: source(it) for it in files})
 
     def reached(self, file, texts):
         """The names that a user reaches by a module: its public items, and what it passes on."""
@@ -155,16 +163,18 @@ class Library:
         names = set(re.findall(r"^pub (?:struct|enum|trait|type|fn|unsafe fn) (\w+)", text, re.M))
         for it in re.findall(r"^pub use ([^;]*);", text, re.M):
             names |= set(re.findall(r"\w+", it))
-        folder = file.parent if file.name == "lib.rt" else file.with_suffix("")
-        for module in re.findall(r"^pub mod (\w+);", text, re.M):
-            if module != "laws":
-                names |= self.reached(folder / f"{module}.rt", texts)
+        folder = file.parent if file.stem in ("lib", "mod") else file.with_suffix("")
+        modules = [folder / it for it in re.findall(r"^pub mod (\w+);", text, re.M) if it != "laws"]
+        paths = re.findall(r"^pub use crate::([a-z_:]+) as", text, re.M)
+        modules += [RUST / "src" / it.replace("::", "/") for it in paths]
+        for module in modules:
+            at = module / "mod.rs"
+            names |= self.reached(at if at in texts else module.with_suffix(file.suffix), texts)
         return names
 
-    def read(self, crate, texts):
+    def read(self, root, texts):
         """Notes the types and calls of one crate."""
-        root = CRATES / crate / "src/lib.rt"
-        names = self.reached(root, texts)
+        crate, names = root.parent.parent.name, self.reached(root, texts)
         own = {}
         for file, text in texts.items():
             types = re.findall(r"^pub (struct|enum|trait|type) (\w+)(.*(?:\n.*)?)", text, re.M)
@@ -188,11 +198,14 @@ class Library:
                 if home is None:
                     if fn.is_public and fn.name in names and not fn.is_empty:
                         self.calls[crate, "", fn.name] = fn
+                        self.places["", fn.name] = file, text.count("\n", 0, fn.at)
                     continue
                 subject, trait = home[2], home[3]
                 is_ours = own.get(trait) == "trait"
                 if subject in own and (is_ours or fn.is_public and not trait):
                     self.calls[crate, subject, fn.name] = fn
+                    if trait in ("", subject):
+                        self.places[subject, fn.name] = file, text.count("\n", 0, fn.at)
                 if is_ours:
                     self.implementors[trait].add(subject)
 
@@ -330,20 +343,67 @@ def words_of_uses(text):
     return {word for it in re.findall(r"^use ([^;]*);", text, re.M) for word in re.findall(r"\w+", it)}
 
 
-def main():
-    library = Library()
+def example_of(lines, line):
+    """The examples in the doc comment of the function at a line."""
+    first = line
+    while lines[first - 1].lstrip().startswith(("///", "#[")):
+        first -= 1
+    return "".join(re.findall(r"```\n(.*?)```", "\n".join(lines[first:line]), re.S))
+
+
+def of_rust():
+    """The public calls of the Cargo crate, and those that its tests and examples name."""
+    library, named = Library([RUST / "src/lib.rs"]), set()
+    hidden = {name for file in RUST.glob("src/**/*.rs") for name in re.findall(r"struct (\w+)", source(file))}
+    hidden -= library.crate_of.keys()
+    places = {it: at for it, at in library.places.items() if not library.is_left_to_users(it[0])
+              and not hidden & set(re.findall(r"\w+", library.calls["rust", *it].params))}
+    with tempfile.TemporaryDirectory() as folder:
+        copy = pathlib.Path(folder) / "rust"
+        shutil.copytree(RUST, copy, ignore=shutil.ignore_patterns("target"))
+        for file in {file for file, _ in places.values()}:
+            lines = file.read_text().split("\n")
+            here = {line: f"{subject}::{name}" for (subject, name), (at, line) in places.items() if at == file}
+            named |= {it for it in here.items() if re.search(rf"\b{it[1].split('::')[1]}\b", example_of(lines, it[0]))}
+            mark = lambda line: f'#[deprecated(note = "{here[line]}")] ' if line in here else ""
+            marked = [mark(line) + text for line, text in enumerate(lines)]
+            (copy / file.relative_to(RUST)).write_text("\n".join(marked))
+        named = {name for _, name in named}
+        words = "cargo check --offline --quiet --tests --examples --all-features --message-format=json --target-dir"
+        done = subprocess.run([*words.split(), f"{folder}/target"], cwd=copy, capture_output=True, text=True)
+    if done.returncode:
+        sys.exit(f"the copy of the Cargo crate doesn't compile: {done.stderr}")
+    for line in done.stdout.splitlines():
+        said = json.loads(line).get("message", {})
+        files = [it["file_name"] for it in said.get("spans", ())]
+        if (said.get("code") or {}).get("code") == "deprecated" and files[0].startswith(("tests/", "examples/")):
+            named.add(said["message"].rpartition("`: ")[2])
+    return [f"{subject}::{name}" for subject, name in places], named
+
+
+def of_rattle():
+    """The public calls of the libraries, and those that tests and examples name."""
+    library = Library([it for it in sorted(CRATES.glob("*/src/lib.rt")) if not is_test(it)])
     named = set()
     for file in sorted(CRATES.glob("*/src/**/*.rt")):
         text = file.read_text() if is_test(file) else doc_examples(file)
         named |= TestFile(file, text, library).named if text else set()
-    for file in [*ROOT.glob("rust/tests/**/*.rs"), *ROOT.glob("rust/examples/**/*.rs")]:
+    for file in [*RUST.glob("tests/**/*.rs"), *RUST.glob("examples/**/*.rs")]:
         named |= TestFile(file, file.read_text(), library).named
-    calls = [it for it in library.calls if not library.is_left_to_users(it[1])]
+    return [it for it in library.calls if not library.is_left_to_users(it[1])], named
+
+
+def main():
+    calls, named = of_rattle()
     wanted = [it for it in calls if not sys.argv[1:] or it[0] in sys.argv[1:]]
-    missing = [it for it in wanted if it not in named]
-    for crate, subject, name in missing:
-        print(f"{crate}: {subject + '::' if subject else ''}{name}")
-    print(f"{len(wanted)} public functions and methods, {len(missing)} that no test or example names")
+    missing = [f"{crate}: {subject + '::' if subject else ''}{name}" for crate, subject, name in wanted
+               if (crate, subject, name) not in named]
+    count = len(wanted)
+    if not sys.argv[1:] or "rust" in sys.argv[1:]:
+        calls, named = of_rust()
+        missing += [f"rust: {it.removeprefix('::')}" for it in calls if it not in named]
+        count += len(calls)
+    print(*missing, f"{count} public functions and methods, {len(missing)} that no test or example names", sep="\n")
     return 1 if missing else 0
 
 

@@ -5,7 +5,7 @@
 static struct room head_room, runs_room;
 static struct net_base_assembler *head;
 static struct net_base_run *runs;
-static uint64_t most, base;
+static size_t most, base;
 static set positions;
 
 /* What head and runs were before the call. */
@@ -16,7 +16,7 @@ static struct net_base_run runs_before[MOST_RUNS];
 static void draw_assembler(void) {
     most = below(MOST_RUNS + 1);
     base = once_in(4) ? any_number() : 0;
-    if (base > UINT64_MAX - POSITIONS) base = UINT64_MAX - POSITIONS;
+    if (base > SIZE_MAX - POSITIONS) base = SIZE_MAX - POSITIONS;
     head = (struct net_base_assembler *)(void *)take_room(&head_room, sizeof *head);
     runs = (struct net_base_run *)(void *)take_room(&runs_room, most * sizeof *runs);
     positions = draw_set(POSITIONS, most);
@@ -37,19 +37,19 @@ static bool rooms_are_whole(void) {
     return room_is_whole(&head_room) && room_is_whole(&runs_room);
 }
 
-static bool front_is(struct net_base_front_length front, uint32_t status, uint64_t length) {
+static bool front_is(struct net_base_front_length front, uint32_t status, size_t length) {
     return front.status == status && front.length == length;
 }
 
 /* A range, by its offset; `start` is counted from `base`. */
 struct range {
-    uint64_t offset, start, size;
+    size_t offset, start, size;
 };
 
 /* Draws a range below base + POSITIONS. */
 static struct range draw_range(void) {
-    uint64_t start = once_in(4) ? 0 : below(POSITIONS + 1);
-    uint64_t size = below(POSITIONS + 1 - start);
+    size_t start = once_in(4) ? 0 : below(POSITIONS + 1);
+    size_t size = below(POSITIONS + 1 - start);
     if (size > 0 && once_in(2)) size = 1 + below(size);
     return (struct range){base + start, start, size};
 }
@@ -70,7 +70,7 @@ static void fuzz_add(void) {
 }
 
 /* The front of a set that is counted from `base`. */
-static uint64_t front_from_zero(set of) {
+static size_t front_from_zero(set of) {
     return base == 0 ? front_of(of) : 0;
 }
 
@@ -83,43 +83,43 @@ static void fuzz_add_then_remove_front(void) {
         EXPECT(front_is(front, NET_BASE_TOO_MANY_RUNS, 0) && is_unchanged());
         return;
     }
-    uint64_t wanted = front_from_zero(with_range);
+    size_t wanted = front_from_zero(with_range);
     EXPECT(front_is(front, NET_BASE_DONE, wanted));
     EXPECT(stores(head, runs, shifted_down(with_range, wanted), base));
 }
 
 static void fuzz_remove_front(void) {
-    uint64_t wanted = front_from_zero(positions);
+    size_t wanted = front_from_zero(positions);
     EXPECT(front_is(net_base_assembler_remove_front(head, runs, most), NET_BASE_DONE, wanted));
     EXPECT(stores(head, runs, shifted_down(positions, wanted), base));
 }
 
 static void fuzz_shift(void) {
-    uint64_t count = once_in(4) ? mostly_within(base) : base + below(POSITIONS + 2);
+    size_t count = once_in(4) ? mostly_within(base) : base + below(POSITIONS + 2);
     EXPECT(net_base_assembler_shift(head, runs, most, count));
     if (count <= base) {
         EXPECT(stores(head, runs, positions, base - count));
         return;
     }
-    uint64_t by = count - base;
+    size_t by = count - base;
     EXPECT(stores(head, runs, by < POSITIONS ? shifted_down(positions, by) : 0, 0));
 }
 
 static void fuzz_peek_front(void) {
-    uint64_t wanted = front_from_zero(positions);
+    size_t wanted = front_from_zero(positions);
     EXPECT(front_is(net_base_assembler_peek_front(head, runs, most), NET_BASE_DONE, wanted));
     EXPECT(is_unchanged());
 }
 
 static void fuzz_contains(void) {
-    uint64_t at = below(POSITIONS);
+    size_t at = below(POSITIONS);
     uint32_t wanted = positions >> at & 1 ? NET_BASE_PRESENT : NET_BASE_MISSING;
     EXPECT(net_base_assembler_contains(head, runs, most, base + at) == wanted && is_unchanged());
 }
 
 /* A range whose end is not below 2^64 is refused. */
 static void fuzz_long_range(void) {
-    uint64_t offset = UINT64_MAX - below(POSITIONS), size = UINT64_MAX - offset + 1 + below(POSITIONS);
+    size_t offset = SIZE_MAX - below(POSITIONS), size = SIZE_MAX - offset + 1 + below(POSITIONS);
     if (once_in(2)) {
         EXPECT(net_base_assembler_add(head, runs, most, offset, size) == NET_BASE_REFUSED);
     } else {
@@ -130,26 +130,26 @@ static void fuzz_long_range(void) {
     EXPECT(is_unchanged());
 }
 
-static bool run_is(struct net_base_run run, uint64_t start, uint64_t end) {
+static bool run_is(struct net_base_run run, size_t start, size_t end) {
     return run.start == start && run.end == end;
 }
 
 static void fuzz_run_at(void) {
-    uint64_t number = mostly_within(most);
+    size_t number = mostly_within(most);
     struct net_base_run run = net_base_assembler_run_at(head, runs, most, number);
     set left = positions;
-    for (uint64_t i = 0; i < number && left != 0; i++) left &= ~first_run(left);
-    uint64_t start = start_of(left), end = start + front_of(shifted_down(left, start));
+    for (size_t i = 0; i < number && left != 0; i++) left &= ~first_run(left);
+    size_t start = start_of(left), end = start + front_of(shifted_down(left, start));
     EXPECT(left == 0 ? run_is(run, 0, 0) : run_is(run, base + start, base + end));
     EXPECT(is_unchanged());
 }
 
 /* A hole is before each run, but not before one at 0. */
 static void fuzz_hole_at(void) {
-    uint64_t number = mostly_within(most), from = 0, end = 0;
+    size_t number = mostly_within(most), from = 0, end = 0;
     struct net_base_run hole = net_base_assembler_hole_at(head, runs, most, number);
     for (set left = positions; left != 0; left &= ~first_run(left)) {
-        uint64_t start = start_of(left);
+        size_t start = start_of(left);
         end = base + start;
         if (end > from && number-- == 0) break;
         from = end + front_of(shifted_down(left, start));
@@ -181,23 +181,23 @@ static void spoil(void) {
 /* Writes a number of runs that there is no room for, over any runs. */
 static void spoil_used(void) {
     if (once_in(2)) spoil();
-    head->used = once_in(2) ? most + 1 + below(MOST_RUNS) : UINT64_MAX - below(MOST_RUNS);
+    head->used = once_in(2) ? most + 1 + below(MOST_RUNS) : SIZE_MAX - below(MOST_RUNS);
 }
 
 /* Whether head and runs are an assembler's: runs with holes between them, the first at 0. */
 static bool is_sound(void) {
     if (head->used > most) return false;
-    for (uint64_t i = 0; i < head->used; i++) {
+    for (size_t i = 0; i < head->used; i++) {
         if (runs[i].end <= runs[i].start) return false;
         if (i == 0 ? runs[0].start != 0 : runs[i].start <= runs[i - 1].end) return false;
     }
-    return head->used == 0 || runs[head->used - 1].end <= UINT64_MAX - head->first_start;
+    return head->used == 0 || runs[head->used - 1].end <= SIZE_MAX - head->first_start;
 }
 
 /* Calls an export with any numbers, and returns whether it refused. */
 static bool call_any(void) {
     struct net_base_front_length front;
-    uint64_t offset = any_number(), size = any_number();
+    size_t offset = any_number(), size = any_number();
     switch (below(8)) {
     case 0: return net_base_assembler_add(head, runs, most, offset, size) == NET_BASE_REFUSED;
     case 1:
@@ -207,8 +207,8 @@ static bool call_any(void) {
     case 3: return front_is(net_base_assembler_peek_front(head, runs, most), NET_BASE_REFUSED, 0);
     case 4: return net_base_assembler_contains(head, runs, most, offset) == NET_BASE_REFUSED;
     case 5: return !net_base_assembler_shift(head, runs, most, offset);
-    case 6: return run_is(net_base_assembler_hole_at(head, runs, most, size), UINT64_MAX, UINT64_MAX);
-    default: return run_is(net_base_assembler_run_at(head, runs, most, size), UINT64_MAX, UINT64_MAX);
+    case 6: return run_is(net_base_assembler_hole_at(head, runs, most, size), SIZE_MAX, SIZE_MAX);
+    default: return run_is(net_base_assembler_run_at(head, runs, most, size), SIZE_MAX, SIZE_MAX);
     }
 }
 

@@ -6,7 +6,7 @@ static struct room head_room, storage_room, runs_room, data_room;
 static struct net_base_fragments *head, head_before;
 static uint8_t *storage, storage_before[MOST_BYTES];
 static struct net_base_run *runs, runs_before[MOST_RUNS];
-static uint64_t capacity, most;
+static size_t capacity, most;
 static set present;
 /* Whether the head can be one of a buffer of these lengths. */
 static bool has_runs, has_size;
@@ -27,7 +27,7 @@ static void draw_fragments(void) {
     has_runs = !once_in(12);
     if (!has_runs) head->present.used = most + 1 + below(3);
     has_size = !(head->has_total && once_in(12));
-    if (!has_size) head->total = once_in(2) ? capacity + 1 + below(3) : UINT64_MAX - below(3);
+    if (!has_size) head->total = once_in(2) ? capacity + 1 + below(3) : SIZE_MAX - below(3);
     head_before = *head;
     memcpy(storage_before, storage, capacity);
     memcpy(runs_before, runs, most * sizeof *runs);
@@ -55,7 +55,7 @@ static void fuzz_reset(void) {
 }
 
 static void fuzz_add(void) {
-    uint64_t offset = mostly_within(capacity), size = below(MOST_BYTES + 1);
+    size_t offset = mostly_within(capacity), size = below(MOST_BYTES + 1);
     if (offset <= capacity && !once_in(8)) size = below(capacity - offset + 1);
     const uint8_t *data = take_room(&data_room, size);
     uint32_t status = net_base_fragments_add(head, storage, capacity, runs, most, offset, data, size);
@@ -81,7 +81,7 @@ static void fuzz_add(void) {
 }
 
 static void fuzz_set_total_size(void) {
-    uint64_t size = once_in(2) && has_size ? head->total : mostly_within(capacity);
+    size_t size = once_in(2) && has_size ? head->total : mostly_within(capacity);
     uint32_t status = net_base_fragments_set_total_size(head, capacity, size);
     if (size > capacity || (head_before.has_total && head_before.total != size)) {
         EXPECT(status == (size > capacity ? NET_BASE_TOO_LONG : NET_BASE_OTHER_SIZE) && is_unchanged());
@@ -94,9 +94,9 @@ static void fuzz_set_total_size(void) {
 }
 
 static void fuzz_overlaps(void) {
-    uint64_t offset = mostly_within(capacity), count = mostly_within(capacity);
+    size_t offset = mostly_within(capacity), count = mostly_within(capacity);
     bool meets = false;
-    for (uint64_t at = 0; at < POSITIONS; at++) meets |= at >= offset && at - offset < count && present >> at & 1;
+    for (size_t at = 0; at < POSITIONS; at++) meets |= at >= offset && at - offset < count && present >> at & 1;
     uint32_t status = net_base_fragments_overlaps(head, runs, most, offset, count);
     EXPECT(status == (!has_runs ? NET_BASE_REFUSED : meets ? NET_BASE_PRESENT : NET_BASE_MISSING));
     EXPECT(is_unchanged());

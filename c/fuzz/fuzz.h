@@ -48,6 +48,7 @@ void fuzz_assembler(void);
 void fuzz_receiver(void);
 void fuzz_sender(void);
 void fuzz_scoreboard(void);
+void fuzz_ending(void);
 void fuzz_fragments(void);
 void fuzz_tcp(void);
 void fuzz_time(void);

@@ -97,7 +97,7 @@ static void on_fault(int signal) {
 }
 
 static void (*const SUBJECTS[])(void) = {
-    fuzz_ring, fuzz_packets, fuzz_assembler, fuzz_receiver, fuzz_sender, fuzz_scoreboard,
+    fuzz_ring, fuzz_packets, fuzz_assembler, fuzz_receiver, fuzz_sender, fuzz_scoreboard, fuzz_ending,
     fuzz_fragments, fuzz_tcp, fuzz_time, fuzz_sequence_number, fuzz_rand};
 enum { SUBJECT_COUNT = sizeof SUBJECTS / sizeof SUBJECTS[0] };
 

@@ -1,8 +1,5 @@
-/* Moments, sequence numbers and the generator, by numbers of 128 bits and by
- * their definitions. */
+/* Moments, sequence numbers and the generator, by their definitions. */
 #include "fuzz.h"
-
-__extension__ typedef __int128 wide;
 
 static struct room room;
 
@@ -11,25 +8,18 @@ static uint64_t *take_number(void) {
     return (uint64_t *)(void *)take_room(&room, sizeof(uint64_t));
 }
 
-/* Expects that a result was written if there is one, and that nothing was if there is none. */
-static void expect_result(bool done, bool right, const uint64_t *at, uint64_t before, wide wanted) {
-    EXPECT(done == right);
-    EXPECT(*at == (right ? (uint64_t)wanted : before));
-    EXPECT(room_is_whole(&room));
-}
-
 static void fuzz_instant_saturating_add(void) {
     int64_t instant = (int64_t)any_number();
     uint64_t duration = any_number();
-    wide sum = (wide)instant + duration;
-    EXPECT(net_base_instant_saturating_add(instant, duration) == (sum > INT64_MAX ? INT64_MAX : sum));
+    int64_t sum;
+    if (__builtin_add_overflow(instant, duration, &sum)) sum = INT64_MAX;
+    EXPECT(net_base_instant_saturating_add(instant, duration) == sum);
 }
 
 static void fuzz_instant_distance(void) {
     int64_t one = (int64_t)any_number(), other = (int64_t)any_number();
-    wide difference = (wide)one - other;
-    wide wanted = difference < 0 ? -difference : difference;
-    EXPECT(net_base_instant_distance(one, other) == (uint64_t)wanted);
+    uint64_t up = (uint64_t)other - (uint64_t)one, down = (uint64_t)one - (uint64_t)other;
+    EXPECT(net_base_instant_distance(one, other) == (one < other ? up : down));
 }
 
 void fuzz_time(void) {
@@ -39,28 +29,29 @@ void fuzz_time(void) {
         fuzz_instant_distance();
 }
 
-static const uint64_t NUMBERS = (uint64_t)1 << 32;
+static const int64_t NUMBERS = (int64_t)1 << 32;
 
-/* Returns the position near `next` that has a number, or -1: it is looked for among the three that
- * are nearest. */
-static wide position_of(uint32_t number, uint32_t initial, uint64_t next) {
-    wide low = (wide)next - (wide)(next % NUMBERS) - (wide)initial + (wide)number;
-    for (int i = -2; i <= 2; i++) {
-        wide at = low + i * (wide)NUMBERS;
-        if (at < (wide)next - (wide)(NUMBERS / 2) || at >= (wide)next + (wide)(NUMBERS / 2)) continue;
-        return 0 <= at && at <= UINT64_MAX ? at : -1;
+/* Writes the position near `next` that has a number, if there is one: it is looked for among those around `next`. */
+static bool find_position(uint32_t number, uint32_t initial, uint64_t next, uint64_t *position) {
+    for (int64_t i = -2; i <= 2; i++) {
+        int64_t away = i * NUMBERS + number - (int64_t)initial - (int64_t)(next % (uint64_t)NUMBERS);
+        if (away < -NUMBERS / 2 || away >= NUMBERS / 2) continue;
+        uint64_t at = next + (uint64_t)away;
+        bool is_position = away < 0 ? at < next : at >= next;
+        if (is_position) *position = at;
+        return is_position;
     }
-    return -1;
+    return false;
 }
 
 void fuzz_sequence_number(void) {
     uint32_t one = (uint32_t)any_number(), other = (uint32_t)any_number();
     if (once_in(4)) other = one + (uint32_t)below(5) - 2;
     if (once_in(4)) other = one + (uint32_t)(NUMBERS / 2) + (uint32_t)below(5) - 2;
-    uint64_t near = any_number(), *at = take_number(), before = *at;
-    wide wanted = position_of(one, other, near);
-    bool done = net_base_sequence_number_position(one, other, near, at);
-    expect_result(done, wanted >= 0, at, before, wanted);
+    uint64_t near = any_number(), *at = take_number(), wanted = *at;
+    bool is_found = find_position(one, other, near, &wanted);
+    EXPECT(net_base_sequence_number_position(one, other, near, at) == is_found);
+    EXPECT(*at == wanted && room_is_whole(&room));
 }
 
 static uint64_t successor(uint64_t state) {

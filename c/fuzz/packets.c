@@ -8,17 +8,17 @@
 static struct room head_room, slots_room, slot_room;
 static struct net_base_packets *head, before;
 static struct net_base_packet_slot *slots, slots_before[MOST_RUNS];
-static uint64_t slot_count, capacity;
+static size_t slot_count, capacity;
 
 /* What is returned if there is no room or no packet, and if the call is refused. */
-static const struct net_base_packet_place NO_ROOM = {0, UINT64_MAX, UINT64_MAX, UINT64_MAX};
-static const struct net_base_packet_place NONSENSE = {UINT64_MAX, UINT64_MAX, UINT64_MAX, UINT64_MAX};
-static const struct net_base_first_packet NO_PACKET = {0, UINT64_MAX, UINT64_MAX, 0};
-static const struct net_base_first_packet NO_FIRST = {UINT64_MAX, UINT64_MAX, UINT64_MAX, 0};
+static const struct net_base_packet_place NO_ROOM = {0, SIZE_MAX, SIZE_MAX, SIZE_MAX};
+static const struct net_base_packet_place NONSENSE = {SIZE_MAX, SIZE_MAX, SIZE_MAX, SIZE_MAX};
+static const struct net_base_first_packet NO_PACKET = {0, SIZE_MAX, SIZE_MAX, 0};
+static const struct net_base_first_packet NO_FIRST = {SIZE_MAX, SIZE_MAX, SIZE_MAX, 0};
 
 /* Makes one number of the head or of a slot any number. */
 static void spoil(void) {
-    uint64_t kind = below(4);
+    size_t kind = below(4);
     if (kind == 0) head->slots = draw_place(slot_count);
     if (kind == 1) head->bytes = draw_place(capacity);
     if (slot_count == 0 || kind < 2) return;
@@ -34,14 +34,14 @@ static void draw_packets(void) {
     head = (struct net_base_packets *)(void *)take_room(&head_room, sizeof *head);
     slots = (struct net_base_packet_slot *)(void *)take_room(&slots_room, slot_count * sizeof *slots);
     *head = (struct net_base_packets){{0, 0}, {0, 0}};
-    for (uint64_t calls = below(16); calls > 0; calls--) {
+    for (size_t calls = below(16); calls > 0; calls--) {
         if (once_in(3)) net_base_packets_dequeue(head, slots, slot_count, capacity);
         else net_base_packets_enqueue(head, slots, slot_count, capacity, below(capacity / 2 + 2));
     }
     EXPECT(net_base_packets_is_sound(head, slots, slot_count, capacity));
-    for (uint64_t times = once_in(2) ? below(4) : 0; times > 0; times--) spoil();
+    for (size_t times = once_in(2) ? below(4) : 0; times > 0; times--) spoil();
     before = *head;
-    for (uint64_t i = 0; i < slot_count; i++) slots_before[i] = slots[i];
+    for (size_t i = 0; i < slot_count; i++) slots_before[i] = slots[i];
 }
 
 static bool is_sound_head(void) {
@@ -57,7 +57,7 @@ static bool head_is(struct net_base_ring of_slots, struct net_base_ring of_bytes
 }
 
 static bool slots_are(const struct net_base_packet_slot *wanted) {
-    for (uint64_t i = 0; i < slot_count; i++) {
+    for (size_t i = 0; i < slot_count; i++) {
         if (slots[i].size != wanted[i].size || slots[i].is_gap != wanted[i].is_gap) return false;
     }
     return true;
@@ -68,7 +68,7 @@ static bool is_unchanged(void) {
 }
 
 /* Whether a slot can be that of the bytes from one of those in use on. */
-static bool can_stand(const struct list *bytes, uint64_t at, struct net_base_packet_slot slot) {
+static bool can_stand(const struct list *bytes, size_t at, struct net_base_packet_slot slot) {
     if (slot.size > bytes->queued - at) return false;
     if (span_of(bytes, at, bytes->queued, slot.size).contiguous < slot.size) return false;
     return slot.is_gap == 0 || (slot.size > 0 && bytes->indices[at + slot.size - 1] == capacity - 1);
@@ -78,8 +78,8 @@ static void fuzz_is_sound(void) {
     bool sound = is_sound_head();
     if (sound) {
         struct list order = list_of(before.slots, slot_count), bytes = list_of(before.bytes, capacity);
-        uint64_t at = 0, gaps = 0;
-        for (uint64_t i = 0; sound && i < order.queued; i++) {
+        size_t at = 0, gaps = 0;
+        for (size_t i = 0; sound && i < order.queued; i++) {
             struct net_base_packet_slot slot = slots_before[order.indices[i]];
             gaps = slot.is_gap == 0 ? 0 : gaps + 1;
             sound = can_stand(&bytes, at, slot) && gaps < 2;
@@ -91,14 +91,14 @@ static void fuzz_is_sound(void) {
 }
 
 /* Where a packet of `size` bytes goes. */
-static struct net_base_packet_place place_of(uint64_t size) {
+static struct net_base_packet_place place_of(size_t size) {
     if (!is_sound_head()) return NONSENSE;
     struct list order = list_of(before.slots, slot_count);
     struct list bytes = list_of(rewound(before.bytes), capacity);
-    uint64_t free = bytes.all - bytes.queued, gap = 0;
-    uint64_t contiguous = span_of(&bytes, bytes.queued, bytes.all, free).contiguous;
+    size_t free = bytes.all - bytes.queued, gap = 0;
+    size_t contiguous = span_of(&bytes, bytes.queued, bytes.all, free).contiguous;
     if (size > contiguous) gap = contiguous;
-    uint64_t used = gap > 0 ? 2 : 1;
+    size_t used = gap > 0 ? 2 : 1;
     if (size > contiguous && size > free - contiguous) return NO_ROOM;
     if (used > order.all - order.queued) return NO_ROOM;
     return (struct net_base_packet_place){gap, index_at(&order, order.queued),
@@ -106,10 +106,10 @@ static struct net_base_packet_place place_of(uint64_t size) {
 }
 
 /* Whether a packet is there, and the head is that of a queue with it. */
-static bool is_placed(struct net_base_packet_place place, uint64_t size) {
+static bool is_placed(struct net_base_packet_place place, size_t size) {
     struct net_base_packet_place wanted = place_of(size);
     struct net_base_ring of_slots = before.slots, of_bytes = before.bytes;
-    if (wanted.from != UINT64_MAX) {
+    if (wanted.from != SIZE_MAX) {
         of_bytes = rewound(of_bytes);
         of_slots.length += wanted.gap > 0 ? 2 : 1;
         of_bytes.length += wanted.gap + size;
@@ -119,10 +119,10 @@ static bool is_placed(struct net_base_packet_place place, uint64_t size) {
 }
 
 static void fuzz_enqueue(void) {
-    uint64_t size = mostly_within(capacity);
+    size_t size = mostly_within(capacity);
     struct net_base_packet_place place = net_base_packets_enqueue(head, slots, slot_count, capacity, size);
     EXPECT(is_placed(place, size));
-    if (place.from != UINT64_MAX) {
+    if (place.from != SIZE_MAX) {
         if (place.gap > 0) slots_before[place.gap_slot] = (struct net_base_packet_slot){place.gap, 1};
         slots_before[place.slot] = (struct net_base_packet_slot){size, 0};
     }
@@ -135,7 +135,7 @@ static struct net_base_first_packet first_of(struct net_base_packets *after) {
     if (!is_sound_head()) return NO_FIRST;
     if (before.slots.length == 0) return NO_PACKET;
     struct list order = list_of(before.slots, slot_count), bytes = list_of(before.bytes, capacity);
-    uint64_t gap = 0, used = 0;
+    size_t gap = 0, used = 0;
     if (slots_before[order.indices[0]].is_gap != 0) {
         if (!can_stand(&bytes, 0, slots_before[order.indices[0]])) return NO_FIRST;
         gap = slots_before[order.indices[0]].size;
@@ -179,7 +179,7 @@ static struct net_base_packet_slot *draw_slot(void) {
 
 static void fuzz_take_slot(void) {
     struct net_base_packet_slot *slot = draw_slot(), first = *slot;
-    uint64_t from = net_base_packets_take_slot(head, slot_count, capacity, slot);
+    size_t from = net_base_packets_take_slot(head, slot_count, capacity, slot);
     EXPECT(slot->size == first.size && slot->is_gap == first.is_gap && slots_are(slots_before));
     struct list bytes, order;
     bool done = is_sound_head() && before.slots.length > 0;
@@ -189,7 +189,7 @@ static void fuzz_take_slot(void) {
         done = can_stand(&bytes, 0, first);
     }
     if (!done) {
-        EXPECT(from == UINT64_MAX && is_unchanged());
+        EXPECT(from == SIZE_MAX && is_unchanged());
         return;
     }
     EXPECT(from == before.bytes.read_at);
@@ -197,19 +197,19 @@ static void fuzz_take_slot(void) {
         (struct net_base_ring){index_at(&bytes, first.size), before.bytes.length - first.size}));
 }
 
-static bool can_shorten(struct net_base_packet_slot last, uint64_t count) {
+static bool can_shorten(struct net_base_packet_slot last, size_t count) {
     if (before.slots.length == 0 || last.is_gap != 0) return false;
     return count <= last.size && last.size <= before.bytes.length;
 }
 
 static void fuzz_shorten_last(void) {
-    uint64_t count = mostly_within(capacity / 2), at = UINT64_MAX;
+    size_t count = mostly_within(capacity / 2), at = SIZE_MAX;
     if (is_sound_head() && before.slots.length > 0) {
         struct list order = list_of(before.slots, slot_count);
         at = order.indices[order.queued - 1];
     }
     bool done = net_base_packets_shorten_last(head, slots, slot_count, capacity, count);
-    EXPECT(done == (at != UINT64_MAX && can_shorten(slots_before[at], count)));
+    EXPECT(done == (at != SIZE_MAX && can_shorten(slots_before[at], count)));
     struct net_base_ring shorter = before.bytes;
     if (done) {
         shorter.length -= count;
@@ -226,21 +226,21 @@ static void fuzz_clear(void) {
 /* Packets of one queue, as a list of what was written to each. */
 static void fuzz_queue(void) {
     uint8_t written[MOST_RUNS][MOST_BYTES], storage[MOST_BYTES];
-    uint64_t sizes[MOST_RUNS], first = 0, last = 0;
+    size_t sizes[MOST_RUNS], first = 0, last = 0;
     net_base_packets_clear(head);
-    for (uint64_t calls = below(40); calls > 0; calls--) {
+    for (size_t calls = below(40); calls > 0; calls--) {
         struct net_base_first_packet packet = net_base_packets_peek(head, slots, slot_count, capacity);
-        EXPECT((packet.slot == UINT64_MAX) == (first == last) && packet.gap != UINT64_MAX);
+        EXPECT((packet.slot == SIZE_MAX) == (first == last) && packet.gap != SIZE_MAX);
         if (once_in(2)) {
-            uint64_t size = below(capacity / 2 + 2), fewer;
+            size_t size = below(capacity / 2 + 2), fewer;
             struct net_base_packet_place place =
                 net_base_packets_enqueue(head, slots, slot_count, capacity, size);
-            if (place.from == UINT64_MAX) continue;
+            if (place.from == SIZE_MAX) continue;
             fewer = once_in(2) ? below(size + 1) : 0;
             EXPECT(!net_base_packets_shorten_last(head, slots, slot_count, capacity, size + 1));
             EXPECT(net_base_packets_shorten_last(head, slots, slot_count, capacity, fewer));
             sizes[last % MOST_RUNS] = size - fewer;
-            for (uint64_t i = 0; i < size - fewer; i++) {
+            for (size_t i = 0; i < size - fewer; i++) {
                 storage[place.from + i] = written[last % MOST_RUNS][i] = (uint8_t)draw();
             }
             last++;

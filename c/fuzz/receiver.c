@@ -4,14 +4,12 @@
 #include "sets.h"
 #include <string.h>
 
-__extension__ typedef unsigned __int128 wide;
-
 static struct room head_room, storage_room, runs_room, bytes_room, result_room;
 static struct room recent_room, listed_room;
 static struct net_base_receiver *head, head_before;
 static struct net_base_run *runs, runs_before[MOST_RUNS];
 static uint8_t *storage, *bytes, stored[MOST_BYTES], given[MOST_BYTES];
-static uint64_t capacity, most, size;
+static size_t capacity, most, size;
 
 /* The positions that are held, counted from the first missing one. */
 static set held;
@@ -77,9 +75,13 @@ static void draw_head(void) {
     remember();
 }
 
+/* Whether a sum of three numbers fits 64 bits. */
+static bool fits(uint64_t one, uint64_t two, uint64_t three) {
+    return two <= UINT64_MAX - one && three <= UINT64_MAX - one - two;
+}
+
 static bool has_next(void) {
-    return (wide)head_before.first + head_before.count_read + head_before.place.length
-           <= UINT64_MAX;
+    return fits(head_before.first, head_before.count_read, head_before.place.length);
 }
 
 static bool is_readable(void) {
@@ -195,7 +197,7 @@ static bool run_is(struct net_base_held_run run, uint64_t start, uint64_t end) {
 
 static void fuzz_run_at(void) {
     draw_receiver();
-    uint64_t number = mostly_within(most);
+    size_t number = mostly_within(most);
     bool refused = once_in(4);
     if (refused) spoil();
     remember();
@@ -257,19 +259,19 @@ static void fuzz_read(void) {
     if (is_readable())
         EXPECT(count == copied() && is_read(count));
     else
-        EXPECT(count == UINT64_MAX && is_unchanged());
+        EXPECT(count == NET_BASE_NONE && is_unchanged());
 }
 
 static void fuzz_peek_slice(void) {
     draw_head();
     uint64_t count = net_base_receiver_peek_slice(head, storage, capacity, bytes, size);
-    uint64_t wanted = is_sound_place(head_before.place, capacity) ? copied() : UINT64_MAX;
+    uint64_t wanted = is_sound_place(head_before.place, capacity) ? copied() : NET_BASE_NONE;
     EXPECT(count == wanted && is_unchanged());
 }
 
 static void fuzz_remove(void) {
     draw_head();
-    uint64_t count = mostly_within(head->place.length);
+    size_t count = mostly_within(head->place.length);
     bool done = net_base_receiver_remove(head, capacity, count);
     EXPECT(done == (is_readable() && count <= head_before.place.length));
     EXPECT(done ? is_read(count) : is_unchanged());
@@ -284,20 +286,19 @@ static void fuzz_next(void) {
 
 static void fuzz_window(void) {
     draw_head();
-    uint64_t of = once_in(4) ? any_number() : capacity;
-    bool right = of < UINT64_MAX && head->place.length <= of;
-    EXPECT(net_base_receiver_window(head, of) == (right ? of - head->place.length : UINT64_MAX));
+    size_t of = once_in(4) ? any_number() : capacity;
+    bool right = of < NET_BASE_NONE && head->place.length <= of;
+    EXPECT(net_base_receiver_window(head, of) == (right ? of - head->place.length : NET_BASE_NONE));
     EXPECT(is_unchanged());
 }
 
 static void fuzz_window_end(void) {
     draw_head();
-    uint64_t of = once_in(4) ? any_number() : capacity;
+    size_t of = once_in(4) ? any_number() : capacity;
     uint64_t *end = (uint64_t *)(void *)result_room.bytes, before = *end;
-    wide wanted = (wide)head_before.first + head_before.count_read + of;
-    bool right = head->place.length <= of && wanted <= UINT64_MAX;
+    bool right = head->place.length <= of && fits(head_before.first, head_before.count_read, of);
     EXPECT(net_base_receiver_window_end(head, of, end) == right && is_unchanged());
-    EXPECT(*end == (right ? (uint64_t)wanted : before));
+    EXPECT(*end == (right ? head_before.first + head_before.count_read + of : before));
 }
 
 enum { MOST_LISTED = 4 };
@@ -353,7 +354,7 @@ static void fuzz_newest_runs(void) {
         recent, recent_count, listed, listed_size);
     EXPECT(is_unchanged());
     if (refused) {
-        EXPECT(count == UINT64_MAX && list_is_unchanged(0));
+        EXPECT(count == NET_BASE_NONE && list_is_unchanged(0));
         EXPECT(memcmp(recent, recent_before, recent_count * sizeof *recent) == 0);
         return;
     }
@@ -365,18 +366,17 @@ static void fuzz_newest_runs(void) {
 static void fuzz_count_new(void) {
     draw_receiver();
     uint64_t position = draw_position(), count = 0;
-    uint64_t length = once_in(4) ? any_number() : size;
+    size_t length = once_in(4) ? any_number() : size;
     bool refused = once_in(4);
     if (refused) spoil();
     remember();
-    wide end = (wide)position + length;
-    for (uint64_t i = 0; !refused && i < window(); i++) {
-        wide at = (wide)next_position() + i;
-        count += position <= at && at < end && (held >> i & 1) == 0;
+    for (uint64_t i = 0; !refused && i < positions(); i++) {
+        uint64_t at = next_position() + i;
+        count += position <= at && at - position < length && (held >> i & 1) == 0;
     }
-    bool right = !refused && end <= UINT64_MAX;
+    bool right = !refused && fits(position, length, 0);
     EXPECT(net_base_receiver_count_new(head, storage, capacity, runs, most, position, length)
-           == (right ? count : UINT64_MAX));
+           == (right ? count : NET_BASE_NONE));
     EXPECT(is_unchanged());
 }
 

@@ -5,17 +5,17 @@
 static struct room place_room, storage_room, data_room;
 static struct net_base_ring *place;
 static struct net_base_ring before;
-static uint64_t capacity;
+static size_t capacity;
 
 static bool is_span(struct net_base_span one, struct net_base_span other) {
     return one.from == other.from && one.count == other.count && one.contiguous == other.contiguous;
 }
 
 static bool is_refusal(struct net_base_span span) {
-    return is_span(span, (struct net_base_span){UINT64_MAX, 0, 0});
+    return is_span(span, (struct net_base_span){SIZE_MAX, 0, 0});
 }
 
-static bool place_is(uint64_t read_at, uint64_t length) {
+static bool place_is(size_t read_at, size_t length) {
     return place->read_at == read_at && place->length == length;
 }
 
@@ -32,7 +32,7 @@ static void draw_ring(void) {
 
 static void fuzz_views(void) {
     bool sound = is_sound_place(before, capacity);
-    uint64_t offset = mostly_within(MOST_BYTES), size = mostly_within(MOST_BYTES);
+    size_t offset = mostly_within(MOST_BYTES), size = mostly_within(MOST_BYTES);
     bool free = once_in(2);
     struct net_base_span span = free ? net_base_ring_unallocated(place, capacity, offset, size)
                                 : net_base_ring_allocated(place, capacity, offset, size);
@@ -42,7 +42,7 @@ static void fuzz_views(void) {
         return;
     }
     struct list list = list_of(before, capacity);
-    uint64_t begin = free ? list.queued : 0, end = free ? list.all : list.queued;
+    size_t begin = free ? list.queued : 0, end = free ? list.all : list.queued;
     EXPECT(is_span(span, span_of(&list, begin + least(offset, end - begin), end, size)));
 }
 
@@ -52,7 +52,7 @@ static void fuzz_is_sound(void) {
 }
 
 static void fuzz_counts(void) {
-    uint64_t count = mostly_within(capacity);
+    size_t count = mostly_within(capacity);
     bool enqueue = once_in(2);
     bool done = enqueue ? net_base_ring_enqueue(place, capacity, count)
                         : net_base_ring_dequeue(place, capacity, count);
@@ -72,10 +72,10 @@ static void fuzz_counts(void) {
 
 static void fuzz_one(void) {
     bool enqueue = once_in(2);
-    uint64_t index =
+    size_t index =
         enqueue ? net_base_ring_enqueue_one(place, capacity) : net_base_ring_dequeue_one(place, capacity);
     if (!is_sound_place(before, capacity) || before.length == (enqueue ? capacity : 0)) {
-        EXPECT(index == UINT64_MAX);
+        EXPECT(index == SIZE_MAX);
         EXPECT(is_unchanged());
         return;
     }
@@ -88,7 +88,7 @@ static void fuzz_one(void) {
 }
 
 static void fuzz_put(void) {
-    uint64_t size = mostly_within(MOST_BYTES);
+    size_t size = mostly_within(MOST_BYTES);
     bool whole = once_in(2);
     struct net_base_span span = whole ? net_base_ring_enqueue_span(place, capacity, size)
                                       : net_base_ring_enqueue_many(place, capacity, size);
@@ -106,7 +106,7 @@ static void fuzz_put(void) {
 }
 
 static void fuzz_take(void) {
-    uint64_t size = mostly_within(MOST_BYTES);
+    size_t size = mostly_within(MOST_BYTES);
     bool whole = once_in(2);
     struct net_base_span span = whole ? net_base_ring_dequeue_span(place, capacity, size)
                                       : net_base_ring_dequeue_many(place, capacity, size);
@@ -123,7 +123,7 @@ static void fuzz_take(void) {
 }
 
 static void fuzz_drop_last(void) {
-    uint64_t count = mostly_within(capacity);
+    size_t count = mostly_within(capacity);
     bool done = net_base_ring_drop_last(place, count);
     EXPECT(done == (count <= before.length));
     EXPECT(place_is(before.read_at, before.length - (done ? count : 0)));
@@ -141,27 +141,27 @@ static void fuzz_rewind(void) {
 }
 
 /* The index that is `count` elements after a place's, by arithmetic that doesn't wrap, of any capacity. */
-static uint64_t index_after(struct net_base_ring it, uint64_t count) {
+static size_t index_after(struct net_base_ring it, size_t count) {
     if (capacity == 0) return 0;
-    uint64_t at = it.read_at % capacity, to_end = capacity - at;
+    size_t at = it.read_at % capacity, to_end = capacity - at;
     count %= capacity;
     return count < to_end ? at + count : count - to_end;
 }
 
-static struct net_base_span span_after(struct net_base_ring it, uint64_t count, uint64_t size) {
-    uint64_t from = index_after(it, count);
+static struct net_base_span span_after(struct net_base_ring it, size_t count, size_t size) {
+    size_t from = index_after(it, count);
     return (struct net_base_span){from, size, least(size, capacity - from)};
 }
 
 /* A call that takes only numbers, at any capacity. */
 static void fuzz_any_capacity(void) {
     capacity = any_number();
-    uint64_t size = any_number();
+    size_t size = any_number();
     if (once_in(2) && capacity > 0) *place = before = draw_place_below(capacity);
     bool sound = is_sound_place(before, capacity);
-    uint64_t window = capacity - before.length;
+    size_t window = capacity - before.length;
     struct net_base_ring begins = rewound(before);
-    struct net_base_span span, wanted = {UINT64_MAX, 0, 0};
+    struct net_base_span span, wanted = {SIZE_MAX, 0, 0};
     switch (below(4)) {
     case 0:
         span = net_base_ring_unallocated(place, capacity, 0, size);
@@ -193,7 +193,7 @@ static void fuzz_any_capacity(void) {
 /* The storage and the data of a call that copies, and what they were. */
 static uint8_t *storage, *data;
 static uint8_t stored[MOST_BYTES], given[MOST_BYTES];
-static uint64_t size;
+static size_t size;
 
 static void draw_bytes(void) {
     size = below(MOST_BYTES + 1);
@@ -210,63 +210,63 @@ static bool bytes_are(const uint8_t *new_stored, const uint8_t *new_given) {
 
 static void fuzz_enqueue_slice(void) {
     draw_bytes();
-    uint64_t count = net_base_ring_enqueue_slice(place, storage, capacity, data, size);
+    size_t count = net_base_ring_enqueue_slice(place, storage, capacity, data, size);
     if (!is_sound_place(before, capacity)) {
-        EXPECT(count == UINT64_MAX);
+        EXPECT(count == SIZE_MAX);
         EXPECT(is_unchanged() && bytes_are(stored, given));
         return;
     }
     struct net_base_ring begins = rewound(before);
     struct list list = list_of(begins, capacity);
     EXPECT(count == least(size, list.all - list.queued));
-    for (uint64_t i = 0; i < count; i++) stored[list.indices[list.queued + i]] = given[i];
+    for (size_t i = 0; i < count; i++) stored[list.indices[list.queued + i]] = given[i];
     EXPECT(bytes_are(stored, given));
     EXPECT(place_is(begins.read_at, begins.length + count));
 }
 
 static void fuzz_dequeue_slice(void) {
     draw_bytes();
-    uint64_t count = net_base_ring_dequeue_slice(place, storage, capacity, data, size);
+    size_t count = net_base_ring_dequeue_slice(place, storage, capacity, data, size);
     if (!is_sound_place(before, capacity)) {
-        EXPECT(count == UINT64_MAX);
+        EXPECT(count == SIZE_MAX);
         EXPECT(is_unchanged() && bytes_are(stored, given));
         return;
     }
     struct list list = list_of(before, capacity);
     EXPECT(count == least(size, list.queued));
-    for (uint64_t i = 0; i < count; i++) given[i] = stored[list.indices[i]];
+    for (size_t i = 0; i < count; i++) given[i] = stored[list.indices[i]];
     EXPECT(bytes_are(stored, given));
     EXPECT(place_is(index_at(&list, count), before.length - count));
 }
 
 static void fuzz_write_unallocated(void) {
     draw_bytes();
-    uint64_t offset = mostly_within(MOST_BYTES);
-    uint64_t count = net_base_ring_write_unallocated(place, storage, capacity, offset, data, size);
+    size_t offset = mostly_within(MOST_BYTES);
+    size_t count = net_base_ring_write_unallocated(place, storage, capacity, offset, data, size);
     EXPECT(is_unchanged());
     if (is_sound_place(before, capacity)) {
         struct list list = list_of(before, capacity);
-        uint64_t begin = list.queued + least(offset, list.all - list.queued);
+        size_t begin = list.queued + least(offset, list.all - list.queued);
         EXPECT(count == least(size, list.all - begin));
-        for (uint64_t i = 0; i < count; i++) stored[list.indices[begin + i]] = given[i];
+        for (size_t i = 0; i < count; i++) stored[list.indices[begin + i]] = given[i];
     } else {
-        EXPECT(count == UINT64_MAX);
+        EXPECT(count == SIZE_MAX);
     }
     EXPECT(bytes_are(stored, given));
 }
 
 static void fuzz_read_allocated(void) {
     draw_bytes();
-    uint64_t offset = mostly_within(MOST_BYTES);
-    uint64_t count = net_base_ring_read_allocated(place, storage, capacity, offset, data, size);
+    size_t offset = mostly_within(MOST_BYTES);
+    size_t count = net_base_ring_read_allocated(place, storage, capacity, offset, data, size);
     EXPECT(is_unchanged());
     if (is_sound_place(before, capacity)) {
         struct list list = list_of(before, capacity);
-        uint64_t begin = least(offset, list.queued);
+        size_t begin = least(offset, list.queued);
         EXPECT(count == least(size, list.queued - begin));
-        for (uint64_t i = 0; i < count; i++) given[i] = stored[list.indices[begin + i]];
+        for (size_t i = 0; i < count; i++) given[i] = stored[list.indices[begin + i]];
     } else {
-        EXPECT(count == UINT64_MAX);
+        EXPECT(count == SIZE_MAX);
     }
     EXPECT(bytes_are(stored, given));
 }

@@ -5,7 +5,7 @@
 static struct room head_room, storage_room, bytes_room, result_room;
 static struct net_base_sender *head, before;
 static uint8_t *storage, *bytes, stored[MOST_BYTES], given[MOST_BYTES];
-static uint64_t capacity, size;
+static size_t capacity, size;
 
 /* Draws a sender, most often a sound one, whose end is now and then near the last position. */
 static void draw_sender(void) {
@@ -66,14 +66,14 @@ static void fuzz_end(void) {
 }
 
 static void fuzz_room(void) {
-    EXPECT(net_base_sender_room(head, capacity) == (is_sound() ? room_left() : UINT64_MAX));
+    EXPECT(net_base_sender_room(head, capacity) == (is_sound() ? room_left() : NET_BASE_NONE));
     EXPECT(is_unchanged());
 }
 
 static void fuzz_write(void) {
     uint64_t count = net_base_sender_write(head, storage, capacity, bytes, size);
     if (!is_sound()) {
-        EXPECT(count == UINT64_MAX && is_unchanged());
+        EXPECT(count == NET_BASE_NONE && is_unchanged());
         return;
     }
     struct net_base_ring begins = rewound(before.place);
@@ -96,11 +96,11 @@ static bool is_queued(uint64_t position) {
 
 static void fuzz_peek_at(void) {
     uint64_t position = draw_position();
-    uint64_t most = mostly_within(MOST_BYTES);
+    size_t most = mostly_within(MOST_BYTES);
     struct net_base_span span = net_base_sender_peek_at(head, capacity, position, most);
     EXPECT(is_unchanged());
     if (!is_sound()) {
-        EXPECT(span.from == UINT64_MAX && span.count == 0 && span.contiguous == 0);
+        EXPECT(span.from == NET_BASE_NONE && span.count == 0 && span.contiguous == 0);
     } else if (is_queued(position)) {
         struct list list = list_of(before.place, capacity);
         uint64_t at = (uint64_t)(position - before.first_unacknowledged);

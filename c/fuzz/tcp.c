@@ -39,6 +39,18 @@ static void fuzz_acceptable(void) {
     uint64_t seq = once_in(2) ? about(next) : about(next + window);
     bool wanted = count == 0 && window == 0 ? seq == next : meet(seq, count == 0 ? 1 : count, next, window);
     EXPECT(net_base_tcp_is_acceptable(next, window, seq, count) == wanted);
+    struct net_base_segment segment = {seq, count, once_in(4), !once_in(4), once_in(4)};
+    bool is_probe = window == 0 && count > 0 && seq == next;
+    uint32_t arrival = NET_BASE_ANSWER;
+    if (segment.rst) {
+        arrival = seq == next ? NET_BASE_RESET : wanted ? NET_BASE_ANSWER : NET_BASE_IGNORE;
+    } else if (!segment.syn && (wanted || is_probe)) {
+        arrival = !segment.ack ? NET_BASE_IGNORE : wanted ? NET_BASE_TAKE : NET_BASE_ACKNOWLEDGEMENT_ONLY;
+    }
+    EXPECT(net_base_tcp_classify(next, window, &segment) == arrival);
+    uint64_t first = any_number(), sent = about(first), ack = about(difference_or_none(first, window));
+    EXPECT(net_base_tcp_is_acknowledgement(first, sent, window, ack)
+        == (difference_or_none(first, ack) <= window && ack <= sent));
 }
 
 static void fuzz_scale(void) {
@@ -94,7 +106,7 @@ static void fuzz_peer(void) {
     struct net_base_peer_window old = *peer;
     uint64_t first = any_number(), sent = first + below(9), window = any_number();
     uint64_t seq = about(old.seq), ack = once_in(2) ? about(first) : about(old.ack);
-    bool is_newer = old.seq < seq || (old.seq == seq && old.ack <= ack);
+    bool is_newer = old.ack < ack || old.seq < seq || (old.seq == seq && old.ack == ack);
     bool wanted = first <= ack && ack <= sent && is_newer;
     EXPECT(net_base_peer_window_update(peer, first, sent, seq, ack, window) == wanted);
     if (wanted) old = (struct net_base_peer_window){sum_up_to_last(ack, window), seq, ack};
@@ -103,6 +115,7 @@ static void fuzz_peer(void) {
     EXPECT(net_base_peer_window_usable(peer, position) == difference_or_none(old.edge, position));
     EXPECT(net_base_peer_window_send_limit(peer, end) == lower(old.edge, end));
     EXPECT(net_base_peer_window_is_probe_allowed(peer, position, end) == (old.edge <= position && position < end));
+    EXPECT(net_base_peer_window_acknowledgement_number(peer, position, end) == lower(end, higher(old.edge, position)));
 }
 
 static uint64_t within(const struct net_base_timeout_bounds *bounds, uint64_t time) {
@@ -163,7 +176,7 @@ static void fuzz_sum(void) {
         bytes[1] = (uint8_t)checksum;
     }
     struct net_base_parts_sum *sum = (void *)take_room(&other_room, sizeof *sum);
-    *sum = (struct net_base_parts_sum){0, false};
+    *sum = (struct net_base_parts_sum){0, 0};
     while (from < size) {
         uint64_t count = 1 + below(size - from);
         net_base_parts_sum_add(sum, bytes + from, count);

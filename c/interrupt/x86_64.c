@@ -12,7 +12,7 @@ static void out(uint16_t port, uint8_t byte) {
     __asm__ volatile("outb %0, %1" ::"a"(byte), "Nd"(port));
 }
 
-/* What the archive and the compiler want of a C library. */
+/* What the library and the compiler want of a C library. */
 void *memmove(void *to, const void *from, size_t size) {
     uint8_t *target = to;
     const uint8_t *source = from;

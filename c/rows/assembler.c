@@ -171,4 +171,4 @@ static bool make(const struct call *call) {
     return net_base_assembler_is_sound(&now.head, now.runs, most);
 }
 
-const struct subject ASSEMBLER = {"assembler", begin, make, show};
+const struct subject ASSEMBLER = {"assembler", true, begin, make, show};

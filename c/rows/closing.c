@@ -23,7 +23,7 @@ static void show(void) {
     uint64_t first = 0, end = 0;
     if (!net_base_finite_sender_first_number(&head, capacity, &first)) say("no number ");
     if (!net_base_finite_sender_numbers_end(&head, capacity, &end)) say("no end ");
-    struct net_base_span queue = queued_at(head.sender.first_unacknowledged, UINT64_MAX);
+    struct net_base_span queue = queued_at(head.sender.first_unacknowledged, SIZE_MAX);
     uint64_t counts[] = {first - first_position, end - first_position, head.sent - first_position, queue.count,
         net_base_finite_sender_is_closed(&head) + net_base_finite_sender_is_closed_and_acknowledged(&head)};
     for (int i = 0; i < 5; i++) {
@@ -39,13 +39,13 @@ static bool make(const struct call *call) {
     if (is(call, "write")) {
         say_number(net_base_finite_sender_write(&head, storage, capacity, pattern(one, two), one));
     } else if (is(call, "close")) {
-        say_truth(net_base_finite_sender_close(&head, capacity));
+        say(net_base_finite_sender_close(&head, capacity) ? "done" : "refused");
     } else if (is(call, "mark_sent")) {
         say_truth(net_base_finite_sender_mark_sent(&head, capacity, one));
     } else if (is(call, "acknowledge")) {
         say_truth(net_base_finite_sender_acknowledge(&head, capacity, one));
     } else if (is(call, "peek_at")) {
-        struct net_base_span span = queued_at(one, two);
+        struct net_base_span span = queued_at(one, length_of(two));
         say_bytes(storage + span.from, span.contiguous);
         say(" ");
         uint64_t end = one + span.contiguous;
@@ -58,4 +58,4 @@ static bool make(const struct call *call) {
     return net_base_finite_sender_is_sound(&head, capacity);
 }
 
-const struct subject CLOSING = {"closing", begin, make, show};
+const struct subject CLOSING = {"closing", false, begin, make, show};

@@ -27,7 +27,7 @@ static void show(void) {
     if (!net_base_receiver_next(&head.receiver, &next)) say("no next ");
     if (!net_base_finite_receiver_acknowledged(&head, &acknowledged)) say("no number ");
     while (run_at(held).start < run_at(held).end) held++;
-    struct net_base_span queue = net_base_ring_allocated(&head.receiver.place, capacity, 0, UINT64_MAX);
+    struct net_base_span queue = net_base_ring_allocated(&head.receiver.place, capacity, 0, SIZE_MAX);
     uint64_t counts[] = {
         next - first_position, queue.count, net_base_receiver_window(&head.receiver, capacity), held};
     for (int i = 0; i < 4; i++) {
@@ -44,7 +44,7 @@ static void show(void) {
     say_digest(mix_bytes(sum, storage, queue.count - queue.contiguous));
 }
 
-static void segment(const struct call *call) {
+static void keep(const struct call *call) {
     uint64_t position = call->numbers[0], size = call->numbers[1];
     struct net_base_kept_counts counts;
     uint32_t status = net_base_finite_receiver_segment(&head, storage, capacity, runs, run_count, position,
@@ -60,8 +60,8 @@ static void segment(const struct call *call) {
 
 static bool make(const struct call *call) {
     uint64_t one = call->numbers[0];
-    if (is(call, "segment")) {
-        segment(call);
+    if (is(call, "keep")) {
+        keep(call);
     } else if (is(call, "read")) {
         uint8_t *into = take_memory(one);
         say_bytes(into, net_base_finite_receiver_read(&head, storage, capacity, into, one));
@@ -77,4 +77,4 @@ static bool make(const struct call *call) {
     return net_base_finite_receiver_is_sound(&head, storage, capacity, runs, run_count);
 }
 
-const struct subject ENDING = {"ending", begin, make, show};
+const struct subject ENDING = {"ending", false, begin, make, show};

@@ -37,6 +37,8 @@ static void say_taken(uint32_t status) {
 
 static bool make(const struct call *call) {
     uint64_t one = call->numbers[0], two = call->numbers[1];
+    bool has_lengths = is(call, "add") || is(call, "set_total_size") || is(call, "overlaps");
+    if (has_lengths) one = length_of(one), two = length_of(two);
     if (is(call, "add")) {
         const uint8_t *bytes = pattern(two, call->numbers[2]);
         say_taken(net_base_fragments_add(&head, storage, capacity, runs, run_count, one, bytes, two));
@@ -64,4 +66,4 @@ static bool make(const struct call *call) {
     return true;
 }
 
-const struct subject FRAGMENTS = {"fragments", begin, make, show};
+const struct subject FRAGMENTS = {"fragments", false, begin, make, show};

@@ -17,6 +17,9 @@ static char line[MOST_TEXT], wanted[MOST_TEXT], reply[MOST_TEXT], first[MOST_TEX
 static uint64_t length, number;
 static void *memory[MOST_BLOCKS];
 static int memory_count;
+/* Whether a length of the row didn't fit a `size_t`; whether its reply was another one; how many rows are left out. */
+static bool is_cut, is_lost;
+static long left_out;
 
 static void fail(const char *why) {
     printf("rows: line %" PRIu64 ": %s, of %s: %s\n", number, line, first, why);
@@ -180,6 +183,12 @@ static void read_call(struct call *call) {
     for (uint64_t i = call->count; i < 4; i++) call->numbers[i] = 0;
 }
 
+size_t length_of(uint64_t number) {
+    if (number == (size_t)number) return (size_t)number;
+    is_cut = true;
+    return SIZE_MAX;
+}
+
 static struct kind *kind_of(const char *subject, const char *name) {
     for (int i = 0; i < KIND_COUNT; i++) {
         bool is_any = strcmp(KINDS[i].name, "*") == 0;
@@ -203,20 +212,24 @@ static void compare(bool is_made) {
     const char *state = strchr(wanted, '|');
     if (state != NULL && !is_made && strcmp(reply, state) == 0) return;
     if (is_made && strcmp(reply, wanted) == 0) return;
+    is_lost = is_cut;
+    if (is_lost) return;
     printf("rows: it gives %s, and not %s\n", reply, wanted);
     fail("another reply");
 }
 
 /* Makes a row, and compares it. A call that can't be made changes nothing that can be seen. */
-static void make(const struct subject *subject, const struct call *call) {
+static void make(const struct subject *subject, struct call *call) {
     struct kind *kind = kind_of(subject->name, call->name);
     int kept = memory_count;
     say_nothing();
+    is_cut = false;
+    for (uint64_t i = 0; subject->has_lengths && i < call->count; i++) call->numbers[i] = length_of(call->numbers[i]);
     if (kind->is_made && !subject->make(call)) fail("no such call");
     say("|");
     subject->show();
     compare(kind->is_made);
-    kind->count++;
+    kind->count += !is_lost;
     while (memory_count > kept) free(memory[--memory_count]);
 }
 
@@ -233,9 +246,12 @@ static void block(FILE *calls, FILE *replies) {
         subject->show();
         compare(true);
     }
+    is_lost = false;
     while (read_line(calls, line) && read_line(replies, wanted)) {
         number++;
         if (line[0] == '\0') break;
+        left_out += is_lost;
+        if (is_lost) continue;
         read_call(&call);
         if (subject != NULL) {
             make(subject, &call);
@@ -280,5 +296,6 @@ int main(int count, char **words) {
     }
     print(true, count == 4);
     print(false, true);
+    if (left_out > 0) printf("rows: %ld left out, after lengths that a size_t doesn't have\n", left_out);
     return 0;
 }

@@ -70,5 +70,5 @@ static bool make_times(const struct call *call) {
     return true;
 }
 
-const struct subject RAND = {"rand", begin_rand, make_rand, show};
-const struct subject TIMES = {"times", begin_times, make_times, show};
+const struct subject RAND = {"rand", false, begin_rand, make_rand, show};
+const struct subject TIMES = {"times", false, begin_times, make_times, show};

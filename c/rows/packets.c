@@ -34,8 +34,8 @@ static void show(void) {
 /* Appends a packet; returns false, and says so, if there is no room. */
 static bool enqueue(uint64_t size, uint64_t header) {
     struct net_base_packet_place place = net_base_packets_enqueue(&head, slots, slot_count, capacity, size);
-    if (place.slot == UINT64_MAX) {
-        say(place.gap == UINT64_MAX ? "refused" : "full");
+    if (place.slot == NET_BASE_NONE) {
+        say(place.gap == NET_BASE_NONE ? "refused" : "full");
         return false;
     }
     headers[place.slot] = (uint32_t)header;
@@ -48,10 +48,10 @@ static bool enqueue(uint64_t size, uint64_t header) {
 static struct net_base_first_packet first_packet(void) {
     if (head.slots.length > 0 && slots[head.slots.read_at].is_gap) {
         uint64_t from = net_base_packets_take_slot(&head, slot_count, capacity, &slots[head.slots.read_at]);
-        if (from == UINT64_MAX) say("refused ");
+        if (from == NET_BASE_NONE) say("refused ");
     }
     struct net_base_first_packet first = net_base_packets_peek(&head, slots, slot_count, capacity);
-    if (first.slot == UINT64_MAX) say(first.gap == UINT64_MAX ? "refused" : "empty");
+    if (first.slot == NET_BASE_NONE) say(first.gap == NET_BASE_NONE ? "refused" : "empty");
     return first;
 }
 
@@ -72,7 +72,7 @@ static void enqueue_with(const uint64_t *numbers) {
 
 static void dequeue_with(const uint64_t *numbers) {
     struct net_base_first_packet first = first_packet();
-    if (first.slot == UINT64_MAX) return;
+    if (first.slot == NET_BASE_NONE) return;
     say(numbers[2] == 1 ? "ok " : "err ");
     say_header(first.slot);
     say_lent(storage + first.from, first.size);
@@ -84,8 +84,8 @@ static void dequeue_with(const uint64_t *numbers) {
 /* Takes the first packet off, and its gap with it. */
 static void dequeue(uint64_t seed) {
     struct net_base_first_packet first = net_base_packets_dequeue(&head, slots, slot_count, capacity);
-    if (first.slot == UINT64_MAX) {
-        say(first.gap == UINT64_MAX ? "refused" : "empty");
+    if (first.slot == NET_BASE_NONE) {
+        say(first.gap == NET_BASE_NONE ? "refused" : "empty");
         return;
     }
     say_header(first.slot);
@@ -95,7 +95,7 @@ static void dequeue(uint64_t seed) {
 /* Takes the gap off, and then the packet. */
 static void take(uint64_t seed) {
     struct net_base_first_packet first = first_packet();
-    if (first.slot == UINT64_MAX) return;
+    if (first.slot == NET_BASE_NONE) return;
     say_header(first.slot);
     uint64_t from = net_base_packets_take_slot(&head, slot_count, capacity, &slots[first.slot]);
     if (from != first.from) say("elsewhere ");
@@ -104,7 +104,7 @@ static void take(uint64_t seed) {
 
 static void pop_slice(uint64_t size, uint64_t seed) {
     struct net_base_first_packet first = net_base_packets_dequeue(&head, slots, slot_count, capacity);
-    if (first.slot == UINT64_MAX) {
+    if (first.slot == NET_BASE_NONE) {
         say("empty");
         return;
     }
@@ -119,7 +119,7 @@ static void pop_slice(uint64_t size, uint64_t seed) {
 
 static void peek(void) {
     struct net_base_first_packet first = first_packet();
-    if (first.slot == UINT64_MAX) return;
+    if (first.slot == NET_BASE_NONE) return;
     say_header(first.slot);
     say_bytes(storage + first.from, first.size);
 }
@@ -155,4 +155,4 @@ static bool make(const struct call *call) {
     return net_base_packets_is_sound(&head, slots, slot_count, capacity);
 }
 
-const struct subject PACKETS = {"packets", begin, make, show};
+const struct subject PACKETS = {"packets", true, begin, make, show};

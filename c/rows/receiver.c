@@ -81,7 +81,7 @@ static void say_held(uint64_t index) {
  * all and of the queue. Positions but those of the digest are counted from the first one.
  */
 static void show(void) {
-    struct net_base_span queue = queued(&now, 0, UINT64_MAX);
+    struct net_base_span queue = queued(&now, 0, SIZE_MAX);
     uint64_t counts[] = {next_of(&now) - first_position, queue.count,
         net_base_receiver_window(&now.head, capacity), held_count(&now)};
     for (int i = 0; i < 4; i++) {
@@ -99,9 +99,9 @@ static uint64_t held_byte(const struct receiver *it, uint64_t offset) {
 }
 
 static bool is_same_state(const struct receiver *one, const struct receiver *two) {
-    uint64_t count = queued(one, 0, UINT64_MAX).count;
+    uint64_t count = queued(one, 0, SIZE_MAX).count;
     if (one->head.first != two->head.first || one->head.count_read != two->head.count_read) return false;
-    if (count != queued(two, 0, UINT64_MAX).count) return false;
+    if (count != queued(two, 0, SIZE_MAX).count) return false;
     for (uint64_t i = 0; i < count; i++) {
         if (held_byte(one, i) != held_byte(two, i)) return false;
     }
@@ -141,13 +141,13 @@ static void execute(const uint64_t *numbers, uint64_t *sum) {
     if (numbers[0] == 0 && fits) {
         segment(numbers[1], numbers[2], numbers[3], sum);
     } else if (numbers[0] == 1) {
-        uint64_t size = least(numbers[1], queued(&now, 0, UINT64_MAX).count);
+        uint64_t size = least(numbers[1], queued(&now, 0, SIZE_MAX).count);
         uint8_t *into = pattern(size, 0);
         uint64_t count = net_base_receiver_read(&now.head, now.storage, capacity, into, size);
         say_bytes(into, count);
         *sum = mix_bytes(mix(mix(*sum, 3), count), into, count);
     } else {
-        uint64_t counts[] = {next_of(&now), queued(&now, 0, UINT64_MAX).count,
+        uint64_t counts[] = {next_of(&now), queued(&now, 0, SIZE_MAX).count,
             net_base_receiver_window(&now.head, capacity), held_count(&now)};
         *sum = mix(*sum, 4);
         for (int i = 0; i < 4; i++) {
@@ -168,7 +168,7 @@ static void say_copied(uint64_t count, const uint8_t *into, uint64_t size) {
 }
 
 static void read_with(uint64_t size) {
-    struct net_base_span queue = queued(&now, 0, UINT64_MAX);
+    struct net_base_span queue = queued(&now, 0, SIZE_MAX);
     uint64_t count = least(size, queue.contiguous);
     say_number(count);
     say(" ");
@@ -221,7 +221,7 @@ static bool make(const struct call *call) {
         struct net_base_span span = queued(&now, numbers[0], numbers[1]);
         say_bytes(now.storage + span.from, span.contiguous);
     } else if (is(call, "as_slices")) {
-        struct net_base_span queue = queued(&now, 0, UINT64_MAX);
+        struct net_base_span queue = queued(&now, 0, SIZE_MAX);
         say_bytes(now.storage + queue.from, queue.contiguous);
         say(" ");
         say_bytes(now.storage, queue.count - queue.contiguous);
@@ -229,8 +229,8 @@ static bool make(const struct call *call) {
         read_with(numbers[0]);
     } else if (is(call, "count_new")) {
         uint64_t count = net_base_receiver_count_new(
-            &now.head, now.storage, capacity, now.runs, most, numbers[0], numbers[1]);
-        say(count == UINT64_MAX ? "forbidden" : digits(count));
+            &now.head, now.storage, capacity, now.runs, most, numbers[0], length_of(numbers[1]));
+        say(count == NET_BASE_NONE ? "forbidden" : digits(count));
     } else if (is(call, "window_end")) {
         window_end();
     } else if (is(call, "newest_runs")) {
@@ -257,4 +257,4 @@ static bool make(const struct call *call) {
     return net_base_receiver_is_sound(&now.head, now.storage, capacity, now.runs, most);
 }
 
-const struct subject RECEIVER = {"receiver", begin, make, show};
+const struct subject RECEIVER = {"receiver", false, begin, make, show};

@@ -37,7 +37,7 @@ static uint64_t mix_span(uint64_t sum, struct net_base_span span) {
  * digest of queue and free elements.
  */
 static void show_ring(void) {
-    struct net_base_span queue = allocated(0, UINT64_MAX), spare = unallocated(0, UINT64_MAX);
+    struct net_base_span queue = allocated(0, SIZE_MAX), spare = unallocated(0, SIZE_MAX);
     uint64_t counts[] = {queue.count, spare.count, spare.contiguous, capacity};
     for (int i = 0; i < 4; i++) {
         say_number(counts[i]);
@@ -55,7 +55,7 @@ static void exchange(uint64_t index, uint64_t byte) {
 }
 
 static void one(uint64_t index, uint64_t byte, const char *none) {
-    if (index == UINT64_MAX) {
+    if (index == NET_BASE_NONE) {
         say(none);
     } else {
         exchange(index, byte);
@@ -65,7 +65,7 @@ static void one(uint64_t index, uint64_t byte, const char *none) {
 /* An element is lent first, and enqueued or dequeued only if the caller keeps it. */
 static void one_with(
     struct net_base_span span, const struct call *call, const char *none,
-    bool (*move)(struct net_base_ring *, uint64_t, uint64_t)) {
+    bool (*move)(struct net_base_ring *, size_t, size_t)) {
     if (span.count == 0) {
         say(none);
         return;
@@ -79,7 +79,7 @@ static void one_with(
 
 static void many_with(
     struct net_base_span span, const struct call *call,
-    bool (*move)(struct net_base_ring *, uint64_t, uint64_t)) {
+    bool (*move)(struct net_base_ring *, size_t, size_t)) {
     uint64_t count = least(call->numbers[0], span.contiguous);
     say_number(count);
     say(" ");
@@ -113,9 +113,9 @@ static bool make_change(const struct call *call) {
         lend(storage + part.from, part.count, numbers[1]);
     } else if (is(call, "enqueue_many_with")) {
         net_base_ring_rewind_if_empty(&ring);
-        many_with(unallocated(0, UINT64_MAX), call, net_base_ring_enqueue);
+        many_with(unallocated(0, SIZE_MAX), call, net_base_ring_enqueue);
     } else if (is(call, "dequeue_many_with")) {
-        many_with(allocated(0, UINT64_MAX), call, net_base_ring_dequeue);
+        many_with(allocated(0, SIZE_MAX), call, net_base_ring_dequeue);
     } else {
         return false;
     }
@@ -184,7 +184,7 @@ static bool make_look(const struct call *call) {
     } else if (is(call, "dequeue_allocated")) {
         say(net_base_ring_dequeue(&ring, capacity, numbers[0]) ? "done" : "forbidden");
     } else if (is(call, "as_slices")) {
-        struct net_base_span queue = allocated(0, UINT64_MAX);
+        struct net_base_span queue = allocated(0, SIZE_MAX);
         say_bytes(storage + queue.from, queue.contiguous);
         say(" ");
         say_bytes(storage, queue.count - queue.contiguous);
@@ -202,10 +202,10 @@ static bool make_addition(const struct call *call) {
     const uint64_t *numbers = call->numbers;
     if (is(call, "push_one")) {
         uint64_t index = net_base_ring_enqueue_one(&ring, capacity);
-        if (index != UINT64_MAX) storage[index] = (uint8_t)numbers[0];
-        say(index == UINT64_MAX ? "full" : "ok");
+        if (index != NET_BASE_NONE) storage[index] = (uint8_t)numbers[0];
+        say(index == NET_BASE_NONE ? "full" : "ok");
     } else if (is(call, "pop_back")) {
-        struct net_base_span queue = allocated(0, UINT64_MAX);
+        struct net_base_span queue = allocated(0, SIZE_MAX);
         if (queue.count == 0) {
             say("empty");
             return true;
@@ -215,14 +215,6 @@ static bool make_addition(const struct call *call) {
     } else if (is(call, "rewind_if_empty")) {
         net_base_ring_rewind_if_empty(&ring);
         say("done");
-    } else if (is(call, "last_dequeued_mut")) {
-        struct net_base_span queue = allocated(0, numbers[0]);
-        if (queue.contiguous < numbers[0]) {
-            say("forbidden");
-            return true;
-        }
-        net_base_ring_dequeue(&ring, capacity, numbers[0]);
-        lend(storage + queue.from, numbers[0], numbers[1]);
     } else {
         return false;
     }
@@ -248,7 +240,7 @@ static uint64_t mix_cells(uint64_t sum, struct net_base_span span) {
 }
 
 static void show_cells(void) {
-    struct net_base_span queue = allocated(0, UINT64_MAX), spare = unallocated(0, UINT64_MAX);
+    struct net_base_span queue = allocated(0, SIZE_MAX), spare = unallocated(0, SIZE_MAX);
     say_number(queue.count);
     say(" ");
     say_number(spare.count);
@@ -257,7 +249,7 @@ static void show_cells(void) {
 }
 
 static void cell(uint64_t index, uint64_t number, const char *none) {
-    if (index == UINT64_MAX) {
+    if (index == NET_BASE_NONE) {
         say(none);
         return;
     }
@@ -280,5 +272,5 @@ static bool make_cells(const struct call *call) {
     return true;
 }
 
-const struct subject RING = {"ring", begin_ring, make_ring, show_ring};
-const struct subject CELLS = {"cells", begin_cells, make_cells, show_cells};
+const struct subject RING = {"ring", true, begin_ring, make_ring, show_ring};
+const struct subject CELLS = {"cells", false, begin_cells, make_cells, show_cells};

@@ -15,6 +15,8 @@ struct call {
 /* What calls are made on. */
 struct subject {
     const char *name;
+    /* Whether the numbers of its calls are lengths. */
+    bool has_lengths;
     /* Makes it from the first line of a block. */
     void (*begin)(const struct call *first);
     /* Makes a call, and says what it gave; returns false if there is no such call. */
@@ -35,6 +37,10 @@ struct kind {
 
 extern struct kind KINDS[];
 extern const int KIND_COUNT;
+
+/* Returns a length of a row. One that doesn't fit a `size_t` becomes the greatest: the reply may be another then, and a block
+ * is left out from the first such row on. */
+size_t length_of(uint64_t number);
 
 /* Returns whether a call has this name. */
 bool is(const struct call *call, const char *name);

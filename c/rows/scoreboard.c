@@ -26,7 +26,7 @@ static void say_hole(struct net_base_hole it) {
 
 static uint64_t lost_below(uint64_t duplicates, uint64_t segment_size) {
     uint64_t limit = 7;
-    if (!net_base_scoreboard_lost_below(&head, runs, run_count, duplicates, segment_size, &limit)) say("unsound ");
+    if (!net_base_scoreboard_lost_below(&head, runs, run_count, length_of(duplicates), length_of(segment_size), &limit)) say("unsound ");
     return limit;
 }
 
@@ -54,6 +54,7 @@ static void show(void) {
 static bool make(const struct call *call) {
     uint64_t one = call->numbers[0], two = call->numbers[1];
     if (is(call, "report")) {
+        length_of(two - head.base);
         uint32_t status = net_base_scoreboard_report(&head, runs, run_count, one, two, call->numbers[2]);
         say(status == NET_BASE_DONE ? "1" : status == NET_BASE_TOO_MANY_RUNS ? "refused" : "0");
     } else if (is(call, "acknowledge")) {
@@ -75,4 +76,4 @@ static bool make(const struct call *call) {
     return net_base_scoreboard_is_sound(&head, runs, run_count);
 }
 
-const struct subject SCOREBOARD = {"scoreboard", begin, make, show};
+const struct subject SCOREBOARD = {"scoreboard", false, begin, make, show};

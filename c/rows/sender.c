@@ -22,7 +22,7 @@ static struct net_base_span queued_at(uint64_t position, uint64_t most) {
 static void show(void) {
     uint64_t end = 0;
     if (!net_base_sender_end(&head, &end)) say("no end ");
-    struct net_base_span queue = queued_at(head.first_unacknowledged, UINT64_MAX);
+    struct net_base_span queue = queued_at(head.first_unacknowledged, SIZE_MAX);
     uint64_t counts[] = {head.first_unacknowledged - first_position, end - first_position, queue.count,
         net_base_sender_room(&head, capacity), queue.count == 0};
     for (int i = 0; i < 5; i++) {
@@ -37,14 +37,13 @@ static void say_done(bool is_done) {
     say(is_done ? "done" : "refused");
 }
 
-/* No export has SACK blocks: those of an acknowledgement are left out. */
 static bool make(const struct call *call) {
     uint64_t one = call->numbers[0], two = call->numbers[1];
     if (is(call, "write")) {
         const uint8_t *bytes = pattern(one, two);
         say_number(net_base_sender_write(&head, storage, capacity, bytes, one));
     } else if (is(call, "peek_at")) {
-        struct net_base_span span = queued_at(one, two);
+        struct net_base_span span = queued_at(one, length_of(two));
         say_bytes(storage + span.from, span.contiguous);
     } else if (is(call, "acknowledge")) {
         say_done(net_base_sender_acknowledge(&head, capacity, one));
@@ -61,4 +60,4 @@ static bool make(const struct call *call) {
     return net_base_sender_is_sound(&head, capacity);
 }
 
-const struct subject SENDER = {"sender", begin, make, show};
+const struct subject SENDER = {"sender", false, begin, make, show};

@@ -50,6 +50,23 @@ static void peer_room(uint64_t edge, uint64_t position, uint64_t end) {
     say_truth(net_base_peer_window_is_probe_allowed(&peer, position, end));
 }
 
+static void acknowledgement_number(uint64_t edge, uint64_t first_unacknowledged, uint64_t sent) {
+    struct net_base_peer_window peer = {edge, 0, 0};
+    say_number(net_base_peer_window_acknowledgement_number(&peer, first_unacknowledged, sent));
+}
+
+static void classify(const uint64_t *it) {
+    struct net_base_segment segment = {it[2], it[3], it[4] != 0, it[5] != 0, it[6] != 0};
+    switch (net_base_tcp_classify(it[0], it[1], &segment)) {
+    case NET_BASE_TAKE: say("take"); break;
+    case NET_BASE_ACKNOWLEDGEMENT_ONLY: say("acknowledgement"); break;
+    case NET_BASE_ANSWER: say("answer"); break;
+    case NET_BASE_IGNORE: say("ignore"); break;
+    case NET_BASE_RESET: say("reset"); break;
+    default: say("unknown");
+    }
+}
+
 static void scaled(uint16_t field, uint8_t scale) {
     uint64_t bytes = 7;
     if (net_base_tcp_scaled(field, scale, &bytes)) {
@@ -78,7 +95,7 @@ static void expired(uint64_t timeout, uint64_t least_one, uint64_t most) {
 
 /* The checksum of a message in parts that end at these sizes. */
 static void parts(const uint8_t *bytes, const uint64_t *ends, int count) {
-    struct net_base_parts_sum sum = {0, false};
+    struct net_base_parts_sum sum = {0, 0};
     uint64_t from = 0;
     for (int i = 0; i < count; i++) {
         net_base_parts_sum_add(&sum, bytes + from, ends[i] - from);
@@ -89,7 +106,7 @@ static void parts(const uint8_t *bytes, const uint64_t *ends, int count) {
 
 /* Whether these bytes are valid, by both calls. */
 static void say_valid(const uint8_t *bytes, uint64_t size) {
-    struct net_base_parts_sum sum = {0, false};
+    struct net_base_parts_sum sum = {0, 0};
     net_base_parts_sum_add(&sum, bytes, size);
     bool is_valid = net_base_tcp_is_checksum_valid(bytes, size);
     if (is_valid != net_base_parts_sum_is_valid(&sum)) say("differs ");
@@ -111,6 +128,10 @@ static bool make(const struct call *call) {
     const uint64_t *it = call->numbers;
     if (is(call, "is_acceptable")) {
         say_truth(net_base_tcp_is_acceptable(it[0], it[1], it[2], it[3]));
+    } else if (is(call, "classify")) {
+        classify(it);
+    } else if (is(call, "is_acknowledgement")) {
+        say_truth(net_base_tcp_is_acknowledgement(it[0], it[1], it[2], it[3]));
     } else if (is(call, "scale_for")) {
         say_number(net_base_tcp_scale_for(it[0]));
     } else if (is(call, "announce") || is(call, "announce_in_steps") || is(call, "is_update_due")) {
@@ -119,6 +140,8 @@ static bool make(const struct call *call) {
         peer_update(it);
     } else if (is(call, "peer_room")) {
         peer_room(it[0], it[1], it[2]);
+    } else if (is(call, "acknowledgement_number")) {
+        acknowledgement_number(it[0], it[1], it[2]);
     } else if (is(call, "scaled")) {
         scaled((uint16_t)it[0], (uint8_t)it[1]);
     } else if (is(call, "checksum")) {
@@ -146,4 +169,4 @@ static bool make(const struct call *call) {
     return true;
 }
 
-const struct subject TCP = {"tcp", begin, make, show};
+const struct subject TCP = {"tcp", false, begin, make, show};

@@ -1,26 +1,16 @@
-"""What the code of an archive or of a program does, as objdump shows it: what a target may not have, and the stack that
+"""What the code of a library or of a program does, as objdump shows it: what a target may not have, and the stack that
 functions take."""
 import re
 import subprocess
 
 FLOATS = r"(?<![\w.])[vqdsbh]\d+\b(?!:)"
 # What the code of a target may not have: a pattern of an instruction, and what that is.
-FORBIDDEN = {
-    "x86_64-none": [(r"-0x[0-9a-f]+\(%rsp", "memory below the stack pointer"),
-                    (r"%[xyz]?mm\d|%st\b", "a vector or floating-point register")],
-    "aarch64-none": [(FLOATS, "a vector or floating-point register")],
-    "riscv32imac": [(r"(?<![\w.])f(?:[ats]\d+|\d+)\b", "a floating-point register")],
-}
-FORBIDDEN |= {name: [(FLOATS, "a vector or floating-point register")]
-              for name in ("thumbv6m", "thumbv7m", "thumbv7em", "thumbv8m.main")}
-# Words at an offset from a register, each with the bytes of the word: an odd one isn't aligned, whatever is there.
-WORDS = {
-    "aarch64-none": [(r"(?:ld|st)u?[rp]\s+x\w+,(?: x\w+,)? \[\w+, #(-?\d+)", 8),
-                     (r"(?:ld|st)u?[rp]\s+w\w+,(?: w\w+,)? \[\w+, #(-?\d+)", 4)],
-    "riscv32imac": [(r"[ls]w\s+\w+,(-?\d+)\(", 4)],
-    "riscv64gc": [(r"[ls]d\s+\w+,(-?\d+)\(", 8), (r"[ls]w\s+\w+,(-?\d+)\(", 4)],
-    "thumbv6m": [(r"(?:ldr|str)\s+r\d+, \[\w+, #(-?\d+)", 4)],
-}
+FORBIDDEN = [
+    (r"x86_64-unknown-none", r"-0x[0-9a-f]+\(%rsp", "memory below the stack pointer"),
+    (r"x86_64-unknown-none", r"%[xyz]?mm\d|%st\b", "a vector or floating-point register"),
+    (r"aarch64-unknown-none|thumb", FLOATS, "a vector or floating-point register"),
+    (r"riscv32", r"(?<![\w.])f(?:[ats]\d+|\d+)\b", "a floating-point register"),
+]
 # What an instruction takes off the stack pointer: a number, or registers of this number of bytes.
 TAKEN = [
     (re.compile(r"sub[lq]?\s+\$(0x[0-9a-f]+),%rsp"), None),
@@ -31,34 +21,33 @@ TAKEN = [
     (re.compile(r"push[lq]?\s+(%\w+)"), 8),
 ]
 CALL = re.compile(r"(?:blx?|b|b\.[nw]|b\w\w(?:\.[nw])?|callq?|jmpq?|jal|j|tail)\s+(?:ra,|zero,)?([0-9a-f]+)(?: <|$)")
-UNKNOWN = re.compile(r"(?:sub|add)(?:\.w)?\s+sp,(?:\s*sp,)?\s*(?!sp)[a-z]")
+UNKNOWN = re.compile(r"(?:sub|add)(?:\.w)?\s+sp,(?:\s*sp,)?\s*(?!sp|fp, #)[a-z]")
 
 
 def functions(objdump, path):
     """The instructions of each function of a file, by its address, with its name."""
-    said = subprocess.run([objdump, "-d", "--no-show-raw-insn", path], capture_output=True, text=True, check=True).stdout
+    code = subprocess.run([objdump, "-d", "--no-show-raw-insn", path], capture_output=True, text=True, check=True).stdout
     found, lines = {}, []
-    for line in said.splitlines():
+    for line in code.splitlines():
         if head := re.fullmatch(r"([0-9a-f]+) <(.*)>:", line):
             lines = []
-            # An archive has a section for each function, so that all begin at 0.
+            # A library has a section for each function, so that all begin at 0.
             found.setdefault((int(head[1], 16), head[2]), lines)
         elif row := re.match(r"\s*[0-9a-f]+:\s+(.*)", line):
-            lines.append(re.sub(r"\s+(?:;|//|@|#\s).*$", "", row[1]).strip())
+            # A call by a register on a RISC-V, to an address that is said.
+            said = re.sub(r"^j(?:al)?r\s.*#\s(\w+) <.*$", r"call \1 <>", row[1])
+            lines.append(re.sub(r"\s+(?:;|//|@|#\s).*$", "", said).strip())
     return found
 
 
 def problem_of(target, objdump, path):
-    """An instruction that a target's archive may not have, and why; nothing if there is none."""
+    """An instruction that a target's library may not have, and why; nothing if there is none."""
     for (_, name), lines in functions(objdump, path).items():
         for line in lines:
             bare = re.sub(r"\b[0-9a-f]+ <.*$", "", line)
-            for pattern, what in FORBIDDEN.get(target, []):
-                if re.search(pattern, bare):
+            for of, pattern, what in FORBIDDEN:
+                if re.match(of, target) and re.search(pattern, bare):
                     return f"{name} has {what}: {line}"
-            for pattern, size in WORDS.get(target, []):
-                if (match := re.match(pattern, bare)) and int(match[1]) % size:
-                    return f"{name} has a word that isn't aligned: {line}"
     return ""
 
 
@@ -91,4 +80,6 @@ def stack_bounds(objdump, program):
             known[at] = frame_of(by_address[at], names[at]) + deepest + 8 * is_x86
         return known[at]
 
-    return {name: depth(at) for at, name in names.items() if name.startswith("net_base_")}
+    # Equal functions are one, with several names.
+    said = subprocess.run([objdump.replace("objdump", "nm"), program], capture_output=True, text=True, check=True).stdout
+    return {name: depth(int(at, 16)) for at, name in re.findall(r"^(\w+) T (net_base_\w+)$", said, flags=re.M)}

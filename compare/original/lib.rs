@@ -19,8 +19,6 @@ mod wire {
 
 /// What is private to smoltcp.
 pub mod doors {
-    use crate::storage::PacketBuffer;
-
     /// The generator.
     pub struct Rand(crate::rand::Rand);
 
@@ -40,10 +38,5 @@ pub mod doors {
         pub fn rand_source_port(&mut self) -> u16 {
             self.0.rand_source_port()
         }
-    }
-
-    /// `PacketBuffer::reset`.
-    pub fn reset<H>(queue: &mut PacketBuffer<'_, H>) {
-        queue.reset()
     }
 }

@@ -15,7 +15,8 @@
 //! let room = receiver.window_end().expect("positions are left");
 //! let window = advertised.announce(0, receiver.acknowledged(), room);
 //! let peer = PeerWindow::new(0, 1, window.into());
-//! assert_eq!((sender.write(b"hello"), sender.close()), (5, true));
+//! assert_eq!(sender.write(b"hello"), 5);
+//! sender.close();
 //! assert_eq!(peer.send_limit(sender.numbers_end()), 7); // five bytes, and the end
 //! assert!(sender.mark_sent(7));
 //! // The segment of the last bytes, with the end, overtakes the one before it.
@@ -23,9 +24,9 @@
 //! let number = SequenceNumber::at(syn, 4);
 //! assert_eq!((bytes, is_last, number.get()), (&b"lo"[..], true, 1));
 //! let pos = number.position(syn, receiver.acknowledged()).expect("a position nearby");
-//! assert!(receiver.segment(pos, bytes, is_last).is_ok() && !receiver.is_complete());
+//! assert!(receiver.keep(pos, bytes, is_last).is_ok() && !receiver.is_complete());
 //! let (bytes, is_last) = sender.peek_at(1, 3);
-//! assert!(receiver.segment(1, bytes, is_last).is_ok() && receiver.is_complete());
+//! assert!(receiver.keep(1, bytes, is_last).is_ok() && receiver.is_complete());
 //! // What is acknowledged is all five bytes and the end.
 //! assert!(sender.acknowledge(receiver.acknowledged()) && sender.is_closed_and_acknowledged());
 //! let mut text = [0; 9];
@@ -38,6 +39,8 @@ use core::fmt;
 use crate::managed::ManagedSlice;
 use crate::proved::net_ring::Storage;
 use crate::rattle::error_text;
+use crate::storage::Listed;
+use crate::storage::TooManyHolesError;
 
 pub use crate::proved::net_receiver::{
     FiniteError, FiniteReceiver, FiniteReceiverOver, FiniteSender, FiniteSenderOver,
@@ -50,12 +53,19 @@ error_text! {
     };
 }
 
+impl From<TooManyHolesError> for FiniteError {
+    fn from(_error: TooManyHolesError) -> Self {
+        FiniteError::TooManyHoles
+    }
+}
+
 impl<'a, const N: usize> FiniteReceiver<'a, N> {
     /// Returns a receiver of a stream that ends, whose first byte has position `first`, with room for `N` held runs.
     ///
     /// # Panics
     ///
     /// If `first` is `u64::MAX`: no number is left for the end.
+    #[must_use]
     pub fn empty_at<S: Into<ManagedSlice<'a, u8>>>(storage: S, first: u64) -> Self {
         FiniteReceiverOver::over_at(storage.into(), first)
     }
@@ -63,6 +73,11 @@ impl<'a, const N: usize> FiniteReceiver<'a, N> {
 
 impl<'a> FiniteSender<'a> {
     /// Returns a sender of a stream that begins at position `first`, to which nothing was written.
+    ///
+    /// # Panics
+    ///
+    /// If `first` is `u64::MAX`: no number is left for the end.
+    #[must_use]
     pub fn new_at<S: Into<ManagedSlice<'a, u8>>>(storage: S, first: u64) -> Self {
         FiniteSenderOver::over_at(storage.into(), first)
     }
@@ -71,7 +86,10 @@ impl<'a> FiniteSender<'a> {
 impl<S: Storage<u8>, const N: usize> fmt::Debug for FiniteReceiverOver<S, N> {
     fn fmt(&self, f: &mut fmt::Formatter) -> fmt::Result {
         f.debug_struct("FiniteReceiver")
-            .field("receiver", self.receiver())
+            .field("next", &self.next())
+            .field("len", &self.len())
+            .field("window", &self.window())
+            .field("held", &Listed(|| self.held()))
             .field("end", &self.end())
             .finish()
     }

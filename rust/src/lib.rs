@@ -35,7 +35,8 @@
 //! # Features and targets
 //!
 //! `alloc`: storage may own a vector. `std`, which is on unless it is turned off: conversions from std's clocks, and
-//! `alloc`. smoltcp's other features are accepted; `segmentation-offload` adds a field, and the others change nothing.
+//! `alloc`. `segmentation-offload`: a field of `PacketMeta`. `assembler-max-segment-count-..`: how many runs there are where
+//! `N` isn't named ([`config`]). smoltcp's that a program of these modules can't leave out are accepted.
 //! Targets have 32 or 64 bits.
 //!
 //! Overflow panics here in every build, unless an item says otherwise.
@@ -48,6 +49,7 @@ extern crate alloc;
 #[cfg(any(feature = "std", test))]
 extern crate std;
 
+pub mod config;
 pub mod finite;
 pub mod managed;
 pub mod phy;
@@ -64,6 +66,24 @@ pub mod tcp;
 pub mod time;
 
 pub use proved::contracts;
+
+/// The exports for C, over references and slices, and their structs: for the crate in `c` alone.
+#[cfg(feature = "c")]
+#[doc(hidden)]
+#[allow(missing_docs)]
+pub mod exports {
+    use super::proved;
+
+    pub use proved::net_assembler::{AssemblerHead, Run};
+    pub use proved::net_base::storage::FragmentsHead;
+    pub use proved::net_ffi::*;
+    pub use proved::net_packets::{FirstPacket, PacketPlace, PacketSlot, PacketsHead};
+    pub use proved::net_receiver::{
+        FiniteReceiverHead, FiniteSenderHead, HeldRun, ReceiverHead, ScoreboardHead, SenderHead,
+    };
+    pub use proved::net_ring::{RingHead, Span};
+    pub use proved::net_tcp::*;
+}
 
 #[cfg(doctest)]
 #[doc = include_str!("refused.txt")]

@@ -7,7 +7,9 @@ use crate::managed::ManagedSlice;
 use crate::proved::net_ring::Storage;
 use crate::storage::Listed;
 
-pub use crate::proved::net_receiver::{HeldRuns, Kept, NewestRunIter, Receiver, ReceiverOver};
+pub use crate::proved::net_receiver::{
+    HeldRuns, Kept, KeptBytes, NewestRunIter, Receiver, ReceiverOver,
+};
 
 impl<'a> Receiver<'a> {
     /// Returns a receiver of a stream whose first byte has position 0, with room for 4 held runs.
@@ -17,6 +19,7 @@ impl<'a> Receiver<'a> {
     /// let mut storage = [0u8; 16];
     /// assert_eq!(Receiver::new(&mut storage[..]).next(), 0);
     /// ```
+    #[must_use]
     pub fn new<S: Into<ManagedSlice<'a, u8>>>(storage: S) -> Receiver<'a> {
         Receiver::empty_at(storage, 0)
     }
@@ -28,6 +31,7 @@ impl<'a> Receiver<'a> {
     /// let mut storage = [0u8; 16];
     /// assert_eq!(Receiver::new_at(&mut storage[..], 100).next(), 100);
     /// ```
+    #[must_use]
     pub fn new_at<S: Into<ManagedSlice<'a, u8>>>(storage: S, first: u64) -> Receiver<'a> {
         Receiver::empty_at(storage, first)
     }
@@ -41,6 +45,7 @@ impl<'a, const N: usize> Receiver<'a, N> {
     /// let mut storage = [0u8; 16];
     /// assert_eq!(Receiver::<32>::empty(&mut storage[..]).next(), 0);
     /// ```
+    #[must_use]
     pub fn empty<S: Into<ManagedSlice<'a, u8>>>(storage: S) -> Self {
         Self::empty_at(storage, 0)
     }
@@ -53,6 +58,7 @@ impl<'a, const N: usize> Receiver<'a, N> {
     /// let receiver = Receiver::<32>::empty_at(&mut storage[..], 100);
     /// assert_eq!((receiver.next(), receiver.window()), (100, 16));
     /// ```
+    #[must_use]
     pub fn empty_at<S: Into<ManagedSlice<'a, u8>>>(storage: S, first: u64) -> Self {
         ReceiverOver::over_at(storage.into(), first)
     }

@@ -1,6 +1,6 @@
 //! What a sender knows of the positions that the other end has.
 //!
-//! By hand: a default, and what is printed.
+//! By hand: a default, what is compared, and what is printed.
 use core::fmt;
 
 use crate::storage::Listed;
@@ -12,6 +12,15 @@ impl<const N: usize> Default for Scoreboard<N> {
         Self::empty()
     }
 }
+
+/// Scoreboards of the same positions are equal.
+impl<const N: usize> PartialEq for Scoreboard<N> {
+    fn eq(&self, other: &Self) -> bool {
+        self.first_unreported() == other.first_unreported() && self.reported().eq(other.reported())
+    }
+}
+
+impl<const N: usize> Eq for Scoreboard<N> {}
 
 /// The first position that wasn't reported, and the runs beyond it.
 impl<const N: usize> fmt::Debug for Scoreboard<N> {

@@ -4,7 +4,7 @@ use net_base::managed::ManagedSlice;
 use net_base::receiver::{Receiver, ReceiverOver};
 use net_base::scoreboard::Scoreboard;
 use net_base::sender::{Sender, SenderOver};
-use net_base::storage::fragment_table::{find_free, FragmentSlot};
+use net_base::storage::fragment_table::{find, find_free, FragmentSlot};
 use net_base::storage::FragmentBuffer;
 use net_base::tcp::{RetransmissionTimeout, TimeoutBounds};
 use net_base::time::Instant;
@@ -34,10 +34,10 @@ fn a_receiver_of_a_stream_that_ends() {
     let mut receiver: FiniteReceiver<4> = FiniteReceiver::empty_at(&mut storage[..], 100);
     let mut other = [0; 8];
     let mut same: FiniteReceiver<4> = FiniteReceiver::empty_at(&mut other[..], 100);
-    assert!(receiver.segment(102, b"c", true).is_ok());
+    assert!(receiver.keep(102, b"c", true).is_ok());
     assert_eq!((receiver.count_new(100, 9), receiver.end()), (2, Some(103)));
     assert!(!receiver.same_state(&same));
-    assert!(receiver.segment(100, b"ab", false).is_ok() && same.segment(100, b"abc", true).is_ok());
+    assert!(receiver.keep(100, b"ab", false).is_ok() && same.keep(100, b"abc", true).is_ok());
     assert!(receiver.same_state(&same));
     receiver.remove(3);
     assert!(receiver.has_read_all() && !same.has_read_all());
@@ -53,8 +53,7 @@ fn a_sender() {
     assert_eq!(sender.write(b"abcd"), 4);
     assert!(sender.acknowledge(103));
     assert_eq!(sender.write(b"efg"), 3);
-    assert_eq!(sender.peek_slices_at(104, 9), (&b"efg"[..], &b""[..]));
-    assert_eq!(sender.peek_slices_at(103, 9), (&b"d"[..], &b"efg"[..]));
+    assert_eq!((sender.peek_at(103, 9), sender.peek_at(104, 9)), (&b"d"[..], &b"efg"[..]));
     sender.reset_at(7);
     assert_eq!((sender.first_unacknowledged(), sender.end(), sender.window()), (7, 7, 4));
     assert_eq!(length(sender.into_storage()), 4);
@@ -65,7 +64,8 @@ fn a_sender_of_a_stream_that_ends() {
     let mut storage = [0; 4];
     let mut sender: FiniteSender = FiniteSender::new_at(&mut storage[..], 100);
     assert_eq!((sender.write(b"abc"), sender.capacity(), sender.window()), (3, 4, 1));
-    assert!(sender.close() && !sender.is_empty());
+    sender.close();
+    assert!(!sender.is_empty());
     assert_eq!((sender.window(), sender.numbers_end()), (0, 104));
     sender.reset_at(7);
     assert_eq!((sender.first_number(), sender.numbers_end(), sender.window()), (7, 7, 4));
@@ -79,7 +79,7 @@ fn a_scoreboard_and_a_buffer_of_fragments() {
     board.reset_at(7);
     assert_eq!((board.first_unreported(), board.count_beyond()), (7, 0));
     let mut storage = [0; 8];
-    let mut buffer: FragmentBuffer<4> = FragmentBuffer::new(&mut storage[..], Instant::ZERO);
+    let mut buffer: FragmentBuffer<4> = FragmentBuffer::empty(&mut storage[..], Instant::ZERO);
     assert!(buffer.add(3, b"d").is_ok());
     assert_eq!(length(buffer.into_storage()), 8);
     let mut timer = RetransmissionTimeout::new(1_000_000);
@@ -94,9 +94,8 @@ fn types_over_any_storage() {
     let (mut first, mut second, mut third, mut fourth) = ([0; 2], [0; 2], [0; 2], [0; 2]);
     let mut receiver = ReceiverOver::<_, 1>::over(&mut first[..]);
     assert!(receiver.segment(1, b"b").is_ok());
-    assert!(receiver.has_all_below(2) && !receiver.has_all_below(1));
     let mut finite = FiniteReceiverOver::<_, 1>::over(&mut second[..]);
-    assert!(finite.segment(0, b"a", true).is_ok() && finite.is_complete());
+    assert!(finite.keep(0, b"a", true).is_ok() && finite.is_complete());
     assert_eq!(SenderOver::over(&mut third[..]).write(b"abc"), 2);
     assert_eq!(FiniteSenderOver::over(&mut fourth[..]).write(b"abc"), 2);
 }
@@ -109,7 +108,7 @@ fn a_slot_of_a_table_of_fragments() {
     assert_eq!(find_free(&slots), Some(0));
     slots[0].begin(7, Instant::from_micros(20));
     assert!(slots[0].is_for(7) && !slots[0].is_for(8));
-    assert_eq!(find_free(&slots), Some(1));
+    assert_eq!((find_free(&slots), find(&slots, 7), find(&slots, 8)), (Some(1), Some(0), None));
     slots[0].expire(Instant::from_micros(20));
     assert!(slots[0].is_for(7));
     slots[0].expire(Instant::from_micros(21));
@@ -120,11 +119,9 @@ fn a_slot_of_a_table_of_fragments() {
 fn an_end_that_is_counted_is_within_the_window() {
     let mut storage = [0; 3];
     let mut receiver: FiniteReceiver<1> = FiniteReceiver::empty_at(&mut storage[..], 0);
-    assert!(receiver.segment(0, b"abc", true).is_ok());
-    assert_eq!(
-        (receiver.acknowledged(), receiver.window_end(), receiver.receiver().window_end()),
-        (4, Some(4), Some(3))
-    );
+    assert!(receiver.keep(0, b"abc", true).is_ok());
+    assert_eq!((receiver.acknowledged(), receiver.window_end()), (4, Some(4)));
+    assert_eq!((receiver.next(), receiver.window(), receiver.capacity()), (3, 0, 3));
 }
 
 /// Returns what is left of eight bytes `.` after they were a storage.
@@ -146,8 +143,8 @@ fn storage_is_written_only_where_bytes_are_kept() {
     assert_eq!(&receiver, b"ab..e...");
     let finite = left_by(|storage| {
         let mut finite: FiniteReceiver<1> = FiniteReceiver::empty_at(storage, 0);
-        assert!(finite.segment(0, b"ab", false).is_ok() && finite.segment(4, b"e", true).is_ok());
-        assert!(finite.segment(6, b"g", true).is_err() && finite.segment(4, b"fg", false).is_ok());
+        assert!(finite.keep(0, b"ab", false).is_ok() && finite.keep(4, b"e", true).is_ok());
+        assert!(finite.keep(6, b"g", true).is_err() && finite.keep(4, b"fg", false).is_ok());
         assert_eq!(finite.read(&mut [0; 2]), 2);
     });
     assert_eq!(&finite, b"ab..f...");
@@ -160,7 +157,9 @@ fn storage_is_written_only_where_bytes_are_kept() {
     let ending = left_by(|storage| {
         let mut ending: FiniteSender = FiniteSender::new_at(storage, 0);
         assert!(ending.write(b"abc") == 3 && ending.mark_sent(2) && ending.acknowledge(2));
-        assert!(ending.write(b"de") == 2 && ending.close() && ending.write(b"f") == 0);
+        assert_eq!(ending.write(b"de"), 2);
+        ending.close();
+        assert_eq!(ending.write(b"f"), 0);
     });
     assert_eq!(&ending, b"abcde...");
 }

@@ -1,26 +1,6 @@
 //! Examples of calls whose documentation has another one, a part of a function in Rattle.
 
 #[test]
-fn receiver_1() {
-    use net_base::receiver::{Kept, Receiver};
-
-    let mut storage = [0u8; 16];
-    let mut receiver = Receiver::new(&mut storage[..]);
-    assert_eq!(receiver.segment(0, b"ab"), Ok(Kept { kept: 2, queued: 2 }));
-    assert_eq!(receiver.segment(5, b"fg"), Ok(Kept { kept: 2, queued: 0 }));
-}
-
-#[test]
-fn receiver_2() {
-    use net_base::receiver::Receiver;
-    let mut storage = [0u8; 16];
-    let mut receiver = Receiver::new(&mut storage[..]);
-    assert!(receiver.segment(0, b"abc").is_ok());
-    let mut into = *b"--";
-    assert_eq!((receiver.read(&mut into), &into, receiver.len()), (2, b"ab", 1));
-}
-
-#[test]
 fn sequence_number_1() {
     use net_base::receiver::Receiver;
     use net_base::sequence_number::SequenceNumber;

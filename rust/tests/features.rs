@@ -1,13 +1,15 @@
-//! Each feature of smoltcp 0.14.0 is one of this crate's, so that a Cargo.toml that names it builds.
+//! The features, by smoltcp 0.14.0's names, and how many runs there are where no number is named. `features.sh` runs this
+//! with several sets of features.
+use net_base::config::ASSEMBLER_MAX_SEGMENT_COUNT;
+use net_base::receiver::Receiver;
+use net_base::storage::{Assembler, FragmentBuffer};
+use net_base::time::Instant;
+
 const FEATURES: &str = "
-    std alloc log defmt verbose medium-ethernet medium-ip medium-ieee802154 phy-raw_socket phy-tuntap_interface
-    proto-ipv4 proto-ipv4-fragmentation proto-ipv6 proto-ipv6-hbh proto-ipv6-fragmentation proto-ipv6-routing
-    proto-ipv6-slaac proto-rpl proto-sixlowpan proto-sixlowpan-fragmentation proto-dns proto-dhcpv4 proto-ipsec
-    proto-ipsec-ah proto-ipsec-esp multicast packetmeta-id socket socket-raw socket-udp socket-tcp
-    socket-tcp-pause-synack socket-tcp-reno socket-tcp-cubic socket-icmp socket-dhcpv4 socket-dns socket-mdns async
-    default segmentation-offload assembler-max-segment-count-1 assembler-max-segment-count-2
+    default alloc std c segmentation-offload assembler-max-segment-count-1 assembler-max-segment-count-2
     assembler-max-segment-count-3 assembler-max-segment-count-4 assembler-max-segment-count-8
-    assembler-max-segment-count-16 assembler-max-segment-count-32";
+    assembler-max-segment-count-16 assembler-max-segment-count-32 packetmeta-id medium-ethernet medium-ip
+    proto-ipv4-fragmentation proto-ipv4 proto-ipv6";
 
 #[test]
 fn features() {
@@ -19,11 +21,34 @@ fn features() {
     here.sort();
     wanted.sort();
     assert_eq!(here, wanted);
-    let line =
-        |name: &str| manifest.lines().find(|line| line.starts_with(name)).map(str::to_string);
-    assert_eq!(line("default = "), Some("default = [\"std\"]".into()));
-    assert_eq!(
-        (line("std = "), line("alloc = ")),
-        (Some("std = [\"alloc\"]".into()), Some("alloc = []".into()))
-    );
+    for line in ["default = [\"std\"]", "std = [\"alloc\"]", "alloc = []"] {
+        assert!(manifest.lines().any(|it| it == line), "{line}");
+    }
+}
+
+/// As many single positions apart from one another as a call takes.
+fn count(mut is_taken: impl FnMut(usize) -> bool) -> usize {
+    (0..60).take_while(|at| is_taken(2 * at + 1)).count()
+}
+
+#[test]
+fn runs_where_no_number_is_named() {
+    let named = [
+        (1, cfg!(feature = "assembler-max-segment-count-1")),
+        (2, cfg!(feature = "assembler-max-segment-count-2")),
+        (3, cfg!(feature = "assembler-max-segment-count-3")),
+        (4, cfg!(feature = "assembler-max-segment-count-4")),
+        (8, cfg!(feature = "assembler-max-segment-count-8")),
+        (16, cfg!(feature = "assembler-max-segment-count-16")),
+        (32, cfg!(feature = "assembler-max-segment-count-32")),
+    ];
+    let wanted = named.iter().filter(|it| it.1).map(|it| it.0).max().unwrap_or(4);
+    let (mut one, mut other) = ([0; 128], [0; 128]);
+    let mut assembler = Assembler::new();
+    let mut receiver = Receiver::new(&mut one[..]);
+    let mut fragments = FragmentBuffer::new(&mut other[..], Instant::ZERO);
+    assert_eq!(ASSEMBLER_MAX_SEGMENT_COUNT, wanted);
+    assert_eq!(count(|at| assembler.add(at, 1).is_ok()), wanted);
+    assert_eq!(count(|at| receiver.segment(at as u64, b"a").is_ok()), wanted);
+    assert_eq!(count(|at| fragments.add(at, b"a").is_ok()), wanted);
 }

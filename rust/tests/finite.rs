@@ -1,7 +1,7 @@
 //! Streams that end, as no row of `net_cases` shows them: closures, and calls of the receiver of the bytes.
 mod support;
 
-use net_base::finite::FiniteReceiver;
+use net_base::finite::{FiniteReceiver, FiniteSender};
 use support::message;
 
 /// A closure is lent the contiguous bytes, and those that it counts are read: if it counts more or panics, none.
@@ -9,7 +9,7 @@ use support::message;
 fn closures() {
     let mut storage = [0u8; 8];
     let mut it = FiniteReceiver::<2>::empty_at(&mut storage[..], 5);
-    assert!(it.segment(5, b"abcdef", true).is_ok());
+    assert!(it.keep(5, b"abcdef", true).is_ok());
     assert_eq!(it.read_with(|part| (2, part.to_vec())), (2, b"abcdef".to_vec()));
     assert_eq!((it.len(), it.acknowledged(), it.has_read_all()), (4, 12, false));
     let more = "more bytes than were lent";
@@ -20,15 +20,43 @@ fn closures() {
     assert!(it.is_empty() && it.has_read_all());
 }
 
+/// A segment's bytes and an end after them have numbers below `u64::MAX`.
+#[test]
+fn lengths() {
+    let fits = FiniteReceiver::<2>::fits;
+    assert!(fits(0, 9) && fits(u64::MAX - 4, 3) && fits(u64::MAX - 1, 0));
+    assert!(!fits(u64::MAX - 4, 4) && !fits(u64::MAX - 1, 1) && !fits(u64::MAX, 0));
+    let mut storage = [0u8; 8];
+    let last = FiniteReceiver::<2>::empty_at(&mut storage[..], u64::MAX - 1);
+    assert_eq!((last.acknowledged(), last.end()), (u64::MAX - 1, None));
+    let begin = || FiniteReceiver::<2>::empty_at(&mut storage[..], u64::MAX).acknowledged();
+    assert_eq!(message(begin), "no number is left for an end");
+}
+
 /// The storage wraps: what is lent ends there.
 #[test]
 fn wrapped() {
     let mut storage = [0u8; 4];
     let mut it = FiniteReceiver::<2>::empty_at(&mut storage[..], 0);
-    assert!(it.segment(0, b"abc", false).is_ok());
+    assert!(it.keep(0, b"abc", false).is_ok());
     assert_eq!(it.read_with(|_| (3, ())).0, 3);
-    assert!(it.segment(3, b"def", true).is_ok());
+    assert!(it.keep(3, b"def", true).is_ok());
     assert_eq!(it.read_with(|part| (part.len(), part.to_vec())), (1, b"d".to_vec()));
     assert_eq!(it.read_with(|part| (part.len(), part.to_vec())), (2, b"ef".to_vec()));
     assert!(it.has_read_all() && it.held().count() == 0 && it.window() == 4);
+}
+
+/// A stream begins below the last number, which would be its end's.
+#[test]
+fn no_number_for_the_end() {
+    let (mut storage, mut bytes) = ([0u8; 4], [0u8; 4]);
+    let mut sender = FiniteSender::new_at(&mut storage[..], u64::MAX - 1);
+    assert_eq!((sender.window(), sender.write(b"a")), (0, 0));
+    sender.close();
+    assert_eq!((sender.numbers_end(), sender.mark_sent(u64::MAX)), (u64::MAX, true));
+    assert!(sender.acknowledge(u64::MAX) && sender.is_closed_and_acknowledged());
+    let none = "no number is left for an end";
+    assert_eq!(message(|| sender.reset_at(u64::MAX)), none);
+    assert_eq!(message(|| FiniteSender::new_at(&mut bytes[..], u64::MAX).len()), none);
+    assert_eq!(message(|| FiniteReceiver::<2>::empty_at(&mut bytes[..], u64::MAX).len()), none);
 }

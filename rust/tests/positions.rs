@@ -104,15 +104,17 @@ fn finite() {
     for first in begins() {
         let (mut storage, mut bytes) = ([0u8; 16], [0u8; 16]);
         let mut it = FiniteReceiver::<2>::empty_at(&mut storage[..], first);
-        assert_eq!(it.segment(first + 2, b"cd", true).map(|kept| kept.kept), Ok(2));
+        assert_eq!(it.keep(first + 2, b"cd", true).map(|kept| kept.kept), Ok(2));
         for pos in aliases(first + 2).filter(|&pos| pos < u64::MAX - 2) {
-            assert_eq!(it.segment(pos, b"no", true), Err(FiniteError::OtherEnd), "{first} {pos}");
+            assert_eq!(it.keep(pos, b"no", true), Err(FiniteError::OtherEnd), "{first} {pos}");
             assert!(!it.can_end(pos) && it.end() == Some(first + 4));
         }
-        assert_eq!(it.segment(first, b"abcdef", false).map(|kept| kept.queued), Ok(4));
+        assert_eq!(it.keep(first, b"abcdef", false).map(|kept| kept.queued), Ok(4));
         assert_eq!((it.acknowledged(), it.is_complete()), (first + 5, true));
         let mut it = FiniteSender::new_at(&mut bytes[..], first);
-        assert_eq!((it.write(b"ab"), it.close(), it.numbers_end()), (2, true, first + 3));
+        assert_eq!(it.write(b"ab"), 2);
+        it.close();
+        assert_eq!(it.numbers_end(), first + 3);
         for pos in aliases(first + 1) {
             assert_eq!(it.peek_at(pos, 4), (&b""[..], false), "{first} {pos}");
             assert!(!it.acknowledge(pos), "{first} {pos}");

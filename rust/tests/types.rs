@@ -7,14 +7,14 @@ use std::fmt::{Debug, Display};
 use std::hash::{Hash, Hasher};
 use std::sync::Mutex;
 
-use net_base::finite::{FiniteError, FiniteReceiver};
+use net_base::finite::{FiniteError, FiniteReceiver, FiniteReceiverOver, FiniteSenderOver};
 use net_base::managed::ManagedSlice;
 use net_base::phy::{
     Checksum, ChecksumCapabilities, DeviceCapabilities, Medium, PacketLoopback, PacketMeta,
     SegmentationCapabilities, IPV4_FRAGMENT_PAYLOAD_ALIGNMENT,
 };
 use net_base::rand::Rand;
-use net_base::receiver::{Kept, Receiver, ReceiverOver};
+use net_base::receiver::{Kept, KeptBytes, Receiver, ReceiverOver};
 use net_base::scoreboard::Scoreboard;
 use net_base::sender::{Sender, SenderOver};
 use net_base::sequence_number::SequenceNumber;
@@ -23,8 +23,8 @@ use net_base::storage::{
     PacketMetadata, PacketsOver, RingBuffer, RingOver, Storage, TooManyHolesError,
 };
 use net_base::tcp::{
-    AdvertisedWindow, PartsSum, PeerWindow, RetransmissionTimeout, RttEstimate, TimeoutBounds,
-    Transmission,
+    AdvertisedWindow, Arrival, PartsSum, PeerWindow, RetransmissionTimeout, RttEstimate, Segment,
+    TimeoutBounds, Transmission, MAX_SCALE,
 };
 use net_base::time::{Duration, Instant};
 
@@ -51,11 +51,19 @@ fn texts_of_values() {
     assert_eq!(debug(Rand::new(7)), "Rand { state: 7 }");
     assert_eq!(debug(Instant::from_micros(-7)), "Instant { micros: -7 }");
     assert_eq!(debug(Duration::from_micros(7)), "Duration { micros: 7 }");
-    assert_eq!(debug(Kept { kept: 3, queued: 2 }), "Kept { kept: 3, queued: 2 }");
+    assert_eq!(debug(KeptBytes { kept: 3, queued: 2 }), "KeptBytes { kept: 3, queued: 2 }");
+    assert_eq!(
+        debug(Kept { kept: 3, queued: 2, sack: [Some((7, 9)), None, None] }),
+        "Kept { kept: 3, queued: 2, sack: [Some((7, 9)), None, None] }"
+    );
     assert_eq!(debug(PacketMetadata::<u8>::EMPTY), "PacketMetadata { size: 0, header: None }");
     assert_eq!(debug(AdvertisedWindow::new(9)), "AdvertisedWindow { edge: 9 }");
     assert_eq!(debug(PeerWindow::new(1, 2, 3)), "PeerWindow { edge: 5, seq: 1, ack: 2 }");
-    assert_eq!(debug(PartsSum::new()), "PartsSum { sum: 0, odd: false }");
+    let segment = Segment { seq: 1, len: 2, syn: true, ack: false, rst: true };
+    let text = "Segment { seq: 1, len: 2, syn: true, ack: false, rst: true }";
+    assert_eq!(debug(segment), text);
+    assert_eq!(debug(Arrival::AcknowledgementOnly), "AcknowledgementOnly");
+    assert_eq!(debug(PartsSum::new()), "PartsSum { sum: 0, odd: 0 }");
     assert_eq!(debug(RttEstimate::first(4)), "RttEstimate { srtt_8: 32, rttvar_4: 8 }");
     assert_eq!(
         debug(RetransmissionTimeout::new(5)),
@@ -83,10 +91,10 @@ fn texts_of_what_stores() {
         "PacketBuffer { packet_capacity: 3, slots_used: 1, payload_capacity: 16, payload_bytes_count: 5 }"
     );
     let mut receiver = FiniteReceiver::<2>::empty_at(&mut bytes[..], 100);
-    assert!(receiver.segment(103, b"d", true).is_ok());
+    assert!(receiver.keep(103, b"d", true).is_ok());
     assert_eq!(
         debug(&receiver),
-        "FiniteReceiver { receiver: Receiver { next: 100, len: 0, window: 16, held: [(103, 104)] }, end: Some(104) }"
+        "FiniteReceiver { next: 100, len: 0, window: 16, held: [(103, 104)], end: Some(104) }"
     );
     let mut scoreboard = Scoreboard::<2>::empty();
     scoreboard.acknowledge(10);
@@ -125,8 +133,10 @@ fn comparisons() {
     all(Medium::Ethernet, Medium::Ip);
     all(FragmentError::TooLong, FragmentError::OtherSize);
     all(FiniteError::TooManyHoles, FiniteError::OtherEnd);
-    all(Kept { kept: 1, queued: 2 }, Kept { kept: 2, queued: 1 });
-    all(Kept { kept: 1, queued: 2 }, Kept { kept: 1, queued: 1 });
+    all(KeptBytes { kept: 1, queued: 2 }, KeptBytes { kept: 2, queued: 1 });
+    all(KeptBytes { kept: 1, queued: 2 }, KeptBytes { kept: 1, queued: 1 });
+    let kept = |start| Kept { kept: 1, queued: 2, sack: [Some((start, 9)), None, None] };
+    all(kept(7), kept(8));
     all(SequenceNumber::new(3), SequenceNumber::new(4));
     all(Instant::from_micros(3), Instant::from_micros(4));
     all(Duration::from_micros(3), Duration::from_micros(4));
@@ -172,6 +182,7 @@ fn clones_and_defaults() {
 /// What can be called where a constant is made.
 #[test]
 fn constants() {
+    assert_eq!(MAX_SCALE, 14);
     const ASSEMBLER: Assembler<3> = Assembler::empty();
     const FOUR: Assembler = Assembler::new();
     const SCOREBOARD: Scoreboard<3> = Scoreboard::empty();
@@ -232,7 +243,7 @@ fn threads() {
     both::<Sender<'_>>();
     both::<Scoreboard<4>>();
     both::<(Rand, SequenceNumber, Instant, Duration, DeviceCapabilities, PacketMeta)>();
-    both::<(PartsSum, PeerWindow, AdvertisedWindow, RetransmissionTimeout)>();
+    both::<(PartsSum, PeerWindow, AdvertisedWindow, RetransmissionTimeout, Segment, Arrival)>();
     both::<PacketLoopback<'_>>();
     fn sent<T: Send>() {}
     sent::<RingBuffer<'_, std::cell::Cell<u8>>>();
@@ -283,6 +294,14 @@ fn lifetimes() {
     let (count, part) = ring.enqueue_many_with(|part| (part.len(), part));
     part[0] = 9;
     assert_eq!((count, ring.get(0)), (3, Some(&9)));
+    let (mut slots, mut storage) = ([PacketMetadata::EMPTY; 2], [1u8, 2, 3]);
+    let mut queue = PacketBuffer::new(&mut slots[..], &mut storage[..]);
+    let mut kept = None;
+    let enqueued = queue.enqueue_with_infallible(3, (), |part| {
+        part[1] = 8;
+        kept.insert(part).len()
+    });
+    assert_eq!((enqueued, kept), (Ok(3), Some(&mut [1, 8, 3][..])));
 }
 
 /// A text under options, and through a `dyn`.
@@ -308,5 +327,9 @@ fn arrays() {
     let mut queue = PacketsOver::<u8, _, _>::over([PacketMetadata::EMPTY; 3], [0u8; 8]);
     assert!(queue.push_slice(1, b"ab").is_ok() && queue.push_slice(2, b"cde").is_ok());
     assert!(queue.dequeue().is_ok());
-    assert_eq!(queue.peek(), Ok((&2, &b"cde"[..])));
+    assert_eq!((queue.len(), queue.peek()), (1, Ok((&2, &b"cde"[..]))));
+    let mut receiver = FiniteReceiverOver::<[u8; 4], 2>::over_at([0; 4], 7);
+    assert!(receiver.keep(7, b"ab", true).is_ok() && receiver.acknowledged() == 10);
+    let mut sender = FiniteSenderOver::over_at([0u8; 4], 7);
+    assert_eq!((sender.write(b"ab"), sender.numbers_end()), (2, 9));
 }

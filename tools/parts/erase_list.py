@@ -10,10 +10,14 @@ CRATES = {
     'net_ring': [],
     'net_packets': [],
     'net_assembler': [],
-    'net_receiver': ['schedule', 'command', 'reply', 'sack_sender', 'for_rattle', 'kept'],
-    'net_base': ['loopback', 'device', 'echo', 'rx_token', 'tx_token', 'frame_lists', 'non_zero_u16', 'non_zero_usize'],
+    'net_receiver': ['schedule', 'command', 'reply'],
+    'net_base': ['loopback', 'device', 'echo', 'frame_lists', 'non_zero'],
     'net_tcp': [],
+    'net_ffi': [],
 }
+
+# The exports for C, which the shim of `c` calls: they are compiled with the feature `c` alone, and have no documentation.
+EXPORTS = 'net_ffi'
 
 # Parameters that are all that converts to their types, as smoltcp's are.
 INTO = {
@@ -25,7 +29,7 @@ INTO = {
 }
 
 # Functions that the layer by hand has for one number of runs, as smoltcp.
-BY_HAND = ['Assembler::new', 'FragmentBuffer::new']
+BY_HAND = ['Assembler::new', 'FragmentBuffer::new', 'Receiver::new', 'Receiver::new_at']
 
 # Public functions with a precondition and no guard of their own, and why they need none.
 CLOSURE = 'Rust knows that a closure can be called; what it counts is tested'
@@ -42,44 +46,60 @@ UNGUARDED = {
 # A file, or nothing for all; an old text, which occurs there; the new one.
 REPLACED = [
     ('', 'fn fmt<W: fmt::Write>(&self, f: &mut fmt::Formatter<W>)', "fn fmt(&self, f: &mut fmt::Formatter<'_>)"),
-    ('', ', const N: usize> =', ', const N: usize = 4> ='),
-    ('', 'KeptBytes', 'Kept'),
-    ('', 'fn keep(&mut self, pos: u64, bytes: &[u8]', 'fn segment(&mut self, pos: u64, bytes: &[u8]'),
-    ('', '.keep(pos, ', '.segment(pos, '),
+    ('', ', const N: usize> =', ', const N: usize = { crate::rattle::ASSEMBLER_MAX_SEGMENT_COUNT }> ='),
     ('net_ring/managed.rt', '&self.as_slice()[', '&self['),
     ('net_ring/managed.rt', '.slice_mut(', '.index_mut('),
     ('net_ring/ring_buffer.rt', '#[derive(Debug)]\npub struct RingOver', 'pub struct RingOver'),
-    ('net_ring/ring_buffer/one.rt', '_with<R, E, F: FnOnce(&mut T) -> Result<R, E>>(\n        &mut self,',
+    ('net_ring/ring_buffer.rt', '_with<R, E, F: FnOnce(&mut T) -> Result<R, E>>(\n        &mut self,',
      "_with<'b, R, E, F: FnOnce(&'b mut T) -> Result<R, E>>(\n        &'b mut self,"),
-    ('net_ring/ring_buffer/many.rt', '_with<R, F: FnOnce(&mut [T]) -> (usize, R)>(&mut self,',
+    ('net_ring/ring_buffer.rt', '_with<R, F: FnOnce(&mut [T]) -> (usize, R)>(&mut self,',
      "_with<'b, R, F: FnOnce(&'b mut [T]) -> (usize, R)>(&'b mut self,"),
     ('net_packets/packet_buffer.rt', '#[derive(Debug, Drop)]\npub struct PacketsOver', 'pub struct PacketsOver'),
-    ('net_packets/packet_buffer/closures.rt', '_infallible<F: FnOnce(&mut [u8]) -> usize>(\n        &mut self,',
+    ('net_packets/packet_buffer.rt', '_infallible<F: FnOnce(&mut [u8]) -> usize>(\n        &mut self,',
      "_infallible<'b, F: FnOnce(&'b mut [u8]) -> usize>(\n        &'b mut self,"),
-    ('net_packets/packet_buffer/closures.rt',
-     'dequeue_with<R, E, F: FnOnce(&mut H, &mut [u8]) -> Result<R, E>>(\n        &mut self,',
-     "dequeue_with<'c, R, E, F: FnOnce(&mut H, &'c mut [u8]) -> Result<R, E>>(\n        &'c mut self,"),
+    ('net_packets/packet_buffer.rt', '_with<R, E, F: FnOnce(&mut H, &mut [u8]) -> Result<R, E>>(\n        &mut self,',
+     "_with<'c, R, E, F: FnOnce(&mut H, &'c mut [u8]) -> Result<R, E>>(\n        &'c mut self,"),
     # The header stays in its slot, so that the packet stays if the closure panics.
-    ('net_packets/packet_buffer/closures.rt',
+    ('net_packets/packet_buffer.rt',
      '        let Some((size, mut header)) = lift_header(&mut self.slots, at) else {\n'
      '            return Err(Empty);\n        };\n        let slot_count = self.slots.count();\n'
      '        let capacity = self.bytes.count();\n',
      '        let slot_count = self.slots.count();\n        let capacity = self.bytes.count();\n'
      '        let slot = self.slots.element_mut(at);\n        let size = slot.size;\n'
      '        let Some(header) = slot.header.as_mut() else {\n            return Err(Empty);\n        };\n'),
-    ('net_packets/packet_buffer/closures.rt', 'f(&mut header, ', 'f(header, '),
-    ('net_packets/packet_buffer/closures.rt',
-     '} else {\n            put_header(&mut self.slots, at, size, header);\n        }', '}'),
+    ('net_packets/packet_buffer.rt', 'f(&mut header, ', 'f(header, '),
+    ('net_packets/packet_buffer.rt', ' else {\n            put_header(&mut self.slots, at, size, header);\n        }', ''),
     ('net_assembler/assembler.rt', '#[derive(Debug, Drop)]\npub struct Assembler<const N: usize> {',
-     '#[derive(Clone)]\npub struct Assembler<const N: usize = 4> {'),
-    ('net_base/phy.rt', 'pub use non_zero_u16::NonZeroU16;', 'pub use std::num::NonZeroU16;'),
-    ('net_base/phy.rt', 'pub use non_zero_usize::NonZeroUsize;', 'pub use std::num::NonZeroUsize;'),
-    ('net_base/phy/packet_meta.rt', 'pub struct PacketMeta', '#[non_exhaustive]\npub struct PacketMeta'),
-    ('net_base/phy/packet_meta.rt', '    pub seg', '    #[cfg(feature = "segmentation-offload")]\n    pub seg'),
-    ('net_base/phy/checksum_capabilities.rt', 'pub struct Che', '#[non_exhaustive]\npub struct Che'),
-    ('net_base/phy/device_capabilities.rt', 'pub struct Dev', '#[non_exhaustive]\npub struct Dev'),
-    ('net_receiver/lib.rt', 'Kept, Kept,', 'Kept,'),
-    ('net_receiver/receiver/newest.rt', 'fn newest<', 'fn newest_runs<'),
-    ('net_receiver/finite/receiver/bytes.rt', 'fn newest<', 'fn newest_runs<'),
-    ('net_receiver/finite/receiver/bytes.rt', '.newest(', '.newest_runs('),
+     '#[derive(Clone)]\npub struct Assembler<const N: usize = { crate::rattle::ASSEMBLER_MAX_SEGMENT_COUNT }> {'),
+    ('net_base/phy.rt', 'pub use non_zero::{NonZeroU16, NonZeroUsize};', 'pub use std::num::{NonZeroU16, NonZeroUsize};'),
+    ('net_base/phy.rt', 'pub struct PacketMeta', '#[non_exhaustive]\npub struct PacketMeta'),
+    ('net_base/phy.rt', '    pub segmentation_off', '    #[cfg(feature = "segmentation-offload")]\n    pub segmentation_off'),
+    ('net_base/phy.rt', 'pub struct ChecksumC', '#[non_exhaustive]\npub struct ChecksumC'),
+    ('net_base/phy.rt', 'pub struct Dev', '#[non_exhaustive]\npub struct Dev'),
 ]
+
+# Of each iterator how many elements are left, which Rattle's trait doesn't tell: its generics, its type, and the number.
+COUNTED = [
+    ("<'a, T>", "Iter<'a, T>", 'self.first.len() + self.second.len()'),
+    ("<'a>", "RunIter<'a>", 'self.rest.len()'),
+    ("<'a>", "HoleIter<'a>", 'self.runs.len()'),
+    ("<'a>", "HeldRunIter<'a>", 'self.runs.len()'),
+    ('<const K: usize>', 'NewestRunIter<K>', 'self.count - self.from'),
+]
+for generics, name, count in COUNTED:
+    begin = f'impl{generics} Iterator for {name} {{\n'
+    REPLACED.append(('', begin, f'''impl{generics} ExactSizeIterator for {name} {{}}
+
+impl{generics} core::iter::FusedIterator for {name} {{}}
+
+{begin}    fn size_hint(&self) -> (usize, Option<usize>) {{
+        let count = {count};
+        (count, Some(count))
+    }}
+
+'''))
+
+# The machines of a TCP, which a program may compare.
+for name in ('struct AdvertisedWindow', 'struct PartsSum', 'struct PeerWindow', 'struct RttEstimate', 'struct TimeoutBounds',
+             'enum Transmission', 'struct RetransmissionTimeout'):
+    REPLACED.append(('', f'Debug)]\npub {name}', f'Debug, PartialEq, Eq, Hash)]\npub {name}'))

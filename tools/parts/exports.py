@@ -118,7 +118,7 @@ class C:
     """How C writes values of a type, and compares them; and the program."""
 
     def __init__(self, table):
-        self.table, self.structs = table, table.library.structs
+        self.table, self.structs, self.is_wide = table, table.library.structs, False
 
     def value(self, tree, kind):
         if kind == "bool":
@@ -151,8 +151,10 @@ class C:
         members = [it for it in row.item.members if it.name in row.left]
         return [it for member in members for it in self.compared(member.name, row.left[member.name], pointee(member))]
 
-
     def literal(self, number, kind):
+        if kind == "usize" and 2**64 - 1 - number < 100:
+            return "SIZE_MAX" + f" - {2**64 - 1 - number}" * (number < 2**64 - 1)
+        self.is_wide |= kind == "usize" and number >= 2**32
         bits = 64 if kind.endswith("size") else int(re.sub(r"\D", "", kind))
         sign = "U" if kind[0] == "u" else ""
         least = 0 if sign else -(2 ** (bits - 1))
@@ -189,7 +191,22 @@ class C:
         return [], f"&({ffi.c_type(kind)}){value}" if member.type.startswith("&") else value
 
     def row(self, row):
-        arguments = [self.argument(member, row.arguments[member.name]) for member in row.item.members]
+        """The lines of a row; one with a length of more than 32 bits is left out where a `size_t` has no more."""
+        self.is_wide = False
+        lines = self.lines(row)
+        return ["#if SIZE_MAX > UINT32_MAX", *lines, "#endif"] if self.is_wide else lines
+
+    def nulls(self, row):
+        """The lines of calls with each pointer of a row null in turn: they are refused, and nothing changes."""
+        words = ffi.refusal(row.item, self.structs)
+        result = words if isinstance(words, str) else ["{", *words]
+        return [line for it in row.item.members if it.type.startswith("&")
+                for line in self.lines(Row(row.line, row.item, row.arguments, result, {
+                    name: row.arguments[name] for name in row.left if name != it.name}), it)]
+
+    def lines(self, row, null=None):
+        arguments = [([], "NULL, 1" if "[" in it.type else "NULL") if it is null else
+                     self.argument(it, row.arguments[it.name]) for it in row.item.members]
         lines = [line for variable, _ in arguments for line in variable]
         call = f"{row.item.name}({', '.join(passed for _, passed in arguments)})"
         if not row.item.type:
@@ -208,7 +225,7 @@ class C:
 
     def program(self):
         lines = [HEAD]
-        wrong = " || ".join(f"NET_BASE_{name} != {self.literal(it, 'u64')}" for name, it in self.table.numbers.items())
+        wrong = " || ".join(f"NET_BASE_{name} != {self.literal(it, 'usize')}" for name, it in self.table.numbers.items())
         lines += [f"#if {wrong}".replace(" || ", " \\\n    || "), '#error "a number of net_base.h isn\'t that of the table"', "#endif"]
         for name in sorted({item.type for item in self.table.exports.values()} & set(self.structs)):
             members = self.structs[name].members
@@ -217,7 +234,7 @@ class C:
             lines += [f"    return {' && '.join(f'it.{it.name} == {it.name}' for it in members)};", "}"]
         for name, rows in self.table.rows.items():
             lines += ["", f"static void check_{name.removeprefix('net_base_')}(void) {{"]
-            lines += [line for row in rows for line in self.row(row)] + ["}"]
+            lines += [line for row in rows for line in self.row(row)] + self.nulls(rows[0]) + ["}"]
         lines += ["", "static void check_exports(void) {"]
         lines += [f"    check_{name.removeprefix('net_base_')}();" for name in self.table.rows] + ["}"]
         return "\n".join(lines) + "\n" + TAIL

@@ -35,7 +35,7 @@ TESTS = [
     (rf"{TERM} \+ len < no_end", "{all}", "!FiniteReceiverHead::fits({c0}, len)",
      "the segment and an end after it don't fit 64 bits", True),
     (rf"IsSoundBoard {TERM} {TERM}", "{all}", "!{c0}.is_sound({c1})", "`{c0}` isn't sound with `{c1}`", True),
-    (rf"RangeFits {TERM} {TERM}", "{all}", "!AssemblerHead::fits({c0}, {c1})", "`{c0} + {c1}` doesn't fit 64 bits", True),
+    (rf"RangeFits {TERM} {TERM}", "{all}", "!AssemblerHead::fits({c0}, {c1})", "`{c0} + {c1}` doesn't fit a `size_t`", True),
     (rf"{TERM} \+ length {TERM} < 2 \^ 64", "{all}", "{c1}.len() as u64 > u64::MAX - {c0}",
      "the segment doesn't end within 64 bits", True),
     (r"(sender\S*\.first_unacknowledged) \+ (\S+) < 2 \^ 64", "{all}", "{c1} as u64 > u64::MAX - {c0}",
@@ -102,6 +102,7 @@ RESULTS = {
         "(result.status ≡ NET_BASE_REFUSED) × (result.length ≡ 0)", "the status is `NET_BASE_REFUSED`, and the length 0",
         "(length_or_many result.status result.length)",
         (("status", "result.status < 2"), ("none", "result.status ≡ 1 → result.length ≡ 0"))),
+    "Arrival": Result("u32", "number_of({call})", "", "", ""),
     "Option<(usize, usize)>": Result(
         "Run", "run_of({call})", "NO_RUN", "result ≡ (2 ^ 64 - 1, 2 ^ 64 - 1)", f"both are `{NONE}`",
         "unwrap_or"),
@@ -201,6 +202,7 @@ class Export:
         if self.head.name in self.head.uses:
             clause = re.sub(rf"(?<![\w.]){self.head.name}(?=[ )])", f"{self.head.name}_of", clause)
         clause = clause.replace("FragmentError.", "")
+        clause = re.sub(r"\bArrival\.(\w+)", lambda it: f"NET_BASE_{re.sub('(?<=[a-z])(?=[A-Z])', '_', it[1]).upper()}", clause)
         for old, new in self.head.names.items():
             clause = re.sub(rf"(?<![\w.]){old}\b", new, clause)
         for name in self.copied:
@@ -450,17 +452,17 @@ def file_of(head, exports):
             imports.setdefault(module, []).append(name)
     lines += [""] * bool(imports)
     for module, names in sorted(imports.items()):
-        lines += imported(f"use {module}::{{", sorted(names))
+        lines.append(f"use {module}::{{{', '.join(sorted(names))}}};")
     return "\n".join(lines + body) + "\n"
 
 
 CODE = {name: module for module, names in {
-    "crate::refusals": "NET_BASE_DONE NET_BASE_MISSING NET_BASE_NONE NET_BASE_PRESENT NET_BASE_REFUSED NO_FRONT NO_RUN NO_SPAN",
-    "crate::results": "FrontLength Hole front_length presence_of run_of status_of status_of_fragment",
+    "crate::refusals": "NET_BASE_ACKNOWLEDGEMENT_ONLY NET_BASE_ANSWER NET_BASE_IGNORE NET_BASE_RESET NET_BASE_TAKE NET_BASE_DONE NET_BASE_MISSING NET_BASE_NONE NET_BASE_PRESENT NET_BASE_REFUSED NO_FRONT NO_RUN NO_SPAN",
+    "crate::results": "FrontLength Hole front_length number_of presence_of run_of status_of status_of_fragment",
     "crate::receiver": "has_next", "crate::finite_receiver": "has_number",
     "net_assembler": "AssemblerHead Run", "net_ring": "RingHead Span", "net_base::storage": "FragmentsHead",
     "net_packets": "PacketSlot PacketsHead", "net_receiver": "FiniteReceiverHead FiniteSenderHead HeldRun ReceiverHead ScoreboardHead SenderHead",
-    "net_tcp": "AdvertisedWindow MAX_SCALE PartsSum PeerWindow RetransmissionTimeout RttEstimate TimeoutBounds",
+    "net_tcp": "AdvertisedWindow MAX_SCALE PartsSum PeerWindow RetransmissionTimeout RttEstimate Segment TimeoutBounds",
 }.items() for name in names.split()}
 
 

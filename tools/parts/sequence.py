@@ -217,7 +217,7 @@ class Call:
         if inner := re.fullmatch(r"&(?:mut )?\[([^;]+)\]", kind):
             usual = USUAL.get(member.name, OTHER_SLICE)
             variable = self.memory.name(self.subject, member.name, inner[1], usual + ROOM)
-            self.arguments += [variable, self.drawn("uint64_t", f"{member.name}_length", f"length({usual}, {usual + ROOM})")]
+            self.arguments += [variable, self.drawn("size_t", f"{member.name}_length", f"length({usual}, {usual + ROOM})")]
         elif inner := re.fullmatch(r"[&*](?:mut |const )?(\w+)", kind):
             self.arguments.append("&" + self.memory.name(self.subject, member.name, inner[1]))
         elif kind in ffi.C_TYPES:

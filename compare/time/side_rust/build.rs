@@ -31,7 +31,7 @@ const STREAM: &str = "
 impl<const N: usize> Stream for net_base::receiver::Receiver<'_, N> {
     #[inline]
     fn segment(&mut self, position: u64, bytes: &[u8]) -> Option<Segment> {
-        let kept = self.segment(position, bytes).ok()?;
+        let kept = self.keep(position, bytes).ok()?;
         Some(Segment { kept: kept.kept, queued: kept.queued })
     }
     #[inline]

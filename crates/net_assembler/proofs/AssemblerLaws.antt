@@ -1,5 +1,5 @@
 -- Laws of sets of positions and of what the contracts of an assembler's calls say.
-use Rattle.std.proofs.Common.{◌≡◌, ℕ, zero, suc, ◌+◌, ◌/◌, ◌<◌, ◌≤◌, ◌^◌, false, ◌&&◌, ◌||◌, ◌==◌, List, []}
+use Rattle.std.proofs.Common.{◌≡◌, ℕ, zero, suc, ◌+◌, ◌/◌, ◌<◌, ◌≤◌, ◌^◌, ◌&&◌, ◌||◌, ◌==◌, List, []}
 use Rattle.std.proofs.Common.{◌∷◌, length, drop, nat_le, nat_lt, nat_eq, refl, sym, ap, subst, ◌∙◌, arith}
 use Rattle.std.specs.Prelude.{Option, Some, None, Ok, Err}
 use Rattle.std.specs.List.{list_any}
@@ -8,7 +8,6 @@ use Rattle.std.proofs.Math.Bool.{or_assoc, or_comm, or_self}
 use Rattle.std.proofs.Math.Seq.{drop-nil}
 use Rattle.std.proofs.Math.Nat.{pow-suc}
 use Rattle.std.proofs.Math.Pow.{pow_mono}
-use Rattle.std.proofs.lemmas.Bool.{cases_lt, false≢true, lt-leb}
 use Rattle.std.proofs.lemmas.Nat.{pow_pos}
 use Rattle.std.proofs.lemmas.Int.Digits.{length-digits_of_step, length-digits_of-le}
 use Rattle.net_assembler.specs.Positions.{Positions, contains, with_range, front, runs, maximal_runs, AreMaximalRuns}
@@ -19,7 +18,7 @@ use Rattle.net_assembler.specs.AssemblerLaws.{FirstMissingIsLeast, FrontIsLeastM
 use Rattle.net_assembler.specs.AssemblerLaws.{MaximalRunsByNumber, EnoughBinaryDigits, EqualAssemblers}
 use Rattle.net_assembler.specs.AssemblerLaws.{RangeAgain, AddingAgain, AddingInBothOrders}
 use Rattle.net_assembler.specs.AssemblerLaws.{IteratesMaximalRuns}
-use Rattle.net_assembler.proofs.Positions.{has, either, same_positions, contains-set_of_list}
+use Rattle.net_assembler.proofs.Positions.{has, same_positions, contains-set_of_list}
 use Rattle.net_assembler.proofs.Positions.{contains-with_range, first_missing-misses, first_missing-has}
 use Rattle.net_assembler.proofs.Positions.{first_missing-le, too_many}
 use Rattle.net_assembler.proofs.MaximalRuns.{are_maximal_runs, equal_maximal_runs, run_by_number, no_run_by_number}
@@ -146,14 +145,3 @@ no_turn looks moves t = record {
   no_look_lost = omega arith;
   no_move_lost = omega arith;
 }
-
--- where 0 is missing, a later range leaves it so
-pub front-with_range : (s : Positions) (o n : ℕ) → 0 < o → front s ≡ 0 → front (with_range s o n) ≡ 0
-front-with_range s o n l e =
-    let all = with_range s o n in
-    let missing : contains s 0 ≡ false = subst (λ (k : ℕ). contains s k ≡ false) e (front_is_least_missing s).missing in
-    let outside : (contains s 0 || (nat_le o 0 && nat_lt 0 (o + n))) ≡ false =
-    (λ i. missing i || (nat_le o 0 && nat_lt 0 (o + n))) ∙ ap (λ b. b && nat_lt 0 (o + n)) (lt-leb o 0 l) in
-    either (cases_lt 0 (front all))
-    (λ some. absurd (false≢true (sym (contains-with_range s o n 0 ∙ outside) ∙ (front_is_least_missing all).present 0 (omega arith) some)))
-    (λ none. omega arith)

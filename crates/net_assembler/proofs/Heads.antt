@@ -1,12 +1,12 @@
 -- A head and runs that are those of an assembler: its runs as a list, and their set.
 use Rattle.std.proofs.Common.{◌≡◌, ℕ, ◌+◌, ◌-◌, ◌<◌, ◌≤◌, ◌^◌, List, [], ◌∷◌, length, take, drop, set, get_or}
-use Rattle.std.proofs.Common.{max, refl, sym, ap, subst, ◌∙◌, arith}
-use Rattle.std.specs.Prelude.{Result, Ok, Err, IsOk, IsErr}
-use Rattle.std.proofs.lemmas.List.{length-set, take_more_set, length-map, length-take-le, length-drop, get_or-take}
+use Rattle.std.proofs.Common.{max, min, refl, sym, ap, subst, ◌∙◌, arith}
+use Rattle.std.specs.Prelude.{Result, Ok, Err, IsOk, IsErr, OnErr}
+use Rattle.std.proofs.lemmas.List.{nil_from_length, length-map, length-take-le, length-drop, get_or-take}
 use Rattle.net_assembler.specs.declared.assembler.error.TooManyHolesError.{TooManyHolesError}
 use Rattle.net_assembler.specs.declared.assembler.head.AssemblerHead.{AssemblerHead}
 use Rattle.net_assembler.specs.AssemblerLaws.{Adds, AddsThenRemovesFront}
-use Rattle.net_assembler.specs.Positions.{Positions, front, holes, holes_before, runs, runs_shifted_up}
+use Rattle.net_assembler.specs.Positions.{Positions, front, holes, holes_before, nothing, runs, runs_shifted_up}
 use Rattle.net_assembler.specs.Positions.{with_range, maximal_runs, shift_down}
 use Rattle.net_assembler.specs.RunLists.{start_at, end_at, AreRuns, HasSoundRuns, StartsAtZero, FitsFrom}
 use Rattle.net_assembler.specs.RunLists.{used_runs, runs_of, set_of, set_of_runs, runs_with_range}
@@ -15,13 +15,13 @@ use Rattle.std.proofs.lemmas.Bool.{cases_lt}
 use Rattle.std.proofs.Math.Seq.{take-set-lt}
 use Rattle.net_assembler.proofs.MaximalRuns.{one_run_more}
 use Rattle.net_assembler.proofs.Positions.{either, too_many}
-use Rattle.net_assembler.proofs.Runs.{rising-runs_with_range, set-shifted_down, front_of_runs}
+use Rattle.net_assembler.proofs.Runs.{rising-runs_with_range, set-shifted_down, front_of_runs, step_after, step_before, step_meets}
 use Rattle.net_assembler.proofs.Runs.{front-set_of_runs, runs-set_of_runs, maximal_runs-set_of_runs}
 use Rattle.net_assembler.proofs.Runs.{set_of_runs_injective, set-runs_with_range, runs-runs_with_range}
 use Rattle.net_assembler.proofs.RunLists.{front_none, shift_down-zero, Completed, completed_at, at_run, apart}
-use Rattle.net_assembler.proofs.RunLists.{front_of_first, with_range-none, top_of}
+use Rattle.net_assembler.proofs.RunLists.{front_of_first, front_some, no_runs, shifted_down_set, with_range-none, top_of}
 use Rattle.net_assembler.proofs.ShiftedRuns.{end_at-up, top_before, down-zero, start_at-up}
-use Rattle.net_assembler.proofs.ShiftedRuns.{alone-runs_with_range, first-runs_with_range}
+use Rattle.net_assembler.proofs.ShiftedRuns.{first-runs_with_range, up-none}
 use Rattle.net_assembler.proofs.ShiftedRuns.{fits-runs_with_range, fits-up, up-runs_with_range, up-up}
 use Rattle.net_assembler.proofs.ShiftedRuns.{zero-runs_with_range, length-up, drop-up, runs-up, down-up}
 use Rattle.net_assembler.proofs.ShiftedRuns.{fits-at, start-up, first_at, get_or-up, up-injective, fits-less}
@@ -225,95 +225,53 @@ none_added h xs s o k e = record {
   bound = few_held h xs s;
 }
 
--- a range that is the first run
-module _ (h : AssemblerHead) (xs : List (ℕ × ℕ)) (s : HasSoundRuns h xs) (o k : ℕ) (none : h.used ≡ 0) (l : 0 < k) where
-  alone : runs_with_range (runs_of h xs) o (o + k) ≡ (o, o + k) ∷ []
-  alone = alone-runs_with_range (runs_of h xs) o (o + k) (length-runs_of h xs s ∙ none)
+-- a range that joins the runs, where all is counted from low on: by higher than the first run starts, which is f; without a run
+-- f is where the range starts
+module _ (h : AssemblerHead) (xs : List (ℕ × ℕ)) (s : HasSoundRuns h xs) (o k f low by lo hi : ℕ) (l : lo < hi)
+    (up : low + by ≡ f) (at : low + lo ≡ o) (upto : low + hi ≡ o + k) (one_way : 0 < by → lo ≡ 0)
+    (waits : 0 < h.used → f ≡ h.first_start) (none : h.used ≡ 0 → f ≡ o) where
+  abbrev counted : List (ℕ × ℕ)
+  counted = runs_shifted_up by (used_runs h xs)
 
-  pub no_room : length xs ≡ 0 → length xs < length (runs_with_range (runs_of h xs) o (o + k))
-  no_room e = let all = ap length alone in omega arith
+  nil : h.used ≡ 0 → used_runs h xs ≡ []
+  nil e = nil_from_length (used_runs h xs) (length-used_runs h xs s ∙ e)
 
-  one : 0 < length xs → take 1 (set xs 0 (0, k)) ≡ (0, k) ∷ []
-  one some = take_more_set xs 0 (0, k) some
+  same_place : runs_shifted_up low counted ≡ runs_of h xs
+  same_place = either (cases_lt 0 h.used)
+      (λ b. let start = waits b in up-up low by h.first_start (used_runs h xs) (omega arith))
+      (λ b. let gone = nil (omega arith) in
+      ap (λ rs. runs_shifted_up low (runs_shifted_up by rs)) gone ∙ ap (runs_shifted_up h.first_start) (sym gone))
 
-  pub first_sound : 0 < length xs → o + k < 2 ^ 64 →
-      HasSoundRuns (record { used = 1; first_start = o }) (set xs 0 (0, k))
-  first_sound some fits = record {
-    room = omega (arith, length-set xs 0 (0, k));
-    runs = subst AreRuns (sym (one some)) (omega arith, l, tt);
-    first = subst StartsAtZero (sym (one some)) refl;
-    fits = subst (FitsFrom o) (sym (one some)) (fits, tt);
+  counted_fits : FitsFrom low counted
+  counted_fits = either (cases_lt 0 h.used)
+      (λ b. let start = waits b in fits-up low by h.first_start (used_runs h xs) (omega arith) s.fits)
+      (λ b. subst (FitsFrom low) (sym (ap (runs_shifted_up by) (nil (omega arith)))) tt)
+
+  pub joined_sound : (m : ℕ) (ys : List (ℕ × ℕ)) → m ≤ length ys → o + k < 2 ^ 64 → take m ys ≡ runs_with_range counted lo hi →
+      HasSoundRuns (record { used = m; first_start = low }) ys
+  joined_sound m ys room fits e = record {
+    room = room;
+    runs = subst AreRuns (sym e) (rising-runs_with_range 0 counted lo hi (runs-up by (used_runs h xs) s.runs) (omega arith) l);
+    first = subst StartsAtZero (sym e) (either (cases_lt 0 by)
+        (λ b. zero-runs_with_range counted lo hi (one_way b))
+        (λ b. first-runs_with_range counted lo hi (subst StartsAtZero (sym (up-none by (used_runs h xs) (omega arith))) s.first)
+        (λ z. let begin = none (omega (arith, z, length-up by (used_runs h xs), length-used_runs h xs s)) in omega arith)));
+    fits = subst (FitsFrom low) (sym e) (fits-runs_with_range low counted lo hi counted_fits (omega arith));
   }
 
-  pub first_runs : 0 < length xs → runs_shifted_up o (take 1 (set xs 0 (0, k))) ≡ runs_with_range (runs_of h xs) o (o + k)
-  first_runs some =
-      let start : o + 0 ≡ o = omega arith in
-      ap (runs_shifted_up o) (one some) ∙ (λ i. (start i, o + k) ∷ []) ∙ sym alone
+  shown : runs_shifted_up low (runs_with_range counted lo hi) ≡ runs_with_range (runs_of h xs) o (o + k)
+  shown = up-runs_with_range low counted lo hi ∙ (λ i. runs_with_range (same_place i) (at i) (upto i))
 
--- pairs that are runs with a range that starts at or after the first
-module _ (h : AssemblerHead) (xs : List (ℕ × ℕ)) (s : HasSoundRuns h xs) (ys : List (ℕ × ℕ)) (o k : ℕ) (some : 0 < h.used)
-    (from : h.first_start ≤ o) (l : 0 < k) where
-  pub joined_sound : (m : ℕ) → m ≤ length ys → o + k < 2 ^ 64 →
-      take m ys ≡ runs_with_range (used_runs h xs) (o - h.first_start) (o - h.first_start + k) →
-      HasSoundRuns (record { used = m; first_start = h.first_start }) ys
-  joined_sound m room fits e =
-      let lo = o - h.first_start in
-      record {
-        room = room;
-        runs = subst AreRuns (sym e) (rising-runs_with_range 0 (used_runs h xs) lo (lo + k) s.runs (omega arith) (omega arith));
-        first = subst StartsAtZero (sym e)
-            (first-runs_with_range (used_runs h xs) lo (lo + k) s.first (λ z. absurd (omega (arith, length-used_runs h xs s))));
-        fits = subst (FitsFrom h.first_start) (sym e) (fits-runs_with_range h.first_start (used_runs h xs) lo (lo + k) s.fits (omega arith));
-      }
+  pub joined_runs : (m : ℕ) (ys : List (ℕ × ℕ)) → take m ys ≡ runs_with_range counted lo hi →
+      runs_shifted_up low (take m ys) ≡ runs_with_range (runs_of h xs) o (o + k)
+  joined_runs m ys e = ap (runs_shifted_up low) e ∙ shown
 
-  shown : runs_shifted_up h.first_start (runs_with_range (used_runs h xs) (o - h.first_start) (o - h.first_start + k))
-      ≡ runs_with_range (runs_of h xs) o (o + k)
-  shown =
-      let start : h.first_start + (o - h.first_start) ≡ o = omega arith in
-      let end : h.first_start + (o - h.first_start + k) ≡ o + k = omega arith in
-      up-runs_with_range h.first_start (used_runs h xs) (o - h.first_start) (o - h.first_start + k)
-      ∙ (λ i. runs_with_range (runs_of h xs) (start i) (end i))
+  pub joined_length : length (runs_with_range (runs_of h xs) o (o + k)) ≡ length (runs_with_range counted lo hi)
+  joined_length = ap length (sym shown) ∙ length-up low (runs_with_range counted lo hi)
 
-  pub joined_runs : (m : ℕ) → take m ys ≡ runs_with_range (used_runs h xs) (o - h.first_start) (o - h.first_start + k) →
-      runs_shifted_up h.first_start (take m ys) ≡ runs_with_range (runs_of h xs) o (o + k)
-  joined_runs m e = ap (runs_shifted_up h.first_start) e ∙ shown
-
-  pub joined_length : length (runs_with_range (runs_of h xs) o (o + k))
-      ≡ length (runs_with_range (used_runs h xs) (o - h.first_start) (o - h.first_start + k))
-  joined_length = ap length (sym shown) ∙ length-up h.first_start (runs_with_range (used_runs h xs) (o - h.first_start) (o - h.first_start + k))
-
--- pairs that are runs with a range that starts before the first
-module _ (h : AssemblerHead) (xs : List (ℕ × ℕ)) (s : HasSoundRuns h xs) (ys : List (ℕ × ℕ)) (o k : ℕ) (before : o ≤ h.first_start) (l : 0 < k) where
-  pub preceded_sound : (m : ℕ) → m ≤ length ys → o + k < 2 ^ 64 →
-      take m ys ≡ runs_with_range (runs_shifted_up (h.first_start - o) (used_runs h xs)) 0 k →
-      HasSoundRuns (record { used = m; first_start = o }) ys
-  preceded_sound m room fits e =
-      let ups = runs_shifted_up (h.first_start - o) (used_runs h xs) in
-      record {
-        room = room;
-        runs = subst AreRuns (sym e)
-            (rising-runs_with_range 0 ups 0 k (runs-up (h.first_start - o) (used_runs h xs) s.runs) (omega arith) l);
-        first = subst StartsAtZero (sym e) (zero-runs_with_range ups 0 k refl);
-        fits = subst (FitsFrom o) (sym e)
-            (fits-runs_with_range o ups 0 k (fits-up o (h.first_start - o) h.first_start (used_runs h xs) (omega arith) s.fits) fits);
-      }
-
-  seen : runs_shifted_up o (runs_with_range (runs_shifted_up (h.first_start - o) (used_runs h xs)) 0 k)
-      ≡ runs_with_range (runs_of h xs) o (o + k)
-  seen =
-      let start : o + 0 ≡ o = omega arith in
-      let ups = runs_shifted_up (h.first_start - o) (used_runs h xs) in
-      up-runs_with_range o ups 0 k
-      ∙ (λ i. runs_with_range (up-up o (h.first_start - o) h.first_start (used_runs h xs) (omega arith) i) (start i) (o + k))
-
-  pub preceded_runs : (m : ℕ) → take m ys ≡ runs_with_range (runs_shifted_up (h.first_start - o) (used_runs h xs)) 0 k →
-      runs_shifted_up o (take m ys) ≡ runs_with_range (runs_of h xs) o (o + k)
-  preceded_runs m e = ap (runs_shifted_up o) e ∙ seen
-
-  pub preceded_length : length (runs_with_range (runs_of h xs) o (o + k))
-      ≡ length (runs_with_range (runs_shifted_up (h.first_start - o) (used_runs h xs)) 0 k)
-  preceded_length =
-      ap length (sym seen) ∙ length-up o (runs_with_range (runs_shifted_up (h.first_start - o) (used_runs h xs)) 0 k)
+  -- where by is 0
+  pub plain : by ≡ 0 → runs_with_range (used_runs h xs) lo hi ≡ runs_with_range counted lo hi
+  plain e = ap (λ rs. runs_with_range rs lo hi) (sym (up-none by (used_runs h xs) e))
 
 -- data that comes next, and reaches no run
 pub next_alone : (h : AssemblerHead) (xs : List (ℕ × ℕ)) → HasSoundRuns h xs → (k : ℕ) → (0 < h.used → k < h.first_start) →
@@ -356,6 +314,72 @@ reached h xs s n size end some few l from before after ends =
     omega (arith, ap (start_at (used_runs h xs)) zeroth, start_of h xs s 0 (omega arith), first_pair h xs s (omega arith))))
     (λ k a b. omega (arith, start_at-up h.first_start (used_runs h xs) k (omega arith), after k a (omega arith)))
     top
+
+-- a range at 0 that reaches the first run makes no more runs
+pub reaches_some : (h : AssemblerHead) (xs : List (ℕ × ℕ)) → HasSoundRuns h xs → (size : ℕ) → 0 < h.used → h.first_start ≤ size →
+    (t : Positions) → t ≡ with_range (set_of h xs) 0 size → runs t ≤ h.used
+reaches_some h xs s size some reach t e =
+    let count = length-runs_of h xs s in
+    let begins = run_start h xs s some in
+    let all = runs-set_of h xs s in
+    either (cases_lt 0 size)
+    (λ l.
+    let few = meets_first (runs_of h xs) 0 (0 + size) (omega arith) (omega arith) (omega arith) in
+    omega (arith, ap runs e, runs-runs_with_range (runs_of h xs) 0 size (are_runs h xs s) l, few))
+    (λ l.
+    let same : t ≡ set_of h xs = e ∙ with_range-none (set_of h xs) 0 size (omega arith) in
+    omega (arith, ap runs same, all))
+  where
+    one_more : (rs : List (ℕ × ℕ)) (lo hi : ℕ) → length (runs_with_range rs lo hi) ≤ length rs + 1
+    one_more [] lo hi = omega arith
+    one_more (r ∷ rs) lo hi =
+        either (cases_lt r.1 lo) (λ b. omega (arith, ap length (step_before r rs lo hi b), one_more rs lo hi))
+        (λ b. either (cases_lt hi r.0) (λ c. omega (arith, ap length (step_after r rs lo hi b c)))
+        (λ c. omega (arith, ap length (step_meets r rs lo hi b c), one_more rs (min r.0 lo) (max r.1 hi))))
+
+    meets_first : (rs : List (ℕ × ℕ)) (lo hi : ℕ) → 0 < length rs → lo ≤ end_at rs 0 → start_at rs 0 ≤ hi →
+        length (runs_with_range rs lo hi) ≤ length rs
+    meets_first [] lo hi l a b = absurd (omega arith)
+    meets_first (r ∷ rs) lo hi l a b = omega (arith, ap length (step_meets r rs lo hi a b), one_more rs (min r.0 lo) (max r.1 hi))
+
+-- a range at 0 that reaches the only run, if there is one: all up to end is the front, and nothing is left
+pub all_front : (h : AssemblerHead) (xs : List (ℕ × ℕ)) → HasSoundRuns h xs → (size end : ℕ) → h.used ≤ 1 → h.first_start ≤ size →
+    (h.used ≡ 0 → end ≡ size) → (0 < h.used → end ≡ max size (h.first_start + end_at xs 0)) →
+    let all = with_range (set_of h xs) 0 size in (end ≡ front all) × (nothing ≡ shift_down all end)
+all_front h xs s size end few reach none one =
+    let all = with_range (set_of h xs) 0 size in
+    let count = length-runs_of h xs s in
+    let gone : (n : ℕ) → h.used ≤ n → nothing ≡ set_of_runs (runs_shifted_down end (drop n (runs_of h xs))) =
+    λ n m. sym (no_runs _ (length-map (drop n (runs_of h xs)) (λ (r : ℕ × ℕ). (r.0 - end, r.1 - end)) ∙ length-drop n (runs_of h xs) ∙ omega arith)) in
+    either (cases_lt 0 h.used)
+    (λ b.
+    let is = one b in
+    let top = max (end_at xs 0) (size - h.first_start) in
+    let high : end ≡ h.first_start + top = omega arith in
+    either (cases_lt 0 size)
+    (λ l.
+    let both = reached h xs s 1 size top (omega arith) b l reach (λ k a c. absurd (omega arith))
+    (λ k a c. absurd (omega (arith, length-used_runs h xs s))) refl in
+    (high ∙ both.0, gone 1 few ∙ ap (λ t. set_of_runs (runs_shifted_down t (drop 1 (runs_of h xs)))) high ∙ both.1 ∙ ap (shift_down all) (sym high)))
+    (λ l.
+    let same : set_of h xs ≡ all = sym (with_range-none (set_of h xs) 0 size (omega arith)) in
+    let rises = pair_rises h xs s 0 b in
+    let last = end_at-up h.first_start (used_runs h xs) 0 (omega (arith, length-used_runs h xs s)) in
+    let read = end_of h xs s 0 b in
+    let first = front_some (runs_of h xs) (omega arith) (omega (arith, run_start h xs s b)) in
+    let is_front : end ≡ front (set_of h xs) = omega (arith, front-set_of h xs s, first) in (
+      is_front ∙ ap front same,
+      gone 1 few ∙ shifted_down_set (runs_of h xs) end (are_runs h xs s) is_front (omega arith) ∙ ap (λ u. shift_down u end) same,
+    )))
+    (λ b.
+    let is = none (omega arith) in
+    let both = next_alone h xs s size (λ c. absurd (omega arith)) in
+    (is ∙ both.0, gone 0 (omega arith) ∙ ap (λ t. set_of_runs (runs_shifted_down t (runs_of h xs))) is ∙ both.1 ∙ ap (shift_down all) (sym is)))
+
+-- what holds of each refusal
+pub on_err : (P : Type 0) (r : Result (Unit {0}) TooManyHolesError) → P → OnErr r P
+on_err P (Ok u) p = tt
+on_err P (Err e) p = p
 
 -- what follows from how a range is added
 pub added_accepted : (n : ℕ) (s : Positions) (o k : ℕ) (r : Result (Unit {0}) TooManyHolesError)

@@ -5,6 +5,7 @@ pub mod ShiftedRuns
 pub mod Heads
 pub mod Holes
 pub mod Moves
+pub mod WrappedRuns
 pub mod AssemblerText
 pub mod MaximalRuns
 pub mod AssemblerLaws

@@ -5,12 +5,11 @@ use Rattle.std.proofs.Common.{nat_lt, refl, sym, ap, subst, ◌∙◌, arith, �
 use Rattle.std.proofs.Math.Bool.{or-false}
 use Rattle.std.proofs.Math.Nat.{pow-suc}
 use Rattle.std.proofs.Math.Seq.{take-set-lt}
-use Rattle.std.proofs.lemmas.List.{get_or-drop, get_or_read_under, drop_all, append_assoc, length-append}
+use Rattle.std.proofs.lemmas.List.{get_or_read_under, drop_all, append_assoc, length-append}
 use Rattle.std.proofs.lemmas.List.{length-take-le, length-drop, take_more_set, drop-set-lt, take-append-drop}
 use Rattle.std.proofs.lemmas.List.{take-take, get_or-take}
 use Rattle.std.proofs.lemmas.Bool.{cases_lt, cases_eq, eq-eqb, ne_eqb, lt-ltb, le-ltb, cond-true, cond-false}
 use Rattle.std.proofs.lemmas.Bool.Decides.{nat_tests}
-use Rattle.net_assembler.proofs.Moves.{rest_at}
 use Rattle.net_assembler.specs.Positions.{Positions, contains, nothing, front, with_range, runs, shift_down}
 use Rattle.net_assembler.specs.Positions.{set_of_list}
 use Rattle.net_assembler.specs.RunLists.{start_at, end_at, IsRising, AreRuns, runs_with_range}
@@ -204,10 +203,6 @@ module _ (xs : List (ℕ × ℕ)) (used : ℕ) (h : AreRuns (take used xs)) (roo
   rising_after from l =
       rising-drop 0 cs from (start_at xs from) h (λ k a b. let p = starts_rise 0 cs from k h a b in omega (arith, pair_is from l))
 
-  -- runs from i on, where a range ends before the run i
-  pub all_after : (i end : ℕ) → i < used → end < start_at xs i → (k : ℕ) → i ≤ k → k < used → end < start_at cs k
-  all_after i end l first k a b = let p = starts_rise 0 cs i k h a (omega (arith, len)) in omega (arith, pair_is i l)
-
   replaced : (i j : ℕ) (v : ℕ × ℕ) → i < j → j ≤ used →
       take (i + 1) (set xs i v) ++ drop j (take used (set xs i v)) ≡ take i cs ++ v ∷ drop j cs
   replaced i j v l m =
@@ -290,22 +285,6 @@ pub completed_at : (rs : List (ℕ × ℕ)) (n size top : ℕ) → AreRuns rs �
 completed_at rs n size top h l m upto after e =
     let both = completed rs n size h l m upto after in
     (e ∙ both.0, ap (λ t. set_of_runs (runs_shifted_down t (drop n rs))) e ∙ both.1 ∙ ap (shift_down (with_range (set_of_runs rs) 0 size)) (sym e))
-
--- the entry k, which a loop that counts lower has not reached, is above
-pub above_at : (xs ys : List (ℕ × ℕ)) (used from by k : ℕ) → from ≤ k → k < used → used ≤ length ys →
-    IsRising by (drop from (take used ys)) → drop k xs ≡ drop k ys →
-    (by ≤ (get_or xs k (0, 0)).0) × (by ≤ (get_or xs k (0, 0)).1)
-above_at xs ys used from by k l m n h rest =
-    let at : from + (k - from) ≡ k = omega arith in
-    let len = length-take-le used ys n in
-    let dropped = length-drop from (take used ys) in
-    let same : get_or (drop from (take used ys)) (k - from) (0, 0) ≡ get_or xs k (0, 0) =
-    get_or-drop from (take used ys) (k - from) (0, 0) ∙ ap (λ i. get_or (take used ys) i (0, 0)) at
-    ∙ get_or-take used ys k (0, 0) m ∙ sym (rest_at xs ys k (0, 0) rest) in
-    let p = at_run by (drop from (take used ys)) (k - from) h (omega arith) in
-    let start = ap (λ (r : ℕ × ℕ). r.0) same in
-    let end = ap (λ (r : ℕ × ℕ). r.1) same in
-    (omega (arith, p.0, p.1), omega (arith, p.0, p.1))
 
 -- a position before the first run
 pub not_before : (low : ℕ) (rs : List (ℕ × ℕ)) (q : ℕ) → IsRising low rs → (0 < length rs → q < start_at rs 0) → in_runs rs q ≡ false

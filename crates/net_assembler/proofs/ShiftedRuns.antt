@@ -1,17 +1,16 @@
 -- Runs that are counted from where the first of them starts, and the sets that they represent.
 use Rattle.std.proofs.Common.{◌≡◌, ℕ, zero, suc, ◌+◌, ◌-◌, ◌<◌, ◌≤◌, ◌^◌, max, min, false, ◌&&◌, ◌||◌, List}
-use Rattle.std.proofs.Common.{[], ◌∷◌, ◌++◌, length, map, take, drop, set, get_or, nat_le, nat_lt, refl, sym}
+use Rattle.std.proofs.Common.{[], ◌∷◌, length, map, take, drop, set, get_or, nat_le, nat_lt, refl, sym}
 use Rattle.std.proofs.Common.{ap, subst, ◌∙◌, arith}
-use Rattle.std.proofs.lemmas.List.{drop-map, length-map, length-take, length-take-le, get_or-take, get_or-map}
-use Rattle.std.proofs.lemmas.List.{map-id, nil_from_length}
+use Rattle.std.proofs.lemmas.List.{drop-map, length-map, length-take, get_or-map}
+use Rattle.std.proofs.lemmas.List.{map-id}
 use Rattle.std.proofs.lemmas.Bool.{cases_lt, cond_both}
 use Rattle.std.proofs.lemmas.Bool.Decides.{nat_tests}
 use Rattle.net_assembler.specs.Positions.{runs_shifted_up}
 use Rattle.net_assembler.specs.RunLists.{start_at, end_at, IsRising, AreRuns, StartsAtZero, FitsFrom}
 use Rattle.net_assembler.specs.RunLists.{runs_with_range, runs_shifted_down}
-use Rattle.net_assembler.proofs.Moves.{rest_at}
 use Rattle.net_assembler.proofs.Positions.{either}
-use Rattle.net_assembler.proofs.RunLists.{at_run, top_of, absorbed}
+use Rattle.net_assembler.proofs.RunLists.{top_of}
 use Rattle.net_assembler.proofs.Runs.{in_runs, rising_from, step_before, step_after, step_meets}
 
 -- runs that are counted n higher
@@ -58,6 +57,9 @@ down-up n m rs = moved_twice (λ x. x - (n + m)) (λ x. n + x) (λ x. x - m) (λ
 pub down-less : (n m : ℕ) (rs : List (ℕ × ℕ)) → m ≤ n →
     runs_shifted_down m (runs_shifted_up n rs) ≡ runs_shifted_up (n - m) rs
 down-less n m rs l = moved_twice (λ x. x - m) (λ x. n + x) (λ x. n - m + x) (λ x. omega arith) rs
+
+pub up-none : (n : ℕ) (rs : List (ℕ × ℕ)) → n ≡ 0 → runs_shifted_up n rs ≡ rs
+up-none n rs e = sym (moved_twice (λ x. x) (λ x. x) (λ x. n + x) (λ x. omega arith) rs) ∙ ap (map (λ (r : ℕ × ℕ). (r.0, r.1))) (map-id rs) ∙ map-id rs
 
 -- a range that joins them, counted alike
 pub up-runs_with_range : (n : ℕ) (rs : List (ℕ × ℕ)) (lo hi : ℕ) →
@@ -198,65 +200,11 @@ in_runs-up n (r ∷ rs) q l =
         (nat_le (n + a) q && nat_lt q (n + e)) ≡ (nat_le a (q - n) && nat_lt (q - n) e)
     up_test n a e q l = grind (arith, nat_tests)
 
--- the entry k, which a loop that counts higher has not reached, fits
-pub below_at : (xs ys : List (ℕ × ℕ)) (used by k : ℕ) → k < used → used ≤ length ys →
-    AreRuns (take used ys) → FitsFrom by (take used ys) → drop k xs ≡ drop k ys →
-    ((get_or xs k (0, 0)).0 + by < 2 ^ 64) × ((get_or xs k (0, 0)).1 + by < 2 ^ 64)
-below_at xs ys used by k m n h f rest =
-    let cs = take used ys in
-    let len = length-take-le used ys n in
-    let same : get_or cs k (0, 0) ≡ get_or xs k (0, 0) =
-    get_or-take used ys k (0, 0) m ∙ sym (rest_at xs ys k (0, 0) rest) in
-    let start = ap (λ (r : ℕ × ℕ). r.0) same in
-    let end = ap (λ (r : ℕ × ℕ). r.1) same in
-    let p = at_run 0 cs k h (omega arith) in
-    let q = fits-at by cs k f (omega arith) in
-    (omega (arith, p.1), omega arith)
-
--- a range that starts before the first run, and ends before it
-pub before_first : (by size : ℕ) (rs : List (ℕ × ℕ)) → size < by →
-    runs_with_range (runs_shifted_up by rs) 0 size ≡ (0, size) ∷ runs_shifted_up by rs
-before_first by size [] l = refl
-before_first by size (r ∷ rs) l =
-    step_after (by + r.0, by + r.1) (runs_shifted_up by rs) 0 size (omega arith) (omega arith)
-
 pub top_before : (rs : List (ℕ × ℕ)) (n hi : ℕ) → 0 < n → top_of rs n hi ≡ max (end_at rs (n - 1)) hi
 top_before rs zero hi l = absurd (omega arith)
 top_before rs (suc n) hi l =
     let last : n ≡ suc n - 1 = omega arith in
     ap (λ k. max (end_at rs k) hi) last
-
--- and one that meets the first n
-pub met_before : (by size n high : ℕ) (rs : List (ℕ × ℕ)) → AreRuns rs → StartsAtZero rs → by ≤ size →
-    0 < n → n ≤ length rs →
-    ((k : ℕ) → 1 ≤ k → k < n → start_at rs k ≤ size - by) →
-    ((k : ℕ) → n ≤ k → k < length rs → size - by < start_at rs k) →
-    high ≡ max (by + end_at rs (n - 1)) size →
-    runs_with_range (runs_shifted_up by rs) 0 size ≡ (0, high) ∷ runs_shifted_up by (drop n rs)
-met_before by size n high rs h f l some m upto after is =
-    let ups = runs_shifted_up by rs in
-    let len = length-up by rs in
-    let last = end_at-up by rs (n - 1) (omega arith) in
-    absorbed 0 ups n 0 size (runs-up by rs h) (omega arith) (omega arith)
-    (λ k a.
-    let s = start_at-up by rs k (omega arith) in
-    either (cases_lt 0 k) (λ b. let p = upto k b a in omega arith)
-    (λ b. let zeroth : k ≡ 0 = omega arith in
-    let e = ap (start_at rs) zeroth in let z = first_at rs f in omega arith))
-    (λ k a b. let s = start_at-up by rs k (omega arith) in let p = after k a (omega arith) in omega arith)
-    ∙ ap (λ (t : ℕ). (0, t) ∷ drop n ups)
-    (top_before ups n size some ∙ ap (λ e. max e size) last ∙ sym is)
-    ∙ ap (λ ts. (0, high) ∷ ts) (drop-up by n rs)
-
--- an array of which the first entry, a run that starts at 0, gets its end last
-pub set_first_end : (ys xs : List (ℕ × ℕ)) (n e : ℕ) (rest : List (ℕ × ℕ)) → 0 < n → 0 < length xs →
-    0 < length ys → start_at xs 0 ≡ 0 → take n ys ≡ take 1 xs ++ rest →
-    take n (set ys 0 (start_at ys 0, e)) ≡ (0, e) ∷ rest
-set_first_end ys xs zero e rest l m o f h = absurd (omega arith)
-set_first_end [] xs (suc n) e rest l m o f h = absurd (omega arith)
-set_first_end (y ∷ ys) [] (suc n) e rest l m o f h = absurd (omega arith)
-set_first_end (y ∷ ys) (x ∷ xs) (suc n) e rest l m o f h =
-    ap (λ ts. (start_at ts 0, e) ∷ drop 1 ts) h ∙ ap (λ s. (s, e) ∷ rest) f
 
 pub start-drop : (rs : List (ℕ × ℕ)) (k : ℕ) → start_at (drop k rs) 0 ≡ start_at rs k
 start-drop rs zero = refl
@@ -267,15 +215,10 @@ pub down-none : (n : ℕ) (rs : List (ℕ × ℕ)) → length rs ≡ 0 → runs_
 down-none n [] e = refl
 down-none n (r ∷ rs) e = absurd (omega arith)
 
--- a range where no run is
-pub alone-runs_with_range : (rs : List (ℕ × ℕ)) (lo hi : ℕ) → length rs ≡ 0 →
-    runs_with_range rs lo hi ≡ (lo, hi) ∷ []
-alone-runs_with_range rs lo hi e = ap (λ ts. runs_with_range ts lo hi) (nil_from_length rs e)
-
 pub down-zero : (n : ℕ) (rs : List (ℕ × ℕ)) → n ≡ 0 → runs_shifted_down n rs ≡ rs
 down-zero n rs e = ap (runs_shifted_down n) (sym (map-id rs)) ∙ moved_twice (λ x. x - n) (λ x. x) (λ x. x) (λ x. omega arith) rs ∙ map-id rs
 
-some-runs_with_range : (rs : List (ℕ × ℕ)) (lo hi : ℕ) → 0 < length (runs_with_range rs lo hi)
+pub some-runs_with_range : (rs : List (ℕ × ℕ)) (lo hi : ℕ) → 0 < length (runs_with_range rs lo hi)
 some-runs_with_range [] lo hi = omega arith
 some-runs_with_range (r ∷ rs) lo hi =
     cond_both (nat_lt r.1 lo) _ _ (λ l. 0 < length l) (λ _. omega arith) (λ _.

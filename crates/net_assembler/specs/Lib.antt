@@ -4,3 +4,4 @@ pub mod RunLists
 pub mod Turns
 pub mod Assembler
 pub mod AssemblerLaws
+pub mod Heads

@@ -8,13 +8,13 @@
 --     IsCanonical head      that a head without runs is 0 in both numbers
 --     zero_head      the head of two zeros
 --     contig_text c      a hole and the data after it, as text
-use Rattle.std.specs.Prelude.{◌≡◌, ℕ, ◌+◌, ◌-◌, ◌<◌, ◌≤◌, ◌^◌, List, [], ◌∷◌, ◌++◌, length, take, map}
+use Rattle.std.specs.Prelude.{◌≡◌, ℕ, ◌+◌, ◌-◌, ◌<◌, ◌≤◌, ◌^◌, ◌%◌, List, [], ◌∷◌, ◌++◌, length, take, map}
 use Rattle.std.specs.Prelude.{flat_map, get_or, cond, nat_lt, min, max, Result, MatchResult}
 use Rattle.std.specs.Fmt.{decimal}
 use Rattle.std.specs.List.{range_with_len}
 use Rattle.net_assembler.specs.Assembler.{hole_text}
 use Rattle.net_assembler.specs.Positions.{Positions, set_of_list, runs_shifted_up}
-use Rattle.net_assembler.specs.declared.assembler.display.Contig.{Contig}
+use Rattle.net_assembler.specs.declared.assembler.Contig.{Contig}
 use Rattle.net_assembler.specs.declared.assembler.head.AssemblerHead.{AssemblerHead}
 use Rattle.net_assembler.specs.declared.assembler.error.TooManyHolesError.{TooManyHolesError}
 
@@ -61,6 +61,13 @@ JoinsRange rs old new start end result = MatchResult result
 -- runs, each counted m lower
 abbrev pub runs_shifted_down : ℕ → List (ℕ × ℕ) → List (ℕ × ℕ)
 runs_shifted_down m rs = map (λ r. (r.0 - m, r.1 - m)) rs
+
+-- a run counted by higher, as numbers of 64 bits that wrap; and runs
+abbrev pub wrapped_run : ℕ → ℕ × ℕ → ℕ × ℕ
+wrapped_run by r = ((by + r.0) % 2 ^ 64, (by + r.1) % 2 ^ 64)
+
+abbrev pub runs_wrapped : ℕ → List (ℕ × ℕ) → List (ℕ × ℕ)
+runs_wrapped by rs = map (wrapped_run by) rs
 
 -- the first of them, if there is one, starts at 0
 abbrev pub StartsAtZero : List (ℕ × ℕ) → Type 0

@@ -1,35 +1,26 @@
 //! The assembler of ranges that arrive out of order.
-ghost use Rattle.std.specs.Prelude.{◌≡◌, ◌+◌, ◌<◌, ◌≤◌, ◌*◌, ◌↔◌, length, IsTrue, IsOk, IsErr};
-ghost use Rattle.std.specs.Prelude.{IfSome, OnOk, OnErr, MatchResult};
+ghost use Rattle.std.specs.Prelude.{◌≡◌, ◌+◌, ◌<◌, ◌≤◌, ◌*◌, ◌↔◌, length, Some, IsTrue, IsOk, IsErr, IfSome};
+ghost use Rattle.std.specs.Prelude.{OnOk, OnErr, MatchResult};
 ghost use Rattle.std.specs.List.{slice_get};
-ghost use Rattle.net_assembler.specs.Assembler.{MakesTooManyRuns};
-ghost use Rattle.net_assembler.specs.Positions.{RangeFits, contains, holes, nothing, front, runs};
-ghost use Rattle.net_assembler.specs.Positions.{with_range, shift_down, maximal_runs};
-ghost use Rattle.net_assembler.specs.Positions.{runs as run_count};
-ghost use Rattle.net_assembler.specs.RunLists.{set_of, HasSoundRuns};
-ghost use Rattle.net_assembler.specs.Turns.{TurnsWithin, binary_digits};
+ghost use Rattle.net_assembler.specs.Assembler.{MakesTooManyRuns, display_text};
+ghost use Rattle.net_assembler.specs.Positions.{RangeFits, contains, front, holes, holes_before, maximal_runs};
+ghost use Rattle.net_assembler.specs.Positions.{nothing, runs, runs as run_count, runs_shifted_up, shift_down};
+ghost use Rattle.net_assembler.specs.Positions.{with_range};
+ghost use Rattle.net_assembler.specs.RunLists.{AreRuns, FitsFrom, HasSoundRuns, IsRising, contig_text, set_of};
+ghost use Rattle.net_assembler.specs.Turns.{binary_digits};
 
-mod display;
-mod equality;
 mod error;
 mod head;
-mod holes;
-mod iter;
-mod joins;
 pub mod laws;
-mod moves;
-mod reads;
 mod run;
-mod search;
 mod turns;
 
 pub use error::TooManyHolesError;
 pub use head::AssemblerHead;
-pub use holes::HoleIter;
-pub use iter::{IterData, RunIter};
 pub use run::Run;
 use std::alloc::AllocError;
 use std::marker::Model;
+use std::{fmt, mem};
 pub use turns::Turns;
 
 /// A finite set of present positions, such as those of a stream whose segments arrive out of order,
@@ -184,14 +175,6 @@ impl<const N: usize> Assembler<N> {
         self.head.peek_front(&self.runs)
     }
 
-    /// Returns how many maximal runs there are, without a loop. smoltcp has no such call.
-    pub fn run_count(&self) -> usize
-        ensures count { result ≡ runs self.now }
-        ensures bound { result ≤ N }
-    {
-        self.head.run_count()
-    }
-
     /// Returns whether no position is present.
     ///
     /// ```
@@ -204,6 +187,14 @@ impl<const N: usize> Assembler<N> {
         ensures { IsTrue result ↔ (self.now ≡ nothing) }
     {
         self.head.is_empty()
+    }
+
+    /// Returns how many maximal runs there are, without a loop. smoltcp has no such call.
+    pub fn run_count(&self) -> usize
+        ensures count { result ≡ runs self.now }
+        ensures bound { result ≤ N }
+    {
+        self.head.run_count()
     }
 
     /// Returns whether `offset + size` fits `usize`, which all calls that add a range require.
@@ -306,25 +297,7 @@ impl<const N: usize> Assembler<N> {
         ensures room { 0 < result → runs self.new < N }
         ensures bound { runs self.new ≤ N }
     {
-        self.remove_front_counted(&mut Turns::new())
-    }
-
-    /// Removes the front as `remove_front` does, and counts each iteration of a loop as
-    /// `add_counted` does.
-    ///
-    /// Moves rise by at most `N`, and by 0 if no run is removed. There are no looks.
-    #[inline(always)]
-    pub(crate) fn remove_front_counted(&mut self, turns: &mut Turns) -> usize
-        ensures length { result ≡ front self.old }
-        ensures rest { self.new ≡ shift_down self.old (front self.old) }
-        ensures unchanged { result ≡ 0 → self.new ≡ self.old }
-        ensures fewer { 0 < result → runs self.new + 1 ≡ runs self.old }
-        ensures room { 0 < result → runs self.new < N }
-        ensures bound { runs self.new ≤ N }
-        ensures turns { TurnsWithin 0 N turns.old turns.new }
-        ensures waiting { runs self.new ≡ runs self.old → turns.new ≡ turns.old }
-    {
-        self.head.remove_front_counted(&mut self.runs, turns)
+        self.head.remove_front(&mut self.runs)
     }
 
     /// Removes the positions below `count`, and counts the others from there, so that position
@@ -383,41 +356,84 @@ impl<const N: usize> Assembler<N> {
         ensures more { runs self.new ≤ runs self.old + 1 }
         ensures bound { runs self.new ≤ N }
     {
-        self.add_then_remove_front_counted(offset, size, &mut Turns::new())
+        self.head
+            .add_then_remove_front(&mut self.runs, offset, size)
     }
 
-    /// Adds a range and removes the front as `add_then_remove_front` does, and counts each
-    /// iteration of a loop as `add_counted` does.
+    /// Returns the maximal runs as (start, end), the end not included, in rising order.
     ///
-    /// Looks rise by at most twice the number of binary digits of `N`, moves by at most `2 * N`.
-    /// Data that is next in order takes no iteration, however many runs there are, unless one of
-    /// them is removed.
+    /// smoltcp's documentation says offset and size, but its code yields start and end too.
     ///
-    /// # Requires
-    ///
-    /// The range ends within 64 bits, as `fits` tests.
-    #[inline(always)]
-    pub(crate) fn add_then_remove_front_counted(
-        &mut self,
-        offset: usize,
-        size: usize,
-        turns: &mut Turns,
-    ) -> Result<usize, TooManyHolesError>
-        requires { RangeFits offset size }
-        ensures value { let all = with_range self.old offset size in MatchResult result
-            (λ n. (n ≡ front all) × (self.new ≡ shift_down all n))
-            (λ _. self.new ≡ self.old) }
-        ensures refused { let too_many = MakesTooManyRuns N self.old offset size in
-            IsErr result ↔ ((0 < offset) × too_many) }
-        ensures accepted { runs self.old < N → IsOk result }
-        ensures more { runs self.new ≤ runs self.old + 1 }
-        ensures bound { runs self.new ≤ N }
-        ensures turns { TurnsWithin (2 * binary_digits N) (2 * N) turns.old turns.new }
-        ensures waiting { offset ≡ 0 → runs self.new ≡ runs self.old → turns.new ≡ turns.old }
+    /// ```
+    /// # use net_base::storage::Assembler;
+    /// # let mut assembler = Assembler::new();
+    /// assert_eq!((assembler.add(5, 1), assembler.add(0, 3)), (Ok(()), Ok(())));
+    /// assert!(assembler.iter_data().eq([(0, 3), (5, 6)]));
+    /// ```
+    pub fn iter_data(&self) -> IterData<'_, N>
+        ensures runs { result ≡ maximal_runs self.now }
+        ensures bound { length result ≤ N }
     {
-        let runs = &mut self.runs;
-        self.head
-            .add_then_remove_front_counted(runs, offset, size, turns)
+        self.head.iter_data(&self.runs)
+    }
+
+    /// Returns the maximal run with number `k`, counted from 0 in rising order, as (start, end),
+    /// the end not included; `None` exactly if there are no more than `k`. smoltcp has no such
+    /// call.
+    ///
+    /// It takes no memory, and reads an array once.
+    ///
+    /// ```
+    /// # use net_base::storage::Assembler;
+    /// # let mut assembler = Assembler::new();
+    /// assert_eq!((assembler.add(5, 1), assembler.add(0, 3)), (Ok(()), Ok(())));
+    /// assert_eq!((assembler.run_at(1), assembler.run_at(2)), (Some((5, 6)), None));
+    /// ```
+    pub fn run_at(&self, k: usize) -> Option<(usize, usize)>
+        ensures run { result ≡ slice_get (maximal_runs self.now) k }
+        ensures some { IfSome result (λ r. r.0 < r.1) }
+    {
+        self.head.run_at(&self.runs, k)
+    }
+
+    /// Returns whether `position` is present. smoltcp has no such call.
+    ///
+    /// ```
+    /// # use net_base::storage::Assembler;
+    /// # let mut assembler = Assembler::new();
+    /// assert_eq!(assembler.add(5, 1), Ok(()));
+    /// assert!(assembler.contains(5) && !assembler.contains(6));
+    /// ```
+    pub fn contains(&self, position: usize) -> bool
+        ensures { result ≡ contains self.now position }
+    {
+        self.head.contains(&self.runs, position)
+    }
+
+    /// Returns the holes as (start, end), the end not included, in rising order. smoltcp has no such
+    /// call.
+    ///
+    /// ```
+    /// # use net_base::storage::Assembler;
+    /// # let mut assembler = Assembler::new();
+    /// assert_eq!((assembler.add(5, 1), assembler.add(2, 2)), (Ok(()), Ok(())));
+    /// assert!(assembler.holes().eq([(0, 2), (4, 5)]));
+    /// ```
+    pub fn holes(&self) -> HoleIter<'_>
+        ensures holes { result ≡ holes self.now }
+        ensures bound { length result ≤ N }
+    {
+        self.head.holes(&self.runs)
+    }
+
+    /// Returns the hole with number `k`, counted from 0 in rising order, as (start, end), the end not
+    /// included; `None` exactly if there are no more than `k`. Holes are the missing ranges below
+    /// the end of the last run, such as those that a sender sends again. smoltcp has no such call.
+    pub fn hole_at(&self, k: usize) -> Option<(usize, usize)>
+        ensures hole { result ≡ slice_get (holes self.now) k }
+        ensures some { IfSome result (λ h. h.0 < h.1) }
+    {
+        self.head.hole_at(&self.runs, k)
     }
 }
 
@@ -434,5 +450,178 @@ impl<const N: usize> Clone for Assembler<N> {
             head: self.head,
             runs: self.runs,
         })
+    }
+}
+
+impl<const N: usize> PartialEq for Assembler<N> {
+    ghost use Rattle.std.specs.Cmp.{on_per, partial_equiv_from_equiv};
+    ghost use Rattle.std.specs.Cmp.Lexicographic.{nat_list_eq_equiv};
+    ghost use Rattle.net_assembler.specs.Positions.{positions, are_same};
+
+    ghost eq = { are_same };
+
+    ghost laws = { on_per positions (partial_equiv_from_equiv nat_list_eq_equiv) };
+
+    fn eq(&self, other: &Self) -> bool
+        ensures test { result ≡ are_same self.now other.now }
+        ensures same { IsTrue result ↔ (self.now ≡ other.now) }
+    {
+        self.head.is_same(&self.runs, &other.head, &other.runs)
+    }
+}
+
+impl<const N: usize> Eq for Assembler<N> {
+    ghost use Rattle.std.specs.Cmp.{on_equiv};
+    ghost use Rattle.std.specs.Cmp.Lexicographic.{nat_list_eq_equiv};
+    ghost use Rattle.net_assembler.specs.Positions.{positions};
+
+    ghost laws = { on_equiv positions nat_list_eq_equiv };
+}
+
+/// A hole, and the present data after it, as sizes in positions.
+#[derive(Drop)]
+struct Contig {
+    hole_size: usize,
+    data_size: usize,
+}
+
+/// The hole in parentheses, left out if it is 0, and the data.
+impl fmt::Display for Contig {
+    ghost output = { λ c. Some (contig_text c) };
+
+    fn fmt<W: fmt::Write>(&self, f: &mut fmt::Formatter<W>) -> fmt::Result {
+        if self.hole_size != 0 {
+            write!(f, "({}) ", self.hole_size)?;
+        }
+        write!(f, "{}", self.data_size)
+    }
+}
+
+/// `[ `, then for each run the hole before it in parentheses, left out if it is 0, and the
+/// length of the run, each with a space after it, then `]`. With no position it is `[ ]`.
+impl<const N: usize> fmt::Display for Assembler<N> {
+    ghost output = { λ s. Some (display_text s) };
+
+    fn fmt<W: fmt::Write>(&self, f: &mut fmt::Formatter<W>) -> fmt::Result {
+        write!(f, "[ ")?;
+        let mut from = 0;
+        for (start, end) in self.iter_data() {
+            let contig = Contig {
+                hole_size: start - from,
+                data_size: end - start,
+            };
+            write!(f, "{contig} ")?;
+            from = end;
+        }
+        write!(f, "]")
+    }
+}
+
+/// An iterator over the maximal runs of an assembler, made by `iter_data`.
+///
+/// It yields (start, end) of each run in rising order, the end not included, and then ends.
+#[derive(Drop)]
+pub struct RunIter<'a> {
+    rest: &'a [Run],
+    first_start: usize,
+}
+
+/// The iterator of an `Assembler<N>`, which yields at most `N` runs.
+pub type IterData<'a, const N: usize> = RunIter<'a>;
+
+impl<'a> Model for RunIter<'a> {
+    ghost use Rattle.std.specs.Prelude.{List, ℕ};
+
+    ghost Value = { List (ℕ × ℕ) };
+
+    ghost use Rattle.net_assembler.specs.Positions.{runs_shifted_up};
+    ghost use Rattle.net_assembler.specs.RunLists.{AreRuns, FitsFrom};
+
+    ghost view = { λ s. runs_shifted_up s.first_start s.rest.now };
+
+    ghost invariant = { λ s. AreRuns s.rest.now × FitsFrom s.first_start s.rest.now };
+}
+
+impl<'a> RunIter<'a> {
+    /// Returns these runs, counted from `first_start`.
+    #[inline]
+    pub(crate) fn over(runs: &'a [Run], first_start: usize) -> Self
+        requires runs { AreRuns runs.now }
+        requires fits { FitsFrom first_start runs.now }
+        ensures { result ≡ runs_shifted_up first_start runs.now }
+    {
+        RunIter {
+            rest: runs,
+            first_start,
+        }
+    }
+}
+
+impl<'a> Iterator for RunIter<'a> {
+    ghost use Rattle.std.specs.Iterator.{YieldsFirst, item_count};
+
+    type Item = (usize, usize);
+
+    ghost next_gives = { YieldsFirst (λ s. s) };
+
+    ghost remaining = { item_count (λ s. s) };
+
+    #[inline]
+    fn next(&mut self) -> Option<(usize, usize)> {
+        let (run, rest) = self.rest.split_first()?;
+        self.rest = rest;
+        Some((self.first_start + run.start, self.first_start + run.end))
+    }
+}
+
+/// An iterator over the holes of an assembler, made by `holes`.
+///
+/// It yields (start, end) of each hole in rising order, the end not included, and then ends.
+#[derive(Drop)]
+pub struct HoleIter<'a> {
+    // The runs that are left, and where the one before them ended.
+    runs: RunIter<'a>,
+    from: usize,
+}
+
+impl<'a> Model for HoleIter<'a> {
+    ghost use Rattle.std.specs.Prelude.{List, ℕ};
+
+    ghost Value = { List (ℕ × ℕ) };
+
+    ghost use Rattle.std.specs.Prelude.{◌+◌};
+    ghost use Rattle.net_assembler.specs.Positions.{holes_before};
+    ghost use Rattle.net_assembler.specs.RunLists.{IsRising};
+
+    ghost view = { λ s. holes_before s.from s.runs };
+
+    ghost invariant = { λ s. IsRising (s.from + 1) s.runs };
+}
+
+impl<'a> HoleIter<'a> {
+    /// Returns the holes before these runs, the first of which begins at `from`.
+    #[inline]
+    pub(crate) fn before(runs: RunIter<'a>, from: usize) -> Self
+        requires { IsRising (from + 1) runs }
+        ensures { result ≡ holes_before from runs.entry }
+    {
+        HoleIter { runs, from }
+    }
+}
+
+impl<'a> Iterator for HoleIter<'a> {
+    ghost use Rattle.std.specs.Iterator.{YieldsFirst, item_count};
+
+    type Item = (usize, usize);
+
+    ghost next_gives = { YieldsFirst (λ s. s) };
+
+    ghost remaining = { item_count (λ s. s) };
+
+    #[inline]
+    fn next(&mut self) -> Option<(usize, usize)> {
+        let (start, end) = self.runs.next()?;
+        let from = mem::replace(&mut self.from, end);
+        Some((from, start))
     }
 }

@@ -2,9 +2,9 @@
 --     is_verified c, is_computed c      whether the stack verifies it, and whether it computes it
 --     no_checksums, all_checksums      the stack does neither for any protocol, or both for each
 use Rattle.std.specs.Prelude.{Bool, true, false}
-use Rattle.net_base.specs.declared.phy.checksum.Checksum.{Checksum}
-use Rattle.net_base.specs.declared.phy.checksum.Checksum.TheVariants.{Both, Rx, Tx, None}
-use Rattle.net_base.specs.declared.phy.checksum_capabilities.ChecksumCapabilities.{ChecksumCapabilities}
+use Rattle.net_base.specs.declared.phy.Checksum.{Checksum}
+use Rattle.net_base.specs.declared.phy.Checksum.TheVariants.{Both, Rx, Tx, None}
+use Rattle.net_base.specs.declared.phy.ChecksumCapabilities.{ChecksumCapabilities}
 
 -- whether checksums are verified when receiving
 abbrev pub is_verified : Checksum → Bool

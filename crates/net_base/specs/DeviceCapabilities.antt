@@ -5,10 +5,10 @@
 --     no_segmentation, default_capabilities      values that contracts name
 use Rattle.std.specs.Prelude.{ℕ, ◌-◌, ◌%◌, ◌≤◌, None}
 use Rattle.net_base.specs.Checksum.{all_checksums}
-use Rattle.net_base.specs.declared.phy.medium.Medium.{Medium}
-use Rattle.net_base.specs.declared.phy.medium.Medium.TheVariants.{Ethernet, Ip}
-use Rattle.net_base.specs.declared.phy.segmentation_capabilities.SegmentationCapabilities.{SegmentationCapabilities}
-use Rattle.net_base.specs.declared.phy.device_capabilities.DeviceCapabilities.{DeviceCapabilities}
+use Rattle.net_base.specs.declared.phy.Medium.{Medium}
+use Rattle.net_base.specs.declared.phy.Medium.TheVariants.{Ethernet, Ip}
+use Rattle.net_base.specs.declared.phy.SegmentationCapabilities.{SegmentationCapabilities}
+use Rattle.net_base.specs.declared.phy.DeviceCapabilities.{DeviceCapabilities}
 
 -- the length of the header before an IP packet
 abbrev pub header_len : Medium → ℕ

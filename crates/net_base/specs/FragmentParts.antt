@@ -10,7 +10,7 @@ use Rattle.std.specs.Prelude.{nat_eq, nat_lt, if◌then◌else◌}
 use Rattle.std.specs.declared.option.Option.TheVariants.{Some, None}
 use Rattle.net_assembler.specs.RunLists.{set_of, HasSoundRuns, IsCanonical, zero_head}
 use Rattle.net_base.specs.Fragments.{FragmentsState}
-use Rattle.net_base.specs.declared.storage.fragments.FragmentsHead.{FragmentsHead}
+use Rattle.net_base.specs.declared.storage.fragments.head.FragmentsHead.{FragmentsHead}
 
 -- the packet's size, once it is known
 abbrev pub total_of : FragmentsHead → Option ℕ

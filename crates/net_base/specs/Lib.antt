@@ -4,7 +4,6 @@ pub use Rattle.net_ring.specs.StorageLaws
 pub use Rattle.net_ring.specs.ManagedLends
 pub use Rattle.net_ring.specs.WholeLends
 pub use Rattle.net_ring.specs.Ring
-pub use Rattle.net_ring.specs.RingView
 pub use Rattle.net_ring.specs.RingLends
 pub use Rattle.net_ring.specs.RingCalls
 pub use Rattle.net_ring.specs.Log

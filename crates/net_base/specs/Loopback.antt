@@ -4,8 +4,8 @@
 use Rattle.std.specs.Prelude.{ℕ, List, map, Vec, None}
 use Rattle.net_base.specs.Checksum.{no_checksums}
 use Rattle.net_base.specs.DeviceCapabilities.{no_segmentation}
-use Rattle.net_base.specs.declared.phy.medium.Medium.{Medium}
-use Rattle.net_base.specs.declared.phy.device_capabilities.DeviceCapabilities.{DeviceCapabilities}
+use Rattle.net_base.specs.declared.phy.Medium.{Medium}
+use Rattle.net_base.specs.declared.phy.DeviceCapabilities.{DeviceCapabilities}
 
 -- the medium, and the frames that wait, the next first
 pub record LoopbackState : Type 0 where

@@ -1,7 +1,7 @@
 -- The metadata of a packet.
 use Rattle.std.specs.Prelude.{None, ◌++◌}
 use Rattle.std.specs.Hash as fed
-use Rattle.net_base.specs.declared.phy.packet_meta.PacketMeta.{PacketMeta}
+use Rattle.net_base.specs.declared.phy.PacketMeta.{PacketMeta}
 
 -- the default metadata of a packet
 abbrev pub no_metadata : PacketMeta

@@ -1,18 +1,16 @@
 //! A bench for the storage types: lines come in, and a reply line goes out for each.
 #![tactic(auto)]
 
-use net_bench_lib::serve;
-use net_io::command_words;
+use net_bench_lib::{command_words, serve};
 use std::process::ExitCode;
 
 fn main(rt: HostRuntime) -> ExitCode {
     let words = command_words(&rt);
-    let ended = serve(
+    ExitCode::from(serve(
         rt.alloc(),
         &words,
         &mut rt.stdin(),
         &mut rt.stdout(),
         &mut rt.stderr(),
-    );
-    ended.exit_code()
+    ))
 }

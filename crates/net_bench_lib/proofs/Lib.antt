@@ -1,7 +1,7 @@
+pub mod Numerals
+pub mod KnownBytes
 pub mod LineParts
 pub mod WordParts
-pub mod Pending
-pub mod HexText
 pub mod Progress
 pub mod SameText
 pub mod StreamStates

@@ -1,33 +1,30 @@
 -- The parts of a text between bytes of one kind, and its lines.
-use Rattle.std.proofs.Common.{◌≡◌, ℕ, ◌+◌, ◌<◌, ◌≤◌, suc, List, [], ◌∷◌, ◌++◌, length, take, drop, Bool, true, false, ◌==◌, Some, None, refl, sym, ◌∙◌, ap, append_assoc, arith, cond, drop-cons, add-one, All}
-use Rattle.std.specs.List.{onto_first, position, position_or_len, slice_split}
+use Rattle.std.proofs.Common.{◌≡◌, ℕ, ◌+◌, ◌<◌, suc, List, [], ◌∷◌, ◌++◌, length, take, drop, Bool, true, false, ◌==◌, Some, None, refl, sym, ◌∙◌, ap, append_assoc, arith, cond, drop-cons, add-one, All}
+use Rattle.std.proofs.lemmas.Bool.{false_from_ne_true}
+use Rattle.std.specs.List.{onto_first, slice_split}
+use Rattle.memchr.specs.Find.{IsFirstByte, is_byte}
 use Rattle.std.proofs.lemmas.List.Splits.{slice_split_at, slice_split_none, slice_split-cons_no}
 use Rattle.std.proofs.lemmas.List.{take-append-drop, get_or-take, length-take-le}
 use Rattle.std.proofs.lemmas.List.Elements.{All-head, All-tail, All-append, All-from_get_or}
-use Rattle.std.proofs.lemmas.List.Sums.{fails_before_first}
-use Rattle.std.proofs.lemmas.List.Quantifiers.{position-Some}
 use Rattle.std.proofs.lemmas.Bool.{eqb-true}
-use Rattle.std.proofs.lemmas.Bool.Decides.{nat_tests}
 use Rattle.net_bench_lib.specs.Text.{parts_of, lines_of, ended_lines, unended_line, without_last, without_empty_last, last_part}
 use Rattle.net_bench_lib.specs.Progress.{HasNoFeed}
 
 -- the first byte c, and what is before it
-pub found : (c : ℕ) (bytes : List ℕ) (at : ℕ) → Some at ≡ position (λ b. b == c) bytes →
+pub found : (c : ℕ) (bytes : List ℕ) (at : ℕ) → IsFirstByte (is_byte c) bytes (Some at) →
     (at < length bytes) × (bytes ≡ take at bytes ++ (c ∷ drop (at + 1) bytes)) × All (λ b. (b == c) ≡ false) (take at bytes)
-found c bytes at h =
-    let (within, is, none) = position-Some (λ b. b == c) bytes at 0 (sym h) in (
-      within,
-      sym (take-append-drop at bytes) ∙ ap (λ t. take at bytes ++ t)
-          (drop-cons bytes at 0 within ∙ ap (λ t. t ∷ drop (suc at) bytes) (eqb-true _ c is) ∙ rw add-one refl),
-      All-from_get_or (λ b. (b == c) ≡ false) (take at bytes) 0
-          (λ i lt. let under : i < at = omega (arith, length-take-le at bytes (omega arith)) in rw (get_or-take at bytes i 0 under) (none i under)),
-    )
+found c bytes at (first, is) = (
+  first.high,
+  sym (take-append-drop at bytes) ∙ ap (λ t. take at bytes ++ t)
+      (drop-cons bytes at 0 first.high ∙ ap (λ t. t ∷ drop (suc at) bytes) (eqb-true _ c is) ∙ rw add-one refl),
+  All-from_get_or (λ b. (b == c) ≡ false) (take at bytes) 0
+      (λ i lt. let under : i < at = omega (arith, length-take-le at bytes (omega (arith, first.high))) in rw (get_or-take at bytes i 0 under)
+      (false_from_ne_true _ (first.before i (omega arith) under))),
+)
 
 -- where no byte c is found there is none
-pub not_found : (c : ℕ) (bytes : List ℕ) → None ≡ position (λ b. b == c) bytes → All (λ b. (b == c) ≡ false) bytes
-not_found c bytes h =
-    let past : length bytes ≤ position_or_len (λ b. b == c) bytes = grind (arith, nat_tests) in
-    All-from_get_or (λ b. (b == c) ≡ false) bytes 0 (λ k lt. fails_before_first (λ b. b == c) bytes k 0 (omega arith))
+pub not_found : (c : ℕ) (bytes : List ℕ) → IsFirstByte (is_byte c) bytes None → All (λ b. (b == c) ≡ false) bytes
+not_found c bytes none = All-from_get_or (λ b. (b == c) ≡ false) bytes 0 (λ k lt. false_from_ne_true _ (none k (omega arith) lt))
 
 -- there is always a first part
 pub parts-cons : (p : ℕ → Bool) (text : List ℕ) → (part : List ℕ) × (parts : List (List ℕ)) × (slice_split p text ≡ part ∷ parts)

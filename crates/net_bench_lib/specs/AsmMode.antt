@@ -3,11 +3,11 @@
 --     asm_does most_runs set line      what a line does to the set, and its reply
 --     asm_rules most_runs      the rules of the mode
 use Rattle.std.specs.Prelude.{ℕ, ◌+◌, ◌^◌, ◌&&◌, nat_lt, List, [], ◌∷◌, ◌++◌, codes, bytes_eq}
-use Rattle.std.specs.Prelude.{decimal, if◌then◌else◌, Bool, Option, Some, None, Result, Ok, Err}
+use Rattle.std.specs.Prelude.{decimal, if◌then◌else◌, Option, Some, None, Result, Ok, Err}
 use Rattle.std.specs.Prelude.{option_map}
 use Rattle.net_assembler.specs.Positions.{Positions, with_range, front, shift_down}
 use Rattle.net_assembler.specs.Assembler.{display_text, makes_too_many_runs}
-use Rattle.net_io.specs.Numeral.{number_of}
+use Rattle.net_bench_lib.specs.Numeral.{number_of}
 use Rattle.net_bench_lib.specs.Transcript.{Rules}
 use Rattle.net_bench_lib.specs.declared.asm.AsmLine.{AsmLine}
 use Rattle.net_bench_lib.specs.declared.asm.AsmLine.TheVariants.{Add, AddThenRemoveFront}

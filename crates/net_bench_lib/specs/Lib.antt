@@ -1,5 +1,8 @@
 pub mod Text
+pub mod Numeral
+pub mod Writer
 pub mod Transcript
+pub mod Refusal
 pub mod Progress
 pub mod RingMode
 pub mod AsmMode
@@ -10,6 +13,5 @@ pub mod StreamLines
 pub mod StreamReceivers
 pub mod Words
 pub mod Kinds
-pub mod Bench
 pub mod ErrorText
 pub mod Program

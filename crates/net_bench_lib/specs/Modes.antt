@@ -4,7 +4,7 @@
 --     output mode input, fault mode input      the output for an input, and its first fault
 use Rattle.std.specs.Prelude.{ℕ, List, [], ◌∷◌, ◌==◌, ◌||◌, codes, bytes_eq, nat_le, if◌then◌else◌}
 use Rattle.std.specs.Prelude.{Option, Some, None, option_map, option_and_then}
-use Rattle.net_io.specs.Numeral.{number_of}
+use Rattle.net_bench_lib.specs.Numeral.{number_of}
 use Rattle.net_bench_lib.specs.Text.{lines_of}
 use Rattle.net_bench_lib.specs.Transcript.{Transcript, transcript}
 use Rattle.net_assembler.specs.Positions.{nothing}

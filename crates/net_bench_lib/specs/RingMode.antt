@@ -6,7 +6,7 @@
 use Rattle.std.specs.Prelude.{ℕ, ◌-◌, min, List, [], ◌∷◌, ◌++◌, length, take, drop, codes, bytes_eq}
 use Rattle.std.specs.Prelude.{decimal, if◌then◌else◌, Option, Some, None, Result, Ok, Err}
 use Rattle.std.specs.Prelude.{option_map}
-use Rattle.net_io.specs.Numeral.{number_of}
+use Rattle.net_bench_lib.specs.Numeral.{number_of}
 use Rattle.net_bench_lib.specs.Text.{hex_bytes, hex_text}
 use Rattle.net_bench_lib.specs.Transcript.{Rules}
 use Rattle.net_bench_lib.specs.declared.fault.Fault.{Fault}

@@ -14,7 +14,7 @@ use Rattle.net_assembler.specs.Positions.{maximal_runs}
 use Rattle.net_receiver.specs.Rules.{CommandValue, Segment, Read, Show, ReplyValue, SegmentReply, ReadReply}
 use Rattle.net_receiver.specs.Rules.{ShowReply, ReceiverOps, after, reply}
 use Rattle.net_receiver.specs.Schedule.{Setting, KeptState, fresh_kept, kept_ops}
-use Rattle.net_io.specs.Numeral.{number_of}
+use Rattle.net_bench_lib.specs.Numeral.{number_of}
 use Rattle.net_bench_lib.specs.Text.{hex_bytes, hex_text}
 use Rattle.net_bench_lib.specs.Transcript.{Rules}
 use Rattle.net_bench_lib.specs.AsmMode.{refused_text}

@@ -7,7 +7,7 @@
 use Rattle.std.specs.Prelude.{◌≡◌, ℕ, List, [], ◌++◌, ◌∷◌, ◌≤◌, length, take, nat_lt, if◌then◌else◌}
 use Rattle.std.specs.Prelude.{Option, Some, None, Result, Ok, Err}
 use Rattle.std.specs.Io.KnownBytes.{Appends, Consumes}
-use Rattle.net_io.specs.Writer.{AppendsPrefix}
+use Rattle.net_bench_lib.specs.Writer.{AppendsPrefix}
 use Rattle.net_bench_lib.specs.Text.{lines_of, ended_lines, unended_line, words_of, next_number}
 use Rattle.net_bench_lib.specs.declared.limits.TheConstants.{MAX_LINE}
 use Rattle.net_bench_lib.specs.declared.fault.Fault.{Fault}

@@ -1,33 +1,25 @@
 //! Mode `asm`: ranges are added to a set of positions, and its front is removed.
-ghost use Rattle.std.specs.Prelude.{◌≡◌, [], ◌++◌, ◌≤◌, codes, decimal, IfOk};
-ghost use Rattle.std.specs.Prelude.{MatchResult, Ok, Err, string_bytes};
+ghost use Rattle.std.specs.Prelude.{◌≡◌, [], ◌++◌, ◌≤◌, codes, decimal, OnOk, IfErr, Ok};
+ghost use Rattle.std.specs.Prelude.{string_bytes};
 ghost use Rattle.net_assembler.specs.Positions.{nothing};
-ghost use Rattle.net_io.specs.Numeral.{number_of};
+ghost use Rattle.net_bench_lib.specs.Numeral.{number_of};
 ghost use Rattle.net_bench_lib.specs.Text.{words_of};
+ghost use Rattle.net_bench_lib.specs.Refusal.{IsRefusalOf};
 ghost use Rattle.net_bench_lib.specs.AsmMode.{asm_rules, asm_line, range_of, asm_does};
 ghost use Rattle.net_bench_lib.specs.declared.asm.AsmLine.TheVariants.{Add, AddThenRemoveFront};
 ghost use Rattle.net_bench_lib.specs.declared.asm.AsmLine.TheVariants.{RemoveFront, Print};
 
-use crate::buffers::Buffers;
-use crate::fault::Fault;
+use crate::fault::{Fault, Refusal};
+use crate::numeral::number;
 use crate::session::Session;
+use crate::words;
 use crate::words::Words;
-use crate::{text, words};
 use net_assembler::Assembler;
-use net_io::number;
-use std::alloc::{AllocError, Allocator};
+use std::alloc::Allocator;
 use std::marker::Model;
 
 /// The reply to a range that the assembler refuses.
 const REFUSED: &str = "refused too many holes\n";
-
-/// The most bytes of a line that says how long the front was: a number of at most 20 digits, and 7
-/// more bytes.
-const FRONT_ROOM: usize = 27;
-
-/// The most bytes of a line that shows 32 runs: for each, two numbers of at most 20 digits and 4
-/// more bytes; and 4 bytes around all.
-const PRINT_ROOM: usize = 4 + 44 * 32;
 
 /// A line of the mode.
 #[derive(Drop)]
@@ -112,75 +104,71 @@ impl<const N: usize> AsmSession<N> {
     /// Adds a range, or finds that it is too long.
     fn add<A: Allocator + Copy>(
         &mut self,
-        buffers: &mut Buffers<A>,
         offset: usize,
         size: usize,
-    ) -> Result<Result<String<A>, Fault>, AllocError>
-        ensures { IfOk result (λ outcome. MatchResult outcome
-            (λ reply. asm_does N self.old (Add offset size) ≡ Ok (self.new, string_bytes reply))
-            (λ fault. asm_does N self.old (Add offset size) ≡ Err fault)) }
+        reply: &mut String<A>,
+    ) -> Result<(), Refusal>
+        requires { string_bytes reply.old ≡ [] }
+        ensures ok { OnOk result
+            (asm_does N self.old (Add offset size) ≡ Ok (self.new, string_bytes reply.new)) }
+        ensures err { IfErr result (λ e. IsRefusalOf e (asm_does N self.old (Add offset size))) }
     {
         if !Assembler::<N>::fits(offset, size) {
-            return Ok(Err(Fault::RangeTooLong));
+            return Err(Refusal::Fault(Fault::RangeTooLong));
         }
-        let reply = match self.assembler.add(offset, size) {
-            Ok(()) => "ok\n",
-            Err(_) => REFUSED,
-        };
-        Ok(Ok(text::plain(buffers, reply)?))
+        match self.assembler.add(offset, size) {
+            Ok(()) => reply.push_str("ok\n")?,
+            Err(_) => reply.push_str(REFUSED)?,
+        }
+        Ok(())
     }
 
     /// Adds a range and removes the front then, or finds that the range is too long.
     fn add_then_remove_front<A: Allocator + Copy>(
         &mut self,
-        buffers: &mut Buffers<A>,
         offset: usize,
         size: usize,
-    ) -> Result<Result<String<A>, Fault>, AllocError>
-        ensures { IfOk result (λ outcome. MatchResult outcome
-            (λ reply. asm_does N self.old (AddThenRemoveFront offset size)
-            ≡ Ok (self.new, string_bytes reply))
-            (λ fault. asm_does N self.old (AddThenRemoveFront offset size) ≡ Err fault)) }
+        reply: &mut String<A>,
+    ) -> Result<(), Refusal>
+        requires { string_bytes reply.old ≡ [] }
+        ensures ok { OnOk result (asm_does N self.old (AddThenRemoveFront offset size)
+            ≡ Ok (self.new, string_bytes reply.new)) }
+        ensures err { IfErr result (λ e.
+            IsRefusalOf e (asm_does N self.old (AddThenRemoveFront offset size))) }
     {
         if !Assembler::<N>::fits(offset, size) {
-            return Ok(Err(Fault::RangeTooLong));
+            return Err(Refusal::Fault(Fault::RangeTooLong));
         }
         match self.assembler.add_then_remove_front(offset, size) {
-            Ok(front) => Ok(Ok(front_text(buffers, front)?)),
-            Err(_) => Ok(Ok(text::plain(buffers, REFUSED)?)),
+            Ok(front) => write!(reply, "front {front}\n")?,
+            Err(_) => reply.push_str(REFUSED)?,
         }
+        Ok(())
     }
 
     /// Removes the front.
-    fn remove_front<A: Allocator + Copy>(
-        &mut self,
-        buffers: &mut Buffers<A>,
-    ) -> Result<String<A>, AllocError>
-        ensures { IfOk result (λ reply.
-            asm_does N self.old RemoveFront ≡ Ok (self.new, string_bytes reply)) }
+    fn remove_front<A: Allocator + Copy>(&mut self, reply: &mut String<A>) -> Result<(), Refusal>
+        requires { string_bytes reply.old ≡ [] }
+        ensures ok { OnOk result
+            (asm_does N self.old RemoveFront ≡ Ok (self.new, string_bytes reply.new)) }
+        ensures err { IfErr result (λ e. IsRefusalOf e (asm_does N self.old RemoveFront)) }
     {
-        front_text(buffers, self.assembler.remove_front())
+        let front = self.assembler.remove_front();
+        write!(reply, "front {front}\n")?;
+        Ok(())
     }
 
     /// Shows the runs.
-    fn print<A: Allocator + Copy>(&self, buffers: &mut Buffers<A>) -> Result<String<A>, AllocError>
-        ensures { IfOk result (λ reply.
-            asm_does N self.now Print ≡ Ok (self.now, string_bytes reply)) }
+    fn print<A: Allocator + Copy>(&self, reply: &mut String<A>) -> Result<(), Refusal>
+        requires { string_bytes reply.old ≡ [] }
+        ensures ok { OnOk result
+            (asm_does N self.now Print ≡ Ok (self.now, string_bytes reply.new)) }
+        ensures err { IfErr result (λ e. IsRefusalOf e (asm_does N self.now Print)) }
     {
         let assembler = &self.assembler;
-        text::displayed(buffers, PRINT_ROOM, format_args!("{assembler}\n"))
+        write!(reply, "{assembler}\n")?;
+        Ok(())
     }
-}
-
-/// Returns the reply that says how long the front was.
-fn front_text<A: Allocator + Copy>(
-    buffers: &mut Buffers<A>,
-    length: usize,
-) -> Result<String<A>, AllocError>
-    ensures { IfOk result (λ text.
-        string_bytes text ≡ codes "front " ++ decimal length ++ codes "\n") }
-{
-    text::displayed(buffers, FRONT_ROOM, format_args!("front {length}\n"))
 }
 
 impl<A: Allocator + Copy, const N: usize> Session<A> for AsmSession<N> {
@@ -188,19 +176,15 @@ impl<A: Allocator + Copy, const N: usize> Session<A> for AsmSession<N> {
 
     ghost closing = { λ _. [] };
 
-    fn apply_line(
-        &mut self,
-        buffers: &mut Buffers<A>,
-        line: &[u8],
-    ) -> Result<Result<String<A>, Fault>, AllocError> {
+    fn apply_line(&mut self, _alloc: A, line: &[u8], reply: &mut String<A>) -> Result<(), Refusal> {
         match asm_line(line) {
-            Some(AsmLine::Add(offset, size)) => self.add(buffers, offset, size),
+            Some(AsmLine::Add(offset, size)) => self.add(offset, size, reply),
             Some(AsmLine::AddThenRemoveFront(offset, size)) => {
-                self.add_then_remove_front(buffers, offset, size)
+                self.add_then_remove_front(offset, size, reply)
             }
-            Some(AsmLine::RemoveFront) => Ok(Ok(self.remove_front(buffers)?)),
-            Some(AsmLine::Print) => Ok(Ok(self.print(buffers)?)),
-            None => Ok(Err(Fault::BadCommand)),
+            Some(AsmLine::RemoveFront) => self.remove_front(reply),
+            Some(AsmLine::Print) => self.print(reply),
+            None => Err(Refusal::Fault(Fault::BadCommand)),
         }
     }
 

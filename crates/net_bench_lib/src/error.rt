@@ -1,7 +1,9 @@
 //! The errors that `run` returns.
-ghost use Rattle.std.specs.Prelude.{Some};
+ghost use Rattle.std.specs.Prelude.{◌≡◌, Some};
 ghost use Rattle.net_bench_lib.specs.ErrorText.{error_text};
+ghost use Rattle.net_bench_lib.specs.declared.error.BenchError.TheVariants.{OutOfMemory};
 
+use std::alloc::AllocError;
 use std::error::Error;
 use std::fmt;
 
@@ -41,3 +43,11 @@ impl fmt::Display for BenchError {
 }
 
 impl Error for BenchError {}
+
+impl From<AllocError> for BenchError {
+    ghost from_gives = { λ _ e. e ≡ OutOfMemory };
+
+    fn from(_e: AllocError) -> BenchError {
+        BenchError::OutOfMemory
+    }
+}

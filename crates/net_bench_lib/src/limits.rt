@@ -1,12 +1,9 @@
-//! The limits on lines, reads, replies and storage, in bytes.
+//! The limits on lines, reads and storage, in bytes.
 
 /// The most bytes of a line, without its line feed.
 pub(crate) const MAX_LINE: usize = 4096;
 
-/// How many bytes are asked for at once.
-pub(crate) const CHUNK: usize = 65536;
-
-/// The most bytes of replies that are gathered before they are written.
+/// How many bytes the beginning of a line and a read after it have together at most.
 pub(crate) const ROOM: usize = 65536;
 
 /// The most bytes of storage.

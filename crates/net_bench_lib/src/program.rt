@@ -1,24 +1,30 @@
 //! The program `net_bench`, from its words and streams to its exit status.
-ghost use Rattle.std.specs.Prelude.{◌≡◌, ◌↔◌, map, IfSome, OnOk, IfErr, None, true, string_bytes};
+ghost use Rattle.std.specs.Prelude.{◌≡◌, ◌≤◌, ◌↔◌, map, IfSome, OnOk, IfErr, None, string_bytes};
 ghost use Rattle.std.specs.Io.KnownBytes.{Appends, Keeps};
-ghost use Rattle.net_io.specs.declared.status.Status.TheVariants.{Done, Failed, GaveUp, Misused};
+ghost use Rattle.net_bench_lib.specs.Writer.{AppendsPrefix};
+ghost use Rattle.net_bench_lib.specs.Transcript.{ErrorOfInput};
 ghost use Rattle.net_bench_lib.specs.Modes.{output, fault, mode_of, transcript_of};
-ghost use Rattle.net_bench_lib.specs.Program.{usage_line, error_line, status_of, FailsOnInput};
+ghost use Rattle.net_bench_lib.specs.Program.{usage_line, error_line, FailsOnInput};
 
 use crate::dispatch::run;
 use crate::error::BenchError;
 use crate::mode::Mode;
-use net_io::{Ended, Status, flush_after};
+use crate::writer::write_text;
+use arrayvec::ArrayString;
 use std::alloc::Allocator;
+use std::fmt::Write as _;
 use std::io::{Read, Write};
 
 /// The line on standard error for words that name no mode.
 const USAGE: &str = "usage: net_bench ring CAP | asm N | stream CAP N [FIRST]\n";
 
+/// The bytes of the longest line that says an error, and some more.
+const ERROR_ROOM: usize = 64;
+
 /// Calls `run` in the mode that the words name and flushes the writer once; if `run` returned Ok, a
 /// flush that fails is a failed write. An error is written to `errors` as a line; if `errors`
-/// doesn't take it, nothing else changes. The status is `Done` if `run` and the flush returned Ok,
-/// `Failed` after an error, and `Misused` if the words name no mode: then nothing is read, and only
+/// doesn't take it, nothing else changes. The result is the exit status: 0 if `run` and the flush
+/// returned Ok, 1 after an error, and 2 if the words name no mode: then nothing is read, and only
 /// the usage line is written, to `errors`.
 pub fn serve<A: Allocator + Copy, R: Read, W: Write, E: Write>(
     alloc: A,
@@ -26,55 +32,66 @@ pub fn serve<A: Allocator + Copy, R: Read, W: Write, E: Write>(
     reader: &mut R,
     writer: &mut W,
     errors: &mut E,
-) -> Ended
-    ensures usage { (result.status ≡ Misused) ↔ (mode_of (map string_bytes words.now) ≡ None) }
-    ensures never { result.status ≡ GaveUp → ⊥ }
-    ensures unchanged { result.status ≡ Misused →
+) -> u8
+    ensures status { result ≤ 2 }
+    ensures usage { (result ≡ 2) ↔ (mode_of (map string_bytes words.now) ≡ None) }
+    ensures unchanged { result ≡ 2 →
         Keeps (R.remaining reader.old) (R.remaining reader.new)
         × Keeps (W.contents writer.old) (W.contents writer.new) }
-    ensures told { result.status ≡ Misused → result.is_told ≡ true →
-        Appends (E.contents errors.old) (E.contents errors.new) usage_line }
-    ensures ok { result.status ≡ Done → IfSome (mode_of (map string_bytes words.now)) (λ mode.
+    ensures told { result ≡ 2 →
+        AppendsPrefix (E.contents errors.old) (E.contents errors.new) usage_line }
+    ensures ok { result ≡ 0 → IfSome (mode_of (map string_bytes words.now)) (λ mode.
         IfSome (R.remaining reader.old) (λ input. (fault mode input ≡ None)
         × Appends (W.contents writer.old) (W.contents writer.new) (output mode input))) }
-    ensures quiet { result.status ≡ Done →
-        (result.is_told ≡ true) × Keeps (E.contents errors.old) (E.contents errors.new) }
-    ensures err { result.status ≡ Failed → IfSome (mode_of (map string_bytes words.now)) (λ mode.
+    ensures quiet { result ≡ 0 → Keeps (E.contents errors.old) (E.contents errors.new) }
+    ensures err { result ≡ 1 → IfSome (mode_of (map string_bytes words.now)) (λ mode.
         FailsOnInput (transcript_of mode) (R.remaining reader.old) (R.remaining reader.new)
         (W.contents writer.old) (W.contents writer.new)
-        (E.contents errors.old) (E.contents errors.new) result.is_told) }
+        (E.contents errors.old) (E.contents errors.new)) }
 {
     let Some(mode) = Mode::from_words(words) else {
-        let told = errors.write_all(USAGE.as_bytes());
-        return Ended {
-            status: Status::Misused,
-            is_told: told.is_ok(),
-        };
+        let _ = write_text(errors, USAGE.as_bytes());
+        return 2;
     };
-    let outcome = run(alloc, mode, reader, writer);
-    let outcome = flush_after(outcome, BenchError::WriteFailed, writer);
-    ended_after(outcome, errors)
+    match run_and_flush(alloc, mode, reader, writer) {
+        Ok(()) => 0,
+        Err(error) => {
+            tell(&error, errors);
+            1
+        }
+    }
 }
 
-/// Writes the error that `run` returned as a line, if there is one.
-fn ended_after<E: Write>(outcome: Result<(), BenchError>, errors: &mut E) -> Ended
-    ensures status { result.status ≡ status_of outcome }
-    ensures quiet { OnOk outcome ((result.is_told ≡ true)
-        × Keeps (E.contents errors.old) (E.contents errors.new)) }
-    ensures told { IfErr outcome (λ e. result.is_told ≡ true →
-        Appends (E.contents errors.old) (E.contents errors.new) (error_line e)) }
+/// Calls `run`, and flushes the writer then.
+fn run_and_flush<A: Allocator + Copy, R: Read, W: Write>(
+    alloc: A,
+    mode: Mode,
+    reader: &mut R,
+    writer: &mut W,
+) -> Result<(), BenchError>
+    ensures ok { OnOk result (IfSome (R.remaining reader.old) (λ input.
+        (fault mode input ≡ None)
+        × Appends (W.contents writer.old) (W.contents writer.new) (output mode input))) }
+    ensures err { IfErr result (λ e. IfSome (R.remaining reader.old) (λ input.
+        ErrorOfInput (transcript_of mode) input (R.remaining reader.new)
+        (W.contents writer.old) (W.contents writer.new) e)) }
 {
-    match outcome {
-        Ok(()) => Ended {
-            status: Status::Done,
-            is_told: true,
-        },
-        Err(error) => {
-            let told = writeln!(errors, "{error}");
-            Ended {
-                status: Status::Failed,
-                is_told: told.is_ok(),
-            }
-        }
+    let outcome = run(alloc, mode, reader, writer);
+    let flushed = writer.flush();
+    if outcome.is_ok() && flushed.is_err() {
+        return Err(BenchError::WriteFailed);
+    }
+    outcome
+}
+
+/// Writes the line that says an error, or a prefix of it before a write that fails.
+// The line is made on the stack, since memory may be what is missing.
+fn tell<E: Write>(error: &BenchError, errors: &mut E)
+    ensures { AppendsPrefix (E.contents errors.old) (E.contents errors.new)
+        (error_line error.now) }
+{
+    let mut line = ArrayString::<ERROR_ROOM>::new();
+    if writeln!(line, "{error}").is_ok() {
+        let _ = write_text(errors, line.as_bytes());
     }
 }

@@ -1,24 +1,18 @@
 //! Mode `ring`: bytes go in, and come out in order.
-ghost use Rattle.std.specs.Prelude.{◌≡◌, ◌-◌, [], ◌++◌, IfOk, string_bytes, option_map, codes};
-ghost use Rattle.std.specs.Prelude.{length, min, ◌≤◌, take};
-ghost use Rattle.net_bench_lib.specs.Text.{words_of, hex_text};
+ghost use Rattle.std.specs.Prelude.{◌≡◌, [], IfOk, OnOk, string_bytes, option_map, length};
+ghost use Rattle.net_bench_lib.specs.Text.{words_of};
 ghost use Rattle.net_bench_lib.specs.RingMode.{ring_rules, ring_command, ring_does, fresh_ring_mode};
 ghost use Rattle.net_bench_lib.specs.RingMode.{Write, Read};
 ghost use Rattle.net_bench_lib.specs.RingLines.{ring_command_value};
 
-use crate::buffers::Buffers;
-use crate::fault::Fault;
+use crate::fault::{Fault, Refusal};
+use crate::numeral::number;
 use crate::session::Session;
 use crate::words::Words;
 use crate::{text, words};
-use net_io::number;
 use net_ring::{ManagedSlice, RingBuffer};
 use std::alloc::{AllocError, Allocator};
 use std::marker::Model;
-
-/// The most bytes of a line that says how much was taken in: a number of at most 20 digits, and 6
-/// more bytes.
-const TOOK_ROOM: usize = 26;
 
 /// A line of the mode.
 #[derive(Drop)]
@@ -50,17 +44,14 @@ impl<'a> Model for RingSession<'a> {
 }
 
 /// Returns the meaning of a line, if it is one of the mode's.
-fn ring_line<A: Allocator + Copy>(
-    buffers: &mut Buffers<A>,
-    line: &[u8],
-) -> Result<Option<RingLine<A>>, AllocError>
+fn ring_line<A: Allocator + Copy>(alloc: A, line: &[u8]) -> Result<Option<RingLine<A>>, AllocError>
     ensures { IfOk result (λ found.
         option_map ring_command_value found ≡ ring_command (words_of line.now)) }
 {
     match words::split_words(line) {
         Words::Two(verb, word) => {
             if verb == b"w".as_slice() {
-                return Ok(text::bytes(buffers, word)?.map(|bytes| RingLine::Write(bytes)));
+                return Ok(text::bytes(alloc, word)?.map(|bytes| RingLine::Write(bytes)));
             }
             if verb == b"r".as_slice() {
                 return Ok(number(word).map(|number| RingLine::Read(number)));
@@ -84,64 +75,32 @@ impl<'a> RingSession<'a> {
     /// Enqueues as many bytes as there is room for, and replies how many.
     fn write<A: Allocator + Copy>(
         &mut self,
-        buffers: &mut Buffers<A>,
         bytes: &[u8],
-    ) -> Result<String<A>, AllocError>
-        ensures { IfOk result (λ reply.
-            ring_does self.old (Write bytes.now) ≡ (self.new, string_bytes reply)) }
+        reply: &mut String<A>,
+    ) -> Result<(), AllocError>
+        requires { string_bytes reply.old ≡ [] }
+        ensures { OnOk result
+            (ring_does self.old (Write bytes.now) ≡ (self.new, string_bytes reply.new)) }
     {
         let count = self.ring.enqueue_slice(bytes);
-        text::displayed(buffers, TOOK_ROOM, format_args!("took {count}\n"))
-    }
-
-    /// Returns the reply that shows `count` bytes from the head of the queue, which are in one or
-    /// two parts of the storage.
-    fn shown<A: Allocator + Copy>(
-        &self,
-        buffers: &mut Buffers<A>,
-        count: usize,
-    ) -> Result<String<A>, AllocError>
-        requires { count ≤ length self.now.bytes }
-        ensures { IfOk result (λ reply. string_bytes reply
-            ≡ codes "read " ++ hex_text (take count self.now.bytes) ++ codes "\n") }
-    {
-        let (first, second) = self.ring.as_slices();
-        let cut = count.min(first.len());
-        text::read_reply(buffers, &first[..cut], &second[..count - cut])
+        write!(reply, "took {count}\n")
     }
 
     /// Dequeues at most `number` bytes, and replies with them.
     fn read<A: Allocator + Copy>(
         &mut self,
-        buffers: &mut Buffers<A>,
+        alloc: A,
         number: u64,
-    ) -> Result<String<A>, AllocError>
-        ensures { IfOk result (λ reply.
-            ring_does self.old (Read number) ≡ (self.new, string_bytes reply)) }
+        reply: &mut String<A>,
+    ) -> Result<(), AllocError>
+        requires { string_bytes reply.old ≡ [] }
+        ensures { OnOk result
+            (ring_does self.old (Read number) ≡ (self.new, string_bytes reply.new)) }
     {
         let count = (self.ring.len() as u64).min(number) as usize;
-        let reply = self.shown(buffers, count)?;
-        self.ring.dequeue_allocated(count);
-        Ok(reply)
-    }
-
-    /// Executes a line, and makes the reply.
-    fn write_or_read<A: Allocator + Copy>(
-        &mut self,
-        buffers: &mut Buffers<A>,
-        line: RingLine<A>,
-    ) -> Result<String<A>, AllocError>
-        ensures { IfOk result (λ reply.
-            ring_does self.old (ring_command_value line) ≡ (self.new, string_bytes reply)) }
-    {
-        match line {
-            RingLine::Write(bytes) => {
-                let reply = self.write(buffers, &bytes)?;
-                buffers.hand_back_bytes(bytes);
-                Ok(reply)
-            }
-            RingLine::Read(number) => self.read(buffers, number),
-        }
+        let mut bytes = vec![in alloc; 0u8; count]?;
+        self.ring.dequeue_slice(&mut bytes);
+        text::show_bytes(alloc, &bytes, reply)
     }
 }
 
@@ -150,15 +109,13 @@ impl<A: Allocator + Copy> Session<A> for RingSession<'_> {
 
     ghost closing = { λ _. [] };
 
-    fn apply_line(
-        &mut self,
-        buffers: &mut Buffers<A>,
-        line: &[u8],
-    ) -> Result<Result<String<A>, Fault>, AllocError> {
-        match ring_line(buffers, line)? {
-            Some(line) => Ok(Ok(self.write_or_read(buffers, line)?)),
-            None => Ok(Err(Fault::BadCommand)),
+    fn apply_line(&mut self, alloc: A, line: &[u8], reply: &mut String<A>) -> Result<(), Refusal> {
+        match ring_line(alloc, line)? {
+            Some(RingLine::Write(bytes)) => self.write(&bytes, reply)?,
+            Some(RingLine::Read(number)) => self.read(alloc, number, reply)?,
+            None => return Err(Refusal::Fault(Fault::BadCommand)),
         }
+        Ok(())
     }
 
     fn closing_text(&self) -> &'static str {

@@ -1,11 +1,11 @@
 //! The trait of a mode: a state that lines change.
-ghost use Rattle.std.specs.Prelude.{◌≡◌, List, ℕ, Ok, Err, IfOk, MatchResult, string_bytes};
+ghost use Rattle.std.specs.Prelude.{◌≡◌, List, ℕ, [], Ok, OnOk, IfErr, string_bytes};
 ghost use Rattle.net_bench_lib.specs.Text.{words_of};
 ghost use Rattle.net_bench_lib.specs.Transcript.{Rules};
+ghost use Rattle.net_bench_lib.specs.Refusal.{IsRefusalOf};
 
-use crate::buffers::Buffers;
-use crate::fault::Fault;
-use std::alloc::{AllocError, Allocator};
+use crate::fault::Refusal;
+use std::alloc::Allocator;
 
 /// The state of a mode, whose replies are in memory of `A`.
 pub trait Session<A: Allocator + Copy> {
@@ -15,16 +15,13 @@ pub trait Session<A: Allocator + Copy> {
     /// The text after the last line.
     ghost closing: { Self → List ℕ };
 
-    /// Executes a line of at most 4,096 bytes, and makes its reply, in memory of the buffers. After
-    /// a fault, or if memory was refused, the session is over.
-    fn apply_line(
-        &mut self,
-        buffers: &mut Buffers<A>,
-        line: &[u8],
-    ) -> Result<Result<String<A>, Fault>, AllocError>
-        ensures { IfOk result (λ outcome. MatchResult outcome
-            (λ reply. rules self.old (words_of line.now) ≡ Ok (self.new, string_bytes reply))
-            (λ fault. rules self.old (words_of line.now) ≡ Err fault)) };
+    /// Executes a line of at most 4,096 bytes, and makes its reply, in an empty text. After an error
+    /// the session is over, and the text is no reply.
+    fn apply_line(&mut self, alloc: A, line: &[u8], reply: &mut String<A>) -> Result<(), Refusal>
+        requires { string_bytes reply.old ≡ [] }
+        ensures ok { OnOk result
+            (rules self.old (words_of line.now) ≡ Ok (self.new, string_bytes reply.new)) }
+        ensures err { IfErr result (λ e. IsRefusalOf e (rules self.old (words_of line.now))) };
 
     /// Returns the text after the last line.
     fn closing_text(&self) -> &'static str

@@ -1,25 +1,23 @@
 //! Mode `stream`: segments of a stream arrive in any order, and its bytes are read in order.
-ghost use Rattle.std.specs.Prelude.{◌≡◌, IfOk, MatchResult, Ok, Err, string_bytes};
+ghost use Rattle.std.specs.Prelude.{◌≡◌, [], IfOk, OnOk, IfErr, Ok, string_bytes};
 ghost use Rattle.std.specs.Prelude.{option_map, ◌≤◌, length};
-ghost use Rattle.net_receiver.specs.Commands.{command_value, reply_value, CommandFits};
-ghost use Rattle.net_receiver.specs.Rules.{Read, ReadReply};
-ghost use Rattle.net_receiver.specs.ReceiverState.{receiver_after_command, receiver_reply};
-ghost use Rattle.net_io.specs.Numeral.{number_of};
+ghost use Rattle.net_receiver.specs.Commands.{command_value};
+ghost use Rattle.net_bench_lib.specs.Numeral.{number_of};
 ghost use Rattle.net_bench_lib.specs.Text.{words_of, hex_bytes};
 ghost use Rattle.net_bench_lib.specs.StreamMode.{ToReceiver, NextSchedule, segment_command};
 ghost use Rattle.net_bench_lib.specs.StreamMode.{stream_command};
 ghost use Rattle.net_bench_lib.specs.StreamMode.{first_schedule, stream_does, stream_rules};
 ghost use Rattle.net_bench_lib.specs.StreamMode.{stream_closing, end_fits};
+ghost use Rattle.net_bench_lib.specs.Refusal.{IsRefusalOf};
 ghost use Rattle.net_bench_lib.specs.StreamLines.{stream_command_value};
 ghost use Rattle.net_bench_lib.specs.StreamReceivers.{receiver_schedule_ops};
 
-use crate::buffers::Buffers;
-use crate::fault::Fault;
+use crate::fault::{Fault, Refusal};
+use crate::numeral::number;
 use crate::session::Session;
 use crate::words::Words;
 use crate::{text, words};
-use net_io::number;
-use net_receiver::{Command, Receiver, Reply, execute};
+use net_receiver::{Command, Receiver, execute};
 use net_ring::ManagedSlice;
 use std::alloc::{AllocError, Allocator};
 use std::marker::Model;
@@ -69,7 +67,7 @@ impl<'a, A: Allocator + Copy, const N: usize> Model for StreamSession<'a, A, N> 
 
 /// Returns the segment that two words name, if they name one.
 fn segment<A: Allocator + Copy>(
-    buffers: &mut Buffers<A>,
+    alloc: A,
     position: &[u8],
     bytes: &[u8],
 ) -> Result<Option<StreamLine<A>>, AllocError>
@@ -79,7 +77,7 @@ fn segment<A: Allocator + Copy>(
     let Some(pos) = number(position) else {
         return Ok(None);
     };
-    let Some(bytes) = text::bytes(buffers, bytes)? else {
+    let Some(bytes) = text::bytes(alloc, bytes)? else {
         return Ok(None);
     };
     Ok(Some(StreamLine::ToReceiver(Command::Segment { pos, bytes })))
@@ -87,7 +85,7 @@ fn segment<A: Allocator + Copy>(
 
 /// Returns the meaning of a line, if it is one of the mode's.
 fn stream_line<A: Allocator + Copy>(
-    buffers: &mut Buffers<A>,
+    alloc: A,
     line: &[u8],
 ) -> Result<Option<StreamLine<A>>, AllocError>
     ensures { IfOk result (λ found.
@@ -111,7 +109,7 @@ fn stream_line<A: Allocator + Copy>(
         }
         Words::Three(verb, position, bytes) => {
             if verb == b"s".as_slice() {
-                return segment(buffers, position, bytes);
+                return segment(alloc, position, bytes);
             }
             Ok(None)
         }
@@ -126,60 +124,6 @@ fn fits<A: Allocator + Copy, const N: usize>(command: &Command<A>) -> bool
     match command {
         Command::Segment { pos, bytes } => Receiver::<N>::fits(*pos, bytes.len()),
         Command::Read(_) | Command::Show => true,
-    }
-}
-
-/// Reads at most `count` bytes into memory of the buffers, and returns them.
-// `execute` asks the allocator for the bytes of a read; this function reuses those of an earlier
-// line.
-fn read_in_buffers<A: Allocator + Copy, const N: usize>(
-    buffers: &mut Buffers<A>,
-    receiver: &mut Receiver<'_, N>,
-    count: u64,
-) -> Result<Vec<u8, A>, AllocError>
-    ensures state { IfOk result (λ _.
-        receiver.new ≡ receiver_after_command N receiver.old (Read count)) }
-    ensures reply { IfOk result (λ bytes.
-        ReadReply bytes.items ≡ receiver_reply N receiver.old (Read count)) }
-{
-    let queued = receiver.queued();
-    let taken = count.min(queued as u64) as usize;
-    let mut bytes = buffers.take_bytes(taken)?;
-    receiver.read(&mut bytes);
-    Ok(bytes)
-}
-
-/// Does a command as `execute` does, but reads into memory of the buffers.
-fn execute_in_buffers<A: Allocator + Copy, const N: usize>(
-    buffers: &mut Buffers<A>,
-    receiver: &mut Receiver<'_, N>,
-    command: &Command<A>,
-) -> Result<Reply<A>, AllocError>
-    requires { CommandFits command.now }
-    ensures state { let seen = command_value command.now in
-        IfOk result (λ _. receiver.new ≡ receiver_after_command N receiver.old seen) }
-    ensures reply { let seen = command_value command.now in
-        IfOk result (λ reply. reply_value reply ≡ receiver_reply N receiver.old seen) }
-{
-    match command {
-        Command::Read(count) => Ok(Reply::Read(read_in_buffers(buffers, receiver, *count)?)),
-        Command::Segment { pos: _, bytes: _ } | Command::Show => {
-            execute(buffers.alloc(), receiver, command)
-        }
-    }
-}
-
-/// Hands back the bytes that were read.
-fn hand_back_read<A: Allocator + Copy>(buffers: &mut Buffers<A>, reply: Reply<A>) {
-    match reply {
-        Reply::Read(bytes) => buffers.hand_back_bytes(bytes),
-        Reply::Segment(_result) => {}
-        Reply::Show {
-            next: _next,
-            queued: _queued,
-            window: _window,
-            held: _held,
-        } => {}
     }
 }
 
@@ -208,46 +152,42 @@ impl<'a, A: Allocator + Copy, const N: usize> StreamSession<'a, A, N> {
     /// Does a command, and shows its reply.
     fn command(
         &mut self,
-        buffers: &mut Buffers<A>,
-        command: Command<A>,
-    ) -> Result<Result<String<A>, Fault>, AllocError>
-        ensures { let done =
-            stream_does receiver_schedule_ops self.old (ToReceiver (command_value command)) in
-            IfOk result (λ outcome. MatchResult outcome
-            (λ reply. done ≡ Ok (self.new, string_bytes reply))
-            (λ fault. done ≡ Err fault)) }
+        alloc: A,
+        command: &Command<A>,
+        reply: &mut String<A>,
+    ) -> Result<(), Refusal>
+        requires { string_bytes reply.old ≡ [] }
+        ensures ok { let done =
+            stream_does receiver_schedule_ops self.old (ToReceiver (command_value command.now)) in
+            OnOk result (done ≡ Ok (self.new, string_bytes reply.new)) }
+        ensures err { let done =
+            stream_does receiver_schedule_ops self.old (ToReceiver (command_value command.now)) in
+            IfErr result (λ e. IsRefusalOf e done) }
     {
-        if !fits::<A, N>(&command) {
-            return Ok(Err(Fault::RangeTooLong));
+        if !fits::<A, N>(command) {
+            return Err(Refusal::Fault(Fault::RangeTooLong));
         }
-        let reply = execute_in_buffers(buffers, &mut self.present, &command)?;
-        if let Command::Segment { pos: _, bytes } = command {
-            buffers.hand_back_bytes(bytes);
-        }
-        let text = reply_lines::reply_text(buffers, &reply)?;
-        hand_back_read(buffers, reply);
-        Ok(Ok(text))
+        let answer = execute(alloc, &mut self.present, command)?;
+        reply_lines::show_reply(alloc, &answer, reply)?;
+        Ok(())
     }
 
-    /// Begins the second schedule.
-    fn next_schedule(
-        &mut self,
-        buffers: &mut Buffers<A>,
-    ) -> Result<Result<String<A>, Fault>, AllocError>
-        ensures { let done = stream_does receiver_schedule_ops self.old NextSchedule in
-            IfOk result (λ outcome. MatchResult outcome
-            (λ reply. done ≡ Ok (self.new, string_bytes reply))
-            (λ fault. done ≡ Err fault)) }
+    /// Begins the second schedule, which has no reply.
+    fn next_schedule(&mut self, alloc: A) -> Result<(), Refusal>
+        ensures ok { OnOk result
+            (stream_does receiver_schedule_ops self.old NextSchedule ≡ Ok (self.new, [])) }
+        ensures err { IfErr result (λ e.
+            IsRefusalOf e (stream_does receiver_schedule_ops self.old NextSchedule)) }
     {
         if self.ended.is_some() {
-            return Ok(Err(Fault::TooManySchedules));
+            return Err(Refusal::Fault(Fault::TooManySchedules));
         }
-        let storage = vec![in buffers.alloc(); 0u8; self.capacity]?;
+        let storage = vec![in alloc; 0u8; self.capacity]?;
         let second = self.second.take().unwrap();
         *second = storage;
         let fresh = Receiver::new_at(ManagedSlice::from(second.as_mut_slice()), self.first);
         self.ended = Some(mem::replace(&mut self.present, fresh));
-        Ok(Ok(buffers.take_text(0)?))
+        Ok(())
     }
 }
 
@@ -256,15 +196,11 @@ impl<A: Allocator + Copy, const N: usize> Session<A> for StreamSession<'_, A, N>
 
     ghost closing = { stream_closing receiver_schedule_ops };
 
-    fn apply_line(
-        &mut self,
-        buffers: &mut Buffers<A>,
-        line: &[u8],
-    ) -> Result<Result<String<A>, Fault>, AllocError> {
-        match stream_line(buffers, line)? {
-            Some(StreamLine::ToReceiver(command)) => self.command(buffers, command),
-            Some(StreamLine::NextSchedule) => self.next_schedule(buffers),
-            None => Ok(Err(Fault::BadCommand)),
+    fn apply_line(&mut self, alloc: A, line: &[u8], reply: &mut String<A>) -> Result<(), Refusal> {
+        match stream_line(alloc, line)? {
+            Some(StreamLine::ToReceiver(command)) => self.command(alloc, &command, reply),
+            Some(StreamLine::NextSchedule) => self.next_schedule(alloc),
+            None => Err(Refusal::Fault(Fault::BadCommand)),
         }
     }
 

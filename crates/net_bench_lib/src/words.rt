@@ -1,7 +1,9 @@
 //! The words of a line.
-ghost use Rattle.std.specs.Prelude.{◌≡◌, ◌==◌, [], ◌∷◌, MatchOption, position};
+ghost use Rattle.std.specs.Prelude.{◌≡◌, [], ◌∷◌, MatchOption};
 ghost use Rattle.net_bench_lib.specs.Text.{words_of};
 ghost use Rattle.net_bench_lib.specs.Words.{AreWords};
+
+use memchr::memchr;
 
 /// The words of a line. Three is the most that any mode uses.
 pub enum Words<'a> {
@@ -15,20 +17,13 @@ pub enum Words<'a> {
     More,
 }
 
-/// Returns the index of the first space, if there is one.
-fn space_at(line: &[u8]) -> Option<usize>
-    ensures { result ≡ position (λ b. b == 32) line.now }
-{
-    line.iter().position(|b| *b == b' ')
-}
-
 /// Returns the first word of a line, and the rest after the space that ends it.
 fn next_word(line: &[u8]) -> (&[u8], Option<&[u8]>)
     ensures { MatchOption result.1
         (words_of line.now ≡ result.0.now ∷ [])
         (λ rest. words_of line.now ≡ result.0.now ∷ words_of rest.now) }
 {
-    match space_at(line) {
+    match memchr(b' ', line) {
         Some(at) => (&line[..at], Some(&line[at + 1..])),
         None => (line, None),
     }

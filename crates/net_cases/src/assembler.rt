@@ -185,8 +185,8 @@ fn add<const N: usize>(
 /// Returns counts that are not 0.
 fn used_turns() -> Turns {
     let mut turns = Turns::new();
-    turns.count_look();
-    turns.count_move();
+    turns.look();
+    turns.step();
     turns
 }
 

@@ -273,14 +273,17 @@ fn play_ending<const N: usize>(
     }
 }
 
-/// Appends the replies of a sender of a stream that ends, of a capacity and of a first position.
+/// Appends the replies of a sender of a stream that ends, of a capacity and of a first position, if there is one.
 fn play_closing(
     alloc: Global,
     (capacity, first): (u64, u64),
     lines: &str,
     replies: &mut String,
 ) -> Result<bool, CaseError> {
-    let mut sender = finite_sender(alloc, capacity, first)?;
+    let Some(sender) = finite_sender(alloc, capacity, first)? else {
+        return Ok(false);
+    };
+    let mut sender = sender;
     play(alloc, &mut sender, lines, replies)
 }
 

@@ -1,5 +1,5 @@
 //! What a line asks for.
-use net_io::number;
+use net_bench_lib::number;
 use std::alloc::{AllocError, Global};
 
 /// A call: its name, and the numbers after it. A number below zero stands for its sum with 2^64.

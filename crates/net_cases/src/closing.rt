@@ -1,7 +1,7 @@
 //! The calls of a sender of a stream that ends.
 use crate::bytes::{START, mix_bytes, pattern};
 use crate::call::{Call, Entry, find};
-use crate::reply::{Part, Reply};
+use crate::reply::{Part, Reply, allowed};
 use crate::subject::Subject;
 use net_receiver::FiniteSender;
 use net_ring::ManagedSlice;
@@ -36,14 +36,22 @@ static CALLS: [Entry<Kind>; 6] = [
     ("is_block", 2, Kind::IsBlock),
 ];
 
-/// Returns a sender over `capacity` bytes, made of its parts, of a stream that begins at `first`.
-pub fn finite_sender(alloc: Global, capacity: u64, first: u64) -> Result<Closing, AllocError> {
+/// Returns a sender over `capacity` bytes, made of its parts, of a stream that begins at `first`; `None` if no number
+/// is left for its end.
+pub fn finite_sender(
+    alloc: Global,
+    capacity: u64,
+    first: u64,
+) -> Result<Option<Closing>, AllocError> {
+    if first == u64::MAX {
+        return Ok(None);
+    }
     let storage = ManagedSlice::from(pattern(alloc, capacity, 0)?);
     let (head, storage) = FiniteSender::over_at(storage, first).into_parts();
-    Ok(Closing {
+    Ok(Some(Closing {
         sender: FiniteSender::from_parts(head, storage),
         first,
-    })
+    }))
 }
 
 impl Subject for Closing {
@@ -55,7 +63,10 @@ impl Subject for Closing {
         let sender = &mut self.sender;
         let reply = match kind {
             Kind::Write => Reply::new().count(sender.write(&pattern(alloc, one, two)?)),
-            Kind::Close => Reply::new().truth(sender.close()),
+            Kind::Close => {
+                sender.close();
+                allowed(true)
+            }
             Kind::MarkSent => Reply::new().truth(sender.mark_sent(one)),
             Kind::Acknowledge => Reply::new().truth(sender.acknowledge(one)),
             Kind::PeekAt => peek_at(sender, one, two as usize),

@@ -20,7 +20,7 @@ pub struct Ending<const N: usize> {
 #[derive(Clone, Copy)]
 enum Kind {
     /// A position, a size, what the bytes represent, and 1 if the stream ends after them.
-    Segment,
+    Keep,
     Read,
     CanEnd,
     IsAcceptable,
@@ -28,7 +28,7 @@ enum Kind {
 
 /// The calls.
 static CALLS: [Entry<Kind>; 4] = [
-    ("segment", 4, Kind::Segment),
+    ("keep", 4, Kind::Keep),
     ("read", 1, Kind::Read),
     ("can_end", 1, Kind::CanEnd),
     ("is_acceptable", 2, Kind::IsAcceptable),
@@ -60,7 +60,7 @@ impl<const N: usize> Subject for Ending<N> {
         };
         let receiver = &mut self.receiver;
         let reply = match kind {
-            Kind::Segment => segment(receiver, one, &pattern(alloc, two, three)?, four == 1),
+            Kind::Keep => keep(receiver, one, &pattern(alloc, two, three)?, four == 1),
             Kind::Read => read(alloc, receiver, one)?,
             Kind::CanEnd => Reply::new().truth(receiver.can_end(one)),
             Kind::IsAcceptable => is_acceptable(receiver, one, two),
@@ -73,16 +73,15 @@ impl<const N: usize> Subject for Ending<N> {
     /// Positions are counted from the stream's first.
     fn show(&mut self, _: Global) -> Result<Reply, AllocError> {
         let (finite, first) = (&self.receiver, self.first);
-        let receiver = finite.receiver();
         let reply = Reply::new()
-            .number(receiver.next().wrapping_sub(first))
-            .count(receiver.queued())
-            .count(receiver.window())
-            .count(receiver.held().count())
+            .number(finite.next().wrapping_sub(first))
+            .count(finite.len())
+            .count(finite.window())
+            .count(finite.held().count())
             .and(end_of(finite, first))
             .number(finite.acknowledged().wrapping_sub(first))
             .number(u64::from(finite.is_complete()) + u64::from(finite.has_read_all()));
-        let (one, other) = receiver.as_slices();
+        let (one, other) = finite.as_slices();
         let digest = mix_bytes(mix_bytes(START, one), other);
         Ok(reply.and(Part::Digest(digest)))
     }
@@ -96,7 +95,7 @@ fn end_of<const N: usize>(receiver: &FiniteReceiver<'_, N>, first: u64) -> Part 
     }
 }
 
-fn segment<const N: usize>(
+fn keep<const N: usize>(
     receiver: &mut FiniteReceiver<'_, N>,
     pos: u64,
     bytes: &[u8],

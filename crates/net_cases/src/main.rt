@@ -15,7 +15,6 @@ mod ending;
 mod error;
 mod fragments;
 mod generator;
-mod link;
 mod packets;
 mod receiver;
 mod reply;

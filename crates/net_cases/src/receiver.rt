@@ -128,13 +128,38 @@ impl<const N: usize> Pair<N> {
     /// could be listed, of which what isn't written stays.
     fn newest_runs(&mut self, pos: u64, most: usize) -> Reply {
         let mut listed = [HeldRun { start: 7, end: 7 }; MOST_LISTED];
-        let most = most.min(MOST_LISTED);
-        let recent = &mut self.recent[..];
-        let count = self
-            .now
-            .newest_runs(pos, &mut recent[..most], &mut listed[..most]);
+        let count = match most {
+            0 => self.list_runs::<0>(pos, &mut listed),
+            1 => self.list_runs::<1>(pos, &mut listed),
+            2 => self.list_runs::<2>(pos, &mut listed),
+            3 => self.list_runs::<3>(pos, &mut listed),
+            4 => self.list_runs::<4>(pos, &mut listed),
+            5 => self.list_runs::<5>(pos, &mut listed),
+            _ => self.list_runs::<MOST_LISTED>(pos, &mut listed),
+        };
         let sum = mix_listed(mix_positions(START, &self.recent), &listed);
         show_listed(&listed, count, self.first, sum)
+    }
+
+    /// Lists at most `K` runs, remembers as many, and returns how many were listed.
+    fn list_runs<const K: usize>(&mut self, pos: u64, listed: &mut [HeldRun]) -> usize
+        requires { K ≤ 8 }
+    {
+        let mut recent = [0; K];
+        copy(&mut recent, &self.recent);
+        let mut runs = self.now.newest_runs(pos, &mut recent);
+        let mut count = 0;
+        for i in 0..K {
+            let Some((start, end)) = runs.next() else {
+                break;
+            };
+            if let Some(run) = listed.get_mut(i) {
+                *run = HeldRun { start, end };
+            }
+            count = i + 1;
+        }
+        copy(&mut self.recent, &recent);
+        count
     }
 }
 
@@ -300,6 +325,13 @@ fn mix_listed(sum: u64, runs: &[HeldRun]) -> u64 {
         sum = mix(mix(sum, run.start), run.end);
     }
     sum
+}
+
+/// Copies positions, as many as both have.
+fn copy(to: &mut [u64], from: &[u64]) {
+    for (to, from) in to.iter_mut().zip(from) {
+        *to = *from;
+    }
 }
 
 /// Returns the digest with more positions.

@@ -42,15 +42,13 @@ enum Addition {
     PushOne,
     PopBack,
     RewindIfEmpty,
-    LastDequeuedMut,
 }
 
 /// The calls that smoltcp doesn't have.
-static ADDITIONS: [Entry<Addition>; 4] = [
+static ADDITIONS: [Entry<Addition>; 3] = [
     ("push_one", 1, Addition::PushOne),
     ("pop_back", 0, Addition::PopBack),
     ("rewind_if_empty", 0, Addition::RewindIfEmpty),
-    ("last_dequeued_mut", 2, Addition::LastDequeuedMut),
 ];
 
 /// A call at an offset, or on the whole ring.
@@ -114,7 +112,7 @@ impl Subject for RingBuffer<'static, u8> {
             return Ok(Some(make_change(self, change, one, two)));
         }
         if let Some(addition) = find(&ADDITIONS, call) {
-            return Ok(Some(make_addition(self, addition, one, two)));
+            return Ok(Some(make_addition(self, addition, one)));
         }
         if let Some(look) = find(&LOOKS, call) {
             return Ok(Some(make_look(self, look, one as usize, two as usize, three)));
@@ -234,7 +232,7 @@ fn dequeue_many_with(ring: &mut Bytes, size: usize, seed: u64) -> Reply {
 }
 
 /// Makes a call that smoltcp doesn't have.
-fn make_addition(ring: &mut Bytes, addition: Addition, one: u64, two: u64) -> Reply {
+fn make_addition(ring: &mut Bytes, addition: Addition, one: u64) -> Reply {
     match addition {
         Addition::PushOne => push_one(ring, low_byte(one)),
         Addition::PopBack => pop_back(ring),
@@ -242,7 +240,6 @@ fn make_addition(ring: &mut Bytes, addition: Addition, one: u64, two: u64) -> Re
             ring.rewind_if_empty();
             allowed(true)
         }
-        Addition::LastDequeuedMut => last_dequeued_mut(ring, one as usize, two),
     }
 }
 
@@ -258,15 +255,6 @@ fn pop_back(ring: &mut Bytes) -> Reply {
         Some(byte) => Reply::new().bytes(&[byte]),
         None => Reply::word("empty"),
     }
-}
-
-/// Dequeues `size` elements, if they are contiguous, and shows and writes over those dequeued last.
-fn last_dequeued_mut(ring: &mut Bytes, size: usize, seed: u64) -> Reply {
-    if ring.contiguous_allocated(0, size) < size {
-        return allowed(false);
-    }
-    ring.dequeue_allocated(size);
-    show_and_fill(ring.last_dequeued_mut(size), seed)
 }
 
 /// Makes a call at an offset, or on the whole ring.

@@ -1,18 +1,16 @@
-//! The calls of senders, one with SACK blocks and one without: what is acknowledged, and what can be seen, is the
-//! latter's, other results are the former's.
+//! The calls of a sender.
 use crate::bytes::{START, mix_bytes, pattern};
-use crate::call::{ANY, Call, Entry, find};
+use crate::call::{Call, Entry, find};
 use crate::reply::{Part, Reply};
 use crate::subject::Subject;
-use net_receiver::{MOST_SACK_BLOCKS, SackBlocks, SackSender, Sender};
+use net_receiver::Sender;
 use net_ring::ManagedSlice;
 use std::alloc::{AllocError, Global};
 
-/// Two senders of the same bytes, and their stream's first position.
+/// A sender, and its stream's first position.
 #[derive(Drop)]
 pub struct Source {
-    sender: SackSender<'static>,
-    plain: Sender<'static>,
+    sender: Sender<'static>,
     first: u64,
 }
 
@@ -22,39 +20,28 @@ enum Kind {
     /// A size, and what the bytes that are written represent.
     Write,
     PeekAt,
-    /// A position, and the start and the end of each SACK block.
     Acknowledge,
-    /// The same, with the mark of what was sent after the position.
+    /// A position, and the mark of what was sent.
     AcknowledgeSent,
     /// The mark, and a position.
     MarkSent,
-    SparedFrom,
-    NextBlock,
-    AreSackBlocksFull,
-    SendLimit,
 }
 
 /// The calls.
-static CALLS: [Entry<Kind>; 9] = [
+static CALLS: [Entry<Kind>; 5] = [
     ("write", 2, Kind::Write),
     ("peek_at", 2, Kind::PeekAt),
-    ("acknowledge", ANY, Kind::Acknowledge),
-    ("acknowledge_sent", ANY, Kind::AcknowledgeSent),
+    ("acknowledge", 1, Kind::Acknowledge),
+    ("acknowledge_sent", 2, Kind::AcknowledgeSent),
     ("mark_sent", 2, Kind::MarkSent),
-    ("spared_from", 1, Kind::SparedFrom),
-    ("next_block", 1, Kind::NextBlock),
-    ("are_sack_blocks_full", 0, Kind::AreSackBlocksFull),
-    ("send_limit", 0, Kind::SendLimit),
 ];
 
-/// Returns senders over `capacity` bytes each, of a stream that begins at `first`.
+/// Returns a sender over `capacity` bytes, made of its parts, of a stream that begins at `first`.
 pub fn sender(alloc: Global, capacity: u64, first: u64) -> Result<Source, AllocError> {
-    let storage = pattern(alloc, capacity, 0)?;
-    let other = ManagedSlice::from(pattern(alloc, capacity, 0)?);
-    let (head, other) = Sender::over_at(other, first).into_parts();
+    let storage = ManagedSlice::from(pattern(alloc, capacity, 0)?);
+    let (head, storage) = Sender::over_at(storage, first).into_parts();
     Ok(Source {
-        sender: SackSender::new_at(ManagedSlice::from(storage), first),
-        plain: Sender::from_parts(head, other),
+        sender: Sender::from_parts(head, storage),
         first,
     })
 }
@@ -65,27 +52,13 @@ impl Subject for Source {
         let Some(kind) = find(&CALLS, call) else {
             return Ok(None);
         };
-        let (sender, plain) = (&mut self.sender, &mut self.plain);
+        let sender = &mut self.sender;
         let reply = match kind {
-            Kind::Write => {
-                let bytes = pattern(alloc, one, two)?;
-                plain.write(&bytes);
-                Reply::new().count(sender.write(&bytes))
-            }
+            Kind::Write => Reply::new().count(sender.write(&pattern(alloc, one, two)?)),
             Kind::PeekAt => Reply::new().bytes(sender.peek_at(one, two as usize)),
-            Kind::Acknowledge => {
-                sender.acknowledge(one, blocks_of(&call.numbers, 1));
-                done(plain.acknowledge(one))
-            }
-            Kind::AcknowledgeSent => {
-                plain.acknowledge_sent(one, two);
-                done(sender.acknowledge_sent(one, two, blocks_of(&call.numbers, 2)))
-            }
-            Kind::MarkSent => mark_sent(plain, one, two),
-            Kind::SparedFrom => Reply::new().number(sender.spared_from(one)),
-            Kind::NextBlock => Reply::new().number(sender.next_block(one)),
-            Kind::AreSackBlocksFull => Reply::new().truth(sender.are_sack_blocks_full()),
-            Kind::SendLimit => Reply::new().number(sender.send_limit()),
+            Kind::Acknowledge => done(sender.acknowledge(one)),
+            Kind::AcknowledgeSent => done(sender.acknowledge_sent(one, two)),
+            Kind::MarkSent => mark_sent(sender, one, two),
         };
         Ok(Some(reply))
     }
@@ -93,14 +66,14 @@ impl Subject for Source {
     /// Shows the first unacknowledged position and the end, counted from the stream's first position; how many
     /// bytes are queued, and for how many there is room; whether none is queued; and the digest of the queue.
     fn show(&mut self, _: Global) -> Result<Reply, AllocError> {
-        let (plain, first) = (&self.plain, self.first);
+        let (sender, first) = (&self.sender, self.first);
         let reply = Reply::new()
-            .number(plain.first_unacknowledged().wrapping_sub(first))
-            .number(plain.end().wrapping_sub(first))
-            .count(plain.len())
-            .count(plain.window())
-            .truth(plain.is_empty());
-        Ok(reply.and(Part::Digest(digest_of(plain))))
+            .number(sender.first_unacknowledged().wrapping_sub(first))
+            .number(sender.end().wrapping_sub(first))
+            .count(sender.len())
+            .count(sender.window())
+            .truth(sender.is_empty());
+        Ok(reply.and(Part::Digest(digest_of(sender))))
     }
 }
 
@@ -123,23 +96,4 @@ fn mark_sent(sender: &Sender<'_>, sent: u64, pos: u64) -> Reply {
     let mut mark = sent;
     let is_done = sender.mark_sent(&mut mark, pos);
     done(is_done).number(mark)
-}
-
-/// Returns the blocks of the numbers from an index on, two each. Those beyond the most are left out.
-fn blocks_of(numbers: &[u64], from: usize) -> SackBlocks {
-    let mut blocks = SackBlocks::new();
-    for index in 0..MOST_SACK_BLOCKS {
-        let Some((start, end)) = pair_at(numbers, from.saturating_add(2 * index)) else {
-            return blocks;
-        };
-        blocks.push(start, end);
-    }
-    blocks
-}
-
-/// Returns the number at an index and the next one, if there are two.
-fn pair_at(numbers: &[u64], index: usize) -> Option<(u64, u64)> {
-    let one = numbers.get(index)?;
-    let other = numbers.get(index.saturating_add(1))?;
-    Some((*one, *other))
 }

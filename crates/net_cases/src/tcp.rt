@@ -6,8 +6,8 @@ use crate::call::{Call, Entry, find};
 use crate::reply::{Reply, allowed};
 use crate::subject::Subject;
 use net_tcp::{
-    AdvertisedWindow, MAX_SCALE, PartsSum, PeerWindow, RetransmissionTimeout, RttEstimate,
-    TimeoutBounds,
+    AdvertisedWindow, Arrival, MAX_SCALE, PartsSum, PeerWindow, RetransmissionTimeout, RttEstimate,
+    Segment, TimeoutBounds,
 };
 use std::alloc::{AllocError, Global};
 
@@ -19,9 +19,12 @@ pub struct Tcp;
 #[derive(Clone, Copy)]
 enum Kind {
     IsAcceptable,
+    Classify,
+    IsAcknowledgement,
     ScaleFor,
     PeerUpdate,
     PeerRoom,
+    AcknowledgementNumber,
     Scaled,
     UpdatedChecksum,
     FirstSample,
@@ -31,11 +34,14 @@ enum Kind {
 }
 
 /// The calls of numbers.
-static CALLS: [Entry<Kind>; 10] = [
+static CALLS: [Entry<Kind>; 13] = [
     ("is_acceptable", 4, Kind::IsAcceptable),
+    ("classify", 7, Kind::Classify),
+    ("is_acknowledgement", 4, Kind::IsAcknowledgement),
     ("scale_for", 1, Kind::ScaleFor),
     ("peer_update", 8, Kind::PeerUpdate),
     ("peer_room", 3, Kind::PeerRoom),
+    ("acknowledgement_number", 3, Kind::AcknowledgementNumber),
     ("scaled", 2, Kind::Scaled),
     ("updated_checksum", 3, Kind::UpdatedChecksum),
     ("first_sample", 1, Kind::FirstSample),
@@ -111,9 +117,14 @@ fn make(kind: Kind, call: &Call<'_>) -> Reply {
     let [one, two, three, four] = call.four();
     match kind {
         Kind::IsAcceptable => Reply::new().truth(net_tcp::is_acceptable(one, two, three, four)),
+        Kind::Classify => Reply::word(classify(call)),
+        Kind::IsAcknowledgement => {
+            Reply::new().truth(net_tcp::is_acknowledgement(one, two, three, four))
+        }
         Kind::ScaleFor => Reply::new().number(u64::from(net_tcp::scale_for(one))),
         Kind::PeerUpdate => peer_update(call),
         Kind::PeerRoom => peer_room(one, two, three),
+        Kind::AcknowledgementNumber => acknowledgement_number(one, two, three),
         Kind::Scaled => scaled(low_half(one), low_byte(two)),
         Kind::UpdatedChecksum => show(net_tcp::updated_checksum(
             low_half(one),
@@ -130,6 +141,24 @@ fn make(kind: Kind, call: &Call<'_>) -> Reply {
 /// Returns a reply of a number of 16 bits.
 fn show(number: u16) -> Reply {
     Reply::new().number(u64::from(number))
+}
+
+/// Returns what to do with a segment, in a word.
+fn classify(call: &Call<'_>) -> &'static str {
+    let segment = Segment {
+        seq: call.at(2),
+        len: call.at(3),
+        syn: call.at(4) != 0,
+        ack: call.at(5) != 0,
+        rst: call.at(6) != 0,
+    };
+    match net_tcp::classify(call.at(0), call.at(1), segment) {
+        Arrival::Take => "take",
+        Arrival::AcknowledgementOnly => "acknowledgement",
+        Arrival::Answer => "answer",
+        Arrival::Ignore => "ignore",
+        Arrival::Reset => "reset",
+    }
 }
 
 /// Takes over a segment's window, and returns a reply of whether that was done, and of what is known then.
@@ -157,6 +186,16 @@ fn peer_room(edge: u64, pos: u64, end: u64) -> Reply {
     Reply::new()
         .number(peer.usable(pos))
         .truth(peer.is_probe_allowed(pos, end))
+}
+
+/// Returns a reply of the number of an acknowledgement, if the window ends at `edge`.
+fn acknowledgement_number(edge: u64, first_unacknowledged: u64, sent: u64) -> Reply {
+    let peer = PeerWindow {
+        edge,
+        seq: 0,
+        ack: 0,
+    };
+    Reply::new().number(peer.acknowledgement_number(first_unacknowledged, sent))
 }
 
 fn scaled(field: u16, scale: u8) -> Reply {

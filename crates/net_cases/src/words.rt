@@ -1,11 +1,9 @@
-//! Numbers, words that name modes of `net_bench_lib`, lines that are executed in one, and words of `net_link`.
+//! Numbers, words that name modes of `net_bench_lib`, and lines that are executed in one.
 use crate::call::{first_word, words_of};
-use crate::link;
-use net_bench_lib::{Mode, run};
-use net_io::number;
+use net_bench_lib::{Mode, number, run};
 use std::alloc::{AllocError, Global};
 
-/// Answers a line that begins with `number`, `mode`, `run` or `link`; returns whether it is one.
+/// Answers a line that begins with `number`, `mode` or `run`; returns whether it is one.
 pub fn answer(alloc: Global, line: &str, reply: &mut String) -> Result<bool, AllocError> {
     let (name, rest) = first_word(line);
     let rest = rest.unwrap_or("");
@@ -13,7 +11,6 @@ pub fn answer(alloc: Global, line: &str, reply: &mut String) -> Result<bool, All
         "number" => answer_number(rest, reply),
         "mode" => answer_mode(alloc, rest, reply),
         "run" => answer_run(alloc, rest, reply),
-        "link" => link::answer(alloc, rest, reply),
         _ => Ok(false),
     }
 }

@@ -6,7 +6,7 @@ ghost use Rattle.net_base.specs.Checksum.{no_checksums};
 ghost use Rattle.net_base.specs.DeviceCapabilities.{no_segmentation};
 ghost use Rattle.net_examples.specs.Descriptors.{frames, frame_of};
 ghost use Rattle.std.specs.Prelude.{Some, MatchOption};
-ghost use Rattle.net_base.specs.declared.phy.medium.Medium.TheVariants.{Ethernet};
+ghost use Rattle.net_base.specs.declared.phy.Medium.TheVariants.{Ethernet};
 
 use crate::descriptor::{Descriptor, FRAME_SIZE};
 use net_base::phy::{

@@ -2,8 +2,8 @@
 #![tactic(auto)]
 
 mod acknowledgement;
+mod any_path;
 mod bridge;
-mod conversation;
 mod counted;
 mod datagram;
 mod datagrams;
@@ -23,18 +23,16 @@ mod newlines;
 mod one_byte;
 mod one_command;
 mod outbox;
-mod over_a_link;
 mod packets;
 mod ranges;
 mod samples;
 mod send_frame;
 mod timer;
 mod udp_socket;
-mod why_it_gave_up;
 
 pub use acknowledgement::acknowledge;
+pub use any_path::{Event, Segment, Transfer, carry, first_missing, happen};
 pub use bridge::{forward, forward_lists, forward_one};
-pub use conversation::ask;
 pub use counted::Counted;
 pub use datagram::pass_through;
 pub use datagrams::send_datagram;
@@ -53,11 +51,9 @@ pub use newlines::{line_end, take_line};
 pub use one_byte::{byte_at, stage};
 pub use one_command::execute_by_list;
 pub use outbox::Outbox;
-pub use over_a_link::over_a_bad_link;
 pub use packets::{push_packet, wipe_first};
 pub use ranges::came;
 pub use samples::Samples;
 pub use send_frame::send_bytes;
 pub use timer::{Timer, poll_at};
 pub use udp_socket::UdpSocket;
-pub use why_it_gave_up::copy_or_say_why;

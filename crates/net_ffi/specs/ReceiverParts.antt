@@ -3,7 +3,7 @@
 --     IsPlausible c n h      and with n runs
 use Rattle.std.specs.Prelude.{ℕ, ◌+◌, ◌<◌, ◌≤◌, ◌^◌}
 use Rattle.net_ring.specs.RingHead.{IsSound}
-use Rattle.net_receiver.specs.declared.receiver.head.ReceiverHead.{ReceiverHead}
+use Rattle.net_receiver.specs.declared.receiver_head.ReceiverHead.{ReceiverHead}
 
 -- the queue is in the storage, and the first missing position is a number of 64 bits
 abbrev pub IsReadable : ℕ → ReceiverHead → Type 0

@@ -6,8 +6,8 @@ use Rattle.std.specs.Prelude.{ℕ, zero, suc, ◌≡◌, ◌⊎◌, nat_eq, Resu
 use Rattle.net_assembler.specs.declared.assembler.error.TooManyHolesError.{TooManyHolesError}
 use Rattle.net_base.specs.declared.storage.fragments.FragmentError.{FragmentError}
 use Rattle.net_base.specs.declared.storage.fragments.FragmentError.TheVariants.{TooLong, TooManyHoles, OtherSize}
-use Rattle.net_receiver.specs.declared.finite.error.FiniteError.{FiniteError}
-use Rattle.net_receiver.specs.declared.finite.error.FiniteError.TheVariants.{TooManyHoles as NoRoom, OtherEnd}
+use Rattle.net_receiver.specs.declared.finite_error.FiniteError.{FiniteError}
+use Rattle.net_receiver.specs.declared.finite_error.FiniteError.TheVariants.{TooManyHoles as NoRoom, OtherEnd}
 
 -- 0 is done; another status is that there is no room
 abbrev pub done_or_many : ℕ → Result (Unit {0}) TooManyHolesError

@@ -28,7 +28,8 @@ pub(crate) fn has_number(receiver: &FiniteReceiverHead) -> bool
 ///
 /// Returns what `net_base_receiver_segment` does, and is refused where that is, and also if the number after the
 /// segment doesn't fit 64 bits; or `NET_BASE_OTHER_END`, and nothing changes, if the segment says that the stream ends
-/// where it can't, as `net_base_finite_receiver_can_end` tells.
+/// where it can't, as `net_base_finite_receiver_can_end` tells, also if there would be too many runs. A segment that is refused
+/// for its runs doesn't set the end.
 ///
 /// # Requires
 ///

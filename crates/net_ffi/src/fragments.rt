@@ -25,7 +25,7 @@ pub(crate) fn is_plausible(fragments: &FragmentsHead, capacity: usize, run_count
 ///
 /// Returns `NET_BASE_DONE`; or, and nothing changes, `NET_BASE_TOO_LONG` if the fragment reaches past the storage's end,
 /// or else `NET_BASE_TOO_MANY_RUNS` if there would be more runs than the slice has elements. A fragment past a known size
-/// is kept, and one without bytes too.
+/// is kept; one without bytes changes nothing, and is too long as well if `offset` is above the storage's length.
 ///
 /// It is refused if `present.used` is above `runs.len()`, or a known size above `storage.len()`: `NET_BASE_REFUSED`, and
 /// nothing changes.

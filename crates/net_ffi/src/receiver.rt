@@ -160,7 +160,7 @@ pub extern "C" fn net_base_receiver_window_end(
 /// and end are 0.
 ///
 /// If `place` isn't that of a ring of `storage.len()` bytes, `next` doesn't fit 64 bits, or `held.used` is above
-/// `runs.len()`, it is refused: start and end are `NET_BASE_NONE`.
+/// `runs.len()`, it is refused: start and end are `u64::MAX`.
 ///
 /// # Requires
 ///

@@ -30,7 +30,23 @@ pub const NET_BASE_OTHER_SIZE: u32 = 6;
 /// The stream can't end there. Nothing changes.
 pub const NET_BASE_OTHER_END: u32 = 7;
 
-/// In place of a count, index or position: what was passed is nonsense, or there is none.
+/// Take what a segment acknowledges, its window, its bytes and its end.
+pub const NET_BASE_TAKE: u32 = 8;
+
+/// Take what a segment acknowledges and its window, but not its bytes, and answer it: the own window is shut, and the peer
+/// asks whether it has opened.
+pub const NET_BASE_ACKNOWLEDGEMENT_ONLY: u32 = 9;
+
+/// Send an acknowledgement, and take nothing of a segment.
+pub const NET_BASE_ANSWER: u32 = 10;
+
+/// Take nothing of a segment, and send nothing.
+pub const NET_BASE_IGNORE: u32 = 11;
+
+/// The peer has reset the connection.
+pub const NET_BASE_RESET: u32 = 12;
+
+/// In place of a length, an index or a count: what was passed is nonsense, or there is none.
 pub const NET_BASE_NONE: usize = usize::MAX;
 
 /// The span of a refused call.
@@ -62,6 +78,11 @@ pub fn numbers()
     ensures too_long { NET_BASE_TOO_LONG ≡ 5 }
     ensures other_size { NET_BASE_OTHER_SIZE ≡ 6 }
     ensures other_end { NET_BASE_OTHER_END ≡ 7 }
+    ensures take { NET_BASE_TAKE ≡ 8 }
+    ensures acknowledgement_only { NET_BASE_ACKNOWLEDGEMENT_ONLY ≡ 9 }
+    ensures answer { NET_BASE_ANSWER ≡ 10 }
+    ensures ignore { NET_BASE_IGNORE ≡ 11 }
+    ensures reset { NET_BASE_RESET ≡ 12 }
     ensures none { NET_BASE_NONE ≡ 2 ^ 64 - 1 }
     ensures span { NO_SPAN ≡ nowhere }
 {}

@@ -1,13 +1,16 @@
 //! Results of methods, as exports return them.
-ghost use Rattle.std.specs.Prelude.{◌≡◌, ◌<◌, IsTrue, IsFalse, if◌then◌else◌, unwrap_or};
+ghost use Rattle.std.specs.Prelude.{◌≡◌, ◌↔◌, ◌<◌, IsTrue, IsFalse, if◌then◌else◌, unwrap_or};
 ghost use Rattle.net_ffi.specs.Results.{done_or_many, length_or_many, done_or_error, IsStatus};
+ghost use Rattle.net_tcp.specs.declared.arriving.Arrival.TheVariants.{Take, AcknowledgementOnly, Answer, Ignore, Reset};
 
 use crate::refusals::{
-    NET_BASE_DONE, NET_BASE_MISSING, NET_BASE_OTHER_SIZE, NET_BASE_PRESENT, NET_BASE_TOO_LONG,
-    NET_BASE_TOO_MANY_RUNS,
+    NET_BASE_ACKNOWLEDGEMENT_ONLY, NET_BASE_ANSWER, NET_BASE_DONE, NET_BASE_IGNORE,
+    NET_BASE_MISSING, NET_BASE_OTHER_SIZE, NET_BASE_PRESENT, NET_BASE_RESET, NET_BASE_TAKE,
+    NET_BASE_TOO_LONG, NET_BASE_TOO_MANY_RUNS,
 };
 use net_assembler::{Run, TooManyHolesError};
 use net_base::storage::FragmentError;
+use net_tcp::Arrival;
 
 /// The length of the run at position 0, and whether the call was done.
 #[repr(C)]
@@ -75,6 +78,24 @@ pub(crate) fn status_of_fragment(done: Result<(), FragmentError>) -> u32
         Err(FragmentError::TooManyHoles) => NET_BASE_TOO_MANY_RUNS,
         Err(FragmentError::TooLong) => NET_BASE_TOO_LONG,
         Err(FragmentError::OtherSize) => NET_BASE_OTHER_SIZE,
+    }
+}
+
+/// Returns the number of what to do with a segment.
+#[inline(always)]
+pub(crate) fn number_of(arrival: Arrival) -> u32
+    ensures take { (result ≡ NET_BASE_TAKE) ↔ (arrival ≡ Take) }
+    ensures only { (result ≡ NET_BASE_ACKNOWLEDGEMENT_ONLY) ↔ (arrival ≡ AcknowledgementOnly) }
+    ensures answer { (result ≡ NET_BASE_ANSWER) ↔ (arrival ≡ Answer) }
+    ensures ignore { (result ≡ NET_BASE_IGNORE) ↔ (arrival ≡ Ignore) }
+    ensures reset { (result ≡ NET_BASE_RESET) ↔ (arrival ≡ Reset) }
+{
+    match arrival {
+        Arrival::Take => NET_BASE_TAKE,
+        Arrival::AcknowledgementOnly => NET_BASE_ACKNOWLEDGEMENT_ONLY,
+        Arrival::Answer => NET_BASE_ANSWER,
+        Arrival::Ignore => NET_BASE_IGNORE,
+        Arrival::Reset => NET_BASE_RESET,
     }
 }
 

@@ -16,7 +16,7 @@ pub extern "C" fn net_base_ring_enqueue_one(place: &mut RingHead, capacity: usiz
     ensures refused { (IsSound capacity place.old × (place.old.length < capacity) → ⊥) → (result ≡ 2 ^ 64 - 1) ×
         (place.new ≡ place.old) }
 {
-    if !place.is_sound(capacity) || place.length == capacity {
+    if place.read_at >= capacity || place.length >= capacity {
         return NET_BASE_NONE;
     }
     let index = place.index(capacity, place.length);
@@ -34,7 +34,7 @@ pub extern "C" fn net_base_ring_dequeue_one(place: &mut RingHead, capacity: usiz
     ensures refused { (IsSound capacity place.old × (0 < place.old.length) → ⊥) → (result ≡ 2 ^ 64 - 1) × (place.new ≡
         place.old) }
 {
-    if !place.is_sound(capacity) || place.length == 0 {
+    if place.read_at >= capacity || place.length == 0 || place.length > capacity {
         return NET_BASE_NONE;
     }
     let index = place.read_at;

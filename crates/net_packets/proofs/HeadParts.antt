@@ -28,7 +28,7 @@ use Rattle.net_packets.specs.declared.head.PacketPlace.{PacketPlace}
 use Rattle.net_packets.specs.declared.packet_metadata.PacketMetadata.{PacketMetadata}
 use Rattle.net_ring.proofs.Rotations.{length-overwrite, with_dequeued_parts, length-queue, storage_index_is}
 use Rattle.net_ring.proofs.RingFacts.{rewound_ring, queue_head, queue_law, written_wf}
-use Rattle.net_packets.proofs.HeadFacts.{placed_alike}
+use Rattle.net_packets.proofs.PacketFacts.{placed_alike}
 use Rattle.net_packets.proofs.PacketFacts.{count_is, ends_in, slots_append, place_zero, slots_pos, slots_some}
 use Rattle.net_packets.proofs.PacketFacts.{slots_for_pos, off_wf}
 use Rattle.net_packets.proofs.PacketSteps.{on_left, off_left, well_placed, cut_is, head_fits, is_first}
@@ -123,9 +123,6 @@ module _ {H : Type 0} where
 
     pub parts_well : IsWellPlaced q
     parts_well = well_placed m b all q refl
-
-    pub parts_head : IsSoundHead (length ms) (length xs) h
-    parts_head = (all.0, all.1)
 
     pub parts_count : h.slots.length ≡ slots_used q.packets
     parts_count = count_is m b q.packets all

@@ -36,7 +36,7 @@ use Rattle.net_packets.specs.declared.packet_metadata.PacketMetadata.{PacketMeta
 use Rattle.net_packets.specs.declared.packet_slot.PacketSlot.{PacketSlot}
 use Rattle.net_ring.proofs.Rotations.{with_dequeued_parts, length-queue, overwrite_at, storage_index_is}
 use Rattle.net_ring.proofs.RingFacts.{rewound_ring, enqueued_one, queue_head, queue_law, written_wf}
-use Rattle.net_packets.proofs.HeadFacts.{placed_alike}
+use Rattle.net_packets.proofs.PacketFacts.{placed_alike}
 use Rattle.net_packets.proofs.PacketFacts.{count_is, ends_in, pushed_slot, slots_some, slots_for_pos}
 use Rattle.net_packets.proofs.PacketFacts.{place_cases, gap_slot_one, place_zero, off_wf, bytes_append}
 use Rattle.net_packets.proofs.PacketFacts.{slots_of_append, slots_append}
@@ -608,26 +608,6 @@ module _ (c : ℕ) (b : RingHead) (o : ℕ) where
       → IsPlaced c b.read_at o (packet {H = ⊤} tt n g) × AreSlotsAfter c b (o + g + n) 0 ms
   after_packet g n ms a = (a.2.0, (cancel g (slot {H = ⊤} n (Some tt)) ms (packet_slots (packets_in 0 ms)) a.0, omega (arith, a.1), a.2.1))
 
-  before_packet : (g n : ℕ) (ms : List (PacketMetadata ⊤)) → IsPlaced c b.read_at o (packet {H = ⊤} tt n g) → AreSlotsAfter c b (o + g + n) 0 ms
-      → AreSlotsAfter c b o g (slot n (Some tt) ∷ ms)
-  before_packet g n ms p a = (ap (λ (l : List (PacketMetadata ⊤)). gap_slot g ++ (slot {H = ⊤} n (Some tt) ∷ l)) a.0, omega (arith, a.1), (p, a.2))
-
-  -- a gap's slot and the packets after it
-  AreAfterGap : ℕ → List (PacketMetadata ⊤) → ℕ → List (PacketMetadata ⊤) → Type 0
-  AreAfterGap n ms k l = (l ≡ packet_slots (packets_in k ms)) × (b.length ≡ o + bytes_used (packets_in k ms)) × ArePlaced c b.read_at o (packets_in k ms)
-
-  after_gap : (n : ℕ) (ms : List (PacketMetadata ⊤)) → 0 < n → AreSlotsAfter c b o 0 (slot n None ∷ ms) → AreSlotsAfter c b o n ms
-  unfolding AreAfterGap
-  after_gap n ms some a =
-      let z : 0 + n ≡ n = omega arith in
-      subst (AreAfterGap n ms n) (sym (ap (λ l. l ++ ms) (gap_slot_one n some))) (subst (λ (k : ℕ). AreAfterGap n ms k (slot n None ∷ ms)) z a)
-
-  before_gap : (n : ℕ) (ms : List (PacketMetadata ⊤)) → 0 < n → AreSlotsAfter c b o n ms → AreSlotsAfter c b o 0 (slot n None ∷ ms)
-  unfolding AreAfterGap
-  before_gap n ms some a =
-      let z : n ≡ 0 + n = omega arith in
-      subst (λ (k : ℕ). AreAfterGap n ms k (slot n None ∷ ms)) z (subst (AreAfterGap n ms n) (ap (λ l. l ++ ms) (gap_slot_one n some)) a)
-
   one_gap : (g n : ℕ) (ms : List (PacketMetadata ⊤)) → AreSlotsAfter c b o g (slot n None ∷ ms) → g ≡ 0
   one_gap zero n ms a = refl
   one_gap (suc g) n ms a = absurd (two_gaps (packets_in (suc g + n) ms) (suc g) n ms a.0)
@@ -649,28 +629,6 @@ module _ (c : ℕ) (b : RingHead) (o : ℕ) where
         let same : o + g ≡ o = omega (arith, none) in
         let is = ap (index_after c b.read_at) same in
         (omega (arith, none, first.1, at, gap), omega (arith, is, at, gap), λ n. (none, gap.1, omega (arith, is, at, gap)))
-  ]
-
-  pub next_packet : (g : ℕ) (s : PacketSlot) → s.is_gap ≡ 0 → index_after c b.read_at (o + g) + s.size ≤ c
-      → (g ≢ 0 → index_after c b.read_at o + g ≡ c) → (ms : List (PacketMetadata ⊤))
-      → AreSlotsAfter c b o g (metadata s ∷ ms) ↔ AreSlotsAfter c b (o + g + s.size) 0 ms
-  next_packet g s z fits ends ms = elim (kind_of s) [
-    | inl k ↦ (
-      λ a. (after_packet g s.size ms (subst (λ x. AreSlotsAfter c b o g (x ∷ ms)) k.1 a)).1,
-      λ a. subst (λ x. AreSlotsAfter c b o g (x ∷ ms)) (sym k.1) (before_packet g s.size ms (fits, ends) a),
-    )
-    | inr k ↦ absurd (k.0 z)
-  ]
-
-  pub next_gap : (g : ℕ) (s : PacketSlot) → s.is_gap ≢ 0 → g ≡ 0 → 0 < s.size → (ms : List (PacketMetadata ⊤))
-      → AreSlotsAfter c b o g (metadata s ∷ ms) ↔ AreSlotsAfter c b o s.size ms
-  next_gap g s nz none some ms = elim (kind_of s) [
-    | inl k ↦ absurd (nz k.0)
-    | inr k ↦ (
-      λ a. after_gap s.size ms some (subst (λ (n : ℕ). AreSlotsAfter c b o n (slot s.size None ∷ ms)) none (subst (λ x. AreSlotsAfter c b o g (x ∷ ms)) k.1 a)),
-      λ a. subst (λ x. AreSlotsAfter c b o g (x ∷ ms)) (sym k.1)
-          (subst (λ (n : ℕ). AreSlotsAfter c b o n (slot s.size None ∷ ms)) (sym none) (before_gap s.size ms some a)),
-    )
   ]
 
 -- the slot that is tested next

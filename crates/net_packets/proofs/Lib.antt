@@ -1,5 +1,4 @@
 pub mod PacketFacts
-mod HeadFacts
 pub mod PacketSteps
 mod HeadQueue
 mod HeadParts
@@ -9,4 +8,3 @@ mod EmptyQueue
 mod LendInside
 mod ResultParts
 mod WalkedQueue
-pub mod PacketCount

@@ -1,18 +1,23 @@
 -- What the two rings of a queue of packets say of its packets.
 use Rattle.std.proofs.Common.{◌≢◌, zero, suc, ◌≡◌, ℕ, ◌+◌, ◌-◌, ◌<◌, ◌≤◌, List, [], ◌∷◌, ◌++◌, length, min}
-use Rattle.std.proofs.Common.{refl, sym, ap, ◌∙◌, subst, inl, inr, arith, ◌⊎◌, append_assoc, nat_le}
+use Rattle.std.proofs.Common.{refl, sym, ap, ap₂, ◌∙◌, subst, inl, inr, arith, ◌⊎◌, append_assoc, length-append, nat_le}
 use Rattle.std.proofs.Common.{if◌then◌else◌, Bool, ◌==◌}
 use Rattle.std.proofs.lemmas.Bool.{cases_lt, cases_Bool, cond-true, cond-false, leb-true, lt-ltb, le-ltb}
 use Rattle.std.proofs.lemmas.Bool.Decides.{nat_tests}
 use Rattle.std.proofs.lemmas.Option.{none-some, cond_some}
-use Rattle.std.specs.Prelude.{Option, true}
+use Rattle.std.proofs.lemmas.List.Elements.{filter-append}
+use Rattle.std.specs.Prelude.{Option, true, filter, is_some}
 use Rattle.std.specs.declared.option.Option.TheVariants.{Some, None}
 use Rattle.net_ring.specs.Ring.{RingState, index_after, capacity, window, queue, write_at, IsWellFormed}
-use Rattle.net_ring.specs.Ring.{Enqueues, with_enqueued, with_dequeued, with_elements}
+use Rattle.net_ring.specs.Ring.{Enqueues, with_enqueued, with_dequeued, with_elements, contiguous_window}
+use Rattle.net_ring.specs.RingHead.{place, rewound, contiguous_free}
+use Rattle.net_ring.specs.declared.head.RingHead.{RingHead}
 use Rattle.net_packets.specs.Packets.{Packet, packet, bytes_used, slots_used, slots_for, IsPlaced, ArePlaced}
-use Rattle.net_packets.specs.Packets.{gap_for, if_slots}
+use Rattle.net_packets.specs.Packets.{PacketsState, gap_for, if_slots, placement}
+use Rattle.net_packets.specs.PacketsHead.{packets_head, placement_in}
 use Rattle.net_packets.specs.PacketSlots.{slot, gap_slot, packet_slots, packets_in, Represents}
 use Rattle.net_packets.specs.declared.packet_metadata.PacketMetadata.{PacketMetadata}
+use Rattle.net_ring.proofs.RingFacts.{rewound_ring}
 use Rattle.net_ring.proofs.Rotations.{length-queue, length-overwrite}
 
 -- a list that is not empty ends in an element
@@ -195,3 +200,36 @@ off_wf g x xs wf e =
     let long = length-queue g wf in
     let n = ap length e in
     (place_wf (capacity g) g.read_at 1 wf.0 (omega (arith, long, n, wf.1)), omega (arith, wf.1))
+
+-- ---- where a packet is placed
+-- the head of the queue q places a packet where q does
+pub placed_alike : {H : Type 0} (q : PacketsState H) (n c : ℕ) (m b : RingHead) (s : ℕ) → n ≡ q.slot_count → m.length ≡ slots_used q.packets
+    → c ≡ length q.storage → b ≡ place q.read_at (bytes_used q.packets) → placement_in n c (packets_head m b) s ≡ placement q s
+placed_alike q n c m b s en em ec eb =
+    ap₂ if_slots (ap₂ (λ x y. x - y) en em)
+    (ap₂ (λ (k : ℕ) (p : RingHead). gap_for s (contiguous_free k (rewound p)) (k - (rewound p).length)) ec eb
+    ∙ ap (λ o. gap_for s (contiguous_window o) (window o)) (rewound_ring q.storage (place q.read_at (bytes_used q.packets))))
+
+-- ---- how many packets slots have
+module _ {H : Type 0} where
+  -- one slot more, if the others have a packet for each of theirs with a header
+  slot_counted : (gap s : ℕ) (h : Option H) (ms : List (PacketMetadata H)) →
+      ((g : ℕ) → length (packets_in g ms) ≡ length (filter (λ m. is_some m.header) ms)) →
+      length (packets_in gap (slot s h ∷ ms)) ≡ length (filter (λ m. is_some m.header) (slot s h ∷ ms))
+  slot_counted gap s None ms rest = rest (gap + s)
+  slot_counted gap s (Some h) ms rest = ap suc (rest 0)
+
+  -- a packet for each slot with a header
+  pub length-packets_in : (gap : ℕ) (ms : List (PacketMetadata H)) →
+      length (packets_in gap ms) ≡ length (filter (λ m. is_some m.header) ms)
+  length-packets_in gap [] = refl
+  length-packets_in gap (m ∷ ms) = slot_counted gap m.size m.header ms (λ g. length-packets_in g ms)
+
+  -- in two parts
+  pub packets_in_parts : (a b ms : List (PacketMetadata H)) → a ++ b ≡ ms →
+      length (filter (λ m. is_some m.header) a) + length (filter (λ m. is_some m.header) b) ≡ length (packets_in 0 ms)
+  packets_in_parts a b ms e =
+      sym (length-append (filter (λ m. is_some m.header) a) (filter (λ m. is_some m.header) b))
+      ∙ ap length (sym (filter-append (λ m. is_some m.header) a b))
+      ∙ ap (λ l. length (filter (λ m. is_some m.header) l)) e
+      ∙ sym (length-packets_in 0 ms)

@@ -164,9 +164,6 @@ module _ {H : Type 0} where
         begun : b1 ≡ g
         begun = anew ∙ ap rewind_if_empty (bytes_are m b h q is)
 
-        pub begun_room : gap + s ≤ window b1
-        begun_room = let w = ap window begun in omega (arith, w, byte_room)
-
         fill_at : spare_index b1 gap ≡ index_after (capacity g) g.read_at (g.count + gap)
         fill_at =
             let z : g.count + min gap (window g) ≡ g.count + gap = omega (arith, byte_room) in
@@ -196,18 +193,6 @@ module _ {H : Type 0} where
                 → Represents m2 b2 (packets_in 0 (queue m2)) × (capacity m2 ≡ q.slot_count → packets_state m2 b2 ≡ with_packet q gap k hd)
             push_left after =
                 held (with_packet q gap k hd) (push_well hd k le) m2 wfm slots_more b2 (after ∙ ap (with_enqueued (gap + k)) begun ∙ enqueued_is hd k)
-
-            -- bytes were written to it too
-            pub fill_left : (ws : List ℕ) → b2 ≡ with_enqueued (gap + k) (with_elements b1 (spare_index b1 gap) ws)
-                → Represents m2 b2 (packets_in 0 (queue m2))
-                × (capacity m2 ≡ q.slot_count → packets_state m2 b2 ≡ with_last_size k (with_last_bytes (with_packet_if_room q s hd) ws))
-            fill_left ws after =
-                let at = last_index (with_packet q gap s hd) in
-                let well = with_bytes_well (with_packet q gap k hd) (push_well hd k le) at ws in
-                let all = held (with_bytes (with_packet q gap k hd) at ws) well m2 wfm slots_more b2
-                (after ∙ ap₂ (λ (o : RingState ℕ) (p : ℕ). with_elements (with_enqueued (gap + k) o) p ws) begun (fill_at ∙ push_place hd)
-                ∙ ap (λ o. with_elements o at ws) (enqueued_is hd k)) in
-                (all.0, λ cm. all.1 cm ∙ cut_is hd k ws)
 
   -- ---- the last packet
   last_one : (p : Packet H) → only_last (p ∷ []) ≡ p ∷ []
@@ -271,13 +256,6 @@ module _ {H : Type 0} where
           let z : min (bytes_used q.packets - end) (bytes_used q.packets) ≡ bytes_used q.packets - end = omega arith in
           ap (λ o. queue_index o (o.count - end)) bytes ∙ ap (index_after (length q.storage) q.read_at) z
 
-      pub end_run : contiguous_allocated b (b.count - end) end ≡ end
-      end_run =
-          let at = end_place in
-          let n = ap (λ o. o.count) bytes in
-          let c = ap capacity bytes in
-          omega (arith, at, n, c, last_ends)
-
   -- ---- the gap before the first packet goes
   pub skipped_well : (q : PacketsState H) → IsWellPlaced q → IsWellPlaced (without_gap q)
   skipped_well q ok = go q.packets ok
@@ -321,9 +299,6 @@ module _ {H : Type 0} where
         let wfm = subst IsWellFormed (sym off) (off_wf m _ _ h.0 all) in
         held (without_gap q) (skipped_well q (well_placed m b h q is)) m2 wfm slots b2
         (dequeued ∙ ap₂ with_dequeued size (bytes_are m b h q is) ∙ skipped_ring q)
-
-    pub skip_keeps : Represents m2 b2 (packets_in 0 (queue m2))
-    skip_keeps = skip_left.0
 
   -- ---- the first packet, whose gap is gone
   head_slots : (ps : List (Packet H)) (p : Packet H) → p.gap ≡ 0 → packet_slots (p ∷ ps) ≡ slot p.size (Some p.header) ∷ packet_slots ps

@@ -54,16 +54,6 @@ module _ {H : Type 0} where
         packets = packets_in 0 (queue m);
       }
 
-  -- the first slot has this size and header
-  abbrev pub IsFirstSlot : RingState (PacketMetadata H) → ℕ → Option H → Type 0
-  IsFirstSlot m s h = queue m ≡ slot s h ∷ drop 1 (queue m)
-
-  -- n has the queue of m, but with a first slot of this size and header, and the capacity of m
-  abbrev pub WithFirstSlot : RingState (PacketMetadata H) → ℕ → Option H → RingState
-      (PacketMetadata H) → Type 0
-  WithFirstSlot m s h n =
-      (queue n ≡ slot s h ∷ drop 1 (queue m)) × IsWellFormed n × (capacity n ≡ capacity m)
-
   -- the queue that a head, slots and bytes represent
   abbrev pub packets_at : PacketsHead → List (PacketMetadata H) → List ℕ → PacketsState H
   packets_at h ms xs = packets_state (ring_at ms h.slots) (ring_at xs h.bytes)

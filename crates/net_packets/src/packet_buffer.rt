@@ -1,23 +1,28 @@
 //! A queue of packets, each with a header, over storage that is lent or owned.
-ghost use Rattle.std.specs.Prelude.{◌≡◌, ◌≤◌, ◌<◌, ◌^◌, ◌-◌, ◌==◌, ◌↔◌, [], IsTrue, IsSome, length};
-ghost use Rattle.std.specs.Prelude.{filter, is_some};
-ghost use Rattle.net_ring.specs.Ring.{capacity};
-ghost use Rattle.net_packets.specs.Packets.{IsWellPlaced, bytes_used, slots_used, no_packets};
-ghost use Rattle.net_packets.specs.Packets.{placement, only_last, without_gap, first_gap};
-ghost use Rattle.net_packets.specs.Packets.{first_size};
-ghost use Rattle.net_packets.specs.PacketHistory.{contents, Makes, Reset};
+ghost use Rattle.std.specs.Prelude.{◌≡◌, ◌≢◌, ◌↔◌, ◌<◌, ◌≤◌, ◌==◌, ◌-◌, ◌∷◌, ◌++◌, [], ℕ, List, length};
+ghost use Rattle.std.specs.Prelude.{take, drop, min, set, slice_get, filter, is_some};
+ghost use Rattle.std.specs.Prelude.{IsTrue, IsErr, IsNone, IsSome, IfOk, IfSome, OnErr, OnOk};
+ghost use Rattle.std.specs.Borrow.{sem};
+ghost use Rattle.std.specs.declared.option.Option.TheVariants.{Some, None};
+ghost use Rattle.net_packets.specs.PacketCalls.{TakesRoom, CountsAtMost, WritesPacket};
+ghost use Rattle.net_packets.specs.PacketCalls.{TakesFirstPacket, HandsPacket, CopiesOut};
+ghost use Rattle.net_packets.specs.PacketHistory.{contents, with_bytes_in_last_entry, head_bytes, Makes, Reset};
+ghost use Rattle.net_packets.specs.PacketHistory.{Enqueue, Place, WriteLast, Dequeue, Take, WriteLastDequeued};
+ghost use Rattle.net_packets.specs.PacketHistory.{Peek};
+ghost use Rattle.net_packets.specs.PacketSlots.{slot, slots_with};
+ghost use Rattle.net_packets.specs.Packets.{IsWellPlaced, bytes_used, slots_used, no_packets, placement};
+ghost use Rattle.net_packets.specs.Packets.{with_packet_if_room, with_packet_of, only_last, last_bytes};
+ghost use Rattle.net_packets.specs.Packets.{with_last_bytes, first_size, first_gap, first_bytes, IsFirst};
+ghost use Rattle.net_packets.specs.Packets.{IsFirstSized, without_gap, without_first, without_first_and_gap};
+ghost use Rattle.net_packets.specs.Packets.{with_bytes, AreLastDequeued, AreLastDequeuedAt};
+ghost use Rattle.net_packets.specs.Packets.{last_dequeued_bytes, last_dequeued_bytes_index};
 
-use crate::head::PacketsHead;
+use crate::head::{PacketPlace, PacketsHead};
 use crate::packet_metadata::PacketMetadata;
 use net_ring::{Empty, Full, ManagedSlice, Storage};
 use std::marker::{Model, PhantomData};
 
-mod closures;
 pub mod laws;
-mod placing;
-mod slices;
-mod slots;
-mod taking;
 
 /// A queue of packets over any storage: `M` has the slots and `B` the bytes. [`PacketBuffer`] is
 /// its usual form.
@@ -27,14 +32,19 @@ mod taking;
 /// are skipped as its gap. A packet uses one slot, and a gap, which never has 0 bytes, one more.
 /// Packets leave in the order in which they were put in.
 ///
+/// ```text
+/// bytes    y y y y y y x x x x x x x x - -     x of 8 bytes, then y of 6 after a gap of 2
+/// slots    x, gap, y
+/// ```
+///
 /// Contracts lead with `contents q`, the list of the headers and bytes of a queue's packets. The
 /// number of slots, the storage, the read index and the list of packets (header, size, gap)
 /// determine which packets are refused.
 #[derive(Debug, Drop)]
 pub struct PacketsOver<H, M: Storage<PacketMetadata<H>>, B: Storage<u8>> {
-    // Invariant: the head has the numbers of a ring of the slots and of one of the bytes. The slots in
-    // use are packets and gaps, whose sizes add up to the bytes in use. A packet is contiguous; a gap
-    // has bytes, ends at the storage's end, and has a packet after it.
+    // Invariant: the head is sound for the storages. The slots in use are packets and gaps, whose sizes
+    // add up to the bytes in use. A packet is contiguous; a gap has bytes, ends at the storage's end, and
+    // has a packet after it.
     head: PacketsHead,
     slots: M,
     bytes: B,
@@ -78,13 +88,6 @@ impl<'a, H> PacketBuffer<'a, H> {
 
     /// Returns a queue with no packets, which has as many slots as `slots` has elements, and room
     /// for as many bytes as `bytes` has.
-    ///
-    /// ```rust
-    /// PacketBuffer::new(
-    ///     ManagedSlice::Borrowed(&mut slots_in),
-    ///     ManagedSlice::Borrowed(&mut bytes_in),
-    /// ),
-    /// ```
     pub fn new(slots: ManagedSlice<'a, PacketMetadata<H>>, bytes: ManagedSlice<'a, u8>) -> Self
         ensures empty { contents result ≡ [] }
         ensures made { result ≡ no_packets (length (elements slots.entry)) (elements bytes.entry) }
@@ -93,6 +96,7 @@ impl<'a, H> PacketBuffer<'a, H> {
     }
 }
 
+/// Making, emptying and measuring a queue.
 impl<H, M: Storage<PacketMetadata<H>>, B: Storage<u8>> PacketsOver<H, M, B> {
     /// Returns a queue with no packets over storages of any type. smoltcp has no such call:
     /// [`PacketBuffer::new`] is the one for two [`ManagedSlice`].
@@ -145,8 +149,7 @@ impl<H, M: Storage<PacketMetadata<H>>, B: Storage<u8>> PacketsOver<H, M, B> {
         self.head.slots.length == self.slots.count()
     }
 
-    /// Returns whether a packet of `size` bytes can be appended: whether [`PacketsOver::place`]
-    /// would accept it. smoltcp has no such call.
+    /// Returns whether a packet of `size` bytes can be appended. smoltcp has no such call.
     ///
     /// ```
     /// # use net_base::storage::{PacketBuffer, PacketMetadata};
@@ -211,8 +214,8 @@ impl<H, M: Storage<PacketMetadata<H>>, B: Storage<u8>> PacketsOver<H, M, B> {
         self.head.bytes.length
     }
 
-    /// Returns the number of slots used: one for each packet and one for each gap. smoltcp has no
-    /// such call.
+    /// Returns the number of slots used: one for each packet and one for each gap. smoltcp has no such
+    /// call.
     ///
     /// ```
     /// # use net_base::storage::{PacketBuffer, PacketMetadata};
@@ -229,8 +232,17 @@ impl<H, M: Storage<PacketMetadata<H>>, B: Storage<u8>> PacketsOver<H, M, B> {
         self.head.slots.length
     }
 
-    /// Returns how many packets the queue has. It looks at every slot, to leave out the gaps. smoltcp has no
-    /// such call.
+    /// Returns how many packets the queue has. It looks at every slot, to leave out the gaps. smoltcp has
+    /// no such call.
+    ///
+    /// ```
+    /// # use net_base::storage::{PacketBuffer, PacketMetadata};
+    /// # let mut slots = [PacketMetadata::EMPTY; 4];
+    /// # let mut bytes = [0u8; 16];
+    /// # let mut queue = PacketBuffer::new(&mut slots[..], &mut bytes[..]);
+    /// assert!(queue.enqueue(3, ()).is_ok());
+    /// assert_eq!(queue.len(), 1);
+    /// ```
     pub fn len(&self) -> usize
         ensures contents { result ≡ length (contents self.now) }
         ensures packets { result ≡ length self.now.packets }
@@ -265,6 +277,401 @@ impl<H, M: Storage<PacketMetadata<H>>, B: Storage<u8>> PacketsOver<H, M, B> {
     }
 }
 
+/// Packets that are appended.
+impl<H: Drop, M: Storage<PacketMetadata<H>>, B: Storage<u8>> PacketsOver<H, M, B> {
+    ghost use Rattle.net_packets.specs.PacketLends.{lends_bytes, lends_bytes_if};
+
+    /// Appends a packet of `size` bytes and lends them. Until they are written they are those that
+    /// were in the storage. An empty queue begins at the storage's beginning.
+    ///
+    /// Returns `Full`, drops the header and changes nothing, if there are no `size` contiguous free
+    /// bytes, or no slot for the packet or its gap. If smoltcp refuses, it can leave a gap with no
+    /// packet.
+    ///
+    /// ```
+    /// # use net_base::storage::{Full, PacketBuffer, PacketMetadata};
+    /// # let mut slots = [PacketMetadata::EMPTY; 4];
+    /// # let mut bytes = [0u8; 16];
+    /// # let mut queue = PacketBuffer::new(&mut slots[..], &mut bytes[..]);
+    /// queue.enqueue(3, 1)?.copy_from_slice(b"abc");
+    /// assert_eq!(queue.peek().ok(), Some((&1, &b"abc"[..])));
+    /// # Ok::<(), Full>(())
+    /// ```
+    pub fn enqueue(&mut self, size: usize, header: H) -> Result<&mut [u8], Full>
+        ensures* writes_back { sem 𝓛 (lends_bytes_if H.row M.row B.row M.Storage B.Storage
+            self.entry result (with_last_bytes (with_packet_if_room self.old size header))) }
+        ensures accepted { IfOk result (λ r. (ws : List ℕ) → length ws ≡ size
+            → contents (with_last_bytes (with_packet_if_room self.old size header) ws)
+            ≡ contents self.old ++ (header, ws) ∷ []) }
+        ensures full { IsErr result ↔ (placement self.old size ≡ None) }
+        ensures value { IfOk result
+            (λ r. r.now ≡ last_bytes (with_packet_if_room self.old size header)) }
+        ensures size { IfOk result (λ r. length r.now ≡ size) }
+        ensures call { IfOk result (λ r. (ws : List ℕ) → length ws ≡ size → Makes (Enqueue header ws)
+            self.old (with_last_bytes (with_packet_if_room self.old size header) ws)) }
+    {
+        let Ok(()) = self.place(size, header) else {
+            return Err(Full);
+        };
+        Ok(self.last_part_mut(size))
+    }
+
+    /// Appends a packet of `size` bytes, or returns `Full`, as [`PacketsOver::enqueue`] does, of which
+    /// this is the first step: [`PacketsOver::last_mut`] lends the bytes. Each step has an exact
+    /// contract.
+    ///
+    /// ```
+    /// # use net_base::storage::{PacketBuffer, PacketMetadata};
+    /// # let mut slots = [PacketMetadata::EMPTY; 4];
+    /// # let mut bytes = [0u8; 16];
+    /// # let mut queue = PacketBuffer::new(&mut slots[..], &mut bytes[..]);
+    /// assert_eq!(queue.place(3, 1), Ok(()));
+    /// queue.last_mut().copy_from_slice(b"abc");
+    /// assert_eq!(queue.peek().ok(), Some((&1, &b"abc"[..])));
+    /// ```
+    pub fn place(&mut self, size: usize, header: H) -> Result<(), Full>
+        ensures accepted { OnOk result ((ws : List ℕ) → length ws ≡ size
+            → contents (with_last_bytes self.new ws) ≡ contents self.old ++ (header, ws) ∷ []) }
+        ensures stands { OnOk result
+            (contents self.new ≡ contents self.old ++ (header, last_bytes self.new) ∷ []) }
+        ensures unchanged { OnErr result (self.new ≡ self.old) }
+        ensures full { IsErr result ↔ (placement self.old size ≡ None) }
+        ensures placed { self.new ≡ with_packet_if_room self.old size header }
+        ensures size { OnOk result (first_size (only_last self.new.packets) ≡ size) }
+        ensures capacity { (self.new.slot_count ≡ self.old.slot_count)
+            × (length self.new.storage ≡ length self.old.storage) }
+        ensures call { OnOk result (Makes (Place header (last_bytes self.new)) self.old self.new) }
+    {
+        let slot_count = self.slots.count();
+        let capacity = self.bytes.count();
+        let mut head = self.head;
+        let Some(place) = head.place(slot_count, capacity, size) else {
+            return Err(Full);
+        };
+        // The head is written last: if the drop of a header that was in a slot panics, as in Rust it
+        // may, the queue is as it was.
+        write_slots(&mut self.slots, place, size, header);
+        self.head = head;
+        Ok(())
+    }
+
+    /// Lends the bytes of the last packet, or none if the queue has no packets.
+    pub fn last_mut(&mut self) -> &mut [u8]
+        ensures* writes_back { sem 𝓛 (lends_bytes H.row M.row B.row M.Storage B.Storage
+            self.entry result (with_last_bytes self.old)) }
+        ensures written { (ws : List ℕ) → length ws ≡ length result.now
+            → contents (with_last_bytes self.old ws) ≡ with_bytes_in_last_entry ws (contents self.old) }
+        ensures value { result.now ≡ last_bytes self.old }
+        ensures size { length result.now ≡ first_size (only_last self.old.packets) }
+        ensures capacity { (ws : List ℕ) → length (with_last_bytes self.old ws).storage
+            ≡ length self.old.storage }
+        ensures call { (ws : List ℕ) → self.old.packets ≢ [] → length ws ≡ length result.now
+            → Makes (WriteLast ws) self.old (with_last_bytes self.old ws) }
+    {
+        let size = self.last_size();
+        self.last_part_mut(size)
+    }
+
+    /// Appends a packet whose bytes are `data`, or returns `Full`, as [`PacketsOver::enqueue`] does.
+    /// smoltcp has no such call.
+    pub fn push_slice(&mut self, header: H, data: &[u8]) -> Result<(), Full>
+        ensures pushed { OnOk result
+            (contents self.new ≡ contents self.old ++ (header, «data».now) ∷ []) }
+        ensures full { IsErr result ↔ (placement self.old (length «data».now) ≡ None) }
+        ensures unchanged { OnErr result (self.new ≡ self.old) }
+        ensures made { OnOk result (self.new ≡ with_packet_of self.old header «data».now) }
+        ensures capacity { (self.new.slot_count ≡ self.old.slot_count)
+            × (length self.new.storage ≡ length self.old.storage) }
+        ensures call { OnOk result (Makes (Enqueue header «data».now) self.old self.new) }
+    {
+        self.place(data.len(), header)?;
+        self.last_part_mut(data.len()).copy_from_slice(data);
+        Ok(())
+    }
+
+    /// Appends a packet whose bytes `f` writes: `f` is lent `max_size` bytes, and returns how many
+    /// of them, from the first on, are the packet. That number is returned.
+    ///
+    /// Returns `Full` if [`PacketsOver::enqueue`] would for `max_size` bytes, and then drops the
+    /// header, does not call `f` and changes nothing. smoltcp places these packets by a rule of its
+    /// own and can take more than `max_size` bytes.
+    ///
+    /// ```
+    /// # use net_base::storage::{PacketBuffer, PacketMetadata};
+    /// # let mut slots = [PacketMetadata::EMPTY; 4];
+    /// # let mut bytes = [0u8; 16];
+    /// # let mut queue = PacketBuffer::new(&mut slots[..], &mut bytes[..]);
+    /// let written = queue.enqueue_with_infallible(8, 1, |payload| {
+    ///     payload[..3].copy_from_slice(b"abc");
+    ///     3
+    /// });
+    /// assert_eq!(written, Ok(3));
+    /// assert_eq!(queue.peek().ok(), Some((&1, &b"abc"[..])));
+    /// ```
+    ///
+    /// # Requires
+    ///
+    /// `f` may be called on the `max_size` bytes that it is lent, and returns at most `max_size`.
+    pub fn enqueue_with_infallible<F: FnOnce(&mut [u8]) -> usize>(
+        &mut self,
+        max_size: usize,
+        header: H,
+        f: F,
+    ) -> Result<usize, Full>
+        requires callable { TakesRoom F.FnOnce f self.old max_size header }
+        requires count { CountsAtMost F.FnOnce f self.old max_size header }
+        ensures full { IsErr result ↔ (placement self.old max_size ≡ None) }
+        ensures unchanged { OnErr result (self.new ≡ self.old) }
+        ensures wrote { IfOk result
+            (λ k. WritesPacket F.FnOnce f self.old max_size header k self.new) }
+        ensures capacity { (self.new.slot_count ≡ self.old.slot_count)
+            × (length self.new.storage ≡ length self.old.storage) }
+    {
+        let slot_count = self.slots.count();
+        let capacity = self.bytes.count();
+        let mut head = self.head;
+        let Some(place) = head.place(slot_count, capacity, max_size) else {
+            return Err(Full);
+        };
+        let count = f(self.bytes.part_mut(place.from, place.from + max_size));
+        prove!(count <= max_size, "more bytes than were lent");
+        head.shorten_last(max_size - count);
+        // The head is written last, as in `place`.
+        write_slots(&mut self.slots, place, count, header);
+        self.head = head;
+        Ok(count)
+    }
+}
+
+/// The first packet, shown and taken off.
+impl<H: Drop, M: Storage<PacketMetadata<H>>, B: Storage<u8>> PacketsOver<H, M, B> {
+    ghost use Rattle.net_packets.specs.PacketLends.{lends_bytes, lends_packet_if, ends_as};
+
+    /// Calls `f` on the header and the bytes of the first packet, and drops its gap. If `f` returns
+    /// `Ok`, the packet is taken off; if it returns `Err`, the packet stays first, with what `f`
+    /// wrote to its header and bytes.
+    ///
+    /// Returns `Empty`, does not call `f` and changes nothing, if the queue has no packets.
+    ///
+    /// ```
+    /// # use net_base::storage::{Full, PacketBuffer, PacketMetadata};
+    /// # let mut slots = [PacketMetadata::EMPTY; 4];
+    /// # let mut bytes = [0u8; 16];
+    /// # let mut queue = PacketBuffer::new(&mut slots[..], &mut bytes[..]);
+    /// queue.enqueue(3, 1)?.copy_from_slice(b"abc");
+    /// assert_eq!(queue.dequeue_with(|_, _| Err::<(), _>("later")), Ok(Err("later")));
+    /// assert_eq!(queue.dequeue_with(|header, payload| Ok::<_, ()>((*header, payload[0]))), Ok(Ok((1, b'a'))));
+    /// assert!(queue.is_empty());
+    /// # Ok::<(), Full>(())
+    /// ```
+    ///
+    /// # Requires
+    ///
+    /// `f` may be called on the first packet, if there is one.
+    pub fn dequeue_with<R, E, F: FnOnce(&mut H, &mut [u8]) -> Result<R, E>>(
+        &mut self,
+        f: F,
+    ) -> Result<Result<R, E>, Empty>
+        requires { TakesFirstPacket F.FnOnce f self.old }
+        ensures empty { IsErr result ↔ (contents self.old ≡ []) }
+        ensures no_packet { IsErr result ↔ (length self.old.packets ≡ 0) }
+        ensures unchanged { OnErr result (self.new ≡ self.old) }
+        ensures handed { IfOk result (λ answer. HandsPacket F.FnOnce f self.old answer self.new) }
+        ensures capacity { (self.new.slot_count ≡ self.old.slot_count)
+            × (length self.new.storage ≡ length self.old.storage) }
+    {
+        self.skip();
+        if self.head.slots.length == 0 {
+            return Err(Empty);
+        }
+        let at = self.head.slots.read_at;
+        let Some((size, mut header)) = lift_header(&mut self.slots, at) else {
+            return Err(Empty);
+        };
+        let slot_count = self.slots.count();
+        let capacity = self.bytes.count();
+        let from = self.head.bytes.read_at;
+        let answer = f(&mut header, self.bytes.part_mut(from, from + size));
+        if answer.is_ok() {
+            self.head.take(slot_count, capacity, size);
+        } else {
+            put_header(&mut self.slots, at, size, header);
+        }
+        Ok(answer)
+    }
+
+    /// Takes the first packet and its gap off, returns its header and lends its bytes.
+    ///
+    /// Returns `Empty`, and changes nothing, if the queue has no packets.
+    ///
+    /// ```
+    /// # use net_base::storage::{Empty, Full, PacketBuffer, PacketMetadata};
+    /// # let mut slots = [PacketMetadata::EMPTY; 4];
+    /// # let mut bytes = [0u8; 16];
+    /// # let mut queue = PacketBuffer::new(&mut slots[..], &mut bytes[..]);
+    /// queue.enqueue(3, 1)?.copy_from_slice(b"abc");
+    /// let (header, payload) = queue.dequeue().unwrap();
+    /// assert_eq!((header, &payload[..]), (1, &b"abc"[..]));
+    /// assert_eq!(queue.dequeue(), Err(Empty));
+    /// # Ok::<(), Full>(())
+    /// ```
+    pub fn dequeue(&mut self) -> Result<(H, &mut [u8]), Empty>
+        ensures* writes_back { sem 𝓛 (lends_packet_if H.row M.row B.row M.Storage B.Storage
+            self.entry result (with_bytes (without_first_and_gap self.old) (without_gap self.old).read_at)) }
+        ensures empty { IsErr result ↔ (contents self.old ≡ []) }
+        ensures shown { IfOk result
+            (λ r. contents self.old ≡ (r.0, r.1.now) ∷ drop 1 (contents self.old)) }
+        ensures left { IfOk result (λ r. (ws : List ℕ) → length ws ≡ length r.1.now
+            → contents (with_bytes (without_first_and_gap self.old) (without_gap self.old).read_at ws)
+            ≡ drop 1 (contents self.old)) }
+        ensures no_packet { IsErr result ↔ (length self.old.packets ≡ 0) }
+        ensures first { IfOk result (λ r. IsFirst self.old r.0 r.1.now) }
+        ensures call { IfOk result (λ r. (ws : List ℕ) → length ws ≡ length r.1.now
+            → Makes (Dequeue r.0 r.1.now ws) self.old
+            (with_bytes (without_first_and_gap self.old) (without_gap self.old).read_at ws)) }
+    {
+        let Ok((header, size)) = self.take() else {
+            return Err(Empty);
+        };
+        Ok((header, self.last_dequeued_mut(size)))
+    }
+
+    /// Takes the first packet and its gap off, and returns its header and how many bytes it has, or
+    /// `Empty`, as [`PacketsOver::dequeue`] does, of which this is the first step:
+    /// [`PacketsOver::last_dequeued_mut`] lends the bytes. Each step has an exact contract.
+    ///
+    /// ```
+    /// # use net_base::storage::{PacketBuffer, PacketMetadata};
+    /// # let mut slots = [PacketMetadata::EMPTY; 4];
+    /// # let mut bytes = [0u8; 16];
+    /// # let mut queue = PacketBuffer::new(&mut slots[..], &mut bytes[..]);
+    /// assert_eq!(queue.push_slice(1, b"abc"), Ok(()));
+    /// assert_eq!(queue.take(), Ok((1, 3)));
+    /// assert_eq!(queue.last_dequeued_mut(3), b"abc");
+    /// ```
+    pub fn take(&mut self) -> Result<(H, usize), Empty>
+        ensures empty { IsErr result ↔ (contents self.old ≡ []) }
+        ensures taken { IfOk result
+            (λ r. contents self.old ≡ (r.0, last_dequeued_bytes self.new r.1) ∷ contents self.new) }
+        ensures left { OnOk result (contents self.new ≡ drop 1 (contents self.old)) }
+        ensures no_packet { IsErr result ↔ (length self.old.packets ≡ 0) }
+        ensures unchanged { OnErr result (self.new ≡ self.old) }
+        ensures first { IfOk result (λ r. IsFirstSized self.old.packets r.0 r.1) }
+        ensures dequeued { OnOk result (self.new ≡ without_first_and_gap self.old) }
+        ensures last_dequeued { IfOk result
+            (λ r. AreLastDequeuedAt self.new r.1 (without_gap self.old).read_at) }
+        ensures capacity { (self.new.slot_count ≡ self.old.slot_count)
+            × (length self.new.storage ≡ length self.old.storage) }
+        ensures call { IfOk result
+            (λ r. Makes (Take r.0 (last_dequeued_bytes self.new r.1)) self.old self.new) }
+    {
+        self.skip();
+        let Some((header, size)) = self.take_first() else {
+            return Err(Empty);
+        };
+        Ok((header, size))
+    }
+
+    /// Lends the `size` bytes before the read index: those of the packet that was taken off last.
+    ///
+    /// # Requires
+    ///
+    /// The `size` bytes before the read index are contiguous and none is a packet's, as after a
+    /// call of [`PacketsOver::take`] that returned `size`.
+    pub fn last_dequeued_mut(&mut self, size: usize) -> &mut [u8]
+        requires { AreLastDequeued self.old size }
+        ensures* writes_back { sem 𝓛 (lends_bytes H.row M.row B.row M.Storage B.Storage
+            self.entry result (with_bytes self.old (last_dequeued_bytes_index self.old size))) }
+        ensures unseen { (ws : List ℕ) → length ws ≡ size
+            → contents (with_bytes self.old (last_dequeued_bytes_index self.old size) ws)
+            ≡ contents self.old }
+        ensures value { result.now ≡ last_dequeued_bytes self.old size }
+        ensures size { length result.now ≡ size }
+        ensures capacity { (ws : List ℕ) → length (with_bytes self.old
+            (last_dequeued_bytes_index self.old size) ws).storage ≡ length self.old.storage }
+        ensures call { (ws : List ℕ) → length ws ≡ size → Makes (WriteLastDequeued ws) self.old
+            (with_bytes self.old (last_dequeued_bytes_index self.old size) ws) }
+    {
+        let capacity = self.bytes.count();
+        prove!(
+            size <= capacity - self.head.bytes.length,
+            "the bytes are not free"
+        );
+        let from = self.head.bytes.last_dequeued_index(capacity, size);
+        prove!(size <= capacity - from, "the bytes are not contiguous");
+        self.bytes.part_mut(from, from + size)
+    }
+
+    /// Takes the first packet and its gap off, copies as many of its bytes as `into` has room for,
+    /// and returns its header and how many bytes were copied. Bytes that don't fit are lost.
+    ///
+    /// Returns `Empty`, and changes nothing, if the queue has no packets. smoltcp has no such call.
+    ///
+    /// ```
+    /// # use net_base::storage::{PacketBuffer, PacketMetadata};
+    /// # let mut slots = [PacketMetadata::EMPTY; 4];
+    /// # let mut bytes = [0u8; 16];
+    /// # let mut queue = PacketBuffer::new(&mut slots[..], &mut bytes[..]);
+    /// assert_eq!(queue.push_slice(1, b"abc"), Ok(()));
+    /// let mut into = *b"-----";
+    /// assert_eq!((queue.pop_slice(&mut into), &into), (Ok((1, 3)), b"abc--"));
+    /// ```
+    pub fn pop_slice(&mut self, into: &mut [u8]) -> Result<(H, usize), Empty>
+        ensures empty { IsErr result ↔ (contents self.old ≡ []) }
+        ensures popped { IfOk result
+            (λ r. CopiesOut (contents self.old) r.0 into.old r.1 (contents self.new) into.new) }
+        ensures count { IfOk result
+            (λ r. r.1 ≡ min (length (head_bytes (contents self.old))) (length into.old)) }
+        ensures bytes { IfOk result
+            (λ r. into.new ≡ take r.1 (head_bytes (contents self.old)) ++ drop r.1 into.old) }
+        ensures whole { length (head_bytes (contents self.old)) ≡ length into.old
+            → OnOk result (into.new ≡ head_bytes (contents self.old)) }
+        ensures left { OnOk result (contents self.new ≡ drop 1 (contents self.old)) }
+        ensures no_packet { IsErr result ↔ (length self.old.packets ≡ 0) }
+        ensures unchanged { OnErr result ((self.new ≡ self.old) × (into.new ≡ into.old)) }
+        ensures made { OnOk result (self.new ≡ without_first_and_gap self.old) }
+        ensures capacity { (self.new.slot_count ≡ self.old.slot_count)
+            × (length self.new.storage ≡ length self.old.storage) }
+        ensures call { IfOk result
+            (λ r. Makes (Take r.0 (head_bytes (contents self.old))) self.old self.new) }
+    {
+        let (header, size) = self.take()?;
+        let count = copy(into, self.last_dequeued_mut(size));
+        Ok((header, count))
+    }
+
+    /// Shows the header and the bytes of the first packet, and drops its gap.
+    ///
+    /// Returns `Empty`, and changes nothing, if the queue has no packets.
+    ///
+    /// ```
+    /// # use net_base::storage::{Full, PacketBuffer, PacketMetadata};
+    /// # let mut slots = [PacketMetadata::EMPTY; 4];
+    /// # let mut bytes = [0u8; 16];
+    /// # let mut queue = PacketBuffer::new(&mut slots[..], &mut bytes[..]);
+    /// queue.enqueue(3, 1)?.copy_from_slice(b"abc");
+    /// assert_eq!(queue.peek(), Ok((&1, &b"abc"[..])));
+    /// assert_eq!(queue.peek(), Ok((&1, &b"abc"[..])));
+    /// # Ok::<(), Full>(())
+    /// ```
+    pub fn peek(&mut self) -> Result<(&H, &[u8]), Empty>
+        ensures* skips { sem 𝓛 (ends_as H.row M.row B.row M.Storage B.Storage
+            self.entry (without_gap self.old)) }
+        ensures empty { IsErr result ↔ (contents self.old ≡ []) }
+        ensures shown { IfOk result
+            (λ r. contents self.old ≡ (r.0.now, r.1.now) ∷ drop 1 (contents self.old)) }
+        ensures same { contents (without_gap self.old) ≡ contents self.old }
+        ensures no_packet { IsErr result ↔ (length self.old.packets ≡ 0) }
+        ensures unchanged { OnErr result (without_gap self.old ≡ self.old) }
+        ensures first { IfOk result (λ r. IsFirstSized self.old.packets r.0.now (length r.1.now)) }
+        ensures bytes { IfOk result (λ r. r.1.now ≡ first_bytes (without_gap self.old)) }
+        ensures call { Makes Peek self.old (without_gap self.old) }
+    {
+        self.skip();
+        self.first()
+    }
+}
+
 /// Steps that the calls share.
 impl<H, M: Storage<PacketMetadata<H>>, B: Storage<u8>> PacketsOver<H, M, B> {
     /// Returns the gap before a packet of `size` bytes, if it can be placed.
@@ -275,21 +682,6 @@ impl<H, M: Storage<PacketMetadata<H>>, B: Storage<u8>> PacketsOver<H, M, B> {
     {
         self.head
             .placement(self.slots.count(), self.bytes.count(), size)
-    }
-
-    /// Returns the size of the last packet, or 0 if there is none.
-    fn last_size(&self) -> usize
-        ensures size { result ≡ first_size (only_last self.now.packets) }
-        ensures well_placed { IsWellPlaced self.now }
-    {
-        if self.head.slots.length == 0 {
-            return 0;
-        }
-        let last = self
-            .head
-            .slots
-            .index(self.slots.count(), self.head.slots.length - 1);
-        self.slots.element(last).size
     }
 
     /// Returns the gap before the first packet, or 0 if there is none.
@@ -320,6 +712,78 @@ impl<H, M: Storage<PacketMetadata<H>>, B: Storage<u8>> PacketsOver<H, M, B> {
             self.head.take(self.slots.count(), self.bytes.count(), gap);
         }
     }
+
+    /// Returns the first packet, which has no gap before it.
+    fn first(&self) -> Result<(&H, &[u8]), Empty>
+        requires { first_gap self.now.packets ≡ 0 }
+        ensures no_packet { IsErr result ↔ (length self.now.packets ≡ 0) }
+        ensures first { IfOk result (λ r. IsFirstSized self.now.packets r.0.now (length r.1.now)) }
+        ensures bytes { IfOk result (λ r. r.1.now ≡ first_bytes self.now) }
+    {
+        if self.head.slots.length == 0 {
+            return Err(Empty);
+        }
+        // Called only for its clauses, by which the sum below does not wrap.
+        let _capacity = self.bytes.count();
+        let slot = self.slots.element(self.head.slots.read_at);
+        let from = self.head.bytes.read_at;
+        match &slot.header {
+            Some(header) => Ok((header, self.bytes.part(from, from + slot.size))),
+            None => Err(Empty),
+        }
+    }
+
+    /// Returns the size of the last packet, or 0 if there is none.
+    fn last_size(&self) -> usize
+        ensures size { result ≡ first_size (only_last self.now.packets) }
+        ensures well_placed { IsWellPlaced self.now }
+    {
+        if self.head.slots.length == 0 {
+            return 0;
+        }
+        let last = self
+            .head
+            .slots
+            .index(self.slots.count(), self.head.slots.length - 1);
+        self.slots.element(last).size
+    }
+}
+
+impl<H: Drop, M: Storage<PacketMetadata<H>>, B: Storage<u8>> PacketsOver<H, M, B> {
+    ghost use Rattle.net_packets.specs.PacketLends.{lends_bytes};
+
+    /// Lends the last `size` bytes, which are those of the last packet.
+    fn last_part_mut(&mut self, size: usize) -> &mut [u8]
+        requires { size ≡ first_size (only_last self.old.packets) }
+        ensures* writes_back { sem 𝓛 (lends_bytes H.row M.row B.row M.Storage B.Storage
+            self.entry result (with_last_bytes self.old)) }
+        ensures value { result.now ≡ last_bytes self.old }
+        ensures size { length result.now ≡ first_size (only_last self.old.packets) }
+    {
+        let before = self.head.bytes.length - size;
+        let from = self.head.bytes.index(self.bytes.count(), before);
+        self.bytes.part_mut(from, from + size)
+    }
+
+    /// Takes the first packet, which has no gap before it, off, and returns its header and size.
+    fn take_first(&mut self) -> Option<(H, usize)>
+        requires { first_gap self.old.packets ≡ 0 }
+        ensures none { IsNone result ↔ (length self.old.packets ≡ 0) }
+        ensures unchanged { IsNone result → self.new ≡ self.old }
+        ensures first { IfSome result (λ r. IsFirstSized self.old.packets r.0 r.1) }
+        ensures left { IfSome result (λ r. self.new ≡ without_first self.old) }
+    {
+        if self.head.slots.length == 0 {
+            return None;
+        }
+        let Some((size, header)) = lift_header(&mut self.slots, self.head.slots.read_at) else {
+            return None;
+        };
+        let slot_count = self.slots.count();
+        let capacity = self.bytes.count();
+        self.head.take(slot_count, capacity, size);
+        Some((header, size))
+    }
 }
 
 /// Returns how many of the slots are those of packets, not of gaps.
@@ -328,4 +792,74 @@ fn count_packets<H>(slots: &[PacketMetadata<H>]) -> usize
     ensures within { result ≤ length slots.now }
 {
     slots.iter().filter(|slot| slot.header.is_some()).count()
+}
+
+/// Copies as many bytes as both have, and returns how many.
+fn copy(into: &mut [u8], bytes: &[u8]) -> usize
+    ensures count { result ≡ min (length bytes.now) (length into.old) }
+    ensures copied { into.new ≡ take result bytes.now ++ drop result into.old }
+{
+    let count = bytes.len().min(into.len());
+    into[..count].copy_from_slice(&bytes[..count]);
+    count
+}
+
+/// Writes the slots of a packet of `size` bytes and of its gap, if that has one.
+#[inline]
+fn write_slots<H: Drop, M: Storage<PacketMetadata<H>>>(
+    slots: &mut M,
+    place: PacketPlace,
+    size: usize,
+    header: H,
+)
+    requires gap_slot { place.gap_slot < length (M.elements slots.old) }
+    requires slot { place.slot < length (M.elements slots.old) }
+    ensures { M.elements slots.new ≡ slots_with place size header (M.elements slots.old) }
+{
+    if place.gap > 0 {
+        *slots.element_mut(place.gap_slot) = PacketMetadata {
+            size: place.gap,
+            header: None,
+        };
+    }
+    *slots.element_mut(place.slot) = PacketMetadata {
+        size,
+        header: Some(header),
+    };
+}
+
+/// Takes the header out of the slot at the index `at`, and returns the slot's size and the header;
+/// `None`, and nothing changes, if it has none.
+fn lift_header<H: Drop, M: Storage<PacketMetadata<H>>>(
+    slots: &mut M,
+    at: usize,
+) -> Option<(usize, H)>
+    requires { at < length (M.elements slots.old) }
+    ensures none { IsNone result → (size : _) (h : _) →
+        slice_get (M.elements slots.old) at ≡ Some (slot size (Some h)) → ⊥ }
+    ensures some { IfSome result
+        (λ r. slice_get (M.elements slots.old) at ≡ Some (slot r.0 (Some r.1))) }
+    ensures left { IfSome result
+        (λ r. M.elements slots.new ≡ set (M.elements slots.old) at (slot r.0 None)) }
+{
+    let slot = slots.element_mut(at);
+    let size = slot.size;
+    let header = slot.header.take()?;
+    Some((size, header))
+}
+
+/// Writes size and header of a packet to the slot at the index `at`.
+fn put_header<H: Drop, M: Storage<PacketMetadata<H>>>(
+    slots: &mut M,
+    at: usize,
+    size: usize,
+    header: H,
+)
+    requires { at < length (M.elements slots.old) }
+    ensures { M.elements slots.new ≡ set (M.elements slots.old) at (slot size (Some header)) }
+{
+    *slots.element_mut(at) = PacketMetadata {
+        size,
+        header: Some(header),
+    };
 }

@@ -1,19 +1,27 @@
-//! The tests of `net_io`, `net_bench_lib` and `net_link_lib`, each through its public calls, over memory, with readers
-//! and writers that move few bytes a call, and that fail.
+//! The tests of `net_bench_lib` and `net_testing`, through their public calls, over memory, with readers and writers
+//! that move few bytes a call, and that fail.
 //!
 //! They are in a crate of their own, so that crates that use these libraries don't wait for them and link nothing that
 //! only tests need.
 #![tactic(auto)]
 
 #[cfg(test)]
+mod arguments;
+#[cfg(test)]
 mod assertions;
 #[cfg(test)]
-mod bench;
+mod failures;
 #[cfg(test)]
-mod io;
+mod long_inputs;
 #[cfg(test)]
-mod link;
+mod memory;
+#[cfg(test)]
+mod numeral;
+#[cfg(test)]
+mod rows;
+#[cfg(test)]
+mod serving;
+#[cfg(test)]
+mod statuses;
 #[cfg(test)]
 mod testing;
-#[cfg(test)]
-mod words;

@@ -10,12 +10,12 @@ use Rattle.std.proofs.lemmas.Grind.{common_steps}
 use Rattle.std.proofs.lemmas.Bool.{both_ways, cases_lt, false≢true, or_left}
 use Rattle.std.proofs.lemmas.List.{append_assoc, take-append-drop, drop-take, drop-drop, drop_at, take-take}
 use Rattle.net_assembler.specs.declared.assembler.error.TooManyHolesError.{TooManyHolesError}
-use Rattle.net_receiver.specs.declared.receiver.kept.Kept.{Kept}
-use Rattle.net_receiver.specs.declared.receiver.kept_bytes.KeptBytes.{KeptBytes}
+use Rattle.net_receiver.specs.declared.kept.Kept.{Kept}
+use Rattle.net_receiver.specs.declared.kept.KeptBytes.{KeptBytes}
 use Rattle.net_receiver.specs.KeptList.{Piece, piece, piece_within, byte_at, next}
 use Rattle.std.proofs.lemmas.List.Elements.{All-head}
 use Rattle.net_receiver.proofs.Stream.{agrees_at}
-use Rattle.net_receiver.specs.Rules.{Show, CommandValue, ReplyValue, Segment, Read, verdict, state_after}
+use Rattle.net_receiver.specs.Rules.{CommandValue, ReplyValue, Segment, Read, verdict, state_after}
 use Rattle.net_receiver.specs.Rules.{numbers, segment_result}
 use Rattle.net_receiver.specs.Schedule.{KeptState, kept_after_commands, Follows, EndsBy, bytes_read}
 use Rattle.net_receiver.specs.ReceiverState.{receiver_reply, setting, Refines, ReceiverState, HeldBytes}
@@ -23,12 +23,12 @@ use Rattle.net_receiver.specs.ReceiverState.{domain, held_with_piece, first_lack
 use Rattle.net_receiver.specs.ReceiverState.{next_position, receiver_ops, receiver_after_read}
 use Rattle.net_receiver.specs.ReceiverState.{receiver_after_command, fresh_receiver, IsSound, StaysInSetting}
 use Rattle.net_receiver.specs.Segments.{KeepsOrRefuses, JoinsQueue}
-use Rattle.net_receiver.proofs.Whole.{ran}
+use Rattle.net_receiver.proofs.Theorems.{ran}
 use Rattle.net_receiver.specs.OneStream.{HeldIsOfStream, QueueIsOfStream, CapacityStays, Receives}
 use Rattle.net_receiver.specs.OneStream.{ReceivesFrom, MatchesStream, AllMatch, IsTruthful}
 use Rattle.net_receiver.specs.OneStream.{MatchesWhatIsThere, window_part}
 use Rattle.net_receiver.proofs.Step.{any_verdict, same_next}
-use Rattle.net_receiver.proofs.Run.{setting_kept, settings_kept, read_prefix}
+use Rattle.net_receiver.proofs.Schedules.{setting_kept, settings_kept, read_prefix}
 use Rattle.net_receiver.proofs.OneStream.{one_receives, queue_is_of, fresh_receives, first_stays, run_receives}
 use Rattle.net_receiver.specs.Execution.{Executes}
 use Rattle.net_receiver.specs.Retransmission.{InOrderReaches}
@@ -212,11 +212,6 @@ stays_by N v u e sound = record { first = ap (λ w. w.first) e; capacity = ap (�
 -- what a command leaves of what was there, and a refusal of memory too
 pub stays : (N : ℕ) (v u : ReceiverState) (c : CommandValue) → u ≡ receiver_after_command N v c → IsSound N u → StaysInSetting N v u
 stays N v u c e sound = stays_by N v u (ap (setting N) e ∙ setting_kept N v c) sound
-
-pub executed_stays : (N : ℕ) {T E : Type 0} (r : Result T E) (v u : ReceiverState) (c : CommandValue) →
-    IfOk r (λ _. u ≡ receiver_after_command N v c) → OnErr r (u ≡ v) → IsSound N u → StaysInSetting N v u
-executed_stays N (Ok t) v u c ok err sound = stays N v u c ok sound
-executed_stays N (Err e) v u c ok err sound = stays N v u Show err sound
 
 one_run : (N : ℕ) (v : ReceiverState) (c : CommandValue) → Executes N v (receiver_after_command N v c) (c ∷ []) (receiver_reply N v c ∷ []) ⊤
 one_run N v c = record { prefix = record { count = 1; within = omega arith; whole = λ _. refl }; state = refl; replies = refl }

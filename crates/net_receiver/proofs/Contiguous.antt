@@ -9,10 +9,7 @@ use Rattle.std.proofs.lemmas.Nat.{mod_below}
 use Rattle.net_ring.specs.Ring.{RingState, ring, index_after, storage_index, rotation, queue, spare}
 use Rattle.net_ring.specs.Ring.{contiguous_allocated, contiguous_queued, with_dequeued}
 use Rattle.net_ring.proofs.Rotations.{length-rotation}
-use Rattle.net_assembler.specs.Positions.{Positions}
-use Rattle.net_receiver.specs.Contiguous.{contiguous_count, first_part, IsReadAt}
-use Rattle.net_receiver.specs.Parts.{parts}
-use Rattle.net_receiver.specs.ReceiverState.{ReceiverState}
+use Rattle.net_receiver.specs.Contiguous.{IsReadAt}
 
 -- of c places, the one that is j after the place of number i is the place of number i + j
 index_is : (c i j : ℕ) → 0 < c → j ≤ c → index_after c (i % c) j ≡ (i + j) % c
@@ -91,24 +88,6 @@ parts_are q a b n whole size = (
   sym (take_at a b n size) ∙ ap (take n) whole,
   sym (drop_at a b n size) ∙ ap (drop n) whole,
 )
-
--- what is lent from the first byte of the queue on is its first part
-pub first_part_lent : (f r n : ℕ) (g : RingState ℕ) (s : Positions) (v : ReceiverState) (bytes : List ℕ) → IsReadAt g r → parts f r (queue g) (spare g) s ≡ v →
-    n ≡ length (queue g) → length bytes ≡ contiguous_allocated g 0 n → bytes ≡ take (length bytes) (queue g) → bytes ≡ first_part v
-first_part_lent f r n g s v bytes at view all lent value =
-    let few : length bytes ≤ length (queue g) = omega (arith, ap length value, length-take (length bytes) (queue g)) in
-    let start : r + 0 ≡ r = omega arith in
-    let from = lent_from g r at 0 n (length bytes) lent (omega arith)
-    ∙ ap (λ k. min n (min (length (queue g) - 0) (length (queue g) + length (spare g) - k % (length (queue g) + length (spare g))))) start in
-    let size : length bytes ≡ contiguous_count (parts f r (queue g) (spare g) s) = omega (arith, from, all) in
-    value ∙ ap (λ k. take k (queue g)) size ∙ ap first_part view
-
--- the first part has as many bytes, and some unless the queue has none
-pub first_part_length : (v : ReceiverState) → length (first_part v) ≡ contiguous_count v
-first_part_length v = length-take (contiguous_count v) v.queue ∙ (omega arith)
-
-pub contiguous_some : (v : ReceiverState) → length v.queue ≤ v.capacity → 0 < length v.queue → 0 < contiguous_count v
-contiguous_some v fits some = (let below = mod_below v.read v.capacity (omega arith) in omega arith)
 
 -- each byte of a part of the queue that is lent from byte o on, and where it ends
 pub each_lent : (q bytes : List ℕ) (o : ℕ) → bytes ≡ take (length bytes) (drop o q) → (k d : ℕ) → o ≤ k → k < o + length bytes →

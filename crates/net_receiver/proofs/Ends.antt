@@ -18,18 +18,18 @@ use Rattle.net_receiver.specs.ReceiverState.{fresh_receiver}
 use Rattle.net_receiver.specs.Finite.{FiniteState, no_end, top_of, knows_end, can_end, below_end, end_after}
 use Rattle.net_receiver.specs.Finite.{has_other_end, finite_after, finite_after_read, bytes_result}
 use Rattle.net_receiver.specs.Finite.{finite_result, with_error, fresh_finite, IsSoundEnd}
-use Rattle.net_receiver.specs.declared.finite.receiver_head.FiniteReceiverHead.{FiniteReceiverHead}
-use Rattle.net_receiver.specs.declared.receiver.head.ReceiverHead.{ReceiverHead}
+use Rattle.net_receiver.specs.declared.finite_receiver_head.FiniteReceiverHead.{FiniteReceiverHead}
+use Rattle.net_receiver.specs.declared.receiver_head.ReceiverHead.{ReceiverHead}
 use Rattle.net_assembler.specs.declared.assembler.error.TooManyHolesError.{TooManyHolesError}
-use Rattle.net_receiver.specs.declared.receiver.kept_bytes.KeptBytes.{KeptBytes}
-use Rattle.net_receiver.specs.declared.finite.error.FiniteError.TheVariants as errors
+use Rattle.net_receiver.specs.declared.kept.KeptBytes.{KeptBytes}
+use Rattle.net_receiver.specs.declared.finite_error.FiniteError.TheVariants as errors
 use Rattle.net_receiver.specs.FiniteHead.{finite_of, finite_storage_after}
 use Rattle.net_receiver.specs.Head.{receiver_of, HasSoundParts, storage_after}
 use Rattle.net_ring.specs.Ring.{RingState, queue, spare}
 use Rattle.net_ring.specs.RingHead.{ring_at}
 use Rattle.net_assembler.specs.RunLists.{set_of}
 use Rattle.net_receiver.proofs.Heads.{queue_size}
-use Rattle.net_receiver.proofs.Placed.{has_place}
+use Rattle.net_receiver.proofs.RingPlaces.{has_place}
 use Rattle.net_receiver.proofs.Covering.{piece_at, clip_at}
 use Rattle.net_receiver.proofs.Maps.{contains-domain, next_joined, lacks, lacking, laid_has, left_above}
 use Rattle.net_receiver.proofs.Step.{any_verdict}
@@ -170,12 +170,6 @@ cut_is n count xs is = grind (arith, common_steps)
 
 -- what is left, and what is returned, as the code has it
 module _ (N : ℕ) (s : FiniteState) (pos : ℕ) (xs : List ℕ) (last : Bool) where
-  pub refused_state : has_other_end s (pos + length xs) last ≡ true → s ≡ finite_after N s pos xs last
-  refused_state other = λ i. cond (sym other i) s (record {
-    receiver = receiver_after_command N s.receiver (Segment pos (below_end s pos xs));
-    end = cond (is_ok (bytes_result N s pos xs last)) (end_after s (pos + length xs) last) s.end;
-  })
-
   module _ (other : has_other_end s (pos + length xs) last ≡ false) (cut : List ℕ) (cut_is : cut ≡ below_end s pos xs) (u : ReceiverState)
       (u_is : u ≡ receiver_after_command N s.receiver (Segment pos cut)) (r : Result KeptBytes TooManyHolesError)
       (r_is : r ≡ numbers receiver_ops s.receiver (verdict receiver_ops N s.receiver (piece pos cut)))
@@ -202,9 +196,6 @@ module _ (h : FiniteReceiverHead) (xs : List ℕ) (rs : List (ℕ × ℕ)) (pos 
   -- the storage after the bytes of a segment
   abbrev written : List ℕ → List ℕ
   written ys = storage_after h.receiver xs (verdict receiver_ops (length rs) (receiver_of h.receiver xs rs) (piece pos ys))
-
-  pub refused_storage : has_other_end (finite_of h xs rs) (pos + length bytes) last ≡ true → xs ≡ finite_storage_after h xs rs pos bytes last
-  refused_storage other = λ i. cond (sym other i) xs (written (below_end (finite_of h xs rs) pos bytes))
 
   pub left_storage : has_other_end (finite_of h xs rs) (pos + length bytes) last ≡ false → (cut : List ℕ) → cut ≡ below_end (finite_of h xs rs) pos bytes →
       (ys : List ℕ) → ys ≡ written cut → ys ≡ finite_storage_after h xs rs pos bytes last

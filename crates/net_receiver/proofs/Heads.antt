@@ -12,14 +12,14 @@ use Rattle.net_ring.proofs.RingFacts.{with_enqueued_law, with_dequeued_law, over
 use Rattle.net_assembler.specs.Positions.{with_range, runs, maximal_runs, runs_shifted_up}
 use Rattle.net_assembler.specs.RunLists.{set_of, HasSoundRuns}
 use Rattle.net_assembler.specs.declared.assembler.head.AssemblerHead.{AssemblerHead}
-use Rattle.net_receiver.specs.declared.receiver.head.ReceiverHead.{ReceiverHead}
+use Rattle.net_receiver.specs.declared.receiver_head.ReceiverHead.{ReceiverHead}
 use Rattle.net_receiver.specs.KeptList.{piece}
 use Rattle.net_receiver.specs.Rules.{verdict, state_after, numbers}
 use Rattle.net_receiver.specs.ReceiverState.{ReceiverState, domain, receiver_ops, receiver_after_read, IsSound}
 use Rattle.net_receiver.specs.Head.{receiver_of, HasSoundParts, storage_after, head_after_read}
 use Rattle.net_receiver.proofs.Contiguous.{stays_at, read_on}
 use Rattle.net_receiver.specs.Parts.{parts, Fits64Bits}
-use Rattle.net_receiver.proofs.Placed.{IsReceiver, IsFrontRemoved, held_runs}
+use Rattle.net_receiver.proofs.RingPlaces.{IsReceiver, IsFrontRemoved, held_runs}
 use Rattle.net_receiver.proofs.Segment.{IsCut, refused_is, keeps_is, wrote_all, refusal, kept_state}
 use Rattle.net_receiver.proofs.Segment.{kept_invariant, m_fits, read_invariant}
 

@@ -11,11 +11,10 @@ use Rattle.net_assembler.specs.RunLists.{IsRising}
 use Rattle.net_assembler.proofs.Positions.{first_missing-misses, contains-shift_up, contains-shift_down}
 use Rattle.net_assembler.proofs.Runs.{rising_from}
 use Rattle.net_assembler.proofs.MaximalRuns.{are_maximal_runs, rising-maximal_runs}
-use Rattle.net_receiver.specs.SackBlocks.{is_sacked}
 use Rattle.net_receiver.specs.Scoreboards.{beyond, sizes, IsNextHole}
 use Rattle.net_receiver.specs.Losses.{runs_above, tell_loss, IsLossBound, LossesCountAll}
-use Rattle.net_receiver.proofs.Boards.{front_has}
-use Rattle.net_receiver.proofs.Scoreboards.{not_sacked}
+use Rattle.net_receiver.proofs.Scoreboards.{front_has}
+use Rattle.net_receiver.proofs.Holes.{is_in_run, not_in_run}
 
 -- runs that begin above p are all above it
 all_above : (low p : ℕ) (rs : List (ℕ × ℕ)) → IsRising low rs → p < low → runs_above rs p ≡ rs
@@ -41,9 +40,6 @@ tells_less d n rs p h =
     let one = rest.0 in
     let two = rest.1 in
     grind (arith, nat_tests)
-
-none_tells : (d n : ℕ) → tell_loss d n [] ≡ false
-none_tells d n = grind (arith, nat_tests)
 
 -- what the code counts tells it or not: most is the product, or as large as a number of 64 bits is
 pub few_tell : (d n count bytes most : ℕ) (rs : List (ℕ × ℕ)) → count ≡ length rs → bytes ≡ sizes rs → most ≤ (d - 1) * n →
@@ -91,15 +87,6 @@ module _ (d n : ℕ) (all : List (ℕ × ℕ)) (r : ℕ × ℕ) (rest : List (�
     ],
   )
 
-pub bound_ends : (d n : ℕ) (all : List (ℕ × ℕ)) (limit : ℕ) → IsBoundSoFar d n all [] limit → (p : ℕ) → (p < limit) ↔ IsTrue (tell_loss d n (runs_above all p))
-bound_ends d n all limit so_far p = (
-  so_far.lost p,
-  λ lost. elim (cases_lt p limit) [
-    | inl before ↦ before
-    | inr from ↦ absurd (both_ways _ (ap (tell_loss d n) (so_far.others p from) ∙ none_tells d n) lost)
-  ],
-)
-
 -- there is one such limit
 pub one_bound : (d n : ℕ) (s : Positions) (a b : ℕ) → IsLossBound d n s a → IsLossBound d n s b → a ≡ b
 one_bound d n s a b x y =
@@ -136,17 +123,17 @@ counted_above_one r rs p q others h l =
     let above = sum_by-cons (λ x. cond (lies_in q x) 1 0) r (runs_above rs p) in
     grind (arith, nat_tests)
 
-first_lacks : (r : ℕ × ℕ) (rs : List (ℕ × ℕ)) (p : ℕ) → is_sacked (r ∷ rs) p ≡ false → (lies_in p r ≡ false) × (is_sacked rs p ≡ false)
+first_lacks : (r : ℕ × ℕ) (rs : List (ℕ × ℕ)) (p : ℕ) → is_in_run (r ∷ rs) p ≡ false → (lies_in p r ≡ false) × (is_in_run rs p ≡ false)
 first_lacks r rs p h = (grind arith, grind arith)
 
-counted_above : (rs : List (ℕ × ℕ)) (p q : ℕ) → is_sacked rs p ≡ false → p < q →
+counted_above : (rs : List (ℕ × ℕ)) (p q : ℕ) → is_in_run rs p ≡ false → p < q →
     count_by (lies_in q) (runs_above rs p) ≡ count_by (lies_in q) rs
 counted_above [] p q h l = refl
 counted_above (r ∷ rs) p q h l =
     let lacks = first_lacks r rs p h in
     counted_above_one r rs p q (counted_above rs p q lacks.1 l) lacks.0 l
 
-uncounted : (rs : List (ℕ × ℕ)) (q : ℕ) → is_sacked rs q ≡ false → count_by (lies_in q) rs ≡ 0
+uncounted : (rs : List (ℕ × ℕ)) (q : ℕ) → is_in_run rs q ≡ false → count_by (lies_in q) rs ≡ 0
 uncounted [] q h = refl
 uncounted (r ∷ rs) q h = let others = uncounted rs q in grind (arith, nat_tests)
 
@@ -154,7 +141,7 @@ uncounted (r ∷ rs) q h = let others = uncounted rs q in grind (arith, nat_test
 counted : (s : Positions) (q : ℕ) → count_by (lies_in q) (maximal_runs s) ≡ from_bool (contains s q)
 counted s q = elim (cases_Bool (contains s q)) [
   | inl on ↦ (are_maximal_runs s).complete q on ∙ ap from_bool (sym on)
-  | inr off ↦ uncounted (maximal_runs s) q (not_sacked s q off) ∙ ap from_bool (sym off)
+  | inr off ↦ uncounted (maximal_runs s) q (not_in_run s q off) ∙ ap from_bool (sym off)
 ]
 
 pub losses_count_all : LossesCountAll
@@ -164,5 +151,5 @@ losses_count_all s p q misses l =
       | inr le ↦ le
     ] in
     let off = contains-beyond s p from ∙ misses in
-    counted_above (maximal_runs (beyond s)) p q (not_sacked (beyond s) p off) l
+    counted_above (maximal_runs (beyond s)) p q (not_in_run (beyond s) p off) l
     ∙ counted (beyond s) q ∙ ap from_bool (contains-beyond s q (omega (arith, from, l)))

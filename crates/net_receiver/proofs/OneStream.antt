@@ -17,9 +17,9 @@ use Rattle.net_receiver.specs.OneStream.{IsTruthful, Receives, QueueIsOf, FirstS
 use Rattle.net_receiver.specs.OneStream.{SegmentReadsNothing}
 use Rattle.net_receiver.proofs.Covering.{clip_at, next_is}
 use Rattle.net_receiver.proofs.Step.{any_verdict, segment_cases, same_next, queue_length}
-use Rattle.net_receiver.proofs.Run.{schedule, setting_kept, settings_kept}
+use Rattle.net_receiver.proofs.Schedules.{schedule, setting_kept, settings_kept}
 use Rattle.net_receiver.proofs.Stream.{queue_agrees, agrees_at, some_of, stream}
-use Rattle.net_receiver.proofs.Whole.{fresh_refines}
+use Rattle.net_receiver.proofs.Theorems.{fresh_refines}
 
 clip_agrees : (f low high : ℕ) (x : List ℕ) (e : Piece) → PieceAgrees f x e → PieceAgrees f x (piece_within low high e)
 clip_agrees f low high x e h = λ p b from is. h p b from (clip_at low high e p b is).2

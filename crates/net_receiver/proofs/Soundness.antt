@@ -16,8 +16,8 @@ use Rattle.net_receiver.specs.ReceiverState.{receiver_after_command, receiver_op
 use Rattle.net_receiver.proofs.Covering.{piece_has, piece_at, piece_some, or_swap}
 use Rattle.net_receiver.proofs.Maps.{contains-domain, lacks, lacking, laid_has, left_has}
 use Rattle.net_receiver.proofs.Step.{verdict_by, has-filter, filter_rises}
-use Rattle.net_receiver.proofs.Sound.{sound_joined, sound_read}
-use Rattle.net_receiver.proofs.Whole.{fresh_sound}
+use Rattle.net_receiver.proofs.ReceiverInvariant.{sound_joined, sound_read}
+use Rattle.net_receiver.proofs.Theorems.{fresh_sound}
 
 -- ---- the positions of a set from one on that is not in it
 longer : (b c : Bool) (k : ℕ) (xs ys : List ℕ) → length xs ≤ length ys → (b ≡ true → c ≡ true) → length (cond b (k ∷ xs) xs) ≤ length (cond c (k ∷ ys) ys)

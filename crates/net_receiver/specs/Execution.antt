@@ -17,7 +17,7 @@ use Rattle.net_receiver.specs.Schedule.{queue_bytes}
 use Rattle.net_receiver.specs.Schedule.{Agrees, Follows, EndsBy, IsAccepted}
 use Rattle.net_receiver.specs.ReceiverState.{ReceiverState, domain, next_position, fresh_receiver, setting}
 use Rattle.net_receiver.specs.ReceiverState.{receiver_after_commands, receiver_replies, Refines, IsSound}
-use Rattle.net_receiver.specs.declared.receiver.head.ReceiverHead.{ReceiverHead}
+use Rattle.net_receiver.specs.declared.receiver_head.ReceiverHead.{ReceiverHead}
 use Rattle.net_receiver.specs.Head.{receiver_of, HasSoundParts}
 
 -- what was pushed after old

@@ -19,9 +19,9 @@ use Rattle.std.specs.Coded.{Coded, code_by, coded×, coded_ℕ}
 use Rattle.net_receiver.specs.Parts.{receiver_code}
 use Rattle.net_assembler.specs.declared.assembler.error.TooManyHolesError.{TooManyHolesError}
 use Rattle.net_assembler.specs.Positions.{bound_of, positions}
-use Rattle.net_receiver.specs.declared.finite.error.FiniteError.{FiniteError}
-use Rattle.net_receiver.specs.declared.finite.error.FiniteError.TheVariants as errors
-use Rattle.net_receiver.specs.declared.receiver.kept_bytes.KeptBytes.{KeptBytes}
+use Rattle.net_receiver.specs.declared.finite_error.FiniteError.{FiniteError}
+use Rattle.net_receiver.specs.declared.finite_error.FiniteError.TheVariants as errors
+use Rattle.net_receiver.specs.declared.kept.KeptBytes.{KeptBytes}
 use Rattle.net_receiver.specs.KeptList.{piece}
 use Rattle.net_receiver.specs.Rules.{Segment, verdict, numbers}
 use Rattle.net_receiver.specs.ReceiverState.{ReceiverState, domain, fresh_receiver, next_position, limit_of}

@@ -4,7 +4,7 @@
 --     HasSoundFinite h xs rs      the parts are those of such a receiver
 --     finite_storage_after h xs rs pos bytes last      the storage after a segment
 use Rattle.std.specs.Prelude.{ℕ, ◌+◌, List, length, Bool, if◌then◌else◌}
-use Rattle.net_receiver.specs.declared.finite.receiver_head.FiniteReceiverHead.{FiniteReceiverHead}
+use Rattle.net_receiver.specs.declared.finite_receiver_head.FiniteReceiverHead.{FiniteReceiverHead}
 use Rattle.net_receiver.specs.KeptList.{piece}
 use Rattle.net_receiver.specs.Rules.{verdict}
 use Rattle.net_receiver.specs.ReceiverState.{receiver_ops}

@@ -1,17 +1,18 @@
 -- A sender of a stream that ends: its end has a number after the last byte's, and is sent and acknowledged as a byte.
 --     FiniteSenderState, fresh_finite_sender capacity first      a sender, what it says of the end, and what was sent
 --     first_number s, numbers_end s      the first number that isn't acknowledged, and the one after the last
---     finite_room s, with_bytes s xs      how many bytes can be written, and the sender once they were
+--     open_room v, finite_room s      how many bytes can be written before it is closed, and now
+--     with_bytes s xs      the sender once these bytes were written
 --     closed_sender s      the sender once it was closed
 --     has_end_at s pos      a segment that ends at pos ends the stream
---     accepts s n, acknowledged_below s n blocks      an acknowledgement of all numbers below n
---     finite_sender_of h xs blocks      what is stored
+--     accepts s n, acknowledged_below s n      an acknowledgement of all numbers below n
+--     finite_sender_of h xs      what is stored
 --     IsSoundFiniteSender c h      the head is that of a sender whose storage has c bytes
-use Rattle.std.specs.Prelude.{◌≡◌, ℕ, ◌+◌, ◌-◌, ◌<◌, ◌≤◌, ◌^◌, ◌&&◌, min, Bool, if◌then◌else◌, List, []}
-use Rattle.std.specs.Prelude.{nat_eq, nat_le, nat_lt}
+use Rattle.std.specs.Prelude.{◌≡◌, ℕ, ◌+◌, ◌-◌, ◌<◌, ◌≤◌, ◌&&◌, min, Bool, if◌then◌else◌, List, []}
+use Rattle.std.specs.Prelude.{nat_eq, nat_le}
 use Rattle.net_receiver.specs.SenderState.{SenderState, sender_state, end_of, room_of, with_written, sender_from}
 use Rattle.net_receiver.specs.SenderHeads.{sender_of, IsSoundHead}
-use Rattle.net_receiver.specs.declared.finite.sender_head.FiniteSenderHead.{FiniteSenderHead}
+use Rattle.net_receiver.specs.declared.finite_sender_head.FiniteSenderHead.{FiniteSenderHead}
 use Rattle.net_receiver.specs.Finite.{no_end}
 
 -- a sender; 1 once it is closed; 1 once the end is acknowledged; and the number after the last one that was sent
@@ -24,7 +25,7 @@ pub record FiniteSenderState : Type 0 where
 -- nothing was written
 abbrev pub fresh_finite_sender : ℕ → ℕ → FiniteSenderState
 fresh_finite_sender capacity first =
-    record { sender = sender_state capacity first [] [] (first + capacity); closed = 0; finished = 0; sent = first }
+    record { sender = sender_state capacity first [] (first + capacity); closed = 0; finished = 0; sent = first }
 
 -- the first number that isn't acknowledged
 abbrev pub first_number : FiniteSenderState → ℕ
@@ -34,9 +35,13 @@ first_number s = s.sender.first_unacknowledged + s.finished
 abbrev pub numbers_end : FiniteSenderState → ℕ
 numbers_end s = end_of s.sender + s.closed
 
+-- a number is left for the end
+abbrev pub open_room : SenderState → ℕ
+open_room v = min (room_of v) (no_end - 1 - end_of v)
+
 -- nothing can be written to a closed sender
 abbrev pub finite_room : FiniteSenderState → ℕ
-finite_room s = if nat_eq s.closed 0 then room_of s.sender else 0
+finite_room s = if nat_eq s.closed 0 then open_room s.sender else 0
 
 -- these bytes were written, if it isn't closed
 abbrev pub with_bytes : FiniteSenderState → List ℕ → FiniteSenderState
@@ -47,14 +52,9 @@ with_bytes s xs = record {
   sent = s.sent;
 }
 
--- the stream ends after what was written, if there is a number left for the end
+-- the stream ends after what was written
 abbrev pub closed_sender : FiniteSenderState → FiniteSenderState
-closed_sender s = record {
-  sender = s.sender;
-  closed = if nat_lt (end_of s.sender) no_end then 1 else s.closed;
-  finished = s.finished;
-  sent = s.sent;
-}
+closed_sender s = record { sender = s.sender; closed = 1; finished = s.finished; sent = s.sent }
 
 -- it is closed, and pos is the position after its last byte
 abbrev pub has_end_at : FiniteSenderState → ℕ → Bool
@@ -65,26 +65,26 @@ abbrev pub accepts : FiniteSenderState → ℕ → Bool
 accepts s n = nat_le (first_number s) n && nat_le n s.sent
 
 -- all numbers below n are acknowledged: the bytes among them, and the end if n is past it
-abbrev pub acknowledged_below : FiniteSenderState → ℕ → List (ℕ × ℕ) → FiniteSenderState
-acknowledged_below s n blocks = record {
-  sender = sender_from s.sender (min n (end_of s.sender)) blocks;
+abbrev pub acknowledged_below : FiniteSenderState → ℕ → FiniteSenderState
+acknowledged_below s n = record {
+  sender = sender_from s.sender (min n (end_of s.sender));
   closed = s.closed;
   finished = n - end_of s.sender;
   sent = s.sent;
 }
 
 -- ---- in parts
-abbrev pub finite_sender_of : FiniteSenderHead → List ℕ → List (ℕ × ℕ) → FiniteSenderState
-finite_sender_of h xs blocks =
-    record { sender = sender_of h.sender xs blocks; closed = h.closed; finished = h.finished; sent = h.sent }
+abbrev pub finite_sender_of : FiniteSenderHead → List ℕ → FiniteSenderState
+finite_sender_of h xs =
+    record { sender = sender_of h.sender xs; closed = h.closed; finished = h.finished; sent = h.sent }
 
--- the sender is sound; an end is acknowledged only after all bytes; and what was sent is between what is
--- acknowledged and what there is
+-- the sender is sound; an end is acknowledged only after all bytes; what was sent is between what is
+-- acknowledged and what there is; and the end has a number, also before the sender is closed
 pub record IsSoundFiniteSender (capacity : ℕ) (h : FiniteSenderHead) : Type 0 where
   pub sender : IsSoundHead capacity h.sender
   pub closed : h.closed ≤ 1
   pub finished : h.finished ≤ h.closed
   pub none_left : 0 < h.finished → h.sender.place.length ≡ 0
-  pub fits : h.sender.first_unacknowledged + h.sender.place.length + h.closed < 2 ^ 64
+  pub fits : h.sender.first_unacknowledged + h.sender.place.length < no_end
   pub low : h.sender.first_unacknowledged + h.finished ≤ h.sent
   pub high : h.sent ≤ h.sender.first_unacknowledged + h.sender.place.length + h.closed

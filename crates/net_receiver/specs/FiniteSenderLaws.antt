@@ -16,14 +16,14 @@ pub data SenderCommand : Type 0 where
   Writes : List ℕ → SenderCommand
   Closes : SenderCommand
   Marks : ℕ → SenderCommand
-  Acknowledges : ℕ → List (ℕ × ℕ) → SenderCommand
+  Acknowledges : ℕ → SenderCommand
 
 -- the bytes that one takes
 abbrev pub written_of : FiniteSenderState → SenderCommand → List ℕ
 written_of s (Writes xs) = take (min (length xs) (finite_room s)) xs
 written_of s Closes = []
 written_of s (Marks pos) = []
-written_of s (Acknowledges n blocks) = []
+written_of s (Acknowledges n) = []
 
 -- what one leaves
 abbrev pub sender_after_command : FiniteSenderState → SenderCommand → FiniteSenderState
@@ -32,7 +32,7 @@ sender_after_command s Closes = closed_sender s
 sender_after_command s (Marks pos) =
     if nat_le pos (numbers_end s)
     then record { sender = s.sender; closed = s.closed; finished = s.finished; sent = max s.sent pos } else s
-sender_after_command s (Acknowledges n blocks) = if accepts s n then acknowledged_below s n blocks else s
+sender_after_command s (Acknowledges n) = if accepts s n then acknowledged_below s n else s
 
 -- what several leave
 abbrev pub sender_after_commands : FiniteSenderState → List SenderCommand → FiniteSenderState

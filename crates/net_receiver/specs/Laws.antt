@@ -10,7 +10,7 @@ use Rattle.std.specs.Prelude.{◌≡◌, ◌↔◌, ◌⊎◌, ℕ, ◌-◌, ◌
 use Rattle.std.specs.Prelude.{take, flat_map, slice_index, Option, Some, None, Ok, IsTrue, All}
 use Rattle.std.specs.Prelude.{AllPairs, count_by, ⊤}
 use Rattle.net_assembler.specs.Positions.{Positions, contains, lies_in, IsMaximalRun}
-use Rattle.net_receiver.specs.declared.receiver.kept.Kept.{Kept}
+use Rattle.net_receiver.specs.declared.kept.Kept.{Kept}
 use Rattle.net_receiver.specs.KeptList.{Piece, end, byte_at, next, held_positions}
 use Rattle.net_receiver.specs.Rules.{CommandValue, ReplyValue, Verdict, state_after, segment_result}
 use Rattle.net_receiver.specs.Rules.{first_three}

@@ -5,10 +5,10 @@ use Rattle.std.specs.Prelude.{◌≡◌, ℕ, List, [], length}
 use Rattle.net_ring.specs.declared.head.RingHead.{RingHead}
 use Rattle.net_assembler.specs.Positions.{nothing}
 use Rattle.net_assembler.specs.declared.assembler.head.AssemblerHead.{AssemblerHead}
-use Rattle.net_receiver.specs.declared.receiver.head.ReceiverHead.{ReceiverHead}
-use Rattle.net_receiver.specs.declared.sender.head.SenderHead.{SenderHead}
-use Rattle.net_receiver.specs.declared.scoreboard.head.ScoreboardHead.{ScoreboardHead}
-use Rattle.net_receiver.specs.declared.finite.sender_head.FiniteSenderHead.{FiniteSenderHead}
+use Rattle.net_receiver.specs.declared.receiver_head.ReceiverHead.{ReceiverHead}
+use Rattle.net_receiver.specs.declared.sender_head.SenderHead.{SenderHead}
+use Rattle.net_receiver.specs.declared.scoreboard_head.ScoreboardHead.{ScoreboardHead}
+use Rattle.net_receiver.specs.declared.finite_sender_head.FiniteSenderHead.{FiniteSenderHead}
 use Rattle.net_receiver.specs.Head.{receiver_of, HasSoundParts}
 use Rattle.net_receiver.specs.ReceiverState.{fresh_receiver}
 use Rattle.net_receiver.specs.SenderState.{sender_state}
@@ -40,8 +40,8 @@ ZerosReceive = (xs : List ℕ) (rs : List (ℕ × ℕ)) →
     HasSoundParts (receiver_head 0) xs rs × (receiver_of (receiver_head 0) xs rs ≡ fresh_receiver 0 (length xs))
 
 abbrev pub ZerosSend : Type 0
-ZerosSend = (xs : List ℕ) (blocks : List (ℕ × ℕ)) → IsSoundHead (length xs) (sender_head 0)
-    × (sender_of (sender_head 0) xs blocks ≡ sender_state (length xs) 0 [] blocks (length xs))
+ZerosSend = (xs : List ℕ) → IsSoundHead (length xs) (sender_head 0)
+    × (sender_of (sender_head 0) xs ≡ sender_state (length xs) 0 [] (length xs))
 
 abbrev pub ZerosReport : Type 0
 ZerosReport = (rs : List (ℕ × ℕ)) →
@@ -49,4 +49,4 @@ ZerosReport = (rs : List (ℕ × ℕ)) →
 
 abbrev pub ZerosSendAnEnd : Type 0
 ZerosSendAnEnd = (xs : List ℕ) → IsSoundFiniteSender (length xs) (finite_sender_head 0)
-    × (finite_sender_of (finite_sender_head 0) xs [] ≡ fresh_finite_sender (length xs) 0)
+    × (finite_sender_of (finite_sender_head 0) xs ≡ fresh_finite_sender (length xs) 0)

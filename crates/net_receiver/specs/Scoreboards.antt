@@ -9,7 +9,7 @@ use Rattle.std.specs.Prelude.{◌≡◌, ℕ, ◌+◌, ◌-◌, ◌<◌, ◌≤�
 use Rattle.net_assembler.specs.Assembler.{MakesTooManyRuns}
 use Rattle.net_assembler.specs.Positions.{Positions, contains, first_missing, front, with_range, shift_up, shift_down}
 use Rattle.net_assembler.specs.RunLists.{set_of, HasSoundRuns}
-use Rattle.net_receiver.specs.declared.scoreboard.head.ScoreboardHead.{ScoreboardHead}
+use Rattle.net_receiver.specs.declared.scoreboard_head.ScoreboardHead.{ScoreboardHead}
 
 -- all positions below a base, and those at offsets that are counted from it
 abbrev pub board : ℕ → Positions → Positions

@@ -7,7 +7,7 @@ use Rattle.std.specs.Prelude.{OnErr, nat_le, nat_lt, count_by}
 use Rattle.std.specs.List.{range_with_len}
 use Rattle.net_assembler.specs.Positions.{contains}
 use Rattle.net_assembler.specs.declared.assembler.error.TooManyHolesError.{TooManyHolesError}
-use Rattle.net_receiver.specs.declared.receiver.kept.Kept.{Kept}
+use Rattle.net_receiver.specs.declared.kept.Kept.{Kept}
 use Rattle.net_receiver.specs.ReceiverState.{ReceiverState, domain, next_position, limit_of}
 
 -- any segment: a refused one changes nothing, of any other xs is kept; the first missing position

@@ -5,10 +5,8 @@ ghost use Rattle.net_assembler.specs.Positions.{positions, with_range};
 ghost use Rattle.net_receiver.specs.Losses.{IsHole, IsLossBound};
 ghost use Rattle.net_receiver.specs.Scoreboards.{HasNoRoom, IsEnd, IsSoundBoard, beyond, reported_by};
 
-mod head;
-
-use crate::receiver::HeldRuns;
-pub use head::ScoreboardHead;
+use crate::held_runs::HeldRuns;
+use crate::scoreboard_head::ScoreboardHead;
 use net_assembler::{Run, TooManyHolesError};
 use std::marker::Model;
 
@@ -281,6 +279,15 @@ impl<const N: usize> Scoreboard<N> {
     ///
     /// A caller sends it, passes its end as the next `pos`, and begins again at the first unacknowledged
     /// position with the next recovery.
+    ///
+    /// ```
+    /// # use net_base::scoreboard::Scoreboard;
+    /// # let mut scoreboard = Scoreboard::<4>::empty();
+    /// // Segments of 100 bytes: the first is missing, the three after it have arrived, four are in flight.
+    /// assert_eq!(scoreboard.report(100, 400, 800), Ok(true));
+    /// assert_eq!(scoreboard.next_lost(0, 3, 100), Some((0, 100)));
+    /// assert_eq!(scoreboard.next_lost(100, 3, 100), None);
+    /// ```
     pub fn next_lost(&self, pos: u64, duplicates: usize, segment_size: usize) -> Option<(u64, u64)>
         ensures { (limit : ℕ) → IsLossBound duplicates segment_size self.now limit →
             IsHole self.now pos limit result }

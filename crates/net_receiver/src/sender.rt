@@ -6,10 +6,8 @@ ghost use Rattle.net_receiver.specs.SenderState.{sender_state, end_of, room_of, 
 ghost use Rattle.net_receiver.specs.SenderState.{sender_from, Sends};
 ghost use Rattle.net_receiver.specs.SenderHeads.{sender_of, IsSoundHead};
 
-mod head;
-
 use crate::laws;
-pub use head::SenderHead;
+use crate::sender_head::SenderHead;
 use net_ring::{ManagedSlice, Storage};
 use std::marker::Model;
 
@@ -51,7 +49,7 @@ impl<S: Storage<u8>> Model for SenderOver<S> {
 
     ghost Value = { SenderState };
 
-    ghost view = { λ s. sender_of s.head (S.elements s.storage) [] };
+    ghost view = { λ s. sender_of s.head (S.elements s.storage) };
 
     ghost invariant = { λ s. IsSoundHead (length (S.elements s.storage)) s.head };
 }
@@ -67,7 +65,7 @@ impl<S: Storage<u8> + Drop> Drop for SenderOver<S> {
 impl<S: Storage<u8>> SenderOver<S> {
     /// Returns a sender of a stream that begins at position 0: `over_at` with 0.
     pub const fn over(storage: S) -> Self
-        ensures state { let n = length (S.elements storage) in result ≡ sender_state n 0 [] [] n }
+        ensures state { let n = length (S.elements storage) in result ≡ sender_state n 0 [] n }
         ensures sends { Sends 0 [] result }
     {
         Self::over_at(storage, 0)
@@ -78,7 +76,7 @@ impl<S: Storage<u8>> SenderOver<S> {
     /// Its capacity is the length of `storage` in bytes, of which 0 is allowed.
     pub const fn over_at(storage: S, first: u64) -> Self
         ensures state { let n = length (S.elements storage) in
-            result ≡ sender_state n first [] [] (first + n) }
+            result ≡ sender_state n first [] (first + n) }
         ensures sends { Sends first [] result }
     {
         SenderOver {
@@ -94,7 +92,7 @@ impl<S: Storage<u8>> SenderOver<S> {
     /// The head is sound for the storage, as `SenderHead::is_sound` tests.
     pub fn from_parts(head: SenderHead, storage: S) -> Self
         requires { IsSoundHead (length (S.elements storage)) head }
-        ensures { result ≡ sender_of head (S.elements storage) [] }
+        ensures { result ≡ sender_of head (S.elements storage) }
     {
         prove!(
             head.is_sound(storage.count()),
@@ -106,7 +104,7 @@ impl<S: Storage<u8>> SenderOver<S> {
     /// Returns the head and the storage, which represent the sender.
     pub fn into_parts(self) -> (SenderHead, S)
         ensures sound { IsSoundHead (length (S.elements result.1)) result.0 }
-        ensures state { sender_of result.0 (S.elements result.1) [] ≡ self }
+        ensures state { sender_of result.0 (S.elements result.1) ≡ self }
     {
         let SenderOver { head, storage } = self;
         (head, storage)
@@ -124,7 +122,7 @@ impl<S: Storage<u8>> SenderOver<S> {
     /// which nothing was written.
     pub fn reset_at(&mut self, first: u64)
         ensures state { self.new
-            ≡ sender_state self.old.capacity first [] [] (first + self.old.capacity) }
+            ≡ sender_state self.old.capacity first [] (first + self.old.capacity) }
         ensures sends { Sends first [] self.new }
     {
         self.head = SenderHead::new(first);
@@ -269,26 +267,6 @@ impl<S: Storage<u8>> SenderOver<S> {
         self.storage.part(span.from, span.from + span.contiguous)
     }
 
-    /// Lends at most `max` of the queued bytes, from the one at `pos` on, in two parts: those up to the
-    /// storage's end, and those from its beginning on. The second part is empty unless the bytes wrap.
-    /// No byte is lent if the byte at `pos` isn't queued.
-    pub fn peek_slices_at(&self, pos: u64, max: usize) -> (&[u8], &[u8])
-        ensures bytes { self.now.first_unacknowledged ≤ pos → result.0.now ++ result.1.now
-            ≡ take max (drop (pos - self.now.first_unacknowledged) self.now.queue) }
-        ensures cut { self.now.first_unacknowledged ≤ pos
-            → length result.0.now ≡ min max (contiguous_end self.now pos - pos) }
-        ensures before { pos < self.now.first_unacknowledged →
-            (result.0.now ≡ []) × (result.1.now ≡ []) }
-        ensures says { (f : ℕ) (w : List ℕ) → Sends f w self.now → self.now.first_unacknowledged ≤ pos
-            → MatchesStream f w pos (result.0.now ++ result.1.now) }
-    {
-        laws::matches_stream();
-        let span = self.head.peek_at(self.storage.count(), pos, max);
-        let first = self.storage.part(span.from, span.from + span.contiguous);
-        let second = self.storage.part(0, span.count - span.contiguous);
-        (first, second)
-    }
-
     /// Accepts an acknowledgement: dequeues all bytes below `next`, and returns true. A position below
     /// `first_unacknowledged` or above `end` changes nothing, and returns false. `acknowledge_sent` also
     /// refuses a position of bytes that were written and not sent.
@@ -304,7 +282,7 @@ impl<S: Storage<u8>> SenderOver<S> {
     pub fn acknowledge(&mut self, next: u64) -> bool
         ensures accepted { IsTrue result
             ↔ ((self.old.first_unacknowledged ≤ next) × (next ≤ end_of self.old)) }
-        ensures state { IsTrue result → self.new ≡ sender_from self.old next [] }
+        ensures state { IsTrue result → self.new ≡ sender_from self.old next }
         ensures sends { (f : ℕ) (w : List ℕ) → Sends f w self.old → Sends f w self.new }
         ensures refused { IsFalse result → self.new ≡ self.old }
     {
@@ -353,7 +331,7 @@ impl<S: Storage<u8>> SenderOver<S> {
     pub fn acknowledge_sent(&mut self, next: u64, sent: u64) -> bool
         ensures accepted { IsTrue result ↔ ((self.old.first_unacknowledged ≤ next) × (next ≤ sent)
             × (sent ≤ end_of self.old)) }
-        ensures state { IsTrue result → self.new ≡ sender_from self.old next [] }
+        ensures state { IsTrue result → self.new ≡ sender_from self.old next }
         ensures sends { (f : ℕ) (w : List ℕ) → Sends f w self.old → Sends f w self.new }
         ensures refused { IsFalse result → self.new ≡ self.old }
     {

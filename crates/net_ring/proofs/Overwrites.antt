@@ -15,8 +15,8 @@ module _ {X : Type 0} where
   overwrite-same xs i n = same_lists _ _ (grind (arith, places)) (λ m d h. grind (arith, places))
 
   -- ---- one element that was set
-  pub slice_get-set_same : (xs : List X) (i : ℕ) (x : X) → i < length xs → slice_get (slice_set xs i x) i ≡ Some x
-  slice_get-set_same xs i x h = grind (arith, common_steps, gets)
+  pub get_after_set : (xs : List X) (i : ℕ) (x : X) → i < length xs → slice_get (slice_set xs i x) i ≡ Some x
+  get_after_set xs i x h = grind (arith, common_steps, gets)
 
-  pub slice_get-set_other : (xs : List X) (i k : ℕ) (x : X) → k ≢ i → slice_get (slice_set xs i x) k ≡ slice_get xs k
-  slice_get-set_other xs i k x ne = grind (arith, common_steps, gets)
+  pub get_after_set_elsewhere : (xs : List X) (i k : ℕ) (x : X) → k ≢ i → slice_get (slice_set xs i x) k ≡ slice_get xs k
+  get_after_set_elsewhere xs i k x ne = grind (arith, common_steps, gets)

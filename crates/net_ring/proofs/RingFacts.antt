@@ -245,14 +245,6 @@ module _ {T : Type 0} where
         let still : with_elements g p [] ≡ g = ap (λ b. ring b g.read_at g.count) (overwrite_none g.storage p) in
         subst (WritesQueue g i []) (sym still) (sym (overwrite_none (queue g) i), refl, refl)
 
-    -- a write over the last spare elements, which are those before the read index
-    pub freed_law : (k : ℕ) → last_dequeued_index g k + k ≤ capacity g → (ws : List T) → length ws ≡ k → k ≤ window g
-        → WritesSpare g (window g - k) ws (with_elements g (last_dequeued_index g k) ws)
-    freed_law k fits ws long room =
-        let at : capacity g - k ≡ g.count + (window g - k) = omega (arith, room, wf.1) in
-        spare_law (window g - k) (last_dequeued_index g k) ws (omega (arith, long, room)) (omega (arith, long, fits))
-        (subst (λ (j : ℕ). IsStorageIndex (capacity g) g.read_at j (last_dequeued_index g k)) at (storage_index_is g (capacity g - k)))
-
     pub queue_part_law : (i n : ℕ) (ws : List T) → length ws ≡ contiguous_allocated g i n → WritesQueue g i ws (with_elements g (queue_index g i) ws)
     queue_part_law i n ws e = elim (cases_lt g.count i) [
       | inr h ↦ queue_law i (queue_index g i) ws (omega (arith, h, e)) (omega (arith, e, queue_index_le i)) (queue_at i h)
@@ -396,14 +388,6 @@ module _ {T : Type 0} where
     -- ---- what a part that is lent or shown holds, at first: m elements from the index p on
     shown : (p m k : ℕ) → m ≡ k → p + k ≤ capacity g → (now : List T) → now ≡ take m (drop p v.storage) → (length now ≡ k) × (now ≡ take k (drop p g.storage))
     shown p m k em le now e = part_is g.storage p m k em le now (e ∙ ap (λ l. take m (drop p l)) same_storage)
-
-    -- the last k spare elements, as they are shown from the index p on, and where p is
-    pub shown_last_dequeued : (k p m : ℕ) → k ≤ capacity g → last_dequeued_index g k + k ≤ capacity g → p ≡ last_dequeued_index g k → m ≡ k
-        → (now : List T) → now ≡ take m (drop p v.storage)
-        → (length now ≡ k) × (now ≡ take k (drop (last_dequeued_index g k) g.storage))
-    shown_last_dequeued k p m le fits ep em now e =
-        let r = shown p m k em (omega (arith, ep, fits)) now e in
-        (r.0, r.1 ∙ ap (λ q. take k (drop q g.storage)) ep)
 
     -- the same, where these k elements of the storage are the first ones of ys
     shown_as : (p q m k : ℕ) (ys : List T) → p ≡ q → m ≡ k → q + k ≤ capacity g → take k (drop q g.storage) ≡ take k ys → (now : List T)
@@ -553,12 +537,3 @@ pub first_in_queue : {T : Type 0} (g : RingState T) → IsWellFormed g → (i n 
 first_in_queue g wf i n now long is =
     let some : i < g.count → 0 < n → 0 < length now = λ l m. (let h = contiguous_in_queue_some g i n wf.1 l m in omega (arith, h, long)) in
     (some, λ m. first_shown (queue g) now i is (λ l. some (omega (arith, l, length-queue g wf)) m))
-
--- a list's first element alone, or nothing if it has none
-pub take_first : {T : Type 0} (q : List T) (k : ℕ) → k ≡ min (length q) 1 → take k q ≡ take 1 q
-take_first q k e = same_lists _ _ (grind (arith, places)) (λ m d h. grind (arith, places))
-
--- and its first element
-pub first_taken : {T : Type 0} (q l : List T) → l ≡ take 1 q → slice_get l 0 ≡ slice_get q 0
-first_taken [] l e = ap (λ o. slice_get o 0) e
-first_taken (x ∷ q) l e = ap (λ o. slice_get o 0) e

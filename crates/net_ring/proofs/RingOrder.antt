@@ -7,9 +7,9 @@ use Rattle.net_ring.specs.Overwrite.{overwrite}
 use Rattle.net_ring.specs.Log.{Log, empty_log, log_accepted, log_left, log_dropped}
 use Rattle.net_ring.specs.Ring.{RingState, IsWellFormed, ring, capacity, window, queue, write_at}
 use Rattle.net_ring.specs.Ring.{storage_index, contiguous_window, contiguous_queued, contiguous_queue}
-use Rattle.net_ring.specs.Ring.{last_dequeued_index, spare_index, queue_index, with_elements}
+use Rattle.net_ring.specs.Ring.{spare_index, queue_index, with_elements}
 use Rattle.net_ring.specs.Ring.{with_elements_wrapping, with_enqueued, rewind_if_empty}
-use Rattle.net_ring.specs.RingHistory.{RingCall, Clear, Reset, RewindIfEmpty, WriteLastDequeued, PopBack}
+use Rattle.net_ring.specs.RingHistory.{RingCall, Clear, Reset, RewindIfEmpty, PopBack}
 use Rattle.net_ring.specs.RingHistory.{EnqueueSlice, EnqueueUnallocated, EnqueueMany, EnqueueManyWith}
 use Rattle.net_ring.specs.RingHistory.{EnqueueOne, EnqueueErr, GetUnallocated, WriteUnallocated, Dequeue}
 use Rattle.net_ring.specs.RingHistory.{DequeueMany, DequeueManyWith, DequeueOne, DequeueErr, GetAllocatedMut}
@@ -155,9 +155,6 @@ module _ {T : Type 0} where
   step Clear log g h before does = none_after log g _ h before does (inl refl, omega arith) refl
   step (Reset storage) log g h before does = none_after log g _ h before does.1 (inl refl, omega arith) refl
   step RewindIfEmpty log g h before does = let m = moved g before.ok in same_as log g _ h before does m.0 m.1
-  step (WriteLastDequeued ws) log g h before does =
-      let p = last_dequeued_index g (length ws) in
-      same_as log g _ h before does.2 (facts.written_wf g before.ok p ws) (facts.freed_law g before.ok (length ws) does.1 ws refl does.0).0
   step (PopBack x) log g h before does =
       last_off log g h x before does.0 (subst IsWellFormed (sym does.1) (before.ok.0, omega (arith, before.ok.1)))
   step (EnqueueSlice xs) log g h before does =

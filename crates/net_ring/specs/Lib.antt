@@ -4,7 +4,6 @@ pub mod StorageLaws
 pub mod ManagedLends
 pub mod WholeLends
 pub mod Ring
-pub mod RingView
 pub mod RingLends
 pub mod RingCalls
 pub mod Log

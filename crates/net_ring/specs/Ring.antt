@@ -7,11 +7,11 @@
 --     contiguous_queued g, contiguous_queue g, queue_index g i, contiguous_allocated g i n      those
 --         of the queue
 --     with_elements g p ws, with_elements_wrapping g p ws, with_enqueued k g, with_dequeued k g,
---         rewind_if_empty g      what calls leave
+--         with_one_enqueued g x, with_one_dequeued g x, rewind_if_empty g      what calls leave
 --     Enqueues g ws h, Dequeues g k ws h, WritesSpare g i ws h, WritesQueue g i ws h,
 --         EnqueuesFrom g k ws h, DequeuesFrom g k ws h      the same by queue and spare part
 use Rattle.std.specs.Prelude.{◌≡◌, ◌⊎◌, ℕ, ◌+◌, ◌-◌, ◌<◌, ◌≤◌, nat_lt, nat_eq, min, if◌then◌else◌}
-use Rattle.std.specs.Prelude.{List, ◌++◌, length, take, drop}
+use Rattle.std.specs.Prelude.{List, [], ◌∷◌, ◌++◌, length, take, drop}
 use Rattle.net_ring.specs.Overwrite.{overwrite}
 
 -- what a contract sees of a ring: its storage, the index where it is read, and how many elements
@@ -120,6 +120,14 @@ module _ {T : Type 0} where
   -- ones
   abbrev pub with_dequeued : ℕ → RingState T → RingState T
   with_dequeued k g = ring g.storage (storage_index g k) (g.count - k)
+
+  -- x is written over the first spare element, which is enqueued
+  abbrev pub with_one_enqueued : RingState T → T → RingState T
+  with_one_enqueued g x = with_elements (with_enqueued 1 g) (write_at g) (x ∷ [])
+
+  -- the first element of the queue is dequeued, and x is written over it
+  abbrev pub with_one_dequeued : RingState T → T → RingState T
+  with_one_dequeued g x = with_elements (with_dequeued 1 g) g.read_at (x ∷ [])
 
   -- a ring with an empty queue is read from the storage's beginning on
   abbrev pub rewind_if_empty : RingState T → RingState T

@@ -7,8 +7,8 @@ use Rattle.net_ring.specs.Log.{Log, empty_log, log_accepted, log_left, log_dropp
 use Rattle.net_ring.specs.Ring.{RingState, ring, capacity, window, queue, spare, write_at}
 use Rattle.net_ring.specs.Ring.{contiguous_window, contiguous_queued, contiguous_queue}
 use Rattle.net_ring.specs.Ring.{contiguous_unallocated, contiguous_allocated, spare_index}
-use Rattle.net_ring.specs.Ring.{queue_index, last_dequeued_index, with_elements, with_elements_wrapping, with_enqueued}
-use Rattle.net_ring.specs.Ring.{with_dequeued, rewind_if_empty}
+use Rattle.net_ring.specs.Ring.{queue_index, with_elements, with_elements_wrapping, with_enqueued}
+use Rattle.net_ring.specs.Ring.{with_dequeued, with_one_enqueued, with_one_dequeued, rewind_if_empty}
 
 -- ---- calls
 -- what one call did, with the elements that it was given, lent or left. A call that returns `Full`
@@ -36,8 +36,6 @@ pub data RingCall (T : Type 0) : Type 0 where
   GetUnallocated : ℕ → List T → RingCall T
   -- `write_unallocated`: the offset, and the elements that there was room for
   WriteUnallocated : ℕ → List T → RingCall T
-  -- `last_dequeued_mut`, of elements that are free: those that were written
-  WriteLastDequeued : List T → RingCall T
   -- `pop_back`: the element that it returned
   PopBack : T → RingCall T
   -- `dequeue_slice` or `dequeue_allocated`: the elements that left
@@ -75,15 +73,12 @@ module _ {T : Type 0} where
       (length ws ≡ contiguous_window (rewind_if_empty g)) × (n ≤ length ws)
       × (h ≡ with_elements (with_enqueued n (rewind_if_empty g)) (write_at (rewind_if_empty g)) ws)
   Makes (EnqueueOne x) g h =
-      (window g ≢ 0) × (h ≡ with_elements (with_enqueued 1 g) (write_at g) (x ∷ []))
+      (window g ≢ 0) × (h ≡ with_one_enqueued g x)
   Makes (EnqueueErr x) g h = (window g ≢ 0) × (h ≡ with_elements g (write_at g) (x ∷ []))
   Makes (GetUnallocated i ws) g h =
       (length ws ≡ contiguous_unallocated g i (length ws)) × (h ≡ with_elements g (spare_index g i) ws)
   Makes (WriteUnallocated i ws) g h =
       (length ws ≤ window g - i) × (h ≡ with_elements_wrapping g (spare_index g i) ws)
-  Makes (WriteLastDequeued ws) g h =
-      (length ws ≤ window g) × (last_dequeued_index g (length ws) + length ws ≤ capacity g)
-      × (h ≡ with_elements g (last_dequeued_index g (length ws)) ws)
   Makes (PopBack x) g h =
       (queue g ≡ queue h ++ (x ∷ [])) × (h ≡ ring g.storage g.read_at (g.count - 1))
   Makes (Dequeue xs) g h =
@@ -96,7 +91,7 @@ module _ {T : Type 0} where
       × (h ≡ with_elements (with_dequeued n g) g.read_at ws)
   Makes (DequeueOne x y) g h =
       (g.count ≢ 0) × (queue g ≡ x ∷ drop 1 (queue g))
-      × (h ≡ with_elements (with_dequeued 1 g) g.read_at (y ∷ []))
+      × (h ≡ with_one_dequeued g y)
   Makes (DequeueErr y) g h = (g.count ≢ 0) × (h ≡ with_elements g g.read_at (y ∷ []))
   Makes (GetAllocatedMut i ws) g h =
       (length ws ≡ contiguous_allocated g i (length ws)) × (h ≡ with_elements g (queue_index g i) ws)
@@ -130,7 +125,6 @@ module _ {T : Type 0} where
   log_after (EnqueueErr x) log = log
   log_after (GetUnallocated i ws) log = log
   log_after (WriteUnallocated i ws) log = log
-  log_after (WriteLastDequeued ws) log = log
   log_after (PopBack x) log = log_without_last log
   log_after (Dequeue xs) log = log_left xs log
   log_after (DequeueMany xs ws) log = log_left xs log

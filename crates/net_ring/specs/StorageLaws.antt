@@ -29,13 +29,13 @@ module _ {T : Type 0} where
       ∙ ap (λ (n : ℕ). take n long) same
 
   -- one element replaced is a list of one written over
-  pub element_written-list : (xs : List T) (i : ℕ) (w : T)
+  pub element_set_written : (xs : List T) (i : ℕ) (w : T)
       → slice_set xs i w ≡ overwrite xs i (w ∷ [])
-  element_written-list [] zero w = refl
-  element_written-list [] (suc i) w = refl
-  element_written-list (x ∷ xs) zero w =
+  element_set_written [] zero w = refl
+  element_set_written [] (suc i) w = refl
+  element_set_written (x ∷ xs) zero w =
       ap (λ (l : List T). w ∷ l) (sym (take_all (length xs) xs (omega arith)))
-  element_written-list (x ∷ xs) (suc i) w = ap (λ (l : List T). x ∷ l) (element_written-list xs i w)
+  element_set_written (x ∷ xs) (suc i) w = ap (λ (l : List T). x ∷ l) (element_set_written xs i w)
 
   -- the elements of lent or owned storage after a list was written over a part of them
   pub part_written : (s : ManagedSlice T) (i : ℕ) (ws : List T)
@@ -46,8 +46,8 @@ module _ {T : Type 0} where
   -- and after one of them was replaced
   pub element_written : (s : ManagedSlice T) (i : ℕ) (w : T)
       → elements (with_element s i w) ≡ overwrite (elements s) i (w ∷ [])
-  element_written (Borrowed s) i w = element_written-list s.now i w
-  element_written (Owned v) i w = element_written-list v.items i w
+  element_written (Borrowed s) i w = element_set_written s.now i w
+  element_written (Owned v) i w = element_set_written v.items i w
 
   -- the same, as a list of which one element is set
   pub element_set : (s : ManagedSlice T) (i : ℕ) (w : T)

@@ -78,7 +78,7 @@ pub trait Storage<T> {
 impl<'a, T> Storage<T> for &'a mut [T] {
     ghost use denote.Ref.{at_last};
     ghost use Rattle.std.specs.Prelude.{refl};
-    ghost use Rattle.net_ring.specs.StorageLaws.{element_written-list};
+    ghost use Rattle.net_ring.specs.StorageLaws.{element_set_written};
 
     ghost elements = { λ s. s.now };
 
@@ -109,7 +109,7 @@ impl<'a, T> Storage<T> for &'a mut [T] {
 
     ghost part_written = { λ s i ws. refl };
 
-    ghost element_written = { λ s i w. element_written-list s.now i w };
+    ghost element_written = { λ s i w. element_set_written s.now i w };
 
     ghost element_set = { λ s i w. refl };
 }
@@ -117,7 +117,7 @@ impl<'a, T> Storage<T> for &'a mut [T] {
 impl<T> Storage<T> for Vec<T> {
     ghost use Rattle.std.specs.Vec.{with_items_from, with_item};
     ghost use Rattle.std.specs.Prelude.{refl};
-    ghost use Rattle.net_ring.specs.StorageLaws.{vec-part_written, element_written-list};
+    ghost use Rattle.net_ring.specs.StorageLaws.{vec-part_written, element_set_written};
 
     ghost elements = { λ v. v.items };
 
@@ -147,7 +147,7 @@ impl<T> Storage<T> for Vec<T> {
 
     ghost part_written = { vec-part_written };
 
-    ghost element_written = { λ s i w. element_written-list s.items i w };
+    ghost element_written = { λ s i w. element_set_written s.items i w };
 
     ghost element_set = { λ s i w. refl };
 }

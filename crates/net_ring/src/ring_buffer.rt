@@ -1,41 +1,54 @@
 //! A ring of elements over storage that is lent or owned.
-ghost use Rattle.std.specs.Prelude.{◌≡◌, ◌≤◌, ◌<◌, ◌-◌, ◌+◌, ◌^◌, ◌==◌, ◌↔◌, length, []};
-ghost use Rattle.std.specs.Prelude.{IsTrue};
+ghost use Rattle.std.specs.Prelude.{◌≡◌, ◌≢◌, ◌↔◌, ◌≤◌, ◌<◌, ◌==◌, ◌-◌, ◌+◌, ◌^◌, ◌∷◌, ◌++◌, []};
+ghost use Rattle.std.specs.Prelude.{ℕ, List, length, take, drop, min, slice_get, slice_index_or};
+ghost use Rattle.std.specs.Prelude.{IsTrue, IsErr, IsNone, IsSome, OnErr, OnOk, IfOk, IfSome, is_ok};
+ghost use Rattle.std.specs.Prelude.{if◌then◌else◌, option_copied};
+ghost use Rattle.std.specs.Borrow.{sem};
+ghost use Rattle.std.specs.Fn.{FnOnceTakesAtMut, FnOnceReturnsAtMut};
 ghost use Rattle.std.specs.List.{AllZip};
-ghost use Rattle.net_ring.specs.Ring.{ring, capacity, window, queue, spare};
-ghost use Rattle.net_ring.specs.Ring.{write_at, contiguous_window, rewind_if_empty};
-ghost use Rattle.net_ring.specs.Ring.{IsWellFormed};
-ghost use Rattle.net_ring.specs.RingHistory.{Makes, Clear, Reset, RewindIfEmpty};
+ghost use Rattle.net_ring.specs.Ring.{ring, capacity, window, queue, spare, write_at, IsWellFormed};
+ghost use Rattle.net_ring.specs.Ring.{contiguous_window, contiguous_spare, contiguous_unallocated, spare_index};
+ghost use Rattle.net_ring.specs.Ring.{contiguous_queued, contiguous_queue, contiguous_allocated, queue_index};
+ghost use Rattle.net_ring.specs.Ring.{with_elements, with_elements_wrapping, with_enqueued, with_dequeued};
+ghost use Rattle.net_ring.specs.Ring.{with_one_enqueued, with_one_dequeued, rewind_if_empty};
+ghost use Rattle.net_ring.specs.Ring.{Enqueues, Dequeues, WritesSpare, WritesQueue};
+ghost use Rattle.net_ring.specs.RingCalls.{TakesFirstOf, CalledOnNext, CalledOnFirst};
+ghost use Rattle.net_ring.specs.RingCalls.{CountsWithin, CalledOnSpare, CalledOnQueue};
 ghost use Rattle.net_ring.specs.RingHead.{place, IsSound, ring_at};
+ghost use Rattle.net_ring.specs.RingHistory.{Makes, Clear, Reset, RewindIfEmpty, EnqueueOne, EnqueueErr};
+ghost use Rattle.net_ring.specs.RingHistory.{DequeueOne, DequeueErr, PopBack, EnqueueMany, EnqueueManyWith};
+ghost use Rattle.net_ring.specs.RingHistory.{DequeueMany, DequeueManyWith, EnqueueSlice, Dequeue};
+ghost use Rattle.net_ring.specs.RingHistory.{GetUnallocated, WriteUnallocated, EnqueueUnallocated};
+ghost use Rattle.net_ring.specs.RingHistory.{GetAllocatedMut};
 
+use crate::error::{Empty, Full};
 use crate::head::RingHead;
 use crate::managed::{ManagedSlice, Storage};
 use crate::resettable::Resettable;
 pub use iter::Iter;
 use std::marker::{Model, PhantomData};
 
-mod allocated;
-mod ends;
 mod iter;
 pub mod laws;
-mod many;
-mod one;
-mod slices;
-mod unallocated;
 
 /// A ring of elements over any storage; [`RingBuffer`] is the one over a [`ManagedSlice`].
 ///
 /// Contracts see a ring as its storage, the index where it is read and how many elements are
 /// queued. The queued elements, in order, are its queue; the rest of the storage is its spare part.
-/// Both wrap at the storage's end. Only the calls whose element type is `Copy` copy elements. The
-/// others lend parts of the storage, as `&mut` wherever they can, so that a packet can be filled in
-/// or changed in place.
+/// Both wrap at the storage's end:
+///
+/// ```text
+/// index      0 1 2 3 4 5 6 7
+/// storage    f g . . . c d e     read from index 5 on: the queue is c d e f g
+/// ```
+///
+/// Only the calls whose element type is `Copy` copy elements. The others lend parts of the storage,
+/// as `&mut` wherever they can, so that a packet can be filled in or changed in place.
 #[derive(Debug)]
 pub struct RingOver<T, S: Storage<T>> {
-    // Invariant: the read index is one of the storage, or 0 if that has no elements. No more elements
-    // are queued than the storage has.
+    // Invariant: the head is sound for the storage.
     storage: S,
-    place: RingHead,
+    head: RingHead,
     elements: PhantomData<T>,
 }
 
@@ -62,12 +75,12 @@ impl<T, S: Storage<T>> Model for RingOver<T, S> {
 
     ghost Value = { RingState T };
 
-    ghost use Rattle.net_ring.specs.RingView.{ring_state};
     ghost use Rattle.net_ring.specs.Ring.{IsWellFormed};
+    ghost use Rattle.net_ring.specs.RingHead.{ring_at};
 
-    ghost view = { ring_state S.elements };
+    ghost view = { λ a. ring_at (S.elements a.storage) a.head };
 
-    ghost invariant = { λ a. IsWellFormed (ring_state S.elements a) };
+    ghost invariant = { λ a. IsWellFormed (ring_at (S.elements a.storage) a.head) };
 }
 
 /// Written by hand, so that only the storage has to be `Drop`, and not `T`.
@@ -75,10 +88,1059 @@ impl<T, S: Storage<T> + Drop> Drop for RingOver<T, S> {
     fn drop(self) {
         let RingOver {
             storage,
-            place: _,
+            head: _,
             elements: _,
         } = self;
         drop(storage);
+    }
+}
+
+impl<'a, T> RingBuffer<'a, T> {
+    ghost use Rattle.net_ring.specs.Managed.{elements};
+
+    /// Returns an empty ring over the storage, whose elements stay as they are.
+    pub fn new(storage: ManagedSlice<'a, T>) -> Self
+        ensures ring { result ≡ ring (elements storage.entry) 0 0 }
+        ensures parts { (queue result ≡ []) × (spare result ≡ elements storage.entry) }
+    {
+        RingOver::over(storage)
+    }
+}
+
+/// Making, emptying and measuring a ring.
+impl<T, S: Storage<T>> RingOver<T, S> {
+    /// Returns an empty ring over storage of any type, whose elements stay as they are.
+    ///
+    /// smoltcp has no such call: [`RingBuffer::new`] is the one for a [`ManagedSlice`].
+    pub const fn over(storage: S) -> Self
+        ensures ring { result ≡ ring (S.elements storage) 0 0 }
+        ensures parts { (queue result ≡ []) × (spare result ≡ S.elements storage) }
+    {
+        RingOver {
+            storage,
+            head: RingHead::new(),
+            elements: PhantomData,
+        }
+    }
+
+    /// Returns the ring of a storage and of a head, as [`into_parts`] returns them.
+    ///
+    /// smoltcp has no such call.
+    ///
+    /// # Requires
+    ///
+    /// The head is that of a ring of as many elements as the storage has, as [`RingHead::is_sound`]
+    /// tells.
+    ///
+    /// [`into_parts`]: RingOver::into_parts
+    pub fn from_parts(storage: S, head: RingHead) -> Self
+        requires sound { IsSound (length (S.elements storage)) head }
+        ensures ring { result ≡ ring_at (S.elements storage) head }
+    {
+        let capacity = storage.count();
+        prove!(
+            head.is_sound(capacity),
+            "the head is not that of this storage"
+        );
+        RingOver {
+            storage,
+            head,
+            elements: PhantomData,
+        }
+    }
+
+    /// Returns the ring's storage and its head, of which [`from_parts`] makes the same ring.
+    ///
+    /// smoltcp has no such call.
+    ///
+    /// [`from_parts`]: RingOver::from_parts
+    pub fn into_parts(self) -> (S, RingHead)
+        ensures ring { ring_at (S.elements result.0) result.1 ≡ self }
+        ensures sound { IsSound (length (S.elements result.0)) result.1 }
+    {
+        let RingOver {
+            storage,
+            head,
+            elements: _,
+        } = self;
+        (storage, head)
+    }
+
+    /// Returns the index where the ring is read, and how many elements are queued.
+    ///
+    /// smoltcp has no such call.
+    #[inline]
+    pub fn head(&self) -> RingHead
+        ensures head { result ≡ place self.now.read_at self.now.count }
+        ensures sound { IsSound (capacity self.now) result }
+    {
+        self.head
+    }
+
+    /// Empties the ring, and leaves the storage as it is.
+    ///
+    /// ```
+    /// # use net_base::storage::RingBuffer;
+    /// # let mut storage = [0u8; 4];
+    /// # let mut ring = RingBuffer::new(&mut storage[..]);
+    /// ring.enqueue_unallocated(3);
+    /// ring.clear();
+    /// assert!(ring.is_empty());
+    /// ```
+    #[tactic(auto, unfolding(crate::specs::RingHistory::Makes))]
+    pub fn clear(&mut self)
+        ensures ring { self.new ≡ ring self.old.storage 0 0 }
+        ensures parts { (queue self.new ≡ []) × (spare self.new ≡ self.old.storage) }
+        ensures call { Makes Clear self.old self.new }
+    {
+        self.head.clear();
+    }
+
+    /// Returns how many elements the ring has room for, queued ones included.
+    ///
+    /// ```
+    /// # use net_base::storage::RingBuffer;
+    /// let mut storage = [0u8; 4];
+    /// assert_eq!(RingBuffer::new(&mut storage[..]).capacity(), 4);
+    /// ```
+    #[inline]
+    pub fn capacity(&self) -> usize
+        ensures capacity { result ≡ capacity self.now }
+        ensures well_formed { IsWellFormed self.now }
+        ensures fits { capacity self.now < 2 ^ 64 }
+    {
+        self.storage.count()
+    }
+
+    /// Empties the ring, and resets each element of the storage, which is left as its type states.
+    ///
+    /// ```
+    /// # use net_base::storage::{Resettable, RingBuffer};
+    /// # struct Slot(u32);
+    /// # impl Resettable for Slot { fn reset(&mut self) { self.0 = 0; } }
+    /// let mut slots = [Slot(7), Slot(8)];
+    /// RingBuffer::new(&mut slots[..]).reset();
+    /// assert_eq!((slots[0].0, slots[1].0), (0, 0));
+    /// ```
+    #[tactic(auto, unfolding(crate::specs::RingHistory::Makes))]
+    pub fn reset(&mut self)
+    where
+        T: Resettable,
+        ensures ring { self.new ≡ ring self.new.storage 0 0 }
+        ensures parts { (queue self.new ≡ []) × (spare self.new ≡ self.new.storage) }
+        ensures reset { AllZip T.IsReset self.old.storage self.new.storage }
+        ensures call { Makes (Reset self.new.storage) self.old self.new }
+    {
+        let count = self.capacity();
+        self.clear();
+        reset_each(self.storage.part_mut(0, count));
+    }
+
+    /// Returns how many elements are queued.
+    ///
+    /// ```
+    /// # use net_base::storage::RingBuffer;
+    /// # let mut storage = [0u8; 4];
+    /// # let mut ring = RingBuffer::new(&mut storage[..]);
+    /// ring.enqueue_unallocated(3);
+    /// assert_eq!(ring.len(), 3);
+    /// ```
+    #[inline]
+    pub fn len(&self) -> usize
+        ensures count { result ≡ self.now.count }
+        ensures queue { result ≡ length (queue self.now) }
+        ensures within { result ≤ capacity self.now }
+    {
+        self.head.length
+    }
+
+    /// Returns how many elements can still be enqueued.
+    ///
+    /// ```
+    /// # use net_base::storage::RingBuffer;
+    /// # let mut storage = [0u8; 4];
+    /// # let mut ring = RingBuffer::new(&mut storage[..]);
+    /// ring.enqueue_unallocated(3);
+    /// assert_eq!(ring.window(), 1);
+    /// ```
+    #[inline]
+    pub fn window(&self) -> usize
+        ensures window { result ≡ window self.now }
+        ensures spare { result ≡ length (spare self.now) }
+        ensures sum { self.now.count + result ≡ capacity self.now }
+    {
+        self.capacity() - self.len()
+    }
+
+    /// Returns how many elements can be enqueued before the storage's end.
+    ///
+    /// Into an empty ring `enqueue_many` can enqueue more, since it first moves the read index to the
+    /// storage's beginning.
+    ///
+    /// ```
+    /// # use net_base::storage::RingBuffer;
+    /// # let mut storage = [0u8; 4];
+    /// # let mut ring = RingBuffer::new(&mut storage[..]);
+    /// ring.enqueue_unallocated(3);
+    /// ring.dequeue_allocated(2);
+    /// assert_eq!((ring.window(), ring.contiguous_window()), (3, 1));
+    /// ```
+    pub fn contiguous_window(&self) -> usize
+        ensures count { result ≡ contiguous_window self.now }
+        ensures within { (result ≤ window self.now)
+            × (write_at self.now + result ≤ capacity self.now) }
+    {
+        self.head.contiguous_window(self.capacity())
+    }
+
+    /// Returns whether no element is queued.
+    ///
+    /// ```
+    /// # use net_base::storage::RingBuffer;
+    /// let mut storage = [0u8; 4];
+    /// assert!(RingBuffer::new(&mut storage[..]).is_empty());
+    /// ```
+    #[inline]
+    pub fn is_empty(&self) -> bool
+        ensures count { result ≡ (self.now.count == 0) }
+        ensures none_queued { IsTrue result ↔ (queue self.now ≡ []) }
+        ensures sum { self.now.count + window self.now ≡ capacity self.now }
+    {
+        self.len() == 0
+    }
+
+    /// Returns whether no element can be enqueued.
+    ///
+    /// ```
+    /// # use net_base::storage::RingBuffer;
+    /// let mut storage = [0u8; 0];
+    /// assert!(RingBuffer::new(&mut storage[..]).is_full());
+    /// ```
+    #[inline]
+    pub fn is_full(&self) -> bool
+        ensures room { result ≡ (window self.now == 0) }
+        ensures none_spare { IsTrue result ↔ (spare self.now ≡ []) }
+        ensures sum { self.now.count + window self.now ≡ capacity self.now }
+    {
+        // `window() == 0` says the same. This form tells the compiler that the length of a ring
+        // that isn't full is not the greatest one, so that adding 1 can't make it 0.
+        self.len() >= self.capacity()
+    }
+
+    /// Moves the read index of an empty ring to the storage's beginning: then all its free elements
+    /// are contiguous. A ring with queued elements stays as it is.
+    ///
+    /// smoltcp has no such call. It is for callers that write free elements before these are enqueued.
+    #[inline]
+    #[tactic(auto, unfolding(crate::specs::RingHistory::Makes))]
+    pub fn rewind_if_empty(&mut self)
+        ensures ring { self.new ≡ rewind_if_empty self.old }
+        ensures call { Makes RewindIfEmpty self.old self.new }
+        ensures fits { capacity self.new < 2 ^ 64 }
+    {
+        // Called only for its clause, by which `fits` is known.
+        let _capacity = self.capacity();
+        self.head.rewind_if_empty();
+    }
+}
+
+/// One element at a time: if there is none, the refusal is `Full` or `Empty`.
+impl<T, S: Storage<T>> RingOver<T, S> {
+    ghost use Rattle.net_ring.specs.RingLends.{lends_one, lends_one_if};
+
+    /// Calls `f` on the next free element, enqueues it if `f` returns `Ok`, and returns what `f`
+    /// returned.
+    ///
+    /// What `f` wrote stays in the storage in both cases. A full ring returns `Full`, stays as it
+    /// is and does not call `f`.
+    ///
+    /// ```
+    /// # use net_base::storage::RingBuffer;
+    /// # let mut storage = [0u8; 4];
+    /// # let mut ring = RingBuffer::new(&mut storage[..]);
+    /// assert_eq!(ring.enqueue_one_with(|byte| { *byte = 7; Ok::<_, ()>(*byte) }), Ok(Ok(7)));
+    /// assert_eq!(ring.enqueue_one_with(|_| Err::<(), _>("no")), Ok(Err("no")));
+    /// assert_eq!(ring.len(), 1);
+    /// ```
+    ///
+    /// # Requires
+    ///
+    /// `f` may be called on the next free element, if there is one.
+    #[tactic(auto, unfolding(crate::specs::RingHistory::Makes))]
+    pub fn enqueue_one_with<R, E, F: FnOnce(&mut T) -> Result<R, E>>(
+        &mut self,
+        f: F,
+    ) -> Result<Result<R, E>, Full>
+        requires callable { TakesFirstOf F.FnOnce f (spare self.old) }
+        ensures full { IsErr result ↔ (window self.old ≡ 0) }
+        ensures unchanged { OnErr result (self.new ≡ self.old) }
+        ensures called { IfOk result (λ answer. CalledOnNext F.FnOnce f self.old answer self.new) }
+        ensures call { IfOk result (λ answer. (x : T) × (y : T) × FnOnceReturnsAtMut F.FnOnce f x answer y
+            × Makes (if is_ok answer then EnqueueOne y else EnqueueErr y) self.old self.new) }
+        ensures room { IfOk result (λ answer.
+            window self.new + (if is_ok answer then 1 else 0) ≡ window self.old) }
+        ensures capacity { capacity self.new ≡ capacity self.old }
+    {
+        if self.is_full() {
+            return Err(Full);
+        }
+        let capacity = self.capacity();
+        let at = self.head.index(capacity, self.head.length);
+        let answer = f(self.storage.element_mut(at));
+        if answer.is_ok() {
+            self.head.enqueue(capacity, 1);
+        }
+        Ok(answer)
+    }
+
+    /// Enqueues the next free element, as it is, and lends it.
+    ///
+    /// A full ring returns `Full` and stays as it is.
+    ///
+    /// ```
+    /// # use net_base::storage::{Full, RingBuffer};
+    /// # let mut storage = [0u8; 1];
+    /// # let mut ring = RingBuffer::new(&mut storage[..]);
+    /// *ring.enqueue_one()? = 7;
+    /// assert_eq!(ring.enqueue_one(), Err(Full));
+    /// # Ok::<(), Full>(())
+    /// ```
+    pub fn enqueue_one(&mut self) -> Result<&mut T, Full>
+        ensures* writes_back { sem 𝓛 (lends_one_if T.row S.row S.Storage self.entry
+            (with_enqueued 1 self.old) (write_at self.old) result) }
+        ensures full { IsErr result ↔ (window self.old ≡ 0) }
+        ensures value { IfOk result (λ r. spare self.old ≡ r.now ∷ drop 1 (spare self.old)) }
+        ensures enqueued { window self.old ≢ 0 → (w : T) → Enqueues self.old (w ∷ []) (with_one_enqueued self.old w) }
+        ensures call { window self.old ≢ 0 → (w : T) → Makes (EnqueueOne w) self.old (with_one_enqueued self.old w) }
+        ensures room { window self.old ≢ 0 → (w : T) → window (with_one_enqueued self.old w) + 1 ≡ window self.old }
+        ensures capacity { window self.old ≢ 0 → (w : T) → capacity (with_one_enqueued self.old w) ≡ capacity self.old }
+    {
+        if self.is_full() {
+            return Err(Full);
+        }
+        Ok(self.enqueue_next())
+    }
+
+    /// Enqueues the next free element of a ring that has room, and lends it. It is a function of its
+    /// own, since `enqueue_one` lends by the clause of one call.
+    fn enqueue_next(&mut self) -> &mut T
+        requires { window self.old ≢ 0 }
+        ensures* writes_back { sem 𝓛 (lends_one T.row S.row S.Storage self.entry
+            (with_enqueued 1 self.old) (write_at self.old) result) }
+        ensures value { spare self.old ≡ result.now ∷ drop 1 (spare self.old) }
+        ensures enqueued { (w : T) → Enqueues self.old (w ∷ []) (with_one_enqueued self.old w) }
+        ensures call { (w : T) → Makes (EnqueueOne w) self.old (with_one_enqueued self.old w) }
+        ensures room { (w : T) → window (with_one_enqueued self.old w) + 1 ≡ window self.old }
+        ensures capacity { (w : T) → capacity (with_one_enqueued self.old w) ≡ capacity self.old }
+    {
+        let capacity = self.capacity();
+        let at = self.head.index(capacity, self.head.length);
+        self.head.enqueue(capacity, 1);
+        self.storage.element_mut(at)
+    }
+
+    /// Calls `f` on the first element of the queue, dequeues it if `f` returns `Ok`, and returns
+    /// what `f` returned.
+    ///
+    /// What `f` wrote stays in the storage in both cases. An empty ring returns `Empty`, stays as
+    /// it is and does not call `f`.
+    ///
+    /// ```
+    /// # use net_base::storage::{Empty, RingBuffer};
+    /// # let mut storage = [0u8; 4];
+    /// # let mut ring = RingBuffer::new(&mut storage[..]);
+    /// assert_eq!(ring.enqueue_slice(b"a"), 1);
+    /// assert_eq!(ring.dequeue_one_with(|_| Err::<(), _>("later")), Ok(Err("later")));
+    /// assert_eq!(ring.dequeue_one_with(|byte| Ok::<_, ()>(*byte)), Ok(Ok(b'a')));
+    /// assert_eq!(ring.dequeue_one_with(|byte| Ok::<_, ()>(*byte)), Err(Empty));
+    /// ```
+    ///
+    /// # Requires
+    ///
+    /// `f` may be called on the first element, if there is one.
+    #[tactic(auto, unfolding(crate::specs::RingHistory::Makes))]
+    pub fn dequeue_one_with<R, E, F: FnOnce(&mut T) -> Result<R, E>>(
+        &mut self,
+        f: F,
+    ) -> Result<Result<R, E>, Empty>
+        requires callable { TakesFirstOf F.FnOnce f (queue self.old) }
+        ensures empty { IsErr result ↔ (self.old.count ≡ 0) }
+        ensures unchanged { OnErr result (self.new ≡ self.old) }
+        ensures called { IfOk result (λ answer. CalledOnFirst F.FnOnce f self.old answer self.new) }
+        ensures call { IfOk result (λ answer. (x : T) × (y : T) × FnOnceReturnsAtMut F.FnOnce f x answer y
+            × Makes (if is_ok answer then DequeueOne x y else DequeueErr y) self.old self.new) }
+        ensures room { IfOk result (λ answer.
+            window self.new ≡ window self.old + (if is_ok answer then 1 else 0)) }
+        ensures capacity { capacity self.new ≡ capacity self.old }
+    {
+        if self.is_empty() {
+            return Err(Empty);
+        }
+        let capacity = self.capacity();
+        let answer = f(self.storage.element_mut(self.head.read_at));
+        if answer.is_ok() {
+            self.head.dequeue_contiguous(capacity, 1);
+        }
+        Ok(answer)
+    }
+
+    /// Dequeues the first element of the queue, and lends it.
+    ///
+    /// An empty ring returns `Empty` and stays as it is.
+    ///
+    /// ```
+    /// # use net_base::storage::{Empty, RingBuffer};
+    /// # let mut storage = [0u8; 4];
+    /// # let mut ring = RingBuffer::new(&mut storage[..]);
+    /// assert_eq!(ring.enqueue_slice(b"a"), 1);
+    /// assert_eq!(ring.dequeue_one(), Ok(&mut b'a'));
+    /// assert_eq!(ring.dequeue_one(), Err(Empty));
+    /// ```
+    pub fn dequeue_one(&mut self) -> Result<&mut T, Empty>
+        ensures* writes_back { sem 𝓛 (lends_one_if T.row S.row S.Storage self.entry
+            (with_dequeued 1 self.old) self.old.read_at result) }
+        ensures empty { IsErr result ↔ (self.old.count ≡ 0) }
+        ensures value { IfOk result (λ r. queue self.old ≡ r.now ∷ drop 1 (queue self.old)) }
+        ensures dequeued { self.old.count ≢ 0 → (w : T) → Dequeues self.old 1 (w ∷ []) (with_one_dequeued self.old w) }
+        ensures call { IfOk result (λ r. (w : T) → Makes (DequeueOne r.now w) self.old (with_one_dequeued self.old w)) }
+        ensures room { self.old.count ≢ 0 → (w : T) → window (with_one_dequeued self.old w) ≡ window self.old + 1 }
+        ensures capacity { self.old.count ≢ 0 → (w : T) → capacity (with_one_dequeued self.old w) ≡ capacity self.old }
+    {
+        if self.is_empty() {
+            return Err(Empty);
+        }
+        Ok(self.dequeue_first())
+    }
+
+    /// Dequeues the first element of a ring that is not empty, and lends it. It is a function of its
+    /// own, since `dequeue_one` lends by the clause of one call.
+    fn dequeue_first(&mut self) -> &mut T
+        requires { self.old.count ≢ 0 }
+        ensures* writes_back { sem 𝓛 (lends_one T.row S.row S.Storage self.entry
+            (with_dequeued 1 self.old) self.old.read_at result) }
+        ensures value { queue self.old ≡ result.now ∷ drop 1 (queue self.old) }
+        ensures dequeued { (w : T) → Dequeues self.old 1 (w ∷ []) (with_one_dequeued self.old w) }
+        ensures call { (w : T) → Makes (DequeueOne result.now w) self.old (with_one_dequeued self.old w) }
+        ensures room { (w : T) → window (with_one_dequeued self.old w) ≡ window self.old + 1 }
+        ensures capacity { (w : T) → capacity (with_one_dequeued self.old w) ≡ capacity self.old }
+    {
+        let at = self.head.read_at;
+        self.head.dequeue_contiguous(self.storage.count(), 1);
+        self.storage.element_mut(at)
+    }
+
+    /// Takes the last element of the queue off, and returns it; `None` if it is empty. The storage
+    /// stays as it is, so the element is the next free one. smoltcp has no such call.
+    ///
+    /// ```
+    /// # use net_base::storage::RingBuffer;
+    /// # let mut storage = [0u8; 4];
+    /// # let mut ring = RingBuffer::new(&mut storage[..]);
+    /// assert_eq!(ring.enqueue_slice(b"abc"), 3);
+    /// assert_eq!((ring.pop_back(), ring.back()), (Some(b'c'), Some(&b'b')));
+    /// ```
+    #[tactic(auto, unfolding(crate::specs::RingHistory::Makes))]
+    pub fn pop_back(&mut self) -> Option<T>
+    where
+        T: Copy,
+        ensures empty { IsNone result ↔ (self.old.count ≡ 0) }
+        ensures queue { IfSome result (λ x. queue self.old ≡ queue self.new ++ x ∷ []) }
+        ensures spare { IfSome result (λ x. spare self.new ≡ x ∷ spare self.old) }
+        ensures room { IfSome result (λ x. window self.new ≡ window self.old + 1) }
+        ensures ring { self.new ≡ ring self.old.storage self.old.read_at (self.old.count - 1) }
+        ensures call { IfSome result (λ x. Makes (PopBack x) self.old self.new) }
+    {
+        let last = *self.back()?;
+        self.head.drop_last(1);
+        Some(last)
+    }
+}
+
+/// One element that is enqueued by value.
+impl<T: Drop, S: Storage<T>> RingOver<T, S> {
+    /// Enqueues an element, over the next free one.
+    ///
+    /// A full ring returns `Full`, stays as it is and drops the element. smoltcp has no such call.
+    ///
+    /// ```
+    /// # use net_base::storage::{Full, RingBuffer};
+    /// # let mut storage = [0u8; 1];
+    /// # let mut ring = RingBuffer::new(&mut storage[..]);
+    /// assert_eq!((ring.push_one(7), ring.push_one(8)), (Ok(()), Err(Full)));
+    /// ```
+    #[tactic(auto, unfolding(crate::specs::RingHistory::Makes))]
+    pub fn push_one(&mut self, element: T) -> Result<(), Full>
+        ensures full { IsErr result ↔ (window self.old ≡ 0) }
+        ensures unchanged { OnErr result (self.new ≡ self.old) }
+        ensures queue { OnOk result (queue self.new ≡ queue self.old ++ element ∷ []) }
+        ensures room { OnOk result (window self.new + 1 ≡ window self.old) }
+        ensures capacity { capacity self.new ≡ capacity self.old }
+        ensures ring { OnOk result (self.new ≡ with_one_enqueued self.old element) }
+        ensures call { OnOk result (Makes (EnqueueOne element) self.old self.new) }
+    {
+        *self.enqueue_one()? = element;
+        Ok(())
+    }
+}
+
+/// Many elements at a time: those that are lent are contiguous, those that are copied wrap at the
+/// storage's end.
+impl<T, S: Storage<T>> RingOver<T, S> {
+    ghost use Rattle.net_ring.specs.RingLends.{lends_many};
+
+    /// Calls `f` on the contiguous free elements that come next, enqueues as many of them as `f`
+    /// counts, and returns what `f` returned.
+    ///
+    /// An empty ring first moves its read index to the storage's beginning. What `f` wrote stays in
+    /// the storage, even past the elements that it counted.
+    ///
+    /// ```
+    /// # use net_base::storage::RingBuffer;
+    /// # let mut storage = [0u8; 4];
+    /// # let mut ring = RingBuffer::new(&mut storage[..]);
+    /// assert_eq!(ring.enqueue_many_with(|free| { free[..2].copy_from_slice(b"ab"); (2, free.len()) }), (2, 4));
+    /// assert_eq!(ring.get_allocated(0, 4), b"ab");
+    /// ```
+    ///
+    /// # Requires
+    ///
+    /// `f` may be called on the part that it is lent, and counts at most its length.
+    pub fn enqueue_many_with<R, F: FnOnce(&mut [T]) -> (usize, R)>(&mut self, f: F) -> (usize, R)
+        requires callable { FnOnceTakesAtMut F.FnOnce f (contiguous_spare (rewind_if_empty self.old)) }
+        requires count { CountsWithin F.FnOnce f (contiguous_spare (rewind_if_empty self.old))
+            (contiguous_window (rewind_if_empty self.old)) }
+        ensures called { CalledOnSpare F.FnOnce f (rewind_if_empty self.old) result self.new }
+        ensures call { (ws : List T)
+            × FnOnceReturnsAtMut F.FnOnce f (contiguous_spare (rewind_if_empty self.old)) result ws
+            × Makes (EnqueueManyWith ws result.0) self.old self.new }
+    {
+        self.rewind_if_empty();
+        let capacity = self.capacity();
+        let from = self.head.index(capacity, self.head.length);
+        let to = from + self.head.contiguous_window(capacity);
+        let answer = f(self.storage.part_mut(from, to));
+        prove!(answer.0 <= to - from, "more elements than were lent");
+        self.head.enqueue(capacity, answer.0);
+        answer
+    }
+
+    /// Enqueues at most `size` elements, as they are, and lends them: as many as are contiguous.
+    ///
+    /// An empty ring first moves its read index to the storage's beginning.
+    ///
+    /// ```
+    /// # use net_base::storage::RingBuffer;
+    /// # let mut storage = [0u8; 4];
+    /// # let mut ring = RingBuffer::new(&mut storage[..]);
+    /// ring.enqueue_many(3).copy_from_slice(b"abc");
+    /// assert_eq!(ring.enqueue_many(3).len(), 1);
+    /// ```
+    pub fn enqueue_many(&mut self, size: usize) -> &mut [T]
+        ensures* writes_back { sem 𝓛 (lends_many T.row S.row S.Storage self.entry
+            (with_enqueued (min size (contiguous_window (rewind_if_empty self.old))) (rewind_if_empty self.old))
+            (write_at (rewind_if_empty self.old)) result) }
+        ensures count { length result.now ≡ min size (contiguous_window (rewind_if_empty self.old)) }
+        ensures not_empty { window self.old ≢ 0 → 0 < size → 0 < length result.now }
+        ensures value { result.now ≡ take (length result.now) (spare (rewind_if_empty self.old)) }
+        ensures stored { let g = rewind_if_empty self.old in
+            result.now ≡ take (length result.now) (drop (write_at g) g.storage) }
+        ensures enqueued { let g = rewind_if_empty self.old in let k = min size (contiguous_window g) in
+            (ws : List T) → length ws ≡ k → Enqueues g ws
+            (with_elements (with_enqueued k g) (write_at g) ws) }
+        ensures call { let g = rewind_if_empty self.old in let k = min size (contiguous_window g) in
+            (ws : List T) → length ws ≡ k → Makes (EnqueueMany ws) self.old
+            (with_elements (with_enqueued k g) (write_at g) ws) }
+        ensures room { let g = rewind_if_empty self.old in let k = min size (contiguous_window g) in
+            (ws : List T) → window (with_elements (with_enqueued k g) (write_at g) ws) + k
+            ≡ window self.old }
+        ensures capacity { let g = rewind_if_empty self.old in let k = min size (contiguous_window g) in
+            (ws : List T) → capacity (with_elements (with_enqueued k g) (write_at g) ws)
+            ≡ capacity self.old }
+    {
+        let span = self.head.enqueue_many(self.storage.count(), size);
+        self.storage.part_mut(span.from, span.from + span.count)
+    }
+
+    /// Enqueues as many elements of `data` as there is room for, and returns how many.
+    ///
+    /// An empty ring first moves its read index to the storage's beginning, even if nothing is
+    /// enqueued.
+    ///
+    /// ```
+    /// # use net_base::storage::RingBuffer;
+    /// # let mut storage = [0u8; 4];
+    /// # let mut ring = RingBuffer::new(&mut storage[..]);
+    /// assert_eq!(ring.enqueue_slice(b"abcdef"), 4);
+    /// assert_eq!(ring.get_allocated(0, 4), b"abcd");
+    /// ```
+    pub fn enqueue_slice(&mut self, data: &[T]) -> usize
+    where
+        T: Copy,
+        ensures count { result ≡ min (length «data».now) (window self.old) }
+        ensures ring { let g = rewind_if_empty self.old in self.new
+            ≡ with_enqueued result (with_elements_wrapping g (write_at g) (take result «data».now)) }
+        ensures enqueued { Enqueues (rewind_if_empty self.old)
+            (take result «data».now) self.new }
+        ensures queue { queue self.new ≡ queue self.old ++ take result «data».now }
+        ensures call { Makes (EnqueueSlice (take result «data».now)) self.old self.new }
+        ensures same { (self.new.count ≡ self.old.count + result)
+            × (capacity self.new ≡ capacity self.old) }
+    {
+        let capacity = self.storage.count();
+        self.head
+            .enqueue_slice(self.storage.part_mut(0, capacity), data)
+    }
+
+    /// Calls `f` on the contiguous elements at the head of the queue, dequeues as many of them as
+    /// `f` counts, and returns what `f` returned.
+    ///
+    /// What `f` wrote stays in the storage.
+    ///
+    /// ```
+    /// # use net_base::storage::RingBuffer;
+    /// # let mut storage = [0u8; 4];
+    /// # let mut ring = RingBuffer::new(&mut storage[..]);
+    /// assert_eq!(ring.enqueue_slice(b"abc"), 3);
+    /// assert_eq!(ring.dequeue_many_with(|queued| (2, queued.len())), (2, 3));
+    /// assert_eq!(ring.get_allocated(0, 4), b"c");
+    /// ```
+    ///
+    /// # Requires
+    ///
+    /// `f` may be called on the part that it is lent, and counts at most its length.
+    pub fn dequeue_many_with<R, F: FnOnce(&mut [T]) -> (usize, R)>(&mut self, f: F) -> (usize, R)
+        requires callable { FnOnceTakesAtMut F.FnOnce f (contiguous_queue self.old) }
+        requires count { CountsWithin F.FnOnce f (contiguous_queue self.old)
+            (contiguous_queued self.old) }
+        ensures called { CalledOnQueue F.FnOnce f self.old result self.new }
+        ensures call { (ws : List T)
+            × FnOnceReturnsAtMut F.FnOnce f (contiguous_queue self.old) result ws
+            × Makes (DequeueManyWith (contiguous_queue self.old) ws result.0) self.old self.new }
+    {
+        let capacity = self.capacity();
+        let from = self.head.read_at;
+        let to = from + self.head.contiguous_queue(capacity);
+        let answer = f(self.storage.part_mut(from, to));
+        prove!(answer.0 <= to - from, "more elements than were lent");
+        self.head.dequeue_contiguous(capacity, answer.0);
+        answer
+    }
+
+    /// Dequeues at most `size` elements, and lends them: as many as are contiguous.
+    ///
+    /// ```
+    /// # use net_base::storage::RingBuffer;
+    /// # let mut storage = [0u8; 4];
+    /// # let mut ring = RingBuffer::new(&mut storage[..]);
+    /// assert_eq!(ring.enqueue_slice(b"abc"), 3);
+    /// assert_eq!(ring.dequeue_many(2), b"ab");
+    /// assert_eq!(ring.dequeue_many(2), b"c");
+    /// ```
+    pub fn dequeue_many(&mut self, size: usize) -> &mut [T]
+        ensures* writes_back { sem 𝓛 (lends_many T.row S.row S.Storage self.entry
+            (with_dequeued (min size (contiguous_queued self.old)) self.old)
+            self.old.read_at result) }
+        ensures count { length result.now ≡ min size (contiguous_queued self.old) }
+        ensures not_empty { self.old.count ≢ 0 → 0 < size → 0 < length result.now }
+        ensures value { result.now ≡ take (length result.now) (queue self.old) }
+        ensures stored { result.now
+            ≡ take (length result.now) (drop self.old.read_at self.old.storage) }
+        ensures dequeued { let k = min size (contiguous_queued self.old) in
+            (ws : List T) → length ws ≡ k → Dequeues self.old k ws
+            (with_elements (with_dequeued k self.old) self.old.read_at ws) }
+        ensures call { let k = min size (contiguous_queued self.old) in
+            (ws : List T) → length ws ≡ k → Makes (DequeueMany result.now ws) self.old
+            (with_elements (with_dequeued k self.old) self.old.read_at ws) }
+        ensures room { let k = min size (contiguous_queued self.old) in
+            (ws : List T) → window (with_elements (with_dequeued k self.old) self.old.read_at ws)
+            ≡ window self.old + k }
+        ensures capacity { let k = min size (contiguous_queued self.old) in
+            (ws : List T) → capacity (with_elements (with_dequeued k self.old) self.old.read_at ws)
+            ≡ capacity self.old }
+    {
+        let span = self.head.dequeue_many(self.storage.count(), size);
+        self.storage.part_mut(span.from, span.from + span.count)
+    }
+
+    /// Dequeues as many elements as `data` has room for and are queued, copies them to the beginning
+    /// of `data`, and returns how many. The rest of `data` stays as it is.
+    ///
+    /// ```
+    /// # use net_base::storage::RingBuffer;
+    /// # let mut storage = [0u8; 4];
+    /// # let mut ring = RingBuffer::new(&mut storage[..]);
+    /// assert_eq!(ring.enqueue_slice(b"abc"), 3);
+    /// let mut into = *b"-----";
+    /// assert_eq!((ring.dequeue_slice(&mut into), &into), (3, b"abc--"));
+    /// ```
+    #[tactic(auto, unfolding(crate::specs::RingHistory::Makes))]
+    pub fn dequeue_slice(&mut self, data: &mut [T]) -> usize
+    where
+        T: Copy,
+        ensures count { result ≡ min (length «data».old) self.old.count }
+        ensures of_queue { result ≡ min (length «data».old) (length (queue self.old)) }
+        ensures given { «data».new ≡ take result (queue self.old) ++ drop result «data».old }
+        ensures ring { self.new ≡ with_dequeued result self.old }
+        ensures dequeued { Dequeues self.old result (take result (queue self.old)) self.new }
+        ensures queue { queue self.new ≡ drop result (queue self.old) }
+        ensures call { Makes (Dequeue (take result (queue self.old))) self.old self.new }
+        ensures same { (self.new.count ≡ self.old.count - result)
+            × (capacity self.new ≡ capacity self.old) }
+    {
+        let capacity = self.storage.count();
+        self.head
+            .dequeue_slice(self.storage.part(0, capacity), data)
+    }
+}
+
+/// Elements at an offset from the first free one, or from the first one of the queue.
+impl<T, S: Storage<T>> RingOver<T, S> {
+    ghost use Rattle.net_ring.specs.RingLends.{lends_many};
+
+    /// Returns the length of what `get_unallocated` lends. smoltcp has no such call. A caller needs it,
+    /// since a ring can't be asked anything while a part of it is lent.
+    pub fn contiguous_unallocated(&self, offset: usize, size: usize) -> usize
+        ensures count { result ≡ contiguous_unallocated self.now offset size }
+        ensures within { (result ≤ size) × (result ≤ window self.now - offset) }
+        ensures not_empty { offset < window self.now → 0 < size → 0 < result }
+    {
+        self.head
+            .unallocated(self.capacity(), offset, size)
+            .contiguous
+    }
+
+    /// Lends at most `size` free elements from the one at `offset` on, which stay free: as many as are
+    /// contiguous, and none if `offset` is past the window.
+    ///
+    /// ```
+    /// # use net_base::storage::RingBuffer;
+    /// # let mut storage = [0u8; 4];
+    /// # let mut ring = RingBuffer::new(&mut storage[..]);
+    /// ring.get_unallocated(1, 2).copy_from_slice(b"bc");
+    /// ring.enqueue_unallocated(3);
+    /// assert_eq!(ring.get_allocated(1, 2), b"bc");
+    /// assert_eq!(ring.get_unallocated(2, 1), b"");
+    /// ```
+    pub fn get_unallocated(&mut self, offset: usize, size: usize) -> &mut [T]
+        ensures* writes_back { sem 𝓛 (lends_many T.row S.row S.Storage self.entry
+            self.old (spare_index self.old offset) result) }
+        ensures count { length result.now ≡ contiguous_unallocated self.old offset size }
+        ensures not_empty { offset < window self.old → 0 < size → 0 < length result.now }
+        ensures value { result.now ≡ take (length result.now) (drop offset (spare self.old)) }
+        ensures each { (k : ℕ) (d : T) → offset ≤ k → k < offset + length result.now →
+            slice_index_or (spare self.old) k d ≡ slice_index_or result.now (k - offset) d }
+        ensures end { offset ≤ length (spare self.old) →
+            offset + length result.now ≤ length (spare self.old) }
+        ensures stored { result.now
+            ≡ take (length result.now) (drop (spare_index self.old offset) self.old.storage) }
+        ensures written { (ws : List T) → length ws ≡ contiguous_unallocated self.old offset size →
+            WritesSpare self.old offset ws
+            (with_elements self.old (spare_index self.old offset) ws) }
+        ensures call { (ws : List T) → length ws ≡ contiguous_unallocated self.old offset size →
+            Makes (GetUnallocated offset ws) self.old
+            (with_elements self.old (spare_index self.old offset) ws) }
+    {
+        let span = self.head.unallocated(self.capacity(), offset, size);
+        self.storage
+            .part_mut(span.from, span.from + span.contiguous)
+    }
+
+    /// Writes as many elements of `data` as there is room for to the free elements from the one at
+    /// `offset` on, and returns how many; 0 if `offset` is past the window. Nothing is enqueued.
+    ///
+    /// ```
+    /// # use net_base::storage::RingBuffer;
+    /// # let mut storage = [0u8; 4];
+    /// # let mut ring = RingBuffer::new(&mut storage[..]);
+    /// assert_eq!(ring.write_unallocated(2, b"cdef"), 2);
+    /// assert_eq!(ring.write_unallocated(0, b"ab"), 2);
+    /// ring.enqueue_unallocated(4);
+    /// assert_eq!(ring.get_allocated(0, 4), b"abcd");
+    /// ```
+    #[tactic(auto, unfolding(crate::specs::RingHistory::Makes))]
+    pub fn write_unallocated(&mut self, offset: usize, data: &[T]) -> usize
+    where
+        T: Copy,
+        ensures count { result ≡ min (length «data».now) (window self.old - offset) }
+        ensures ring { self.new
+            ≡ with_elements_wrapping self.old (spare_index self.old offset) (take result «data».now) }
+        ensures written { WritesSpare self.old offset (take result «data».now) self.new }
+        ensures call { Makes (WriteUnallocated offset (take result «data».now)) self.old self.new }
+        ensures same { (self.new.count ≡ self.old.count) × (capacity self.new ≡ capacity self.old) }
+    {
+        let capacity = self.storage.count();
+        self.head
+            .write_unallocated(self.storage.part_mut(0, capacity), offset, data)
+    }
+
+    /// Enqueues `count` elements, as they are.
+    ///
+    /// ```
+    /// # use net_base::storage::RingBuffer;
+    /// # let mut storage = *b"abcd";
+    /// # let mut ring = RingBuffer::new(&mut storage[..]);
+    /// ring.enqueue_unallocated(2);
+    /// assert_eq!(ring.get_allocated(0, 4), b"ab");
+    /// ```
+    ///
+    /// # Requires
+    ///
+    /// `count` is at most `window()`.
+    #[tactic(auto, unfolding(crate::specs::RingHistory::Makes))]
+    pub fn enqueue_unallocated(&mut self, count: usize)
+        requires window { count ≤ window self.old }
+        ensures ring { self.new ≡ with_enqueued count self.old }
+        ensures enqueued { Enqueues self.old (take count (spare self.old)) self.new }
+        ensures of_spare { spare self.new ≡ drop count (spare self.old) }
+        ensures call { Makes (EnqueueUnallocated (take count (spare self.old))) self.old self.new }
+    {
+        let window = self.window();
+        prove!(count <= window, "no room for so many elements");
+        self.head.enqueue(self.storage.count(), count);
+    }
+
+    /// Returns the length of what `get_allocated` shows and `get_allocated_mut` lends, as
+    /// [`contiguous_unallocated`](RingOver::contiguous_unallocated) does. smoltcp has no such call.
+    pub fn contiguous_allocated(&self, offset: usize, size: usize) -> usize
+        ensures count { result ≡ contiguous_allocated self.now offset size }
+        ensures within { (result ≤ size) × (result ≤ self.now.count - offset) }
+        ensures not_empty { offset < self.now.count → 0 < size → 0 < result }
+    {
+        self.head
+            .allocated(self.capacity(), offset, size)
+            .contiguous
+    }
+
+    /// Shows at most `size` elements of the queue from the one at `offset` on: as many as are
+    /// contiguous, and none if `offset` is past the queue.
+    ///
+    /// ```
+    /// # use net_base::storage::RingBuffer;
+    /// # let mut storage = [0u8; 4];
+    /// # let mut ring = RingBuffer::new(&mut storage[..]);
+    /// assert_eq!(ring.enqueue_slice(b"abc"), 3);
+    /// assert_eq!((ring.get_allocated(1, 9), ring.get_allocated(4, 9)), (&b"bc"[..], &b""[..]));
+    /// ```
+    pub fn get_allocated(&self, offset: usize, size: usize) -> &[T]
+        ensures count { length result.now ≡ contiguous_allocated self.now offset size }
+        ensures not_empty { offset < self.now.count → 0 < size → 0 < length result.now }
+        ensures value { result.now ≡ take (length result.now) (drop offset (queue self.now)) }
+        ensures first { 0 < size → slice_get result.now 0 ≡ slice_get (queue self.now) offset }
+        ensures each { (k : ℕ) (d : T) → offset ≤ k → k < offset + length result.now →
+            slice_index_or (queue self.now) k d ≡ slice_index_or result.now (k - offset) d }
+        ensures end { offset ≤ length (queue self.now) →
+            offset + length result.now ≤ length (queue self.now) }
+        ensures stored { result.now
+            ≡ take (length result.now) (drop (queue_index self.now offset) self.now.storage) }
+    {
+        let span = self.head.allocated(self.capacity(), offset, size);
+        self.storage.part(span.from, span.from + span.contiguous)
+    }
+
+    /// Lends what [`get_allocated`](RingOver::get_allocated) shows, to be changed in place. smoltcp has
+    /// no such call.
+    ///
+    /// ```
+    /// # use net_base::storage::RingBuffer;
+    /// # let mut storage = [0u8; 4];
+    /// # let mut ring = RingBuffer::new(&mut storage[..]);
+    /// assert_eq!(ring.enqueue_slice(b"abc"), 3);
+    /// ring.get_allocated_mut(1, 1)[0] = b'-';
+    /// assert_eq!(ring.get_allocated(0, 4), b"a-c");
+    /// ```
+    pub fn get_allocated_mut(&mut self, offset: usize, size: usize) -> &mut [T]
+        ensures* writes_back { sem 𝓛 (lends_many T.row S.row S.Storage self.entry
+            self.old (queue_index self.old offset) result) }
+        ensures count { length result.now ≡ contiguous_allocated self.old offset size }
+        ensures not_empty { offset < self.old.count → 0 < size → 0 < length result.now }
+        ensures value { result.now ≡ take (length result.now) (drop offset (queue self.old)) }
+        ensures first { 0 < size → slice_get result.now 0 ≡ slice_get (queue self.old) offset }
+        ensures each { (k : ℕ) (d : T) → offset ≤ k → k < offset + length result.now →
+            slice_index_or (queue self.old) k d ≡ slice_index_or result.now (k - offset) d }
+        ensures end { offset ≤ length (queue self.old) →
+            offset + length result.now ≤ length (queue self.old) }
+        ensures stored { result.now
+            ≡ take (length result.now) (drop (queue_index self.old offset) self.old.storage) }
+        ensures written { (ws : List T) → length ws ≡ contiguous_allocated self.old offset size →
+            WritesQueue self.old offset ws
+            (with_elements self.old (queue_index self.old offset) ws) }
+        ensures call { (ws : List T) → length ws ≡ contiguous_allocated self.old offset size →
+            Makes (GetAllocatedMut offset ws) self.old
+            (with_elements self.old (queue_index self.old offset) ws) }
+    {
+        let span = self.head.allocated(self.capacity(), offset, size);
+        self.storage
+            .part_mut(span.from, span.from + span.contiguous)
+    }
+
+    /// Copies as many elements of the queue as `data` has room for, from the one at `offset` on, to
+    /// the beginning of `data`, and returns how many; 0 if `offset` is past the queue. The rest of
+    /// `data` stays as it is, and nothing is dequeued.
+    ///
+    /// ```
+    /// # use net_base::storage::RingBuffer;
+    /// # let mut storage = [0u8; 4];
+    /// # let mut ring = RingBuffer::new(&mut storage[..]);
+    /// assert_eq!(ring.enqueue_slice(b"abc"), 3);
+    /// let mut into = *b"----";
+    /// assert_eq!((ring.read_allocated(1, &mut into), &into), (2, b"bc--"));
+    /// ```
+    pub fn read_allocated(&mut self, offset: usize, data: &mut [T]) -> usize
+    where
+        T: Copy,
+        ensures count { result ≡ min (length «data».old) (self.old.count - offset) }
+        ensures given { «data».new
+            ≡ take result (drop offset (queue self.old)) ++ drop result «data».old }
+        ensures unchanged { self.new ≡ self.old }
+    {
+        let capacity = self.storage.count();
+        self.head
+            .read_allocated(self.storage.part(0, capacity), offset, data)
+    }
+
+    /// Dequeues `count` elements.
+    ///
+    /// ```
+    /// # use net_base::storage::RingBuffer;
+    /// # let mut storage = [0u8; 4];
+    /// # let mut ring = RingBuffer::new(&mut storage[..]);
+    /// assert_eq!(ring.enqueue_slice(b"abc"), 3);
+    /// ring.dequeue_allocated(2);
+    /// assert_eq!(ring.get_allocated(0, 4), b"c");
+    /// ```
+    ///
+    /// # Requires
+    ///
+    /// `count` is at most `len()`.
+    #[tactic(auto, unfolding(crate::specs::RingHistory::Makes))]
+    pub fn dequeue_allocated(&mut self, count: usize)
+        requires len { count ≤ self.old.count }
+        ensures ring { self.new ≡ with_dequeued count self.old }
+        ensures dequeued { Dequeues self.old count (take count (queue self.old)) self.new }
+        ensures room { window self.new ≡ window self.old + count }
+        ensures call { Makes (Dequeue (take count (queue self.old))) self.old self.new }
+    {
+        prove!(count <= self.head.length, "fewer elements are queued");
+        self.head.dequeue(self.storage.count(), count);
+    }
+}
+
+/// The queue, shown. smoltcp doesn't have these calls; std's `VecDeque` does.
+impl<T, S: Storage<T>> RingOver<T, S> {
+    /// Shows the queue, in order, in two parts: the elements up to the storage's end, and those from
+    /// its beginning on. The second part is empty unless the queue wraps.
+    ///
+    /// ```
+    /// # use net_base::storage::RingBuffer;
+    /// # let mut storage = [0u8; 4];
+    /// # let mut ring = RingBuffer::new(&mut storage[..]);
+    /// assert_eq!(ring.enqueue_slice(b"abc"), 3);
+    /// ring.dequeue_allocated(2);
+    /// assert_eq!(ring.enqueue_slice(b"def"), 3);
+    /// assert_eq!(ring.as_slices(), (&b"cd"[..], &b"ef"[..]));
+    /// ```
+    pub fn as_slices(&self) -> (&[T], &[T])
+        ensures queue { result.0.now ++ result.1.now ≡ queue self.now }
+        ensures cut { length result.0.now ≡ contiguous_queued self.now }
+        ensures count { length result.0.now + length result.1.now ≡ self.now.count }
+        ensures not_empty { self.now.count ≢ 0 → 0 < length result.0.now }
+        ensures value { (result.0.now ≡ contiguous_queue self.now)
+            × (result.1.now ≡ drop (length result.0.now) (queue self.now)) }
+        ensures first { (k : ℕ) (d : T) → k < length result.0.now →
+            slice_index_or (queue self.now) k d ≡ slice_index_or result.0.now k d }
+        ensures second { (k : ℕ) (d : T) → length result.0.now ≤ k →
+            slice_index_or (queue self.now) k d
+            ≡ slice_index_or result.1.now (k - length result.0.now) d }
+        ensures stored { let n = length result.0.now in
+            (result.0.now ≡ take n (drop self.now.read_at self.now.storage))
+            × (result.1.now ≡ take (self.now.count - n) self.now.storage) }
+    {
+        // [ e f . . c d ] is c d and then e f.
+        let from = self.head.read_at;
+        let first = self.head.contiguous_queue(self.capacity());
+        (
+            self.storage.part(from, from + first),
+            self.storage.part(0, self.head.length - first),
+        )
+    }
+
+    /// Returns an iterator over the queue, which shows the elements in order.
+    ///
+    /// ```
+    /// # use net_base::storage::RingBuffer;
+    /// # let mut storage = [0u8; 4];
+    /// # let mut ring = RingBuffer::new(&mut storage[..]);
+    /// assert_eq!(ring.enqueue_slice(b"abc"), 3);
+    /// ring.dequeue_allocated(2);
+    /// assert_eq!(ring.enqueue_slice(b"def"), 3);
+    /// assert!(ring.iter().eq(b"cdef") && ring.iter().rev().eq(b"fedc"));
+    /// ```
+    pub fn iter(&self) -> Iter<'_, T>
+        ensures queue { result ≡ queue self.now }
+        ensures count { length result ≡ self.now.count }
+    {
+        // Called only for its clause, by which the number of elements is below 2^64.
+        let _capacity = self.capacity();
+        let (first, second) = self.as_slices();
+        Iter { first, second }
+    }
+
+    /// Shows the element of the queue at `index`; `None` if there is none.
+    ///
+    /// ```
+    /// # use net_base::storage::RingBuffer;
+    /// # let mut storage = [0u8; 4];
+    /// # let mut ring = RingBuffer::new(&mut storage[..]);
+    /// assert_eq!(ring.enqueue_slice(b"abc"), 3);
+    /// assert_eq!((ring.get(0), ring.get(2), ring.get(3)), (Some(&b'a'), Some(&b'c'), None));
+    /// ```
+    pub fn get(&self, index: usize) -> Option<&T>
+        ensures value { option_copied result ≡ slice_get (queue self.now) index }
+        ensures some { IsSome result ↔ (index < self.now.count) }
+        ensures none { IsNone result ↔ (self.now.count ≤ index) }
+        ensures of_queue { IsSome result ↔ (index < length (queue self.now)) }
+    {
+        self.get_allocated(index, 1).first()
+    }
+
+    /// Shows the first element of the queue, the next one to be dequeued; `None` if it is empty.
+    ///
+    /// ```
+    /// # use net_base::storage::RingBuffer;
+    /// # let mut storage = [0u8; 4];
+    /// # let mut ring = RingBuffer::new(&mut storage[..]);
+    /// assert_eq!(ring.enqueue_slice(b"abc"), 3);
+    /// assert_eq!(ring.front(), Some(&b'a'));
+    /// ```
+    pub fn front(&self) -> Option<&T>
+        ensures value { option_copied result ≡ slice_get (queue self.now) 0 }
+        ensures some { IsSome result ↔ (0 < self.now.count) }
+        ensures empty { IsNone result ↔ (self.now.count ≡ 0) }
+        ensures none_queued { IsNone result ↔ (queue self.now ≡ []) }
+    {
+        if self.is_empty() {
+            return None;
+        }
+        Some(self.storage.element(self.head.read_at))
+    }
+
+    /// Shows the last element of the queue, the one that was enqueued last; `None` if it is empty.
+    ///
+    /// ```
+    /// # use net_base::storage::RingBuffer;
+    /// # let mut storage = [0u8; 4];
+    /// # let mut ring = RingBuffer::new(&mut storage[..]);
+    /// assert_eq!(ring.enqueue_slice(b"abc"), 3);
+    /// assert_eq!(ring.back(), Some(&b'c'));
+    /// ```
+    pub fn back(&self) -> Option<&T>
+        ensures value { option_copied result
+            ≡ slice_get (queue self.now) (length (queue self.now) - 1) }
+        ensures some { IsSome result ↔ (0 < self.now.count) }
+        ensures empty { IsNone result ↔ (self.now.count ≡ 0) }
+        ensures none_queued { IsNone result ↔ (queue self.now ≡ []) }
+    {
+        self.get(self.len().saturating_sub(1))
     }
 }
 
@@ -121,268 +1183,8 @@ impl<'a, T> From<Vec<T>> for RingBuffer<'a, T> {
     }
 }
 
-impl<'a, T> RingBuffer<'a, T> {
-    ghost use Rattle.net_ring.specs.Managed.{elements};
-
-    /// Returns an empty ring over the storage, whose elements stay as they are.
-    ///
-    /// ```rust
-    /// let mut storage = [0u8; 8];
-    /// let mut ring = RingBuffer::new(ManagedSlice::Borrowed(&mut storage));
-    /// ```
-    pub fn new(storage: ManagedSlice<'a, T>) -> Self
-        ensures ring { result ≡ ring (elements storage.entry) 0 0 }
-        ensures parts { (queue result ≡ []) × (spare result ≡ elements storage.entry) }
-    {
-        RingOver::over(storage)
-    }
-}
-
-/// Making, emptying and measuring a ring.
-impl<T, S: Storage<T>> RingOver<T, S> {
-    /// Returns an empty ring over storage of any type, whose elements stay as they are.
-    ///
-    /// smoltcp has no such call: [`RingBuffer::new`] is the one for a [`ManagedSlice`].
-    pub const fn over(storage: S) -> Self
-        ensures ring { result ≡ ring (S.elements storage) 0 0 }
-        ensures parts { (queue result ≡ []) × (spare result ≡ S.elements storage) }
-    {
-        RingOver {
-            storage,
-            place: RingHead {
-                read_at: 0,
-                length: 0,
-            },
-            elements: PhantomData,
-        }
-    }
-
-    /// Returns the ring of a storage and of the numbers of a ring, as [`into_parts`] returns them.
-    ///
-    /// smoltcp has no such call. [`RingHead::is_sound`] tells whether it may be made.
-    ///
-    /// # Requires
-    ///
-    /// The numbers are those of a ring of as many elements as the storage has.
-    ///
-    /// [`into_parts`]: RingOver::into_parts
-    pub fn from_parts(storage: S, place: RingHead) -> Self
-        requires sound { IsSound (length (S.elements storage)) place }
-        ensures ring { result ≡ ring_at (S.elements storage) place }
-    {
-        let capacity = storage.count();
-        prove!(
-            place.is_sound(capacity),
-            "the head is not that of this storage"
-        );
-        RingOver {
-            storage,
-            place,
-            elements: PhantomData,
-        }
-    }
-
-    /// Returns the ring's storage and its numbers, of which [`from_parts`] makes the same ring.
-    ///
-    /// smoltcp has no such call.
-    ///
-    /// [`from_parts`]: RingOver::from_parts
-    pub fn into_parts(self) -> (S, RingHead)
-        ensures ring { ring_at (S.elements result.0) result.1 ≡ self }
-        ensures sound { IsSound (length (S.elements result.0)) result.1 }
-    {
-        let RingOver {
-            storage,
-            place,
-            elements: _,
-        } = self;
-        (storage, place)
-    }
-
-    /// Returns the index where the ring is read, and how many elements are queued.
-    ///
-    /// smoltcp has no such call.
-    #[inline]
-    pub fn place(&self) -> RingHead
-        ensures place { result ≡ place self.now.read_at self.now.count }
-        ensures sound { IsSound (capacity self.now) result }
-    {
-        self.place
-    }
-
-    /// Empties the ring, and leaves the storage as it is.
-    ///
-    /// ```
-    /// # use net_base::storage::RingBuffer;
-    /// # let mut storage = [0u8; 4];
-    /// # let mut ring = RingBuffer::new(&mut storage[..]);
-    /// ring.enqueue_unallocated(3);
-    /// ring.clear();
-    /// assert!(ring.is_empty());
-    /// ```
-    #[tactic(auto, unfolding(crate::specs::RingHistory::Makes))]
-    pub fn clear(&mut self)
-        ensures ring { self.new ≡ ring self.old.storage 0 0 }
-        ensures parts { (queue self.new ≡ []) × (spare self.new ≡ self.old.storage) }
-        ensures call { Makes Clear self.old self.new }
-    {
-        self.place.clear();
-    }
-
-    /// Returns how many elements the ring has room for, queued ones included.
-    ///
-    /// ```
-    /// # use net_base::storage::RingBuffer;
-    /// let mut storage = [0u8; 4];
-    /// assert_eq!(RingBuffer::new(&mut storage[..]).capacity(), 4);
-    /// ```
-    #[inline]
-    pub fn capacity(&self) -> usize
-        ensures capacity { result ≡ capacity self.now }
-        ensures well_formed { IsWellFormed self.now }
-        ensures fits { capacity self.now < 2 ^ 64 }
-    {
-        self.storage.count()
-    }
-
-    /// Returns how many elements are queued.
-    ///
-    /// ```
-    /// # use net_base::storage::RingBuffer;
-    /// # let mut storage = [0u8; 4];
-    /// # let mut ring = RingBuffer::new(&mut storage[..]);
-    /// ring.enqueue_unallocated(3);
-    /// assert_eq!(ring.len(), 3);
-    /// ```
-    #[inline]
-    pub fn len(&self) -> usize
-        ensures count { result ≡ self.now.count }
-        ensures queue { result ≡ length (queue self.now) }
-        ensures within { result ≤ capacity self.now }
-    {
-        self.place.length
-    }
-
-    /// Returns how many elements can still be enqueued.
-    ///
-    /// ```
-    /// # use net_base::storage::RingBuffer;
-    /// # let mut storage = [0u8; 4];
-    /// # let mut ring = RingBuffer::new(&mut storage[..]);
-    /// ring.enqueue_unallocated(3);
-    /// assert_eq!(ring.window(), 1);
-    /// ```
-    #[inline]
-    pub fn window(&self) -> usize
-        ensures window { result ≡ window self.now }
-        ensures spare { result ≡ length (spare self.now) }
-        ensures sum { self.now.count + result ≡ capacity self.now }
-    {
-        self.capacity() - self.len()
-    }
-
-    /// Returns how many elements can be enqueued before the storage's end.
-    ///
-    /// Into an empty ring `enqueue_many` can enqueue more, since it first moves the read index to
-    /// the storage's beginning.
-    ///
-    /// ```
-    /// # use net_base::storage::RingBuffer;
-    /// # let mut storage = [0u8; 4];
-    /// # let mut ring = RingBuffer::new(&mut storage[..]);
-    /// ring.enqueue_unallocated(3);
-    /// ring.dequeue_allocated(2);
-    /// assert_eq!((ring.window(), ring.contiguous_window()), (3, 1));
-    /// ```
-    pub fn contiguous_window(&self) -> usize
-        ensures count { result ≡ contiguous_window self.now }
-        ensures within { (result ≤ window self.now)
-            × (write_at self.now + result ≤ capacity self.now) }
-    {
-        self.place.contiguous_window(self.capacity())
-    }
-
-    /// Returns whether no element is queued.
-    ///
-    /// ```
-    /// # use net_base::storage::RingBuffer;
-    /// let mut storage = [0u8; 4];
-    /// assert!(RingBuffer::new(&mut storage[..]).is_empty());
-    /// ```
-    #[inline]
-    pub fn is_empty(&self) -> bool
-        ensures count { result ≡ (self.now.count == 0) }
-        ensures none_queued { IsTrue result ↔ (queue self.now ≡ []) }
-        ensures sum { self.now.count + window self.now ≡ capacity self.now }
-    {
-        self.len() == 0
-    }
-
-    /// Returns whether no element can be enqueued.
-    ///
-    /// ```
-    /// # use net_base::storage::RingBuffer;
-    /// let mut storage = [0u8; 0];
-    /// assert!(RingBuffer::new(&mut storage[..]).is_full());
-    /// ```
-    #[inline]
-    pub fn is_full(&self) -> bool
-        ensures room { result ≡ (window self.now == 0) }
-        ensures none_spare { IsTrue result ↔ (spare self.now ≡ []) }
-        ensures sum { self.now.count + window self.now ≡ capacity self.now }
-    {
-        // `window() == 0` says the same. This form tells the compiler that the length of a ring
-        // that isn't full is not the greatest one, so that adding 1 can't make it 0.
-        self.len() >= self.capacity()
-    }
-
-    /// Moves the read index of an empty ring to the storage's beginning: then all its free elements
-    /// are contiguous. A ring with queued elements stays as it is.
-    ///
-    /// An addition to smoltcp's calls, for callers that write free elements before these are
-    /// enqueued.
-    #[inline]
-    #[tactic(auto, unfolding(crate::specs::RingHistory::Makes))]
-    pub fn rewind_if_empty(&mut self)
-        ensures ring { self.new ≡ rewind_if_empty self.old }
-        ensures call { Makes RewindIfEmpty self.old self.new }
-        ensures fits { capacity self.new < 2 ^ 64 }
-    {
-        // Called only for its clause, by which `fits` is known.
-        let _capacity = self.capacity();
-        self.place.rewind_if_empty();
-    }
-}
-
-/// Emptying a ring and resetting its elements.
-impl<T: Resettable, S: Storage<T>> RingOver<T, S> {
-    /// Empties the ring, and resets each element of the storage, which is left as its type states.
-    ///
-    /// ```
-    /// # use net_base::storage::{Resettable, RingBuffer};
-    /// # struct Slot(u32);
-    /// # impl Resettable for Slot { fn reset(&mut self) { self.0 = 0; } }
-    /// let mut slots = [Slot(7), Slot(8)];
-    /// RingBuffer::new(&mut slots[..]).reset();
-    /// assert_eq!((slots[0].0, slots[1].0), (0, 0));
-    /// ```
-    #[tactic(auto, unfolding(crate::specs::RingHistory::Makes))]
-    pub fn reset(&mut self)
-        ensures ring { self.new ≡ ring self.new.storage 0 0 }
-        ensures parts { (queue self.new ≡ []) × (spare self.new ≡ self.new.storage) }
-        ensures reset { AllZip T.IsReset self.old.storage self.new.storage }
-        ensures call { Makes (Reset self.new.storage) self.old self.new }
-    {
-        let count = self.capacity();
-        self.clear();
-        reset_each(self.storage.part_mut(0, count));
-    }
-}
-
-/// Resets each element once.
-///
-/// The loop of `reset` is a function of its own, so that its invariant is on a list and not on a
-/// ring.
+/// Resets each element once. The loop of `reset` is a function of its own, so that its invariant is
+/// on a list and not on a ring.
 fn reset_each<T: Resettable>(elements: &mut [T])
     ensures { AllZip T.IsReset elements.old elements.new }
 {

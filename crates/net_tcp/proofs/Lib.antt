@@ -1,3 +1,4 @@
 pub mod WordSums
 pub mod Scales
 pub mod Timeouts
+pub mod Windows

@@ -3,7 +3,10 @@
 --     IsInTable      the four cases of the RFC's table
 --     Meets a m b n      the m positions from a on and the n positions from b on have one in common
 --     IsAcceptable      the segment's positions meet the window
-use Rattle.std.specs.Prelude.{◌≡◌, ℕ, zero, suc, ◌+◌, ◌<◌, ◌≤◌, ◌⊎◌}
+--     IsProbe      its first position is the one at which the window is shut
+--     IsAnswered, IsIgnored      nothing of it is taken, and it is answered by an acknowledgement, or by nothing
+use Rattle.std.specs.Prelude.{◌≡◌, ◌≢◌, ℕ, zero, suc, ◌+◌, ◌<◌, ◌≤◌, ◌⊎◌, IsTrue, IsFalse}
+use Rattle.net_tcp.specs.declared.arriving.Segment.{Segment}
 
 abbrev pub IsWithin : ℕ → ℕ → ℕ → Type 0
 IsWithin next window pos = (next ≤ pos) × (pos < next + window)
@@ -24,6 +27,24 @@ abbrev pub IsAcceptable : ℕ → ℕ → ℕ → ℕ → Type 0
 IsAcceptable next zero seq zero = seq ≡ next
 IsAcceptable next (suc w) seq zero = IsWithin next (suc w) seq
 IsAcceptable next window seq (suc n) = Meets next window seq (suc n)
+
+-- the RFC's special allowance for a window of no positions, in which no segment with any is acceptable
+abbrev pub IsProbe : ℕ → ℕ → ℕ → ℕ → Type 0
+IsProbe next window seq len = (window ≡ 0) × (seq ≡ next) × (0 < len)
+
+-- a reset in the window, but not at next; a SYN; and what isn't acceptable
+abbrev pub IsAnswered : ℕ → ℕ → Segment → Type 0
+IsAnswered next window s =
+    (IsTrue s.rst × (s.seq ≢ next) × IsAcceptable next window s.seq s.len)
+    ⊎ (IsFalse s.rst × (IsTrue s.syn
+    ⊎ ((¬ IsAcceptable next window s.seq s.len) × (¬ IsProbe next window s.seq s.len))))
+
+-- a reset out of the window; and what acknowledges nothing
+abbrev pub IsIgnored : ℕ → ℕ → Segment → Type 0
+IsIgnored next window s =
+    (IsTrue s.rst × (s.seq ≢ next) × (¬ IsAcceptable next window s.seq s.len))
+    ⊎ (IsFalse s.rst × IsFalse s.syn × IsFalse s.ack
+    × (IsAcceptable next window s.seq s.len ⊎ IsProbe next window s.seq s.len))
 
 -- ---- laws
 -- what the table accepts is acceptable

@@ -6,7 +6,6 @@
 --     Sums s xs      the running sum s is that of the bytes xs
 use Rattle.std.specs.Prelude.{◌≡◌, ℕ, zero, suc, ◌+◌, ◌-◌, ◌*◌, ◌/◌, ◌%◌, ◌^◌, ◌<◌, ◌≤◌, ◌⊎◌}
 use Rattle.std.specs.Prelude.{List, [], ◌∷◌, ◌++◌, length, All}
-use Rattle.std.specs.Int.{from_bool}
 use Rattle.net_tcp.specs.declared.internet_sum.PartsSum.{PartsSum}
 
 -- the sum of the words of these bytes, the high byte first; a last odd byte is a high byte
@@ -38,7 +37,7 @@ IsEven xs = length xs % 2 ≡ 0
 
 -- s is the sum of the bytes xs, so far
 abbrev pub Sums : PartsSum → List ℕ → Type 0
-Sums s xs = (folded s.sum ≡ folded (word_sum xs)) × (from_bool s.odd ≡ length xs % 2)
+Sums s xs = (folded s.sum ≡ folded (word_sum xs)) × (s.odd ≡ length xs % 2)
 
 -- ---- what RFC 1071 says
 -- ones' complement addition of two words: a carry out of the high bit is added at the low end

@@ -1,9 +1,8 @@
 //! The Internet checksum (RFC 1071), over one part or several, and its update (RFC 1624).
-ghost use Rattle.std.specs.Prelude.{◌≡◌, ◌↔◌, ℕ, ◌+◌, ◌*◌, ◌%◌, ◌<◌, ◌≤◌, List, [], ◌++◌, ◌/◌, IsTrue, IsFalse};
+ghost use Rattle.std.specs.Prelude.{◌≡◌, ◌↔◌, ℕ, ◌+◌, ◌*◌, ◌%◌, ◌<◌, ◌≤◌, List, [], ◌++◌, ◌/◌, IsTrue};
 ghost use Rattle.std.specs.Prelude.{length};
 ghost use Rattle.net_tcp.specs.InternetChecksum.{folded, word_sum, internet_checksum, updated};
 ghost use Rattle.net_tcp.specs.InternetChecksum.{Sums, word_bytes};
-ghost use Rattle.std.specs.Int.{from_bool};
 
 /// The sum of the bytes of several parts of a message, one after another, of any lengths.
 /// One of zeros is that of no bytes.
@@ -12,17 +11,17 @@ ghost use Rattle.std.specs.Int.{from_bool};
 pub struct PartsSum {
     /// The sum of the words, up to a multiple of 65535; 0 only if that sum is 0.
     pub sum: u64,
-    /// Whether the next byte is the low byte of a word.
-    pub odd: bool,
+    /// 1 if the next byte is the low byte of a word, 0 if it is the high one.
+    pub odd: u64,
 }
 
 impl PartsSum {
     /// Returns the sum of no bytes.
     pub const fn new() -> Self
         ensures nothing { Sums result [] }
-        ensures zeros { (result.sum ≡ 0) × IsFalse result.odd }
+        ensures zeros { (result.sum ≡ 0) × (result.odd ≡ 0) }
     {
-        PartsSum { sum: 0, odd: false }
+        PartsSum { sum: 0, odd: 0 }
     }
 
     /// Adds the bytes that follow those which were added.
@@ -36,7 +35,7 @@ impl PartsSum {
     pub fn with(self, part: &[u8]) -> Self
         ensures { (xs : List ℕ) → Sums self xs → Sums result (xs ++ part.now) }
     {
-        if !self.odd {
+        if self.odd == 0 {
             return sum_from(self.sum, part);
         }
         match part.split_first() {
@@ -52,13 +51,13 @@ impl PartsSum {
     ///
     /// An even count of bytes was added.
     pub fn with_word(self, word: u16) -> Self
-        requires { IsFalse self.odd }
+        requires { self.odd ≡ 0 }
         ensures { (xs : List ℕ) → Sums self xs → Sums result (xs ++ word_bytes word) }
     {
-        prove!(!self.odd, "an odd count of bytes was added");
+        prove!(self.odd == 0, "an odd count of bytes was added");
         PartsSum {
             sum: add_carry(self.sum, u64::from(word)),
-            odd: false,
+            odd: 0,
         }
     }
 
@@ -66,15 +65,15 @@ impl PartsSum {
     pub fn joined(self, after: PartsSum) -> Self
         ensures { (xs ys : List ℕ) → Sums self xs → Sums after ys → Sums result (xs ++ ys) }
     {
-        if self.odd {
-            PartsSum {
-                sum: add_carry(self.sum, u64::from(swapped(fold(after.sum)))),
-                odd: !after.odd,
-            }
-        } else {
+        if self.odd == 0 {
             PartsSum {
                 sum: add_carry(self.sum, after.sum),
                 odd: after.odd,
+            }
+        } else {
+            PartsSum {
+                sum: add_carry(self.sum, u64::from(swapped(fold(after.sum)))),
+                odd: u64::from(after.odd == 0),
             }
         }
     }
@@ -122,11 +121,11 @@ pub fn updated_checksum(checksum: u16, old: u16, new: u16) -> u16
 /// Returns the sum of some words and of these bytes, the first of which is a high byte.
 fn sum_from(start: u64, bytes: &[u8]) -> PartsSum
     ensures sum { folded result.sum ≡ folded (start + word_sum bytes.now) }
-    ensures odd { from_bool result.odd ≡ length bytes.now % 2 }
+    ensures odd { result.odd ≡ length bytes.now % 2 }
 {
     PartsSum {
         sum: sum_words(start, bytes),
-        odd: bytes.len() % 2 == 1,
+        odd: bytes.len() as u64 % 2,
     }
 }
 

@@ -3,15 +3,15 @@
 //! whole numbers, and store no bytes.
 #![tactic(auto)]
 
-pub mod acceptability;
 pub mod advertised_window;
+pub mod arriving;
 pub mod internet_sum;
 pub mod laws;
 pub mod peer_window;
 pub mod retransmission;
 
-pub use acceptability::is_acceptable;
 pub use advertised_window::{AdvertisedWindow, MAX_SCALE, scale_for};
+pub use arriving::{Arrival, Segment, classify, is_acceptable, is_acknowledgement};
 pub use internet_sum::{PartsSum, checksum, is_valid, updated_checksum};
 pub use peer_window::{PeerWindow, scaled};
 pub use retransmission::{RetransmissionTimeout, RttEstimate, TimeoutBounds, Transmission};

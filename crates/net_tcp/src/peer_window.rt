@@ -1,7 +1,8 @@
 //! The window that the peer announced.
 ghost use Rattle.std.specs.Prelude.{◌≡◌, ◌↔◌, ℕ, ◌+◌, ◌-◌, ◌*◌, ◌^◌, ◌<◌, ◌≤◌, IsTrue, IsFalse};
-ghost use Rattle.std.specs.Prelude.{min};
-ghost use Rattle.net_tcp.specs.PeerWindow.{IsNewer, window_from, with_segment, is_newer};
+ghost use Rattle.std.specs.Prelude.{min, max};
+ghost use Rattle.net_tcp.specs.PeerWindow.{Replaces, replaces, window_from, after_update};
+ghost use Rattle.net_tcp.specs.PeerWindow.{acknowledgement_number};
 
 use crate::advertised_window::MAX_SCALE;
 
@@ -44,9 +45,13 @@ impl PeerWindow {
         }
     }
 
-    /// Takes over the window of an acceptable segment, unless that is older than the one before, or
-    /// acknowledges a position below `first_unacknowledged` or above `sent`.
-    /// Returns whether it did. A window may shrink.
+    /// Takes over the window of an acceptable segment, unless it acknowledges a position below
+    /// `first_unacknowledged` or above `sent`, or is older than the one before and acknowledges no
+    /// more. Returns whether it did. A window may shrink.
+    ///
+    /// RFC 9293 takes none of an older number. So one forged segment ahead in the window would shut out
+    /// each later one. It makes no difference whether the sender takes what the segment acknowledges
+    /// before this call or after it.
     pub fn update(
         &mut self,
         first_unacknowledged: u64,
@@ -56,11 +61,11 @@ impl PeerWindow {
         window: u64,
     ) -> bool
         ensures accepted { IsTrue result ↔ ((first_unacknowledged ≤ ack) × (ack ≤ sent)
-            × (IsNewer self.old seq ack)) }
+            × (Replaces self.old seq ack)) }
         ensures window { IsTrue result → self.new ≡ window_from seq ack window }
         ensures refused { IsFalse result → self.new ≡ self.old }
-        ensures state { first_unacknowledged ≤ ack → ack ≤ sent →
-            self.new ≡ with_segment self.old seq ack window }
+        ensures state { self.new
+            ≡ after_update self.old first_unacknowledged sent seq ack window }
     {
         if ack < first_unacknowledged || ack > sent || !self.is_replaced_by(seq, ack) {
             return false;
@@ -69,13 +74,14 @@ impl PeerWindow {
         true
     }
 
-    /// Returns whether the segment of these numbers is not older than the one that the window is from.
+    /// Returns whether the segment of these numbers acknowledges more than the one that the window is
+    /// from, or is not older.
     #[inline]
     fn is_replaced_by(&self, seq: u64, ack: u64) -> bool
-        ensures value { result ≡ is_newer self.now seq ack }
-        ensures newer { IsTrue result ↔ IsNewer self.now seq ack }
+        ensures value { result ≡ replaces self.now seq ack }
+        ensures newer { IsTrue result ↔ Replaces self.now seq ack }
     {
-        self.seq < seq || self.seq == seq && self.ack <= ack
+        self.ack < ack || self.seq < seq || self.seq == seq && self.ack <= ack
     }
 
     /// Returns how many bytes from `pos` on may be sent: none if the edge is at or below it, as it
@@ -102,5 +108,18 @@ impl PeerWindow {
             first_unacknowledged < min self.now.edge end }
     {
         self.edge <= first_unacknowledged && first_unacknowledged < end
+    }
+    /// Returns the number of a segment without positions, as an acknowledgement is: `sent`, or the end of
+    /// the window if that is below it, or `first_unacknowledged` if the window ends before that.
+    ///
+    /// A peer whose window is shut takes no number beyond it, though a probe was sent there, nor what
+    /// such a segment acknowledges. Law `acknowledgements` says when this number is acceptable.
+    pub fn acknowledgement_number(&self, first_unacknowledged: u64, sent: u64) -> u64
+        ensures value { result ≡ acknowledgement_number self.now first_unacknowledged sent }
+        ensures sent { result ≤ sent }
+        ensures promised { result ≤ max self.now.edge first_unacknowledged }
+        ensures first { first_unacknowledged ≤ sent → first_unacknowledged ≤ result }
+    {
+        sent.min(self.edge.max(first_unacknowledged))
     }
 }

@@ -18,6 +18,6 @@ impl<S: fmt::Debug> fmt::Debug for Shown<'_, S> {
 
 impl<T, S: Storage<T> + fmt::Debug> fmt::Debug for RingOver<T, S> {
     fn fmt(&self, f: &mut fmt::Formatter) -> fmt::Result {
-        Shown(&self.storage, self.place).fmt(f)
+        Shown(&self.storage, self.head).fmt(f)
     }
 }

@@ -1,12 +1,14 @@
-//! calls FIRST COUNT: random calls of storage, time and rand, COUNT seeds from FIRST on. Prints for each seed and kind
-//! how many calls panicked, and a digest of what each call gave and of the whole state after it, panics too.
+//! calls FIRST COUNT: random calls of storage, time and rand, COUNT seeds from FIRST on, and of net-base's receiver
+//! beside a join of ring and assembler. Prints for each seed and kind how many calls panicked, and a digest of what each
+//! call gave and of the whole state after it, panics too.
 //! calls KIND SEED: what the digest of these is of.
-use smoltcp::storage::{Assembler, PacketBuffer, PacketMetadata, RingBuffer};
+use smoltcp::config::ASSEMBLER_MAX_SEGMENT_COUNT;
+use smoltcp::storage::{Assembler, PacketBuffer, PacketMetadata, Resettable, RingBuffer};
 use smoltcp::time::{Duration, Instant};
 use std::fmt::{Debug, Write};
 use std::panic::{AssertUnwindSafe, catch_unwind};
 
-const KINDS: [&str; 5] = ["ring", "packets", "assembler", "time", "rand"];
+const KINDS: [&str; 7] = ["ring", "cells", "packets", "assembler", "receiver", "time", "rand"];
 const CALLS: usize = 60;
 
 /// Numbers that a seed determines.
@@ -49,8 +51,10 @@ fn run(kind: &str, seed: u64) -> String {
     let numbers = &mut Numbers(seed);
     match kind {
         "ring" => ring(numbers),
+        "cells" => cells(numbers),
         "packets" => packets(numbers),
         "assembler" => assembler(numbers),
+        "receiver" => receiver(numbers),
         "time" => time(numbers),
         _ => rand(seed),
     }
@@ -105,6 +109,30 @@ fn filled_one(element: &mut u8, byte: u8, n: usize) -> Result<u8, u8> {
     if n < 5 { Ok(was) } else { Err(was) }
 }
 
+/// A number that is reset to one more than it was.
+#[derive(Debug, Clone)]
+struct Cell(u8);
+
+impl Resettable for Cell {
+    fn reset(&mut self) {
+        self.0 += 1;
+    }
+}
+
+fn cells(numbers: &mut Numbers) -> String {
+    let (mut ring, mut text) = (RingBuffer::new(vec![Cell(0); numbers.below(5)]), String::new());
+    for byte in 1..=CALLS as u8 {
+        let gave = match numbers.below(5) {
+            0..3 => tried(|| ring.enqueue_one().map(|cell| std::mem::replace(&mut cell.0, byte))),
+            3 => tried(|| ring.dequeue_one().map(|cell| cell.0)),
+            _ => tried(|| ring.reset()),
+        };
+        let queued = tried(|| ring.get_allocated(0, usize::MAX).to_vec());
+        writeln!(text, "{gave}, {queued} {:?}", ring.get_unallocated(0, usize::MAX)).unwrap();
+    }
+    text
+}
+
 fn packets(numbers: &mut Numbers) -> String {
     let (mut slots, mut bytes) = ([PacketMetadata::EMPTY; 5], [0; 16]);
     let (count, capacity) = (numbers.below(6), numbers.below(17));
@@ -152,6 +180,96 @@ fn assembler(numbers: &mut Numbers) -> String {
         let copy = assembler.clone();
         let ranges: Vec<_> = assembler.iter_data().collect();
         writeln!(text, "{call} {offset} {size}: {gave}, {assembler} {assembler:?} {copy:?} {ranges:?}").unwrap();
+    }
+    text
+}
+
+/// The receiver of one stream.
+trait Stream {
+    /// How many bytes are kept, and by how many the queue grew, unless there are too many holes.
+    fn segment(&mut self, pos: u64, bytes: &[u8]) -> Option<(usize, usize)>;
+
+    fn read(&mut self, into: &mut [u8]) -> usize;
+
+    /// The next position, the window, and the runs beyond it.
+    fn state(&self) -> (u64, usize, Vec<(u64, u64)>);
+}
+
+impl<const N: usize> Stream for net_base::receiver::Receiver<'_, N> {
+    fn segment(&mut self, pos: u64, bytes: &[u8]) -> Option<(usize, usize)> {
+        self.segment(pos, bytes).ok().map(|kept| (kept.kept, kept.queued))
+    }
+
+    fn read(&mut self, into: &mut [u8]) -> usize {
+        self.read(into)
+    }
+
+    fn state(&self) -> (u64, usize, Vec<(u64, u64)>) {
+        (self.next(), self.window(), self.held().collect())
+    }
+}
+
+/// A ring and an assembler, joined as in smoltcp's TCP socket, and the position of the queue's first byte.
+struct Join<'a>(RingBuffer<'a, u8>, Assembler, u64);
+
+impl Stream for Join<'_> {
+    /// Bytes before the next position or past the window are cut off; the rest is noted, and written where there is room
+    /// for its run; what is then contiguous joins the queue.
+    fn segment(&mut self, pos: u64, bytes: &[u8]) -> Option<(usize, usize)> {
+        let (next, window, _) = self.state();
+        let wanted = |at: &u64| (next..next.saturating_add(window as u64)).contains(at);
+        let positions = pos..pos + bytes.len() as u64;
+        let Some(from) = positions.clone().find(wanted) else { return Some((0, 0)) };
+        let kept = positions.filter(wanted).count();
+        let (offset, part) = ((from - next) as usize, &bytes[(from - pos) as usize..][..kept]);
+        let queued = self.1.add_then_remove_front(offset, kept).ok()?;
+        assert_eq!(self.0.write_unallocated(offset, part), kept);
+        if queued > 0 {
+            self.0.enqueue_unallocated(queued);
+        }
+        Some((kept, queued))
+    }
+
+    fn read(&mut self, into: &mut [u8]) -> usize {
+        let count = self.0.dequeue_slice(into);
+        self.2 += count as u64;
+        count
+    }
+
+    fn state(&self) -> (u64, usize, Vec<(u64, u64)>) {
+        let next = self.2 + self.0.len() as u64;
+        let held = self.1.iter_data().map(|(start, end)| (next + start as u64, next + end as u64));
+        (next, self.0.window(), held.collect())
+    }
+}
+
+/// The same calls of a receiver and of a join; the text says so if what they give differs.
+fn receiver(numbers: &mut Numbers) -> String {
+    let capacity = numbers.below(41);
+    let first = [0, 1 << 32, 1 << 63, u64::MAX][numbers.below(4)].max(100) - numbers.below(100) as u64;
+    let storage = || vec![0; capacity];
+    let mut receiver = net_base::receiver::Receiver::<ASSEMBLER_MAX_SEGMENT_COUNT>::empty_at(storage(), first);
+    let mut join = Join(RingBuffer::new(storage()), Assembler::new(), first);
+    let here = stream(&mut receiver, &mut Numbers(numbers.0), capacity);
+    let text = stream(&mut join, numbers, capacity);
+    if here == text { text } else { format!("the receiver gives\n{here}and the join\n{text}") }
+}
+
+fn stream(stream: &mut impl Stream, numbers: &mut Numbers, capacity: usize) -> String {
+    let (ahead, mut text) = ([0, 0, 4][numbers.below(3)], String::new());
+    for byte in 1..=CALLS as u8 {
+        let (far, most) = ([4, capacity + 4][numbers.below(2)], [3, 3, 9, 60][numbers.below(4)]);
+        let (at, size) = (ahead + numbers.below(far), numbers.below(most));
+        let (next, _, _) = stream.state();
+        let pos = next.wrapping_add(at as u64).wrapping_sub(numbers.below(4) as u64);
+        let bytes: Vec<u8> = (0..size as u8).map(|at| byte ^ at << 3).collect();
+        let mut into = [byte; 60];
+        let gave = match numbers.below(4) {
+            0 => tried(|| (stream.read(&mut into[..size]), &into[..size])),
+            _ if pos.checked_add(size as u64).is_none() => "no such positions".into(),
+            _ => tried(|| stream.segment(pos, &bytes)),
+        };
+        writeln!(text, "{pos} {size}: {gave}, {:?}", stream.state()).unwrap();
     }
     text
 }

@@ -118,10 +118,6 @@
 //! abbrev pub contiguous_allocated : RingState T → ℕ → ℕ → ℕ
 //! contiguous_allocated g i n = min n (min (g.count - i) (length g.storage - queue_index g i))
 //!
-//! -- the index where the last k elements of the spare part begin: k elements before the read index
-//! abbrev pub last_dequeued_index : RingState T → ℕ → ℕ
-//! last_dequeued_index g k = storage_index g (length g.storage - k)
-//!
 //! -- ws is written over the storage from the index p on; what reaches past its end is cut off
 //! abbrev pub with_elements : RingState T → ℕ → List T → RingState T
 //! with_elements g p ws = ring (overwrite g.storage p ws) g.read_at g.count
@@ -138,6 +134,14 @@
 //! -- ones
 //! abbrev pub with_dequeued : ℕ → RingState T → RingState T
 //! with_dequeued k g = ring g.storage (storage_index g k) (g.count - k)
+//!
+//! -- x is written over the first spare element, which is enqueued
+//! abbrev pub with_one_enqueued : RingState T → T → RingState T
+//! with_one_enqueued g x = with_elements (with_enqueued 1 g) (write_at g) (x ∷ [])
+//!
+//! -- the first element of the queue is dequeued, and x is written over it
+//! abbrev pub with_one_dequeued : RingState T → T → RingState T
+//! with_one_dequeued g x = with_elements (with_dequeued 1 g) g.read_at (x ∷ [])
 //!
 //! -- a ring with an empty queue is read from the storage's beginning on
 //! abbrev pub rewind_if_empty : RingState T → RingState T
@@ -262,15 +266,12 @@
 //!       (length ws ≡ contiguous_window (rewind_if_empty g)) × (n ≤ length ws)
 //!       × (h ≡ with_elements (with_enqueued n (rewind_if_empty g)) (write_at (rewind_if_empty g)) ws)
 //!   Makes (EnqueueOne x) g h =
-//!       (window g ≢ 0) × (h ≡ with_elements (with_enqueued 1 g) (write_at g) (x ∷ []))
+//!       (window g ≢ 0) × (h ≡ with_one_enqueued g x)
 //!   Makes (EnqueueErr x) g h = (window g ≢ 0) × (h ≡ with_elements g (write_at g) (x ∷ []))
 //!   Makes (GetUnallocated i ws) g h =
 //!       (length ws ≡ contiguous_unallocated g i (length ws)) × (h ≡ with_elements g (spare_index g i) ws)
 //!   Makes (WriteUnallocated i ws) g h =
 //!       (length ws ≤ window g - i) × (h ≡ with_elements_wrapping g (spare_index g i) ws)
-//!   Makes (WriteLastDequeued ws) g h =
-//!       (length ws ≤ window g) × (last_dequeued_index g (length ws) + length ws ≤ capacity g)
-//!       × (h ≡ with_elements g (last_dequeued_index g (length ws)) ws)
 //!   Makes (PopBack x) g h =
 //!       (queue g ≡ queue h ++ (x ∷ [])) × (h ≡ ring g.storage g.read_at (g.count - 1))
 //!   Makes (Dequeue xs) g h =
@@ -283,7 +284,7 @@
 //!       × (h ≡ with_elements (with_dequeued n g) g.read_at ws)
 //!   Makes (DequeueOne x y) g h =
 //!       (g.count ≢ 0) × (queue g ≡ x ∷ drop 1 (queue g))
-//!       × (h ≡ with_elements (with_dequeued 1 g) g.read_at (y ∷ []))
+//!       × (h ≡ with_one_dequeued g y)
 //!   Makes (DequeueErr y) g h = (g.count ≢ 0) × (h ≡ with_elements g g.read_at (y ∷ []))
 //!   Makes (GetAllocatedMut i ws) g h =
 //!       (length ws ≡ contiguous_allocated g i (length ws)) × (h ≡ with_elements g (queue_index g i) ws)
@@ -691,10 +692,6 @@
 //! abbrev pub no_end : ℕ
 //! no_end = 2 ^ 64 - 1
 //!
-//! -- the first missing position, or the position after the last held byte if there is one
-//! abbrev pub top_of : ReceiverState → ℕ
-//! top_of v = max (next_position v) (bound_of (positions (domain v.held)))
-//!
 //! -- nothing has arrived
 //! abbrev pub fresh_finite : ℕ → ℕ → FiniteState
 //! fresh_finite first capacity = record { receiver = fresh_receiver first capacity; end = no_end }
@@ -776,7 +773,7 @@
 //! -- nothing was written
 //! abbrev pub fresh_finite_sender : ℕ → ℕ → FiniteSenderState
 //! fresh_finite_sender capacity first =
-//!     record { sender = sender_state capacity first [] [] (first + capacity); closed = 0; finished = 0; sent = first }
+//!     record { sender = sender_state capacity first [] (first + capacity); closed = 0; finished = 0; sent = first }
 //!
 //! -- the first number that isn't acknowledged
 //! abbrev pub first_number : FiniteSenderState → ℕ
@@ -788,7 +785,7 @@
 //!
 //! -- nothing can be written to a closed sender
 //! abbrev pub finite_room : FiniteSenderState → ℕ
-//! finite_room s = if nat_eq s.closed 0 then room_of s.sender else 0
+//! finite_room s = if nat_eq s.closed 0 then open_room s.sender else 0
 //!
 //! -- these bytes were written, if it isn't closed
 //! abbrev pub with_bytes : FiniteSenderState → List ℕ → FiniteSenderState
@@ -799,36 +796,31 @@
 //!   sent = s.sent;
 //! }
 //!
-//! -- the stream ends after what was written, if there is a number left for the end
+//! -- the stream ends after what was written
 //! abbrev pub closed_sender : FiniteSenderState → FiniteSenderState
-//! closed_sender s = record {
-//!   sender = s.sender;
-//!   closed = if nat_lt (end_of s.sender) no_end then 1 else s.closed;
-//!   finished = s.finished;
-//!   sent = s.sent;
-//! }
+//! closed_sender s = record { sender = s.sender; closed = 1; finished = s.finished; sent = s.sent }
 //!
 //! -- all numbers below n are acknowledged: the bytes among them, and the end if n is past it
-//! abbrev pub acknowledged_below : FiniteSenderState → ℕ → List (ℕ × ℕ) → FiniteSenderState
-//! acknowledged_below s n blocks = record {
-//!   sender = sender_from s.sender (min n (end_of s.sender)) blocks;
+//! abbrev pub acknowledged_below : FiniteSenderState → ℕ → FiniteSenderState
+//! acknowledged_below s n = record {
+//!   sender = sender_from s.sender (min n (end_of s.sender));
 //!   closed = s.closed;
 //!   finished = n - end_of s.sender;
 //!   sent = s.sent;
 //! }
 //!
-//! abbrev pub finite_sender_of : FiniteSenderHead → List ℕ → List (ℕ × ℕ) → FiniteSenderState
-//! finite_sender_of h xs blocks =
-//!     record { sender = sender_of h.sender xs blocks; closed = h.closed; finished = h.finished; sent = h.sent }
+//! abbrev pub finite_sender_of : FiniteSenderHead → List ℕ → FiniteSenderState
+//! finite_sender_of h xs =
+//!     record { sender = sender_of h.sender xs; closed = h.closed; finished = h.finished; sent = h.sent }
 //!
-//! -- the sender is sound; an end is acknowledged only after all bytes; and what was sent is between what is
-//! -- acknowledged and what there is
+//! -- the sender is sound; an end is acknowledged only after all bytes; what was sent is between what is
+//! -- acknowledged and what there is; and the end has a number, also before the sender is closed
 //! pub record IsSoundFiniteSender (capacity : ℕ) (h : FiniteSenderHead) : Type 0 where
 //!   pub sender : IsSoundHead capacity h.sender
 //!   pub closed : h.closed ≤ 1
 //!   pub finished : h.finished ≤ h.closed
 //!   pub none_left : 0 < h.finished → h.sender.place.length ≡ 0
-//!   pub fits : h.sender.first_unacknowledged + h.sender.place.length + h.closed < 2 ^ 64
+//!   pub fits : h.sender.first_unacknowledged + h.sender.place.length < no_end
 //!   pub low : h.sender.first_unacknowledged + h.finished ≤ h.sent
 //!   pub high : h.sent ≤ h.sender.first_unacknowledged + h.sender.place.length + h.closed
 //! ```
@@ -1112,6 +1104,24 @@
 //! # net_receiver, Segments
 //!
 //! ```text
+//! -- any segment: a refused one changes nothing, of any other xs is kept; the first missing position
+//! -- moves up by as many positions as bytes join the queue, and nothing is read
+//! pub record KeepsOrRefuses (v : ReceiverState) (xs : List ℕ) (u : ReceiverState)
+//!     (r : Result Kept TooManyHolesError) : Type 0 where
+//!   pub refused : OnErr r (u ≡ v)
+//!   pub kept : IfOk r (λ k. k.kept ≡ length xs)
+//!   pub queued : IfOk r (λ k. next_position u ≡ next_position v + k.queued)
+//!   pub grows : next_position v ≤ next_position u
+//!   pub read : u.read ≡ v.read
+//!
+//! -- one that begins at or below the first missing position: it is accepted, and the queue then goes
+//! -- on with xs, and with what was held after it
+//! pub record JoinsQueue (v : ReceiverState) (xs : List ℕ) (u : ReceiverState)
+//!     (r : Result Kept TooManyHolesError) : Type 0 where
+//!   pub accepted : IsOk r
+//!   pub joins : IfOk r (λ k. k.kept ≤ k.queued)
+//!   pub appends : u.queue ≡ v.queue ++ xs ++ drop (length v.queue + length xs) u.queue
+//!
 //! -- of the positions of a segment of n bytes at p, those in the free window whose bytes are not held
 //! abbrev pub new_count : ReceiverState → ℕ → ℕ → ℕ
 //! new_count v p n =
@@ -1123,9 +1133,9 @@
 //!
 //! ```text
 //! -- what is stored
-//! abbrev pub sender_of : SenderHead → List ℕ → List (ℕ × ℕ) → SenderState
-//! sender_of h xs blocks =
-//!     sender_state (length xs) h.first_unacknowledged (queue (ring_at xs h.place)) blocks
+//! abbrev pub sender_of : SenderHead → List ℕ → SenderState
+//! sender_of h xs =
+//!     sender_state (length xs) h.first_unacknowledged (queue (ring_at xs h.place))
 //!     (h.first_unacknowledged + (length xs - h.place.read_at))
 //!
 //! -- the queue is in the storage, and its end fits 64 bits
@@ -1137,17 +1147,10 @@
 //! # net_receiver, SenderState
 //!
 //! ```text
-//! -- a sender of this capacity, with this queue from position `head` on, with these SACK blocks, and whose
-//! -- storage begins again at `wraps_at`
-//! abbrev pub sender_state : ℕ → ℕ → List ℕ → List (ℕ × ℕ) → ℕ → SenderState
-//! sender_state capacity head queue sack_blocks wraps_at =
-//!     record {
-//!       capacity = capacity;
-//!       first_unacknowledged = head;
-//!       queue = queue;
-//!       sack_blocks = sack_blocks;
-//!       wraps_at = wraps_at;
-//!     }
+//! -- a sender of this capacity, with this queue from position `head` on, and whose storage begins again at `wraps_at`
+//! abbrev pub sender_state : ℕ → ℕ → List ℕ → ℕ → SenderState
+//! sender_state capacity head queue wraps_at =
+//!     record { capacity = capacity; first_unacknowledged = head; queue = queue; wraps_at = wraps_at }
 //!
 //! -- the position after the last byte
 //! abbrev pub end_of : SenderState → ℕ
@@ -1167,8 +1170,8 @@
 //!
 //! -- all bytes below position n were acknowledged; once n is past `wraps_at`, the storage begins again later by
 //! -- its length
-//! abbrev pub sender_from : SenderState → ℕ → List (ℕ × ℕ) → SenderState
-//! sender_from v n ranges = sender_state v.capacity n (drop (n - v.first_unacknowledged) v.queue) ranges
+//! abbrev pub sender_from : SenderState → ℕ → SenderState
+//! sender_from v n = sender_state v.capacity n (drop (n - v.first_unacknowledged) v.queue)
 //!     (if nat_lt n v.wraps_at then v.wraps_at else v.wraps_at + v.capacity)
 //!
 //! -- the queue is the rest of w, from its position on
@@ -1348,6 +1351,24 @@
 //! IsAcceptable next zero seq zero = seq ≡ next
 //! IsAcceptable next (suc w) seq zero = IsWithin next (suc w) seq
 //! IsAcceptable next window seq (suc n) = Meets next window seq (suc n)
+//!
+//! -- the RFC's special allowance for a window of no positions, in which no segment with any is acceptable
+//! abbrev pub IsProbe : ℕ → ℕ → ℕ → ℕ → Type 0
+//! IsProbe next window seq len = (window ≡ 0) × (seq ≡ next) × (0 < len)
+//!
+//! -- a reset in the window, but not at next; a SYN; and what isn't acceptable
+//! abbrev pub IsAnswered : ℕ → ℕ → Segment → Type 0
+//! IsAnswered next window s =
+//!     (IsTrue s.rst × (s.seq ≢ next) × IsAcceptable next window s.seq s.len)
+//!     ⊎ (IsFalse s.rst × (IsTrue s.syn
+//!     ⊎ ((¬ IsAcceptable next window s.seq s.len) × (¬ IsProbe next window s.seq s.len))))
+//!
+//! -- a reset out of the window; and what acknowledges nothing
+//! abbrev pub IsIgnored : ℕ → ℕ → Segment → Type 0
+//! IsIgnored next window s =
+//!     (IsTrue s.rst × (s.seq ≢ next) × (¬ IsAcceptable next window s.seq s.len))
+//!     ⊎ (IsFalse s.rst × IsFalse s.syn × IsFalse s.ack
+//!     × (IsAcceptable next window s.seq s.len ⊎ IsProbe next window s.seq s.len))
 //! ```
 //!
 //! # net_tcp, AdvertisedWindow
@@ -1401,22 +1422,36 @@
 //!
 //! -- s is the sum of the bytes xs, so far
 //! abbrev pub Sums : PartsSum → List ℕ → Type 0
-//! Sums s xs = (folded s.sum ≡ folded (word_sum xs)) × (from_bool s.odd ≡ length xs % 2)
+//! Sums s xs = (folded s.sum ≡ folded (word_sum xs)) × (s.odd ≡ length xs % 2)
 //! ```
 //!
 //! # net_tcp, PeerWindow
 //!
 //! ```text
-//! -- the RFC's SND.WL1 is w.seq, and its SND.WL2 is w.ack
-//! abbrev pub IsNewer : PeerWindow → ℕ → ℕ → Type 0
-//! IsNewer w seq ack = (w.seq < seq) ⊎ ((w.seq ≡ seq) × (w.ack ≤ ack))
+//! -- a segment that acknowledges more was sent later, whatever its number is. The RFC has only IsNewer, by
+//! -- which one forged segment ahead of all others shuts out each later one
+//! abbrev pub Replaces : PeerWindow → ℕ → ℕ → Type 0
+//! Replaces w seq ack = (w.ack < ack) ⊎ IsNewer w seq ack
 //!
 //! -- its edge is a position, so it is at most the last one
 //! abbrev pub window_from : ℕ → ℕ → ℕ → PeerWindow
 //! window_from seq ack window = record { edge = min (ack + window) (2 ^ 64 - 1); seq = seq; ack = ack }
 //!
-//! abbrev pub with_segment : PeerWindow → ℕ → ℕ → ℕ → PeerWindow
-//! with_segment w seq ack window = if is_newer w seq ack then window_from seq ack window else w
+//! -- the window after `update`: as it was, if what the segment acknowledges is below first or above sent
+//! abbrev pub after_update : PeerWindow → ℕ → ℕ → ℕ → ℕ → ℕ → PeerWindow
+//! after_update w first sent seq ack window = if nat_le first ack && nat_le ack sent then with_segment w seq ack window else w
+//!
+//! -- what was sent, but not beyond the window, nor below first
+//! abbrev pub acknowledgement_number : PeerWindow → ℕ → ℕ → ℕ
+//! acknowledgement_number w first sent = min sent (max w.edge first)
+//!
+//! -- the sender takes what a segment acknowledges
+//! abbrev pub acknowledged : Heard → Announcement → Heard
+//! acknowledged h s = if nat_le h.first s.ack && nat_le s.ack s.sent then record h { first = s.ack } else h
+//!
+//! -- `update` takes the window that it announces
+//! abbrev pub updated : Heard → Announcement → Heard
+//! updated h s = record h { peer = after_update h.peer h.first s.sent s.seq s.ack s.window }
 //! ```
 //!
 //! # net_tcp, RetransmissionTimeout

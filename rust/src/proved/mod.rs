@@ -8,3 +8,5 @@ pub mod net_assembler;
 pub mod net_receiver;
 pub mod net_base;
 pub mod net_tcp;
+#[cfg(feature = "c")]
+pub mod net_ffi;

@@ -16,6 +16,7 @@ impl<'a> FragmentBuffer<'a> {
     /// # let mut bytes = [0u8; 8];
     /// assert!(FragmentBuffer::new(&mut bytes[..], Instant::ZERO).is_empty());
     /// ```
+    #[must_use]
     pub fn new<S: Into<ManagedSlice<'a, u8>>>(storage: S, expires_at: Instant) -> Self {
         FragmentBuffer::empty(storage, expires_at)
     }
@@ -30,6 +31,7 @@ impl<'a, const N: usize> FragmentBuffer<'a, N> {
     /// # let mut bytes = [0u8; 8];
     /// assert!(FragmentBuffer::<8>::empty(&mut bytes[..], Instant::ZERO).is_empty());
     /// ```
+    #[must_use]
     pub fn empty<S: Into<ManagedSlice<'a, u8>>>(storage: S, expires_at: Instant) -> Self {
         FragmentsOver::over(storage.into(), expires_at)
     }

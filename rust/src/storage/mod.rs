@@ -5,6 +5,8 @@ mod assembler;
 mod fragment_buffer;
 mod packet_buffer;
 mod ring_buffer;
+#[cfg(feature = "std")]
+mod streams;
 
 use core::fmt;
 
@@ -43,6 +45,12 @@ error_text! {
         FragmentError::TooManyHoles => "too many holes",
         FragmentError::OtherSize => "another size is known",
     };
+}
+
+impl From<TooManyHolesError> for FragmentError {
+    fn from(_error: TooManyHolesError) -> Self {
+        FragmentError::TooManyHoles
+    }
 }
 
 /// An array of its own as storage: then the constructors `over` can make a `static`, as in the example `interrupt`.

@@ -32,6 +32,7 @@ struct Model {
     /// The end of the peer's window, and the segment that it is from.
     edge: i64,
     newest: (i64, i64),
+    greatest: i64,
 }
 
 impl Model {
@@ -62,6 +63,7 @@ impl Model {
             acked: 0,
             edge: 0x4000 << scale,
             newest: (0, 0),
+            greatest: 0x4000 << scale,
         };
         if own_scale > 0 {
             model.promised = model.capacity;
@@ -97,7 +99,8 @@ impl Model {
         assert!(at + len <= self.written + i64::from(self.closed), "{at} + {len}");
         assert!(!has_end || self.closed && at + len == self.written);
         if end == at {
-            assert_eq!(at, self.sent, "an acknowledgement has the next number");
+            let number = self.sent.min(self.edge.max(self.acked));
+            assert_eq!(at, number, "an acknowledgement isn't beyond the window");
         } else {
             assert!(self.acked <= at && at <= self.sent, "{at}: neither again nor next");
             let is_probe = self.edge <= self.acked && (at, end) == (self.acked, self.acked + 1);
@@ -169,11 +172,16 @@ impl Model {
         let held = self.talk.endpoint.receiver.len();
         let said = self.talk.say(&packet);
         let is_reset = has(RST) && at == next && !was_closed;
-        let is_taken = is_acceptable && !has(RST | SYN) && has(ACK) && ack <= self.sent;
-        if is_taken && self.acked <= ack {
-            if self.newest <= (at, ack) {
-                self.edge = ack + (i64::from(packet.window) << self.scales.1);
+        let is_probe = self.promised <= next && at == next && len > 0;
+        let acknowledges =
+            !has(RST | SYN) && has(ACK) && ack <= self.sent && self.acked <= ack + self.greatest;
+        let is_taken = is_acceptable && acknowledges;
+        if (is_taken || is_probe && acknowledges) && self.acked <= ack {
+            if self.acked < ack || self.newest <= (at, ack) {
+                let window = i64::from(packet.window) << self.scales.1;
+                self.edge = ack + window;
                 self.newest = (at, ack);
+                self.greatest = self.greatest.max(window);
             }
             self.acked = ack;
         }
@@ -182,7 +190,7 @@ impl Model {
         if !is_taken {
             assert_eq!(self.talk.endpoint.receiver.len(), held, "text that isn't acceptable");
             let is_silent = has(RST) && (!is_acceptable || at == next)
-                || is_acceptable && !has(RST | SYN | ACK);
+                || (is_acceptable || is_probe) && !has(RST | SYN | ACK);
             assert_eq!(said.len(), usize::from(!is_silent), "{packet:?}");
         } else if len > 0 && (at > next || has(FIN)) {
             assert_eq!(said.len(), 1, "out of order, and not acknowledged: {packet:?}");

@@ -8,12 +8,15 @@ use crate::tcp::Endpoint;
 use crate::wire::{Ends, Segment};
 
 const ONE_WAY: Duration = Duration::from_millis(5);
+const BEGUN: Instant = Instant::from_micros_const(1_000_000);
 
 struct End<const N: usize> {
     endpoint: Endpoint<N>,
     channel: Channel,
     text: Vec<u8>,
     written: usize,
+    /// When it begins to read, or `None` if it has to write all of its text first.
+    reads_at: Option<Instant>,
     read: Vec<u8>,
 }
 
@@ -25,13 +28,14 @@ impl<const N: usize> End<N> {
             channel: Channel::new(path.0, path.1),
             text: (0..len).map(|_| rand.rand_u32() as u8).collect(),
             written: 0,
+            reads_at: Some(BEGUN),
             read: vec![],
         }
     }
 
     /// Takes what has come, reads, writes and sends. Returns the packets that arrive 5 ms later.
     fn turn(&mut self, packets: &[Vec<u8>], now: Instant) -> Vec<Vec<u8>> {
-        let End { endpoint, channel, text, written, read } = self;
+        let End { endpoint, channel, text, written, reads_at, read } = self;
         let mut sent = vec![];
         channel.release(now, &mut |packet| sent.push(packet.to_vec()));
         let mut out = |packet: &[u8]| {
@@ -44,7 +48,9 @@ impl<const N: usize> End<N> {
             endpoint.answer(&mut out);
         }
         let mut into = [0; 4096];
-        while let count @ 1.. = endpoint.receiver.read(&mut into) {
+        let reads = reads_at.map_or(*written == text.len(), |at| at <= now);
+        while reads && !endpoint.receiver.is_empty() {
+            let count = endpoint.receiver.read(&mut into);
             read.extend(&into[..count]);
         }
         *written += endpoint.sender.write(&text[*written..]);
@@ -55,8 +61,9 @@ impl<const N: usize> End<N> {
         sent
     }
 
-    fn next(&self) -> Option<Instant> {
-        self.endpoint.timer.into_iter().chain(self.channel.next()).min()
+    fn next(&self, now: Instant) -> Option<Instant> {
+        let reads_at = self.reads_at.filter(|at| *at > now);
+        self.endpoint.timer.into_iter().chain(self.channel.next()).chain(reads_at).min()
     }
 }
 
@@ -69,11 +76,16 @@ fn run<const N: usize>(
     seed: u32,
 ) -> (u64, u64) {
     let ends = Ends { here: HERE, there: THERE };
-    let mut a = End::<N>::new(ends, false, (fates, seed), lens.0, capacity);
+    let a = End::<N>::new(ends, false, (fates, seed), lens.0, capacity);
     let ends = Ends { here: THERE, there: ([0; 4], 0) };
-    let mut b = End::<N>::new(ends, true, (fates, seed + 1), lens.1, capacity);
-    let (begun, mut on_the_way) = (Instant::from_secs(1), Vec::<(Instant, bool, Vec<u8>)>::new());
-    let (mut now, mut turns) = (begun, 0);
+    let b = End::<N>::new(ends, true, (fates, seed + 1), lens.1, capacity);
+    run_ends(a, b)
+}
+
+/// The same of two ends.
+fn run_ends<const N: usize>(mut a: End<N>, mut b: End<N>) -> (u64, u64) {
+    let mut on_the_way = Vec::<(Instant, bool, Vec<u8>)>::new();
+    let (mut now, mut turns) = (BEGUN, 0);
     while !(a.endpoint.is_closed() && b.endpoint.is_closed()) {
         turns += 1;
         let mut packets = [vec![], vec![]];
@@ -88,15 +100,15 @@ fn run<const N: usize>(
             on_the_way.extend(sent.into_iter().map(|packet| (now + ONE_WAY, to_b, packet)));
         }
         let arrivals = on_the_way.iter().map(|packet| packet.0);
-        let Some(next) = arrivals.chain(a.next()).chain(b.next()).min() else { break };
+        let Some(next) = arrivals.chain(a.next(now)).chain(b.next(now)).min() else { break };
         now = now.max(next);
-        let is_in_time = now - begun < Duration::from_secs(600) && turns < 20_000;
-        assert!(is_in_time, "not done: {capacity}, seed {seed}");
+        let is_in_time = now - BEGUN < Duration::from_secs(600) && turns < 20_000;
+        assert!(is_in_time, "not done: {} and {} bytes read", a.read.len(), b.read.len());
     }
-    assert!(a.read == b.text && b.read == a.text, "another text: {capacity}, seed {seed}");
+    assert!(a.read == b.text && b.read == a.text, "another text");
     assert!(a.endpoint.receiver.has_read_all() && b.endpoint.receiver.has_read_all());
     let again = a.endpoint.counts.sent_again + b.endpoint.counts.sent_again;
-    ((now - begun).total_millis(), again)
+    ((now - BEGUN).total_millis(), again)
 }
 
 fn fates(lost: u32, others: u32) -> Fates {
@@ -111,6 +123,41 @@ fn texts_arrive() {
             for (lost, others) in [(0, 0), (100, 100), (1_000, 300)] {
                 run::<4>(fates(lost, others), (len, len / 2), capacity, seed);
                 run::<32>(fates(lost, others), (0, len), capacity, seed);
+            }
+        }
+    }
+}
+
+/// Both ends open the connection.
+#[test]
+fn both_open_at_once() {
+    for seed in 0..20 {
+        for lost in [0, 2_000] {
+            let path = (fates(lost, 300), seed);
+            let ends = Ends { here: HERE, there: THERE };
+            let a = End::<4>::new(ends, false, path, 3_000, 1_000);
+            let ends = Ends { here: THERE, there: HERE };
+            run_ends(a, End::new(ends, false, (path.0, seed + 1), 2_000, 1_000));
+        }
+    }
+}
+
+/// Both ends fill the other's window, and read late: one once it has written all, the other one or both from a moment on.
+#[test]
+fn late_readers() {
+    let at = |millis| Some(BEGUN + Duration::from_millis(millis));
+    for capacity in [1, 1_000, 4_000, 20_000] {
+        for reads_at in
+            [(None, at(3_000)), (at(10_000), None), (at(700), at(3_000)), (at(10_000), at(10_000))]
+        {
+            for lost in [0, 500] {
+                let (path, len) = ((fates(lost, 0), 1), 10 * capacity);
+                let ends = Ends { here: HERE, there: THERE };
+                let mut a = End::<4>::new(ends, false, path, len, capacity);
+                let ends = Ends { here: THERE, there: ([0; 4], 0) };
+                let mut b = End::<4>::new(ends, true, path, len, capacity);
+                (a.reads_at, b.reads_at) = reads_at;
+                run_ends(a, b);
             }
         }
     }

@@ -10,6 +10,12 @@ fn challenge(said: &[Packet], acked: u32) -> &Packet {
     packet
 }
 
+/// The one answer is a reset with this number.
+fn is_reset(said: &[Packet], number: u32) {
+    let [packet] = said else { panic!("not one answer: {said:?}") };
+    assert_eq!((packet.flags, packet.number, packet.payload.len()), (RST, number, 0));
+}
+
 #[test]
 fn packets_of_linux() {
     // A SYN, and three bytes that it sent after the SYN-ACK.
@@ -93,8 +99,9 @@ fn handshakes() {
         assert_eq!((answer.option(3), answer.option(4)), (Some(&[scale][..]), Some(&[][..])));
     }
     let mut talk = Talk::<4>::new(true, 0x10_0000);
-    for ignored in [peer(0, 0), peer(0, 0).with(SYN), syn(&[]).with(RST)] {
-        assert_eq!(talk.say(&ignored), []);
+    assert_eq!(talk.say(&syn(&[]).with(RST)), []);
+    for unasked in [peer(0, 0), peer(0, 7).with(SYN)] {
+        is_reset(&talk.say(&unasked), unasked.acknowledged);
         assert_eq!((talk.endpoint.state, talk.wait(0)), (State::Listening, vec![]));
     }
     talk.say(&syn(&[]));
@@ -102,9 +109,10 @@ fn handshakes() {
     assert_eq!((answer.option(3), answer.option(4)), (None, None));
     // It is sent again after 1 s, 2 s, 4 s; numbers that it never had acknowledge nothing.
     assert_eq!(talk.expire(), (1_000_000, vec![answer.clone()]));
-    talk.say(&peer(0, 1));
-    talk.say(&peer(0, u32::MAX));
-    assert_eq!(talk.endpoint.state, State::Opening(true));
+    for acked in [1, u32::MAX] {
+        is_reset(&talk.say(&peer(0, acked)), peer(0, acked).acknowledged);
+        assert_eq!(talk.endpoint.state, State::Opening(true));
+    }
     assert_eq!(talk.expire(), (2_000_000, vec![answer.clone()]));
     talk.say(&peer(0, 0));
     assert_eq!(talk.endpoint.state, State::Open);
@@ -113,11 +121,14 @@ fn handshakes() {
     let first = &talk.wait(0)[0];
     assert_eq!((first.flags, first.number, first.acknowledged), (SYN, INITIAL, 0));
     assert_eq!((first.option(3), first.option(4)), (Some(&[5][..]), Some(&[][..])));
-    // Neither a reset nor a SYN that acknowledges another number, nor one that acknowledges none.
+    // Neither a reset nor a SYN that acknowledges another number, nor one that acknowledges none. Of
+    // them the SYN is answered by a reset.
     let answer = Packet { acknowledged: INITIAL.wrapping_add(1), ..syn(OPTIONS).with(ACK) };
     let answer = answer.window(100);
     let other = Packet { acknowledged: INITIAL, ..answer.clone() };
-    for packet in [other.clone(), other.with(RST), Packet { flags: RST, ..answer.clone() }] {
+    is_reset(&talk.say(&other), INITIAL);
+    is_reset(&talk.say(&Packet { flags: ACK, ..other.clone() }), INITIAL);
+    for packet in [other.with(RST), Packet { flags: RST, ..answer.clone() }] {
         assert_eq!((talk.say(&packet), talk.endpoint.state), (vec![], State::Opening(false)));
     }
     assert_eq!(challenge(&talk.say(&answer), 0).at(), 0);
@@ -128,6 +139,63 @@ fn handshakes() {
     let mut talk = Talk::<4>::new(false, 100);
     talk.say(&Packet { flags: RST | ACK, ..answer });
     assert_eq!(talk.endpoint.state, State::Reset);
+}
+
+#[test]
+fn both_open_at_once() {
+    let mut talk = Talk::<4>::new(false, 100);
+    let first = talk.wait(0).remove(0);
+    assert_eq!((first.flags, first.number), (SYN, INITIAL));
+    // The peer's SYN crosses the own one: it is acknowledged, with the own SYN once more.
+    assert_eq!(talk.say(&syn(OPTIONS)), []);
+    assert_eq!(talk.endpoint.state, State::Opening(true));
+    let answer = talk.wait(0).remove(0);
+    assert_eq!((answer.flags, answer.number, answer.acked()), (SYN | ACK, INITIAL, 0));
+    // So does the peer. Its SYN is a second one, and is answered; its next segment opens.
+    challenge(&talk.say(&peer(u32::MAX, 0).with(SYN)), 0);
+    assert_eq!(talk.say(&peer(0, 0).text(b"abc")), []);
+    assert_eq!((talk.endpoint.state, talk.read(9)), (State::Open, b"abc".to_vec()));
+    // A reset before that ends it: no one listened.
+    let mut talk = Talk::<4>::new(false, 100);
+    talk.wait(0);
+    talk.say(&syn(OPTIONS));
+    talk.say(&Packet { flags: RST, ..peer(0, 0) });
+    assert_eq!(talk.endpoint.state, State::Reset);
+}
+
+#[test]
+fn who_listens_goes_on() {
+    let mut talk = Talk::<4>::new(true, 0x10_0000);
+    for options in [&[][..], OPTIONS, &[]] {
+        talk.say(&syn(options));
+        let answer = talk.wait(0).remove(0);
+        assert_eq!((answer.flags, answer.option(3).is_some()), (SYN | ACK, options == OPTIONS));
+        assert_eq!(talk.expire().0, 1_000_000);
+        // Only at the next number.
+        talk.say(&Packet { flags: RST, ..peer(9, 0) });
+        assert_eq!(talk.endpoint.state, State::Opening(true));
+        talk.say(&Packet { flags: RST, ..peer(0, 0) });
+        assert_eq!((talk.endpoint.state, talk.wait(9_000_000)), (State::Listening, vec![]));
+    }
+    talk.say(&syn(OPTIONS));
+    talk.wait(0);
+    talk.say(&peer(0, 0).text(b"abc"));
+    assert_eq!((talk.endpoint.state, talk.read(9)), (State::Open, b"abc".to_vec()));
+}
+
+#[test]
+fn old_acknowledgements() {
+    // The greatest window that was announced has 0x10000 bytes.
+    let mut talk = Talk::<4>::open(64, OPTIONS);
+    challenge(&talk.say(&peer(0, 0u32.wrapping_sub(0x1_0001)).text(b"X")), 0);
+    assert!(talk.endpoint.receiver.is_empty());
+    talk.say(&peer(0, 0u32.wrapping_sub(0x1_0000)).text(b"abc"));
+    assert_eq!(talk.read(9), b"abc");
+    // A greater one was announced.
+    talk.say(&peer(3, 0).window(0x4001));
+    challenge(&talk.say(&peer(3, 0u32.wrapping_sub(0x1_0005)).text(b"X")), 3);
+    talk.say(&peer(3, 0u32.wrapping_sub(0x1_0004)).text(b"def"));
+    assert_eq!(talk.read(9), b"def");
 }
 
 #[test]
@@ -281,6 +349,18 @@ fn windows_open_and_close() {
             assert_eq!(read, at);
         }
     }
+    // At a shut window a segment at the first missing byte acknowledges, and is answered; its text isn't
+    // taken. One a byte further acknowledges nothing.
+    let mut talk = Talk::<4>::open(64, OPTIONS);
+    assert_eq!(talk.endpoint.sender.write(&[5; 10]), 10);
+    assert_eq!(talk.wait(0)[0].payload, [5; 10]);
+    talk.say(&peer(0, 0).text(&[7; 64]));
+    assert_eq!(challenge(&talk.wait(0), 64).window, 0);
+    assert_eq!(challenge(&talk.say(&peer(65, 10).text(b"x")), 64).window, 0);
+    assert!(talk.endpoint.timer.is_some());
+    assert_eq!(challenge(&talk.say(&peer(64, 10).text(b"x")), 64).window, 0);
+    assert!(talk.endpoint.timer.is_none() && talk.endpoint.sender.is_empty());
+    assert_eq!(talk.read(100), [7; 64]);
     // A few bytes that are read are no reason for an update, nor do they move the edge.
     let mut talk = Talk::<4>::open(4_000, OPTIONS);
     talk.say(&peer(0, 0).text(&[1; 1_400]));

@@ -59,14 +59,15 @@ fn the_peer_s_window() {
     talk.say(&peer(0, 1).window(5_000));
     talk.say(&peer(10, 0).window(5_000));
     assert_eq!(places(&talk.wait(0)), [(1501, 500)]);
-    // The acknowledgement of a byte doesn't move the edge, which is 2,001.
-    talk.say(&peer(9, 1001).window(5_000));
+    // One that acknowledges something new is, though its number is older, so that no forged segment
+    // ahead of it shuts it out: the edge stays at 2,001.
+    talk.say(&peer(9, 1001).window(250));
     assert_eq!(talk.wait(0), []);
     // A window that shrinks is obeyed: nothing new, and nothing again above its edge.
     talk.say(&peer(10, 1001).window(25));
     assert_eq!(places(&talk.expire().1), [(1001, 100)]);
-    // A number that was never sent takes no window.
-    assert_eq!(places(&talk.say(&peer(11, 3002).window(5_000))), [(2001, 0)]);
+    // A number that was never sent takes no window. The answer's own number is not above the edge.
+    assert_eq!(places(&talk.say(&peer(11, 3002).window(5_000))), [(1101, 0)]);
     assert_eq!(talk.wait(0), []);
 }
 

@@ -1,34 +1,40 @@
 //! Senders of a stream that ends.
 use crate::show::{bytes, digest, mix_bytes, pattern, truth, START};
+use crate::storages::{with_storage, Stored};
 use crate::{Call, Subject};
-use net_base::finite::FiniteSender;
+use net_base::finite::{FiniteSender, FiniteSenderOver};
+use net_base::storage::Storage;
 
 /// A sender, and its stream's first position.
-struct Closing<'a> {
-    sender: FiniteSender<'a>,
+struct Closing<S: Storage<u8>> {
+    sender: FiniteSenderOver<S>,
     first: u64,
 }
 
 pub fn with_sender(
     first: &Call,
-    is_owned: bool,
+    stored: Stored,
     f: &mut dyn FnMut(&mut dyn Subject) -> usize,
 ) -> usize {
-    let (mut storage, first) = (pattern(first.size(0), 0), first.at(1));
-    let sender = if is_owned {
-        FiniteSender::new_at(storage, first)
-    } else {
-        FiniteSender::new_at(&mut storage[..], first)
-    };
-    f(&mut Closing { sender, first })
+    let (bytes, first) = (pattern(first.size(0), 0), first.at(1));
+    with_storage!(
+        stored,
+        bytes,
+        |make| Closing { sender: FiniteSender::new_at(make(), first), first },
+        Closing { sender: FiniteSenderOver::over_at(make(), first), first },
+        f
+    )
 }
 
-impl Subject for Closing<'_> {
+impl<S: Storage<u8>> Subject for Closing<S> {
     fn make(&mut self, call: &Call) -> String {
         let (sender, one) = (&mut self.sender, call.at(0));
         match call.name {
             "write" => sender.write(&pattern(call.size(0), call.at(1))).to_string(),
-            "close" => truth(sender.close()).to_string(),
+            "close" => {
+                sender.close();
+                "done".to_string()
+            }
             "mark_sent" => truth(sender.mark_sent(one)).to_string(),
             "acknowledge" => truth(sender.acknowledge(one)).to_string(),
             "peek_at" => {
@@ -38,6 +44,10 @@ impl Subject for Closing<'_> {
             "is_block" => truth(sender.is_block(one, call.at(1))).to_string(),
             name => panic!("no call {name}"),
         }
+    }
+
+    fn debug(&self) -> String {
+        format!("{:?}", self.sender)
     }
 
     /// The first number that isn't acknowledged, the one after the last, and the one after the last that was sent,

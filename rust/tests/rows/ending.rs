@@ -1,35 +1,38 @@
 //! Receivers of a stream that ends.
 use crate::show::{bytes, digest, mix_bytes, pattern, truth, START};
+use crate::storages::{with_storage, Stored};
 use crate::{unless_panics, Call, Subject};
-use net_base::finite::{FiniteError, FiniteReceiver};
+use net_base::finite::{FiniteError, FiniteReceiver, FiniteReceiverOver};
+use net_base::storage::Storage;
 
 /// A receiver, and its stream's first position.
-struct Ending<'a, const N: usize> {
-    receiver: FiniteReceiver<'a, N>,
+struct Ending<S: Storage<u8>, const N: usize> {
+    receiver: FiniteReceiverOver<S, N>,
     first: u64,
 }
 
 pub fn with_ending<const N: usize>(
     first: &Call,
-    is_owned: bool,
+    stored: Stored,
     f: &mut dyn FnMut(&mut dyn Subject) -> usize,
 ) -> usize {
-    let (mut storage, first) = (pattern(first.size(0), 0), first.at(2));
-    let receiver = if is_owned {
-        FiniteReceiver::empty_at(storage, first)
-    } else {
-        FiniteReceiver::empty_at(&mut storage[..], first)
-    };
-    f(&mut Ending::<'_, N> { receiver, first })
+    let (bytes, first) = (pattern(first.size(0), 0), first.at(2));
+    with_storage!(
+        stored,
+        bytes,
+        |make| Ending::<_, N> { receiver: FiniteReceiver::empty_at(make(), first), first },
+        Ending::<_, N> { receiver: FiniteReceiverOver::over_at(make(), first), first },
+        f
+    )
 }
 
-impl<const N: usize> Subject for Ending<'_, N> {
+impl<S: Storage<u8>, const N: usize> Subject for Ending<S, N> {
     fn make(&mut self, call: &Call) -> String {
         let (receiver, one) = (&mut self.receiver, call.at(0));
         match call.name {
-            "segment" => {
+            "keep" => {
                 let data = pattern(call.size(1), call.at(2));
-                unless_panics("forbidden", || match receiver.segment(one, &data, call.at(3) == 1) {
+                unless_panics("forbidden", || match receiver.keep(one, &data, call.at(3) == 1) {
                     Ok(kept) => format!("{} {}", kept.kept, kept.queued),
                     Err(FiniteError::TooManyHoles) => "refused".to_string(),
                     Err(FiniteError::OtherEnd) => "other_end".to_string(),
@@ -48,19 +51,22 @@ impl<const N: usize> Subject for Ending<'_, N> {
         }
     }
 
+    fn debug(&self) -> String {
+        format!("{:?}", self.receiver)
+    }
+
     /// The first missing position; how many bytes are queued and free; how many runs are held; the end, or `-`; the
     /// acknowledged number; 0, 1 once all came, and 2 once all was read; the digest of the queue. Positions are counted
     /// from the stream's first.
     fn show(&mut self) -> String {
         let (finite, first) = (&self.receiver, self.first);
-        let receiver = finite.receiver();
-        let (one, other) = receiver.as_slices();
+        let (one, other) = finite.as_slices();
         format!(
             "{} {} {} {} {} {} {} {}",
-            receiver.next() - first,
-            receiver.len(),
-            receiver.window(),
-            receiver.held().count(),
+            finite.next() - first,
+            finite.len(),
+            finite.window(),
+            finite.held().count(),
             finite.end().map_or("-".to_string(), |end| (end - first).to_string()),
             finite.acknowledged() - first,
             u8::from(finite.is_complete()) + u8::from(finite.has_read_all()),

@@ -1,10 +1,11 @@
 //! Buffers of fragments.
 use crate::show::{bytes, pattern, truth};
+use crate::storages::{with_storage, Stored};
 use crate::{Call, Subject};
-use net_base::storage::{FragmentBuffer, FragmentError};
+use net_base::storage::{FragmentBuffer, FragmentError, FragmentsOver, Storage};
 use net_base::time::Instant;
 
-struct Buffer<'a, const N: usize>(FragmentBuffer<'a, N>);
+struct Buffer<S: Storage<u8>, const N: usize>(FragmentsOver<S, N>);
 
 /// The moment of a number of microseconds, whose sum with 2^64 stands for one below zero.
 fn moment(micros: u64) -> Instant {
@@ -13,16 +14,17 @@ fn moment(micros: u64) -> Instant {
 
 pub fn with_buffer<const N: usize>(
     first: &Call,
-    is_owned: bool,
+    stored: Stored,
     f: &mut dyn FnMut(&mut dyn Subject) -> usize,
 ) -> usize {
-    let (mut storage, expires_at) = (pattern(first.size(0), 0), moment(first.at(2)));
-    let buffer = if is_owned {
-        FragmentBuffer::empty(storage, expires_at)
-    } else {
-        FragmentBuffer::empty(&mut storage[..], expires_at)
-    };
-    f(&mut Buffer::<'_, N>(buffer))
+    let (bytes, expires_at) = (pattern(first.size(0), 0), moment(first.at(2)));
+    with_storage!(
+        stored,
+        bytes,
+        |make| Buffer::<_, N>(FragmentBuffer::empty(make(), expires_at)),
+        Buffer::<_, N>(FragmentsOver::over(make(), expires_at)),
+        f
+    )
 }
 
 fn taken(result: Result<(), FragmentError>) -> String {
@@ -35,7 +37,7 @@ fn taken(result: Result<(), FragmentError>) -> String {
     .to_string()
 }
 
-impl<const N: usize> Subject for Buffer<'_, N> {
+impl<S: Storage<u8>, const N: usize> Subject for Buffer<S, N> {
     fn make(&mut self, call: &Call) -> String {
         let buffer = &mut self.0;
         match call.name {
@@ -50,6 +52,10 @@ impl<const N: usize> Subject for Buffer<'_, N> {
             }
             name => panic!("no call {name}"),
         }
+    }
+
+    fn debug(&self) -> String {
+        format!("{:?}", self.0)
     }
 
     /// How many runs there are, and where the first one starts, or 0; whether there is none; the size, or 0, and whether

@@ -2,8 +2,9 @@
 use crate::show::{pattern, truth};
 use crate::{unless_panics, Call, Subject};
 use net_base::tcp::{
-    checksum, is_acceptable, is_valid, scale_for, scaled, updated_checksum, AdvertisedWindow,
-    PartsSum, PeerWindow, RetransmissionTimeout, RttEstimate, TimeoutBounds,
+    checksum, classify, is_acceptable, is_acknowledgement, is_valid, scale_for, scaled,
+    updated_checksum, AdvertisedWindow, Arrival, PartsSum, PeerWindow, RetransmissionTimeout,
+    RttEstimate, Segment, TimeoutBounds,
 };
 
 pub struct Tcp;
@@ -13,6 +14,8 @@ impl Subject for Tcp {
         let [one, two, three, four] = [0, 1, 2, 3].map(|index| call.at(index));
         match call.name {
             "is_acceptable" => truth(is_acceptable(one, two, three, four)).to_string(),
+            "classify" => arrival(call).to_string(),
+            "is_acknowledgement" => truth(is_acknowledgement(one, two, three, four)).to_string(),
             "scale_for" => scale_for(one).to_string(),
             "announce" | "announce_in_steps" | "is_update_due" => {
                 unless_panics("forbidden", || announce(call))
@@ -21,6 +24,10 @@ impl Subject for Tcp {
             "peer_room" => {
                 let peer = PeerWindow { edge: one, seq: 0, ack: 0 };
                 format!("{} {}", peer.usable(two), truth(peer.is_probe_allowed(two, three)))
+            }
+            "acknowledgement_number" => {
+                let peer = PeerWindow { edge: one, seq: 0, ack: 0 };
+                peer.acknowledgement_number(two, three).to_string()
             }
             "scaled" => unless_panics("forbidden", || scaled(one as u16, two as u8).to_string()),
             "checksum" => checksum(&pattern(call.size(0), two)).to_string(),
@@ -31,7 +38,10 @@ impl Subject for Tcp {
             }
             "first_sample" => estimate(RttEstimate::first(one)),
             "next_sample" => unless_panics("forbidden", || {
-                estimate(RttEstimate { srtt_8: one, rttvar_4: two }.with_sample(three))
+                let before = RttEstimate { srtt_8: one, rttvar_4: two };
+                let after = before.with_sample(three);
+                assert!(before.is_small());
+                estimate(after)
             }),
             "timeout" => {
                 let bounds = TimeoutBounds { least: three, most: four, tick: call.at(4) };
@@ -48,6 +58,18 @@ impl Subject for Tcp {
 
     fn show(&mut self) -> String {
         String::new()
+    }
+}
+
+fn arrival(call: &Call) -> &'static str {
+    let [syn, ack, rst] = [4, 5, 6].map(|index| call.at(index) != 0);
+    let segment = Segment { seq: call.at(2), len: call.at(3), syn, ack, rst };
+    match classify(call.at(0), call.at(1), segment) {
+        Arrival::Take => "take",
+        Arrival::AcknowledgementOnly => "acknowledgement",
+        Arrival::Answer => "answer",
+        Arrival::Ignore => "ignore",
+        Arrival::Reset => "reset",
     }
 }
 

@@ -10,7 +10,7 @@
 #define MAP_FAILED ((void *)-1)
 
 static inline void *mmap(void *at, uint64_t size, int protection, int flags, int file, int offset) {
-    static uint8_t pages[32 * 3 * 4096] __attribute__((aligned(4096)));
+    static uint8_t pages[48 * 3 * 4096] __attribute__((aligned(4096)));
     static uint64_t used;
     (void)at, (void)protection, (void)flags, (void)file, (void)offset;
     if (used + size > sizeof pages) return MAP_FAILED;

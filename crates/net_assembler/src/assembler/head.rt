@@ -1,21 +1,22 @@
 //! An assembler in parts: a head of two numbers, and runs that are kept elsewhere.
-ghost use Rattle.std.specs.Prelude.{◌≡◌, ℕ, List, ◌+◌, ◌*◌, ◌<◌, ◌≤◌, ◌↔◌, drop, length, IsTrue, OnErr};
+//!
+//! What is inline, and what is a call of its own, was chosen by counted instructions and bytes.
+ghost use Rattle.std.specs.Prelude.{◌≡◌, ℕ, List, ◌+◌, ◌-◌, ◌*◌, ◌<◌, ◌≤◌, ◌++◌, ◌∷◌, ◌^◌, ◌↔◌, drop, get_or};
+ghost use Rattle.std.specs.Prelude.{length, take, IsTrue, IfSome, OnErr};
+ghost use Rattle.std.specs.List.{slice_get};
 ghost use Rattle.net_assembler.specs.AssemblerLaws.{Adds, AddsThenRemovesFront, RemovesFront};
-ghost use Rattle.net_assembler.specs.Positions.{RangeFits, front, nothing, runs as run_count, shift_down};
-ghost use Rattle.net_assembler.specs.Positions.{with_range};
-ghost use Rattle.net_assembler.specs.RunLists.{AreRuns, FitsFrom, HasSoundRuns, IsCanonical};
-ghost use Rattle.net_assembler.specs.RunLists.{IsRising, runs_of, runs_shifted_down, set_of};
-ghost use Rattle.net_assembler.specs.RunLists.{start_at, used_runs};
+ghost use Rattle.net_assembler.specs.Heads.{AddsInPlace};
+ghost use Rattle.net_assembler.specs.Positions.{RangeFits, are_same, contains, front, holes, holes_before};
+ghost use Rattle.net_assembler.specs.Positions.{maximal_runs, nothing, runs as run_count, runs_shifted_up};
+ghost use Rattle.net_assembler.specs.Positions.{shift_down};
+ghost use Rattle.net_assembler.specs.RunLists.{AreRuns, FitsFrom, HasSoundRuns, IsCanonical, IsRising};
+ghost use Rattle.net_assembler.specs.RunLists.{JoinsRange, end_at, runs_of, runs_shifted_down, runs_wrapped};
+ghost use Rattle.net_assembler.specs.RunLists.{set_of, set_of_runs, start_at, used_runs, wrapped_run};
 ghost use Rattle.net_assembler.specs.Turns.{TurnsWithin, binary_digits};
 
-mod reads;
-
-use super::TooManyHolesError;
-use super::joins::{join_before, join_range};
-use super::moves::shift_runs_down;
 use super::run::{Run, end_of, start_of};
-use super::search::runs_starting_by;
 use super::turns::Turns;
+use super::{HoleIter, RunIter, TooManyHolesError};
 
 /// What an assembler has besides its runs: how many there are, and where the first of them starts.
 ///
@@ -81,6 +82,42 @@ impl AssemblerHead {
         *self = AssemblerHead::new();
     }
 
+    /// Returns the length of the run at position 0, or 0 if position 0 is missing.
+    ///
+    /// # Requires
+    ///
+    /// The head is sound with the runs, as `is_sound` tests.
+    #[inline(always)]
+    pub fn peek_front(&self, runs: &[Run]) -> usize
+        requires { HasSoundRuns self.now runs.now }
+        ensures { result ≡ front (set_of self.now runs.now) }
+    {
+        if self.first_start != 0 {
+            return 0;
+        }
+        if self.used == 0 { 0 } else { end_of(runs, 0) }
+    }
+
+    /// Returns whether no position is present.
+    #[inline]
+    pub fn is_empty(&self) -> bool
+        ensures used { IsTrue result ↔ (self.now.used ≡ 0) }
+        ensures empty { (runs : List (ℕ × ℕ)) → HasSoundRuns self.now runs →
+            (IsTrue result ↔ (set_of self.now runs ≡ nothing)) }
+    {
+        self.used == 0
+    }
+
+    /// Returns how many maximal runs there are: `used`.
+    #[inline]
+    pub fn run_count(&self) -> usize
+        ensures used { result ≡ self.now.used }
+        ensures count { (runs : List (ℕ × ℕ)) → HasSoundRuns self.now runs →
+            result ≡ run_count (set_of self.now runs) }
+    {
+        self.used
+    }
+
     /// Returns whether `offset + size` fits `usize`, which all calls that add a range require.
     #[inline]
     pub fn fits(offset: usize, size: usize) -> bool
@@ -140,31 +177,7 @@ impl AssemblerHead {
         ensures turns { let n = length runs.old in
             TurnsWithin (2 * binary_digits n) n turns.old turns.new }
     {
-        if size == 0 {
-            return Ok(());
-        }
-        // No run waits: the range is the first.
-        if self.used == 0 {
-            if self.used == runs.len() {
-                return Err(TooManyHolesError);
-            }
-            self.first_start = offset;
-            runs[0] = Run {
-                start: 0,
-                end: size,
-            };
-            self.used = 1;
-            return Ok(());
-        }
-        if offset < self.first_start {
-            let by = self.first_start - offset;
-            self.used = join_before(runs, self.used, by, size, turns)?;
-            self.first_start = offset;
-        } else {
-            let start = offset - self.first_start;
-            self.used = join_range(runs, self.used, start, start + size, turns)?;
-        }
-        Ok(())
+        self.add_range(runs, offset, size, false, turns)
     }
 
     /// Removes the run at position 0, counts all later positions from its end, and returns its
@@ -187,31 +200,11 @@ impl AssemblerHead {
         ensures room { 0 < result → run_count (set_of self.new runs.new) < length runs.old }
         ensures canonical { IsCanonical self.old → IsCanonical self.new }
     {
-        self.remove_front_counted(runs, &mut Turns::new())
-    }
-
-    /// Removes the front as `remove_front` does, and counts each iteration of a loop as
-    /// `add_counted` does. There are no looks.
-    #[inline(always)]
-    pub(crate) fn remove_front_counted(&mut self, runs: &mut [Run], turns: &mut Turns) -> usize
-        requires { HasSoundRuns self.old runs.old }
-        ensures sound { HasSoundRuns self.new runs.new }
-        ensures removed { RemovesFront (length runs.old) (set_of self.old runs.old)
-            result (set_of self.new runs.new) }
-        ensures unchanged { result ≡ 0 → (self.new ≡ self.old) × (runs.new ≡ runs.old) }
-        ensures fewer { 0 < result → run_count (set_of self.new runs.new) + 1
-            ≡ run_count (set_of self.old runs.old) }
-        ensures room { 0 < result → run_count (set_of self.new runs.new) < length runs.old }
-        ensures canonical { IsCanonical self.old → IsCanonical self.new }
-        ensures turns { TurnsWithin 0 (length runs.old) turns.old turns.new }
-        ensures waiting { run_count (set_of self.new runs.new)
-            ≡ run_count (set_of self.old runs.old) → turns.new ≡ turns.old }
-    {
         let size = self.peek_front(runs);
         if size == 0 {
             return 0;
         }
-        self.drop_front(runs, 1, size, turns);
+        self.drop_front(runs, 1, size);
         size
     }
 
@@ -239,24 +232,21 @@ impl AssemblerHead {
         }
         // The last run that starts by then is cut, or ends by then; those before it end by then.
         let by = count - self.first_start;
-        let turns = &mut Turns::new();
-        let met = runs_starting_by(&runs[..self.used], 1, by, turns);
+        let met = runs_starting_by(&runs[..self.used], 1, 0, by, &mut Turns::new());
         let last = met - 1;
         let end = end_of(runs, last);
         if end <= by {
-            self.drop_front(runs, met, by, turns);
+            self.drop_front(runs, met, by);
             return;
         }
         runs[last] = Run { start: by, end };
-        self.drop_front(runs, last, by, turns);
+        self.drop_front(runs, last, by);
     }
 
     /// Adds a range and then removes the front, as `Assembler::add_then_remove_front` does with the
     /// slice's length in place of `N`.
     ///
-    /// A range at 0 is never refused. If one is refused, head and runs stay as they were. Data that
-    /// is next in order takes no iteration of a loop, however many runs there are, unless one of
-    /// them is removed.
+    /// A range at 0 is never refused. If one is refused, head and runs stay as they were.
     ///
     /// # Requires
     ///
@@ -279,143 +269,306 @@ impl AssemblerHead {
             ≤ run_count (set_of self.old runs.old) + 1 }
         ensures canonical { IsCanonical self.old → IsCanonical self.new }
     {
-        self.add_then_remove_front_counted(runs, offset, size, &mut Turns::new())
+        if offset == 0 {
+            //  0 |=== range ===|    |--- first ---|      the range is the front, the runs remain
+            if size < self.first_start {
+                self.first_start -= size;
+                return Ok(size);
+            }
+            //  0 |=== range ===|
+            //             |--- only run ---|             all is the front, nothing remains
+            if self.used <= 1 {
+                let mut end = size;
+                if self.used == 1 {
+                    end = end.max(self.first_start + end_of(runs, 0));
+                }
+                *self = AssemblerHead::new();
+                return Ok(end);
+            }
+        }
+        let fits = Self::fits(offset, size);
+        prove!(fits, "the range's end is above `usize::MAX`");
+        self.add_apart(runs, offset, size, &mut Turns::new())?;
+        Ok(self.remove_front(runs))
     }
 
-    /// Adds a range and removes the front as `add_then_remove_front` does, and counts each iteration
-    /// of a loop as `add_counted` does.
+    /// Returns the maximal runs as (start, end), the end not included, in rising order.
+    ///
+    /// # Requires
+    ///
+    /// The head is sound with the runs, as `is_sound` tests.
+    #[inline]
+    pub fn iter_data<'a>(&self, runs: &'a [Run]) -> RunIter<'a>
+        requires { HasSoundRuns self.now runs.now }
+        ensures runs { result ≡ maximal_runs (set_of self.now runs.now) }
+        ensures bound { length result ≤ length runs.now }
+    {
+        RunIter::over(&runs[..self.used], self.first_start)
+    }
+
+    /// Returns the maximal run with number `k`, counted from 0 in rising order, as (start, end),
+    /// the end not included; `None` exactly if there are no more than `k`.
+    ///
+    /// # Requires
+    ///
+    /// The head is sound with the runs, as `is_sound` tests.
+    #[inline]
+    pub fn run_at(&self, runs: &[Run], k: usize) -> Option<(usize, usize)>
+        requires { HasSoundRuns self.now runs.now }
+        ensures run { result ≡ slice_get (maximal_runs (set_of self.now runs.now)) k }
+        ensures some { IfSome result (λ r. r.0 < r.1) }
+    {
+        if k < self.used {
+            let start = self.first_start + start_of(runs, k);
+            let end = self.first_start + end_of(runs, k);
+            Some((start, end))
+        } else {
+            None
+        }
+    }
+
+    /// Returns whether `position` is present.
+    ///
+    /// # Requires
+    ///
+    /// The head is sound with the runs, as `is_sound` tests.
+    pub fn contains(&self, runs: &[Run], position: usize) -> bool
+        requires { HasSoundRuns self.now runs.now }
+        ensures { result ≡ contains (set_of self.now runs.now) position }
+    {
+        position >= self.first_start && holds(&runs[..self.used], position - self.first_start)
+    }
+
+    /// Returns the holes as (start, end), the end not included, in rising order.
+    ///
+    /// # Requires
+    ///
+    /// The head is sound with the runs, as `is_sound` tests.
+    #[inline]
+    pub fn holes<'a>(&self, runs: &'a [Run]) -> HoleIter<'a>
+        requires { HasSoundRuns self.now runs.now }
+        ensures holes { result ≡ holes (set_of self.now runs.now) }
+        ensures bound { length result ≤ length runs.now }
+    {
+        let mut rest = self.iter_data(runs);
+        if self.first_start > 0 {
+            return HoleIter::before(rest, 0);
+        }
+        // No hole is before a run at 0.
+        match rest.next() {
+            Some((_, end)) => HoleIter::before(rest, end),
+            None => HoleIter::before(rest, 0),
+        }
+    }
+
+    /// Returns the hole with number `k`, counted from 0 in rising order, as (start, end), the end not
+    /// included; `None` exactly if there are no more than `k`. Holes are the missing ranges below
+    /// the end of the last run.
+    ///
+    /// # Requires
+    ///
+    /// The head is sound with the runs, as `is_sound` tests.
+    pub fn hole_at(&self, runs: &[Run], k: usize) -> Option<(usize, usize)>
+        requires { HasSoundRuns self.now runs.now }
+        ensures hole { result ≡ slice_get (holes (set_of self.now runs.now)) k }
+        ensures some { IfSome result (λ h. h.0 < h.1) }
+    {
+        if self.first_start == 0 {
+            return self.hole_after(runs, k);
+        }
+        if k > 0 {
+            return self.hole_after(runs, k - 1);
+        }
+        if self.used > 0 {
+            Some((0, self.first_start))
+        } else {
+            None
+        }
+    }
+
+    /// Returns whether the same positions are present in another assembler.
+    ///
+    /// # Requires
+    ///
+    /// Both heads are sound with their runs, as `is_sound` tests.
+    pub fn is_same(&self, runs: &[Run], other: &AssemblerHead, other_runs: &[Run]) -> bool
+        requires sound { HasSoundRuns self.now runs.now }
+        requires other_sound { HasSoundRuns other.now other_runs.now }
+        ensures test { result ≡ are_same (set_of self.now runs.now)
+            (set_of other.now other_runs.now) }
+        ensures same { IsTrue result
+            ↔ (set_of self.now runs.now ≡ set_of other.now other_runs.now) }
+    {
+        if self.used == 0 {
+            return other.used == 0;
+        }
+        self.first_start == other.first_start && runs[..self.used] == other_runs[..other.used]
+    }
+
+    /// Adds a range as `add_counted` does. If `apart`, the rule for a range that starts in or before
+    /// the runs is a call.
+    ///
+    /// The most frequent cases are tested first and take no loop: a range after all runs, and one
+    /// that starts in the last run.
     #[inline(always)]
-    pub(crate) fn add_then_remove_front_counted(
+    fn add_range(
+        &mut self,
+        runs: &mut [Run],
+        offset: usize,
+        size: usize,
+        apart: bool,
+        turns: &mut Turns,
+    ) -> Result<(), TooManyHolesError>
+        requires sound { HasSoundRuns self.old runs.old }
+        requires range { RangeFits offset size }
+        ensures { AddsInPlace self.old runs.old offset size result self.new runs.new turns.old turns.new }
+    {
+        if size == 0 {
+            return Ok(());
+        }
+        if self.used == 0 {
+            if runs.is_empty() {
+                return Err(TooManyHolesError);
+            }
+            self.first_start = offset;
+        } else if offset < self.first_start {
+            //  |=== range ==...     |--- first ---|      runs are counted from the range's start then
+            let by = self.first_start - offset;
+            return self.join(runs, by, 0, size, apart, turns);
+        }
+        let start = offset - self.first_start;
+        let end = start + size;
+        //  |--- last ---|    |=== range ===|      it is a run of its own, the last
+        if self.used == 0 || end_of(runs, self.used - 1) < start {
+            if self.used == runs.len() {
+                return Err(TooManyHolesError);
+            }
+            runs[self.used] = Run { start, end };
+            self.used += 1;
+            return Ok(());
+        }
+        //  |--- last ---|
+        //       |=== range ===|                   that run grows
+        let last = self.used - 1;
+        let last_start = start_of(runs, last);
+        if last_start <= start {
+            runs[last] = Run {
+                start: last_start,
+                end: end_of(runs, last).max(end),
+            };
+            return Ok(());
+        }
+        self.join(runs, 0, start, end, apart, turns)
+    }
+
+    /// Adds a range as `add_counted` does, by a call.
+    #[inline(never)]
+    fn add_apart(
         &mut self,
         runs: &mut [Run],
         offset: usize,
         size: usize,
         turns: &mut Turns,
-    ) -> Result<usize, TooManyHolesError>
+    ) -> Result<(), TooManyHolesError>
         requires sound { HasSoundRuns self.old runs.old }
         requires range { RangeFits offset size }
-        ensures sound { HasSoundRuns self.new runs.new }
-        ensures both { AddsThenRemovesFront (length runs.old) (set_of self.old runs.old)
-            offset size result (set_of self.new runs.new) }
-        ensures unchanged { OnErr result ((self.new ≡ self.old) × (runs.new ≡ runs.old)) }
-        ensures more { run_count (set_of self.new runs.new)
-            ≤ run_count (set_of self.old runs.old) + 1 }
-        ensures canonical { IsCanonical self.old → IsCanonical self.new }
-        ensures turns { let n = length runs.old in
-            TurnsWithin (2 * binary_digits n) (2 * n) turns.old turns.new }
-        ensures waiting { offset ≡ 0 → run_count (set_of self.new runs.new)
-            ≡ run_count (set_of self.old runs.old) → turns.new ≡ turns.old }
+        ensures { AddsInPlace self.old runs.old offset size result self.new runs.new turns.old turns.new }
     {
-        if offset == 0 {
-            return Ok(self.complete_front(runs, size, turns));
-        }
-        let fits = Self::fits(offset, size);
-        prove!(fits, "the range's end is above `usize::MAX`");
-        // Position 0 is missing and stays missing, so nothing is removed. This is the case of most
-        // data that arrives too early; one comparison tells it, and that the range doesn't begin
-        // before the runs.
-        if self.waits_before(offset) {
-            self.add_counted(runs, offset, size, turns)?;
-            return Ok(0);
-        }
-        self.add_counted(runs, offset, size, turns)?;
-        Ok(self.remove_front_counted(runs, turns))
+        self.add_range(runs, offset, size, true, turns)
     }
 
-    /// Returns whether there is a run, and the first one starts after 0, but not after `offset`. If
-    /// so, position 0 is missing.
+    /// Joins a range with the runs. It isn't after the last of them. `start` and `end` are counted
+    /// from `by` positions before the first run, and so are the runs then; `by` is 0 unless the
+    /// range starts there. If `apart`, it is a call.
     #[inline(always)]
-    fn waits_before(&self, offset: usize) -> bool
-        ensures { (runs : List (ℕ × ℕ)) → HasSoundRuns self.now runs → IsTrue result →
-            (0 < offset) × (front (set_of self.now runs) ≡ 0) }
-    {
-        if self.used == 0 || self.first_start == 0 {
-            return false;
-        }
-        self.first_start <= offset
-    }
-
-    /// Adds the positions below `size`, then removes the run at 0, counts the others from its end,
-    /// and returns its length.
-    ///
-    /// There is always room, since the run is never written.
-    #[inline(always)]
-    fn complete_front(&mut self, runs: &mut [Run], size: usize, turns: &mut Turns) -> usize
-        requires { HasSoundRuns self.old runs.old }
-        ensures sound { HasSoundRuns self.new runs.new }
-        ensures size { result ≡ front (with_range (set_of self.old runs.old) 0 size) }
-        ensures rest { let all = with_range (set_of self.old runs.old) 0 size in
-            set_of self.new runs.new ≡ shift_down all result }
-        ensures fewer { run_count (set_of self.new runs.new)
-            ≤ run_count (set_of self.old runs.old) }
-        ensures bound { run_count (set_of self.new runs.new) ≤ length runs.old }
-        ensures canonical { IsCanonical self.old → IsCanonical self.new }
-        ensures turns { let n = length runs.old in
-            TurnsWithin (binary_digits n) n turns.old turns.new }
-        ensures waiting { run_count (set_of self.new runs.new)
-            ≡ run_count (set_of self.old runs.old) → turns.new ≡ turns.old }
-    {
-        // All runs are after a hole. The range itself is the front, and the runs remain.
-        if size < self.first_start {
-            self.first_start -= size;
-            return size;
-        }
-        // There is no run: the range itself is the front.
-        if self.used == 0 {
-            return size;
-        }
-        self.complete_met(runs, size, turns)
-    }
-
-    /// Does what `complete_front` does where there are runs and the range reaches the first of them.
-    // Most data that comes next meets no run. If this were inline, with its loops, the tests before it
-    // would have fewer registers.
-    #[inline(never)]
-    fn complete_met(&mut self, runs: &mut [Run], size: usize, turns: &mut Turns) -> usize
+    fn join(
+        &mut self,
+        runs: &mut [Run],
+        by: usize,
+        start: usize,
+        end: usize,
+        apart: bool,
+        turns: &mut Turns,
+    ) -> Result<(), TooManyHolesError>
         requires sound { HasSoundRuns self.old runs.old }
         requires some { 0 < self.old.used }
-        requires reaches { self.old.first_start ≤ size }
-        ensures sound { HasSoundRuns self.new runs.new }
-        ensures size { result ≡ front (with_range (set_of self.old runs.old) 0 size) }
-        ensures rest { let all = with_range (set_of self.old runs.old) 0 size in
-            set_of self.new runs.new ≡ shift_down all result }
-        ensures fewer { run_count (set_of self.new runs.new)
-            ≤ run_count (set_of self.old runs.old) }
-        ensures bound { run_count (set_of self.new runs.new) ≤ length runs.old }
-        ensures canonical { IsCanonical self.old → IsCanonical self.new }
-        ensures turns { let n = length runs.old in
-            TurnsWithin (binary_digits n) n turns.old turns.new }
-        ensures waiting { run_count (set_of self.new runs.new)
-            ≡ run_count (set_of self.old runs.old) → turns.new ≡ turns.old }
+        requires by { by ≤ self.old.first_start }
+        requires one_way { 0 < by → start ≡ 0 }
+        requires range { start < end }
+        requires last { start ≤ end_at runs.old (self.old.used - 1) }
+        requires fits { self.old.first_start - by + end < 2 ^ 64 }
+        ensures { let offset = self.old.first_start - by + start in
+            AddsInPlace self.old runs.old offset (end - start) result self.new runs.new turns.old turns.new }
     {
-        // Nothing is added: the run at 0 is removed.
-        if size == 0 {
-            return self.remove_front_counted(runs, turns);
+        if apart {
+            self.join_apart(runs, by, start, end, turns)
+        } else {
+            self.join_here(runs, by, start, end, turns)
         }
-        // The range reaches the first run, or more. The front ends where the last of these does, or
-        // where the range does, and these are removed with it.
-        let reach = size - self.first_start;
-        let met = runs_starting_by(&runs[..self.used], 1, reach, turns);
-        let end = end_of(runs, met - 1).max(reach);
-        let size = self.first_start + end;
-        self.drop_front(runs, met, end, turns);
-        size
+    }
+
+    /// Does what `join` does, as a call.
+    #[inline(never)]
+    fn join_apart(
+        &mut self,
+        runs: &mut [Run],
+        by: usize,
+        start: usize,
+        end: usize,
+        turns: &mut Turns,
+    ) -> Result<(), TooManyHolesError>
+        requires sound { HasSoundRuns self.old runs.old }
+        requires some { 0 < self.old.used }
+        requires by { by ≤ self.old.first_start }
+        requires one_way { 0 < by → start ≡ 0 }
+        requires range { start < end }
+        requires last { start ≤ end_at runs.old (self.old.used - 1) }
+        requires fits { self.old.first_start - by + end < 2 ^ 64 }
+        ensures { let offset = self.old.first_start - by + start in
+            AddsInPlace self.old runs.old offset (end - start) result self.new runs.new turns.old turns.new }
+    {
+        self.join_here(runs, by, start, end, turns)
+    }
+
+    /// Does what `join` does, where it is called.
+    #[inline(always)]
+    fn join_here(
+        &mut self,
+        runs: &mut [Run],
+        by: usize,
+        start: usize,
+        end: usize,
+        turns: &mut Turns,
+    ) -> Result<(), TooManyHolesError>
+        requires sound { HasSoundRuns self.old runs.old }
+        requires some { 0 < self.old.used }
+        requires by { by ≤ self.old.first_start }
+        requires one_way { 0 < by → start ≡ 0 }
+        requires range { start < end }
+        requires last { start ≤ end_at runs.old (self.old.used - 1) }
+        requires fits { self.old.first_start - by + end < 2 ^ 64 }
+        ensures { let offset = self.old.first_start - by + start in
+            AddsInPlace self.old runs.old offset (end - start) result self.new runs.new turns.old turns.new }
+    {
+        self.used = join_range(runs, self.used, by, start, end, turns)?;
+        self.first_start -= by;
+        Ok(())
     }
 
     /// Removes the first `count` runs and all positions below `end`, and counts the others from
     /// there. `end` is counted as the runs are.
-    #[inline(always)]
-    fn drop_front(&mut self, runs: &mut [Run], count: usize, end: usize, turns: &mut Turns)
+    #[inline(never)]
+    fn drop_front(&mut self, runs: &mut [Run], count: usize, end: usize)
         requires room { self.old.used ≤ length runs.old }
         requires runs { AreRuns (used_runs self.old runs.old) }
         requires fits { FitsFrom self.old.first_start (used_runs self.old runs.old) }
         requires count { count ≤ self.old.used }
+        requires some { 0 < end }
         requires after { count < self.old.used → end ≤ start_at runs.old count }
         ensures sound { HasSoundRuns self.new runs.new }
         ensures runs { runs_of self.new runs.new
             ≡ runs_shifted_down end (drop count (used_runs self.old runs.old)) }
         ensures canonical { IsCanonical self.new }
-        ensures turns { TurnsWithin 0 (length runs.old) turns.old turns.new }
     {
         let used = self.used;
         self.used = used - count;
@@ -423,8 +576,33 @@ impl AssemblerHead {
             self.first_start = 0;
             return;
         }
-        self.first_start = start_of(runs, count) - end;
-        shift_runs_down(runs, used, count, turns);
+        // A sum that wraps lowers their numbers.
+        let start = start_of(runs, count);
+        self.first_start = start - end;
+        remove_runs(
+            runs,
+            used,
+            0,
+            count,
+            start.wrapping_neg(),
+            &mut Turns::new(),
+        );
+    }
+
+    /// Returns the hole after the run `k`, if there is a run after it.
+    #[inline(always)]
+    fn hole_after(&self, runs: &[Run], k: usize) -> Option<(usize, usize)>
+        requires { HasSoundRuns self.now runs.now }
+        ensures hole { let rs = runs_of self.now runs.now in
+            result ≡ slice_get (holes_before (end_at rs 0) (drop 1 rs)) k }
+        ensures some { IfSome result (λ h. h.0 < h.1) }
+    {
+        if self.used.saturating_sub(k) < 2 {
+            return None;
+        }
+        let start = self.first_start + end_of(runs, k);
+        let end = self.first_start + start_of(runs, k + 1);
+        Some((start, end))
     }
 }
 
@@ -446,4 +624,178 @@ fn rise_after(runs: &[Run], after: usize, first_start: usize) -> bool
         }
     }
     true
+}
+
+/// Joins a range that isn't empty, and isn't after the last run, with the runs, each counted `by`
+/// higher, that it meets or touches. Returns how many runs there are then.
+///
+/// One rule: the runs from `first` up to `next` become one with the range, and those after them move
+/// up or down, or stay. `by` isn't 0 only for a range that starts at 0, before the first run.
+#[inline(always)]
+fn join_range(
+    runs: &mut [Run],
+    used: usize,
+    by: usize,
+    start: usize,
+    end: usize,
+    turns: &mut Turns,
+) -> Result<usize, TooManyHolesError>
+    requires used { used ≤ length runs.old }
+    requires runs { AreRuns (take used runs.old) }
+    requires fits { FitsFrom by (take used runs.old) }
+    requires waiting { 0 < used }
+    requires some { start < end }
+    requires one_way { 0 < by → start ≡ 0 }
+    requires last { start ≤ end_at (take used runs.old) (used - 1) }
+    ensures joined { let counted = runs_shifted_up by (take used runs.old) in
+        JoinsRange counted runs.old runs.new start end result }
+    ensures turns { let n = length runs.old in
+        TurnsWithin (2 * binary_digits n) n turns.old turns.new }
+{
+    let first = runs_ending_before(&runs[..used], start, turns);
+    //  |--- first - 1 ---|    |=== range ===|    |--- first ---|      it is a run of its own
+    if end < by + start_of(runs, first) {
+        if used == runs.len() {
+            return Err(TooManyHolesError);
+        }
+        insert_run(runs, used, first, Run { start, end }, by, turns);
+        return Ok(used + 1);
+    }
+    //  |--- first ---|  ..  |--- next - 1 ---|    |--- next ---|
+    //         |====== range ======|                                    they become one with it
+    let next = runs_starting_by(&runs[..used], first + 1, by, end, turns);
+    let low = (by + start_of(runs, first)).min(start);
+    let high = (by + end_of(runs, next - 1)).max(end);
+    runs[first] = Run {
+        start: low,
+        end: high,
+    };
+    if by == 0 && next == first + 1 {
+        return Ok(used);
+    }
+    remove_runs(runs, used, first + 1, next, by, turns);
+    Ok(used - (next - (first + 1)))
+}
+
+/// Returns how many runs end before `offset`, which the last doesn't. The first is tested by itself.
+#[inline(always)]
+fn runs_ending_before(runs: &[Run], offset: usize, turns: &mut Turns) -> usize
+    requires runs { AreRuns runs.now }
+    requires some { 0 < length runs.now }
+    requires last { offset ≤ end_at runs.now (length runs.now - 1) }
+    ensures within { result < length runs.now }
+    ensures before { (k : ℕ) → k < result → end_at runs.now k < offset }
+    ensures after { (k : ℕ) → result ≤ k → k < length runs.now → offset ≤ end_at runs.now k }
+    ensures looks { (b : ℕ) → length runs.now < 2 ^ b → turns.new.0 ≤ turns.old.0 + b }
+    ensures no_look_lost { turns.old.0 ≤ turns.new.0 }
+    ensures moves { turns.new.1 ≡ turns.old.1 }
+{
+    if offset <= end_of(runs, 0) {
+        return 0;
+    }
+    let mut low = 1;
+    let mut high = runs.len() - 1;
+    while low < high {
+        let middle = low + (high - low) / 2;
+        if end_of(runs, middle) < offset {
+            low = middle + 1;
+        } else {
+            high = middle;
+        }
+        turns.look();
+    }
+    low
+}
+
+/// Returns how many runs start at or before `end`, each counted `by` higher, but at least `from`.
+#[inline(always)]
+fn runs_starting_by(runs: &[Run], from: usize, by: usize, end: usize, turns: &mut Turns) -> usize
+    requires runs { AreRuns runs.now }
+    requires fits { FitsFrom by runs.now }
+    requires from { from ≤ length runs.now }
+    ensures from { from ≤ result }
+    ensures within { result ≤ length runs.now }
+    ensures before { (k : ℕ) → from ≤ k → k < result → by + start_at runs.now k ≤ end }
+    ensures after { (k : ℕ) → result ≤ k → k < length runs.now → end < by + start_at runs.now k }
+    ensures looks { (b : ℕ) → length runs.now < 2 ^ b → turns.new.0 ≤ turns.old.0 + b }
+    ensures no_look_lost { turns.old.0 ≤ turns.new.0 }
+    ensures moves { turns.new.1 ≡ turns.old.1 }
+{
+    let mut low = from;
+    let mut high = runs.len();
+    while low < high {
+        let middle = low + (high - low) / 2;
+        if by + start_of(runs, middle) <= end {
+            low = middle + 1;
+        } else {
+            high = middle;
+        }
+        turns.look();
+    }
+    low
+}
+
+/// Returns the run with number `k`, counted `by` higher, in numbers that wrap: so it is counted lower
+/// if `by` is the negative of a number.
+#[inline(always)]
+fn wrapped(runs: &[Run], k: usize, by: usize) -> Run
+    requires { k < length runs.now }
+    ensures { result ≡ wrapped_run by (get_or runs.now k (0, 0)) }
+{
+    Run {
+        start: by.wrapping_add(start_of(runs, k)),
+        end: by.wrapping_add(end_of(runs, k)),
+    }
+}
+
+/// Writes `entry` at `at`, and moves the used runs from there on one index up, each counted `by`
+/// higher.
+#[inline(always)]
+fn insert_run(runs: &mut [Run], used: usize, at: usize, entry: Run, by: usize, turns: &mut Turns)
+    requires at { at ≤ used }
+    requires room { used < length runs.old }
+    ensures runs { let all = take used runs.old in
+        take (used + 1) runs.new ≡ take at runs.old ++ entry ∷ runs_wrapped by (drop at all) }
+    ensures looks { turns.new.0 ≡ turns.old.0 }
+    ensures moves { turns.new.1 + at ≡ turns.old.1 + used + 1 }
+{
+    let mut carried = entry;
+    for k in at..used.min(runs.len()) {
+        let next = wrapped(runs, k, by);
+        runs[k] = carried;
+        carried = next;
+        turns.step();
+    }
+    runs[used] = carried;
+    turns.step();
+}
+
+/// Takes out the runs from `at` up to `from`, and moves the later ones down, each counted `by`
+/// higher.
+#[inline(always)]
+fn remove_runs(runs: &mut [Run], used: usize, at: usize, from: usize, by: usize, turns: &mut Turns)
+    requires at { at ≤ from }
+    requires from { from ≤ used }
+    requires used { used ≤ length runs.old }
+    ensures runs { let all = take used runs.old in
+        take (used - (from - at)) runs.new ≡ take at runs.old ++ runs_wrapped by (drop from all) }
+    ensures looks { turns.new.0 ≡ turns.old.0 }
+    ensures moves { turns.new.1 + from ≡ turns.old.1 + used }
+{
+    let count = from - at;
+    for k in from..used.min(runs.len()) {
+        runs[k - count] = wrapped(runs, k, by);
+        turns.step();
+    }
+}
+
+/// Returns whether `position` is present: whether the last run that starts at or before it, if
+/// there is one, ends after it.
+fn holds(runs: &[Run], position: usize) -> bool
+    requires runs { AreRuns runs.now }
+    requires fits { FitsFrom 0 runs.now }
+    ensures { result ≡ contains (set_of_runs runs.now) position }
+{
+    let count = runs_starting_by(runs, 0, 0, position, &mut Turns::new());
+    count > 0 && position < end_of(runs, count - 1)
 }

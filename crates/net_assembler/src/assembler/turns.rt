@@ -45,7 +45,7 @@ impl Turns {
 
     /// Counts an iteration that looks at a run.
     #[inline]
-    pub fn count_look(&mut self)
+    pub fn look(&mut self)
         ensures looks { self.new.0 ≡ self.old.0 + 1 }
         ensures moves { self.new.1 ≡ self.old.1 }
     {
@@ -55,7 +55,7 @@ impl Turns {
 
     /// Counts an iteration that moves a run.
     #[inline]
-    pub fn count_move(&mut self)
+    pub fn step(&mut self)
         ensures looks { self.new.0 ≡ self.old.0 }
         ensures moves { self.new.1 ≡ self.old.1 + 1 }
     {

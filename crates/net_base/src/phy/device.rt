@@ -1,10 +1,11 @@
-//! The trait of a network device.
+//! The traits of a network device and of its tokens.
 ghost use Rattle.std.specs.Prelude.{◌≡◌, ℕ, List, length, replicate};
 ghost use Rattle.std.specs.Prelude.{MatchOption, IfNone, IfSome, IfOk, OnErr};
-ghost use Rattle.std.specs.Fn.{FnOnceReturnsAtMut, FnOnceTakesAtMut};
-ghost use Rattle.net_base.specs.declared.phy.device_capabilities.DeviceCapabilities.{DeviceCapabilities};
+ghost use Rattle.std.specs.Fn.{FnOnceReturnsAt, FnOnceTakesAt, FnOnceReturnsAtMut, FnOnceTakesAtMut};
+ghost use Rattle.net_base.specs.PacketMeta.{no_metadata};
+ghost use Rattle.net_base.specs.declared.phy.DeviceCapabilities.{DeviceCapabilities};
 
-use crate::phy::{DeviceCapabilities, RxToken, TxToken};
+use crate::phy::{DeviceCapabilities, PacketMeta};
 use crate::time::Instant;
 use std::alloc::AllocError;
 
@@ -116,4 +117,47 @@ pub trait Device {
             × sent self.old frame self.new) }
         ensures unchanged { OnErr result (self.new ≡ self.old) }
         ensures refused { OnErr result (lacks_memory self.old len) };
+}
+
+/// A frame that a device has handed over. The frame of a token that is dropped is lost.
+pub trait RxToken: Drop {
+    /// The bytes of the frame.
+    ghost bytes: { Self → List ℕ };
+
+    /// Holds of a token whose frame has no metadata. By default it holds of every token.
+    ghost is_plain: { Self → Type 0 } = { λ _. Unit {0} };
+
+    /// Calls `f` once on the frame, and returns what `f` returned.
+    ///
+    /// # Requires
+    ///
+    /// `f` may be called on the frame's bytes.
+    fn consume<R, F: FnOnce(&[u8]) -> R>(self, f: F) -> R
+        requires { FnOnceTakesAt F.FnOnce f (bytes self) }
+        ensures { FnOnceReturnsAt F.FnOnce f (bytes self) result };
+
+    /// Shows the bytes of the frame, which stays with the token.
+    fn frame(&self) -> &[u8]
+        ensures { result.now ≡ bytes self.now };
+
+    /// Returns the metadata of the frame: by default none, which is the default value. A token that
+    /// has metadata writes its own method, with a contract of its own.
+    fn meta(&self) -> PacketMeta
+        ensures { is_plain self.now → result ≡ no_metadata }
+    {
+        PacketMeta::default()
+    }
+}
+
+/// The right to send one frame on a device of the token's type, by `Device::send`. A token that is
+/// dropped sends nothing.
+pub trait TxToken: Drop {
+    /// Holds of a token that has no metadata. By default it holds of every token.
+    ghost is_plain: { Self → Type 0 } = { λ _. Unit {0} };
+
+    /// Sets the metadata of the frame to be sent. By default this does nothing. A token that has
+    /// metadata writes its own method, with a contract of its own.
+    fn set_meta(&mut self, _meta: PacketMeta)
+        ensures { is_plain self.old → self.new ≡ self.old }
+    {}
 }

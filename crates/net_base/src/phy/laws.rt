@@ -7,8 +7,8 @@ ghost use Rattle.net_base.specs.Checksum.{all_checksums};
 ghost use Rattle.net_base.specs.DeviceCapabilities.{default_capabilities, no_segmentation};
 ghost use Rattle.net_base.specs.PacketMeta.{no_metadata, metadata_hash};
 ghost use Rattle.net_base.specs.Values.{ClonesAreSame, ComparesValues};
-ghost use Rattle.net_base.specs.declared.phy.checksum.Checksum.TheVariants.{Both};
-ghost use Rattle.net_base.specs.declared.phy.medium.Medium.TheVariants.{Ethernet};
+ghost use Rattle.net_base.specs.declared.phy.Checksum.TheVariants.{Both};
+ghost use Rattle.net_base.specs.declared.phy.Medium.TheVariants.{Ethernet};
 
 use crate::phy::{
     Checksum, ChecksumCapabilities, DeviceCapabilities, IPV4_FRAGMENT_PAYLOAD_ALIGNMENT, Medium,

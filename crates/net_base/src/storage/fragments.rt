@@ -1,20 +1,22 @@
-//! A packet that arrives in fragments: a buffer of its bytes and runs, and the same in parts: a head,
-//! and bytes and runs that are kept elsewhere.
-ghost use Rattle.std.specs.Prelude.{◌≡◌, ◌↔◌, ◌+◌, ◌<◌, ◌≤◌, ◌⊎◌, ◌<ℤ◌, ℕ, List, Err, length};
-ghost use Rattle.std.specs.Prelude.{IsTrue, IsSome, IsErr, IfSome, OnOk, OnErr};
+//! A packet that arrives in fragments: a buffer of its bytes and runs, its head, and a table of such buffers.
+ghost use Rattle.std.specs.Prelude.{◌≡◌, ◌↔◌, ◌+◌, ◌<◌, ◌≤◌, ◌^◌, ◌⊎◌, ℕ, IsTrue, IsSome, IsErr, IfSome};
+ghost use Rattle.std.specs.Prelude.{OnOk, OnErr, ◌<ℤ◌, Err, length, take};
 ghost use Rattle.std.specs.declared.option.Option.TheVariants.{Some, None};
-ghost use Rattle.net_assembler.specs.Assembler.{MakesTooManyRuns};
 ghost use Rattle.net_assembler.specs.Positions.{nothing};
-ghost use Rattle.net_assembler.specs.RunLists.{set_of, HasSoundRuns};
+ghost use Rattle.net_assembler.specs.Assembler.{MakesTooManyRuns};
+ghost use Rattle.net_base.specs.FragmentParts.{fragments_of, HasSoundParts};
 ghost use Rattle.net_base.specs.Fragments.{with_fragment, IsComplete, DiffersFrom, Meets};
-ghost use Rattle.net_base.specs.FragmentParts.{total_of, fragments_of, HasSoundParts, IsExact};
 
-pub use buffer::{FragmentBuffer, FragmentsOver};
-use net_assembler::{AssemblerHead, Run, assembler};
+use crate::time::Instant;
+use net_assembler::Run;
+use net_ring::{ManagedSlice, Storage};
+use std::marker::Model;
 
-mod buffer;
+mod head;
 pub mod laws;
 pub mod table;
+
+pub use head::FragmentsHead;
 
 /// Why a fragment or a size is refused.
 #[derive(Debug, Clone, Copy, PartialEq, Eq, Drop)]
@@ -27,205 +29,311 @@ pub enum FragmentError {
     OtherSize,
 }
 
-/// What a buffer of fragments has besides its bytes and runs.
+/// A packet that arrives in fragments, in any order, as those of IPv4 do, over any storage.
+/// [`FragmentBuffer`] is its usual form. `N` is how many maximal runs of bytes it has room for.
 ///
-/// It serves callers who keep these elsewhere, as a program in C. Each call takes them as slices:
-/// the longest packet has as many bytes as the one, and at most as many maximal runs of bytes are
-/// kept as the other has elements. A head of zeros, but for `expires_at`, is that of an empty
-/// buffer. smoltcp has no such type: its buffer is one value.
+/// Fragments may overlap: at each position the byte is that of the last fragment there.
 ///
-/// A head is exact (`IsExact`) if no number says nothing: both of `present` are 0 where there is no
-/// run, `has_total` is 0 or 1, and `total` is 0 while the size isn't known. `new` and `reset` make it
-/// so, and each call leaves it so.
-#[repr(C)]
-#[derive(Debug, Clone, Copy)]
-pub struct FragmentsHead {
-    /// The positions that arrived: the head of an assembler.
-    pub present: AssemblerHead,
-    /// Not 0 once the packet's size is known; this library writes 1 then.
-    pub has_total: u64,
-    /// The packet's size in bytes, once it is known.
-    pub total: usize,
-    /// The last moment at which the packet is waited for, in microseconds.
-    pub expires_at: i64,
+/// ```text
+/// add(0, "abcde")    abcde.....
+/// add(7, "hij")      abcde..hij
+/// add(3, "DEFG")     abcDEFGhij
+/// ```
+///
+/// Contracts see the bytes of the storage, the set of the positions that arrived, the packet's
+/// size, once it is known, and the moment up to which the packet is waited for.
+#[derive(Drop)]
+pub struct FragmentsOver<B: Storage<u8>, const N: usize> {
+    // Invariant: the runs are those of an assembler, the positions of the bytes that arrived. If the
+    // total is known, the storage has room for it.
+    head: FragmentsHead,
+    bytes: B,
+    runs: [Run; N],
 }
 
-impl FragmentsHead {
-    /// Returns the head of an empty buffer that expires after `expires_at`.
-    pub const fn new(expires_at: i64) -> Self
-        ensures sound { (bytes : List ℕ) (runs : List (ℕ × ℕ)) → HasSoundParts result bytes runs }
-        ensures nothing { (runs : List (ℕ × ℕ)) → set_of result.present runs ≡ nothing }
-        ensures total { total_of result ≡ None }
+/// A packet that arrives in fragments, over lent or owned bytes.
+pub type FragmentBuffer<'a, const N: usize> = FragmentsOver<ManagedSlice<'a, u8>, N>;
+
+impl<B: Storage<u8>, const N: usize> Model for FragmentsOver<B, N> {
+    ghost use Rattle.std.specs.Prelude.{◌≡◌, length};
+    ghost use Rattle.net_base.specs.Fragments.{FragmentsState, state_code};
+    ghost use Rattle.net_base.specs.FragmentParts.{fragments_of, HasSoundParts};
+
+    ghost Value = { FragmentsState };
+
+    ghost coded = { state_code };
+
+    ghost view = { λ b. fragments_of b.head (B.elements b.bytes) b.runs };
+
+    ghost invariant = { λ b. HasSoundParts b.head (B.elements b.bytes) b.runs × (length b.runs ≡ N) };
+}
+
+impl<'a, const N: usize> FragmentBuffer<'a, N> {
+    ghost use Rattle.net_ring.specs.Managed.{elements};
+
+    /// Returns an empty buffer that expires after `expires_at`.
+    ///
+    /// # Requires
+    ///
+    /// `N` is at least 1.
+    pub fn new(bytes: ManagedSlice<'a, u8>, expires_at: Instant) -> Self
+        requires { 1 ≤ N }
+        ensures bytes { result.bytes ≡ elements bytes.entry }
+        ensures nothing { (result.present ≡ nothing) × (result.total ≡ None) }
         ensures expires { result.expires_at ≡ expires_at }
-        ensures zeros { (result.present.used ≡ 0) × (result.present.first_start ≡ 0)
-            × (result.has_total ≡ 0) × (result.total ≡ 0) }
-        ensures exact { IsExact result }
     {
-        FragmentsHead {
-            present: AssemblerHead::new(),
-            has_total: 0,
-            total: 0,
-            expires_at,
+        FragmentsOver::over(bytes, expires_at)
+    }
+}
+
+impl<B: Storage<u8>, const N: usize> FragmentsOver<B, N> {
+    /// Returns an empty buffer over storage of any type, which expires after `expires_at`.
+    ///
+    /// # Requires
+    ///
+    /// `N` is at least 1.
+    pub const fn over(bytes: B, expires_at: Instant) -> Self
+        requires { 1 ≤ N }
+        ensures bytes { result.bytes ≡ B.elements bytes }
+        ensures nothing { (result.present ≡ nothing) × (result.total ≡ None) }
+        ensures expires { result.expires_at ≡ expires_at }
+    {
+        prove!(N >= 1, "a buffer of fragments has at least one run");
+        FragmentsOver {
+            head: FragmentsHead::new(expires_at.total_micros()),
+            bytes,
+            runs: [Run { start: 0, end: 0 }; N],
         }
     }
 
-    /// Begins again, for a packet that expires after `expires_at`.
-    pub fn reset(&mut self, expires_at: i64)
-        ensures sound { (bytes : List ℕ) (runs : List (ℕ × ℕ)) →
-            HasSoundParts self.new bytes runs }
-        ensures nothing { (runs : List (ℕ × ℕ)) → set_of self.new.present runs ≡ nothing }
-        ensures total { total_of self.new ≡ None }
-        ensures expires { self.new.expires_at ≡ expires_at }
-        ensures zeros { (self.new.present.used ≡ 0) × (self.new.present.first_start ≡ 0)
-            × (self.new.has_total ≡ 0) × (self.new.total ≡ 0) }
-        ensures exact { IsExact self.new }
+    /// Returns the buffer that a head, bytes and runs represent. smoltcp has no such call.
+    ///
+    /// # Requires
+    ///
+    /// They are sound: the runs are those of an assembler, and a known size is at most that of `bytes`.
+    pub fn from_parts(head: FragmentsHead, bytes: B, runs: [Run; N]) -> Self
+        requires { HasSoundParts head (B.elements bytes) runs }
+        ensures { result ≡ fragments_of head (B.elements bytes) runs.entry }
     {
-        *self = FragmentsHead::new(expires_at);
+        let capacity = bytes.count();
+        prove!(
+            head.is_sound(capacity, &runs),
+            "the head is not that of these bytes and runs"
+        );
+        FragmentsOver { head, bytes, runs }
     }
 
-    /// Returns whether `present` and these runs are those of an assembler, and a known size is at most `capacity`, for
-    /// any numbers. It looks at each used run.
-    pub fn is_sound(&self, capacity: usize, runs: &[Run]) -> bool
-        ensures { (bytes : List ℕ) → length bytes ≡ capacity →
-            (IsTrue result ↔ HasSoundParts self.now bytes runs.now) }
+    /// Returns the head, the bytes and the runs, which represent the buffer. smoltcp has no such call.
+    pub fn into_parts(self) -> (FragmentsHead, B, [Run; N])
+        ensures sound { HasSoundParts result.0 (B.elements result.1) result.2 }
+        ensures state { fragments_of result.0 (B.elements result.1) result.2 ≡ self }
+        ensures runs { length result.2 ≡ N }
     {
-        self.present.is_sound(runs) && (self.has_total == 0 || self.total <= capacity)
+        let FragmentsOver { head, bytes, runs } = self;
+        (head, bytes, runs)
+    }
+
+    /// Returns the bytes, as fragments were written to them. smoltcp has no such call.
+    pub fn into_storage(self) -> B
+        ensures { B.elements result ≡ self.bytes }
+    {
+        let FragmentsOver {
+            head: _,
+            bytes,
+            runs: _,
+        } = self;
+        bytes
+    }
+
+    /// Returns the number of bytes of the buffer: the size of the longest packet that fits.
+    ///
+    /// ```
+    /// # use net_base::storage::FragmentBuffer;
+    /// # use net_base::time::Instant;
+    /// # let mut bytes = [0u8; 8];
+    /// assert_eq!(FragmentBuffer::new(&mut bytes[..], Instant::ZERO).capacity(), 8);
+    /// ```
+    pub fn capacity(&self) -> usize
+        ensures { result ≡ length self.now.bytes }
+    {
+        self.bytes.count()
+    }
+
+    /// Returns whether no byte has arrived since the buffer was made or reset: no packet is begun. A fragment of no
+    /// bytes begins none.
+    ///
+    /// ```
+    /// # use net_base::storage::FragmentBuffer;
+    /// # use net_base::time::Instant;
+    /// # let mut bytes = [0u8; 8];
+    /// # let mut buffer = FragmentBuffer::new(&mut bytes[..], Instant::ZERO);
+    /// assert!(buffer.add(2, b"").is_ok() && buffer.is_empty());
+    /// assert!(buffer.add(2, b"c").is_ok() && !buffer.is_empty());
+    /// ```
+    pub fn is_empty(&self) -> bool
+        ensures { IsTrue result ↔ (self.now.present ≡ nothing) }
+    {
+        self.head.present.is_empty()
+    }
+
+    /// Returns the moment up to which the packet is waited for. It is not expired at that moment, but at each later
+    /// one.
+    ///
+    /// ```
+    /// # use net_base::storage::FragmentBuffer;
+    /// # use net_base::time::Instant;
+    /// # let mut bytes = [0u8; 8];
+    /// let buffer = FragmentBuffer::new(&mut bytes[..], Instant::from_millis(5));
+    /// assert_eq!(buffer.expires_at(), Instant::from_millis(5));
+    /// ```
+    pub fn expires_at(&self) -> Instant
+        ensures { result ≡ self.now.expires_at }
+    {
+        moment_of(&self.head)
     }
 
     /// Adds a fragment, whose first byte is that of the packet at `offset`.
     ///
     /// It is refused, and nothing changes, exactly if it reaches past the buffer's end, which is
-    /// `TooLong`, or else would leave more maximal runs than there is room for, which is `TooManyHoles`.
+    /// `TooLong`, or else would leave more than `N` maximal runs, which is `TooManyHoles`. The end of an
+    /// accepted fragment fits `usize`.
     ///
-    /// # Requires
-    ///
-    /// Head, bytes and runs are those of a buffer.
-    pub fn add(
-        &mut self,
-        bytes: &mut [u8],
-        runs: &mut [Run],
-        offset: usize,
-        data: &[u8],
-    ) -> Result<(), FragmentError>
-        requires sound { HasSoundParts self.old bytes.old runs.old }
-        ensures sound { HasSoundParts self.new bytes.new runs.new }
-        ensures ok { OnOk result (fragments_of self.new bytes.new runs.new
-            ≡ with_fragment (fragments_of self.old bytes.old runs.old) offset «data».now) }
-        ensures unchanged { OnErr result
-            ((self.new ≡ self.old) × (bytes.new ≡ bytes.old) × (runs.new ≡ runs.old)) }
+    /// ```
+    /// # use net_base::storage::{FragmentBuffer, FragmentError};
+    /// # use net_base::time::Instant;
+    /// # let mut bytes = [0u8; 8];
+    /// let mut buffer = FragmentBuffer::<1>::empty(&mut bytes[..], Instant::ZERO);
+    /// assert_eq!(buffer.add(6, b"ghi"), Err(FragmentError::TooLong));
+    /// assert_eq!(buffer.add(6, b"gh"), Ok(()));
+    /// assert_eq!(buffer.add(0, b"ab"), Err(FragmentError::TooManyHoles));
+    /// ```
+    pub fn add(&mut self, offset: usize, data: &[u8]) -> Result<(), FragmentError>
+        ensures ok { OnOk result (self.new ≡ with_fragment self.old offset «data».now) }
+        ensures unchanged { OnErr result (self.new ≡ self.old) }
+        ensures fits { OnOk result (offset + length «data».now < 2 ^ 64) }
         ensures too_long { (result ≡ Err FragmentError.TooLong)
-            ↔ (length bytes.old < offset + length «data».now) }
+            ↔ (length self.old.bytes < offset + length «data».now) }
         ensures too_many { (result ≡ Err FragmentError.TooManyHoles)
-            ↔ ((offset + length «data».now ≤ length bytes.old) × MakesTooManyRuns (length runs.old)
-            (set_of self.old.present runs.old) offset (length «data».now)) }
-        ensures refused { IsErr result ↔ ((length bytes.old < offset + length «data».now)
-            ⊎ MakesTooManyRuns (length runs.old) (set_of self.old.present runs.old)
-            offset (length «data».now)) }
-        ensures others { (self.new.has_total ≡ self.old.has_total)
-            × (self.new.total ≡ self.old.total) × (self.new.expires_at ≡ self.old.expires_at) }
-        ensures exact { IsExact self.old → IsExact self.new }
+            ↔ ((offset + length «data».now ≤ length self.old.bytes)
+            × MakesTooManyRuns N self.old.present offset (length «data».now)) }
+        ensures refused { IsErr result ↔ ((length self.old.bytes < offset + length «data».now)
+            ⊎ MakesTooManyRuns N self.old.present offset (length «data».now)) }
     {
-        let limit = bytes.len();
-        if offset > limit || data.len() > limit - offset {
-            return Err(FragmentError::TooLong);
-        }
-        let Ok(()) = self.present.add(runs, offset, data.len()) else {
-            return Err(FragmentError::TooManyHoles);
-        };
-        bytes[offset..offset + data.len()].copy_from_slice(data);
-        Ok(())
+        let count = self.bytes.count();
+        let bytes = self.bytes.part_mut(0, count);
+        self.head.add(bytes, &mut self.runs, offset, data)
     }
 
-    /// Sets the packet's size to `size` bytes, of a buffer of `capacity` bytes.
+    /// Sets the packet's size to `size` bytes.
     ///
     /// It is refused, and nothing changes, exactly if the buffer has fewer bytes, which is `TooLong`, or
     /// else if another size is known, which is `OtherSize`.
-    pub fn set_total_size(&mut self, capacity: usize, size: usize) -> Result<(), FragmentError>
-        ensures ok { OnOk result ((self.new.has_total ≡ 1) × (self.new.total ≡ size)
-            × (self.new.present ≡ self.old.present) × (self.new.expires_at ≡ self.old.expires_at)) }
-        ensures total { OnOk result (total_of self.new ≡ Some size) }
-        ensures sound { OnOk result ((bytes : List ℕ) (runs : List (ℕ × ℕ)) →
-            length bytes ≡ capacity → HasSoundParts self.old bytes runs →
-            HasSoundParts self.new bytes runs) }
+    ///
+    /// ```
+    /// # use net_base::storage::{FragmentBuffer, FragmentError};
+    /// # use net_base::time::Instant;
+    /// # let mut bytes = [0u8; 8];
+    /// # let mut buffer = FragmentBuffer::new(&mut bytes[..], Instant::ZERO);
+    /// assert_eq!(buffer.set_total_size(9), Err(FragmentError::TooLong));
+    /// assert_eq!(buffer.set_total_size(0), Ok(()));
+    /// assert_eq!(buffer.assemble(), Some(&b""[..]));
+    /// ```
+    pub fn set_total_size(&mut self, size: usize) -> Result<(), FragmentError>
+        ensures ok { OnOk result (self.new ≡ record self.old { total = Some size }) }
         ensures unchanged { OnErr result (self.new ≡ self.old) }
-        ensures too_long { (result ≡ Err FragmentError.TooLong) ↔ (capacity < size) }
+        ensures too_long { (result ≡ Err FragmentError.TooLong) ↔ (length self.old.bytes < size) }
         ensures other_size { (result ≡ Err FragmentError.OtherSize)
-            ↔ ((size ≤ capacity) × DiffersFrom (total_of self.old) size) }
+            ↔ ((size ≤ length self.old.bytes) × DiffersFrom self.old.total size) }
         ensures refused { IsErr result
-            ↔ ((capacity < size) ⊎ DiffersFrom (total_of self.old) size) }
-        ensures exact { IsExact self.old → IsExact self.new }
+            ↔ ((length self.old.bytes < size) ⊎ DiffersFrom self.old.total size) }
     {
-        if size > capacity {
-            return Err(FragmentError::TooLong);
-        }
-        if self.has_total != 0 && self.total != size {
-            return Err(FragmentError::OtherSize);
-        }
-        self.has_total = 1;
-        self.total = size;
-        Ok(())
+        self.head.set_total_size(self.bytes.count(), size)
     }
 
-    /// Returns the packet's size, once it is known.
+    /// Returns the packet's size, once it is known. smoltcp has no such call.
     pub fn total_size(&self) -> Option<usize>
-        ensures { result ≡ total_of self.now }
+        ensures { result ≡ self.now.total }
     {
-        if self.has_total == 0 {
-            None
-        } else {
-            Some(self.total)
-        }
+        self.head.total_size()
     }
 
     /// Returns whether one of the `len` positions from `offset` on has arrived: whether a fragment there
     /// overlaps bytes that are present. They need not be within the buffer.
     ///
     /// It is asked before `add`, by callers who refuse a packet whose fragments overlap (RFC 5722). A
-    /// fragment that arrives twice overlaps too.
-    ///
-    /// # Requires
-    ///
-    /// The runs are sound.
-    #[tactic(auto, using(crate::proofs::Overlaps::meets_is))]
-    pub fn overlaps(&self, runs: &[Run], offset: usize, len: usize) -> bool
-        requires sound { HasSoundRuns self.now.present runs.now }
-        ensures { IsTrue result ↔ Meets (set_of self.now.present runs.now) offset len }
+    /// fragment that arrives twice overlaps too. smoltcp has no such call.
+    pub fn overlaps(&self, offset: usize, len: usize) -> bool
+        ensures { IsTrue result ↔ Meets self.now.present offset len }
     {
-        assembler::laws::maximal_runs();
-        for (start, end) in self.present.iter_data(runs) {
-            if start.saturating_sub(offset) < len && offset < end {
-                return true;
-            }
-        }
-        false
+        self.head.overlaps(&self.runs, offset, len)
     }
 
-    /// Returns the packet's size, if it is known and all its bytes have arrived: they are the first
-    /// ones of the buffer.
+    /// Shows the bytes of the packet. `None` exactly if its size is not known or one of its bytes
+    /// is missing.
     ///
-    /// # Requires
-    ///
-    /// The runs are sound.
-    pub fn complete(&self, runs: &[Run]) -> Option<usize>
-        requires sound { HasSoundRuns self.now.present runs.now }
-        ensures complete { (bytes : List ℕ) → (IsSome result
-            ↔ ((size : ℕ) × IsComplete (fragments_of self.now bytes runs.now) size)) }
-        ensures size { IfSome result (λ size. (bytes : List ℕ) →
-            IsComplete (fragments_of self.now bytes runs.now) size) }
-        ensures fits { IfSome result (λ size. (bytes : List ℕ) →
-            HasSoundParts self.now bytes runs.now → size ≤ length bytes) }
+    /// ```
+    /// # use net_base::storage::{FragmentBuffer, FragmentError};
+    /// # use net_base::time::Instant;
+    /// # let mut bytes = [0u8; 8];
+    /// # let mut buffer = FragmentBuffer::new(&mut bytes[..], Instant::ZERO);
+    /// buffer.add(0, b"abc")?;
+    /// assert_eq!(buffer.assemble(), None);
+    /// buffer.set_total_size(2)?;
+    /// assert_eq!(buffer.assemble(), Some(&b"ab"[..]));
+    /// # Ok::<(), FragmentError>(())
+    /// ```
+    pub fn assemble(&self) -> Option<&[u8]>
+        ensures complete { IsSome result ↔ ((size : ℕ) × IsComplete self.now size) }
+        ensures bytes { IfSome result
+            (λ r. (size : ℕ) × IsComplete self.now size × (r.now ≡ take size self.now.bytes)) }
     {
-        assembler::laws::front();
-        if self.has_total == 0 || self.present.peek_front(runs) < self.total {
-            return None;
+        match self.head.complete(&self.runs) {
+            Some(size) => Some(self.bytes.part(0, size)),
+            None => None,
         }
-        Some(self.total)
     }
 
-    /// Returns whether `now` is after the last moment at which the packet is waited for.
-    pub fn is_expired(&self, now: i64) -> bool
+    /// Returns whether `now` is after the moment up to which the packet is waited for.
+    ///
+    /// ```
+    /// # use net_base::storage::FragmentBuffer;
+    /// # use net_base::time::Instant;
+    /// # let mut bytes = [0u8; 8];
+    /// let buffer = FragmentBuffer::new(&mut bytes[..], Instant::from_millis(5));
+    /// assert!(!buffer.is_expired(Instant::from_millis(5)));
+    /// assert!(buffer.is_expired(Instant::from_micros(5_001)));
+    /// ```
+    pub fn is_expired(&self, now: Instant) -> bool
         ensures { IsTrue result ↔ (self.now.expires_at <ℤ now) }
     {
-        self.expires_at < now
+        self.head.is_expired(now.total_micros())
     }
+
+    /// Starts over for another packet, which is waited for up to `expires_at`.
+    ///
+    /// ```
+    /// # use net_base::storage::{FragmentBuffer, FragmentError};
+    /// # use net_base::time::Instant;
+    /// # let mut bytes = [0u8; 8];
+    /// # let mut buffer = FragmentBuffer::new(&mut bytes[..], Instant::ZERO);
+    /// buffer.add(0, b"abc")?;
+    /// buffer.set_total_size(0)?;
+    /// buffer.reset(Instant::from_millis(5));
+    /// assert!(buffer.is_empty() && buffer.assemble().is_none());
+    /// # Ok::<(), FragmentError>(())
+    /// ```
+    pub fn reset(&mut self, expires_at: Instant)
+        ensures bytes { self.new.bytes ≡ self.old.bytes }
+        ensures nothing { (self.new.present ≡ nothing) × (self.new.total ≡ None) }
+        ensures expires { self.new.expires_at ≡ expires_at }
+    {
+        self.head.reset(expires_at.total_micros());
+    }
+}
+
+/// The last moment at which the packet is waited for.
+fn moment_of(head: &FragmentsHead) -> Instant
+    ensures { result ≡ head.now.expires_at }
+{
+    Instant::from_micros(head.expires_at)
 }

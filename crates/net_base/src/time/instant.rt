@@ -293,10 +293,11 @@ impl Instant {
         ensures exact { IsMoment (self.now +ℤ pos duration) → result ≡ self.now +ℤ pos duration }
         ensures last { (IsMoment (self.now +ℤ pos duration) → ⊥) → result ≡ pos (2 ^ 63 - 1) }
     {
-        match self.micros.checked_add_unsigned(duration.total_micros()) {
-            Some(micros) => Instant { micros },
-            None => Instant::from_micros(i64::MAX),
+        let micros = self.micros.wrapping_add_unsigned(duration.total_micros());
+        if micros < self.micros {
+            return Instant::from_micros(i64::MAX);
         }
+        Instant { micros }
     }
 
     /// Returns the moment `duration` earlier, or the first moment if that is before it.
@@ -311,10 +312,11 @@ impl Instant {
         ensures exact { IsMoment (self.now -ℤ pos duration) → result ≡ self.now -ℤ pos duration }
         ensures first { (IsMoment (self.now -ℤ pos duration) → ⊥) → result ≡ negsuc (2 ^ 63 - 1) }
     {
-        match self.micros.checked_sub_unsigned(duration.total_micros()) {
-            Some(micros) => Instant { micros },
-            None => Instant::from_micros(i64::MIN),
+        let micros = self.micros.wrapping_sub_unsigned(duration.total_micros());
+        if micros > self.micros {
+            return Instant::from_micros(i64::MIN);
         }
+        Instant { micros }
     }
 
     /// Returns the text of the moment, whatever the options.

@@ -19,6 +19,7 @@ pub fn earlier(first: Option<Instant>, second: Option<Instant>) -> Option<Instan
 
 /// Returns the earliest of the moments that are there, or `None` if none is: when to poll an object
 /// with several timers, each of which may be off.
+#[tactic(auto, using(crate::proofs::EarliestFacts::earliest_is))]
 pub fn earliest(moments: &[Option<Instant>]) -> Option<Instant>
     ensures { IsEarliest (λ t. t) moments.now result }
 {

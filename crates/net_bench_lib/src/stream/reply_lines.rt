@@ -1,11 +1,10 @@
 //! The replies of a receiver as text.
-ghost use Rattle.std.specs.Prelude.{◌≡◌, Some, flat_map, IfOk, Ok, string_bytes};
-ghost use Rattle.net_receiver.specs.Rules.{SegmentReply, ReadReply, ShowReply};
+ghost use Rattle.std.specs.Prelude.{◌≡◌, [], Some, flat_map, OnOk, Ok, string_bytes};
+ghost use Rattle.net_receiver.specs.Rules.{SegmentReply, ShowReply};
 ghost use Rattle.net_receiver.specs.Commands.{reply_value};
 ghost use Rattle.net_bench_lib.specs.StreamMode.{next_run_text, runs_text, accepted_line};
-ghost use Rattle.net_bench_lib.specs.StreamMode.{reply_text as text_of_reply};
+ghost use Rattle.net_bench_lib.specs.StreamMode.{reply_text};
 
-use crate::buffers::Buffers;
 use crate::text;
 use net_receiver::{Kept, Reply};
 use std::alloc::{AllocError, Allocator};
@@ -45,104 +44,75 @@ impl fmt::Display for Runs<'_> {
     }
 }
 
-/// The most bytes of a number's text.
-const NUMBER_ROOM: usize = 20;
-
-/// The most bytes of a run's text and a comma: two numbers, and a dash between them.
-const RUN_ROOM: usize = 2 * NUMBER_ROOM + 2;
-
-/// How many runs the reply to a segment lists at most.
-const LISTED: usize = 3;
-
-/// The most bytes of a line that says what was kept: two numbers, the listed runs, and 20 more
-/// bytes.
-const ACCEPTED_ROOM: usize = 20 + 2 * NUMBER_ROOM + RUN_ROOM * LISTED;
-
-/// The most bytes of a line that shows a receiver: three numbers, 32 held runs, and 28 more bytes.
-const SHOWN_ROOM: usize = 28 + 3 * NUMBER_ROOM + RUN_ROOM * 32;
-
-/// Returns what was kept of a segment and the first held runs, as a line.
-fn accepted_text<A: Allocator + Copy>(
-    buffers: &mut Buffers<A>,
+/// Shows what was kept of a segment and the first held runs, as a line.
+fn show_accepted<A: Allocator + Copy>(
     kept: usize,
     queued: usize,
     sack: &[(u64, u64)],
-) -> Result<String<A>, AllocError>
-    ensures { IfOk result (λ text. string_bytes text ≡ accepted_line kept queued sack.now) }
+    reply: &mut String<A>,
+) -> Result<(), AllocError>
+    requires { string_bytes reply.old ≡ [] }
+    ensures { OnOk result (string_bytes reply.new ≡ accepted_line kept queued sack.now) }
 {
     let sack = Runs(sack);
-    text::displayed(
-        buffers,
-        ACCEPTED_ROOM,
-        format_args!("kept {kept} queued {queued} sack {sack}\n"),
-    )
+    write!(reply, "kept {kept} queued {queued} sack {sack}\n")
 }
 
-/// Returns what was kept of a segment, as a line.
-fn kept_text<A: Allocator + Copy>(
-    buffers: &mut Buffers<A>,
-    kept: &Kept,
-) -> Result<String<A>, AllocError>
-    ensures { IfOk result (λ text. string_bytes text ≡ text_of_reply (SegmentReply (Ok kept.now))) }
+/// Shows what was kept of a segment, as a line.
+fn show_kept<A: Allocator + Copy>(kept: &Kept, reply: &mut String<A>) -> Result<(), AllocError>
+    requires { string_bytes reply.old ≡ [] }
+    ensures { OnOk result (string_bytes reply.new ≡ reply_text (SegmentReply (Ok kept.now))) }
 {
     let [first, second, third] = kept.sack;
     let Some(first) = first else {
-        return accepted_text(buffers, kept.kept, kept.queued, &[]);
+        return show_accepted(kept.kept, kept.queued, &[], reply);
     };
     let Some(second) = second else {
-        return accepted_text(buffers, kept.kept, kept.queued, &[first]);
+        return show_accepted(kept.kept, kept.queued, &[first], reply);
     };
     let Some(third) = third else {
-        return accepted_text(buffers, kept.kept, kept.queued, &[first, second]);
+        return show_accepted(kept.kept, kept.queued, &[first, second], reply);
     };
-    accepted_text(buffers, kept.kept, kept.queued, &[first, second, third])
+    show_accepted(kept.kept, kept.queued, &[first, second, third], reply)
 }
 
-/// Returns the bytes that were read, as a line.
-fn read_text<A: Allocator + Copy>(
-    buffers: &mut Buffers<A>,
-    bytes: &[u8],
-) -> Result<String<A>, AllocError>
-    ensures { IfOk result (λ text. string_bytes text ≡ text_of_reply (ReadReply bytes.now)) }
-{
-    text::read_reply(buffers, bytes, &[])
-}
-
-/// Returns a receiver's numbers and held runs, as a line.
-fn shown_text<A: Allocator + Copy>(
-    buffers: &mut Buffers<A>,
+/// Shows a receiver's numbers and held runs, as a line.
+fn show_receiver<A: Allocator + Copy>(
     next: u64,
     queued: usize,
     window: usize,
     held: &[(u64, u64)],
-) -> Result<String<A>, AllocError>
-    ensures { IfOk result (λ text.
-        string_bytes text ≡ text_of_reply (ShowReply next queued window held.now)) }
+    reply: &mut String<A>,
+) -> Result<(), AllocError>
+    requires { string_bytes reply.old ≡ [] }
+    ensures { OnOk result
+        (string_bytes reply.new ≡ reply_text (ShowReply next queued window held.now)) }
 {
     let held = Runs(held);
-    text::displayed(
-        buffers,
-        SHOWN_ROOM,
-        format_args!("next {next} queued {queued} window {window} held {held}\n"),
+    write!(
+        reply,
+        "next {next} queued {queued} window {window} held {held}\n"
     )
 }
 
-/// Returns a reply as a line.
-pub fn reply_text<A: Allocator + Copy>(
-    buffers: &mut Buffers<A>,
-    reply: &Reply<A>,
-) -> Result<String<A>, AllocError>
-    ensures { IfOk result (λ text. string_bytes text ≡ text_of_reply (reply_value reply.now)) }
+/// Shows the answer to a command, as a line.
+pub fn show_reply<A: Allocator + Copy>(
+    alloc: A,
+    answer: &Reply<A>,
+    reply: &mut String<A>,
+) -> Result<(), AllocError>
+    requires { string_bytes reply.old ≡ [] }
+    ensures { OnOk result (string_bytes reply.new ≡ reply_text (reply_value answer.now)) }
 {
-    match reply {
-        Reply::Segment(Ok(kept)) => kept_text(buffers, kept),
-        Reply::Segment(Err(_)) => text::plain(buffers, "refused too many holes\n"),
-        Reply::Read(bytes) => read_text(buffers, bytes),
+    match answer {
+        Reply::Segment(Ok(kept)) => show_kept(kept, reply),
+        Reply::Segment(Err(_)) => reply.push_str("refused too many holes\n"),
+        Reply::Read(bytes) => text::show_bytes(alloc, bytes, reply),
         Reply::Show {
             next,
             queued,
             window,
             held,
-        } => shown_text(buffers, *next, *queued, *window, held),
+        } => show_receiver(*next, *queued, *window, held, reply),
     }
 }

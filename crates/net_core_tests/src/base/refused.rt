@@ -1,6 +1,6 @@
 //! How many requests for memory a list takes.
 use crate::assertions::assert_holds;
-use net_io::testing::refuse_each;
+use net_testing::refuse_each;
 use std::alloc::{AllocError, Global};
 
 /// Returns how many requests for memory it takes to make a list of three bytes.

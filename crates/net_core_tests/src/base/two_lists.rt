@@ -1,7 +1,7 @@
 //! A device of two lists.
 ghost use Rattle.std.specs.Prelude.{◌≡◌, ◌∷◌, ◌++◌, [], List, ℕ};
 ghost use Rattle.net_base.specs.Loopback.{loopback_capabilities};
-ghost use Rattle.net_base.specs.declared.phy.medium.Medium.TheVariants.{Ip};
+ghost use Rattle.net_base.specs.declared.phy.Medium.TheVariants.{Ip};
 
 use net_base::phy::{
     ChecksumCapabilities, Device, DeviceCapabilities, Medium, PacketMeta, RxToken, TxToken,

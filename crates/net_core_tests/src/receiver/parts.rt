@@ -6,7 +6,7 @@ use net_receiver::ReceiverOver;
 #[test]
 fn a_receiver_goes_on_from_its_parts(rt: HostRuntime) {
     let mut storage = *b"........";
-    let mut receiver = ReceiverOver::<&mut [u8], 2>::new_at(&mut storage, 5);
+    let mut receiver = ReceiverOver::<&mut [u8], 2>::over_at(&mut storage, 5);
     let held = receiver.segment(7, b"cd").is_ok();
     let (head, bytes, runs) = receiver.into_parts();
     let mut receiver = ReceiverOver::<&mut [u8], 2>::from_parts(head, bytes, runs);

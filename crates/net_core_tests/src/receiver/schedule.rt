@@ -3,9 +3,9 @@ ghost use Rattle.std.specs.Prelude.{All, IfOk};
 ghost use Rattle.net_receiver.specs.Commands.{CommandFits};
 
 use crate::assertions::{assert_count, assert_holds};
-use net_io::testing::Refusing;
 use net_receiver::{Command, Receiver, Reply, execute, replay};
 use net_ring::ManagedSlice;
+use net_testing::Refusing;
 use std::alloc::{AllocError, Allocator, Global};
 use std::process::Abort;
 

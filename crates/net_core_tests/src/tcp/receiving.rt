@@ -27,9 +27,8 @@ fn acknowledgement(
     scale: u8,
 ) -> (u32, u16) {
     let number = SequenceNumber::at(initial, receiver.acknowledged()).get();
-    let bytes = receiver.receiver();
-    let next = bytes.next();
-    if let Some(end) = bytes.window_end() {
+    let next = receiver.next();
+    if let Some(end) = receiver.window_end() {
         if scale <= MAX_SCALE {
             return (number, window.announce(scale, next, end));
         }
@@ -54,7 +53,7 @@ fn a_stream_is_received(rt: HostRuntime) {
     assert_holds(&rt, receiver.read(&mut into) == 6, ("step", 3));
     assert_holds(
         &rt,
-        into.starts_with(b"abcdef") && receiver.has_read_all(),
+        into.starts_with(b"abcdef") && receiver.has_read_all() && receiver.is_empty(),
         ("step", 4),
     );
     let told = acknowledgement(&receiver, &mut window, initial, 0);

@@ -83,8 +83,8 @@ pub extern "C" fn net_base_advertised_window_announce_in_steps(
 }
 
 /// Returns `NET_BASE_PRESENT` if an update is worth a segment of its own, and `NET_BASE_MISSING` if
-/// it isn't: whether the edge would move by half of the receiver's capacity, rounded up, or by one
-/// segment of `mss` bytes, and by 1 at least.
+/// it isn't: whether the edge would move, from where it is, below `next` too, by half of the
+/// receiver's capacity, rounded up, or by one segment of `mss` bytes, and by 1 at least.
 ///
 /// It is refused if `scale` is above 14, or if `window_end` is below `next`: `NET_BASE_REFUSED`.
 #[unsafe(no_mangle)]

@@ -18,8 +18,8 @@ use crate::results::{FrontLength, front_length, presence_of, run_of, status_of};
 use net_assembler::{AssemblerHead, Run};
 
 /// Returns whether `assembler` and `runs` are those of an assembler: there are `used` runs, which
-/// rise, with a hole between neighbours; the first starts at 0; and each end fits 64 bits also with
-/// `first_start` added. It looks at each run.
+/// rise, with a hole between neighbours; the first starts at 0; and each end fits a `size_t` also
+/// with `first_start` added. It looks at each run.
 #[unsafe(no_mangle)]
 pub extern "C" fn net_base_assembler_is_sound(assembler: &AssemblerHead, runs: &[Run]) -> bool
     ensures { IsTrue result ↔ HasSoundRuns assembler.now runs.now }
@@ -48,7 +48,7 @@ pub extern "C" fn net_base_assembler_clear(assembler: &mut AssemblerHead)
 /// Returns `NET_BASE_DONE`, or `NET_BASE_TOO_MANY_RUNS`, and nothing changes, if there would be
 /// more runs than the slice has elements.
 ///
-/// It is refused if `used` is above `runs.len()`, or if `offset + size` doesn't fit 64 bits:
+/// It is refused if `used` is above `runs.len()`, or if `offset + size` doesn't fit a `size_t`:
 /// `NET_BASE_REFUSED`, and nothing changes.
 ///
 /// # Requires
@@ -85,7 +85,7 @@ pub extern "C" fn net_base_assembler_add(
 /// The status is `NET_BASE_DONE`, or `NET_BASE_TOO_MANY_RUNS` if `offset` isn't 0 and there would
 /// be more runs than the slice has elements: then the length is 0, and nothing changes.
 ///
-/// It is refused if `used` is above `runs.len()`, or if `offset + size` doesn't fit 64 bits: the
+/// It is refused if `used` is above `runs.len()`, or if `offset + size` doesn't fit a `size_t`: the
 /// status is `NET_BASE_REFUSED`, and the length 0, and nothing changes.
 ///
 /// # Requires

@@ -1,9 +1,9 @@
 //! Receivers of a stream that ends. The end is the position after the last byte. It has a number,
-//! as TCP's FIN has, and needs no room; `end` of the head is it, or `NET_BASE_NONE` while it isn't
+//! as TCP's FIN has, and needs no room; `end` of the head is it, or `UINT64_MAX` while it isn't
 //! known.
 //!
-//! A new head has `end` set to `NET_BASE_NONE`, and is zeros but for `receiver.first` otherwise,
-//! which is below that. `receiver` is a receiver, whose calls that only look may be made on it.
+//! A new head has `end` set to `UINT64_MAX`, and is zeros but for `receiver.first` otherwise, which
+//! is below that. `receiver` is a receiver, whose calls that only look may be made on it.
 // Written by tools/ffi.py.
 ghost use Rattle.net_ffi.specs.ReceiverParts.{IsPlausible};
 ghost use Rattle.net_receiver.specs.Finite.{acknowledged, can_end, finite_after_read, has_read_all, is_acceptable};
@@ -40,7 +40,8 @@ pub extern "C" fn net_base_finite_receiver_is_sound(
 
 /// Returns `NET_BASE_PRESENT` if the stream can end at `position`: it is the end that is known, or
 /// none is, and it isn't below the first missing position or a held run's end. Otherwise
-/// `NET_BASE_MISSING`. `NET_BASE_NONE` is no end, which isn't tested here.
+/// `NET_BASE_MISSING`. `UINT64_MAX` is no end; while none is known this says `NET_BASE_PRESENT` of
+/// it too.
 ///
 /// It is refused if `place` isn't that of a ring of `storage.len()` bytes, `next` doesn't fit 64
 /// bits, or `held.used` is above `runs.len()`: `NET_BASE_REFUSED`.
@@ -166,8 +167,9 @@ pub extern "C" fn net_base_finite_receiver_read(
 
 /// Returns `NET_BASE_PRESENT` if a segment of `count` numbers from `position` on is acceptable by
 /// the table of RFC 9293, section 3.10.7.4, and `NET_BASE_MISSING` if it isn't: its first number
-/// may arrive, or its last one. The end is a number. If the window is 0, only a segment without
-/// numbers at the acknowledged one is. An end alone there isn't, though
+/// may arrive, or its last one. The end is a number. The table's window has as many numbers as the
+/// free window has bytes, from the acknowledged number on, also once all arrived. If it is 0, only
+/// a segment without numbers at the acknowledged one is. An end alone there isn't, though
 /// `net_base_finite_receiver_segment` takes it: a caller that wants it asks with the count of the
 /// bytes alone.
 ///

@@ -1,10 +1,10 @@
 //! Senders of a stream that ends. Once one is closed nothing can be written, and the end has the
 //! number after the last byte's: it is sent and acknowledged as a byte is, and takes no room.
 //!
-//! A head of zeros, but for `sender.first_unacknowledged` and `sent`, which are equal then, is new.
-//! Where bytes are tells `net_base_sender_peek_at` of `sender`.
+//! A head of zeros, but for `sender.first_unacknowledged` and `sent`, which are equal then and
+//! below 2^64 - 1, is new. A number is kept for the end. Where bytes are tells
+//! `net_base_sender_peek_at` of `sender`.
 // Written by tools/ffi.py.
-ghost use Rattle.net_receiver.specs.Finite.{no_end};
 ghost use Rattle.net_receiver.specs.FiniteSender.{IsSoundFiniteSender, acknowledged_below, closed_sender};
 ghost use Rattle.net_receiver.specs.FiniteSender.{finite_room, finite_sender_of, has_end_at, with_bytes};
 ghost use Rattle.net_receiver.specs.SenderState.{Sends};
@@ -18,7 +18,9 @@ use crate::results::presence_of;
 use net_receiver::FiniteSenderHead;
 
 /// Returns whether this is the head of a sender of a stream that ends over a storage of `capacity`
-/// bytes.
+/// bytes: `sender` is that of a sender; `closed` and `finished` are 0 or 1, and `finished` is 1
+/// only if `closed` is and the queue is empty; and `sent` is from the first number that isn't
+/// acknowledged up to the number after the last one, which fits 64 bits.
 #[unsafe(no_mangle)]
 pub extern "C" fn net_base_finite_sender_is_sound(
     sender: &FiniteSenderHead,
@@ -73,8 +75,26 @@ pub extern "C" fn net_base_finite_sender_numbers_end(
     true
 }
 
-/// Enqueues the first of these bytes, as many as `net_base_sender_room` of `sender` says, and
-/// returns how many: none once the sender is closed.
+/// Returns how many bytes `net_base_finite_sender_write` would take: none once the sender is
+/// closed. The last number, 2^64 - 1, is kept for the end.
+///
+/// It is refused if `capacity` is `NET_BASE_NONE`, or if `sender` isn't that of a sender over
+/// `capacity` bytes: `NET_BASE_NONE`.
+#[unsafe(no_mangle)]
+pub extern "C" fn net_base_finite_sender_room(sender: &FiniteSenderHead, capacity: usize) -> usize
+    ensures value { (capacity < 2 ^ 64 - 1) × (IsSoundFiniteSender capacity sender.now) → (storage : List ℕ) →
+        length storage ≡ capacity → result ≡ finite_room (finite_sender_of sender.now storage) }
+    ensures refused { ((capacity < 2 ^ 64 - 1) × (IsSoundFiniteSender capacity sender.now) → ⊥) → result ≡ 2 ^ 64 -
+        1 }
+{
+    if capacity == usize::MAX || !sender.is_sound(capacity) {
+        return NET_BASE_NONE;
+    }
+    sender.room(capacity)
+}
+
+/// Enqueues the first of these bytes, as many as `net_base_finite_sender_room` says, and returns
+/// how many; once the sender is closed none, and nothing changes.
 ///
 /// It is refused if `sender` isn't that of a sender over `storage.len()` bytes: `NET_BASE_NONE`,
 /// and nothing changes.
@@ -86,19 +106,18 @@ pub extern "C" fn net_base_finite_sender_write(
 ) -> usize
     ensures sound { IsSoundFiniteSender (length storage.old) sender.old → IsSoundFiniteSender (length storage.old)
         sender.new }
-    ensures count { IsSoundFiniteSender (length storage.old) sender.old → (blocks : List (ℕ × ℕ)) → result ≡ min
-        (length bytes.now) (finite_room (finite_sender_of sender.old storage.old blocks)) }
-    ensures state { IsSoundFiniteSender (length storage.old) sender.old → (blocks : List (ℕ × ℕ)) → finite_sender_of
-        sender.new storage.new blocks ≡ with_bytes (finite_sender_of sender.old storage.old blocks) (take result
-        bytes.now) }
+    ensures count { IsSoundFiniteSender (length storage.old) sender.old → result ≡ min (length bytes.now)
+        (finite_room (finite_sender_of sender.old storage.old)) }
+    ensures state { IsSoundFiniteSender (length storage.old) sender.old → finite_sender_of sender.new storage.new ≡
+        with_bytes (finite_sender_of sender.old storage.old) (take result bytes.now) }
     ensures ring { IsSoundFiniteSender (length storage.old) sender.old → sender.old.closed ≡ 0 → let g =
         rewind_if_empty (ring_at storage.old sender.old.sender.place) in ring_at storage.new sender.new.sender.place
         ≡ with_enqueued result (with_elements_wrapping g (write_at g) (take result bytes.now)) }
     ensures closed { IsSoundFiniteSender (length storage.old) sender.old → 0 < sender.old.closed → (sender.new ≡
         sender.old) × (storage.new ≡ storage.old) }
-    ensures sends { IsSoundFiniteSender (length storage.old) sender.old → (blocks : List (ℕ × ℕ)) (f : ℕ) (w : List
-        ℕ) → Sends f w (finite_sender_of sender.old storage.old blocks).sender → Sends f (w ++ take result
-        bytes.now) (finite_sender_of sender.new storage.new blocks).sender }
+    ensures sends { IsSoundFiniteSender (length storage.old) sender.old → (f : ℕ) (w : List ℕ) → Sends f w
+        (finite_sender_of sender.old storage.old).sender → Sends f (w ++ take result bytes.now) (finite_sender_of
+        sender.new storage.new).sender }
     ensures refused { (IsSoundFiniteSender (length storage.old) sender.old → ⊥) → (result ≡ 2 ^ 64 - 1) ×
         (sender.new ≡ sender.old) × (storage.new ≡ storage.old) }
 {
@@ -108,8 +127,7 @@ pub extern "C" fn net_base_finite_sender_write(
     sender.write(storage, bytes)
 }
 
-/// Ends the stream after what was written, and returns true; false, and nothing changes, if there
-/// is no number left for the end. A second call changes nothing.
+/// Ends the stream after what was written, and returns true. A second call changes nothing.
 ///
 /// It is refused if `sender` isn't that of a sender over `capacity` bytes: false, and nothing
 /// changes.
@@ -118,19 +136,17 @@ pub extern "C" fn net_base_finite_sender_close(
     sender: &mut FiniteSenderHead,
     capacity: usize,
 ) -> bool
-    ensures sound { IsSoundFiniteSender capacity sender.old → IsSoundFiniteSender capacity sender.new }
-    ensures accepted { IsSoundFiniteSender capacity sender.old → (IsTrue result ↔ (sender.new.closed ≡ 1)) }
-    ensures refused { IsSoundFiniteSender capacity sender.old → (IsFalse result ↔
-        (sender.old.sender.first_unacknowledged + sender.old.sender.place.length ≡ no_end)) }
-    ensures state { IsSoundFiniteSender capacity sender.old → (storage : List ℕ) (blocks : List (ℕ × ℕ)) → length
-        storage ≡ capacity → finite_sender_of sender.new storage blocks ≡ closed_sender (finite_sender_of sender.old
-        storage blocks) }
-    ensures unsound { (IsSoundFiniteSender capacity sender.old → ⊥) → (IsFalse result) × (sender.new ≡ sender.old) }
+    ensures done { IsTrue result ↔ (IsSoundFiniteSender capacity sender.old) }
+    ensures sound { IsTrue result → IsSoundFiniteSender capacity sender.new }
+    ensures state { IsTrue result → (storage : List ℕ) → length storage ≡ capacity → finite_sender_of sender.new
+        storage ≡ closed_sender (finite_sender_of sender.old storage) }
+    ensures unchanged { IsFalse result → (sender.new ≡ sender.old) }
 {
     if !sender.is_sound(capacity) {
         return false;
     }
-    sender.close(capacity)
+    sender.close(capacity);
+    true
 }
 
 /// Returns `NET_BASE_PRESENT` if a segment whose bytes end at `position` ends the stream, since the
@@ -143,9 +159,9 @@ pub extern "C" fn net_base_finite_sender_has_end_at(
     capacity: usize,
     position: u64,
 ) -> u32
-    ensures state { IsSoundFiniteSender capacity sender.now → (storage : List ℕ) (blocks : List (ℕ × ℕ)) → length
-        storage ≡ capacity → result ≡ (if has_end_at (finite_sender_of sender.now storage blocks) position then
-        NET_BASE_PRESENT else NET_BASE_MISSING) }
+    ensures state { IsSoundFiniteSender capacity sender.now → (storage : List ℕ) → length storage ≡ capacity →
+        result ≡ (if has_end_at (finite_sender_of sender.now storage) position then NET_BASE_PRESENT else
+        NET_BASE_MISSING) }
     ensures refused { (IsSoundFiniteSender capacity sender.now → ⊥) → result ≡ NET_BASE_REFUSED }
 {
     if !sender.is_sound(capacity) {
@@ -195,12 +211,10 @@ pub extern "C" fn net_base_finite_sender_acknowledge(
     ensures accepted { IsSoundFiniteSender capacity sender.old → (IsTrue result ↔
         ((sender.old.sender.first_unacknowledged + sender.old.finished ≤ next) × (next ≤ sender.old.sent))) }
     ensures first { IsTrue result → sender.new.sender.first_unacknowledged + sender.new.finished ≡ next }
-    ensures state { IsTrue result → (storage : List ℕ) (old new : List (ℕ × ℕ)) → length storage ≡ capacity →
-        finite_sender_of sender.new storage new ≡ acknowledged_below (finite_sender_of sender.old storage old) next
-        new }
-    ensures sends { (storage : List ℕ) (old new : List (ℕ × ℕ)) → length storage ≡ capacity → (f : ℕ) (w : List ℕ) →
-        Sends f w (finite_sender_of sender.old storage old).sender → Sends f w (finite_sender_of sender.new storage
-        new).sender }
+    ensures state { IsTrue result → (storage : List ℕ) → length storage ≡ capacity → finite_sender_of sender.new
+        storage ≡ acknowledged_below (finite_sender_of sender.old storage) next }
+    ensures sends { (storage : List ℕ) → length storage ≡ capacity → (f : ℕ) (w : List ℕ) → Sends f w
+        (finite_sender_of sender.old storage).sender → Sends f w (finite_sender_of sender.new storage).sender }
     ensures refused { IsFalse result → sender.new ≡ sender.old }
     ensures unsound { (IsSoundFiniteSender capacity sender.old → ⊥) → (IsFalse result) × (sender.new ≡ sender.old) }
 {
@@ -223,7 +237,7 @@ pub extern "C" fn net_base_finite_sender_is_block(
     sender.is_block(start, end)
 }
 
-/// Returns whether the sender is closed.
+/// Returns whether the sender is closed: whether `closed` is 1.
 #[unsafe(no_mangle)]
 pub extern "C" fn net_base_finite_sender_is_closed(sender: &FiniteSenderHead) -> bool
     ensures { result ≡ (sender.now.closed == 1) }
@@ -231,7 +245,7 @@ pub extern "C" fn net_base_finite_sender_is_closed(sender: &FiniteSenderHead) ->
     sender.is_closed()
 }
 
-/// Returns whether all bytes and the end are acknowledged.
+/// Returns whether all bytes and the end are acknowledged: whether `finished` is 1.
 #[unsafe(no_mangle)]
 pub extern "C" fn net_base_finite_sender_is_closed_and_acknowledged(
     sender: &FiniteSenderHead,

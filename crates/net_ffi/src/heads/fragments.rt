@@ -33,8 +33,8 @@ pub extern "C" fn net_base_fragments_is_sound(
     fragments.is_sound(capacity, runs)
 }
 
-/// Starts over for a packet that is waited for up to `expires_at`, in microseconds. No head is
-/// refused: this makes one sound for any memory.
+/// Starts over for a packet that is waited for up to `expires_at`, in microseconds: the other
+/// numbers are 0 then. No head is refused: this makes one sound for any memory.
 #[unsafe(no_mangle)]
 pub extern "C" fn net_base_fragments_reset(fragments: &mut FragmentsHead, expires_at: i64)
     ensures sound { (storage : List ℕ) (runs : List (ℕ × ℕ)) → HasSoundParts fragments.new storage runs }
@@ -48,7 +48,8 @@ pub extern "C" fn net_base_fragments_reset(fragments: &mut FragmentsHead, expire
     fragments.reset(expires_at);
 }
 
-/// Sets the packet's size to `size` bytes, in a storage of `capacity` bytes.
+/// Sets the packet's size to `size` bytes, in a storage of `capacity` bytes: `has_total` is 1 then,
+/// whatever it was.
 ///
 /// Returns `NET_BASE_DONE`, also if bytes past that size have arrived; or, and nothing changes,
 /// `NET_BASE_TOO_LONG` if the storage has fewer bytes, or else `NET_BASE_OTHER_SIZE` if another
@@ -76,7 +77,8 @@ pub extern "C" fn net_base_fragments_set_total_size(
 }
 
 /// Returns `NET_BASE_PRESENT` if one of the `count` positions from `offset` on has arrived, so that
-/// a fragment there overlaps bytes that are present, and `NET_BASE_MISSING` if none has.
+/// a fragment there overlaps bytes that are present, and `NET_BASE_MISSING` if none has. If `offset
+/// + count` doesn't fit a `size_t`, these are all positions from `offset` on.
 ///
 /// It is refused if `present.used` is above `runs.len()`: `NET_BASE_REFUSED`.
 ///

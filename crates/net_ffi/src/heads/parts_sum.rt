@@ -24,7 +24,7 @@ pub extern "C" fn net_base_parts_sum_checksum(sum: &PartsSum) -> u16
 }
 
 /// Returns whether the bytes that were added, with a checksum among them at an even offset, are
-/// valid.
+/// valid. No bytes aren't.
 #[unsafe(no_mangle)]
 pub extern "C" fn net_base_parts_sum_is_valid(sum: &PartsSum) -> bool
     ensures { (xs : List ℕ) → Sums sum.now xs → (IsTrue result ↔ (folded (word_sum xs) ≡ 65535)) }

@@ -3,14 +3,15 @@
 //! A head of zeros is that before any segment: nothing may be sent but a probe, and no segment is
 //! older.
 // Written by tools/ffi.py.
-ghost use Rattle.net_tcp.specs.PeerWindow.{IsNewer, window_from, with_segment};
-ghost use Rattle.std.specs.Prelude.{IsFalse, IsTrue, min, ◌-◌, ◌<◌, ◌↔◌, ◌≡◌, ◌≤◌};
+ghost use Rattle.net_tcp.specs.PeerWindow.{Replaces, acknowledgement_number, after_update, window_from};
+ghost use Rattle.std.specs.Prelude.{IsFalse, IsTrue, max, min, ◌-◌, ◌<◌, ◌↔◌, ◌≡◌, ◌≤◌};
 
 use net_tcp::PeerWindow;
 
 /// Takes over the window of an acceptable segment, unless that is older than the one before, or
 /// acknowledges a position below `first_unacknowledged` or above `sent`. Returns whether it did. A
-/// window may shrink.
+/// window may shrink. It is older if its `seq` is below that of the head, or equal and its `ack`
+/// is. The new edge is `ack + window`, or `UINT64_MAX` if that is above it.
 #[unsafe(no_mangle)]
 pub extern "C" fn net_base_peer_window_update(
     peer: &mut PeerWindow,
@@ -20,10 +21,10 @@ pub extern "C" fn net_base_peer_window_update(
     ack: u64,
     window: u64,
 ) -> bool
-    ensures accepted { IsTrue result ↔ ((first_unacknowledged ≤ ack) × (ack ≤ sent) × (IsNewer peer.old seq ack)) }
+    ensures accepted { IsTrue result ↔ ((first_unacknowledged ≤ ack) × (ack ≤ sent) × (Replaces peer.old seq ack)) }
     ensures window { IsTrue result → peer.new ≡ window_from seq ack window }
     ensures refused { IsFalse result → peer.new ≡ peer.old }
-    ensures state { first_unacknowledged ≤ ack → ack ≤ sent → peer.new ≡ with_segment peer.old seq ack window }
+    ensures state { peer.new ≡ after_update peer.old first_unacknowledged sent seq ack window }
 {
     peer.update(first_unacknowledged, sent, seq, ack, window)
 }
@@ -57,4 +58,23 @@ pub extern "C" fn net_base_peer_window_is_probe_allowed(
     ensures progress { first_unacknowledged < end → IsFalse result → first_unacknowledged < min peer.now.edge end }
 {
     peer.is_probe_allowed(first_unacknowledged, end)
+}
+
+/// Returns the number of a segment without positions, as an acknowledgement is: `sent`, or the end
+/// of the window if that is below it, or `first_unacknowledged` if the window ends before that.
+///
+/// A peer whose window is shut takes no number beyond it, though a probe was sent there, nor what
+/// such a segment acknowledges.
+#[unsafe(no_mangle)]
+pub extern "C" fn net_base_peer_window_acknowledgement_number(
+    peer: &PeerWindow,
+    first_unacknowledged: u64,
+    sent: u64,
+) -> u64
+    ensures value { result ≡ acknowledgement_number peer.now first_unacknowledged sent }
+    ensures sent { result ≤ sent }
+    ensures promised { result ≤ max peer.now.edge first_unacknowledged }
+    ensures first { first_unacknowledged ≤ sent → first_unacknowledged ≤ result }
+{
+    peer.acknowledgement_number(first_unacknowledged, sent)
 }

@@ -22,8 +22,10 @@ use crate::refusals::NET_BASE_NONE;
 use net_assembler::Run;
 use net_receiver::{HeldRun, ReceiverHead};
 
-/// Returns whether these are the head, the storage and the runs of a receiver. It looks at each
-/// run, and at no byte.
+/// Returns whether these are the head, the storage and the runs of a receiver: `place` is that of a
+/// ring of the storage, whose `read_at` is `count_read` modulo the capacity; `next` fits 64 bits;
+/// `held` and the runs are those of an assembler without position 0; and each held position is in
+/// the free window, and the one after it fits 64 bits. It looks at each run, and at no byte.
 #[unsafe(no_mangle)]
 pub extern "C" fn net_base_receiver_is_sound(
     receiver: &ReceiverHead,
@@ -182,13 +184,13 @@ pub extern "C" fn net_base_receiver_remove(
 /// are held, or as `into` has elements. The rest of `into` stays as it is.
 ///
 /// The first is the run that has `position`, that of the segment just taken, if it is held; then
-/// come the runs of the starts in `recent`, in their order, and then the others, in rising order;
-/// each comes once. The call writes the starts of the runs that it lists to the beginning of
-/// `recent`, as many as there is room for. The caller sets `recent` to zeros before the first call,
-/// and doesn't change it afterwards. It is enough if `recent` and `into` have as many elements in
-/// each call as the longest acknowledgement has SACK blocks; a shorter one has the first of them.
-/// RFC 2018, section 4, wants this order. The time grows with the number of runs times the number
-/// of runs and of elements of `recent` together.
+/// come the runs that have the positions in `recent`, in their order, and then the others, in
+/// rising order; each comes once. The call writes the starts of the runs that it lists to the
+/// beginning of `recent`, as many as there is room for. The caller sets `recent` to zeros before
+/// the first call, and doesn't change it afterwards. It is enough if `recent` and `into` have as
+/// many elements in each call as the longest acknowledgement has SACK blocks; a shorter one has the
+/// first of them. RFC 2018, section 4, wants this order. The time grows with the number of runs
+/// times the number of runs and of elements of `recent` together.
 ///
 /// It is refused if `place` isn't that of a ring of `storage.len()` bytes, `next` doesn't fit 64
 /// bits, or `held.used` is above `runs.len()`: `NET_BASE_NONE`, and nothing changes.

@@ -7,8 +7,8 @@ ghost use Rattle.std.specs.Prelude.{IsFalse, IsTrue, ◌↔◌, ◌≡◌};
 
 use net_tcp::{RetransmissionTimeout, TimeoutBounds};
 
-/// Returns whether the estimate, if there is one, has room for a sample, as any has that was made
-/// by samples.
+/// Returns whether the estimate, if there is one, has room for a sample: `srtt_8` is at most 2^63,
+/// and `rttvar_4` at most 2^62. Any has that was made by samples.
 #[unsafe(no_mangle)]
 pub extern "C" fn net_base_retransmission_timeout_is_small(timer: &RetransmissionTimeout) -> bool
     ensures { IsTrue result ↔ IsSmallIfAny (estimate_of timer.now) }
@@ -19,6 +19,11 @@ pub extern "C" fn net_base_retransmission_timeout_is_small(timer: &Retransmissio
 /// Takes over a sample, the time from when a segment was sent until it was acknowledged, of which
 /// at most 2^60 count, and returns true. The segment was sent once: of one that was sent again it
 /// isn't known which of the copies was acknowledged.
+///
+/// After the first sample `srtt_8` is 8 times it, and `rttvar_4` 2 times. After another one, with
+/// quotients rounded down, `srtt_8` is less by an eighth of it and more by the sample, and
+/// `rttvar_4` less by a quarter of it and more by how far the sample is from an eighth of the old
+/// `srtt_8`. The timeout is that of `net_base_rtt_estimate_timeout` then.
 ///
 /// It is refused if the estimate of `timer` has no room for a sample: false, and nothing changes.
 #[unsafe(no_mangle)]

@@ -2,7 +2,9 @@
 //!
 //! If the elements aren't bytes, pass only the capacity: the call returns indices, and you copy
 //! before the next call. A head that doesn't fit the capacity is refused. An empty queue may begin
-//! at any index; `read_at` is 0 if the capacity is.
+//! at any index; `read_at` is 0 if the capacity is. A call that takes the last element off leaves
+//! `read_at` after it, and doesn't rewind. In a span of no elements `from` is where the first would
+//! be.
 // Written by tools/ffi.py.
 ghost use Rattle.net_ffi.specs.Refusals.{nowhere};
 ghost use Rattle.net_ring.specs.Ring.{Dequeues, Enqueues, WritesSpare, queue, rewind_if_empty, spare_index, window};
@@ -80,7 +82,7 @@ pub extern "C" fn net_base_ring_clear(place: &mut RingHead)
 }
 
 /// Moves the read index of an empty ring to the storage's beginning: then all its free elements are
-/// contiguous. Otherwise the numbers stay as they are.
+/// contiguous. Otherwise the head stays as it is.
 #[unsafe(no_mangle)]
 pub extern "C" fn net_base_ring_rewind_if_empty(place: &mut RingHead)
     ensures place { place.new ≡ rewound place.old }

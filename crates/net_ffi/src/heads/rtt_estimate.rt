@@ -6,8 +6,9 @@ ghost use Rattle.std.specs.Prelude.{min, ◌/◌, ◌≡◌, ◌≤◌};
 
 use net_tcp::{RttEstimate, TimeoutBounds};
 
-/// Returns the timeout that it gives within the bounds: at least the smoothed time, but for the
-/// greatest timeout.
+/// Returns the timeout that it gives within the bounds: an eighth of `srtt_8`, rounded down, plus
+/// the greater of `rttvar_4` and `tick`. A sum above `UINT64_MAX` is that. If `least` is above
+/// `most`, it is `least`.
 #[unsafe(no_mangle)]
 pub extern "C" fn net_base_rtt_estimate_timeout(
     estimate: &RttEstimate,

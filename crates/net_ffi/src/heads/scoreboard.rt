@@ -48,7 +48,7 @@ pub extern "C" fn net_base_scoreboard_reset(scoreboard: &mut ScoreboardHead, fir
 ///
 /// Returns `NET_BASE_DONE`, or `NET_BASE_TOO_MANY_RUNS`, and nothing changes, if the block begins
 /// beyond the first position that wasn't reported, and there would be more runs beyond it than the
-/// slice has elements.
+/// slice has elements, or it ends more than `SIZE_MAX` after that position.
 ///
 /// It is refused if `start` isn't below `end`, or `end` is above `sent`, or if `scoreboard` isn't
 /// sound with `runs`: `NET_BASE_REFUSED`, and nothing changes.
@@ -157,8 +157,8 @@ pub extern "C" fn net_base_scoreboard_next_hole(
     }
 }
 
-/// Writes the position after the last one that was reported to `end`, 0 if none was, and returns
-/// true.
+/// Writes the position after the last one that was reported to `end`, which is `base` if no run is
+/// stored, and returns true.
 ///
 /// It is refused if `scoreboard` isn't sound with `runs`: false, and nothing changes.
 #[unsafe(no_mangle)]
@@ -198,8 +198,9 @@ pub extern "C" fn net_base_scoreboard_count_beyond(
 
 /// Writes to `limit` the position below which all that wasn't reported is lost, by the rule of RFC
 /// 6675, section 4, and returns true: from it on `duplicates` runs were reported (3 in TCP; 0
-/// counts as 1), or more bytes than `duplicates - 1` segments of `segment_size` bytes have. It is 0
-/// if nothing is lost.
+/// counts as 1), or more bytes than `duplicates - 1` segments of `segment_size` bytes have. It is
+/// the start of a stored run, the last one of which this holds, or 0 if nothing is lost.
+/// `duplicates - 1` times `segment_size` counts up to `SIZE_MAX`.
 ///
 /// It is refused if `scoreboard` isn't sound with `runs`: false, and nothing changes.
 #[unsafe(no_mangle)]

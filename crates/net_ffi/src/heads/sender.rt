@@ -2,7 +2,7 @@
 //!
 //! A head of zeros, but for `first_unacknowledged`, is that of a sender of a stream that begins
 //! there, to which nothing was written. The queue, of bytes that are not acknowledged, is the ring
-//! of `place`. These calls take no SACK blocks: what these report is kept in a scoreboard.
+//! of `place`. What SACK blocks report is kept in a scoreboard.
 // Written by tools/ffi.py.
 ghost use Rattle.net_ffi.specs.Refusals.{nowhere};
 ghost use Rattle.net_receiver.specs.OneStream.{MatchesStream};
@@ -59,7 +59,8 @@ pub extern "C" fn net_base_sender_room(sender: &SenderHead, capacity: usize) -> 
     sender.room(capacity)
 }
 
-/// Enqueues the first of these bytes, as many as there is room for, and returns how many.
+/// Enqueues the first of these bytes, as many as there is room for, and returns how many. An empty
+/// queue is rewound before, also for no bytes: `place.read_at` becomes 0.
 ///
 /// It is refused if `sender` isn't that of a sender over `storage.len()` bytes: `NET_BASE_NONE`,
 /// and nothing changes.
@@ -70,16 +71,15 @@ pub extern "C" fn net_base_sender_write(
     bytes: &[u8],
 ) -> usize
     ensures sound { IsSoundHead (length storage.old) sender.old → IsSoundHead (length storage.old) sender.new }
-    ensures count { IsSoundHead (length storage.old) sender.old → (blocks : List (ℕ × ℕ)) → result ≡ min (length
-        bytes.now) (room_of (sender_of sender.old storage.old blocks)) }
-    ensures state { IsSoundHead (length storage.old) sender.old → (blocks : List (ℕ × ℕ)) → sender_of sender.new
-        storage.new blocks ≡ with_written (sender_of sender.old storage.old blocks) (take result bytes.now) }
+    ensures count { IsSoundHead (length storage.old) sender.old → result ≡ min (length bytes.now) (room_of
+        (sender_of sender.old storage.old)) }
+    ensures state { IsSoundHead (length storage.old) sender.old → sender_of sender.new storage.new ≡ with_written
+        (sender_of sender.old storage.old) (take result bytes.now) }
     ensures ring { let g = rewind_if_empty (ring_at storage.old sender.old.place) in IsSoundHead (length
         storage.old) sender.old → ring_at storage.new sender.new.place ≡ with_enqueued result
         (with_elements_wrapping g (write_at g) (take result bytes.now)) }
-    ensures sends { IsSoundHead (length storage.old) sender.old → (blocks : List (ℕ × ℕ)) (f : ℕ) (w : List ℕ) →
-        Sends f w (sender_of sender.old storage.old blocks) → Sends f (w ++ take result bytes.now) (sender_of
-        sender.new storage.new blocks) }
+    ensures sends { IsSoundHead (length storage.old) sender.old → (f : ℕ) (w : List ℕ) → Sends f w (sender_of
+        sender.old storage.old) → Sends f (w ++ take result bytes.now) (sender_of sender.new storage.new) }
     ensures refused { (IsSoundHead (length storage.old) sender.old → ⊥) → (result ≡ 2 ^ 64 - 1) × (sender.new ≡
         sender.old) × (storage.new ≡ storage.old) }
 {
@@ -90,8 +90,8 @@ pub extern "C" fn net_base_sender_write(
 }
 
 /// Returns where at most `max` queued bytes are, from the one at `position` on. The caller copies
-/// or sends them. If that byte isn't queued, `count` and `contiguous` are 0, and `from` says
-/// nothing.
+/// or sends them. If that byte isn't queued, `count` and `contiguous` are 0, and `from` is any
+/// index.
 ///
 /// It is refused if `sender` isn't that of a sender over `capacity` bytes: `from` is
 /// `NET_BASE_NONE`, `count` and `contiguous` are 0.
@@ -111,15 +111,15 @@ pub extern "C" fn net_base_sender_peek_at(
     ensures before { IsSoundHead capacity sender.now → position < sender.now.first_unacknowledged → (result.from ≡
         0) × (result.count ≡ 0) × (result.contiguous ≡ 0) }
     ensures within { IsSoundHead capacity sender.now → result.from + result.contiguous ≤ capacity }
-    ensures end { IsSoundHead capacity sender.now → (storage : List ℕ) (blocks : List (ℕ × ℕ)) → length storage ≡
-        capacity → sender.now.first_unacknowledged ≤ position → result.contiguous ≡ min max (contiguous_end
-        (sender_of sender.now storage blocks) position - position) }
+    ensures end { IsSoundHead capacity sender.now → (storage : List ℕ) → length storage ≡ capacity →
+        sender.now.first_unacknowledged ≤ position → result.contiguous ≡ min max (contiguous_end (sender_of
+        sender.now storage) position - position) }
     ensures bytes { IsSoundHead capacity sender.now → (storage : List ℕ) → length storage ≡ capacity → take
         result.contiguous (drop result.from storage) ≡ take result.contiguous (drop (position -
         sender.now.first_unacknowledged) (queue (ring_at storage sender.now.place))) }
-    ensures says { IsSoundHead capacity sender.now → (storage : List ℕ) (blocks : List (ℕ × ℕ)) → length storage ≡
-        capacity → sender.now.first_unacknowledged ≤ position → (f : ℕ) (w : List ℕ) → Sends f w (sender_of
-        sender.now storage blocks) → MatchesStream f w position (take result.contiguous (drop result.from storage)) }
+    ensures says { IsSoundHead capacity sender.now → (storage : List ℕ) → length storage ≡ capacity →
+        sender.now.first_unacknowledged ≤ position → (f : ℕ) (w : List ℕ) → Sends f w (sender_of sender.now storage)
+        → MatchesStream f w position (take result.contiguous (drop result.from storage)) }
     ensures refused { (IsSoundHead capacity sender.now → ⊥) → result ≡ nowhere }
 {
     if !sender.is_sound(capacity) {
@@ -145,10 +145,10 @@ pub extern "C" fn net_base_sender_acknowledge(
     ensures first { IsTrue result → sender.new.first_unacknowledged ≡ next }
     ensures place { IsTrue result → sender.new.place ≡ dequeued_place capacity (next -
         sender.old.first_unacknowledged) sender.old.place }
-    ensures state { IsTrue result → (storage : List ℕ) (old new : List (ℕ × ℕ)) → length storage ≡ capacity →
-        sender_of sender.new storage new ≡ sender_from (sender_of sender.old storage old) next new }
-    ensures sends { (storage : List ℕ) (old new : List (ℕ × ℕ)) → length storage ≡ capacity → (f : ℕ) (w : List ℕ) →
-        Sends f w (sender_of sender.old storage old) → Sends f w (sender_of sender.new storage new) }
+    ensures state { IsTrue result → (storage : List ℕ) → length storage ≡ capacity → sender_of sender.new storage ≡
+        sender_from (sender_of sender.old storage) next }
+    ensures sends { (storage : List ℕ) → length storage ≡ capacity → (f : ℕ) (w : List ℕ) → Sends f w (sender_of
+        sender.old storage) → Sends f w (sender_of sender.new storage) }
     ensures refused { IsFalse result → sender.new ≡ sender.old }
     ensures unsound { (IsSoundHead capacity sender.old → ⊥) → (IsFalse result) × (sender.new ≡ sender.old) }
 {
@@ -204,10 +204,10 @@ pub extern "C" fn net_base_sender_acknowledge_sent(
     ensures first { IsTrue result → sender.new.first_unacknowledged ≡ next }
     ensures place { IsTrue result → sender.new.place ≡ dequeued_place capacity (next -
         sender.old.first_unacknowledged) sender.old.place }
-    ensures state { IsTrue result → (storage : List ℕ) (old new : List (ℕ × ℕ)) → length storage ≡ capacity →
-        sender_of sender.new storage new ≡ sender_from (sender_of sender.old storage old) next new }
-    ensures sends { (storage : List ℕ) (old new : List (ℕ × ℕ)) → length storage ≡ capacity → (f : ℕ) (w : List ℕ) →
-        Sends f w (sender_of sender.old storage old) → Sends f w (sender_of sender.new storage new) }
+    ensures state { IsTrue result → (storage : List ℕ) → length storage ≡ capacity → sender_of sender.new storage ≡
+        sender_from (sender_of sender.old storage) next }
+    ensures sends { (storage : List ℕ) → length storage ≡ capacity → (f : ℕ) (w : List ℕ) → Sends f w (sender_of
+        sender.old storage) → Sends f w (sender_of sender.new storage) }
     ensures refused { IsFalse result → sender.new ≡ sender.old }
     ensures unsound { (IsSoundHead capacity sender.old → ⊥) → (IsFalse result) × (sender.new ≡ sender.old) }
 {

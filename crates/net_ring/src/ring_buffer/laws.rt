@@ -11,6 +11,7 @@ use crate::managed::ManagedSlice;
 
 /// States that read index, queue and spare part determine a ring: two rings that agree in these are
 /// equal.
+#[tactic(auto, using(crate::proofs::RingFacts::parts_are))]
 pub fn ring_is_its_parts<T>()
     ensures { (g h : RingState T) → IsWellFormed g → IsWellFormed h →
         g.read_at ≡ h.read_at → queue g ≡ queue h → spare g ≡ spare h → g ≡ h }
@@ -25,6 +26,7 @@ pub fn count_and_window_are_capacity<T>()
 
 /// States that moving the read index of an empty ring to the storage's beginning changes neither
 /// the queue nor the counts.
+#[tactic(auto, using(crate::proofs::RingFacts::rewound_is))]
 pub fn rewinding_keeps_the_queue<T>()
     ensures { (g : RingState T) → (queue (rewind_if_empty g) ≡ queue g)
         × ((rewind_if_empty g).count ≡ g.count) × ((rewind_if_empty g).storage ≡ g.storage) }
@@ -36,7 +38,8 @@ pub fn rewinding_keeps_the_queue<T>()
 /// that is shown then, and this is the value last written to it while it was queued, by the call
 /// that enqueued it or through a loan. Elements that `clear` and `reset` drop, and the one that
 /// `pop_back` takes off, count as never enqueued. Clause `call` of each call says which `RingCall`
-/// it is; `last_dequeued_mut` is one if it lends only free elements.
+/// it is.
+#[tactic(auto, using(crate::proofs::RingOrder::in_turn))]
 pub fn elements_leave_in_turn<T>()
     ensures { (storage : List T) (calls : List (RingCall T)) (g : RingState T)
         → MakesAll calls (ring storage 0 0) g
@@ -44,6 +47,7 @@ pub fn elements_leave_in_turn<T>()
 {}
 
 /// States that a list that is written over a whole storage is then its elements.
+#[tactic(auto, using(crate::specs::StorageLaws::part_written, crate::proofs::RingFacts::overwrite_whole))]
 pub fn storage_is_what_was_written<T>(storage: &ManagedSlice<'_, T>)
     ensures { (ws : List T) → length ws ≡ length (elements storage.now) →
         elements (with_part storage.now 0 ws) ≡ ws }
@@ -52,6 +56,7 @@ pub fn storage_is_what_was_written<T>(storage: &ManagedSlice<'_, T>)
 /// States that an overwritten list has as many elements as before, and at each index the element
 /// that was written there, or the old one if none was; that writing a part of a list over itself
 /// changes nothing; and that overwriting one element sets it.
+#[tactic(auto, using(crate::specs::StorageLaws::element_set_written))]
 pub fn overwritten<T>()
     ensures count { (xs ws : List T) (i : ℕ) → length (overwrite xs i ws) ≡ length xs }
     ensures element { (xs ws : List T) (i k : ℕ) (x : T) → OverwritesAt xs i ws k x }

@@ -1,22 +1,34 @@
 //! The two ends of a stream of bytes: a receiver, at which segments arrive in any order and bytes are
 //! read in order, and a sender, which stores bytes until they are acknowledged.
 
-mod finite;
+mod finite_error;
+mod finite_receiver;
+mod finite_receiver_head;
+mod finite_sender;
+mod finite_sender_head;
+mod held_runs;
+mod kept;
+mod newest_runs;
 mod receiver;
-mod sack_blocks;
+mod receiver_head;
 mod scoreboard;
+mod scoreboard_head;
 mod sender;
+mod sender_head;
 mod sequence_number;
 
-pub use finite::{
-    FiniteError, FiniteReceiver, FiniteReceiverHead, FiniteReceiverOver, FiniteSender,
-    FiniteSenderHead, FiniteSenderOver,
-};
-pub use receiver::{
-    HeldRun, HeldRunIter, HeldRuns, Kept, NewestRunIter, Receiver, ReceiverHead,
-    ReceiverOver,
-};
-pub use sack_blocks::{MOST_SACK_BLOCKS, SackBlocks};
-pub use scoreboard::{Scoreboard, ScoreboardHead};
-pub use sender::{Sender, SenderHead, SenderOver};
+pub use finite_error::FiniteError;
+pub use finite_receiver::{FiniteReceiver, FiniteReceiverOver};
+pub use finite_receiver_head::FiniteReceiverHead;
+pub use finite_sender::{FiniteSender, FiniteSenderOver};
+pub use finite_sender_head::FiniteSenderHead;
+pub use held_runs::{HeldRunIter, HeldRuns};
+pub use kept::{Kept, KeptBytes};
+pub use newest_runs::{HeldRun, NewestRunIter};
+pub use receiver::{Receiver, ReceiverOver};
+pub use receiver_head::ReceiverHead;
+pub use scoreboard::Scoreboard;
+pub use scoreboard_head::ScoreboardHead;
+pub use sender::{Sender, SenderOver};
+pub use sender_head::SenderHead;
 pub use sequence_number::SequenceNumber;

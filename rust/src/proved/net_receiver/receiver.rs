@@ -1,31 +1,28 @@
 //! The receiver.
 
-mod below;
-mod head;
-mod held_runs;
-mod kept_bytes;
-mod new_bytes;
-mod newest;
-mod newest_runs;
-mod reads;
-
-pub use head::ReceiverHead;
-pub use held_runs::{HeldRunIter, HeldRuns};
-pub use kept_bytes::Kept;
+use crate::proved::net_receiver::held_runs::HeldRuns;
+use crate::proved::net_receiver::kept::{Kept, KeptBytes};
+use crate::proved::net_receiver::newest_runs::{HeldRun, NewestRunIter};
+use crate::proved::net_receiver::receiver_head::ReceiverHead;
 use crate::proved::net_assembler::{Run, TooManyHolesError};
 use crate::proved::net_ring::{ManagedSlice, Storage};
-pub use newest::NewestRunIter;
-pub use newest_runs::HeldRun;
 
 /// A receiver of one stream of bytes, which stores them in a ring until they are read. It serves as
 /// the receiving half of a TCP socket, or of any protocol that names bytes by their positions.
 ///
 /// Positions are absolute and counted in bytes; the stream's first byte has the position `first`.
 /// `next` is the first missing one: the bytes after those read, up to `next`, are queued and can be
-/// read. The free window is the positions from `next` on for which there is room, the receive
-/// window of TCP. A byte in it that is beyond `next` is held at its offset after the queue, in at
-/// most `N` runs, until the bytes before it have arrived. In the storage the stream's byte number
-/// i, counted from 0, has the index i modulo the capacity.
+/// read. The free window is the positions from `next` on for which there is room, TCP's receive
+/// window. Bytes beyond `next` wait in the ring at their places, in at most `N` runs, until the bytes
+/// before them have arrived:
+///
+/// ```text
+/// position  first           next                       window_end
+///           |  read  | queued |      |held |   |held|      |
+///                    |------------- capacity --------------|
+/// ```
+///
+/// The stream's byte number i, counted from 0, has the index i modulo the capacity in the storage.
 ///
 /// Contracts see the first position, the capacity, the count of bytes read, the queue, and the held
 /// bytes by their positions. No call takes memory. smoltcp's TCP socket joins ring and assembler in
@@ -51,7 +48,10 @@ pub struct ReceiverOver<S: Storage<u8>, const N: usize> {
 /// let mut into = [0; 8];
 /// assert_eq!((receiver.read(&mut into), &into[..5]), (5, &b"abcde"[..]));
 /// ```
-pub type Receiver<'a, const N: usize = 4> = ReceiverOver<ManagedSlice<'a, u8>, N>;
+pub type Receiver<'a, const N: usize = { crate::rattle::ASSEMBLER_MAX_SEGMENT_COUNT }> = ReceiverOver<ManagedSlice<'a, u8>, N>;
+
+impl<'a, const N: usize> Receiver<'a, N> {
+}
 
 impl<S: Storage<u8>, const N: usize> ReceiverOver<S, N> {
     /// Returns a receiver of a stream that begins at position 0: `over_at` with 0.
@@ -197,6 +197,368 @@ impl<S: Storage<u8>, const N: usize> ReceiverOver<S, N> {
     /// ```
     pub const fn fits(pos: u64, len: usize) -> bool {
         len as u64 <= u64::MAX - pos
+    }
+
+    /// Keeps the bytes of a segment that are in the free window: from `next` on, and below `next`
+    /// plus `window`. Returns how many, by how many `next` moved, and the first three held runs; `keep`
+    /// does the same, and lists no runs.
+    ///
+    /// They are written at their positions, over those held there, and all bytes that are then
+    /// contiguous from `next` on join the queue. If there are none, nothing changes. The segment is
+    /// refused, and nothing changes, exactly if the bytes do not begin at `next` and together with
+    /// those held would make more than `N` runs. So a segment that begins at or below `next` is
+    /// never refused, and its kept bytes join the queue.
+    ///
+    /// `state` and `reply` say what the call leaves and returns, by the rules on what is stored. `step`
+    /// says it of each kept list that the receiver represents, by the rules of a schedule. The other
+    /// clauses follow from these. `receives` is for callers that expect one stream: if the receiver
+    /// has kept only bytes of the stream, and the segment has the stream's bytes, it still has kept
+    /// only bytes of the stream.
+    ///
+    /// ```
+    /// # use net_base::receiver::Receiver;
+    /// # use net_base::storage::TooManyHolesError;
+    /// let mut storage = [0u8; 16];
+    /// let mut receiver = Receiver::<1>::empty(&mut storage[..]);
+    /// assert_eq!(receiver.segment(4, b"e").map(|it| it.sack), Ok([Some((4, 5)), None, None]));
+    /// assert_eq!(receiver.segment(6, b"g"), Err(TooManyHolesError));
+    /// assert_eq!(receiver.segment(0, b"abcd").map(|it| it.queued), Ok(5));
+    /// ```
+    ///
+    /// # Requires, else it panics
+    ///
+    /// The segment ends within 64 bits, as `fits` tests.
+    ///
+    /// # Contract
+    ///
+    /// In the words of [`contracts`](crate::contracts):
+    ///
+    /// ```text
+    /// requires { pos + length bytes.now < 2 ^ 64 }
+    /// ensures state { self.new ≡ receiver_after_command N self.old (Segment pos bytes.now) }
+    /// ensures reply { SegmentReply result ≡ receiver_reply N self.old (Segment pos bytes.now) }
+    /// ensures step { StepRefines N self.old self.new (Segment pos bytes.now)
+    ///     (SegmentReply result) }
+    /// ensures setting { StaysInSetting N self.old self.new }
+    /// ensures keeps { KeepsOrRefuses self.old (window_part self.old pos bytes.now)
+    ///     self.new result }
+    /// ensures in_order { pos ≤ next_position self.old →
+    ///     JoinsQueue self.old (window_part self.old pos bytes.now) self.new result }
+    /// ensures receives { (f : ℕ) (x : List ℕ) → ReceivesFrom f x self.old →
+    ///     MatchesStream f x pos bytes.now → ReceivesFrom f x self.new }
+    /// ```
+    // Inlined, so that a caller that doesn't look at `sack` doesn't pay for it.
+    #[inline(always)]
+    #[track_caller]
+    pub fn segment(&mut self, pos: u64, bytes: &[u8]) -> Result<Kept, TooManyHolesError> {
+        let fits = Self::fits(pos, bytes.len());
+        assert!(fits, "the segment's end is above `u64::MAX`");
+        let count = self.storage.count();
+        let storage = self.storage.part_mut(0, count);
+        self.head.segment(storage, &mut self.runs, pos, bytes)
+    }
+
+    /// Keeps the bytes of a segment that are in the free window, as `segment` does, and lists no runs.
+    ///
+    /// `state` and `counts` say what the call leaves and returns; the other clauses follow from these.
+    ///
+    /// ```
+    /// # use net_base::receiver::{KeptBytes, Receiver};
+    /// let mut storage = [0u8; 16];
+    /// let mut receiver = Receiver::new(&mut storage[..]);
+    /// assert_eq!(receiver.keep(2, b"cd"), Ok(KeptBytes { kept: 2, queued: 0 }));
+    /// assert_eq!(receiver.keep(0, b"ab"), Ok(KeptBytes { kept: 2, queued: 4 }));
+    /// ```
+    ///
+    /// # Requires, else it panics
+    ///
+    /// The segment ends within 64 bits, as `fits` tests.
+    ///
+    /// # Contract
+    ///
+    /// In the words of [`contracts`](crate::contracts):
+    ///
+    /// ```text
+    /// requires { pos + length bytes.now < 2 ^ 64 }
+    /// ensures state { self.new ≡ receiver_after_command N self.old (Segment pos bytes.now) }
+    /// ensures counts { result ≡ numbers receiver_ops self.old
+    ///     (verdict receiver_ops N self.old (piece pos bytes.now)) }
+    /// ensures unchanged { OnErr result (self.new ≡ self.old) }
+    /// ensures kept { IfOk result (λ it. it.kept ≡ length (window_part self.old pos bytes.now)) }
+    /// ensures queued { IfOk result (λ it. next_position self.new ≡ next_position self.old + it.queued) }
+    /// ensures in_order { pos ≤ next_position self.old → IsOk result }
+    /// ensures setting { StaysInSetting N self.old self.new }
+    /// ensures receives { (f : ℕ) (x : List ℕ) → ReceivesFrom f x self.old →
+    ///     MatchesStream f x pos bytes.now → ReceivesFrom f x self.new }
+    /// ```
+    #[inline]
+    #[track_caller]
+    pub fn keep(&mut self, pos: u64, bytes: &[u8]) -> Result<KeptBytes, TooManyHolesError> {
+        let fits = Self::fits(pos, bytes.len());
+        assert!(fits, "the segment's end is above `u64::MAX`");
+        let count = self.storage.count();
+        let storage = self.storage.part_mut(0, count);
+        self.head.keep(storage, &mut self.runs, pos, bytes)
+    }
+
+    /// Moves bytes from the head of the queue to the beginning of `into`, and returns how many: as
+    /// many as are queued and as `into` has room for. The rest of `into` stays as it is.
+    ///
+    /// As in `segment`, the clauses `state`, `count` and `into` are about what is stored, `step`
+    /// about kept lists, and `receives` and `bytes` about the stream of the segments.
+    ///
+    /// ```ignore
+    /// if Receiver::<4>::fits(pos, payload.len()) {
+    ///     let _accepted = receiver.segment(pos, payload).is_ok();
+    /// }
+    /// receiver.read(into)
+    /// ```
+    ///
+    /// ```
+    /// # use net_base::receiver::Receiver;
+    /// # let mut storage = [0u8; 16];
+    /// # let mut receiver = Receiver::new(&mut storage[..]);
+    /// assert!(receiver.segment(0, b"abc").is_ok());
+    /// let mut into = *b"--";
+    /// assert_eq!((receiver.read(&mut into), &into, receiver.len()), (2, b"ab", 1));
+    /// ```
+    ///
+    /// # Contract
+    ///
+    /// In the words of [`contracts`](crate::contracts):
+    ///
+    /// ```text
+    /// ensures state { self.new ≡ receiver_after_read self.old (length into.old) }
+    /// ensures count { result ≡ min (length into.old) (length self.old.queue) }
+    /// ensures into { into.new ≡
+    ///     take (length into.old) self.old.queue ++ drop (length self.old.queue) into.old }
+    /// ensures step { StepRefines N self.old self.new
+    ///     (Read (length into.old)) (ReadReply (take result into.new)) }
+    /// ensures setting { StaysInSetting N self.old self.new }
+    /// ensures next { next_position self.new ≡ next_position self.old }
+    /// ensures receives { (f : ℕ) (x : List ℕ) → ReceivesFrom f x self.old →
+    ///     ReceivesFrom f x self.new }
+    /// ensures bytes { (f : ℕ) (x : List ℕ) → ReceivesFrom f x self.old → take result into.new
+    ///     ≡ slice_range x self.old.read (self.old.read + result) }
+    /// ```
+    pub fn read(&mut self, into: &mut [u8]) -> usize {
+        self.head.read(whole(&self.storage), into)
+    }
+
+    /// Copies bytes from the head of the queue to the beginning of `into`, and returns how many:
+    /// as many as are queued and as `into` has room for. The rest of `into` stays as it is, and
+    /// the queue too: the bytes are those that a `read` would take.
+    ///
+    /// ```
+    /// # use net_base::receiver::Receiver;
+    /// # let mut storage = [0u8; 16];
+    /// # let mut receiver = Receiver::new(&mut storage[..]);
+    /// assert!(receiver.segment(0, b"abc").is_ok());
+    /// let mut into = *b"--";
+    /// assert_eq!((receiver.peek_slice(&mut into), &into, receiver.len()), (2, b"ab", 3));
+    /// ```
+    ///
+    /// # Contract
+    ///
+    /// In the words of [`contracts`](crate::contracts):
+    ///
+    /// ```text
+    /// ensures count { result ≡ min (length into.old) (length self.now.queue) }
+    /// ensures into { into.new ≡
+    ///     take (length into.old) self.now.queue ++ drop (length self.now.queue) into.old }
+    /// ensures reply { ReadReply (take result into.new)
+    ///     ≡ receiver_reply N self.now (Read (length into.old)) }
+    /// ensures step { (s : KeptState) → Refines self.now s → ReadReply (take result into.new)
+    ///     ≡ kept_reply (setting N self.now) s (Read (length into.old)) }
+    /// ensures bytes { (f : ℕ) (x : List ℕ) → ReceivesFrom f x self.now → take result into.new
+    ///     ≡ slice_range x self.now.read (self.now.read + result) }
+    /// ```
+    pub fn peek_slice(&self, into: &mut [u8]) -> usize {
+        self.head.peek_slice(whole(&self.storage), into)
+    }
+
+    /// Lends a slice of at most `size` queued bytes from `offset`, cut at the end of queue or storage.
+    /// It is empty only if `size` is 0 or the queue has no byte `offset`.
+    ///
+    /// The stream's byte number i, counted from 0, has the index `i` modulo the capacity in the
+    /// storage, so a caller knows where a part ends. smoltcp's `peek` lends from the head on.
+    ///
+    /// ```
+    /// # use net_base::receiver::Receiver;
+    /// # let mut storage = [0u8; 16];
+    /// # let mut receiver = Receiver::new(&mut storage[..]);
+    /// assert!(receiver.segment(0, b"abc").is_ok());
+    /// assert_eq!(receiver.peek(1, 9), b"bc");
+    /// ```
+    ///
+    /// # Contract
+    ///
+    /// In the words of [`contracts`](crate::contracts):
+    ///
+    /// ```text
+    /// ensures count { length result.now ≡ contiguous_count_from self.now offset size }
+    /// ensures few { length result.now ≤ min size (length self.now.queue - offset) }
+    /// ensures some { offset < length self.now.queue → 0 < size → 0 < length result.now }
+    /// ensures value { result.now ≡ take (length result.now) (drop offset self.now.queue) }
+    /// ensures step { (s : KeptState) → Refines self.now s → result.now
+    ///     ≡ take (length result.now) (drop offset (queue_bytes self.now.first s)) }
+    /// ensures each { (k : ℕ) (d : ℕ) → offset ≤ k → k < offset + length result.now →
+    ///     slice_index_or self.now.queue k d ≡ slice_index_or result.now (k - offset) d }
+    /// ensures end { offset ≤ length self.now.queue →
+    ///     offset + length result.now ≤ length self.now.queue }
+    /// ensures bytes { (f : ℕ) (x : List ℕ) → ReceivesFrom f x self.now →
+    ///     result.now ≡ take (length result.now) (drop (self.now.read + offset) x) }
+    /// ```
+    pub fn peek(&self, offset: usize, size: usize) -> &[u8] {
+        self.head.peek(whole(&self.storage), offset, size)
+    }
+
+    /// Shows at most `size` bytes of the queue, from its byte `offset` on, in two parts: those up to the
+    /// storage's end, and those from its beginning on. The second part is empty unless the bytes wrap.
+    ///
+    /// `peek` shows the first of them alone. smoltcp has no such call.
+    ///
+    /// # Contract
+    ///
+    /// In the words of [`contracts`](crate::contracts):
+    ///
+    /// ```text
+    /// ensures bytes { result.0.now ++ result.1.now ≡ take size (drop offset self.now.queue) }
+    /// ensures cut { length result.0.now ≡ contiguous_count_from self.now offset size }
+    /// ```
+    pub fn peek_slices(&self, offset: usize, size: usize) -> (&[u8], &[u8]) {
+        self.head.peek_slices(whole(&self.storage), offset, size)
+    }
+
+    /// Shows the queue, in order, in two parts: the bytes up to the storage's end, and those from its
+    /// beginning on. The second part is empty unless the queue wraps.
+    ///
+    /// smoltcp has no such call; std's `VecDeque` has it.
+    ///
+    /// ```
+    /// # use net_base::receiver::Receiver;
+    /// # let mut storage = [0u8; 4];
+    /// # let mut receiver = Receiver::new(&mut storage[..]);
+    /// assert!(receiver.segment(0, b"abc").is_ok());
+    /// assert_eq!(receiver.read(&mut [0; 2]), 2);
+    /// assert!(receiver.segment(3, b"def").is_ok());
+    /// assert_eq!(receiver.as_slices(), (&b"cd"[..], &b"ef"[..]));
+    /// ```
+    ///
+    /// # Contract
+    ///
+    /// In the words of [`contracts`](crate::contracts):
+    ///
+    /// ```text
+    /// ensures queue { result.0.now ++ result.1.now ≡ self.now.queue }
+    /// ensures cut { length result.0.now ≡ contiguous_count self.now }
+    /// ensures value { (result.0.now ≡ first_part self.now)
+    ///     × (result.1.now ≡ second_part self.now) }
+    /// ensures first { (k : ℕ) (d : ℕ) → k < length result.0.now →
+    ///     slice_index_or self.now.queue k d ≡ slice_index_or result.0.now k d }
+    /// ensures second { (k : ℕ) (d : ℕ) → length result.0.now ≤ k →
+    ///     slice_index_or self.now.queue k d
+    ///     ≡ slice_index_or result.1.now (k - length result.0.now) d }
+    /// ensures bytes { (f : ℕ) (x : List ℕ) → ReceivesFrom f x self.now →
+    ///     result.0.now ++ result.1.now
+    ///     ≡ slice_range x self.now.read (self.now.read + length self.now.queue) }
+    /// ```
+    pub fn as_slices(&self) -> (&[u8], &[u8]) {
+        self.head.as_slices(whole(&self.storage))
+    }
+
+    /// Calls `f` on the first part of the queue, as `as_slices` shows it, takes as many bytes off the
+    /// queue as `f` counts, and returns what `f` returned. The part is empty only if the queue is.
+    ///
+    /// `f` must take that part, and count no more bytes than it is lent. smoltcp's `recv` lends the
+    /// bytes for writing too.
+    ///
+    /// ```
+    /// # use net_base::receiver::Receiver;
+    /// # let mut storage = [0u8; 16];
+    /// # let mut receiver = Receiver::new(&mut storage[..]);
+    /// assert!(receiver.segment(0, b"abc").is_ok());
+    /// assert_eq!(receiver.read_with(|bytes| (2, bytes.len())), (2, 3));
+    /// assert_eq!(receiver.peek(0, 9), b"c");
+    /// ```
+    ///
+    /// # Requires, else it panics
+    ///
+    /// `f` may be called on the part that it is lent, and counts at most its length.
+    ///
+    /// # Contract
+    ///
+    /// In the words of [`contracts`](crate::contracts):
+    ///
+    /// ```text
+    /// requires callable { FnOnceTakesAt F.FnOnce f (first_part self.old) }
+    /// requires count { (r : ℕ × R) → FnOnceReturnsAt F.FnOnce f (first_part self.old) r →
+    ///     r.0 ≤ length (first_part self.old) }
+    /// ensures called { FnOnceReturnsAt F.FnOnce f (first_part self.old) result }
+    /// ensures count { result.0 ≤ contiguous_count self.old }
+    /// ensures not_empty { 0 < length self.old.queue → 0 < contiguous_count self.old }
+    /// ensures state { self.new ≡ receiver_after_read self.old result.0 }
+    /// ensures step { StepRefines N self.old self.new
+    ///     (Read result.0) (ReadReply (take result.0 self.old.queue)) }
+    /// ensures setting { StaysInSetting N self.old self.new }
+    /// ensures next { next_position self.new ≡ next_position self.old }
+    /// ensures receives { (f : ℕ) (x : List ℕ) → ReceivesFrom f x self.old →
+    ///     ReceivesFrom f x self.new }
+    /// ensures bytes { (f : ℕ) (x : List ℕ) → ReceivesFrom f x self.old →
+    ///     take result.0 self.old.queue
+    ///     ≡ slice_range x self.old.read (self.old.read + result.0) }
+    /// ```
+    #[track_caller]
+    pub fn read_with<R, F: FnOnce(&[u8]) -> (usize, R)>(&mut self, f: F) -> (usize, R) {
+        let part = self.first_slice();
+        let lent = part.len();
+        let answer = f(part);
+        assert!(answer.0 <= lent, "more bytes than were lent");
+        self.head.remove(self.storage.count(), answer.0);
+        answer
+    }
+
+    /// Takes the first `count` bytes off the queue, as `read` does, and copies none: `peek` and
+    /// `as_slices` show them before.
+    ///
+    /// # Requires, else it panics
+    ///
+    /// At least `count` bytes are queued.
+    ///
+    /// # Contract
+    ///
+    /// In the words of [`contracts`](crate::contracts):
+    ///
+    /// ```text
+    /// requires { count ≤ length self.old.queue }
+    /// ensures state { self.new ≡ receiver_after_read self.old count }
+    /// ensures step { StepRefines N self.old self.new
+    ///     (Read count) (ReadReply (take count self.old.queue)) }
+    /// ensures setting { StaysInSetting N self.old self.new }
+    /// ensures next { next_position self.new ≡ next_position self.old }
+    /// ensures receives { (f : ℕ) (x : List ℕ) → ReceivesFrom f x self.old →
+    ///     ReceivesFrom f x self.new }
+    /// ensures bytes { (f : ℕ) (x : List ℕ) → ReceivesFrom f x self.old → take count self.old.queue
+    ///     ≡ slice_range x self.old.read (self.old.read + count) }
+    /// ```
+    #[track_caller]
+    pub fn remove(&mut self, count: usize) {
+        assert!(count <= self.head.queued(), "more bytes than are queued");
+        self.head.remove(self.storage.count(), count);
+    }
+
+    /// Shows the first part of the queue, which is empty only if the queue is.
+    ///
+    /// # Contract
+    ///
+    /// In the words of [`contracts`](crate::contracts):
+    ///
+    /// ```text
+    /// ensures value { result.now ≡ first_part self.now }
+    /// ensures some { 0 < length self.now.queue → 0 < contiguous_count self.now }
+    /// ```
+    fn first_slice(&self) -> &[u8] {
+        self.head.peek(whole(&self.storage), 0, self.head.queued())
     }
 
     /// Returns the first missing position: the first position, plus the count of bytes read, plus
@@ -345,8 +707,8 @@ impl<S: Storage<u8>, const N: usize> ReceiverOver<S, N> {
     }
 
     /// Returns the held runs as absolute (start, end), the end not included, in rising order, at
-    /// most `N`. Each begins above `next` and ends within the free window. What a selective
-    /// acknowledgement lists are not the first of these: `newest_runs` lists those.
+    /// most `N`. Each begins above `next` and ends within the free window. `newest_runs` lists them in
+    /// the order of a selective acknowledgement.
     ///
     /// ```
     /// # use net_base::receiver::Receiver;
@@ -381,7 +743,53 @@ impl<S: Storage<u8>, const N: usize> ReceiverOver<S, N> {
     /// ensures bound { result ≤ N }
     /// ```
     pub fn held_count(&self) -> usize {
-        self.head.held_count(whole(&self.storage), &self.runs)
+        self.head.held_count()
+    }
+
+    /// Returns at most `K` held runs, the newest first, as absolute start and end, the end not
+    /// included: the order that RFC 2018, section 4, wants of a selective acknowledgement.
+    ///
+    /// The first is the run that has `position`, that of the segment just taken, if it is held. Then
+    /// come the runs of the starts in `recent`, in their order, and then the others, in rising order;
+    /// each comes once. The caller keeps `recent` from call to call, zeros at first.
+    ///
+    /// A sender that is told the first runs again and again learns late of others. smoltcp reports the
+    /// first run alone.
+    ///
+    /// ```
+    /// # use net_base::receiver::Receiver;
+    /// # let mut storage = [0u8; 16];
+    /// # let mut receiver = Receiver::new_at(&mut storage[..], 100);
+    /// let mut recent = [0; 3];
+    /// assert!(receiver.segment(108, b"i").is_ok());
+    /// assert!(receiver.newest_runs(108, &mut recent).eq([(108, 109)]));
+    /// assert!(receiver.segment(104, b"ef").is_ok());
+    /// assert!(receiver.newest_runs(104, &mut recent).eq([(104, 106), (108, 109)]));
+    /// ```
+    ///
+    /// # Contract
+    ///
+    /// In the words of [`contracts`](crate::contracts):
+    ///
+    /// ```text
+    /// ensures listed { result ≡ newest_runs K (domain self.now.held) (position ∷ recent.old) }
+    /// ensures count { length result ≤ K }
+    /// ensures recent { recent.new ≡ with_starts recent.old result }
+    /// ```
+    pub fn newest_runs<const K: usize>(
+        &self,
+        position: u64,
+        recent: &mut [u64; K],
+    ) -> NewestRunIter<K> {
+        let mut runs = [HeldRun { start: 0, end: 0 }; K];
+        let count = self.head.newest_runs(
+            whole(&self.storage),
+            &self.runs,
+            position,
+            recent,
+            &mut runs,
+        );
+        NewestRunIter::over(runs, count)
     }
 
     /// Returns how many bytes of a segment of `len` bytes at `position` would be new: those in the
@@ -415,61 +823,6 @@ impl<S: Storage<u8>, const N: usize> ReceiverOver<S, N> {
         assert!(fits, "the segment's end is above `u64::MAX`");
         self.head
             .count_new(whole(&self.storage), &self.runs, position, len)
-    }
-
-    /// Keeps the bytes of a segment that are in the free window: from `next` on, and below `next`
-    /// plus `window`.
-    ///
-    /// They are written at their positions, over those held there, and all bytes that are then
-    /// contiguous from `next` on join the queue. If there are none, nothing changes. The segment is
-    /// refused, and nothing changes, exactly if the bytes do not begin at `next` and together with
-    /// those held would make more than `N` runs. So a segment that begins at or below `next` is
-    /// never refused, and its kept bytes join the queue.
-    ///
-    /// `state` and `counts` say what the call leaves and returns, by the rules on what is stored; the
-    /// other clauses follow from these. `receives` is for callers that expect one stream: if the receiver
-    /// has kept only bytes of the stream, and the segment has the stream's bytes, it still has kept only
-    /// bytes of the stream.
-    ///
-    /// ```
-    /// # use net_base::receiver::Receiver;
-    /// # use net_base::storage::TooManyHolesError;
-    /// let mut storage = [0u8; 16];
-    /// let mut receiver = Receiver::<1>::empty(&mut storage[..]);
-    /// assert_eq!(receiver.segment(4, b"e").map(|it| it.kept), Ok(1));
-    /// assert_eq!(receiver.segment(6, b"g"), Err(TooManyHolesError));
-    /// assert_eq!(receiver.segment(0, b"abcd").map(|it| it.queued), Ok(5));
-    /// ```
-    ///
-    /// # Requires, else it panics
-    ///
-    /// The segment ends within 64 bits, as `fits` tests.
-    ///
-    /// # Contract
-    ///
-    /// In the words of [`contracts`](crate::contracts):
-    ///
-    /// ```text
-    /// requires { pos + length bytes.now < 2 ^ 64 }
-    /// ensures state { self.new ≡ receiver_after_command N self.old (Segment pos bytes.now) }
-    /// ensures counts { result ≡ numbers receiver_ops self.old
-    ///     (verdict receiver_ops N self.old (piece pos bytes.now)) }
-    /// ensures unchanged { OnErr result (self.new ≡ self.old) }
-    /// ensures kept { IfOk result (λ it. it.kept ≡ length (window_part self.old pos bytes.now)) }
-    /// ensures queued { IfOk result (λ it. next_position self.new ≡ next_position self.old + it.queued) }
-    /// ensures in_order { pos ≤ next_position self.old → IsOk result }
-    /// ensures setting { StaysInSetting N self.old self.new }
-    /// ensures receives { (f : ℕ) (x : List ℕ) → ReceivesFrom f x self.old →
-    ///     MatchesStream f x pos bytes.now → ReceivesFrom f x self.new }
-    /// ```
-    #[inline]
-    #[track_caller]
-    pub fn segment(&mut self, pos: u64, bytes: &[u8]) -> Result<Kept, TooManyHolesError> {
-        let fits = Self::fits(pos, bytes.len());
-        assert!(fits, "the segment's end is above `u64::MAX`");
-        let count = self.storage.count();
-        let storage = self.storage.part_mut(0, count);
-        self.head.keep(storage, &mut self.runs, pos, bytes)
     }
 
     /// Returns whether first position, count of bytes read, queued bytes and held runs are equal.
@@ -524,6 +877,6 @@ impl<S: Storage<u8>, const N: usize> ReceiverOver<S, N> {
 /// ```text
 /// ensures { result.now ≡ S.elements storage.now }
 /// ```
-fn whole<S: Storage<u8>>(storage: &S) -> &[u8] {
+pub(crate) fn whole<S: Storage<u8>>(storage: &S) -> &[u8] {
     storage.part(0, storage.count())
 }

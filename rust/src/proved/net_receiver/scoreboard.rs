@@ -1,9 +1,7 @@
 //! A scoreboard: which positions a sender knows that the other end has.
 
-mod head;
-
-use crate::proved::net_receiver::receiver::HeldRuns;
-pub use head::ScoreboardHead;
+use crate::proved::net_receiver::held_runs::HeldRuns;
+use crate::proved::net_receiver::scoreboard_head::ScoreboardHead;
 use crate::proved::net_assembler::{Run, TooManyHolesError};
 
 /// What a sender knows of the positions that the other end has, as acknowledgements and their SACK
@@ -358,6 +356,15 @@ impl<const N: usize> Scoreboard<N> {
     ///
     /// A caller sends it, passes its end as the next `pos`, and begins again at the first unacknowledged
     /// position with the next recovery.
+    ///
+    /// ```
+    /// # use net_base::scoreboard::Scoreboard;
+    /// # let mut scoreboard = Scoreboard::<4>::empty();
+    /// // Segments of 100 bytes: the first is missing, the three after it have arrived, four are in flight.
+    /// assert_eq!(scoreboard.report(100, 400, 800), Ok(true));
+    /// assert_eq!(scoreboard.next_lost(0, 3, 100), Some((0, 100)));
+    /// assert_eq!(scoreboard.next_lost(100, 3, 100), None);
+    /// ```
     ///
     /// # Contract
     ///

@@ -24,7 +24,7 @@ pub fn scale_for(capacity: u64) -> u8 {
 
 /// What a receiver has announced: how far its promise reaches.
 #[repr(C)]
-#[derive(Copy, Clone, Debug)]
+#[derive(Copy, Clone, Debug, PartialEq, Eq, Hash)]
 pub struct AdvertisedWindow {
     /// The position after the last one that was ever promised. All from the first missing one up to it
     /// is acceptable.

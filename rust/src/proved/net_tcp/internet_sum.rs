@@ -3,12 +3,12 @@
 /// The sum of the bytes of several parts of a message, one after another, of any lengths.
 /// One of zeros is that of no bytes.
 #[repr(C)]
-#[derive(Copy, Clone, Debug)]
+#[derive(Copy, Clone, Debug, PartialEq, Eq, Hash)]
 pub struct PartsSum {
     /// The sum of the words, up to a multiple of 65535; 0 only if that sum is 0.
     pub sum: u64,
-    /// Whether the next byte is the low byte of a word.
-    pub odd: bool,
+    /// 1 if the next byte is the low byte of a word, 0 if it is the high one.
+    pub odd: u64,
 }
 
 impl PartsSum {
@@ -20,10 +20,10 @@ impl PartsSum {
     ///
     /// ```text
     /// ensures nothing { Sums result [] }
-    /// ensures zeros { (result.sum ≡ 0) × IsFalse result.odd }
+    /// ensures zeros { (result.sum ≡ 0) × (result.odd ≡ 0) }
     /// ```
     pub const fn new() -> Self {
-        PartsSum { sum: 0, odd: false }
+        PartsSum { sum: 0, odd: 0 }
     }
 
     /// Adds the bytes that follow those which were added.
@@ -49,7 +49,7 @@ impl PartsSum {
     /// ensures { (xs : List ℕ) → Sums self xs → Sums result (xs ++ part.now) }
     /// ```
     pub fn with(self, part: &[u8]) -> Self {
-        if !self.odd {
+        if self.odd == 0 {
             return sum_from(self.sum, part);
         }
         match part.split_first() {
@@ -70,15 +70,15 @@ impl PartsSum {
     /// In the words of [`contracts`](crate::contracts):
     ///
     /// ```text
-    /// requires { IsFalse self.odd }
+    /// requires { self.odd ≡ 0 }
     /// ensures { (xs : List ℕ) → Sums self xs → Sums result (xs ++ word_bytes word) }
     /// ```
     #[track_caller]
     pub fn with_word(self, word: u16) -> Self {
-        assert!(!self.odd, "an odd count of bytes was added");
+        assert!(self.odd == 0, "an odd count of bytes was added");
         PartsSum {
             sum: add_carry(self.sum, u64::from(word)),
-            odd: false,
+            odd: 0,
         }
     }
 
@@ -92,15 +92,15 @@ impl PartsSum {
     /// ensures { (xs ys : List ℕ) → Sums self xs → Sums after ys → Sums result (xs ++ ys) }
     /// ```
     pub fn joined(self, after: PartsSum) -> Self {
-        if self.odd {
-            PartsSum {
-                sum: add_carry(self.sum, u64::from(swapped(fold(after.sum)))),
-                odd: !after.odd,
-            }
-        } else {
+        if self.odd == 0 {
             PartsSum {
                 sum: add_carry(self.sum, after.sum),
                 odd: after.odd,
+            }
+        } else {
+            PartsSum {
+                sum: add_carry(self.sum, u64::from(swapped(fold(after.sum)))),
+                odd: u64::from(after.odd == 0),
             }
         }
     }
@@ -183,12 +183,12 @@ pub fn updated_checksum(checksum: u16, old: u16, new: u16) -> u16 {
 ///
 /// ```text
 /// ensures sum { folded result.sum ≡ folded (start + word_sum bytes.now) }
-/// ensures odd { from_bool result.odd ≡ length bytes.now % 2 }
+/// ensures odd { result.odd ≡ length bytes.now % 2 }
 /// ```
 fn sum_from(start: u64, bytes: &[u8]) -> PartsSum {
     PartsSum {
         sum: sum_words(start, bytes),
-        odd: bytes.len() % 2 == 1,
+        odd: bytes.len() as u64 % 2,
     }
 }
 

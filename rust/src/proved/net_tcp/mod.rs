@@ -2,14 +2,14 @@
 //! arriving segment, the windows of both sides and the time until a retransmission. They are plain
 //! whole numbers, and store no bytes.
 
-pub mod acceptability;
 pub mod advertised_window;
+pub mod arriving;
 pub mod internet_sum;
 pub mod peer_window;
 pub mod retransmission;
 
-pub use acceptability::is_acceptable;
 pub use advertised_window::{AdvertisedWindow, MAX_SCALE, scale_for};
+pub use arriving::{Arrival, Segment, classify, is_acceptable, is_acknowledgement};
 pub use internet_sum::{PartsSum, checksum, is_valid, updated_checksum};
 pub use peer_window::{PeerWindow, scaled};
 pub use retransmission::{RetransmissionTimeout, RttEstimate, TimeoutBounds, Transmission};

@@ -5,7 +5,7 @@ use crate::proved::net_tcp::advertised_window::MAX_SCALE;
 /// The window that the peer announced, and the segment that it is from. It is kept as its right edge, a
 /// position. One of zeros lets nothing be sent but a probe, and no segment is older.
 #[repr(C)]
-#[derive(Copy, Clone, Debug)]
+#[derive(Copy, Clone, Debug, PartialEq, Eq, Hash)]
 pub struct PeerWindow {
     /// The position after the last that may be sent.
     pub edge: u64,
@@ -54,9 +54,13 @@ impl PeerWindow {
         }
     }
 
-    /// Takes over the window of an acceptable segment, unless that is older than the one before, or
-    /// acknowledges a position below `first_unacknowledged` or above `sent`.
-    /// Returns whether it did. A window may shrink.
+    /// Takes over the window of an acceptable segment, unless it acknowledges a position below
+    /// `first_unacknowledged` or above `sent`, or is older than the one before and acknowledges no
+    /// more. Returns whether it did. A window may shrink.
+    ///
+    /// RFC 9293 takes none of an older number. So one forged segment ahead in the window would shut out
+    /// each later one. It makes no difference whether the sender takes what the segment acknowledges
+    /// before this call or after it.
     ///
     /// # Contract
     ///
@@ -64,11 +68,11 @@ impl PeerWindow {
     ///
     /// ```text
     /// ensures accepted { IsTrue result ↔ ((first_unacknowledged ≤ ack) × (ack ≤ sent)
-    ///     × (IsNewer self.old seq ack)) }
+    ///     × (Replaces self.old seq ack)) }
     /// ensures window { IsTrue result → self.new ≡ window_from seq ack window }
     /// ensures refused { IsFalse result → self.new ≡ self.old }
-    /// ensures state { first_unacknowledged ≤ ack → ack ≤ sent →
-    ///     self.new ≡ with_segment self.old seq ack window }
+    /// ensures state { self.new
+    ///     ≡ after_update self.old first_unacknowledged sent seq ack window }
     /// ```
     pub fn update(
         &mut self,
@@ -85,19 +89,20 @@ impl PeerWindow {
         true
     }
 
-    /// Returns whether the segment of these numbers is not older than the one that the window is from.
+    /// Returns whether the segment of these numbers acknowledges more than the one that the window is
+    /// from, or is not older.
     ///
     /// # Contract
     ///
     /// In the words of [`contracts`](crate::contracts):
     ///
     /// ```text
-    /// ensures value { result ≡ is_newer self.now seq ack }
-    /// ensures newer { IsTrue result ↔ IsNewer self.now seq ack }
+    /// ensures value { result ≡ replaces self.now seq ack }
+    /// ensures newer { IsTrue result ↔ Replaces self.now seq ack }
     /// ```
     #[inline]
     fn is_replaced_by(&self, seq: u64, ack: u64) -> bool {
-        self.seq < seq || self.seq == seq && self.ack <= ack
+        self.ack < ack || self.seq < seq || self.seq == seq && self.ack <= ack
     }
 
     /// Returns how many bytes from `pos` on may be sent: none if the edge is at or below it, as it
@@ -142,5 +147,24 @@ impl PeerWindow {
     /// ```
     pub fn is_probe_allowed(&self, first_unacknowledged: u64, end: u64) -> bool {
         self.edge <= first_unacknowledged && first_unacknowledged < end
+    }
+    /// Returns the number of a segment without positions, as an acknowledgement is: `sent`, or the end of
+    /// the window if that is below it, or `first_unacknowledged` if the window ends before that.
+    ///
+    /// A peer whose window is shut takes no number beyond it, though a probe was sent there, nor what
+    /// such a segment acknowledges. Law `acknowledgements` says when this number is acceptable.
+    ///
+    /// # Contract
+    ///
+    /// In the words of [`contracts`](crate::contracts):
+    ///
+    /// ```text
+    /// ensures value { result ≡ acknowledgement_number self.now first_unacknowledged sent }
+    /// ensures sent { result ≤ sent }
+    /// ensures promised { result ≤ max self.now.edge first_unacknowledged }
+    /// ensures first { first_unacknowledged ≤ sent → first_unacknowledged ≤ result }
+    /// ```
+    pub fn acknowledgement_number(&self, first_unacknowledged: u64, sent: u64) -> u64 {
+        sent.min(self.edge.max(first_unacknowledged))
     }
 }

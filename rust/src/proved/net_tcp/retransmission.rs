@@ -5,7 +5,7 @@ const LONGEST_SAMPLE: u64 = 1 << 60;
 
 /// An estimate of the time of a round trip.
 #[repr(C)]
-#[derive(Copy, Clone, Debug)]
+#[derive(Copy, Clone, Debug, PartialEq, Eq, Hash)]
 pub struct RttEstimate {
     /// Eight times the smoothed time.
     pub srtt_8: u64,
@@ -15,7 +15,7 @@ pub struct RttEstimate {
 
 /// The bounds of a timeout, and the tick of the clock that the samples are read from.
 #[repr(C)]
-#[derive(Copy, Clone, Debug)]
+#[derive(Copy, Clone, Debug, PartialEq, Eq, Hash)]
 pub struct TimeoutBounds {
     /// The least timeout.
     pub least: u64,
@@ -27,7 +27,7 @@ pub struct TimeoutBounds {
 
 /// When an acknowledged segment was sent. A segment that was sent again gives no sample: which of
 /// the copies was acknowledged is not known (Karn).
-#[derive(Copy, Clone, Debug)]
+#[derive(Copy, Clone, Debug, PartialEq, Eq, Hash)]
 pub enum Transmission {
     /// Once, at this time.
     Once(u64),
@@ -125,7 +125,7 @@ impl RttEstimate {
 
 /// The time until a retransmission. Its numbers but `timeout` are 0 before any sample.
 #[repr(C)]
-#[derive(Copy, Clone, Debug)]
+#[derive(Copy, Clone, Debug, PartialEq, Eq, Hash)]
 pub struct RetransmissionTimeout {
     /// The estimate, once there was a sample.
     pub estimate: RttEstimate,

@@ -14,6 +14,7 @@ use net_ring::ring_buffer;
 /// States that after any accepted fragments, in any order and however they overlap, the byte at
 /// each position that arrived is that of the last fragment there, whatever was in the buffer
 /// before.
+#[tactic(auto, using(crate::proofs::FragmentFacts::byte_after, crate::proofs::FragmentFacts::present_byte))]
 pub fn latest_arrival_wins()
     ensures each { LastFragmentStands }
     ensures old_bytes { OldBytesAreGone }

@@ -3,13 +3,14 @@
 //! The slots are lent: as many packets are reassembled at a time. smoltcp has such a table of its own
 //! buffers, `PacketAssemblerSet`.
 ghost use Rattle.std.specs.Prelude.{◌≡◌, ◌↔◌, ◌<◌, ◌≤◌, ◌<ℤ◌, ℕ, length, set, is_none, slice_get};
-ghost use Rattle.std.specs.Prelude.{IsErr, IsNone, IfOk, IfSome, OnErr};
+ghost use Rattle.std.specs.Prelude.{pos, IsErr, IsNone, IfOk, IfSome, OnErr};
 ghost use Rattle.std.specs.declared.option.Option.TheVariants.{Some, None};
 ghost use Rattle.std.specs.List.{position, AllZip};
+ghost use Rattle.net_assembler.specs.Positions.{nothing};
 ghost use Rattle.net_base.specs.Fragments.{IsComplete};
 ghost use Rattle.net_base.specs.FragmentTable.{is_for, begun};
 
-use super::buffer::FragmentsOver;
+use super::FragmentsOver;
 use crate::time::Instant;
 use net_ring::{Full, Storage};
 
@@ -23,7 +24,7 @@ pub struct FragmentSlot<K, B: Storage<u8>, const N: usize> {
 }
 
 impl<K: Copy + Eq, B: Storage<u8>, const N: usize> FragmentSlot<K, B, N> {
-    /// Returns a free slot over the bytes.
+    /// Returns a free slot over the bytes, whose buffer is empty and expires after the origin.
     ///
     /// # Requires
     ///
@@ -32,6 +33,8 @@ impl<K: Copy + Eq, B: Storage<u8>, const N: usize> FragmentSlot<K, B, N> {
         requires { 1 ≤ N }
         ensures key { result.key ≡ None }
         ensures bytes { result.buffer.bytes ≡ B.elements bytes }
+        ensures nothing { (result.buffer.present ≡ nothing) × (result.buffer.total ≡ None) }
+        ensures expires { result.buffer.expires_at ≡ pos 0 }
     {
         prove!(N >= 1, "a buffer of fragments has at least one run");
         FragmentSlot {

@@ -1,18 +1,9 @@
-use Rattle.std.proofs.Common.{sym, ◌∙◌}
-use Rattle.net_bench_lib.specs.Modes.{transcript_of}
-use Rattle.net_bench_lib.proofs.Flushed.{flushed_ok, flushed_err}
+use Rattle.std.proofs.Common.{◌≡◌, rules}
+use Rattle.net_bench_lib.specs.Program.{usage_line}
+use Rattle.net_bench_lib.proofs.KnownBytes.{AppendsPrefix-ended}
 use Rattle.net_bench_lib.proofs.program.serve.Goals as goal
 
-pub returns-clause-ok : goal.returns-clause-ok
-returns-clause-ok g c = λ done.
-    rw (← c.in-Some.ensures)
-    (flushed_ok (transcript_of c.in-Some.mode) (g.R.Read.remaining c.args.reader.now) _ _ _ _ c.flush_after-outcome.ensures.kept
-    c.run-outcome.result c.flush_after-outcome.result c.flush_after-outcome.ensures.ended
-    c.run-outcome.ensures.ok c.run-outcome.ensures.err (sym c.ended_after.ensures.status ∙ done))
-
-pub returns-clause-err : goal.returns-clause-err
-returns-clause-err g c = λ failed.
-    rw (← c.in-Some.ensures)
-    (flushed_err (transcript_of c.in-Some.mode) (g.R.Read.remaining c.args.reader.now) _ _ _ _ c.flush_after-outcome.ensures.kept
-    c.run-outcome.result c.flush_after-outcome.result _ _ _ c.flush_after-outcome.ensures.ended
-    c.run-outcome.ensures.ok c.run-outcome.ensures.err c.ended_after.ensures.told (sym c.ended_after.ensures.status ∙ failed))
+pub returns-in_default-clause-told : goal.returns-in_default-clause-told
+returns-in_default-clause-told g c = λ misused.
+    let text : c.as_bytes.result.now ≡ usage_line = search rules in
+    rw text at (AppendsPrefix-ended _ _ _ _ c.write_text.result c.write_text.ensures.ok c.write_text.ensures.err)

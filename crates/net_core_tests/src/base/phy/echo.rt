@@ -8,7 +8,7 @@ use net_base::phy::{
     Device, DeviceCapabilities, Loopback, Medium, RxToken, TxToken, echo_once, loopback,
 };
 use net_base::time::Instant;
-use net_io::testing::Refusing;
+use net_testing::Refusing;
 use std::alloc::{AllocError, Allocator, Global};
 use std::marker::Model;
 use std::process::Abort;

@@ -6,7 +6,7 @@ use crate::assertions::assert_holds;
 use net_base::phy::loopback::{Loopback, RxToken, TxToken};
 use net_base::phy::{Device, Medium, PacketMeta, RxToken as _, TxToken as _};
 use net_base::time::Instant;
-use net_io::testing::Refusing;
+use net_testing::Refusing;
 use std::alloc::{AllocError, Allocator, Global};
 use std::cell::Cell;
 

@@ -4,7 +4,7 @@ ghost use Rattle.std.specs.Prelude.{◌≡◌, ◌∷◌, ◌++◌, [], List, �
 use super::*;
 use crate::assertions::assert_holds;
 use net_base::phy::echo_once;
-use net_io::testing::Refusing;
+use net_testing::Refusing;
 
 fn is_back<A: Allocator + Copy>(frames: &VecDeque<Vec<u8, A>, A>, bytes: &[u8]) -> bool {
     frames.back().is_some_and(|frame| frame.as_slice() == bytes)

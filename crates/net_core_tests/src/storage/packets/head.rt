@@ -1,9 +1,9 @@
-//! The numbers of a packet queue by themselves: the calls that neither a row nor an export makes.
+//! The head of a packet queue by itself: the calls that neither a row nor an export makes.
 use crate::assertions::assert_holds;
-use net_packets::{PacketSlot, PacketsHead};
+use net_packets::PacketsHead;
 use net_ring::RingHead;
 
-/// Returns the numbers of a queue of one packet, of three bytes from index 3 on.
+/// Returns the head of a queue of one packet, of three bytes from index 3 on.
 fn three_at_three() -> PacketsHead {
     PacketsHead {
         slots: RingHead {
@@ -33,16 +33,6 @@ fn shortens_last(head: &mut PacketsHead) -> usize {
     head.bytes.length
 }
 
-/// Takes bytes off the last packet if its slot can be that, and returns the slot's size.
-fn shortens_slot(head: &mut PacketsHead, size: usize, count: usize) -> Option<usize> {
-    let mut last = PacketSlot { size, is_gap: 0 };
-    if !head.can_shorten(&last, count) {
-        return None;
-    }
-    head.shorten_slot(&mut last, count);
-    Some(last.size)
-}
-
 /// Two bytes are free up to the storage's end, and three at its beginning.
 #[test]
 fn a_packet_has_room_after_a_gap(rt: HostRuntime) {
@@ -58,14 +48,5 @@ fn a_packet_has_room_after_a_gap(rt: HostRuntime) {
 #[test]
 fn the_last_packet_is_made_shorter(rt: HostRuntime) {
     let mut head = three_at_three();
-    assert_holds(
-        &rt,
-        shortens_last(&mut head) == 2 && shortens_slot(&mut head, 2, 3).is_none(),
-        ("step", 1),
-    );
-    assert_holds(
-        &rt,
-        shortens_slot(&mut head, 2, 1) == Some(1) && head.bytes.length == 1,
-        ("step", 2),
-    );
+    assert_holds(&rt, shortens_last(&mut head) == 2, ("step", 1));
 }

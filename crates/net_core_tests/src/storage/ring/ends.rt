@@ -76,23 +76,24 @@ fn elements_one_after_another(rt: HostRuntime) {
     );
 }
 
-/// Returns whether the queue 1, 2, 3 is iterated from the back, and its part from index 0 on is shown in two slices.
-fn shows_both_ways(ring: &RingBuffer<'_, u8>) -> bool {
+/// Returns whether the queue 1, 2, 3 is iterated from both ends.
+fn iterates_both_ways(ring: &RingBuffer<'_, u8>) -> bool {
     let mut from_back = ring.iter();
-    let (first, second) = ring.allocated_slices(0, 2);
     from_back.next_back().copied() == Some(3)
         && from_back.next().copied() == Some(1)
         && from_back.next_back().copied() == Some(2)
         && from_back.next_back().is_none()
-        && first == [1u8].as_slice()
-        && second == [2u8].as_slice()
 }
 
 #[test]
-fn elements_from_the_back_and_in_two_parts(rt: HostRuntime) {
+fn elements_from_both_ends(rt: HostRuntime) {
     let mut elements = [7u8; 3];
     let mut ring = RingBuffer::from(&mut elements);
-    assert_holds(&rt, fills(&mut ring) && shows_both_ways(&ring), ("step", 1));
+    assert_holds(
+        &rt,
+        fills(&mut ring) && iterates_both_ways(&ring),
+        ("step", 1),
+    );
 }
 
 #[test]

@@ -1,53 +1,32 @@
-//! The numbers of a ring by themselves, over a slice, and as a part of a ring.
+//! The head of a ring by itself, and as a part of a ring.
 use crate::assertions::assert_holds;
-use net_ring::head::{read_span, write_span};
-use net_ring::{RingBuffer, RingHead, RingOver, Span};
+use net_ring::{RingBuffer, RingHead, RingOver};
 
-/// Returns the two numbers of a ring.
-fn parts(place: RingHead) -> (usize, usize) {
-    (place.read_at, place.length)
+/// Returns the two numbers of a head.
+fn parts(head: RingHead) -> (usize, usize) {
+    (head.read_at, head.length)
 }
 
 /// Of eight elements five are queued, from the index 2 on. These are the calls that no export makes.
 #[test]
 fn elements_of_eight(rt: HostRuntime) {
-    let mut place = RingHead {
+    let head = RingHead {
         read_at: 2,
         length: 5,
     };
-    let free = place.contiguous_window(8);
-    let queued = place.contiguous_queue(8);
+    let free = head.contiguous_window(8);
+    let queued = head.contiguous_queue(8);
     assert_holds(&rt, (free, queued) == (1, 5), ("contiguous", free));
-    let last = place.last_dequeued_index(8, 3);
-    assert_holds(
-        &rt,
-        place.next_index(8, 6) == 0 && last == 7,
-        ("index", last),
-    );
-    place.dequeue_contiguous(8, 2);
-    assert_holds(&rt, parts(place) == (4, 3), ("dequeued", 2));
+    let last = head.last_dequeued_index(8, 3);
+    assert_holds(&rt, head.index(8, 6) == 0 && last == 7, ("index", last));
 }
 
-#[test]
-fn spans_are_copied(rt: HostRuntime) {
-    let mut storage = *b"abcd";
-    let mut into = *b"....";
-    let span = Span {
-        from: 3,
-        count: 3,
-        contiguous: 1,
-    };
-    read_span(&storage, span, &mut into);
-    write_span(&mut storage, span, b"xyzw");
-    assert_holds(&rt, (into, storage) == (*b"dab.", *b"yzcx"), ("step", 1));
-}
-
-/// Takes a ring into its parts, and returns its numbers and how many elements a ring of these parts dequeues.
+/// Takes a ring into its parts, and returns its head and how many elements a ring of these parts dequeues.
 fn through_parts(ring: RingBuffer<'_, u8>, into: &mut [u8]) -> (RingHead, usize) {
-    let (storage, place) = ring.into_parts();
-    let mut again = RingOver::from_parts(storage, place);
+    let (storage, head) = ring.into_parts();
+    let mut again = RingOver::from_parts(storage, head);
     let count = again.dequeue_slice(into);
-    (place, count)
+    (head, count)
 }
 
 #[test]
@@ -58,11 +37,11 @@ fn a_ring_and_its_parts(rt: HostRuntime) {
     ring.enqueue_slice(b"abcd");
     ring.dequeue_allocated(3);
     ring.enqueue_slice(b"e");
-    assert_holds(&rt, parts(RingBuffer::place(&ring)) == (3, 2), ("step", 1));
-    let (place, count) = through_parts(ring, &mut into);
+    assert_holds(&rt, parts(RingBuffer::head(&ring)) == (3, 2), ("step", 1));
+    let (head, count) = through_parts(ring, &mut into);
     assert_holds(
         &rt,
-        (parts(place), count, into) == ((3, 2), 2, *b"de\0\0"),
+        (parts(head), count, into) == ((3, 2), 2, *b"de\0\0"),
         ("step", 2),
     );
 }

@@ -1,7 +1,7 @@
 use Rattle.std.proofs.Common.{refl, sym, subst, ap, ◌≡◌, ◌∙◌, ◌∷◌, List, [], Result, Err, MatchResult, length}
 use Rattle.std.proofs.Common.{arith}
 use Rattle.net_assembler.specs.declared.assembler.error.TooManyHolesError.{TooManyHolesError}
-use Rattle.net_receiver.specs.declared.receiver.kept.Kept.{Kept}
+use Rattle.net_receiver.specs.declared.kept.Kept.{Kept}
 use Rattle.net_receiver.specs.KeptList.{piece}
 use Rattle.net_receiver.specs.Rules.{ReplyValue, SegmentReply, Segment, verdict, state_after, with_sack}
 use Rattle.net_receiver.specs.Schedule.{kept_after_command}

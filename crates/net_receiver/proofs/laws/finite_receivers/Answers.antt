@@ -1,7 +1,7 @@
 use Rattle.net_receiver.proofs.Ends.{fresh_sound_end}
-use Rattle.net_receiver.proofs.EndLaws.{sound_end_stays, end_stays, segment_of_stream, reads_the_stream}
-use Rattle.net_receiver.proofs.EndLaws.{acknowledged_grows, end_is_taken, all_bytes_complete}
-use Rattle.net_receiver.proofs.EndLaws.{same_end_converges}
+use Rattle.net_receiver.proofs.FiniteReceivers.{sound_end_stays, end_stays, segment_of_stream, reads_the_stream}
+use Rattle.net_receiver.proofs.FiniteReceivers.{acknowledged_grows, end_is_taken, all_bytes_complete}
+use Rattle.net_receiver.proofs.FiniteReceivers.{same_end_converges}
 use Rattle.net_receiver.proofs.laws.finite_receivers.Goals as goal
 
 pub returns : goal.returns

@@ -12,10 +12,10 @@ returns-clause-receiver c = λ xs rs.
     (subst (λ h. HasSoundParts h xs rs) made.numbers (made.sound xs rs), ap (λ h. receiver_of h xs rs) (sym made.numbers) ∙ made.state xs rs)
 
 pub returns-clause-sender : goal.returns-clause-sender
-returns-clause-sender c = λ xs blocks.
+returns-clause-sender c = λ xs.
     let made = c.new-sender.ensures in
     let start : 0 + length xs ≡ length xs = omega arith in
-    (subst (IsSoundHead (length xs)) made.numbers (made.sound (length xs)), ap (λ h. sender_of h xs blocks) (sym made.numbers) ∙ made.state xs blocks ∙ ap (sender_state (length xs) 0 [] blocks) start)
+    (subst (IsSoundHead (length xs)) made.numbers (made.sound (length xs)), ap (λ h. sender_of h xs) (sym made.numbers) ∙ made.state xs ∙ ap (sender_state (length xs) 0 []) start)
 
 pub returns-clause-scoreboard : goal.returns-clause-scoreboard
 returns-clause-scoreboard c = λ rs.
@@ -25,4 +25,4 @@ returns-clause-scoreboard c = λ rs.
 pub returns-clause-finite_sender : goal.returns-clause-finite_sender
 returns-clause-finite_sender c = λ xs.
     let made = c.new-finite_sender.ensures in
-    (subst (IsSoundFiniteSender (length xs)) made.numbers (made.sound (length xs)), ap (λ h. finite_sender_of h xs []) (sym made.numbers) ∙ made.state xs)
+    (subst (IsSoundFiniteSender (length xs)) made.numbers (made.sound (length xs)), ap (λ h. finite_sender_of h xs) (sym made.numbers) ∙ made.state xs)

@@ -1,11 +1,6 @@
 use Rattle.net_receiver.specs.Commands.{command_value, reply_value}
-use Rattle.net_receiver.proofs.Called.{executed_stays, executed_receives, executed_bytes}
+use Rattle.net_receiver.proofs.Called.{executed_receives, executed_bytes}
 use Rattle.net_receiver.proofs.schedule.execute.Goals as goal
-
-pub returns-clause-setting : goal.returns-clause-setting
-returns-clause-setting g c =
-    executed_stays g.row.N c.execute_core-result.result c.args.receiver.now c.execute_core-result.new.receiver
-    (command_value c.args.command.now) c.execute_core-result.ensures.state c.execute_core-result.ensures.unchanged c.is_sound.ensures
 
 pub returns-clause-receives : goal.returns-clause-receives
 returns-clause-receives g c =

@@ -5,7 +5,7 @@ use Rattle.std.proofs.lemmas.Result.{err_from_is_err_and}
 use Rattle.std.specs.Result.{is_ok}
 use Rattle.net_receiver.specs.Commands.{command_value, reply_value, new_replies}
 use Rattle.net_receiver.specs.Execution.{items_after}
-use Rattle.net_receiver.proofs.Run.{state_more, replies_more, whole_appended}
+use Rattle.net_receiver.proofs.Schedules.{state_more, replies_more, whole_appended}
 use Rattle.net_receiver.proofs.schedule.replay_core.Goals as goal
 
 -- nothing was pushed at first

@@ -1,11 +1,13 @@
-//! A packet that arrives in fragments: a buffer of its bytes and runs, and the same in parts: a head,
-//! and bytes and runs that are kept elsewhere.
+//! A packet that arrives in fragments: a buffer of its bytes and runs, its head, and a table of such buffers.
 
-pub use buffer::{FragmentBuffer, FragmentsOver};
-use crate::proved::net_assembler::{AssemblerHead, Run, assembler};
+use crate::proved::net_base::time::Instant;
+use crate::proved::net_assembler::Run;
+use crate::proved::net_ring::{ManagedSlice, Storage};
 
-mod buffer;
+mod head;
 pub mod table;
+
+pub use head::FragmentsHead;
 
 /// Why a fragment or a size is refused.
 #[derive(Debug, Clone, Copy, PartialEq, Eq)]
@@ -18,247 +20,323 @@ pub enum FragmentError {
     OtherSize,
 }
 
-/// What a buffer of fragments has besides its bytes and runs.
+/// A packet that arrives in fragments, in any order, as those of IPv4 do, over any storage.
+/// [`FragmentBuffer`] is its usual form. `N` is how many maximal runs of bytes it has room for.
 ///
-/// It serves callers who keep these elsewhere, as a program in C. Each call takes them as slices:
-/// the longest packet has as many bytes as the one, and at most as many maximal runs of bytes are
-/// kept as the other has elements. A head of zeros, but for `expires_at`, is that of an empty
-/// buffer. smoltcp has no such type: its buffer is one value.
+/// Fragments may overlap: at each position the byte is that of the last fragment there.
 ///
-/// A head is exact (`IsExact`) if no number says nothing: both of `present` are 0 where there is no
-/// run, `has_total` is 0 or 1, and `total` is 0 while the size isn't known. `new` and `reset` make it
-/// so, and each call leaves it so.
-#[repr(C)]
-#[derive(Debug, Clone, Copy)]
-pub struct FragmentsHead {
-    /// The positions that arrived: the head of an assembler.
-    pub present: AssemblerHead,
-    /// Not 0 once the packet's size is known; this library writes 1 then.
-    pub has_total: u64,
-    /// The packet's size in bytes, once it is known.
-    pub total: usize,
-    /// The last moment at which the packet is waited for, in microseconds.
-    pub expires_at: i64,
+/// ```text
+/// add(0, "abcde")    abcde.....
+/// add(7, "hij")      abcde..hij
+/// add(3, "DEFG")     abcDEFGhij
+/// ```
+///
+/// Contracts see the bytes of the storage, the set of the positions that arrived, the packet's
+/// size, once it is known, and the moment up to which the packet is waited for.
+pub struct FragmentsOver<B: Storage<u8>, const N: usize> {
+    // Invariant: the runs are those of an assembler, the positions of the bytes that arrived. If the
+    // total is known, the storage has room for it.
+    head: FragmentsHead,
+    bytes: B,
+    runs: [Run; N],
 }
 
-impl FragmentsHead {
-    /// Returns the head of an empty buffer that expires after `expires_at`.
+/// A packet that arrives in fragments, over lent or owned bytes.
+pub type FragmentBuffer<'a, const N: usize = { crate::rattle::ASSEMBLER_MAX_SEGMENT_COUNT }> = FragmentsOver<ManagedSlice<'a, u8>, N>;
+
+impl<'a, const N: usize> FragmentBuffer<'a, N> {
+}
+
+impl<B: Storage<u8>, const N: usize> FragmentsOver<B, N> {
+    /// Returns an empty buffer over storage of any type, which expires after `expires_at`.
+    ///
+    /// # Requires, else it panics
+    ///
+    /// `N` is at least 1.
     ///
     /// # Contract
     ///
     /// In the words of [`contracts`](crate::contracts):
     ///
     /// ```text
-    /// ensures sound { (bytes : List ℕ) (runs : List (ℕ × ℕ)) → HasSoundParts result bytes runs }
-    /// ensures nothing { (runs : List (ℕ × ℕ)) → set_of result.present runs ≡ nothing }
-    /// ensures total { total_of result ≡ None }
+    /// requires { 1 ≤ N }
+    /// ensures bytes { result.bytes ≡ B.elements bytes }
+    /// ensures nothing { (result.present ≡ nothing) × (result.total ≡ None) }
     /// ensures expires { result.expires_at ≡ expires_at }
-    /// ensures zeros { (result.present.used ≡ 0) × (result.present.first_start ≡ 0)
-    ///     × (result.has_total ≡ 0) × (result.total ≡ 0) }
-    /// ensures exact { IsExact result }
     /// ```
-    pub const fn new(expires_at: i64) -> Self {
-        FragmentsHead {
-            present: AssemblerHead::new(),
-            has_total: 0,
-            total: 0,
-            expires_at,
+    pub const fn over(bytes: B, expires_at: Instant) -> Self {
+        const { assert!(N >= 1, "a buffer of fragments has at least one run") };
+        FragmentsOver {
+            head: FragmentsHead::new(expires_at.total_micros()),
+            bytes,
+            runs: [Run { start: 0, end: 0 }; N],
         }
     }
 
-    /// Begins again, for a packet that expires after `expires_at`.
+    /// Returns the buffer that a head, bytes and runs represent. smoltcp has no such call.
+    ///
+    /// # Requires, else it panics
+    ///
+    /// They are sound: the runs are those of an assembler, and a known size is at most that of `bytes`.
     ///
     /// # Contract
     ///
     /// In the words of [`contracts`](crate::contracts):
     ///
     /// ```text
-    /// ensures sound { (bytes : List ℕ) (runs : List (ℕ × ℕ)) →
-    ///     HasSoundParts self.new bytes runs }
-    /// ensures nothing { (runs : List (ℕ × ℕ)) → set_of self.new.present runs ≡ nothing }
-    /// ensures total { total_of self.new ≡ None }
-    /// ensures expires { self.new.expires_at ≡ expires_at }
-    /// ensures zeros { (self.new.present.used ≡ 0) × (self.new.present.first_start ≡ 0)
-    ///     × (self.new.has_total ≡ 0) × (self.new.total ≡ 0) }
-    /// ensures exact { IsExact self.new }
+    /// requires { HasSoundParts head (B.elements bytes) runs }
+    /// ensures { result ≡ fragments_of head (B.elements bytes) runs.entry }
     /// ```
-    pub fn reset(&mut self, expires_at: i64) {
-        *self = FragmentsHead::new(expires_at);
+    #[track_caller]
+    pub(crate) fn from_parts(head: FragmentsHead, bytes: B, runs: [Run; N]) -> Self {
+        let capacity = bytes.count();
+        assert!(
+            head.is_sound(capacity, &runs),
+            "the head is not that of these bytes and runs"
+        );
+        FragmentsOver { head, bytes, runs }
     }
 
-    /// Returns whether `present` and these runs are those of an assembler, and a known size is at most `capacity`, for
-    /// any numbers. It looks at each used run.
+    /// Returns the head, the bytes and the runs, which represent the buffer. smoltcp has no such call.
     ///
     /// # Contract
     ///
     /// In the words of [`contracts`](crate::contracts):
     ///
     /// ```text
-    /// ensures { (bytes : List ℕ) → length bytes ≡ capacity →
-    ///     (IsTrue result ↔ HasSoundParts self.now bytes runs.now) }
+    /// ensures sound { HasSoundParts result.0 (B.elements result.1) result.2 }
+    /// ensures state { fragments_of result.0 (B.elements result.1) result.2 ≡ self }
+    /// ensures runs { length result.2 ≡ N }
     /// ```
-    pub fn is_sound(&self, capacity: usize, runs: &[Run]) -> bool {
-        self.present.is_sound(runs) && (self.has_total == 0 || self.total <= capacity)
+    pub(crate) fn into_parts(self) -> (FragmentsHead, B, [Run; N]) {
+        let FragmentsOver { head, bytes, runs } = self;
+        (head, bytes, runs)
+    }
+
+    /// Returns the bytes, as fragments were written to them. smoltcp has no such call.
+    ///
+    /// # Contract
+    ///
+    /// In the words of [`contracts`](crate::contracts):
+    ///
+    /// ```text
+    /// ensures { B.elements result ≡ self.bytes }
+    /// ```
+    pub fn into_storage(self) -> B {
+        let FragmentsOver {
+            head: _,
+            bytes,
+            runs: _,
+        } = self;
+        bytes
+    }
+
+    /// Returns the number of bytes of the buffer: the size of the longest packet that fits.
+    ///
+    /// ```
+    /// # use net_base::storage::FragmentBuffer;
+    /// # use net_base::time::Instant;
+    /// # let mut bytes = [0u8; 8];
+    /// assert_eq!(FragmentBuffer::new(&mut bytes[..], Instant::ZERO).capacity(), 8);
+    /// ```
+    ///
+    /// # Contract
+    ///
+    /// In the words of [`contracts`](crate::contracts):
+    ///
+    /// ```text
+    /// ensures { result ≡ length self.now.bytes }
+    /// ```
+    pub fn capacity(&self) -> usize {
+        self.bytes.count()
+    }
+
+    /// Returns whether no byte has arrived since the buffer was made or reset: no packet is begun. A fragment of no
+    /// bytes begins none.
+    ///
+    /// ```
+    /// # use net_base::storage::FragmentBuffer;
+    /// # use net_base::time::Instant;
+    /// # let mut bytes = [0u8; 8];
+    /// # let mut buffer = FragmentBuffer::new(&mut bytes[..], Instant::ZERO);
+    /// assert!(buffer.add(2, b"").is_ok() && buffer.is_empty());
+    /// assert!(buffer.add(2, b"c").is_ok() && !buffer.is_empty());
+    /// ```
+    ///
+    /// # Contract
+    ///
+    /// In the words of [`contracts`](crate::contracts):
+    ///
+    /// ```text
+    /// ensures { IsTrue result ↔ (self.now.present ≡ nothing) }
+    /// ```
+    pub fn is_empty(&self) -> bool {
+        self.head.present.is_empty()
+    }
+
+    /// Returns the moment up to which the packet is waited for. It is not expired at that moment, but at each later
+    /// one.
+    ///
+    /// ```
+    /// # use net_base::storage::FragmentBuffer;
+    /// # use net_base::time::Instant;
+    /// # let mut bytes = [0u8; 8];
+    /// let buffer = FragmentBuffer::new(&mut bytes[..], Instant::from_millis(5));
+    /// assert_eq!(buffer.expires_at(), Instant::from_millis(5));
+    /// ```
+    ///
+    /// # Contract
+    ///
+    /// In the words of [`contracts`](crate::contracts):
+    ///
+    /// ```text
+    /// ensures { result ≡ self.now.expires_at }
+    /// ```
+    pub fn expires_at(&self) -> Instant {
+        moment_of(&self.head)
     }
 
     /// Adds a fragment, whose first byte is that of the packet at `offset`.
     ///
     /// It is refused, and nothing changes, exactly if it reaches past the buffer's end, which is
-    /// `TooLong`, or else would leave more maximal runs than there is room for, which is `TooManyHoles`.
+    /// `TooLong`, or else would leave more than `N` maximal runs, which is `TooManyHoles`. The end of an
+    /// accepted fragment fits `usize`.
     ///
-    /// # Requires, else it panics
-    ///
-    /// Head, bytes and runs are those of a buffer.
+    /// ```
+    /// # use net_base::storage::{FragmentBuffer, FragmentError};
+    /// # use net_base::time::Instant;
+    /// # let mut bytes = [0u8; 8];
+    /// let mut buffer = FragmentBuffer::<1>::empty(&mut bytes[..], Instant::ZERO);
+    /// assert_eq!(buffer.add(6, b"ghi"), Err(FragmentError::TooLong));
+    /// assert_eq!(buffer.add(6, b"gh"), Ok(()));
+    /// assert_eq!(buffer.add(0, b"ab"), Err(FragmentError::TooManyHoles));
+    /// ```
     ///
     /// # Contract
     ///
     /// In the words of [`contracts`](crate::contracts):
     ///
     /// ```text
-    /// requires sound { HasSoundParts self.old bytes.old runs.old }
-    /// ensures sound { HasSoundParts self.new bytes.new runs.new }
-    /// ensures ok { OnOk result (fragments_of self.new bytes.new runs.new
-    ///     ≡ with_fragment (fragments_of self.old bytes.old runs.old) offset «data».now) }
-    /// ensures unchanged { OnErr result
-    ///     ((self.new ≡ self.old) × (bytes.new ≡ bytes.old) × (runs.new ≡ runs.old)) }
+    /// ensures ok { OnOk result (self.new ≡ with_fragment self.old offset «data».now) }
+    /// ensures unchanged { OnErr result (self.new ≡ self.old) }
+    /// ensures fits { OnOk result (offset + length «data».now < 2 ^ 64) }
     /// ensures too_long { (result ≡ Err FragmentError.TooLong)
-    ///     ↔ (length bytes.old < offset + length «data».now) }
+    ///     ↔ (length self.old.bytes < offset + length «data».now) }
     /// ensures too_many { (result ≡ Err FragmentError.TooManyHoles)
-    ///     ↔ ((offset + length «data».now ≤ length bytes.old) × MakesTooManyRuns (length runs.old)
-    ///     (set_of self.old.present runs.old) offset (length «data».now)) }
-    /// ensures refused { IsErr result ↔ ((length bytes.old < offset + length «data».now)
-    ///     ⊎ MakesTooManyRuns (length runs.old) (set_of self.old.present runs.old)
-    ///     offset (length «data».now)) }
-    /// ensures others { (self.new.has_total ≡ self.old.has_total)
-    ///     × (self.new.total ≡ self.old.total) × (self.new.expires_at ≡ self.old.expires_at) }
-    /// ensures exact { IsExact self.old → IsExact self.new }
+    ///     ↔ ((offset + length «data».now ≤ length self.old.bytes)
+    ///     × MakesTooManyRuns N self.old.present offset (length «data».now)) }
+    /// ensures refused { IsErr result ↔ ((length self.old.bytes < offset + length «data».now)
+    ///     ⊎ MakesTooManyRuns N self.old.present offset (length «data».now)) }
     /// ```
-    pub fn add(
-        &mut self,
-        bytes: &mut [u8],
-        runs: &mut [Run],
-        offset: usize,
-        data: &[u8],
-    ) -> Result<(), FragmentError> {
-        let limit = bytes.len();
-        if offset > limit || data.len() > limit - offset {
-            return Err(FragmentError::TooLong);
-        }
-        let Ok(()) = self.present.add(runs, offset, data.len()) else {
-            return Err(FragmentError::TooManyHoles);
-        };
-        bytes[offset..offset + data.len()].copy_from_slice(data);
-        Ok(())
+    pub fn add(&mut self, offset: usize, data: &[u8]) -> Result<(), FragmentError> {
+        let count = self.bytes.count();
+        let bytes = self.bytes.part_mut(0, count);
+        self.head.add(bytes, &mut self.runs, offset, data)
     }
 
-    /// Sets the packet's size to `size` bytes, of a buffer of `capacity` bytes.
+    /// Sets the packet's size to `size` bytes.
     ///
     /// It is refused, and nothing changes, exactly if the buffer has fewer bytes, which is `TooLong`, or
     /// else if another size is known, which is `OtherSize`.
     ///
+    /// ```
+    /// # use net_base::storage::{FragmentBuffer, FragmentError};
+    /// # use net_base::time::Instant;
+    /// # let mut bytes = [0u8; 8];
+    /// # let mut buffer = FragmentBuffer::new(&mut bytes[..], Instant::ZERO);
+    /// assert_eq!(buffer.set_total_size(9), Err(FragmentError::TooLong));
+    /// assert_eq!(buffer.set_total_size(0), Ok(()));
+    /// assert_eq!(buffer.assemble(), Some(&b""[..]));
+    /// ```
+    ///
     /// # Contract
     ///
     /// In the words of [`contracts`](crate::contracts):
     ///
     /// ```text
-    /// ensures ok { OnOk result ((self.new.has_total ≡ 1) × (self.new.total ≡ size)
-    ///     × (self.new.present ≡ self.old.present) × (self.new.expires_at ≡ self.old.expires_at)) }
-    /// ensures total { OnOk result (total_of self.new ≡ Some size) }
-    /// ensures sound { OnOk result ((bytes : List ℕ) (runs : List (ℕ × ℕ)) →
-    ///     length bytes ≡ capacity → HasSoundParts self.old bytes runs →
-    ///     HasSoundParts self.new bytes runs) }
+    /// ensures ok { OnOk result (self.new ≡ record self.old { total = Some size }) }
     /// ensures unchanged { OnErr result (self.new ≡ self.old) }
-    /// ensures too_long { (result ≡ Err FragmentError.TooLong) ↔ (capacity < size) }
+    /// ensures too_long { (result ≡ Err FragmentError.TooLong) ↔ (length self.old.bytes < size) }
     /// ensures other_size { (result ≡ Err FragmentError.OtherSize)
-    ///     ↔ ((size ≤ capacity) × DiffersFrom (total_of self.old) size) }
+    ///     ↔ ((size ≤ length self.old.bytes) × DiffersFrom self.old.total size) }
     /// ensures refused { IsErr result
-    ///     ↔ ((capacity < size) ⊎ DiffersFrom (total_of self.old) size) }
-    /// ensures exact { IsExact self.old → IsExact self.new }
+    ///     ↔ ((length self.old.bytes < size) ⊎ DiffersFrom self.old.total size) }
     /// ```
-    pub fn set_total_size(&mut self, capacity: usize, size: usize) -> Result<(), FragmentError> {
-        if size > capacity {
-            return Err(FragmentError::TooLong);
-        }
-        if self.has_total != 0 && self.total != size {
-            return Err(FragmentError::OtherSize);
-        }
-        self.has_total = 1;
-        self.total = size;
-        Ok(())
+    pub fn set_total_size(&mut self, size: usize) -> Result<(), FragmentError> {
+        self.head.set_total_size(self.bytes.count(), size)
     }
 
-    /// Returns the packet's size, once it is known.
+    /// Returns the packet's size, once it is known. smoltcp has no such call.
     ///
     /// # Contract
     ///
     /// In the words of [`contracts`](crate::contracts):
     ///
     /// ```text
-    /// ensures { result ≡ total_of self.now }
+    /// ensures { result ≡ self.now.total }
     /// ```
     pub fn total_size(&self) -> Option<usize> {
-        if self.has_total == 0 {
-            None
-        } else {
-            Some(self.total)
-        }
+        self.head.total_size()
     }
 
     /// Returns whether one of the `len` positions from `offset` on has arrived: whether a fragment there
     /// overlaps bytes that are present. They need not be within the buffer.
     ///
     /// It is asked before `add`, by callers who refuse a packet whose fragments overlap (RFC 5722). A
-    /// fragment that arrives twice overlaps too.
-    ///
-    /// # Requires, else it panics
-    ///
-    /// The runs are sound.
+    /// fragment that arrives twice overlaps too. smoltcp has no such call.
     ///
     /// # Contract
     ///
     /// In the words of [`contracts`](crate::contracts):
     ///
     /// ```text
-    /// requires sound { HasSoundRuns self.now.present runs.now }
-    /// ensures { IsTrue result ↔ Meets (set_of self.now.present runs.now) offset len }
+    /// ensures { IsTrue result ↔ Meets self.now.present offset len }
     /// ```
-    pub fn overlaps(&self, runs: &[Run], offset: usize, len: usize) -> bool {
-        for (start, end) in self.present.iter_data(runs) {
-            if start.saturating_sub(offset) < len && offset < end {
-                return true;
-            }
-        }
-        false
+    pub fn overlaps(&self, offset: usize, len: usize) -> bool {
+        self.head.overlaps(&self.runs, offset, len)
     }
 
-    /// Returns the packet's size, if it is known and all its bytes have arrived: they are the first
-    /// ones of the buffer.
+    /// Shows the bytes of the packet. `None` exactly if its size is not known or one of its bytes
+    /// is missing.
     ///
-    /// # Requires, else it panics
-    ///
-    /// The runs are sound.
+    /// ```
+    /// # use net_base::storage::{FragmentBuffer, FragmentError};
+    /// # use net_base::time::Instant;
+    /// # let mut bytes = [0u8; 8];
+    /// # let mut buffer = FragmentBuffer::new(&mut bytes[..], Instant::ZERO);
+    /// buffer.add(0, b"abc")?;
+    /// assert_eq!(buffer.assemble(), None);
+    /// buffer.set_total_size(2)?;
+    /// assert_eq!(buffer.assemble(), Some(&b"ab"[..]));
+    /// # Ok::<(), FragmentError>(())
+    /// ```
     ///
     /// # Contract
     ///
     /// In the words of [`contracts`](crate::contracts):
     ///
     /// ```text
-    /// requires sound { HasSoundRuns self.now.present runs.now }
-    /// ensures complete { (bytes : List ℕ) → (IsSome result
-    ///     ↔ ((size : ℕ) × IsComplete (fragments_of self.now bytes runs.now) size)) }
-    /// ensures size { IfSome result (λ size. (bytes : List ℕ) →
-    ///     IsComplete (fragments_of self.now bytes runs.now) size) }
-    /// ensures fits { IfSome result (λ size. (bytes : List ℕ) →
-    ///     HasSoundParts self.now bytes runs.now → size ≤ length bytes) }
+    /// ensures complete { IsSome result ↔ ((size : ℕ) × IsComplete self.now size) }
+    /// ensures bytes { IfSome result
+    ///     (λ r. (size : ℕ) × IsComplete self.now size × (r.now ≡ take size self.now.bytes)) }
     /// ```
-    pub fn complete(&self, runs: &[Run]) -> Option<usize> {
-        if self.has_total == 0 || self.present.peek_front(runs) < self.total {
-            return None;
+    pub fn assemble(&self) -> Option<&[u8]> {
+        match self.head.complete(&self.runs) {
+            Some(size) => Some(self.bytes.part(0, size)),
+            None => None,
         }
-        Some(self.total)
     }
 
-    /// Returns whether `now` is after the last moment at which the packet is waited for.
+    /// Returns whether `now` is after the moment up to which the packet is waited for.
+    ///
+    /// ```
+    /// # use net_base::storage::FragmentBuffer;
+    /// # use net_base::time::Instant;
+    /// # let mut bytes = [0u8; 8];
+    /// let buffer = FragmentBuffer::new(&mut bytes[..], Instant::from_millis(5));
+    /// assert!(!buffer.is_expired(Instant::from_millis(5)));
+    /// assert!(buffer.is_expired(Instant::from_micros(5_001)));
+    /// ```
     ///
     /// # Contract
     ///
@@ -267,7 +345,47 @@ impl FragmentsHead {
     /// ```text
     /// ensures { IsTrue result ↔ (self.now.expires_at <ℤ now) }
     /// ```
-    pub fn is_expired(&self, now: i64) -> bool {
-        self.expires_at < now
+    pub fn is_expired(&self, now: Instant) -> bool {
+        self.head.is_expired(now.total_micros())
     }
+
+    /// Starts over for another packet, which is waited for up to `expires_at`.
+    ///
+    /// ```
+    /// # use net_base::storage::{FragmentBuffer, FragmentError};
+    /// # use net_base::time::Instant;
+    /// # let mut bytes = [0u8; 8];
+    /// # let mut buffer = FragmentBuffer::new(&mut bytes[..], Instant::ZERO);
+    /// buffer.add(0, b"abc")?;
+    /// buffer.set_total_size(0)?;
+    /// buffer.reset(Instant::from_millis(5));
+    /// assert!(buffer.is_empty() && buffer.assemble().is_none());
+    /// # Ok::<(), FragmentError>(())
+    /// ```
+    ///
+    /// # Contract
+    ///
+    /// In the words of [`contracts`](crate::contracts):
+    ///
+    /// ```text
+    /// ensures bytes { self.new.bytes ≡ self.old.bytes }
+    /// ensures nothing { (self.new.present ≡ nothing) × (self.new.total ≡ None) }
+    /// ensures expires { self.new.expires_at ≡ expires_at }
+    /// ```
+    pub fn reset(&mut self, expires_at: Instant) {
+        self.head.reset(expires_at.total_micros());
+    }
+}
+
+/// The last moment at which the packet is waited for.
+///
+/// # Contract
+///
+/// In the words of [`contracts`](crate::contracts):
+///
+/// ```text
+/// ensures { result ≡ head.now.expires_at }
+/// ```
+fn moment_of(head: &FragmentsHead) -> Instant {
+    Instant::from_micros(head.expires_at)
 }

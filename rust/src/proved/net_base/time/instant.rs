@@ -386,10 +386,11 @@ impl Instant {
     /// ```
     #[inline]
     pub fn saturating_add(&self, duration: Duration) -> Instant {
-        match self.micros.checked_add_unsigned(duration.total_micros()) {
-            Some(micros) => Instant { micros },
-            None => Instant::from_micros(i64::MAX),
+        let micros = self.micros.wrapping_add_unsigned(duration.total_micros());
+        if micros < self.micros {
+            return Instant::from_micros(i64::MAX);
         }
+        Instant { micros }
     }
 
     /// Returns the moment `duration` earlier, or the first moment if that is before it.
@@ -410,10 +411,11 @@ impl Instant {
     /// ```
     #[inline]
     pub fn saturating_sub(&self, duration: Duration) -> Instant {
-        match self.micros.checked_sub_unsigned(duration.total_micros()) {
-            Some(micros) => Instant { micros },
-            None => Instant::from_micros(i64::MIN),
+        let micros = self.micros.wrapping_sub_unsigned(duration.total_micros());
+        if micros > self.micros {
+            return Instant::from_micros(i64::MIN);
         }
+        Instant { micros }
     }
 
     /// Returns the text of the moment, whatever the options.

@@ -1,6 +1,4 @@
-use Rattle.std.proofs.Common.{◌∙◌, sym, ap, length, length-append, refl, take_all, le_refl, arith}
-use Rattle.std.proofs.lemmas.List.{get_or_append_left, get_or-append_right}
-use Rattle.std.specs.Prelude.{slice_index_or}
+use Rattle.std.proofs.Common.{◌∙◌, sym, ap, length, length-append, take_all, le_refl, arith}
 use Rattle.net_ring.specs.RingHead.{ring_at}
 use Rattle.net_receiver.specs.Contiguous.{contiguous_count}
 use Rattle.net_receiver.specs.ReceiverState.{ReceiverState}
@@ -25,16 +23,6 @@ pub returns-clause-value : goal.returns-clause-value
 returns-clause-value g c =
     parts_are c.args.self.now.queue c.as_slices.result.0.now c.as_slices.result.1.now (contiguous_count c.args.self.now)
     (returns-clause-queue g c) (returns-clause-cut g c)
-
-pub returns-clause-first : goal.returns-clause-first
-returns-clause-first g c = λ k d within.
-    ap (λ l. slice_index_or l k d) (sym (returns-clause-queue g c))
-    ∙ get_or_append_left c.as_slices.result.0.now c.as_slices.result.1.now d k within
-
-pub returns-clause-second : goal.returns-clause-second
-returns-clause-second g c = λ k d past.
-    ap (λ l. slice_index_or l k d) (sym (returns-clause-queue g c))
-    ∙ get_or-append_right c.as_slices.result.0.now c.as_slices.result.1.now (length c.as_slices.result.0.now) k d refl past
 
 pub returns-clause-bytes : goal.returns-clause-bytes
 returns-clause-bytes g c = λ f x r.

@@ -1,10 +1,10 @@
-use Rattle.std.proofs.Common.{◌∙◌, ap, drop, take, length, arith}
+use Rattle.std.proofs.Common.{◌∙◌, ap, drop, take, length}
 use Rattle.net_ring.specs.RingHead.{ring_at}
 use Rattle.net_receiver.specs.ReceiverState.{ReceiverState}
 use Rattle.net_receiver.specs.Contiguous.{contiguous_count_from}
 use Rattle.net_receiver.proofs.Called.{part_bytes}
 use Rattle.net_receiver.proofs.Contiguous.{lent_from, each_lent, end_lent}
-use Rattle.net_receiver.proofs.Heads.{lent_view, lent_sound, queue_size}
+use Rattle.net_receiver.proofs.Heads.{lent_view, lent_sound}
 use Rattle.net_receiver.proofs.receiver.ReceiverOver.peek.Goals as goal
 
 pub returns-clause-value : goal.returns-clause-value
@@ -22,27 +22,8 @@ returns-clause-count g c =
     ∙ ap (λ v. contiguous_count_from v c.args.offset c.args.size)
     (lent_view _ _ _ _ c.whole.ensures c.args.self.now c.self.view_is)
 
-pub returns-clause-few : goal.returns-clause-few
-returns-clause-few g c =
-    let size = returns-clause-count g c in
-    let rest = end_lent c.args.self.now.queue c.peek.result.now c.args.offset (returns-clause-value g c) in
-    omega (arith, size, rest)
-
-pub returns-clause-some : goal.returns-clause-some
-returns-clause-some g c = λ within some.
-    let queued = ap (λ (v : ReceiverState). length v.queue) c.self.view_is in
-    c.peek.ensures.not_empty (omega (arith, within, queue_size c.self.invariant.0, queued)) some
-
-pub returns-clause-step : goal.returns-clause-step
-returns-clause-step g c = λ s d.
-    returns-clause-value g c ∙ ap (λ q. take (length c.peek.result.now) (drop c.args.offset q)) d.queue
-
 pub returns-clause-each : goal.returns-clause-each
 returns-clause-each g c = each_lent c.args.self.now.queue c.peek.result.now c.args.offset (returns-clause-value g c)
-
-pub returns-clause-end : goal.returns-clause-end
-returns-clause-end g c = λ within.
-    omega (arith, within, end_lent c.args.self.now.queue c.peek.result.now c.args.offset (returns-clause-value g c))
 
 pub returns-clause-bytes : goal.returns-clause-bytes
 returns-clause-bytes g c = λ f x r. part_bytes f x c.args.self.now c.peek.result.now c.args.offset (returns-clause-value g c) r

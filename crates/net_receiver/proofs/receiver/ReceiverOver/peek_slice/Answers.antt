@@ -1,9 +1,7 @@
 use Rattle.std.proofs.Common.{◌∙◌, ◌++◌, ap, sym, min, length, take, drop}
-use Rattle.net_receiver.specs.Rules.{ReadReply}
 use Rattle.net_receiver.specs.ReceiverState.{ReceiverState}
 use Rattle.net_receiver.proofs.Called.{read_bytes}
 use Rattle.net_receiver.proofs.Heads.{lent_view, queue_size}
-use Rattle.net_receiver.proofs.Run.{read_prefix}
 use Rattle.net_receiver.proofs.receiver.ReceiverOver.peek_slice.Goals as goal
 
 pub returns-clause-count : goal.returns-clause-count
@@ -16,14 +14,6 @@ returns-clause-into g c =
     c.peek_slice.ensures.into
     ∙ ap (λ (v : ReceiverState). take (length c.args.into.now) v.queue ++ drop (length v.queue) c.args.into.now)
     (lent_view _ _ _ _ c.whole.ensures c.args.self.now c.self.view_is)
-
-pub returns-clause-reply : goal.returns-clause-reply
-returns-clause-reply g c =
-    ap (λ xs. ReadReply xs)
-    (read_prefix c.args.self.now.queue c.peek_slice.new.into c.args.into.now c.peek_slice.result (returns-clause-count g c) (returns-clause-into g c))
-
-pub returns-clause-step : goal.returns-clause-step
-returns-clause-step g c = λ s d. returns-clause-reply g c ∙ ap (λ xs. ReadReply (take (length c.args.into.now) xs)) d.queue
 
 pub returns-clause-bytes : goal.returns-clause-bytes
 returns-clause-bytes g c = λ f x r.

@@ -1,19 +1,10 @@
-use Rattle.std.proofs.Common.{◌∙◌, ap, drop, take, length, arith, length-append, length-take, length-drop}
+use Rattle.std.proofs.Common.{◌∙◌, ap, drop, length, arith, length-append, length-take, length-drop}
 use Rattle.net_ring.specs.RingHead.{ring_at}
 use Rattle.net_ring.specs.Ring.{queue}
-use Rattle.net_receiver.specs.ReceiverState.{ReceiverState}
 use Rattle.net_receiver.specs.Contiguous.{contiguous_count_from}
 use Rattle.net_receiver.proofs.Contiguous.{lent_from}
 use Rattle.net_receiver.proofs.Heads.{lent_view, lent_sound}
 use Rattle.net_receiver.proofs.receiver.ReceiverOver.peek_slices.Goals as goal
-
-pub peek_slices-requires : goal.peek_slices-requires
-peek_slices-requires g c = (lent_sound _ _ _ _ c.whole.ensures c.self.invariant.0).place
-
-pub returns-clause-bytes : goal.returns-clause-bytes
-returns-clause-bytes g c =
-    c.peek_slices.ensures.bytes
-    ∙ ap (λ (v : ReceiverState). take c.args.size (drop c.args.offset v.queue)) (lent_view _ _ _ _ c.whole.ensures c.args.self.now c.self.view_is)
 
 pub returns-clause-cut : goal.returns-clause-cut
 returns-clause-cut g c =

@@ -1,14 +1,10 @@
 use Rattle.std.proofs.Common.{◌∙◌, ◌++◌, min, ap, sym, length, take, drop}
 use Rattle.net_receiver.specs.Rules.{Read, ReadReply}
-use Rattle.net_receiver.specs.ReceiverState.{ReceiverState, next_position, receiver_after_read}
-use Rattle.net_receiver.proofs.Called.{read_receives, stays, read_bytes}
-use Rattle.net_receiver.proofs.Heads.{lent_view, lent_sound, back_view, back_sound, queue_size, next_fits, sound_for}
-use Rattle.net_receiver.proofs.ReadLaws.{read_leaves_next}
-use Rattle.net_receiver.proofs.Run.{steps, read_prefix}
+use Rattle.net_receiver.specs.ReceiverState.{ReceiverState, receiver_after_read}
+use Rattle.net_receiver.proofs.Called.{stays}
+use Rattle.net_receiver.proofs.Heads.{lent_view, lent_sound, back_view, back_sound, queue_size, sound_for}
+use Rattle.net_receiver.proofs.Schedules.{steps, read_prefix}
 use Rattle.net_receiver.proofs.receiver.ReceiverOver.read.Goals as goal
-
-pub read-requires-clause-fits : goal.read-requires-clause-fits
-read-requires-clause-fits g c = next_fits c.self.invariant.0
 
 pub invariant_of-self : goal.invariant_of-self
 invariant_of-self g c =
@@ -43,13 +39,3 @@ pub returns-clause-setting : goal.returns-clause-setting
 returns-clause-setting g c =
     stays g.row.N c.args.self.now _ (Read (length c.args.into.now)) (returns-clause-state g c)
     (sound_for (invariant_of-self g c).0 g.row.N c.self.invariant.1)
-
-pub returns-clause-next : goal.returns-clause-next
-returns-clause-next g c = ap next_position (returns-clause-state g c) ∙ read_leaves_next c.args.self.now (length c.args.into.now)
-
-pub returns-clause-receives : goal.returns-clause-receives
-returns-clause-receives g c = λ f x r. read_receives f x c.args.self.now _ (length c.args.into.now) (returns-clause-state g c) r
-
-pub returns-clause-bytes : goal.returns-clause-bytes
-returns-clause-bytes g c =
-    λ f x r. read_bytes f x c.args.self.now c.read.new.into c.args.into.now c.read.result (returns-clause-count g c) (returns-clause-into g c) r

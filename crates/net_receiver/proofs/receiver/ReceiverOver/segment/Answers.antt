@@ -5,7 +5,7 @@ use Rattle.net_receiver.specs.ReceiverState.{receiver_ops, receiver_after_comman
 use Rattle.net_receiver.specs.Head.{receiver_of, HasSoundParts}
 use Rattle.net_receiver.proofs.Called.{segment_receives, in_order, any_order, stays}
 use Rattle.net_receiver.proofs.Heads.{lent_view, lent_sound, part_is, whole_written, sound_for}
-use Rattle.net_receiver.proofs.Run.{steps}
+use Rattle.net_receiver.proofs.Schedules.{steps}
 use Rattle.net_receiver.proofs.receiver.ReceiverOver.segment.Given as given
 use Rattle.net_receiver.proofs.receiver.ReceiverOver.segment.Goals as goal
 

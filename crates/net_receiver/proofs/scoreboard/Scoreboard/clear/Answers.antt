@@ -1,4 +1,4 @@
-use Rattle.net_receiver.proofs.Boards.{no_board}
+use Rattle.net_receiver.proofs.Scoreboards.{no_board}
 use Rattle.net_receiver.proofs.scoreboard.Scoreboard.clear.Goals as goal
 
 pub returns : goal.returns

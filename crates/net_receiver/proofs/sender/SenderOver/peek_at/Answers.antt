@@ -1,4 +1,4 @@
-use Rattle.std.proofs.Common.{[], ◌≡◌, ◌<◌, ◌≤◌, ◌-◌, ◌∙◌, ap, sym, length, take, drop, min, arith}
+use Rattle.std.proofs.Common.{◌≡◌, ◌<◌, ◌≤◌, ◌-◌, ◌∙◌, ap, sym, length, take, drop, min, arith}
 use Rattle.std.proofs.lemmas.Bool.Decides.{nat_tests}
 use Rattle.std.proofs.lemmas.List.{nil_from_length}
 use Rattle.net_ring.specs.RingHead.{ring_at}
@@ -22,7 +22,7 @@ returns g c =
     ∙ ap (λ o. take span.result.contiguous (drop (c.args.pos - o.first_unacknowledged) o.queue)) c.self.view_is
     ∙ ap (λ n. take n (drop (c.args.pos - v.first_unacknowledged) v.queue)) (sym shown.0) in
     let count : v.first_unacknowledged ≤ c.args.pos → length now ≡ min c.args.max (contiguous_end v c.args.pos - c.args.pos) = λ from.
-    shown.0 ∙ span.ensures.end xs [] (sym c.count.ensures) (omega (arith, from, first))
+    shown.0 ∙ span.ensures.end xs (sym c.count.ensures) (omega (arith, from, first))
     ∙ ap (λ o. min c.args.max (contiguous_end o c.args.pos - c.args.pos)) c.self.view_is in
     let none : c.args.pos < v.first_unacknowledged → length now ≡ 0 = λ below. shown.0 ∙ (span.ensures.before (omega (arith, first))).2 in
     record {

@@ -8,8 +8,8 @@ invariant_of-self g c = c.new-self-inside.ensures.sound (length (g.S.Storage.ele
 
 pub returns-clause-state : goal.returns-clause-state
 returns-clause-state g c =
-    c.new-self-inside.ensures.state (g.S.Storage.elements c.self.inside.storage) []
-    ∙ ap (λ v. sender_state v.capacity c.args.first [] [] (c.args.first + v.capacity)) c.self.view_is
+    c.new-self-inside.ensures.state (g.S.Storage.elements c.self.inside.storage)
+    ∙ ap (λ v. sender_state v.capacity c.args.first [] (c.args.first + v.capacity)) c.self.view_is
 
 pub returns-clause-sends : goal.returns-clause-sends
 returns-clause-sends g c = subst (Sends c.args.first []) (sym (returns-clause-state g c)) (record {

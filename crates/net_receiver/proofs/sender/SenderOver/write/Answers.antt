@@ -1,4 +1,4 @@
-use Rattle.std.proofs.Common.{[], ◌≡◌, ◌++◌, ◌∙◌, length, take, min, sym, ap, subst}
+use Rattle.std.proofs.Common.{◌≡◌, ◌++◌, ◌∙◌, length, take, min, sym, ap, subst}
 use Rattle.net_ring.proofs.HeadFacts.{lent_whole}
 use Rattle.net_receiver.specs.SenderState.{room_of, with_written, Sends}
 use Rattle.net_receiver.proofs.Senders.{sends_written}
@@ -17,12 +17,12 @@ returns g c =
     let v = c.args.self.now in
     let xs = take c.write.result c.args.bytes.now in
     let all = lent_whole c.count-capacity.result (g.S.Storage.elements i.storage) _ c.write.new.storage c.count-capacity.ensures c.part_mut.ensures.value c.write.auto.storage in
-    let before : sender_of i.head c.part_mut.result.now [] ≡ v = ap (λ l. sender_of i.head l []) all.0 ∙ c.self.view_is in
-    let state : sender_of c.write.new.self (g.S.Storage.elements (g.S.Storage.with_part i.storage 0 c.write.new.storage)) [] ≡ with_written v xs =
-    ap (λ l. sender_of c.write.new.self l []) (g.met.S.Storage.part_written i.storage 0 c.write.new.storage ∙ all.1)
-    ∙ c.write.ensures.state [] ∙ ap (λ o. with_written o xs) before in
+    let before : sender_of i.head c.part_mut.result.now ≡ v = ap (λ l. sender_of i.head l) all.0 ∙ c.self.view_is in
+    let state : sender_of c.write.new.self (g.S.Storage.elements (g.S.Storage.with_part i.storage 0 c.write.new.storage)) ≡ with_written v xs =
+    ap (λ l. sender_of c.write.new.self l) (g.met.S.Storage.part_written i.storage 0 c.write.new.storage ∙ all.1)
+    ∙ c.write.ensures.state ∙ ap (λ o. with_written o xs) before in
     record {
-      count = c.write.ensures.count [] ∙ ap (λ o. min (length c.args.bytes.now) (room_of o)) before;
+      count = c.write.ensures.count ∙ ap (λ o. min (length c.args.bytes.now) (room_of o)) before;
       state = state;
       sends = λ f w s. subst (Sends f (w ++ xs)) (sym state) (sends_written f w v xs s);
     }

@@ -1,7 +1,8 @@
-use Rattle.std.proofs.Common.{◌≡◌, length, take, refl, ap, ◌∙◌, arith}
+use Rattle.std.proofs.Common.{◌≡◌, ◌≤◌, ◌-◌, length, take, sym, subst, ap, ◌∙◌, arith, length-take}
 use Rattle.std.proofs.lemmas.List.{length-take-le}
+use Rattle.net_ring.specs.Ring.{window, WritesSpare}
 use Rattle.net_ring.specs.RingHead.{ring_at}
-use Rattle.net_ring.proofs.RingFacts.{ahead_clause}
+use Rattle.net_ring.proofs.RingFacts.{wrapping_at}
 use Rattle.net_ring.proofs.HeadFacts.{wrapped}
 use Rattle.net_ring.proofs.head.RingHead.write_unallocated.Goals as goal
 
@@ -17,5 +18,7 @@ returns-clause-ring g c =
 pub returns-clause-written : goal.returns-clause-written
 returns-clause-written g c =
     let old = ring_at c.args.storage.now c.args.self in
-    ahead_clause old old refl c.requires.sound c.args.offset c.unallocated-span.result.count c.args.«data».now _
-    (omega (arith, c.unallocated-span.ensures.count)) (returns-clause-ring g c)
+    let n = c.unallocated-span.result.count in
+    let met = c.unallocated-span.ensures in
+    let long : length (take n c.args.«data».now) ≤ window old - c.args.offset = omega (arith, met.count, length-take n c.args.«data».now) in
+    subst (WritesSpare old c.args.offset (take n c.args.«data».now)) (sym (returns-clause-ring g c)) (wrapping_at old c.requires.sound c.args.offset _ long)

@@ -1,6 +1,6 @@
 use Rattle.std.proofs.Common.{◌≡◌, ap, arith}
 use Rattle.net_ring.specs.Ring.{contiguous_queued}
-use Rattle.net_ring.proofs.RingParts.{two_parts, each_head, each_behind}
+use Rattle.net_ring.proofs.QueueParts.{two_parts, each_head, each_behind}
 use Rattle.net_ring.proofs.ring_buffer.RingOver.as_slices.Goals as goal
 
 pub returns : goal.returns
@@ -11,7 +11,7 @@ returns g c =
     let counts = ap (λ o. o.count) is in
     let at = ap (λ o. o.read_at) is in
     let cut : n ≡ contiguous_queued old = omega (arith, counts, at, c.capacity.ensures.capacity) in
-    let parts = two_parts _ _ is c.self.invariant n c.self.inside.place.read_at _ _ cut at (omega arith) (omega (arith, counts))
+    let parts = two_parts _ _ is c.self.invariant n c.self.inside.head.read_at _ _ cut at (omega arith) (omega (arith, counts))
     c.part.result.now c.part-2.result.now c.part.ensures c.part-2.ensures in
     record {
       queue = parts.queue;

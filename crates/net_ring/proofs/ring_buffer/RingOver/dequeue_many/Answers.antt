@@ -21,7 +21,7 @@ returns g c =
     let count : k ≡ min c.args.size (contiguous_queued old) = omega (arith, span.count, size, counts, read) in
     let next = found _ _ is c.self.invariant c.count.result k _ size refl in
     let st : List _ → List _ = λ w. g.S.Storage.elements (g.S.Storage.with_part c.self.inside.storage p w) in
-    let left : (w : List _) → st w ≡ overwrite (g.S.Storage.elements c.self.inside.storage) c.self.inside.place.read_at w = λ w. g.met.S.Storage.part_written c.self.inside.storage p w ∙ ap (λ i. overwrite (g.S.Storage.elements c.self.inside.storage) i w) span.from in
+    let left : (w : List _) → st w ≡ overwrite (g.S.Storage.elements c.self.inside.storage) c.self.inside.head.read_at w = λ w. g.met.S.Storage.part_written c.self.inside.storage p w ∙ ap (λ i. overwrite (g.S.Storage.elements c.self.inside.storage) i w) span.from in
     let lent = shown_head _ _ is c.self.invariant _ _ k (span.from ∙ read) (omega arith) (omega (arith, count)) _ c.part_mut.ensures.value in (
       (refl, λ w. ap (ring_at (st w)) span.place ∙ left_off _ _ is c.self.invariant k _ _ count next (st w) w (left w)),
       record {

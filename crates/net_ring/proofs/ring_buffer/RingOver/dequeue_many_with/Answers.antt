@@ -42,9 +42,9 @@ invariant_of-self g c =
     (record { shown = c.part_mut.result; shows = lent.0; left = at_last c.part_mut.result c.f-answer.new.arg2; leaves = refl; met = c.f-answer.ensures }) in
     let old = c.args.self.now in
     let n = c.f-answer.result.0 in
-    let law = g.met.S.Storage.part_written c.self.inside.storage c.self.inside.place.read_at c.f-answer.new.arg2 in
+    let law = g.met.S.Storage.part_written c.self.inside.storage c.self.inside.head.read_at c.f-answer.new.arg2 in
     let next = found _ _ is c.self.invariant c.capacity-capacity.result n _ c.capacity-capacity.ensures.capacity refl in
-    subst (λ q. IsWellFormed (ring_at (g.S.Storage.elements (g.S.Storage.with_part c.self.inside.storage c.self.inside.place.read_at c.f-answer.new.arg2)) q)) (sym c.dequeue_contiguous.ensures.place)
+    subst (λ q. IsWellFormed (ring_at (g.S.Storage.elements (g.S.Storage.with_part c.self.inside.storage c.self.inside.head.read_at c.f-answer.new.arg2)) q)) (sym c.dequeue_contiguous.ensures.place)
     (off_wf _ old is c.self.invariant n _ _ c.f-answer.new.arg2 _ next (omega (arith, le, (well _ old is c.self.invariant).1))
     (omega arith) law)
 
@@ -61,8 +61,8 @@ returns g c =
     record { shown = c.part_mut.result; shows = lent.0; left = at_last c.part_mut.result after; leaves = refl; met = c.f-answer.ensures } in
     let long = c.f-answer.auto.arg2 ∙ lent.1 in
     let le = c.requires.count c.f-answer.result after met in
-    let st = g.S.Storage.elements (g.S.Storage.with_part c.self.inside.storage c.self.inside.place.read_at after) in
-    let law = g.met.S.Storage.part_written c.self.inside.storage c.self.inside.place.read_at after in
+    let st = g.S.Storage.elements (g.S.Storage.with_part c.self.inside.storage c.self.inside.head.read_at after) in
+    let law = g.met.S.Storage.part_written c.self.inside.storage c.self.inside.head.read_at after in
     let next = found _ _ is c.self.invariant c.capacity-capacity.result n _ c.capacity-capacity.ensures.capacity refl in
     let left = left_off_from _ _ is c.self.invariant n n _ refl next st after law long le in
     let same = ap (ring_at st) c.dequeue_contiguous.ensures.place in

@@ -21,11 +21,12 @@ f-answer-requires g c =
 some : (g : _) (c : goal.Joined-is_ok g) → c.args.self.now.count ≢ 0
 some g c = search rules
 
+-- writing over an element keeps the number of elements
 pub invariant_of-self : goal.invariant_of-self
 invariant_of-self g c =
-    let s = c.self.inside.storage in
-    let long = ap length (g.met.S.Storage.element_written s c.self.inside.place.read_at c.f-answer.new.arg2)
-    ∙ length-overwrite (g.S.Storage.elements s) c.self.inside.place.read_at (c.f-answer.new.arg2 ∷ []) in
+    let long : (s : _) (w : _) → length (g.S.Storage.elements (g.S.Storage.with_element s c.self.inside.head.read_at w))
+    ≡ length (g.S.Storage.elements s) = λ s w. ap length (g.met.S.Storage.element_written s c.self.inside.head.read_at w)
+    ∙ length-overwrite (g.S.Storage.elements s) c.self.inside.head.read_at (w ∷ []) in
     let size = ap (λ o. length o.storage) c.self.view_is in
     let read = ap (λ o. o.read_at) c.self.view_is in
     let counts = ap (λ o. o.count) c.self.view_is in
@@ -33,9 +34,9 @@ invariant_of-self g c =
 
 pub invariant_of-self-else-is_ok : goal.invariant_of-self-else-is_ok
 invariant_of-self-else-is_ok g c =
-    let s = c.self.inside.storage in
-    let long = ap length (g.met.S.Storage.element_written s c.self.inside.place.read_at c.f-answer.new.arg2)
-    ∙ length-overwrite (g.S.Storage.elements s) c.self.inside.place.read_at (c.f-answer.new.arg2 ∷ []) in
+    let long : (s : _) (w : _) → length (g.S.Storage.elements (g.S.Storage.with_element s c.self.inside.head.read_at w))
+    ≡ length (g.S.Storage.elements s) = λ s w. ap length (g.met.S.Storage.element_written s c.self.inside.head.read_at w)
+    ∙ length-overwrite (g.S.Storage.elements s) c.self.inside.head.read_at (w ∷ []) in
     grind (arith, long)
 
 pub returns-clause-called : goal.returns-clause-called
@@ -46,7 +47,7 @@ returns-clause-called g c =
     let x = c.element_mut.result.now in
     let y = c.f-answer.new.arg2 in
     let here = c.element_mut.ensures.value ∙ ap (λ o. slice_index_or o.storage o.read_at x) is in
-    let law = g.met.S.Storage.element_written c.self.inside.storage c.self.inside.place.read_at y in
+    let law = g.met.S.Storage.element_written c.self.inside.storage c.self.inside.head.read_at y in
     let read = ap (λ o. o.read_at) is in
     let counts = ap (λ o. o.count) is in
     let next = found _ _ is c.self.invariant c.capacity-capacity.result 1 _ c.capacity-capacity.ensures.capacity refl in

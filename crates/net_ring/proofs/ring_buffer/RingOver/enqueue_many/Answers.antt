@@ -14,16 +14,16 @@ returns g c =
     let old = rewind_if_empty c.args.self.now in
     let same = rewound_is c.args.self.now in
     let xs = g.S.Storage.elements c.self.inside.storage in
-    let moved = rewound_ring xs c.self.inside.place in
+    let moved = rewound_ring xs c.self.inside.head in
     let is = moved ∙ ap rewind_if_empty c.self.view_is in
-    let wf = subst IsWellFormed (sym moved) (rewind_wf (ring_at xs c.self.inside.place) c.self.invariant) in
+    let wf = subst IsWellFormed (sym moved) (rewind_wf (ring_at xs c.self.inside.head) c.self.invariant) in
     let span = c.enqueue_many-span.ensures in
     let p = c.enqueue_many-span.result.from in
     let k = c.enqueue_many-span.result.count in
     let size = c.count.ensures ∙ ap capacity is in
     let counts = ap (λ o. o.count) c.self.view_is in
     let at : p ≡ write_at old = found_next _ _ is wf c.count.result p size
-    (span.from ∙ ap (index_after c.count.result (rewound c.self.inside.place).read_at) (omega arith)) in
+    (span.from ∙ ap (index_after c.count.result (rewound c.self.inside.head).read_at) (omega arith)) in
     let count : k ≡ min c.args.size (contiguous_window old) = omega (arith, span.count, size, counts, at, same.1) in
     let st : List _ → List _ = λ w. g.S.Storage.elements (g.S.Storage.with_part c.self.inside.storage p w) in
     let lent = shown_next _ _ is wf _ _ k at (omega arith) (omega (arith, count)) _ c.part_mut.ensures.value in (

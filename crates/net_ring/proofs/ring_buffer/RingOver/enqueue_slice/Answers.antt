@@ -18,7 +18,7 @@ pub returns : goal.returns
 unfolding Makes
 returns g c =
     let s = c.self.inside.storage in
-    let p = c.self.inside.place in
+    let p = c.self.inside.head in
     let q = c.enqueue_slice.new.self in
     let ws = c.enqueue_slice.new.storage in
     let met = c.enqueue_slice.ensures in

@@ -1,7 +1,7 @@
 use Rattle.std.proofs.Common.{◌≡◌, ap, arith, subst}
 use Rattle.net_ring.specs.Ring.{queue, queue_index, contiguous_allocated, IsWellFormed}
 use Rattle.net_ring.proofs.RingFacts.{found_queued, shown_in_queue, first_in_queue}
-use Rattle.net_ring.proofs.RingParts.{each_of, end_of}
+use Rattle.net_ring.proofs.QueueParts.{each_of, end_of}
 use Rattle.net_ring.proofs.ring_buffer.RingOver.get_allocated.Goals as goal
 
 pub returns : goal.returns

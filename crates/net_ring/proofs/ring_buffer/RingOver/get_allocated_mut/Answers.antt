@@ -1,7 +1,7 @@
 use Rattle.std.proofs.Common.{◌≡◌, ◌∙◌, refl, ap, arith}
 use Rattle.net_ring.specs.Ring.{capacity, queue, queue_index, contiguous_allocated}
 use Rattle.net_ring.proofs.RingFacts.{well, found_queued, left_at, shown_in_queue, queue_part_law, first_in_queue}
-use Rattle.net_ring.proofs.RingParts.{each_of, end_of}
+use Rattle.net_ring.proofs.QueueParts.{each_of, end_of}
 use Rattle.net_ring.specs.RingHistory.{Makes}
 use Rattle.net_ring.proofs.ring_buffer.RingOver.get_allocated_mut.Goals as goal
 

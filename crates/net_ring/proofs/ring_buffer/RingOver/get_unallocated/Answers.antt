@@ -1,7 +1,7 @@
 use Rattle.std.proofs.Common.{◌≡◌, ◌∙◌, refl, ap, arith}
 use Rattle.net_ring.specs.Ring.{capacity, spare, spare_index, contiguous_unallocated}
 use Rattle.net_ring.proofs.RingFacts.{well, found_free, left_at, shown_spare, spare_part_law, contiguous_free_some}
-use Rattle.net_ring.proofs.RingParts.{each_of, end_of}
+use Rattle.net_ring.proofs.QueueParts.{each_of, end_of}
 use Rattle.net_ring.specs.RingHistory.{Makes}
 use Rattle.net_ring.proofs.ring_buffer.RingOver.get_unallocated.Goals as goal
 

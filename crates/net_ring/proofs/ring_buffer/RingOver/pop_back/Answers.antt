@@ -2,7 +2,7 @@ use Rattle.std.proofs.Common.{rules, ◌≡◌, ◌-◌, ◌++◌, ◌∷◌, []
 use Rattle.net_ring.specs.Ring.{queue, spare}
 use Rattle.net_ring.specs.RingHead.{ring_at}
 use Rattle.net_ring.proofs.RingFacts.{well}
-use Rattle.net_ring.proofs.LastElement.{off_back}
+use Rattle.net_ring.proofs.QueueParts.{off_back}
 use Rattle.net_ring.specs.RingHistory.{Makes}
 use Rattle.net_ring.proofs.ring_buffer.RingOver.pop_back.Goals as goal
 

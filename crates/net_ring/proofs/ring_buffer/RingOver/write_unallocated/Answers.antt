@@ -26,7 +26,7 @@ returns-clause-ring g c =
     let xs = g.S.Storage.elements c.self.inside.storage in
     let ws = c.write_unallocated.new.storage in
     let all = lent_whole c.count-capacity.result xs c.part_mut.result.now ws c.count-capacity.ensures c.part_mut.ensures.value c.write_unallocated.ensures.size in
-    let place = c.self.inside.place in
+    let place = c.self.inside.head in
     ap (λ l. ring_at l place) (g.met.S.Storage.part_written c.self.inside.storage 0 ws ∙ all.1)
     ∙ c.write_unallocated.ensures.ring
     ∙ ap (λ o. with_elements_wrapping o (spare_index o c.args.offset) (take c.write_unallocated.result c.args.«data».now))
@@ -37,7 +37,7 @@ returns-clause-written g c =
     let all = lent_whole c.count-capacity.result (g.S.Storage.elements c.self.inside.storage) c.part_mut.result.now c.write_unallocated.new.storage
     c.count-capacity.ensures c.part_mut.ensures.value c.write_unallocated.ensures.size in
     let count = c.write_unallocated.ensures.count ∙ ap (λ o. min (length c.args.«data».now) (window o - c.args.offset))
-    (ap (λ l. ring_at l c.self.inside.place) all.0 ∙ c.self.view_is) in
+    (ap (λ l. ring_at l c.self.inside.head) all.0 ∙ c.self.view_is) in
     ahead_clause _ _ c.self.view_is c.self.invariant c.args.offset c.write_unallocated.result c.args.«data».now _ count (returns-clause-ring g c)
 
 pub returns-clause-same : goal.returns-clause-same
@@ -51,5 +51,5 @@ returns-clause-call g c =
     let n = c.write_unallocated.result in
     let all = lent_whole c.count-capacity.result (g.S.Storage.elements c.self.inside.storage) c.part_mut.result.now c.write_unallocated.new.storage
     c.count-capacity.ensures c.part_mut.ensures.value c.write_unallocated.ensures.size in
-    let room = ap window (ap (λ l. ring_at l c.self.inside.place) all.0 ∙ c.self.view_is) in
+    let room = ap window (ap (λ l. ring_at l c.self.inside.head) all.0 ∙ c.self.view_is) in
     (omega (arith, length-take n c.args.«data».now, c.write_unallocated.ensures.count, room), returns-clause-ring g c)

@@ -3,7 +3,7 @@
 //! The slots are lent: as many packets are reassembled at a time. smoltcp has such a table of its own
 //! buffers, `PacketAssemblerSet`.
 
-use super::buffer::FragmentsOver;
+use super::FragmentsOver;
 use crate::proved::net_base::time::Instant;
 use crate::proved::net_ring::{Full, Storage};
 
@@ -16,7 +16,7 @@ pub struct FragmentSlot<K, B: Storage<u8>, const N: usize> {
 }
 
 impl<K: Copy + Eq, B: Storage<u8>, const N: usize> FragmentSlot<K, B, N> {
-    /// Returns a free slot over the bytes.
+    /// Returns a free slot over the bytes, whose buffer is empty and expires after the origin.
     ///
     /// # Requires, else it panics
     ///
@@ -30,6 +30,8 @@ impl<K: Copy + Eq, B: Storage<u8>, const N: usize> FragmentSlot<K, B, N> {
     /// requires { 1 ≤ N }
     /// ensures key { result.key ≡ None }
     /// ensures bytes { result.buffer.bytes ≡ B.elements bytes }
+    /// ensures nothing { (result.buffer.present ≡ nothing) × (result.buffer.total ≡ None) }
+    /// ensures expires { result.buffer.expires_at ≡ pos 0 }
     /// ```
     pub fn over(bytes: B) -> Self {
         const { assert!(N >= 1, "a buffer of fragments has at least one run") };

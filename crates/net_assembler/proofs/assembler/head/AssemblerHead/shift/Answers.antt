@@ -2,7 +2,7 @@ use Rattle.std.proofs.Common.{◌∙◌, ◌-◌, ap, sym, arith}
 use Rattle.net_assembler.specs.Positions.{shift_down}
 use Rattle.net_assembler.specs.RunLists.{runs_of, set_of, set_of_runs, used_runs}
 use Rattle.net_assembler.proofs.Runs.{set-shifted_down}
-use Rattle.net_assembler.proofs.ShiftedRuns.{down-less, down-none}
+use Rattle.net_assembler.proofs.ShiftedRuns.{down-less, down-none, fits-less}
 use Rattle.net_assembler.proofs.Heads.{cut_fits, cut_left, cut_rises, dropped_number, ends_rise, left_set}
 use Rattle.net_assembler.proofs.Heads.{length-runs_of, length-used_runs, lowered, pairs_apart, runs-set_of}
 use Rattle.net_assembler.proofs.Heads.{starts_by}
@@ -30,6 +30,11 @@ returns-then-self-eq0-clause-set c =
     let xs = c.args.runs.now in
     ap set_of_runs (sym (down-none c.args.count (runs_of h xs) (length-runs_of h xs c.requires ∙ omega arith)))
     ∙ set-shifted_down (runs_of h xs) 0 c.args.count (λ k l. absurd (omega arith))
+
+pub runs_starting_by-met-requires-clause-fits : goal.runs_starting_by-met-requires-clause-fits
+runs_starting_by-met-requires-clause-fits c =
+    let h = c.args.self.now in
+    fits-less 0 h.first_start (used_runs h c.args.runs.now) (omega arith) c.requires.fits
 
 pub returns-then-end-by-clause-set : goal.returns-then-end-by-clause-set
 returns-then-end-by-clause-set c =
@@ -59,7 +64,7 @@ drop_front-requires-2-clause-runs c =
     let n = c.runs_starting_by-met.result in
     let pairs = length-used_runs h xs c.requires in
     cut_rises h xs c.requires (n - 1) (c.args.count - h.first_start) c.end_of-end.result (omega (arith, met.from, met.within)) c.end_of-end.ensures
-    (starts_by h xs c.requires n (c.args.count - h.first_start) (omega (arith, met.from)) (omega (arith, met.within)) met.before) (omega arith)
+    (starts_by h xs c.requires n (c.args.count - h.first_start) (omega (arith, met.from)) (omega (arith, met.within)) (λ k a b. omega (arith, met.before k a b))) (omega arith)
 
 pub drop_front-requires-2-clause-fits : goal.drop_front-requires-2-clause-fits
 drop_front-requires-2-clause-fits c =
@@ -69,7 +74,7 @@ drop_front-requires-2-clause-fits c =
     let n = c.runs_starting_by-met.result in
     let pairs = length-used_runs h xs c.requires in
     cut_fits h xs c.requires (n - 1) (c.args.count - h.first_start) c.end_of-end.result (omega (arith, met.from, met.within)) c.end_of-end.ensures
-    (starts_by h xs c.requires n (c.args.count - h.first_start) (omega (arith, met.from)) (omega (arith, met.within)) met.before) (omega arith)
+    (starts_by h xs c.requires n (c.args.count - h.first_start) (omega (arith, met.from)) (omega (arith, met.within)) (λ k a b. omega (arith, met.before k a b))) (omega arith)
 
 pub returns-clause-set : goal.returns-clause-set
 returns-clause-set c =
@@ -79,7 +84,7 @@ returns-clause-set c =
     let n = c.runs_starting_by-met.result in
     let m = c.args.count - h.first_start in
     let pairs = length-used_runs h xs c.requires in
-    let start = starts_by h xs c.requires n m (omega (arith, met.from)) (omega (arith, met.within)) met.before in
+    let start = starts_by h xs c.requires n m (omega (arith, met.from)) (omega (arith, met.within)) (λ k a b. omega (arith, met.before k a b)) in
     left_set h xs c.requires (n - 1) m c.drop_front-2.new.self c.drop_front-2.new.runs (omega (arith, met.within))
     (λ k l. omega (arith, start, pairs_apart h xs c.requires k (n - 1) l (omega (arith, met.from, met.within))))
     (c.drop_front-2.ensures.runs
@@ -94,7 +99,7 @@ returns-clause-fewer c =
     let n = c.runs_starting_by-met.result in
     let m = c.args.count - h.first_start in
     let pairs = length-used_runs h xs c.requires in
-    let start = starts_by h xs c.requires n m (omega (arith, met.from)) (omega (arith, met.within)) met.before in
+    let start = starts_by h xs c.requires n m (omega (arith, met.from)) (omega (arith, met.within)) (λ k a b. omega (arith, met.before k a b)) in
     let left = dropped_number h xs c.requires (n - 1) m c.drop_front-2.new.self c.drop_front-2.new.runs c.drop_front-2.ensures.sound
     (c.drop_front-2.ensures.runs
     ∙ cut_left h xs c.requires (n - 1) m c.end_of-end.result (omega (arith, met.from, met.within)) c.end_of-end.ensures start (omega arith)) in

@@ -1,0 +1,811 @@
+//! The exports with C's convention. Written by tools/ffi.py.
+#![allow(clippy::missing_safety_doc, clippy::too_many_arguments)]
+use crate::{slice, slice_mut};
+use proved::exports::*;
+
+#[unsafe(no_mangle)]
+pub extern "C" fn net_base_ring_is_sound(place: Option<&RingHead>, capacity: usize) -> bool {
+    let Some(place) = place else { return false };
+    heads::ring::net_base_ring_is_sound(place, capacity)
+}
+
+#[unsafe(no_mangle)]
+pub extern "C" fn net_base_ring_unallocated(place: Option<&RingHead>, capacity: usize, offset: usize, size: usize) -> Span {
+    let Some(place) = place else { return Span { from: usize::MAX, count: 0, contiguous: 0 } };
+    heads::ring::net_base_ring_unallocated(place, capacity, offset, size)
+}
+
+#[unsafe(no_mangle)]
+pub extern "C" fn net_base_ring_allocated(place: Option<&RingHead>, capacity: usize, offset: usize, size: usize) -> Span {
+    let Some(place) = place else { return Span { from: usize::MAX, count: 0, contiguous: 0 } };
+    heads::ring::net_base_ring_allocated(place, capacity, offset, size)
+}
+
+#[unsafe(no_mangle)]
+pub extern "C" fn net_base_ring_clear(place: Option<&mut RingHead>) {
+    let Some(place) = place else { return };
+    heads::ring::net_base_ring_clear(place)
+}
+
+#[unsafe(no_mangle)]
+pub extern "C" fn net_base_ring_rewind_if_empty(place: Option<&mut RingHead>) {
+    let Some(place) = place else { return };
+    heads::ring::net_base_ring_rewind_if_empty(place)
+}
+
+#[unsafe(no_mangle)]
+pub extern "C" fn net_base_ring_enqueue(place: Option<&mut RingHead>, capacity: usize, count: usize) -> bool {
+    let Some(place) = place else { return false };
+    heads::ring::net_base_ring_enqueue(place, capacity, count)
+}
+
+#[unsafe(no_mangle)]
+pub extern "C" fn net_base_ring_dequeue(place: Option<&mut RingHead>, capacity: usize, count: usize) -> bool {
+    let Some(place) = place else { return false };
+    heads::ring::net_base_ring_dequeue(place, capacity, count)
+}
+
+#[unsafe(no_mangle)]
+pub extern "C" fn net_base_ring_drop_last(place: Option<&mut RingHead>, count: usize) -> bool {
+    let Some(place) = place else { return false };
+    heads::ring::net_base_ring_drop_last(place, count)
+}
+
+#[unsafe(no_mangle)]
+pub extern "C" fn net_base_ring_enqueue_span(place: Option<&mut RingHead>, capacity: usize, size: usize) -> Span {
+    let Some(place) = place else { return Span { from: usize::MAX, count: 0, contiguous: 0 } };
+    heads::ring::net_base_ring_enqueue_span(place, capacity, size)
+}
+
+#[unsafe(no_mangle)]
+pub extern "C" fn net_base_ring_enqueue_many(place: Option<&mut RingHead>, capacity: usize, size: usize) -> Span {
+    let Some(place) = place else { return Span { from: usize::MAX, count: 0, contiguous: 0 } };
+    heads::ring::net_base_ring_enqueue_many(place, capacity, size)
+}
+
+#[unsafe(no_mangle)]
+pub extern "C" fn net_base_ring_dequeue_span(place: Option<&mut RingHead>, capacity: usize, size: usize) -> Span {
+    let Some(place) = place else { return Span { from: usize::MAX, count: 0, contiguous: 0 } };
+    heads::ring::net_base_ring_dequeue_span(place, capacity, size)
+}
+
+#[unsafe(no_mangle)]
+pub extern "C" fn net_base_ring_dequeue_many(place: Option<&mut RingHead>, capacity: usize, size: usize) -> Span {
+    let Some(place) = place else { return Span { from: usize::MAX, count: 0, contiguous: 0 } };
+    heads::ring::net_base_ring_dequeue_many(place, capacity, size)
+}
+
+#[unsafe(no_mangle)]
+pub unsafe extern "C" fn net_base_ring_write_unallocated(place: Option<&RingHead>, storage: *mut u8, storage_length: usize, offset: usize, data: *const u8, data_length: usize) -> usize {
+    let Some(place) = place else { return usize::MAX };
+    let Some(storage) = slice_mut(storage, storage_length) else { return usize::MAX };
+    let Some(data) = slice(data, data_length) else { return usize::MAX };
+    heads::ring::net_base_ring_write_unallocated(place, storage, offset, data)
+}
+
+#[unsafe(no_mangle)]
+pub unsafe extern "C" fn net_base_ring_read_allocated(place: Option<&RingHead>, storage: *const u8, storage_length: usize, offset: usize, into: *mut u8, into_length: usize) -> usize {
+    let Some(place) = place else { return usize::MAX };
+    let Some(storage) = slice(storage, storage_length) else { return usize::MAX };
+    let Some(into) = slice_mut(into, into_length) else { return usize::MAX };
+    heads::ring::net_base_ring_read_allocated(place, storage, offset, into)
+}
+
+#[unsafe(no_mangle)]
+pub unsafe extern "C" fn net_base_ring_enqueue_slice(place: Option<&mut RingHead>, storage: *mut u8, storage_length: usize, data: *const u8, data_length: usize) -> usize {
+    let Some(place) = place else { return usize::MAX };
+    let Some(storage) = slice_mut(storage, storage_length) else { return usize::MAX };
+    let Some(data) = slice(data, data_length) else { return usize::MAX };
+    heads::ring::net_base_ring_enqueue_slice(place, storage, data)
+}
+
+#[unsafe(no_mangle)]
+pub unsafe extern "C" fn net_base_ring_dequeue_slice(place: Option<&mut RingHead>, storage: *const u8, storage_length: usize, into: *mut u8, into_length: usize) -> usize {
+    let Some(place) = place else { return usize::MAX };
+    let Some(storage) = slice(storage, storage_length) else { return usize::MAX };
+    let Some(into) = slice_mut(into, into_length) else { return usize::MAX };
+    heads::ring::net_base_ring_dequeue_slice(place, storage, into)
+}
+
+#[unsafe(no_mangle)]
+pub extern "C" fn net_base_ring_enqueue_one(place: Option<&mut RingHead>, capacity: usize) -> usize {
+    let Some(place) = place else { return usize::MAX };
+    ring::net_base_ring_enqueue_one(place, capacity)
+}
+
+#[unsafe(no_mangle)]
+pub extern "C" fn net_base_ring_dequeue_one(place: Option<&mut RingHead>, capacity: usize) -> usize {
+    let Some(place) = place else { return usize::MAX };
+    ring::net_base_ring_dequeue_one(place, capacity)
+}
+
+#[unsafe(no_mangle)]
+pub unsafe extern "C" fn net_base_packets_is_sound(packets: Option<&PacketsHead>, slots: *const PacketSlot, slots_length: usize, capacity: usize) -> bool {
+    let Some(packets) = packets else { return false };
+    let Some(slots) = slice(slots, slots_length) else { return false };
+    heads::packets::net_base_packets_is_sound(packets, slots, capacity)
+}
+
+#[unsafe(no_mangle)]
+pub extern "C" fn net_base_packets_clear(packets: Option<&mut PacketsHead>) {
+    let Some(packets) = packets else { return };
+    heads::packets::net_base_packets_clear(packets)
+}
+
+#[unsafe(no_mangle)]
+pub unsafe extern "C" fn net_base_packets_shorten_last(packets: Option<&mut PacketsHead>, slots: *mut PacketSlot, slots_length: usize, capacity: usize, count: usize) -> bool {
+    let Some(packets) = packets else { return false };
+    let Some(slots) = slice_mut(slots, slots_length) else { return false };
+    heads::packets::net_base_packets_shorten_last(packets, slots, capacity, count)
+}
+
+#[unsafe(no_mangle)]
+pub unsafe extern "C" fn net_base_packets_enqueue(packets: Option<&mut PacketsHead>, slots: *mut PacketSlot, slots_length: usize, capacity: usize, size: usize) -> PacketPlace {
+    let Some(packets) = packets else { return PacketPlace { gap: usize::MAX, gap_slot: usize::MAX, slot: usize::MAX, from: usize::MAX } };
+    let Some(slots) = slice_mut(slots, slots_length) else { return PacketPlace { gap: usize::MAX, gap_slot: usize::MAX, slot: usize::MAX, from: usize::MAX } };
+    packets::net_base_packets_enqueue(packets, slots, capacity, size)
+}
+
+#[unsafe(no_mangle)]
+pub unsafe extern "C" fn net_base_packets_dequeue(packets: Option<&mut PacketsHead>, slots: *const PacketSlot, slots_length: usize, capacity: usize) -> FirstPacket {
+    let Some(packets) = packets else { return FirstPacket { gap: usize::MAX, slot: usize::MAX, from: usize::MAX, size: 0 } };
+    let Some(slots) = slice(slots, slots_length) else { return FirstPacket { gap: usize::MAX, slot: usize::MAX, from: usize::MAX, size: 0 } };
+    packets::net_base_packets_dequeue(packets, slots, capacity)
+}
+
+#[unsafe(no_mangle)]
+pub unsafe extern "C" fn net_base_packets_peek(packets: Option<&PacketsHead>, slots: *const PacketSlot, slots_length: usize, capacity: usize) -> FirstPacket {
+    let Some(packets) = packets else { return FirstPacket { gap: usize::MAX, slot: usize::MAX, from: usize::MAX, size: 0 } };
+    let Some(slots) = slice(slots, slots_length) else { return FirstPacket { gap: usize::MAX, slot: usize::MAX, from: usize::MAX, size: 0 } };
+    packets::net_base_packets_peek(packets, slots, capacity)
+}
+
+#[unsafe(no_mangle)]
+pub extern "C" fn net_base_packets_take_slot(packets: Option<&mut PacketsHead>, slot_count: usize, capacity: usize, first: Option<&PacketSlot>) -> usize {
+    let Some(packets) = packets else { return usize::MAX };
+    let Some(first) = first else { return usize::MAX };
+    packets::net_base_packets_take_slot(packets, slot_count, capacity, first)
+}
+
+#[unsafe(no_mangle)]
+pub unsafe extern "C" fn net_base_assembler_is_sound(assembler: Option<&AssemblerHead>, runs: *const Run, runs_length: usize) -> bool {
+    let Some(assembler) = assembler else { return false };
+    let Some(runs) = slice(runs, runs_length) else { return false };
+    heads::assembler::net_base_assembler_is_sound(assembler, runs)
+}
+
+#[unsafe(no_mangle)]
+pub extern "C" fn net_base_assembler_clear(assembler: Option<&mut AssemblerHead>) {
+    let Some(assembler) = assembler else { return };
+    heads::assembler::net_base_assembler_clear(assembler)
+}
+
+#[unsafe(no_mangle)]
+pub unsafe extern "C" fn net_base_assembler_add(assembler: Option<&mut AssemblerHead>, runs: *mut Run, runs_length: usize, offset: usize, size: usize) -> u32 {
+    let Some(assembler) = assembler else { return refusals::NET_BASE_REFUSED };
+    let Some(runs) = slice_mut(runs, runs_length) else { return refusals::NET_BASE_REFUSED };
+    heads::assembler::net_base_assembler_add(assembler, runs, offset, size)
+}
+
+#[unsafe(no_mangle)]
+pub unsafe extern "C" fn net_base_assembler_add_then_remove_front(assembler: Option<&mut AssemblerHead>, runs: *mut Run, runs_length: usize, offset: usize, size: usize) -> results::FrontLength {
+    let Some(assembler) = assembler else { return results::FrontLength { status: refusals::NET_BASE_REFUSED, length: 0 } };
+    let Some(runs) = slice_mut(runs, runs_length) else { return results::FrontLength { status: refusals::NET_BASE_REFUSED, length: 0 } };
+    heads::assembler::net_base_assembler_add_then_remove_front(assembler, runs, offset, size)
+}
+
+#[unsafe(no_mangle)]
+pub unsafe extern "C" fn net_base_assembler_remove_front(assembler: Option<&mut AssemblerHead>, runs: *mut Run, runs_length: usize) -> results::FrontLength {
+    let Some(assembler) = assembler else { return results::FrontLength { status: refusals::NET_BASE_REFUSED, length: 0 } };
+    let Some(runs) = slice_mut(runs, runs_length) else { return results::FrontLength { status: refusals::NET_BASE_REFUSED, length: 0 } };
+    heads::assembler::net_base_assembler_remove_front(assembler, runs)
+}
+
+#[unsafe(no_mangle)]
+pub unsafe extern "C" fn net_base_assembler_shift(assembler: Option<&mut AssemblerHead>, runs: *mut Run, runs_length: usize, count: usize) -> bool {
+    let Some(assembler) = assembler else { return false };
+    let Some(runs) = slice_mut(runs, runs_length) else { return false };
+    heads::assembler::net_base_assembler_shift(assembler, runs, count)
+}
+
+#[unsafe(no_mangle)]
+pub unsafe extern "C" fn net_base_assembler_peek_front(assembler: Option<&AssemblerHead>, runs: *const Run, runs_length: usize) -> results::FrontLength {
+    let Some(assembler) = assembler else { return results::FrontLength { status: refusals::NET_BASE_REFUSED, length: 0 } };
+    let Some(runs) = slice(runs, runs_length) else { return results::FrontLength { status: refusals::NET_BASE_REFUSED, length: 0 } };
+    heads::assembler::net_base_assembler_peek_front(assembler, runs)
+}
+
+#[unsafe(no_mangle)]
+pub unsafe extern "C" fn net_base_assembler_contains(assembler: Option<&AssemblerHead>, runs: *const Run, runs_length: usize, position: usize) -> u32 {
+    let Some(assembler) = assembler else { return refusals::NET_BASE_REFUSED };
+    let Some(runs) = slice(runs, runs_length) else { return refusals::NET_BASE_REFUSED };
+    heads::assembler::net_base_assembler_contains(assembler, runs, position)
+}
+
+#[unsafe(no_mangle)]
+pub unsafe extern "C" fn net_base_assembler_run_at(assembler: Option<&AssemblerHead>, runs: *const Run, runs_length: usize, index: usize) -> Run {
+    let Some(assembler) = assembler else { return Run { start: usize::MAX, end: usize::MAX } };
+    let Some(runs) = slice(runs, runs_length) else { return Run { start: usize::MAX, end: usize::MAX } };
+    heads::assembler::net_base_assembler_run_at(assembler, runs, index)
+}
+
+#[unsafe(no_mangle)]
+pub unsafe extern "C" fn net_base_assembler_hole_at(assembler: Option<&AssemblerHead>, runs: *const Run, runs_length: usize, index: usize) -> Run {
+    let Some(assembler) = assembler else { return Run { start: usize::MAX, end: usize::MAX } };
+    let Some(runs) = slice(runs, runs_length) else { return Run { start: usize::MAX, end: usize::MAX } };
+    heads::assembler::net_base_assembler_hole_at(assembler, runs, index)
+}
+
+#[unsafe(no_mangle)]
+pub unsafe extern "C" fn net_base_fragments_is_sound(fragments: Option<&FragmentsHead>, capacity: usize, runs: *const Run, runs_length: usize) -> bool {
+    let Some(fragments) = fragments else { return false };
+    let Some(runs) = slice(runs, runs_length) else { return false };
+    heads::fragments::net_base_fragments_is_sound(fragments, capacity, runs)
+}
+
+#[unsafe(no_mangle)]
+pub extern "C" fn net_base_fragments_reset(fragments: Option<&mut FragmentsHead>, expires_at: i64) {
+    let Some(fragments) = fragments else { return };
+    heads::fragments::net_base_fragments_reset(fragments, expires_at)
+}
+
+#[unsafe(no_mangle)]
+pub extern "C" fn net_base_fragments_set_total_size(fragments: Option<&mut FragmentsHead>, capacity: usize, size: usize) -> u32 {
+    let Some(fragments) = fragments else { return refusals::NET_BASE_REFUSED };
+    heads::fragments::net_base_fragments_set_total_size(fragments, capacity, size)
+}
+
+#[unsafe(no_mangle)]
+pub unsafe extern "C" fn net_base_fragments_overlaps(fragments: Option<&FragmentsHead>, runs: *const Run, runs_length: usize, offset: usize, count: usize) -> u32 {
+    let Some(fragments) = fragments else { return refusals::NET_BASE_REFUSED };
+    let Some(runs) = slice(runs, runs_length) else { return refusals::NET_BASE_REFUSED };
+    heads::fragments::net_base_fragments_overlaps(fragments, runs, offset, count)
+}
+
+#[unsafe(no_mangle)]
+pub extern "C" fn net_base_fragments_is_expired(fragments: Option<&FragmentsHead>, now: i64) -> bool {
+    let Some(fragments) = fragments else { return false };
+    heads::fragments::net_base_fragments_is_expired(fragments, now)
+}
+
+#[unsafe(no_mangle)]
+pub unsafe extern "C" fn net_base_fragments_add(fragments: Option<&mut FragmentsHead>, storage: *mut u8, storage_length: usize, runs: *mut Run, runs_length: usize, offset: usize, data: *const u8, data_length: usize) -> u32 {
+    let Some(fragments) = fragments else { return refusals::NET_BASE_REFUSED };
+    let Some(storage) = slice_mut(storage, storage_length) else { return refusals::NET_BASE_REFUSED };
+    let Some(runs) = slice_mut(runs, runs_length) else { return refusals::NET_BASE_REFUSED };
+    let Some(data) = slice(data, data_length) else { return refusals::NET_BASE_REFUSED };
+    fragments::net_base_fragments_add(fragments, storage, runs, offset, data)
+}
+
+#[unsafe(no_mangle)]
+pub unsafe extern "C" fn net_base_fragments_complete(fragments: Option<&FragmentsHead>, capacity: usize, runs: *const Run, runs_length: usize) -> results::FrontLength {
+    let Some(fragments) = fragments else { return results::FrontLength { status: refusals::NET_BASE_REFUSED, length: 0 } };
+    let Some(runs) = slice(runs, runs_length) else { return results::FrontLength { status: refusals::NET_BASE_REFUSED, length: 0 } };
+    fragments::net_base_fragments_complete(fragments, capacity, runs)
+}
+
+#[unsafe(no_mangle)]
+pub unsafe extern "C" fn net_base_receiver_is_sound(receiver: Option<&ReceiverHead>, storage: *const u8, storage_length: usize, runs: *const Run, runs_length: usize) -> bool {
+    let Some(receiver) = receiver else { return false };
+    let Some(storage) = slice(storage, storage_length) else { return false };
+    let Some(runs) = slice(runs, runs_length) else { return false };
+    heads::receiver::net_base_receiver_is_sound(receiver, storage, runs)
+}
+
+#[unsafe(no_mangle)]
+pub extern "C" fn net_base_receiver_next(receiver: Option<&ReceiverHead>, next: Option<&mut u64>) -> bool {
+    let Some(receiver) = receiver else { return false };
+    let Some(next) = next else { return false };
+    heads::receiver::net_base_receiver_next(receiver, next)
+}
+
+#[unsafe(no_mangle)]
+pub extern "C" fn net_base_receiver_window(receiver: Option<&ReceiverHead>, capacity: usize) -> usize {
+    let Some(receiver) = receiver else { return usize::MAX };
+    heads::receiver::net_base_receiver_window(receiver, capacity)
+}
+
+#[unsafe(no_mangle)]
+pub unsafe extern "C" fn net_base_receiver_read(receiver: Option<&mut ReceiverHead>, storage: *const u8, storage_length: usize, into: *mut u8, into_length: usize) -> usize {
+    let Some(receiver) = receiver else { return usize::MAX };
+    let Some(storage) = slice(storage, storage_length) else { return usize::MAX };
+    let Some(into) = slice_mut(into, into_length) else { return usize::MAX };
+    heads::receiver::net_base_receiver_read(receiver, storage, into)
+}
+
+#[unsafe(no_mangle)]
+pub unsafe extern "C" fn net_base_receiver_peek_slice(receiver: Option<&ReceiverHead>, storage: *const u8, storage_length: usize, into: *mut u8, into_length: usize) -> usize {
+    let Some(receiver) = receiver else { return usize::MAX };
+    let Some(storage) = slice(storage, storage_length) else { return usize::MAX };
+    let Some(into) = slice_mut(into, into_length) else { return usize::MAX };
+    heads::receiver::net_base_receiver_peek_slice(receiver, storage, into)
+}
+
+#[unsafe(no_mangle)]
+pub extern "C" fn net_base_receiver_remove(receiver: Option<&mut ReceiverHead>, capacity: usize, count: usize) -> bool {
+    let Some(receiver) = receiver else { return false };
+    heads::receiver::net_base_receiver_remove(receiver, capacity, count)
+}
+
+#[unsafe(no_mangle)]
+pub unsafe extern "C" fn net_base_receiver_newest_runs(receiver: Option<&ReceiverHead>, storage: *const u8, storage_length: usize, runs: *const Run, runs_length: usize, position: u64, recent: *mut u64, recent_length: usize, into: *mut HeldRun, into_length: usize) -> usize {
+    let Some(receiver) = receiver else { return usize::MAX };
+    let Some(storage) = slice(storage, storage_length) else { return usize::MAX };
+    let Some(runs) = slice(runs, runs_length) else { return usize::MAX };
+    let Some(recent) = slice_mut(recent, recent_length) else { return usize::MAX };
+    let Some(into) = slice_mut(into, into_length) else { return usize::MAX };
+    heads::receiver::net_base_receiver_newest_runs(receiver, storage, runs, position, recent, into)
+}
+
+#[unsafe(no_mangle)]
+pub unsafe extern "C" fn net_base_receiver_count_new(receiver: Option<&ReceiverHead>, storage: *const u8, storage_length: usize, runs: *const Run, runs_length: usize, position: u64, len: usize) -> usize {
+    let Some(receiver) = receiver else { return usize::MAX };
+    let Some(storage) = slice(storage, storage_length) else { return usize::MAX };
+    let Some(runs) = slice(runs, runs_length) else { return usize::MAX };
+    heads::receiver::net_base_receiver_count_new(receiver, storage, runs, position, len)
+}
+
+#[unsafe(no_mangle)]
+pub unsafe extern "C" fn net_base_receiver_segment(receiver: Option<&mut ReceiverHead>, storage: *mut u8, storage_length: usize, runs: *mut Run, runs_length: usize, position: u64, bytes: *const u8, bytes_length: usize, counts: Option<&mut receiver::KeptCounts>) -> u32 {
+    let Some(receiver) = receiver else { return refusals::NET_BASE_REFUSED };
+    let Some(storage) = slice_mut(storage, storage_length) else { return refusals::NET_BASE_REFUSED };
+    let Some(runs) = slice_mut(runs, runs_length) else { return refusals::NET_BASE_REFUSED };
+    let Some(bytes) = slice(bytes, bytes_length) else { return refusals::NET_BASE_REFUSED };
+    let Some(counts) = counts else { return refusals::NET_BASE_REFUSED };
+    receiver::net_base_receiver_segment(receiver, storage, runs, position, bytes, counts)
+}
+
+#[unsafe(no_mangle)]
+pub extern "C" fn net_base_receiver_window_end(receiver: Option<&ReceiverHead>, capacity: usize, end: Option<&mut u64>) -> bool {
+    let Some(receiver) = receiver else { return false };
+    let Some(end) = end else { return false };
+    receiver::net_base_receiver_window_end(receiver, capacity, end)
+}
+
+#[unsafe(no_mangle)]
+pub unsafe extern "C" fn net_base_receiver_run_at(receiver: Option<&ReceiverHead>, storage: *const u8, storage_length: usize, runs: *const Run, runs_length: usize, index: usize) -> HeldRun {
+    let Some(receiver) = receiver else { return HeldRun { start: u64::MAX, end: u64::MAX } };
+    let Some(storage) = slice(storage, storage_length) else { return HeldRun { start: u64::MAX, end: u64::MAX } };
+    let Some(runs) = slice(runs, runs_length) else { return HeldRun { start: u64::MAX, end: u64::MAX } };
+    receiver::net_base_receiver_run_at(receiver, storage, runs, index)
+}
+
+#[unsafe(no_mangle)]
+pub extern "C" fn net_base_sender_is_sound(sender: Option<&SenderHead>, capacity: usize) -> bool {
+    let Some(sender) = sender else { return false };
+    heads::sender::net_base_sender_is_sound(sender, capacity)
+}
+
+#[unsafe(no_mangle)]
+pub extern "C" fn net_base_sender_end(sender: Option<&SenderHead>, end: Option<&mut u64>) -> bool {
+    let Some(sender) = sender else { return false };
+    let Some(end) = end else { return false };
+    heads::sender::net_base_sender_end(sender, end)
+}
+
+#[unsafe(no_mangle)]
+pub extern "C" fn net_base_sender_room(sender: Option<&SenderHead>, capacity: usize) -> usize {
+    let Some(sender) = sender else { return usize::MAX };
+    heads::sender::net_base_sender_room(sender, capacity)
+}
+
+#[unsafe(no_mangle)]
+pub unsafe extern "C" fn net_base_sender_write(sender: Option<&mut SenderHead>, storage: *mut u8, storage_length: usize, bytes: *const u8, bytes_length: usize) -> usize {
+    let Some(sender) = sender else { return usize::MAX };
+    let Some(storage) = slice_mut(storage, storage_length) else { return usize::MAX };
+    let Some(bytes) = slice(bytes, bytes_length) else { return usize::MAX };
+    heads::sender::net_base_sender_write(sender, storage, bytes)
+}
+
+#[unsafe(no_mangle)]
+pub extern "C" fn net_base_sender_peek_at(sender: Option<&SenderHead>, capacity: usize, position: u64, max: usize) -> Span {
+    let Some(sender) = sender else { return Span { from: usize::MAX, count: 0, contiguous: 0 } };
+    heads::sender::net_base_sender_peek_at(sender, capacity, position, max)
+}
+
+#[unsafe(no_mangle)]
+pub extern "C" fn net_base_sender_acknowledge(sender: Option<&mut SenderHead>, capacity: usize, next: u64) -> bool {
+    let Some(sender) = sender else { return false };
+    heads::sender::net_base_sender_acknowledge(sender, capacity, next)
+}
+
+#[unsafe(no_mangle)]
+pub extern "C" fn net_base_sender_mark_sent(sender: Option<&SenderHead>, sent: Option<&mut u64>, position: u64) -> bool {
+    let Some(sender) = sender else { return false };
+    let Some(sent) = sent else { return false };
+    heads::sender::net_base_sender_mark_sent(sender, sent, position)
+}
+
+#[unsafe(no_mangle)]
+pub extern "C" fn net_base_sender_acknowledge_sent(sender: Option<&mut SenderHead>, capacity: usize, next: u64, sent: u64) -> bool {
+    let Some(sender) = sender else { return false };
+    heads::sender::net_base_sender_acknowledge_sent(sender, capacity, next, sent)
+}
+
+#[unsafe(no_mangle)]
+pub unsafe extern "C" fn net_base_scoreboard_is_sound(scoreboard: Option<&ScoreboardHead>, runs: *const Run, runs_length: usize) -> bool {
+    let Some(scoreboard) = scoreboard else { return false };
+    let Some(runs) = slice(runs, runs_length) else { return false };
+    heads::scoreboard::net_base_scoreboard_is_sound(scoreboard, runs)
+}
+
+#[unsafe(no_mangle)]
+pub extern "C" fn net_base_scoreboard_reset(scoreboard: Option<&mut ScoreboardHead>, first: u64) {
+    let Some(scoreboard) = scoreboard else { return };
+    heads::scoreboard::net_base_scoreboard_reset(scoreboard, first)
+}
+
+#[unsafe(no_mangle)]
+pub unsafe extern "C" fn net_base_scoreboard_report(scoreboard: Option<&mut ScoreboardHead>, runs: *mut Run, runs_length: usize, start: u64, end: u64, sent: u64) -> u32 {
+    let Some(scoreboard) = scoreboard else { return refusals::NET_BASE_REFUSED };
+    let Some(runs) = slice_mut(runs, runs_length) else { return refusals::NET_BASE_REFUSED };
+    heads::scoreboard::net_base_scoreboard_report(scoreboard, runs, start, end, sent)
+}
+
+#[unsafe(no_mangle)]
+pub unsafe extern "C" fn net_base_scoreboard_acknowledge(scoreboard: Option<&mut ScoreboardHead>, runs: *mut Run, runs_length: usize, next: u64) -> bool {
+    let Some(scoreboard) = scoreboard else { return false };
+    let Some(runs) = slice_mut(runs, runs_length) else { return false };
+    heads::scoreboard::net_base_scoreboard_acknowledge(scoreboard, runs, next)
+}
+
+#[unsafe(no_mangle)]
+pub unsafe extern "C" fn net_base_scoreboard_contains(scoreboard: Option<&ScoreboardHead>, runs: *const Run, runs_length: usize, position: u64) -> u32 {
+    let Some(scoreboard) = scoreboard else { return refusals::NET_BASE_REFUSED };
+    let Some(runs) = slice(runs, runs_length) else { return refusals::NET_BASE_REFUSED };
+    heads::scoreboard::net_base_scoreboard_contains(scoreboard, runs, position)
+}
+
+#[unsafe(no_mangle)]
+pub unsafe extern "C" fn net_base_scoreboard_next_hole(scoreboard: Option<&ScoreboardHead>, runs: *const Run, runs_length: usize, position: u64, limit: u64) -> results::Hole {
+    let Some(scoreboard) = scoreboard else { return results::Hole { status: refusals::NET_BASE_REFUSED, start: 0, end: 0 } };
+    let Some(runs) = slice(runs, runs_length) else { return results::Hole { status: refusals::NET_BASE_REFUSED, start: 0, end: 0 } };
+    heads::scoreboard::net_base_scoreboard_next_hole(scoreboard, runs, position, limit)
+}
+
+#[unsafe(no_mangle)]
+pub unsafe extern "C" fn net_base_scoreboard_highest_reported(scoreboard: Option<&ScoreboardHead>, runs: *const Run, runs_length: usize, end: Option<&mut u64>) -> bool {
+    let Some(scoreboard) = scoreboard else { return false };
+    let Some(runs) = slice(runs, runs_length) else { return false };
+    let Some(end) = end else { return false };
+    heads::scoreboard::net_base_scoreboard_highest_reported(scoreboard, runs, end)
+}
+
+#[unsafe(no_mangle)]
+pub unsafe extern "C" fn net_base_scoreboard_count_beyond(scoreboard: Option<&ScoreboardHead>, runs: *const Run, runs_length: usize) -> usize {
+    let Some(scoreboard) = scoreboard else { return usize::MAX };
+    let Some(runs) = slice(runs, runs_length) else { return usize::MAX };
+    heads::scoreboard::net_base_scoreboard_count_beyond(scoreboard, runs)
+}
+
+#[unsafe(no_mangle)]
+pub unsafe extern "C" fn net_base_scoreboard_lost_below(scoreboard: Option<&ScoreboardHead>, runs: *const Run, runs_length: usize, duplicates: usize, segment_size: usize, limit: Option<&mut u64>) -> bool {
+    let Some(scoreboard) = scoreboard else { return false };
+    let Some(runs) = slice(runs, runs_length) else { return false };
+    let Some(limit) = limit else { return false };
+    heads::scoreboard::net_base_scoreboard_lost_below(scoreboard, runs, duplicates, segment_size, limit)
+}
+
+#[unsafe(no_mangle)]
+pub unsafe extern "C" fn net_base_finite_receiver_is_sound(receiver: Option<&FiniteReceiverHead>, storage: *const u8, storage_length: usize, runs: *const Run, runs_length: usize) -> bool {
+    let Some(receiver) = receiver else { return false };
+    let Some(storage) = slice(storage, storage_length) else { return false };
+    let Some(runs) = slice(runs, runs_length) else { return false };
+    heads::finite_receiver::net_base_finite_receiver_is_sound(receiver, storage, runs)
+}
+
+#[unsafe(no_mangle)]
+pub unsafe extern "C" fn net_base_finite_receiver_can_end(receiver: Option<&FiniteReceiverHead>, storage: *const u8, storage_length: usize, runs: *const Run, runs_length: usize, position: u64) -> u32 {
+    let Some(receiver) = receiver else { return refusals::NET_BASE_REFUSED };
+    let Some(storage) = slice(storage, storage_length) else { return refusals::NET_BASE_REFUSED };
+    let Some(runs) = slice(runs, runs_length) else { return refusals::NET_BASE_REFUSED };
+    heads::finite_receiver::net_base_finite_receiver_can_end(receiver, storage, runs, position)
+}
+
+#[unsafe(no_mangle)]
+pub extern "C" fn net_base_finite_receiver_is_complete(receiver: Option<&FiniteReceiverHead>) -> u32 {
+    let Some(receiver) = receiver else { return refusals::NET_BASE_REFUSED };
+    heads::finite_receiver::net_base_finite_receiver_is_complete(receiver)
+}
+
+#[unsafe(no_mangle)]
+pub extern "C" fn net_base_finite_receiver_acknowledged(receiver: Option<&FiniteReceiverHead>, number: Option<&mut u64>) -> bool {
+    let Some(receiver) = receiver else { return false };
+    let Some(number) = number else { return false };
+    heads::finite_receiver::net_base_finite_receiver_acknowledged(receiver, number)
+}
+
+#[unsafe(no_mangle)]
+pub extern "C" fn net_base_finite_receiver_has_read_all(receiver: Option<&FiniteReceiverHead>) -> u32 {
+    let Some(receiver) = receiver else { return refusals::NET_BASE_REFUSED };
+    heads::finite_receiver::net_base_finite_receiver_has_read_all(receiver)
+}
+
+#[unsafe(no_mangle)]
+pub unsafe extern "C" fn net_base_finite_receiver_read(receiver: Option<&mut FiniteReceiverHead>, storage: *const u8, storage_length: usize, into: *mut u8, into_length: usize) -> usize {
+    let Some(receiver) = receiver else { return usize::MAX };
+    let Some(storage) = slice(storage, storage_length) else { return usize::MAX };
+    let Some(into) = slice_mut(into, into_length) else { return usize::MAX };
+    heads::finite_receiver::net_base_finite_receiver_read(receiver, storage, into)
+}
+
+#[unsafe(no_mangle)]
+pub unsafe extern "C" fn net_base_finite_receiver_is_acceptable(receiver: Option<&FiniteReceiverHead>, storage: *const u8, storage_length: usize, runs: *const Run, runs_length: usize, position: u64, count: u64) -> u32 {
+    let Some(receiver) = receiver else { return refusals::NET_BASE_REFUSED };
+    let Some(storage) = slice(storage, storage_length) else { return refusals::NET_BASE_REFUSED };
+    let Some(runs) = slice(runs, runs_length) else { return refusals::NET_BASE_REFUSED };
+    heads::finite_receiver::net_base_finite_receiver_is_acceptable(receiver, storage, runs, position, count)
+}
+
+#[unsafe(no_mangle)]
+pub unsafe extern "C" fn net_base_finite_receiver_count_new(receiver: Option<&FiniteReceiverHead>, storage: *const u8, storage_length: usize, runs: *const Run, runs_length: usize, position: u64, len: usize) -> usize {
+    let Some(receiver) = receiver else { return usize::MAX };
+    let Some(storage) = slice(storage, storage_length) else { return usize::MAX };
+    let Some(runs) = slice(runs, runs_length) else { return usize::MAX };
+    heads::finite_receiver::net_base_finite_receiver_count_new(receiver, storage, runs, position, len)
+}
+
+#[unsafe(no_mangle)]
+pub unsafe extern "C" fn net_base_finite_receiver_segment(receiver: Option<&mut FiniteReceiverHead>, storage: *mut u8, storage_length: usize, runs: *mut Run, runs_length: usize, position: u64, bytes: *const u8, bytes_length: usize, is_last: bool, counts: Option<&mut receiver::KeptCounts>) -> u32 {
+    let Some(receiver) = receiver else { return refusals::NET_BASE_REFUSED };
+    let Some(storage) = slice_mut(storage, storage_length) else { return refusals::NET_BASE_REFUSED };
+    let Some(runs) = slice_mut(runs, runs_length) else { return refusals::NET_BASE_REFUSED };
+    let Some(bytes) = slice(bytes, bytes_length) else { return refusals::NET_BASE_REFUSED };
+    let Some(counts) = counts else { return refusals::NET_BASE_REFUSED };
+    finite_receiver::net_base_finite_receiver_segment(receiver, storage, runs, position, bytes, is_last, counts)
+}
+
+#[unsafe(no_mangle)]
+pub extern "C" fn net_base_finite_sender_is_sound(sender: Option<&FiniteSenderHead>, capacity: usize) -> bool {
+    let Some(sender) = sender else { return false };
+    heads::finite_sender::net_base_finite_sender_is_sound(sender, capacity)
+}
+
+#[unsafe(no_mangle)]
+pub extern "C" fn net_base_finite_sender_first_number(sender: Option<&FiniteSenderHead>, capacity: usize, number: Option<&mut u64>) -> bool {
+    let Some(sender) = sender else { return false };
+    let Some(number) = number else { return false };
+    heads::finite_sender::net_base_finite_sender_first_number(sender, capacity, number)
+}
+
+#[unsafe(no_mangle)]
+pub extern "C" fn net_base_finite_sender_numbers_end(sender: Option<&FiniteSenderHead>, capacity: usize, number: Option<&mut u64>) -> bool {
+    let Some(sender) = sender else { return false };
+    let Some(number) = number else { return false };
+    heads::finite_sender::net_base_finite_sender_numbers_end(sender, capacity, number)
+}
+
+#[unsafe(no_mangle)]
+pub extern "C" fn net_base_finite_sender_room(sender: Option<&FiniteSenderHead>, capacity: usize) -> usize {
+    let Some(sender) = sender else { return usize::MAX };
+    heads::finite_sender::net_base_finite_sender_room(sender, capacity)
+}
+
+#[unsafe(no_mangle)]
+pub unsafe extern "C" fn net_base_finite_sender_write(sender: Option<&mut FiniteSenderHead>, storage: *mut u8, storage_length: usize, bytes: *const u8, bytes_length: usize) -> usize {
+    let Some(sender) = sender else { return usize::MAX };
+    let Some(storage) = slice_mut(storage, storage_length) else { return usize::MAX };
+    let Some(bytes) = slice(bytes, bytes_length) else { return usize::MAX };
+    heads::finite_sender::net_base_finite_sender_write(sender, storage, bytes)
+}
+
+#[unsafe(no_mangle)]
+pub extern "C" fn net_base_finite_sender_close(sender: Option<&mut FiniteSenderHead>, capacity: usize) -> bool {
+    let Some(sender) = sender else { return false };
+    heads::finite_sender::net_base_finite_sender_close(sender, capacity)
+}
+
+#[unsafe(no_mangle)]
+pub extern "C" fn net_base_finite_sender_has_end_at(sender: Option<&FiniteSenderHead>, capacity: usize, position: u64) -> u32 {
+    let Some(sender) = sender else { return refusals::NET_BASE_REFUSED };
+    heads::finite_sender::net_base_finite_sender_has_end_at(sender, capacity, position)
+}
+
+#[unsafe(no_mangle)]
+pub extern "C" fn net_base_finite_sender_mark_sent(sender: Option<&mut FiniteSenderHead>, capacity: usize, position: u64) -> bool {
+    let Some(sender) = sender else { return false };
+    heads::finite_sender::net_base_finite_sender_mark_sent(sender, capacity, position)
+}
+
+#[unsafe(no_mangle)]
+pub extern "C" fn net_base_finite_sender_acknowledge(sender: Option<&mut FiniteSenderHead>, capacity: usize, next: u64) -> bool {
+    let Some(sender) = sender else { return false };
+    heads::finite_sender::net_base_finite_sender_acknowledge(sender, capacity, next)
+}
+
+#[unsafe(no_mangle)]
+pub extern "C" fn net_base_finite_sender_is_block(sender: Option<&FiniteSenderHead>, start: u64, end: u64) -> bool {
+    let Some(sender) = sender else { return false };
+    heads::finite_sender::net_base_finite_sender_is_block(sender, start, end)
+}
+
+#[unsafe(no_mangle)]
+pub extern "C" fn net_base_finite_sender_is_closed(sender: Option<&FiniteSenderHead>) -> bool {
+    let Some(sender) = sender else { return false };
+    heads::finite_sender::net_base_finite_sender_is_closed(sender)
+}
+
+#[unsafe(no_mangle)]
+pub extern "C" fn net_base_finite_sender_is_closed_and_acknowledged(sender: Option<&FiniteSenderHead>) -> bool {
+    let Some(sender) = sender else { return false };
+    heads::finite_sender::net_base_finite_sender_is_closed_and_acknowledged(sender)
+}
+
+#[unsafe(no_mangle)]
+pub extern "C" fn net_base_tcp_is_acceptable(next: u64, window: u64, seq: u64, len: u64) -> bool {
+    heads::tcp::net_base_tcp_is_acceptable(next, window, seq, len)
+}
+
+#[unsafe(no_mangle)]
+pub extern "C" fn net_base_tcp_classify(next: u64, window: u64, segment: Option<&Segment>) -> u32 {
+    let Some(segment) = segment else { return refusals::NET_BASE_REFUSED };
+    heads::tcp::net_base_tcp_classify(next, window, segment)
+}
+
+#[unsafe(no_mangle)]
+pub extern "C" fn net_base_tcp_is_acknowledgement(first_unacknowledged: u64, sent: u64, greatest_window: u64, ack: u64) -> bool {
+    heads::tcp::net_base_tcp_is_acknowledgement(first_unacknowledged, sent, greatest_window, ack)
+}
+
+#[unsafe(no_mangle)]
+pub extern "C" fn net_base_tcp_scale_for(capacity: u64) -> u8 {
+    heads::tcp::net_base_tcp_scale_for(capacity)
+}
+
+#[unsafe(no_mangle)]
+pub extern "C" fn net_base_tcp_scaled(field: u16, scale: u8, bytes: Option<&mut u64>) -> bool {
+    let Some(bytes) = bytes else { return false };
+    heads::tcp::net_base_tcp_scaled(field, scale, bytes)
+}
+
+#[unsafe(no_mangle)]
+pub unsafe extern "C" fn net_base_tcp_checksum(bytes: *const u8, bytes_length: usize) -> u16 {
+    let Some(bytes) = slice(bytes, bytes_length) else { return 0 };
+    heads::tcp::net_base_tcp_checksum(bytes)
+}
+
+#[unsafe(no_mangle)]
+pub unsafe extern "C" fn net_base_tcp_is_checksum_valid(bytes: *const u8, bytes_length: usize) -> bool {
+    let Some(bytes) = slice(bytes, bytes_length) else { return false };
+    heads::tcp::net_base_tcp_is_checksum_valid(bytes)
+}
+
+#[unsafe(no_mangle)]
+pub extern "C" fn net_base_tcp_updated_checksum(checksum: u16, old: u16, value: u16) -> u16 {
+    heads::tcp::net_base_tcp_updated_checksum(checksum, old, value)
+}
+
+#[unsafe(no_mangle)]
+pub extern "C" fn net_base_advertised_window_announce(advertised: Option<&mut AdvertisedWindow>, scale: u8, next: u64, window_end: u64, number: Option<&mut u16>) -> bool {
+    let Some(advertised) = advertised else { return false };
+    let Some(number) = number else { return false };
+    heads::advertised_window::net_base_advertised_window_announce(advertised, scale, next, window_end, number)
+}
+
+#[unsafe(no_mangle)]
+pub extern "C" fn net_base_advertised_window_announce_in_steps(advertised: Option<&mut AdvertisedWindow>, scale: u8, next: u64, window_end: u64, capacity: u64, mss: u16, number: Option<&mut u16>) -> bool {
+    let Some(advertised) = advertised else { return false };
+    let Some(number) = number else { return false };
+    heads::advertised_window::net_base_advertised_window_announce_in_steps(advertised, scale, next, window_end, capacity, mss, number)
+}
+
+#[unsafe(no_mangle)]
+pub extern "C" fn net_base_advertised_window_is_update_due(advertised: Option<&AdvertisedWindow>, scale: u8, next: u64, window_end: u64, capacity: u64, mss: u16) -> u32 {
+    let Some(advertised) = advertised else { return refusals::NET_BASE_REFUSED };
+    heads::advertised_window::net_base_advertised_window_is_update_due(advertised, scale, next, window_end, capacity, mss)
+}
+
+#[unsafe(no_mangle)]
+pub extern "C" fn net_base_peer_window_update(peer: Option<&mut PeerWindow>, first_unacknowledged: u64, sent: u64, seq: u64, ack: u64, window: u64) -> bool {
+    let Some(peer) = peer else { return false };
+    heads::peer_window::net_base_peer_window_update(peer, first_unacknowledged, sent, seq, ack, window)
+}
+
+#[unsafe(no_mangle)]
+pub extern "C" fn net_base_peer_window_usable(peer: Option<&PeerWindow>, position: u64) -> u64 {
+    let Some(peer) = peer else { return u64::MAX };
+    heads::peer_window::net_base_peer_window_usable(peer, position)
+}
+
+#[unsafe(no_mangle)]
+pub extern "C" fn net_base_peer_window_send_limit(peer: Option<&PeerWindow>, end: u64) -> u64 {
+    let Some(peer) = peer else { return u64::MAX };
+    heads::peer_window::net_base_peer_window_send_limit(peer, end)
+}
+
+#[unsafe(no_mangle)]
+pub extern "C" fn net_base_peer_window_is_probe_allowed(peer: Option<&PeerWindow>, first_unacknowledged: u64, end: u64) -> bool {
+    let Some(peer) = peer else { return false };
+    heads::peer_window::net_base_peer_window_is_probe_allowed(peer, first_unacknowledged, end)
+}
+
+#[unsafe(no_mangle)]
+pub extern "C" fn net_base_peer_window_acknowledgement_number(peer: Option<&PeerWindow>, first_unacknowledged: u64, sent: u64) -> u64 {
+    let Some(peer) = peer else { return u64::MAX };
+    heads::peer_window::net_base_peer_window_acknowledgement_number(peer, first_unacknowledged, sent)
+}
+
+#[unsafe(no_mangle)]
+pub extern "C" fn net_base_retransmission_timeout_is_small(timer: Option<&RetransmissionTimeout>) -> bool {
+    let Some(timer) = timer else { return false };
+    heads::retransmission_timeout::net_base_retransmission_timeout_is_small(timer)
+}
+
+#[unsafe(no_mangle)]
+pub extern "C" fn net_base_retransmission_timeout_take_sample(timer: Option<&mut RetransmissionTimeout>, bounds: Option<&TimeoutBounds>, time: u64) -> bool {
+    let Some(timer) = timer else { return false };
+    let Some(bounds) = bounds else { return false };
+    heads::retransmission_timeout::net_base_retransmission_timeout_take_sample(timer, bounds, time)
+}
+
+#[unsafe(no_mangle)]
+pub extern "C" fn net_base_retransmission_timeout_expired(timer: Option<&mut RetransmissionTimeout>, bounds: Option<&TimeoutBounds>) {
+    let Some(timer) = timer else { return };
+    let Some(bounds) = bounds else { return };
+    heads::retransmission_timeout::net_base_retransmission_timeout_expired(timer, bounds)
+}
+
+#[unsafe(no_mangle)]
+pub extern "C" fn net_base_rtt_estimate_timeout(estimate: Option<&RttEstimate>, bounds: Option<&TimeoutBounds>) -> u64 {
+    let Some(estimate) = estimate else { return u64::MAX };
+    let Some(bounds) = bounds else { return u64::MAX };
+    heads::rtt_estimate::net_base_rtt_estimate_timeout(estimate, bounds)
+}
+
+#[unsafe(no_mangle)]
+pub unsafe extern "C" fn net_base_parts_sum_add(sum: Option<&mut PartsSum>, part: *const u8, part_length: usize) {
+    let Some(sum) = sum else { return };
+    let Some(part) = slice(part, part_length) else { return };
+    heads::parts_sum::net_base_parts_sum_add(sum, part)
+}
+
+#[unsafe(no_mangle)]
+pub extern "C" fn net_base_parts_sum_checksum(sum: Option<&PartsSum>) -> u16 {
+    let Some(sum) = sum else { return 0 };
+    heads::parts_sum::net_base_parts_sum_checksum(sum)
+}
+
+#[unsafe(no_mangle)]
+pub extern "C" fn net_base_parts_sum_is_valid(sum: Option<&PartsSum>) -> bool {
+    let Some(sum) = sum else { return false };
+    heads::parts_sum::net_base_parts_sum_is_valid(sum)
+}
+
+#[unsafe(no_mangle)]
+pub extern "C" fn net_base_rand_u32(state: Option<&mut u64>) -> u32 {
+    let Some(state) = state else { return 0 };
+    rand::net_base_rand_u32(state)
+}
+
+#[unsafe(no_mangle)]
+pub extern "C" fn net_base_rand_source_port(state: Option<&mut u64>) -> u16 {
+    let Some(state) = state else { return 0 };
+    rand::net_base_rand_source_port(state)
+}
+
+#[unsafe(no_mangle)]
+pub extern "C" fn net_base_rand_below(state: Option<&mut u64>, bound: u32) -> u64 {
+    let Some(state) = state else { return u64::MAX };
+    rand::net_base_rand_below(state, bound)
+}
+
+#[unsafe(no_mangle)]
+pub extern "C" fn net_base_sequence_number_position(number: u32, initial: u32, next: u64, position: Option<&mut u64>) -> bool {
+    let Some(position) = position else { return false };
+    sequence_number::net_base_sequence_number_position(number, initial, next, position)
+}
+
+#[unsafe(no_mangle)]
+pub extern "C" fn net_base_instant_saturating_add(instant: i64, duration: u64) -> i64 {
+    time::net_base_instant_saturating_add(instant, duration)
+}
+
+#[unsafe(no_mangle)]
+pub extern "C" fn net_base_instant_distance(instant: i64, other: i64) -> u64 {
+    time::net_base_instant_distance(instant, other)
+}
+
+#[unsafe(no_mangle)]
+pub extern "C" fn net_base_abi_3() -> u32 {
+    version::net_base_abi_3()
+}

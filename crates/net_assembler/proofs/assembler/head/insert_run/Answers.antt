@@ -1,0 +1,32 @@
+use Rattle.std.proofs.Common.{◌≡◌, ◌∙◌, ◌+◌, ℕ, ap, subst, ◌++◌, ◌∷◌, [], take, drop, set, arith}
+use Rattle.std.proofs.lemmas.List.{length-set, take_more_set}
+use Rattle.net_assembler.specs.RunLists.{runs_wrapped, wrapped_run}
+use Rattle.net_assembler.proofs.Moves.{rest_more}
+use Rattle.net_assembler.proofs.Moves.{insert_changed}
+use Rattle.net_assembler.proofs.assembler.head.insert_run.Goals as goal
+
+pub loop-k-preserved : goal.loop-k-preserved
+loop-k-preserved c =
+    let xs = c.loop-k.runs in
+    let ys = c.args.runs.now in
+    let k = c.loop-k.k in
+    let inv = c.loop-k.invariant in
+    record {
+      len = length-set xs k _ ∙ inv.len;
+      taken = ap (λ (r : ℕ × ℕ). take (k + 1) (set xs k c.loop-k.carried) ++ r ∷ []) c.wrapped-next.ensures
+          ∙ insert_changed (wrapped_run c.args.by) xs ys c.args.at k c.loop-k.carried c.args.entry (0, 0)
+          (omega arith) (omega arith) (omega arith) inv.taken inv.rest;
+      rest = rest_more xs ys k k _ (omega arith) inv.rest;
+      looks = omega arith;
+      moves = omega arith;
+    }
+
+pub returns-clause-runs : goal.returns-clause-runs
+returns-clause-runs c =
+    let xs = c.loop-k.runs in
+    let ys = c.args.runs.now in
+    let at_end : c.loop-k.k ≡ c.args.used = omega (arith, c.requires.at) in
+    take_more_set xs c.args.used c.loop-k.carried (omega (arith, c.requires.room))
+    ∙ subst
+    (λ (n : ℕ). take n xs ++ c.loop-k.carried ∷ [] ≡ take c.args.at ys ++ c.args.entry ∷ runs_wrapped c.args.by (drop c.args.at (take n ys)))
+    at_end c.loop-k.invariant.taken

@@ -1,0 +1,24 @@
+use Rattle.std.proofs.Common.{◌≡◌, ◌∙◌, ◌+◌, ◌-◌, ap, take, set, arith, sym}
+use Rattle.std.proofs.lemmas.List.{length-set}
+use Rattle.net_assembler.specs.RunLists.{wrapped_run}
+use Rattle.net_assembler.proofs.Moves.{change_more, rest_more}
+use Rattle.net_assembler.proofs.assembler.head.remove_runs.Goals as goal
+
+pub loop-k-preserved : goal.loop-k-preserved
+loop-k-preserved c =
+    let xs = c.loop-k.runs in
+    let ys = c.args.runs.now in
+    let k = c.loop-k.k in
+    let count = c.args.from - c.args.at in
+    let j = k - count in
+    let inv = c.loop-k.invariant in
+    let next : j + 1 ≡ k + 1 - count = omega arith in
+    record {
+      len = length-set xs j _ ∙ inv.len;
+      taken = ap (λ n. take n (set xs j c.wrapped.result)) (sym next)
+          ∙ change_more (wrapped_run c.args.by) xs ys (take c.args.at ys) c.args.from k j c.wrapped.result (0, 0)
+          (omega arith) (omega arith) (omega arith) (omega arith) c.wrapped.ensures inv.taken inv.rest;
+      rest = rest_more xs ys k j _ (omega arith) inv.rest;
+      looks = omega arith;
+      moves = omega arith;
+    }

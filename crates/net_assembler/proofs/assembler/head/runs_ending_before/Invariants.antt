@@ -1,0 +1,17 @@
+use Rattle.std.proofs.Common.{◌≡◌, ℕ, ◌+◌, ◌-◌, ◌<◌, ◌≤◌, ◌^◌, length}
+use Rattle.net_assembler.specs.RunLists.{end_at}
+use Rattle.net_assembler.proofs.assembler.head.runs_ending_before.Given as goal
+
+abbrev pub invariant-loop-low : goal.invariant-loop-low
+invariant-loop-low l = record {
+  order : l.low ≤ l.high;
+  within : l.high ≤ length l.runs;
+  before : (k : ℕ) → k < l.low → end_at l.runs k < l.offset;
+  after : (k : ℕ) → l.high ≤ k → k < length l.runs → l.offset ≤ end_at l.runs k;
+  width : (b : ℕ) → length l.runs < 2 ^ b → (c : ℕ) × (l.turns.0 + c ≡ l.fn.turns.0 + b) × (l.high - l.low < 2 ^ c);
+  more : l.fn.turns.0 ≤ l.turns.0;
+  moves : l.turns.1 ≡ l.fn.turns.1;
+}
+
+abbrev pub decreases-loop-low : goal.decreases-loop-low
+decreases-loop-low l = l.high - l.low

@@ -1,0 +1,18 @@
+use Rattle.std.proofs.Common.{◌≡◌, ℕ, ◌+◌, ◌-◌, ◌<◌, ◌≤◌, ◌^◌, length}
+use Rattle.net_assembler.specs.RunLists.{start_at}
+use Rattle.net_assembler.proofs.assembler.head.runs_starting_by.Given as goal
+
+abbrev pub invariant-loop-low : goal.invariant-loop-low
+invariant-loop-low l = record {
+  from : l.from ≤ l.low;
+  order : l.low ≤ l.high;
+  within : l.high ≤ length l.runs;
+  before : (k : ℕ) → l.from ≤ k → k < l.low → l.by + start_at l.runs k ≤ l.end;
+  after : (k : ℕ) → l.high ≤ k → k < length l.runs → l.end < l.by + start_at l.runs k;
+  width : (b : ℕ) → length l.runs < 2 ^ b → (c : ℕ) × (l.turns.0 + c ≡ l.fn.turns.0 + b) × (l.high - l.low < 2 ^ c);
+  more : l.fn.turns.0 ≤ l.turns.0;
+  moves : l.turns.1 ≡ l.fn.turns.1;
+}
+
+abbrev pub decreases-loop-low : goal.decreases-loop-low
+decreases-loop-low l = l.high - l.low

@@ -1,0 +1,13 @@
+use Rattle.std.proofs.Common.{◌≡◌, ◌<◌, ◌^◌, true, take}
+use Rattle.std.specs.List.{list_all}
+use Rattle.std.specs.Char.{is_ascii_digit}
+use Rattle.std.specs.Str.Parse.{digits_value}
+use Rattle.net_bench_lib.proofs.numeral.number.Given as goal
+
+-- digits came so far, and this is what they write
+abbrev pub invariant-loop-byte : goal.invariant-loop-byte
+invariant-loop-byte l = record {
+  digits : list_all is_ascii_digit (take l.byte-index l.word) ≡ true;
+  written : l.value ≡ digits_value 10 (take l.byte-index l.word);
+  fits : l.value < 2 ^ 64;
+}

@@ -1,0 +1,182 @@
+-- The laws of a sender of a stream that ends.
+use Rattle.std.proofs.Common.{◌≡◌, ℕ, ◌+◌, ◌-◌, ◌≤◌, max, min, Bool, true, false, cond, List, [], ◌∷◌, ◌++◌, length, take}
+use Rattle.std.proofs.Common.{drop, nat_eq, nat_le, refl, sym, ap, subst, ◌∙◌, arith, length-drop}
+use Rattle.std.proofs.Common.{length-append, append_assoc, append-nil}
+use Rattle.std.specs.Prelude.{◌<◌, IsTrue, IsFalse}
+use Rattle.std.specs.Int.{from_bool}
+use Rattle.std.proofs.lemmas.Bool.{cond_both, and_parts, leb-true, eqb-true}
+use Rattle.net_receiver.specs.SenderState.{end_of, with_written, Sends}
+use Rattle.net_receiver.specs.OneStream.{MatchesStream, MatchesLonger}
+use Rattle.net_receiver.specs.FiniteSender.{FiniteSenderState, first_number, numbers_end, finite_room}
+use Rattle.net_receiver.specs.FiniteSender.{with_bytes, open_room, has_end_at, accepts, acknowledged_below}
+use Rattle.net_receiver.specs.FiniteSenderLaws.{SenderCommand, Writes, Closes, Marks, Acknowledges}
+use Rattle.net_receiver.specs.FiniteSenderLaws.{written_of, sender_after_command, sender_after_commands}
+use Rattle.net_receiver.specs.FiniteSenderLaws.{bytes_written, IsSoundSent, FreshSentIsSound, SoundSentStays}
+use Rattle.net_receiver.specs.FiniteSenderLaws.{ClosedStays, LentIsOfStream}
+use Rattle.net_receiver.specs.FiniteLaws.{MatchesFinite}
+use Rattle.net_receiver.proofs.Senders.{sends_written, sends_from, lent_says}
+use Rattle.net_receiver.proofs.OneStream.{longer_at}
+use Rattle.net_receiver.proofs.Called.{matches_what_is_there}
+
+pub fresh_sent_is_sound : FreshSentIsSound
+fresh_sent_is_sound capacity first = record { closed = omega arith; finished = omega arith; none_left = λ some. refl; low = omega arith; high = omega arith }
+
+-- an acknowledgement is accepted, or changes nothing
+acknowledged_by : (P : FiniteSenderState → Type 0) (s : FiniteSenderState) (n : ℕ) →
+    (first_number s ≤ n → n ≤ s.sent → P (acknowledged_below s n)) → P s → P (sender_after_command s (Acknowledges n))
+acknowledged_by P s n on off =
+    cond_both (accepts s n) (acknowledged_below s n) s P
+    (λ both. (let parts = and_parts _ _ both in on (leb-true (first_number s) n parts.0) (leb-true n s.sent parts.1))) (λ _. off)
+
+-- bytes are written, or the sender is closed
+written_by : (P : FiniteSenderState → Type 0) (s : FiniteSenderState) (xs : List ℕ) →
+    (s.closed ≡ 0 → P (record { sender = with_written s.sender xs; closed = s.closed; finished = s.finished; sent = s.sent })) → P s → P (with_bytes s xs)
+written_by P s xs on off =
+    cond_both (nat_eq s.closed 0) (with_written s.sender xs) s.sender (λ v. P (record { sender = v; closed = s.closed; finished = s.finished; sent = s.sent }))
+    (λ zero. on (eqb-true s.closed 0 zero)) (λ _. off)
+
+-- which acknowledges nothing
+pub written_number : (s : FiniteSenderState) (xs : List ℕ) → first_number (with_bytes s xs) ≡ first_number s
+written_number s xs = written_by (λ t. first_number t ≡ first_number s) s xs (λ _. refl) refl
+
+-- what was written of the stream is all below its end
+after_all : (s : FiniteSenderState) (n : ℕ) → end_of s.sender ≤ n → s.sender.first_unacknowledged ≤ n → length (drop (min n (end_of s.sender) - s.sender.first_unacknowledged) s.sender.queue) ≡ 0
+after_all s n past low = omega (arith, length-drop (min n (end_of s.sender) - s.sender.first_unacknowledged) s.sender.queue)
+
+pub sound_sent_stays : SoundSentStays
+sound_sent_stays s (Writes xs) sound =
+    let ys = take (min (length xs) (finite_room s)) xs in
+    written_by IsSoundSent s ys (λ zero. record {
+      closed = sound.closed;
+      finished = sound.finished;
+      none_left = λ some. absurd (omega (arith, sound.finished));
+      low = omega (arith, sound.low);
+      high = omega (arith, sound.high, length-append s.sender.queue ys);
+    }) sound
+sound_sent_stays s Closes sound = record {
+  closed = omega arith;
+  finished = omega (arith, sound.finished, sound.closed);
+  none_left = sound.none_left;
+  low = sound.low;
+  high = omega (arith, sound.high, sound.closed);
+}
+sound_sent_stays s (Marks pos) sound =
+    cond_both (nat_le pos (numbers_end s)) (record { sender = s.sender; closed = s.closed; finished = s.finished; sent = max s.sent pos }) s IsSoundSent
+    (λ on. (let within = leb-true pos (numbers_end s) on in record {
+      closed = sound.closed;
+      finished = sound.finished;
+      none_left = sound.none_left;
+      low = omega (arith, sound.low);
+      high = omega (arith, sound.high);
+    })) (λ _. sound)
+sound_sent_stays s (Acknowledges n) sound =
+    let size = length-drop (min n (end_of s.sender) - s.sender.first_unacknowledged) s.sender.queue in
+    acknowledged_by IsSoundSent s n (λ low high. record {
+      closed = sound.closed;
+      finished = omega (arith, sound.high);
+      none_left = λ some. omega arith;
+      low = omega arith;
+      high = omega (arith, sound.high);
+    }) sound
+
+-- ---- one command
+module _ (s : FiniteSenderState) (sound : IsSoundSent s) where
+  one_sends : (c : SenderCommand) (f : ℕ) (w : List ℕ) → Sends f w s.sender → Sends f (w ++ written_of s c) (sender_after_command s c).sender
+  one_sends (Writes xs) f w sends =
+      cond_both (nat_eq s.closed 0) (with_written s.sender _) s.sender (Sends f _)
+      (λ _. sends_written f w s.sender _ sends)
+      (λ off. subst (λ l. Sends f l s.sender) (sym (append-nil w) ∙ ap (λ l. w ++ l) (sym (ap (λ b. take (min (length xs) (cond b (open_room s.sender) 0)) xs) off ∙ none xs))) sends)
+    where
+      none : (ys : List ℕ) → take (min (length ys) 0) ys ≡ []
+      none ys = (let zero : min (length ys) 0 ≡ 0 = omega arith in ap (λ n. take n ys) zero)
+  one_sends Closes f w sends = subst (λ l. Sends f l s.sender) (sym (append-nil w)) sends
+  one_sends (Marks pos) f w sends =
+      cond_both (nat_le pos (numbers_end s)) (record { sender = s.sender; closed = s.closed; finished = s.finished; sent = max s.sent pos }) s (λ t. Sends f (w ++ []) t.sender)
+      (λ _. subst (λ l. Sends f l s.sender) (sym (append-nil w)) sends) (λ _. subst (λ l. Sends f l s.sender) (sym (append-nil w)) sends)
+  one_sends (Acknowledges n) f w sends =
+      let same = subst (λ l. Sends f l s.sender) (sym (append-nil w)) sends in
+      acknowledged_by (λ t. Sends f (w ++ []) t.sender) s n
+      (λ low high. sends_from f (w ++ []) s.sender (min n (end_of s.sender)) (omega arith) (omega arith) same) same
+
+  one_closed : (c : SenderCommand) → s.closed ≡ 1 →
+      ((sender_after_command s c).closed ≡ 1) × (written_of s c ≡ []) × (end_of (sender_after_command s c).sender ≡ end_of s.sender)
+  one_closed (Writes xs) e =
+      let off : nat_eq s.closed 0 ≡ false = ap (λ n. nat_eq n 0) e in
+      let zero : min (length xs) 0 ≡ 0 = omega arith in (
+        e,
+        ap (λ b. take (min (length xs) (cond b (open_room s.sender) 0)) xs) off ∙ ap (λ n. take n xs) zero,
+        ap (λ b. end_of (cond b (with_written s.sender (take (min (length xs) (finite_room s)) xs)) s.sender)) off,
+      )
+  one_closed Closes e = (refl, refl, refl)
+  one_closed (Marks pos) e =
+      cond_both (nat_le pos (numbers_end s)) (record { sender = s.sender; closed = s.closed; finished = s.finished; sent = max s.sent pos }) s
+      (λ t. (t.closed ≡ 1) × (written_of s Closes ≡ []) × (end_of t.sender ≡ end_of s.sender)) (λ _. (e, refl, refl)) (λ _. (e, refl, refl))
+  one_closed (Acknowledges n) e =
+      let size = length-drop (min n (end_of s.sender) - s.sender.first_unacknowledged) s.sender.queue in
+      acknowledged_by (λ t. (t.closed ≡ 1) × (written_of s Closes ≡ []) × (end_of t.sender ≡ end_of s.sender)) s n
+      (λ low high. (e, refl, omega arith)) (e, refl, refl)
+
+  one_finished : (c : SenderCommand) → s.finished ≡ 1 → (sender_after_command s c).finished ≡ 1
+  one_finished (Writes xs) e = e
+  one_finished Closes e = e
+  one_finished (Marks pos) e =
+      cond_both (nat_le pos (numbers_end s)) (record { sender = s.sender; closed = s.closed; finished = s.finished; sent = max s.sent pos }) s
+      (λ t. t.finished ≡ 1) (λ _. e) (λ _. e)
+  one_finished (Acknowledges n) e =
+      let none = sound.none_left (omega arith) in
+      acknowledged_by (λ t. t.finished ≡ 1) s n (λ low high. omega (arith, sound.high, sound.closed)) e
+
+  pub all_acknowledged : (f : ℕ) (w : List ℕ) → Sends f w s.sender → s.finished ≡ 1 → (s.closed ≡ 1) × (s.sender.first_unacknowledged ≡ f + length w)
+  all_acknowledged f w sends e =
+      let none = sound.none_left (omega arith) in (omega (arith, sound.finished, sound.closed), omega (arith, sends.end))
+
+-- ---- all commands
+pub closed_stays : ClosedStays
+closed_stays s [] f w sound sends =
+    let same = subst (λ l. Sends f l s.sender) (sym (append-nil w)) sends in
+    (same, (λ e. (e, refl, refl)), (λ e. e), all_acknowledged s sound f (w ++ []) same)
+closed_stays s (c ∷ cs) f w sound sends =
+    let t = sender_after_command s c in
+    let rest = closed_stays t cs f (w ++ written_of s c) (sound_sent_stays s c sound) (one_sends s sound c f w sends) in
+    let joined = append_assoc w (written_of s c) (bytes_written t cs) in (
+      subst (λ l. Sends f l (sender_after_commands t cs).sender) joined rest.0,
+      (λ e. (let one = one_closed s sound c e in let all = rest.1 one.0 in
+          (all.0, (λ i. one.1 i ++ all.1 i), all.2 ∙ one.2))),
+      (λ e. rest.2 (one_finished s sound c e)),
+      (λ e. (let all = rest.3 e in (all.0, all.1 ∙ ap (λ l. f + length l) joined))),
+    )
+
+-- ---- what is lent
+-- no number above the last is lent
+pub lent_numbers : (s : FiniteSenderState) (pos n : ℕ) (last : Bool) → pos + n ≤ max pos (end_of s.sender) →
+    (IsTrue last → (s.closed ≡ 1) × (pos + n ≡ end_of s.sender)) → pos ≤ numbers_end s → pos + n + from_bool last ≤ numbers_end s
+lent_numbers s pos n false within ends low = omega (arith, within)
+lent_numbers s pos n true within ends low = (let at = ends refl in omega (arith, at.0, at.1))
+
+-- and nothing from there on
+pub lent_beyond : (s : FiniteSenderState) (pos n : ℕ) (last : Bool) → pos + n ≤ max pos (end_of s.sender) →
+    (IsTrue last → (s.closed ≡ 1) × (pos + n ≡ end_of s.sender)) → numbers_end s < pos → (n ≡ 0) × IsFalse last
+lent_beyond s pos n false within ends above = (omega (arith, within), refl)
+lent_beyond s pos n true within ends above = (let at = ends refl in absurd (omega (arith, at.0, at.1)))
+
+-- a segment of what was written is one of what is written in all: only the last one ends it
+pub matches_later : MatchesLonger → (f : ℕ) (w more : List ℕ) (pos : ℕ) (xs : List ℕ) (last : Bool) → (IsTrue last → more ≡ []) →
+    MatchesFinite f w pos xs last → MatchesFinite f (w ++ more) pos xs last
+matches_later says f w more pos xs last none m = record {
+  bytes = says f pos w more xs m.bytes;
+  end = λ on. m.end on ∙ ap (λ l. f + length l) (sym (ap (λ l. w ++ l) (none on) ∙ append-nil w));
+}
+
+longer : MatchesLonger
+unfolding MatchesStream
+longer f pos x more xs h = λ p b from is. longer_at x more _ b (h p b from is)
+
+pub lent_is_of_stream : LentIsOfStream
+lent_is_of_stream s cs f w pos xs sound sends low is =
+    let ends = λ (on : IsTrue (has_end_at s (pos + length xs))). and_parts (nat_eq s.closed 1) (nat_eq (pos + length xs) (end_of s.sender)) on in
+    matches_later longer f w (bytes_written s cs) pos xs _
+    (λ on. ((closed_stays s cs f w sound sends).1 (eqb-true s.closed 1 (ends on).0)).1)
+    (record {
+      bytes = lent_says matches_what_is_there f w s.sender pos xs sends low is;
+      end = λ on. eqb-true (pos + length xs) (end_of s.sender) (ends on).1 ∙ sends.end;
+    })

@@ -1,8 +1,0 @@
-use Rattle.std.proofs.Common.{sym, subst}
-use Rattle.net_receiver.specs.Finite.{IsSoundEnd, no_end}
-use Rattle.net_receiver.proofs.Ends.{fresh_sound_end}
-use Rattle.net_receiver.proofs.finite.receiver.FiniteReceiverOver.over_at.Goals as goal
-
-pub invariant_of-result : goal.invariant_of-result
-invariant_of-result g c =
-    subst (λ v. IsSoundEnd (record { receiver = v; end = no_end })) (sym c.over_at.ensures.state) (fresh_sound_end c.args.first _ c.requires.number)

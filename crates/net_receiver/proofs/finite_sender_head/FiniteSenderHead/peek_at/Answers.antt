@@ -1,0 +1,16 @@
+use Rattle.std.proofs.Common.{◌≡◌, length, take, drop, sym, subst, arith, length-take, length-drop}
+use Rattle.net_ring.specs.RingHead.{IsSound, ring_at}
+use Rattle.net_ring.proofs.Rotations.{length-queue}
+use Rattle.net_receiver.proofs.finite_sender_head.FiniteSenderHead.peek_at.Goals as goal
+
+pub returns-clause-says : goal.returns-clause-says
+returns-clause-says c = λ storage size low f w sends.
+    let n = c.peek_at-span.result.contiguous in
+    let from = c.peek_at-span.result.from in
+    let queued = length-queue (ring_at storage c.args.self.now.sender.place) (subst (λ k. IsSound k c.args.self.now.sender.place) (sym size) c.requires.sender.place) in
+    let lent : length (take n (drop from storage)) ≡ n =
+    omega (arith, length-take n (drop from storage), length-drop from storage, c.peek_at-span.ensures.within) in
+    record {
+      bytes = c.peek_at-span.ensures.says storage size low f w sends;
+      end = λ on. (let at = (c.ends_after-is_last.ensures.0 on).1 in omega (arith, sends.end));
+    }

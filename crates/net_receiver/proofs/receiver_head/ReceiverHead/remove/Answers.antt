@@ -1,0 +1,43 @@
+use Rattle.std.proofs.Common.{◌∙◌, ◌+◌, length, take, refl, sym, ap, subst, arith}
+use Rattle.net_ring.specs.Ring.{queue}
+use Rattle.net_ring.specs.RingHead.{IsSound as IsSoundPlace, ring_at, dequeued_place}
+use Rattle.net_receiver.specs.Rules.{Read, ReadReply}
+use Rattle.net_receiver.specs.Head.{receiver_of, HasSoundParts, head_after_read}
+use Rattle.net_receiver.proofs.Called.{read_receives, head_bytes}
+use Rattle.net_receiver.proofs.Heads.{after_read, queue_size}
+use Rattle.net_receiver.proofs.Schedules.{steps}
+use Rattle.net_receiver.proofs.receiver_head.ReceiverHead.remove.Goals as goal
+
+pub returns-clause-head : goal.returns-clause-head
+returns-clause-head c = λ i. record {
+  first = c.args.self.now.first;
+  count_read = c.args.self.now.count_read + c.args.count;
+  place = c.dequeue.ensures.place i;
+  held = c.args.self.now.held;
+}
+
+pub returns-clause-sound : goal.returns-clause-sound
+returns-clause-sound c = λ xs rs size s.
+    let place = subst (λ n. IsSoundPlace n (dequeued_place n c.args.count c.args.self.now.place)) (sym size)
+    (subst (IsSoundPlace c.args.capacity) c.dequeue.ensures.place c.dequeue.ensures.sound) in
+    subst (λ h. HasSoundParts h xs rs)
+    (sym (returns-clause-head c ∙ ap (λ n. head_after_read n c.args.count c.args.self.now) (sym size)))
+    (after_read s c.args.count c.args.count (omega (arith, c.requires.queued)) place).1
+
+pub returns-clause-state : goal.returns-clause-state
+returns-clause-state c = λ xs rs size s.
+    let place = subst (λ n. IsSoundPlace n (dequeued_place n c.args.count c.args.self.now.place)) (sym size)
+    (subst (IsSoundPlace c.args.capacity) c.dequeue.ensures.place c.dequeue.ensures.sound) in
+    ap (λ h. receiver_of h xs rs) (returns-clause-head c ∙ ap (λ n. head_after_read n c.args.count c.args.self.now) (sym size))
+    ∙ (after_read s c.args.count c.args.count (omega (arith, c.requires.queued)) place).0
+
+pub returns-clause-step : goal.returns-clause-step
+returns-clause-step c = λ xs rs size s.
+    steps (length rs) _ _ (Read c.args.count) (ReadReply (take c.args.count (queue (ring_at xs c.args.self.now.place))))
+    (returns-clause-state c xs rs size s) refl
+
+pub returns-clause-receives : goal.returns-clause-receives
+returns-clause-receives c = λ xs rs size s f x r. (
+  read_receives f x _ _ c.args.count (returns-clause-state c xs rs size s) r,
+  head_bytes f x (receiver_of c.args.self.now xs rs) c.args.count (omega (arith, c.requires.queued, queue_size s)) r,
+)

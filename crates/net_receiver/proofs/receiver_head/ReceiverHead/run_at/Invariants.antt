@@ -1,0 +1,14 @@
+use Rattle.std.proofs.Common.{◌≡◌}
+use Rattle.std.specs.List.{find}
+use Rattle.net_assembler.specs.Positions.{lies_in}
+use Rattle.net_receiver.specs.ReceiverState.{domain}
+use Rattle.net_receiver.specs.Head.{receiver_of}
+use Rattle.net_receiver.specs.NewestRuns.{run_at}
+use Rattle.net_receiver.proofs.receiver_head.ReceiverHead.run_at.Given as goal
+
+-- no run so far has the position
+abbrev pub invariant-loop-start : goal.invariant-loop-start
+invariant-loop-start l =
+    (goal.iterator-loop-start).can_next l.start-iterator
+    × (goal.iterator-loop-start).is_finite l.start-iterator
+    × (find (lies_in l.position) l.start-iterator ≡ run_at (domain (receiver_of l.self l.storage l.runs).held) l.position)

@@ -1,9 +1,0 @@
-use Rattle.std.proofs.Common.{◌≡◌}
-use Rattle.net_assembler.specs.Positions.{maximal_runs}
-use Rattle.net_assembler.specs.RunLists.{set_of}
-use Rattle.net_receiver.specs.SackBlocks.{greatest_end}
-use Rattle.net_receiver.proofs.scoreboard.head.highest_offset.Given as goal
-
--- what the other runs make of the end so far is what all make of 0
-abbrev pub invariant-loop-start : goal.invariant-loop-start
-invariant-loop-start l = greatest_end l._start-iterator l.end ≡ greatest_end (maximal_runs (set_of l.reported l.runs)) 0

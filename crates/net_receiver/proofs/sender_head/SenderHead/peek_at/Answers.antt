@@ -1,0 +1,28 @@
+use Rattle.std.proofs.Common.{◌≡◌, ◌∙◌, ◌-◌, ap, sym, subst, take, drop, length, length-take, length-drop, arith}
+use Rattle.net_ring.specs.RingHead.{IsSound, ring_at, queued_index}
+use Rattle.net_ring.specs.Ring.{queue, queue_index, contiguous_allocated}
+use Rattle.net_ring.proofs.RingFacts.{queue_part_value}
+use Rattle.net_receiver.specs.SenderHeads.{sender_of}
+use Rattle.net_receiver.proofs.Senders.{lent_says}
+use Rattle.net_receiver.proofs.sender_head.SenderHead.peek_at.Goals as goal
+
+pub returns-clause-bytes : goal.returns-clause-bytes
+returns-clause-bytes c = λ xs size.
+    let p = c.args.self.now.place in
+    let g = ring_at xs p in
+    let i = c.args.pos - c.args.self.now.first_unacknowledged in
+    let same : c.min-offset.result ≡ i = omega (arith, c.min-offset.ensures, c.well_formed) in
+    let at : c.allocated.result.from ≡ queue_index g i = c.allocated.ensures.from ∙ ap (λ o. queued_index c.args.capacity p o) same ∙ ap (λ n. queued_index n p i) (sym size) in
+    let count : c.allocated.result.contiguous ≡ contiguous_allocated g i c.args.max = omega (arith, at, same, c.allocated.ensures.count, c.allocated.ensures.contiguous) in
+    (λ j. take (count j) (drop (at j) xs))
+    ∙ queue_part_value g (subst (λ n. IsSound n p) (sym size) c.requires.place) i c.args.max
+    ∙ sym (λ j. take (count j) (drop i (queue g)))
+
+pub returns-clause-says : goal.returns-clause-says
+returns-clause-says c = λ xs size from f w s.
+    let v = sender_of c.args.self.now xs in
+    let n = c.allocated.result.contiguous in
+    let lent = take n (drop c.allocated.result.from xs) in
+    let long : length lent ≡ n = omega (arith, length-take n (drop c.allocated.result.from xs), length-drop c.allocated.result.from xs, c.allocated.ensures.within, size) in
+    lent_says c.matches_stream.ensures.there f w v c.args.pos lent s from
+    (returns-clause-bytes c xs size ∙ ap (λ k. take k (drop (c.args.pos - v.first_unacknowledged) v.queue)) (sym long))

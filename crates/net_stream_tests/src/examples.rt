@@ -1,7 +1,0 @@
-//! The tests of `net_examples`: the examples as their users call them.
-
-mod buffers;
-mod datagrams;
-mod devices;
-mod sockets;
-mod streams;

@@ -1,0 +1,2 @@
+-- What the proofs about `Refusing` share.
+mod Counting

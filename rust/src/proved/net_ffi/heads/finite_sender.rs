@@ -1,0 +1,181 @@
+//! Senders of a stream that ends. Once one is closed nothing can be written, and the end has the
+//! number after the last byte's: it is sent and acknowledged as a byte is, and takes no room.
+//!
+//! A head of zeros, but for `sender.first_unacknowledged` and `sent`, which are equal then and
+//! below 2^64 - 1, is new. A number is kept for the end. Where bytes are tells
+//! `net_base_sender_peek_at` of `sender`.
+// Written by tools/ffi.py.
+
+use crate::proved::net_ffi::refusals::{NET_BASE_MISSING, NET_BASE_NONE, NET_BASE_PRESENT, NET_BASE_REFUSED};
+use crate::proved::net_ffi::results::presence_of;
+use crate::proved::net_receiver::FiniteSenderHead;
+
+/// Returns whether this is the head of a sender of a stream that ends over a storage of `capacity`
+/// bytes: `sender` is that of a sender; `closed` and `finished` are 0 or 1, and `finished` is 1
+/// only if `closed` is and the queue is empty; and `sent` is from the first number that isn't
+/// acknowledged up to the number after the last one, which fits 64 bits.
+#[inline(always)]
+pub fn net_base_finite_sender_is_sound(
+    sender: &FiniteSenderHead,
+    capacity: usize,
+) -> bool {
+    sender.is_sound(capacity)
+}
+
+/// Writes the first number that isn't acknowledged to `number`, and returns true.
+///
+/// It is refused if `sender` isn't that of a sender over `capacity` bytes: false, and nothing
+/// changes.
+#[inline(always)]
+pub fn net_base_finite_sender_first_number(
+    sender: &FiniteSenderHead,
+    capacity: usize,
+    number: &mut u64,
+) -> bool {
+    if !sender.is_sound(capacity) {
+        return false;
+    }
+    *number = sender.first_number(capacity);
+    true
+}
+
+/// Writes the number after the last byte's, and after the end's once the sender is closed, to
+/// `number`, and returns true.
+///
+/// It is refused if `sender` isn't that of a sender over `capacity` bytes: false, and nothing
+/// changes.
+#[inline(always)]
+pub fn net_base_finite_sender_numbers_end(
+    sender: &FiniteSenderHead,
+    capacity: usize,
+    number: &mut u64,
+) -> bool {
+    if !sender.is_sound(capacity) {
+        return false;
+    }
+    *number = sender.numbers_end(capacity);
+    true
+}
+
+/// Returns how many bytes `net_base_finite_sender_write` would take: none once the sender is
+/// closed. The last number, 2^64 - 1, is kept for the end.
+///
+/// It is refused if `capacity` is `NET_BASE_NONE`, or if `sender` isn't that of a sender over
+/// `capacity` bytes: `NET_BASE_NONE`.
+#[inline(always)]
+pub fn net_base_finite_sender_room(sender: &FiniteSenderHead, capacity: usize) -> usize {
+    if capacity == usize::MAX || !sender.is_sound(capacity) {
+        return NET_BASE_NONE;
+    }
+    sender.room(capacity)
+}
+
+/// Enqueues the first of these bytes, as many as `net_base_finite_sender_room` says, and returns
+/// how many; once the sender is closed none, and nothing changes.
+///
+/// It is refused if `sender` isn't that of a sender over `storage.len()` bytes: `NET_BASE_NONE`,
+/// and nothing changes.
+#[inline(always)]
+pub fn net_base_finite_sender_write(
+    sender: &mut FiniteSenderHead,
+    storage: &mut [u8],
+    bytes: &[u8],
+) -> usize {
+    if !sender.is_sound(storage.len()) {
+        return NET_BASE_NONE;
+    }
+    sender.write(storage, bytes)
+}
+
+/// Ends the stream after what was written, and returns true. A second call changes nothing.
+///
+/// It is refused if `sender` isn't that of a sender over `capacity` bytes: false, and nothing
+/// changes.
+#[inline(always)]
+pub fn net_base_finite_sender_close(
+    sender: &mut FiniteSenderHead,
+    capacity: usize,
+) -> bool {
+    if !sender.is_sound(capacity) {
+        return false;
+    }
+    sender.close(capacity);
+    true
+}
+
+/// Returns `NET_BASE_PRESENT` if a segment whose bytes end at `position` ends the stream, since the
+/// sender is closed and that is the position after the last byte. Otherwise `NET_BASE_MISSING`.
+///
+/// It is refused if `sender` isn't that of a sender over `capacity` bytes: `NET_BASE_REFUSED`.
+#[inline(always)]
+pub fn net_base_finite_sender_has_end_at(
+    sender: &FiniteSenderHead,
+    capacity: usize,
+    position: u64,
+) -> u32 {
+    if !sender.is_sound(capacity) {
+        return NET_BASE_REFUSED;
+    }
+    presence_of(sender.has_end_at(capacity, position))
+}
+
+/// Notes that all numbers below `position` were sent, the end's among them if `position` is past
+/// it, and returns true; false, and nothing changes, if `position` is above the number after the
+/// last one.
+///
+/// It is refused if `sender` isn't that of a sender over `capacity` bytes: false, and nothing
+/// changes.
+#[inline(always)]
+pub fn net_base_finite_sender_mark_sent(
+    sender: &mut FiniteSenderHead,
+    capacity: usize,
+    position: u64,
+) -> bool {
+    if !sender.is_sound(capacity) {
+        return false;
+    }
+    sender.mark_sent(capacity, position)
+}
+
+/// Drops the bytes below `next`, notes that the end is acknowledged if `next` is past it, and
+/// returns true; false, and nothing changes, if `next` is below the first number that isn't
+/// acknowledged or above what was sent.
+///
+/// It is refused if `sender` isn't that of a sender over `capacity` bytes: false, and nothing
+/// changes.
+#[inline(always)]
+pub fn net_base_finite_sender_acknowledge(
+    sender: &mut FiniteSenderHead,
+    capacity: usize,
+    next: u64,
+) -> bool {
+    if !sender.is_sound(capacity) {
+        return false;
+    }
+    sender.acknowledge(capacity, next)
+}
+
+/// Returns whether a SACK block can be right: it has a number, and none above those that were sent,
+/// of which the end's is one.
+#[inline(always)]
+pub fn net_base_finite_sender_is_block(
+    sender: &FiniteSenderHead,
+    start: u64,
+    end: u64,
+) -> bool {
+    sender.is_block(start, end)
+}
+
+/// Returns whether the sender is closed: whether `closed` is 1.
+#[inline(always)]
+pub fn net_base_finite_sender_is_closed(sender: &FiniteSenderHead) -> bool {
+    sender.is_closed()
+}
+
+/// Returns whether all bytes and the end are acknowledged: whether `finished` is 1.
+#[inline(always)]
+pub fn net_base_finite_sender_is_closed_and_acknowledged(
+    sender: &FiniteSenderHead,
+) -> bool {
+    sender.is_closed_and_acknowledged()
+}

@@ -1,0 +1,100 @@
+//! Results of methods, as exports return them.
+
+use crate::proved::net_ffi::refusals::{
+    NET_BASE_ACKNOWLEDGEMENT_ONLY, NET_BASE_ANSWER, NET_BASE_DONE, NET_BASE_IGNORE,
+    NET_BASE_MISSING, NET_BASE_OTHER_SIZE, NET_BASE_PRESENT, NET_BASE_RESET, NET_BASE_TAKE,
+    NET_BASE_TOO_LONG, NET_BASE_TOO_MANY_RUNS,
+};
+use crate::proved::net_assembler::{Run, TooManyHolesError};
+use crate::proved::net_base::storage::FragmentError;
+use crate::proved::net_tcp::Arrival;
+
+/// The length of the run at position 0, and whether the call was done.
+#[repr(C)]
+#[derive(Debug, Clone, Copy)]
+pub struct FrontLength {
+    /// `NET_BASE_DONE`, `NET_BASE_TOO_MANY_RUNS` or `NET_BASE_REFUSED`, and of `net_base_fragments_complete` also
+    /// `NET_BASE_MISSING`.
+    pub status: u32,
+    /// How many positions the run has, 0 if position 0 is missing; of `net_base_fragments_complete` the packet's size.
+    /// It is 0 if the call wasn't done.
+    pub length: usize,
+}
+
+/// A range of positions that weren't reported, and whether the call was done.
+#[repr(C)]
+#[derive(Debug, Clone, Copy)]
+pub struct Hole {
+    /// `NET_BASE_DONE` or `NET_BASE_REFUSED`.
+    pub status: u32,
+    /// The first position; 0 if the call was refused.
+    pub start: u64,
+    /// The position after the last one; 0 if the call was refused.
+    pub end: u64,
+}
+
+/// Returns the status of a call that adds positions.
+#[inline(always)]
+pub(crate) fn status_of(done: Result<(), TooManyHolesError>) -> u32 {
+    match done {
+        Ok(()) => NET_BASE_DONE,
+        Err(_) => NET_BASE_TOO_MANY_RUNS,
+    }
+}
+
+/// Returns status and length of a call that adds positions and removes the front.
+#[inline(always)]
+pub(crate) fn front_length(front: Result<usize, TooManyHolesError>) -> FrontLength {
+    match front {
+        Ok(length) => FrontLength {
+            status: NET_BASE_DONE,
+            length,
+        },
+        Err(_) => FrontLength {
+            status: NET_BASE_TOO_MANY_RUNS,
+            length: 0,
+        },
+    }
+}
+
+/// Returns the status of a call that takes a fragment or a size.
+#[inline(always)]
+pub(crate) fn status_of_fragment(done: Result<(), FragmentError>) -> u32 {
+    match done {
+        Ok(()) => NET_BASE_DONE,
+        Err(FragmentError::TooManyHoles) => NET_BASE_TOO_MANY_RUNS,
+        Err(FragmentError::TooLong) => NET_BASE_TOO_LONG,
+        Err(FragmentError::OtherSize) => NET_BASE_OTHER_SIZE,
+    }
+}
+
+/// Returns the number of what to do with a segment.
+#[inline(always)]
+pub(crate) fn number_of(arrival: Arrival) -> u32 {
+    match arrival {
+        Arrival::Take => NET_BASE_TAKE,
+        Arrival::AcknowledgementOnly => NET_BASE_ACKNOWLEDGEMENT_ONLY,
+        Arrival::Answer => NET_BASE_ANSWER,
+        Arrival::Ignore => NET_BASE_IGNORE,
+        Arrival::Reset => NET_BASE_RESET,
+    }
+}
+
+/// Returns the run that was found; both ends are 0 if none was.
+#[inline(always)]
+pub(crate) fn run_of(found: Option<(usize, usize)>) -> Run {
+    match found {
+        Some((start, end)) => Run { start, end },
+        None => Run { start: 0, end: 0 },
+    }
+}
+
+/// Returns the number of an answer that is yes or no.
+#[inline(always)]
+pub(crate) fn presence_of(is_present: bool) -> u32 {
+    if is_present {
+        NET_BASE_PRESENT
+    } else {
+        NET_BASE_MISSING
+    }
+}

@@ -1,0 +1,633 @@
+//! A receiver of a stream that ends.
+
+use crate::proved::net_receiver::finite_error::FiniteError;
+use crate::proved::net_receiver::finite_receiver_head::{FiniteReceiverHead, NO_END};
+use crate::proved::net_receiver::held_runs::HeldRuns;
+use crate::proved::net_receiver::kept::KeptBytes;
+use crate::proved::net_receiver::newest_runs::{HeldRun, NewestRunIter};
+use crate::proved::net_receiver::receiver::whole;
+use crate::proved::net_assembler::Run;
+use crate::proved::net_ring::{ManagedSlice, Storage};
+
+/// A receiver of one stream of bytes that ends: a `ReceiverOver` that knows where the stream ends, once
+/// a segment has said so.
+///
+/// The end is the position after the last byte. It has a number, as a byte has (that of TCP's FIN), and
+/// needs no room. Segments may arrive in any order, the last one too. The held runs that a selective
+/// acknowledgement lists are of bytes alone: an end that came out of order is sent again.
+///
+/// Contracts see what the receiver of the bytes stores, and the end, `no_end` while it isn't known.
+pub struct FiniteReceiverOver<S: Storage<u8>, const N: usize> {
+    // Invariant: the head is sound with the storage and the runs, as `FiniteReceiverHead::is_sound`
+    // tests.
+    head: FiniteReceiverHead,
+    storage: S,
+    runs: [Run; N],
+}
+
+/// A receiver over storage that is lent or owned.
+pub type FiniteReceiver<'a, const N: usize = { crate::rattle::ASSEMBLER_MAX_SEGMENT_COUNT }> = FiniteReceiverOver<ManagedSlice<'a, u8>, N>;
+
+impl<S: Storage<u8>, const N: usize> FiniteReceiverOver<S, N> {
+    /// Returns a receiver of a stream that begins at position 0: `over_at` with 0.
+    ///
+    /// # Requires, else it panics
+    ///
+    /// `N` is at least 1.
+    ///
+    /// # Contract
+    ///
+    /// In the words of [`contracts`](crate::contracts):
+    ///
+    /// ```text
+    /// requires { 1 ≤ N }
+    /// ensures state { result ≡ fresh_finite 0 (length (S.elements storage)) }
+    /// ensures receives { (x : List ℕ) → ReceivesFinite 0 x result }
+    /// ```
+    pub const fn over(storage: S) -> Self {
+        const { assert!(N >= 1, "N is at least 1") };
+        Self::over_at(storage, 0)
+    }
+
+    /// Returns a receiver of a stream that begins at position `first`; nothing has arrived.
+    ///
+    /// # Requires, else it panics
+    ///
+    /// `N` is at least 1, and `first` is not the greatest number of 64 bits.
+    ///
+    /// # Contract
+    ///
+    /// In the words of [`contracts`](crate::contracts):
+    ///
+    /// ```text
+    /// requires runs { 1 ≤ N }
+    /// requires number { first < no_end }
+    /// ensures state { result ≡ fresh_finite first (length (S.elements storage)) }
+    /// ensures receives { (x : List ℕ) → ReceivesFinite first x result }
+    /// ```
+    #[track_caller]
+    pub const fn over_at(storage: S, first: u64) -> Self {
+        const { assert!(N >= 1, "N is at least 1") };
+        assert!(first < NO_END, "no number is left for an end");
+        FiniteReceiverOver {
+            head: FiniteReceiverHead::new(first),
+            storage,
+            runs: [Run { start: 0, end: 0 }; N],
+        }
+    }
+
+    /// Returns the receiver that a head, a storage and runs represent.
+    ///
+    /// # Requires, else it panics
+    ///
+    /// They are sound, as `FiniteReceiverHead::is_sound` tests.
+    ///
+    /// # Contract
+    ///
+    /// In the words of [`contracts`](crate::contracts):
+    ///
+    /// ```text
+    /// requires { HasSoundFinite head (S.elements storage) runs }
+    /// ensures { result ≡ finite_of head (S.elements storage) runs.entry }
+    /// ```
+    #[track_caller]
+    pub(crate) fn from_parts(head: FiniteReceiverHead, storage: S, runs: [Run; N]) -> Self {
+        assert!(
+            head.is_sound(whole(&storage), &runs),
+            "the head is not that of these parts"
+        );
+        FiniteReceiverOver {
+            head,
+            storage,
+            runs,
+        }
+    }
+
+    /// Returns the head, the storage and the runs, which represent the receiver.
+    ///
+    /// # Contract
+    ///
+    /// In the words of [`contracts`](crate::contracts):
+    ///
+    /// ```text
+    /// ensures sound { HasSoundFinite result.0 (S.elements result.1) result.2 }
+    /// ensures state { finite_of result.0 (S.elements result.1) result.2 ≡ self }
+    /// ensures runs { length result.2 ≡ N }
+    /// ```
+    pub(crate) fn into_parts(self) -> (FiniteReceiverHead, S, [Run; N]) {
+        let FiniteReceiverOver {
+            head,
+            storage,
+            runs,
+        } = self;
+        (head, storage, runs)
+    }
+
+    /// Returns the storage, of which the bytes can be any.
+    ///
+    /// # Contract
+    ///
+    /// In the words of [`contracts`](crate::contracts):
+    ///
+    /// ```text
+    /// ensures { length (S.elements result) ≡ self.receiver.capacity }
+    /// ```
+    pub fn into_storage(self) -> S {
+        let (_head, storage, _runs) = self.into_parts();
+        storage
+    }
+
+    /// Begins again over the same storage: a receiver of a stream that begins at position `first`;
+    /// nothing has arrived.
+    ///
+    /// # Requires, else it panics
+    ///
+    /// `first` is not the greatest number of 64 bits.
+    ///
+    /// # Contract
+    ///
+    /// In the words of [`contracts`](crate::contracts):
+    ///
+    /// ```text
+    /// requires { first < no_end }
+    /// ensures state { self.new ≡ fresh_finite first self.old.receiver.capacity }
+    /// ensures receives { (x : List ℕ) → ReceivesFinite first x self.new }
+    /// ```
+    #[track_caller]
+    pub fn reset_at(&mut self, first: u64) {
+        assert!(first < NO_END, "no number is left for an end");
+        self.head.reset_at(first);
+    }
+
+    /// Returns whether a segment fits: its bytes and an end after them have positions, as `keep`
+    /// requires.
+    ///
+    /// # Contract
+    ///
+    /// In the words of [`contracts`](crate::contracts):
+    ///
+    /// ```text
+    /// ensures { IsTrue result ↔ (pos + len < no_end) }
+    /// ```
+    pub fn fits(pos: u64, len: usize) -> bool {
+        FiniteReceiverHead::fits(pos, len)
+    }
+
+    /// Returns whether the stream can end at a position: it is the end that is known, or none is,
+    /// and no byte is queued or held at it or above.
+    ///
+    /// # Contract
+    ///
+    /// In the words of [`contracts`](crate::contracts):
+    ///
+    /// ```text
+    /// ensures { result ≡ can_end self.now pos }
+    /// ```
+    pub fn can_end(&self, pos: u64) -> bool {
+        self.head.can_end(whole(&self.storage), &self.runs, pos)
+    }
+
+    /// Keeps the bytes of a segment that are in the free window and below the end, as
+    /// `ReceiverOver::keep` does. `is_last` says that the stream ends after the segment.
+    ///
+    /// The end is taken if it is at most the end of the free window: an end beyond that is cut off,
+    /// as the bytes before it are, and is sent again. An end alone at the first missing position is
+    /// taken where nothing is free too. A segment is refused, and nothing changes, if it says that the
+    /// stream ends where it can't (`can_end`), or if its bytes are refused.
+    ///
+    /// # Requires, else it panics
+    ///
+    /// The segment fits, as `fits` tests.
+    ///
+    /// # Contract
+    ///
+    /// In the words of [`contracts`](crate::contracts):
+    ///
+    /// ```text
+    /// requires { pos + length bytes.now < no_end }
+    /// ensures state { self.new ≡ finite_after N self.old pos bytes.now is_last }
+    /// ensures value { result ≡ finite_result N self.old pos bytes.now is_last }
+    /// ensures receives { (f : ℕ) (x : List ℕ) → ReceivesFinite f x self.old →
+    ///     MatchesFinite f x pos bytes.now is_last → ReceivesFinite f x self.new }
+    /// ensures read { self.new.receiver.read ≡ self.old.receiver.read }
+    /// ensures grows { acknowledged self.old ≤ acknowledged self.new }
+    /// ```
+    #[track_caller]
+    pub fn keep(&mut self, pos: u64, bytes: &[u8], is_last: bool) -> Result<KeptBytes, FiniteError> {
+        assert!(Self::fits(pos, bytes.len()), "the segment ends too high");
+        let count = self.storage.count();
+        let storage = self.storage.part_mut(0, count);
+        self.head.keep(storage, &mut self.runs, pos, bytes, is_last)
+    }
+
+    /// Moves bytes from the head of the queue to the beginning of `into`, and returns how many: as
+    /// many as are queued and as `into` has room for. The rest of `into` stays as it is.
+    ///
+    /// # Contract
+    ///
+    /// In the words of [`contracts`](crate::contracts):
+    ///
+    /// ```text
+    /// ensures state { self.new ≡ finite_after_read self.old (length into.old) }
+    /// ensures count { result ≡ min (length into.old) (length self.old.receiver.queue) }
+    /// ensures into { into.new ≡ take (length into.old) self.old.receiver.queue
+    ///     ++ drop (length self.old.receiver.queue) into.old }
+    /// ensures receives { (f : ℕ) (x : List ℕ) → ReceivesFinite f x self.old →
+    ///     ReceivesFinite f x self.new }
+    /// ensures bytes { (f : ℕ) (x : List ℕ) → ReceivesFinite f x self.old → take result into.new
+    ///     ≡ slice_range x self.old.receiver.read (self.old.receiver.read + result) }
+    /// ```
+    pub fn read(&mut self, into: &mut [u8]) -> usize {
+        self.head.read(whole(&self.storage), into)
+    }
+
+    /// Shows the queue, in order, in two parts: the bytes up to the storage's end, and those from its
+    /// beginning on. The second part is empty unless the queue wraps.
+    ///
+    /// # Contract
+    ///
+    /// In the words of [`contracts`](crate::contracts):
+    ///
+    /// ```text
+    /// ensures queue { result.0.now ++ result.1.now ≡ self.now.receiver.queue }
+    /// ensures value { (result.0.now ≡ first_part self.now.receiver)
+    ///     × (result.1.now ≡ second_part self.now.receiver) }
+    /// ensures bytes { (f : ℕ) (x : List ℕ) → ReceivesFinite f x self.now →
+    ///     result.0.now ++ result.1.now ≡ slice_range x self.now.receiver.read
+    ///     (self.now.receiver.read + length self.now.receiver.queue) }
+    /// ```
+    pub fn as_slices(&self) -> (&[u8], &[u8]) {
+        self.head.receiver.as_slices(whole(&self.storage))
+    }
+
+    /// Calls `f` on the first part of the queue, as `as_slices` shows it, takes as many bytes off the
+    /// queue as `f` counts, and returns what `f` returned. The part is empty only if the queue is.
+    ///
+    /// `f` must take that part, and count no more bytes than it is lent.
+    ///
+    /// ```
+    /// # use net_base::finite::FiniteReceiver;
+    /// # let mut storage = [0u8; 16];
+    /// # let mut receiver = FiniteReceiver::<4>::empty_at(&mut storage[..], 0);
+    /// assert!(receiver.keep(0, b"abc", true).is_ok());
+    /// assert_eq!(receiver.read_with(|bytes| (2, bytes.len())), (2, 3));
+    /// assert_eq!((receiver.len(), receiver.has_read_all()), (1, false));
+    /// ```
+    ///
+    /// # Requires, else it panics
+    ///
+    /// `f` may be called on the part that it is lent, and counts at most its length.
+    ///
+    /// # Contract
+    ///
+    /// In the words of [`contracts`](crate::contracts):
+    ///
+    /// ```text
+    /// requires callable { FnOnceTakesAt F.FnOnce f (first_part self.old.receiver) }
+    /// requires count { (r : ℕ × R) → FnOnceReturnsAt F.FnOnce f (first_part self.old.receiver) r →
+    ///     r.0 ≤ length (first_part self.old.receiver) }
+    /// ensures called { FnOnceReturnsAt F.FnOnce f (first_part self.old.receiver) result }
+    /// ensures count { result.0 ≤ contiguous_count self.old.receiver }
+    /// ensures not_empty { 0 < length self.old.receiver.queue → 0 < contiguous_count self.old.receiver }
+    /// ensures state { self.new ≡ finite_after_read self.old result.0 }
+    /// ensures receives { (f : ℕ) (x : List ℕ) → ReceivesFinite f x self.old →
+    ///     ReceivesFinite f x self.new }
+    /// ensures bytes { (f : ℕ) (x : List ℕ) → ReceivesFinite f x self.old →
+    ///     take result.0 self.old.receiver.queue
+    ///     ≡ slice_range x self.old.receiver.read (self.old.receiver.read + result.0) }
+    /// ```
+    #[track_caller]
+    pub fn read_with<R, F: FnOnce(&[u8]) -> (usize, R)>(&mut self, f: F) -> (usize, R) {
+        let part = self.first_slice();
+        let lent = part.len();
+        let answer = f(part);
+        assert!(answer.0 <= lent, "more bytes than were lent");
+        self.head.receiver.remove(self.storage.count(), answer.0);
+        answer
+    }
+
+    /// Takes the first `count` bytes off the queue and copies none, as `ReceiverOver::remove` does.
+    ///
+    /// # Requires, else it panics
+    ///
+    /// At least `count` bytes are queued.
+    ///
+    /// # Contract
+    ///
+    /// In the words of [`contracts`](crate::contracts):
+    ///
+    /// ```text
+    /// requires { count ≤ length self.old.receiver.queue }
+    /// ensures state { self.new ≡ finite_after_read self.old count }
+    /// ensures receives { (f : ℕ) (x : List ℕ) → ReceivesFinite f x self.old →
+    ///     ReceivesFinite f x self.new }
+    /// ensures bytes { (f : ℕ) (x : List ℕ) → ReceivesFinite f x self.old →
+    ///     take count self.old.receiver.queue
+    ///     ≡ slice_range x self.old.receiver.read (self.old.receiver.read + count) }
+    /// ```
+    #[track_caller]
+    pub fn remove(&mut self, count: usize) {
+        assert!(
+            count <= self.head.receiver.queued(),
+            "more bytes than are queued"
+        );
+        self.head.receiver.remove(self.storage.count(), count);
+    }
+
+    /// Shows the first part of the queue, which is empty only if the queue is.
+    ///
+    /// # Contract
+    ///
+    /// In the words of [`contracts`](crate::contracts):
+    ///
+    /// ```text
+    /// ensures value { result.now ≡ first_part self.now.receiver }
+    /// ensures some { 0 < length self.now.receiver.queue → 0 < contiguous_count self.now.receiver }
+    /// ```
+    fn first_slice(&self) -> &[u8] {
+        let receiver = &self.head.receiver;
+        receiver.peek(whole(&self.storage), 0, receiver.queued())
+    }
+
+    /// Returns the position after the last byte, once it is known.
+    ///
+    /// # Contract
+    ///
+    /// In the words of [`contracts`](crate::contracts):
+    ///
+    /// ```text
+    /// ensures some { self.now.end < no_end → result ≡ Some self.now.end }
+    /// ensures none { no_end ≤ self.now.end → result ≡ None }
+    /// ```
+    pub fn end(&self) -> Option<u64> {
+        self.head.end()
+    }
+
+    /// Returns whether all bytes and the end have arrived. Once it is so it stays so.
+    ///
+    /// # Contract
+    ///
+    /// In the words of [`contracts`](crate::contracts):
+    ///
+    /// ```text
+    /// ensures value { result ≡ is_complete self.now }
+    /// ensures whole { (f : ℕ) (x : List ℕ) → ReceivesFinite f x self.now → IsTrue result →
+    ///     self.now.receiver.read + length self.now.receiver.queue ≡ length x }
+    /// ```
+    pub fn is_complete(&self) -> bool {
+        self.head.is_complete()
+    }
+
+    /// Returns the number that an acknowledgement carries: the first missing position, or, once all
+    /// bytes and the end have arrived, the end plus 1, since the end has a number.
+    ///
+    /// # Contract
+    ///
+    /// In the words of [`contracts`](crate::contracts):
+    ///
+    /// ```text
+    /// ensures { result ≡ acknowledged self.now }
+    /// ```
+    pub fn acknowledged(&self) -> u64 {
+        self.head.acknowledged()
+    }
+
+    /// Returns whether all bytes were read, up to the end. Once it is so it stays so.
+    ///
+    /// # Contract
+    ///
+    /// In the words of [`contracts`](crate::contracts):
+    ///
+    /// ```text
+    /// ensures value { result ≡ has_read_all self.now }
+    /// ensures whole { (f : ℕ) (x : List ℕ) → ReceivesFinite f x self.now → IsTrue result →
+    ///     self.now.receiver.read ≡ length x }
+    /// ```
+    pub fn has_read_all(&self) -> bool {
+        self.head.has_read_all()
+    }
+
+    /// Returns whether a segment of `count` numbers from `pos` on is acceptable, as RFC 9293,
+    /// 3.10.7.4, has it: its first number may arrive, or its last one. The end is a number. If the
+    /// window is 0, only a segment without numbers at the acknowledged one is.
+    ///
+    /// An end alone at the acknowledged number, in a window of 0, isn't acceptable by this table, though
+    /// `keep` takes it, as it needs no room. A caller that wants it asks with the count of the bytes alone.
+    ///
+    /// # Requires, else it panics
+    ///
+    /// `pos + count` fits 64 bits.
+    ///
+    /// # Contract
+    ///
+    /// In the words of [`contracts`](crate::contracts):
+    ///
+    /// ```text
+    /// requires { pos + count < 2 ^ 64 }
+    /// ensures { result ≡ is_acceptable self.now pos count }
+    /// ```
+    #[track_caller]
+    pub fn is_acceptable(&self, pos: u64, count: u64) -> bool {
+        assert!(count <= u64::MAX - pos, "the segment ends too high");
+        self.head
+            .is_acceptable(whole(&self.storage), &self.runs, pos, count)
+    }
+
+    /// Returns the first missing position, as `ReceiverOver::next` does. It doesn't count the end:
+    /// `acknowledged` does.
+    ///
+    /// # Contract
+    ///
+    /// In the words of [`contracts`](crate::contracts):
+    ///
+    /// ```text
+    /// ensures { result ≡ next_position self.now.receiver }
+    /// ```
+    pub fn next(&self) -> u64 {
+        self.head.receiver.next()
+    }
+
+    /// Returns how many bytes are queued.
+    ///
+    /// # Contract
+    ///
+    /// In the words of [`contracts`](crate::contracts):
+    ///
+    /// ```text
+    /// ensures { result ≡ length self.now.receiver.queue }
+    /// ```
+    pub fn len(&self) -> usize {
+        self.head.receiver.queued()
+    }
+
+    /// Returns whether no byte is queued; bytes may be held.
+    ///
+    /// # Contract
+    ///
+    /// In the words of [`contracts`](crate::contracts):
+    ///
+    /// ```text
+    /// ensures { IsTrue result ↔ (self.now.receiver.queue ≡ []) }
+    /// ```
+    pub fn is_empty(&self) -> bool {
+        self.len() == 0
+    }
+
+    /// Returns how many bytes have room, queued and held ones included: the storage's length.
+    ///
+    /// # Contract
+    ///
+    /// In the words of [`contracts`](crate::contracts):
+    ///
+    /// ```text
+    /// ensures { result ≡ self.now.receiver.capacity }
+    /// ```
+    pub fn capacity(&self) -> usize {
+        self.storage.count()
+    }
+
+    /// Returns the window: how many bytes have room after the queue, held ones among them.
+    ///
+    /// # Contract
+    ///
+    /// In the words of [`contracts`](crate::contracts):
+    ///
+    /// ```text
+    /// ensures window { result ≡ self.now.receiver.capacity - length self.now.receiver.queue }
+    /// ensures room { length self.now.receiver.queue + result ≡ self.now.receiver.capacity }
+    /// ```
+    pub fn window(&self) -> usize {
+        self.head.receiver.window(self.storage.count())
+    }
+
+    /// Returns the end of the free window, for what is announced: never below `acknowledged`, which is
+    /// one above the free window's end where the end is counted and the storage is full. `None` if the
+    /// free window's end doesn't fit 64 bits.
+    ///
+    /// ```
+    /// # use net_base::finite::FiniteReceiver;
+    /// # let mut storage = [0u8; 3];
+    /// # let mut receiver = FiniteReceiver::<4>::empty_at(&mut storage[..], 0);
+    /// assert!(receiver.keep(0, b"abc", false).is_ok());
+    /// assert_eq!((receiver.acknowledged(), receiver.window_end()), (3, Some(3)));
+    /// assert!(receiver.keep(3, b"", true).is_ok());
+    /// assert_eq!((receiver.acknowledged(), receiver.window_end()), (4, Some(4)));
+    /// ```
+    ///
+    /// # Contract
+    ///
+    /// In the words of [`contracts`](crate::contracts):
+    ///
+    /// ```text
+    /// ensures some { limit_of self.now.receiver < 2 ^ 64 →
+    ///     result ≡ Some (max (limit_of self.now.receiver) (acknowledged self.now)) }
+    /// ensures none { 2 ^ 64 ≤ limit_of self.now.receiver → result ≡ None }
+    /// ensures after_next { next_position self.now.receiver ≤ limit_of self.now.receiver }
+    /// ```
+    pub fn window_end(&self) -> Option<u64> {
+        self.head.window_end(self.storage.count())
+    }
+
+    /// Returns the held runs as absolute (start, end), as `ReceiverOver::held` does: of bytes alone.
+    ///
+    /// # Contract
+    ///
+    /// In the words of [`contracts`](crate::contracts):
+    ///
+    /// ```text
+    /// ensures runs { result ≡ maximal_runs (domain self.now.receiver.held) }
+    /// ensures bound { length result ≤ N }
+    /// ```
+    pub fn held(&self) -> HeldRuns<'_, N> {
+        self.head.receiver.held(whole(&self.storage), &self.runs)
+    }
+
+    /// Returns how many runs are held, without a look at them: as many as `held` yields, at most `N`.
+    ///
+    /// # Contract
+    ///
+    /// In the words of [`contracts`](crate::contracts):
+    ///
+    /// ```text
+    /// ensures count { result ≡ run_count (domain self.now.receiver.held) }
+    /// ensures bound { result ≤ N }
+    /// ```
+    pub fn held_count(&self) -> usize {
+        self.head.receiver.held_count()
+    }
+
+    /// Returns at most `K` held runs, the newest first, as `ReceiverOver::newest_runs` does.
+    ///
+    /// # Contract
+    ///
+    /// In the words of [`contracts`](crate::contracts):
+    ///
+    /// ```text
+    /// ensures listed { result ≡ newest_runs K (domain self.now.receiver.held) (position ∷ recent.old) }
+    /// ensures count { length result ≤ K }
+    /// ensures recent { recent.new ≡ with_starts recent.old result }
+    /// ```
+    pub fn newest_runs<const K: usize>(
+        &self,
+        position: u64,
+        recent: &mut [u64; K],
+    ) -> NewestRunIter<K> {
+        let mut runs = [HeldRun { start: 0, end: 0 }; K];
+        let storage = whole(&self.storage);
+        let head = &self.head.receiver;
+        let count = head.newest_runs(storage, &self.runs, position, recent, &mut runs);
+        NewestRunIter::over(runs, count)
+    }
+
+    /// Returns how many bytes of a segment of `len` bytes at `position` would be new: those in the
+    /// free window and below the end whose positions are not held.
+    ///
+    /// # Requires, else it panics
+    ///
+    /// The segment fits, as `fits` tests.
+    ///
+    /// # Contract
+    ///
+    /// In the words of [`contracts`](crate::contracts):
+    ///
+    /// ```text
+    /// requires { position + len < no_end }
+    /// ensures { result ≡ new_count self.now.receiver position (min len (self.now.end - position)) }
+    /// ```
+    #[track_caller]
+    pub fn count_new(&self, position: u64, len: usize) -> usize {
+        assert!(Self::fits(position, len), "the segment ends too high");
+        self.head
+            .count_new(whole(&self.storage), &self.runs, position, len)
+    }
+
+    /// Returns whether two receivers of a stream that ends are equal in first position, count of
+    /// bytes read, queued bytes, held runs and end.
+    ///
+    /// # Contract
+    ///
+    /// In the words of [`contracts`](crate::contracts):
+    ///
+    /// ```text
+    /// ensures { IsTrue result ↔ IsSameFinite self.now other.now }
+    /// ```
+    pub fn same_state<O: Storage<u8>>(&self, other: &FiniteReceiverOver<O, N>) -> bool {
+        let storage = whole(&self.storage);
+        let other_storage = whole(&other.storage);
+        self.head.is_same_state(storage, &self.runs, &other.head, other_storage, &other.runs)
+    }
+
+    /// States what is true of every receiver; it does nothing. Callers use `laws::is_sound_end`.
+    ///
+    /// # Contract
+    ///
+    /// In the words of [`contracts`](crate::contracts):
+    ///
+    /// ```text
+    /// ensures bytes { IsSound N self.now.receiver }
+    /// ensures end { IsSoundEnd self.now }
+    /// ```
+    pub(crate) fn is_sound(&self) {
+        let _next = self.head.receiver.next();
+    }
+}

@@ -1,0 +1,384 @@
+//! A sender of a stream that ends.
+
+use crate::proved::net_receiver::finite_sender_head::FiniteSenderHead;
+use crate::proved::net_ring::{ManagedSlice, Storage};
+
+/// The sender of a stream that ends: a `Sender` that can be closed.
+///
+/// Once it is closed nothing can be written, and the end has the number after the last byte's (that of
+/// TCP's FIN): it is sent, reported and acknowledged as a byte is, and takes no room. A number is kept
+/// for it, so that it can always be closed. The sender keeps the mark of what was sent itself, which
+/// counts the end.
+///
+/// Contracts see what they see of a `Sender`; 1 or 0 for whether it is closed, and for whether the end
+/// is acknowledged; and the number after the last one that was sent. No call takes memory. smoltcp has
+/// no such type.
+pub struct FiniteSenderOver<S: Storage<u8>> {
+    // Invariant: the end is acknowledged only once the sender is closed and its queue is empty. What
+    // was sent ends between what is acknowledged and what was written, the end counted. The end's
+    // number fits 64 bits.
+    head: FiniteSenderHead,
+    storage: S,
+}
+
+/// A sender of a stream that ends, over storage that is lent or owned.
+pub type FiniteSender<'a> = FiniteSenderOver<ManagedSlice<'a, u8>>;
+
+impl<S: Storage<u8>> FiniteSenderOver<S> {
+    /// Returns a sender of a stream that begins at position 0: `over_at` with 0.
+    ///
+    /// # Contract
+    ///
+    /// In the words of [`contracts`](crate::contracts):
+    ///
+    /// ```text
+    /// ensures state { result ≡ fresh_finite_sender (length (S.elements storage)) 0 }
+    /// ensures sends { Sends 0 [] result.sender }
+    /// ```
+    pub const fn over(storage: S) -> Self {
+        Self::over_at(storage, 0)
+    }
+
+    /// Returns a sender of a stream that begins at position `first`, to which nothing was written.
+    ///
+    /// # Requires, else it panics
+    ///
+    /// `first` is not the greatest number of 64 bits: the end has a number after it.
+    ///
+    /// # Contract
+    ///
+    /// In the words of [`contracts`](crate::contracts):
+    ///
+    /// ```text
+    /// requires { first < no_end }
+    /// ensures state { result ≡ fresh_finite_sender (length (S.elements storage)) first }
+    /// ensures sends { Sends first [] result.sender }
+    /// ```
+    #[track_caller]
+    pub const fn over_at(storage: S, first: u64) -> Self {
+        assert!(first < u64::MAX, "no number is left for an end");
+        FiniteSenderOver {
+            head: FiniteSenderHead::new(first),
+            storage,
+        }
+    }
+
+    /// Returns the sender that a head and a storage represent.
+    ///
+    /// # Requires, else it panics
+    ///
+    /// The head is sound for the storage, as `FiniteSenderHead::is_sound` tests.
+    ///
+    /// # Contract
+    ///
+    /// In the words of [`contracts`](crate::contracts):
+    ///
+    /// ```text
+    /// requires { IsSoundFiniteSender (length (S.elements storage)) head }
+    /// ensures { result ≡ finite_sender_of head (S.elements storage) }
+    /// ```
+    #[track_caller]
+    pub(crate) fn from_parts(head: FiniteSenderHead, storage: S) -> Self {
+        assert!(
+            head.is_sound(storage.count()),
+            "the head is not that of this storage"
+        );
+        FiniteSenderOver { head, storage }
+    }
+
+    /// Returns the head and the storage, which represent the sender.
+    ///
+    /// # Contract
+    ///
+    /// In the words of [`contracts`](crate::contracts):
+    ///
+    /// ```text
+    /// ensures sound { IsSoundFiniteSender (length (S.elements result.1)) result.0 }
+    /// ensures state { finite_sender_of result.0 (S.elements result.1) ≡ self }
+    /// ```
+    pub(crate) fn into_parts(self) -> (FiniteSenderHead, S) {
+        let FiniteSenderOver { head, storage } = self;
+        (head, storage)
+    }
+
+    /// Returns the storage, of which the bytes can be any.
+    ///
+    /// # Contract
+    ///
+    /// In the words of [`contracts`](crate::contracts):
+    ///
+    /// ```text
+    /// ensures { length (S.elements result) ≡ self.sender.capacity }
+    /// ```
+    pub fn into_storage(self) -> S {
+        let FiniteSenderOver { head: _, storage } = self;
+        storage
+    }
+
+    /// Begins again over the same storage: a stream that begins at position `first`, to which nothing
+    /// was written.
+    ///
+    /// # Requires, else it panics
+    ///
+    /// `first` is not the greatest number of 64 bits.
+    ///
+    /// # Contract
+    ///
+    /// In the words of [`contracts`](crate::contracts):
+    ///
+    /// ```text
+    /// requires { first < no_end }
+    /// ensures state { self.new ≡ fresh_finite_sender self.old.sender.capacity first }
+    /// ensures sends { Sends first [] self.new.sender }
+    /// ```
+    #[track_caller]
+    pub fn reset_at(&mut self, first: u64) {
+        assert!(first < u64::MAX, "no number is left for an end");
+        self.head = FiniteSenderHead::new(first);
+    }
+
+    /// Returns the first number that isn't acknowledged: TCP's SND.UNA. It is the first unacknowledged
+    /// position, or the one after it once the end is acknowledged.
+    ///
+    /// # Contract
+    ///
+    /// In the words of [`contracts`](crate::contracts):
+    ///
+    /// ```text
+    /// ensures { result ≡ first_number self.now }
+    /// ```
+    pub fn first_number(&self) -> u64 {
+        self.head.first_number(self.storage.count())
+    }
+
+    /// Returns the number after the last byte's, and after the end's once the sender is closed.
+    ///
+    /// # Contract
+    ///
+    /// In the words of [`contracts`](crate::contracts):
+    ///
+    /// ```text
+    /// ensures { result ≡ numbers_end self.now }
+    /// ```
+    pub fn numbers_end(&self) -> u64 {
+        self.head.numbers_end(self.storage.count())
+    }
+
+    /// Returns the number after the last one that was ever sent: TCP's SND.MAX.
+    ///
+    /// # Contract
+    ///
+    /// In the words of [`contracts`](crate::contracts):
+    ///
+    /// ```text
+    /// ensures { result ≡ self.now.sent }
+    /// ```
+    pub fn sent(&self) -> u64 {
+        self.head.sent
+    }
+
+    /// Returns how many bytes are queued.
+    ///
+    /// # Contract
+    ///
+    /// In the words of [`contracts`](crate::contracts):
+    ///
+    /// ```text
+    /// ensures { result ≡ length self.now.sender.queue }
+    /// ```
+    pub fn len(&self) -> usize {
+        self.head.sender.place.length
+    }
+
+    /// Returns whether all bytes that were written are acknowledged.
+    ///
+    /// # Contract
+    ///
+    /// In the words of [`contracts`](crate::contracts):
+    ///
+    /// ```text
+    /// ensures { result ≡ (length self.now.sender.queue == 0) }
+    /// ```
+    pub fn is_empty(&self) -> bool {
+        self.len() == 0
+    }
+
+    /// Returns the most bytes that are queued: the storage's length.
+    ///
+    /// # Contract
+    ///
+    /// In the words of [`contracts`](crate::contracts):
+    ///
+    /// ```text
+    /// ensures { result ≡ self.now.sender.capacity }
+    /// ```
+    pub fn capacity(&self) -> usize {
+        self.storage.count()
+    }
+
+    /// Returns the window: how many bytes `write` would take. None once the sender is closed. A number
+    /// is kept for the end.
+    ///
+    /// # Contract
+    ///
+    /// In the words of [`contracts`](crate::contracts):
+    ///
+    /// ```text
+    /// ensures { result ≡ finite_room self.now }
+    /// ```
+    pub fn window(&self) -> usize {
+        self.head.room(self.storage.count())
+    }
+
+    /// Enqueues the first of these bytes, as many as `window` says, and returns how many.
+    ///
+    /// # Contract
+    ///
+    /// In the words of [`contracts`](crate::contracts):
+    ///
+    /// ```text
+    /// ensures count { result ≡ min (length bytes.now) (finite_room self.old) }
+    /// ensures state { self.new ≡ with_bytes self.old (take result bytes.now) }
+    /// ensures sends { (f : ℕ) (w : List ℕ) → Sends f w self.old.sender
+    ///     → Sends f (w ++ take result bytes.now) self.new.sender }
+    /// ensures number { first_number self.new ≡ first_number self.old }
+    /// ```
+    pub fn write(&mut self, bytes: &[u8]) -> usize {
+        let capacity = self.storage.count();
+        self.head.write(self.storage.part_mut(0, capacity), bytes)
+    }
+
+    /// Ends the stream after what was written. A second call changes nothing.
+    ///
+    /// # Contract
+    ///
+    /// In the words of [`contracts`](crate::contracts):
+    ///
+    /// ```text
+    /// ensures state { self.new ≡ closed_sender self.old }
+    /// ensures sends { (f : ℕ) (w : List ℕ) → Sends f w self.old.sender →
+    ///     Sends f w self.new.sender }
+    /// ensures number { first_number self.new ≡ first_number self.old }
+    /// ```
+    pub fn close(&mut self) {
+        self.head.close(self.storage.count());
+    }
+
+    /// Lends the bytes of a segment from `pos` on, at most `max`, as `Sender::peek_at` does, and returns
+    /// whether the segment ends the stream (TCP's FIN): the sender is closed, and the bytes end where it
+    /// does. A segment without bytes that ends the stream is the end alone.
+    ///
+    /// Clause `later` says that the segment is one of the stream whatever is written later.
+    ///
+    /// # Contract
+    ///
+    /// In the words of [`contracts`](crate::contracts):
+    ///
+    /// ```text
+    /// ensures value { result.0.now ≡ take (length result.0.now)
+    ///     (drop (pos - self.now.sender.first_unacknowledged) self.now.sender.queue) }
+    /// ensures count { self.now.sender.first_unacknowledged ≤ pos
+    ///     → length result.0.now ≡ min max (contiguous_end self.now.sender pos - pos) }
+    /// ensures some { self.now.sender.first_unacknowledged ≤ pos → pos < end_of self.now.sender →
+    ///     0 < max → 0 < length result.0.now }
+    /// ensures before { pos < self.now.sender.first_unacknowledged → result.0.now ≡ [] }
+    /// ensures end { IsTrue result.1 ↔ ((self.now.closed ≡ 1)
+    ///     × (pos + length result.0.now ≡ end_of self.now.sender)) }
+    /// ensures numbers { pos ≤ numbers_end self.now →
+    ///     pos + length result.0.now + from_bool result.1 ≤ numbers_end self.now }
+    /// ensures beyond { numbers_end self.now < pos → (result.0.now ≡ []) × IsFalse result.1 }
+    /// ensures fits { pos ≤ end_of self.now.sender → pos + length result.0.now < no_end }
+    /// ensures top { numbers_end self.now ≤ no_end }
+    /// ensures says { (f : ℕ) (w : List ℕ) → Sends f w self.now.sender →
+    ///     self.now.sender.first_unacknowledged ≤ pos →
+    ///     MatchesFinite f w pos result.0.now result.1 }
+    /// ensures later { (f : ℕ) (w more : List ℕ) → Sends f w self.now.sender →
+    ///     self.now.sender.first_unacknowledged ≤ pos → (self.now.closed ≡ 1 → more ≡ []) →
+    ///     MatchesFinite f (w ++ more) pos result.0.now result.1 }
+    /// ```
+    pub fn peek_at(&self, pos: u64, max: usize) -> (&[u8], bool) {
+        let lent = self.head.peek_at(self.storage.count(), pos, max);
+        let from = lent.0.from;
+        (self.storage.part(from, from + lent.0.contiguous), lent.1)
+    }
+
+    /// Notes that all numbers below `pos` were sent, the end's among them if `pos` is past it, and
+    /// returns true. Returns false, and changes nothing, if `pos` is above `numbers_end`.
+    ///
+    /// # Contract
+    ///
+    /// In the words of [`contracts`](crate::contracts):
+    ///
+    /// ```text
+    /// ensures accepted { IsTrue result ↔ (pos ≤ numbers_end self.old) }
+    /// ensures mark { IsTrue result → self.new ≡ record self.old { sent = max self.old.sent pos } }
+    /// ensures sends { (f : ℕ) (w : List ℕ) → Sends f w self.old.sender →
+    ///     Sends f w self.new.sender }
+    /// ensures number { first_number self.new ≡ first_number self.old }
+    /// ensures refused { IsFalse result → self.new ≡ self.old }
+    /// ```
+    pub fn mark_sent(&mut self, pos: u64) -> bool {
+        self.head.mark_sent(self.storage.count(), pos)
+    }
+
+    /// Dequeues the bytes below `next`, notes that the end is acknowledged if `next` is past it, and
+    /// returns true. Returns false, and changes nothing, if `next` is below `first_number` or above
+    /// `sent`.
+    ///
+    /// # Contract
+    ///
+    /// In the words of [`contracts`](crate::contracts):
+    ///
+    /// ```text
+    /// ensures accepted { IsTrue result
+    ///     ↔ ((first_number self.old ≤ next) × (next ≤ self.old.sent)) }
+    /// ensures state { IsTrue result → self.new ≡ acknowledged_below self.old next }
+    /// ensures sends { (f : ℕ) (w : List ℕ) → Sends f w self.old.sender →
+    ///     Sends f w self.new.sender }
+    /// ensures number { IsTrue result → first_number self.new ≡ next }
+    /// ensures refused { IsFalse result → self.new ≡ self.old }
+    /// ```
+    pub fn acknowledge(&mut self, next: u64) -> bool {
+        self.head.acknowledge(self.storage.count(), next)
+    }
+
+    /// Returns whether a SACK block can be right: it has a number, and none above those that were
+    /// sent, of which the end's is one.
+    ///
+    /// # Contract
+    ///
+    /// In the words of [`contracts`](crate::contracts):
+    ///
+    /// ```text
+    /// ensures { IsTrue result ↔ ((start < end) × (end ≤ self.now.sent)) }
+    /// ```
+    pub fn is_block(&self, start: u64, end: u64) -> bool {
+        self.head.is_block(start, end)
+    }
+
+    /// Returns whether the sender is closed.
+    ///
+    /// # Contract
+    ///
+    /// In the words of [`contracts`](crate::contracts):
+    ///
+    /// ```text
+    /// ensures { result ≡ (self.now.closed == 1) }
+    /// ```
+    pub fn is_closed(&self) -> bool {
+        self.head.is_closed()
+    }
+
+    /// Returns whether all bytes and the end are acknowledged. Once it is so it stays so.
+    ///
+    /// # Contract
+    ///
+    /// In the words of [`contracts`](crate::contracts):
+    ///
+    /// ```text
+    /// ensures { result ≡ (self.now.finished == 1) }
+    /// ```
+    pub fn is_closed_and_acknowledged(&self) -> bool {
+        self.head.is_closed_and_acknowledged()
+    }
+}

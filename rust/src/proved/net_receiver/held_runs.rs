@@ -1,0 +1,51 @@
+//! The held runs of a receiver, one after another.
+
+use crate::proved::net_assembler::RunIter;
+
+/// An iterator over the held runs of a receiver, made by `held`.
+///
+/// It yields (start, end) of each run as absolute positions in rising order, the end not included,
+/// and then ends.
+pub struct HeldRunIter<'a> {
+    runs: RunIter<'a>,
+    from: u64,
+}
+
+/// The iterator of a `Receiver<N>`, which yields at most `N` runs.
+pub type HeldRuns<'a, const N: usize = { crate::rattle::ASSEMBLER_MAX_SEGMENT_COUNT }> = HeldRunIter<'a>;
+
+impl<'a> HeldRunIter<'a> {
+    /// Returns these runs, counted from the position `from`.
+    ///
+    /// # Contract
+    ///
+    /// In the words of [`contracts`](crate::contracts):
+    ///
+    /// ```text
+    /// requires { EndBelow (2 ^ 64) (runs_shifted_up from runs) }
+    /// ensures { result ≡ runs_shifted_up from runs.entry }
+    /// ```
+    #[inline]
+    pub(crate) fn over(runs: RunIter<'a>, from: u64) -> Self {
+        HeldRunIter { runs, from }
+    }
+}
+
+impl<'a> ExactSizeIterator for HeldRunIter<'a> {}
+
+impl<'a> core::iter::FusedIterator for HeldRunIter<'a> {}
+
+impl<'a> Iterator for HeldRunIter<'a> {
+    fn size_hint(&self) -> (usize, Option<usize>) {
+        let count = self.runs.len();
+        (count, Some(count))
+    }
+
+    type Item = (u64, u64);
+
+    #[inline]
+    fn next(&mut self) -> Option<(u64, u64)> {
+        let (start, end) = self.runs.next()?;
+        Some((self.from + start as u64, self.from + end as u64))
+    }
+}

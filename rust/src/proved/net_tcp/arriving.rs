@@ -1,0 +1,122 @@
+//! What to do with an arriving segment.
+
+/// The positions and the flags of an arriving segment.
+#[repr(C)]
+#[derive(Copy, Clone, Debug)]
+pub struct Segment {
+    /// The position of its first byte, or of its SYN.
+    pub seq: u64,
+    /// How many positions it has: its bytes, and one each for a SYN and a FIN.
+    pub len: u64,
+    /// Whether its flag SYN is set.
+    pub syn: bool,
+    /// Whether its flag ACK is set.
+    pub ack: bool,
+    /// Whether its flag RST is set.
+    pub rst: bool,
+}
+
+/// What to do with a segment that arrives on a connection that both ends have opened.
+#[derive(Copy, Clone, Debug, PartialEq, Eq)]
+pub enum Arrival {
+    /// Take what it acknowledges, its window, its bytes and its end.
+    Take,
+    /// Take what it acknowledges and its window, but not its bytes, and answer it: the own window is
+    /// shut, and the peer asks whether it has opened.
+    AcknowledgementOnly,
+    /// Send an acknowledgement, and take nothing.
+    Answer,
+    /// Take nothing, and send nothing.
+    Ignore,
+    /// The peer has reset the connection.
+    Reset,
+}
+
+/// Returns whether a segment is acceptable to a receiver whose first missing position is `next`, and
+/// which announced `window` positions from there on. The segment's first position is `seq`, and it
+/// has `len` positions: its bytes, and one each for a SYN and a FIN.
+///
+/// It is if it has a position within the window. If it has none at all it must be within the window
+/// itself, or at `next` if the window is empty.
+///
+/// # Contract
+///
+/// In the words of [`contracts`](crate::contracts):
+///
+/// ```text
+/// ensures { IsTrue result ↔ IsAcceptable next window seq len }
+/// ```
+pub fn is_acceptable(next: u64, window: u64, seq: u64, len: u64) -> bool {
+    if seq < next {
+        window > 0 && next - seq < len
+    } else if len == 0 && window == 0 {
+        seq == next
+    } else {
+        seq - next < window
+    }
+}
+
+/// Returns what to do with a segment, for a receiver whose first missing position is `next`, and which
+/// announced `window` positions from there on, as RFC 9293, section 3.10.7.4, has it. Resets and SYNs
+/// are answered as RFC 5961 has it: a reset counts only at `next`.
+///
+/// No position is in a window that is shut. Of a segment with positions that begins at `next` then, as
+/// a probe does, the acknowledgement is taken all the same: otherwise two ends that both fill the
+/// other's window never hear of one another. Whether a segment may acknowledge what it does is tested
+/// afterwards, by `is_acknowledgement`.
+///
+/// # Contract
+///
+/// In the words of [`contracts`](crate::contracts):
+///
+/// ```text
+/// ensures take { (result ≡ Arrival.Take) ↔ (IsFalse segment.rst × IsFalse segment.syn
+///     × IsTrue segment.ack × IsAcceptable next window segment.seq segment.len) }
+/// ensures only { (result ≡ Arrival.AcknowledgementOnly) ↔ (IsFalse segment.rst
+///     × IsFalse segment.syn × IsTrue segment.ack
+///     × IsProbe next window segment.seq segment.len) }
+/// ensures answer { (result ≡ Arrival.Answer) ↔ IsAnswered next window segment }
+/// ensures reset { (result ≡ Arrival.Reset) ↔ (IsTrue segment.rst × (segment.seq ≡ next)) }
+/// ensures ignored { (result ≡ Arrival.Ignore) ↔ IsIgnored next window segment }
+/// ```
+pub fn classify(next: u64, window: u64, segment: Segment) -> Arrival {
+    let is_acceptable = is_acceptable(next, window, segment.seq, segment.len);
+    let is_probe = window == 0 && segment.len > 0 && segment.seq == next;
+    if segment.rst {
+        if segment.seq == next {
+            Arrival::Reset
+        } else if is_acceptable {
+            Arrival::Answer
+        } else {
+            Arrival::Ignore
+        }
+    } else if segment.syn || !is_acceptable && !is_probe {
+        Arrival::Answer
+    } else if !segment.ack {
+        Arrival::Ignore
+    } else if is_acceptable {
+        Arrival::Take
+    } else {
+        Arrival::AcknowledgementOnly
+    }
+}
+
+/// Returns whether a segment may acknowledge `ack`: it isn't above `sent`, nor below
+/// `first_unacknowledged` by more than the greatest window that the peer ever announced (RFC 5961,
+/// section 5). If it may not, nothing of the segment is taken, and it is answered.
+///
+/// # Contract
+///
+/// In the words of [`contracts`](crate::contracts):
+///
+/// ```text
+/// ensures { IsTrue result ↔ ((first_unacknowledged ≤ ack + greatest_window) × (ack ≤ sent)) }
+/// ```
+pub fn is_acknowledgement(
+    first_unacknowledged: u64,
+    sent: u64,
+    greatest_window: u64,
+    ack: u64,
+) -> bool {
+    first_unacknowledged.saturating_sub(ack) <= greatest_window && ack <= sent
+}

@@ -1,0 +1,179 @@
+//! Traits of std that are by hand: hashes, sums, comparisons, conversions, counts of iterators, readers and writers. Values
+//! are worked by hand.
+#![allow(clippy::op_ref)]
+use std::collections::HashSet;
+use std::fmt::Write as _;
+use std::hash::Hash;
+use std::iter::FusedIterator;
+
+use net_base::finite::FiniteError;
+use net_base::receiver::Receiver;
+use net_base::scoreboard::Scoreboard;
+use net_base::sequence_number::SequenceNumber;
+use net_base::storage::{
+    Assembler, Empty, FragmentError, Full, RingBuffer, RingOver, TooManyHolesError,
+};
+use net_base::tcp::{
+    AdvertisedWindow, PartsSum, PeerWindow, RetransmissionTimeout, TimeoutBounds, Transmission,
+};
+use net_base::time::{Duration, Instant};
+
+fn count<T: Hash + Eq>(values: impl IntoIterator<Item = T>) -> usize {
+    values.into_iter().collect::<HashSet<T>>().len()
+}
+
+#[test]
+fn hashes() {
+    assert_eq!(count([5, -5, 5].map(Instant::from_secs)), 2);
+    assert_eq!(count([5, 6, 5].map(Duration::from_secs)), 2);
+    assert_eq!(count([5, 1 << 16, 5].map(SequenceNumber::new)), 2);
+    assert_eq!(count([FiniteError::TooManyHoles, FiniteError::OtherEnd]), 2);
+    assert_eq!(count([FragmentError::TooLong, FragmentError::OtherSize]), 2);
+    assert_eq!((count([Full; 2]), count([Empty; 2]), count([TooManyHolesError; 2])), (1, 1, 1));
+}
+
+#[test]
+fn sums_of_lengths() {
+    let lengths = [3, 4, 5].map(Duration::from_secs);
+    assert_eq!(lengths.iter().sum::<Duration>(), Duration::from_secs(12));
+    assert_eq!(lengths.into_iter().sum::<Duration>(), Duration::from_secs(12));
+    assert_eq!([].iter().sum::<Duration>(), Duration::ZERO);
+    let over = || [Duration::MAX, Duration::from_micros(1)].iter().sum::<Duration>();
+    assert!(std::panic::catch_unwind(over).is_err());
+}
+
+#[test]
+fn sequence_numbers() {
+    let mut number = SequenceNumber::from(u32::MAX);
+    assert_eq!(
+        (number.to_string(), format!("{number:>11}")),
+        ("4294967295".into(), " 4294967295".into())
+    );
+    number += 3;
+    assert_eq!((u32::from(number), number - 3), (2, SequenceNumber::new(u32::MAX)));
+    number -= 2;
+    assert_eq!((number, number - 0), (SequenceNumber::default(), SequenceNumber::new(0)));
+}
+
+#[test]
+fn scoreboards() {
+    let [mut one, mut other] = [(); 2].map(|()| Scoreboard::<4>::empty_at(5));
+    assert!(one == other && one != Scoreboard::empty_at(6));
+    assert_eq!((one.report(7, 9, 20), other.report(7, 8, 20)), (Ok(true), Ok(true)));
+    assert!(one != other);
+    assert_eq!(other.report(8, 9, 20), Ok(true));
+    assert!(one == other);
+    one.acknowledge(20);
+    other.acknowledge(21);
+    assert!(one != other);
+}
+
+#[test]
+fn machines() {
+    assert_eq!(AdvertisedWindow::default(), AdvertisedWindow::new(0));
+    assert_eq!(PartsSum::default().with(b"ab"), PartsSum::new().with(b"ab"));
+    assert_ne!(PeerWindow::new(1, 2, 3), PeerWindow::new(1, 2, 4));
+    assert_ne!(Transmission::Once(5), Transmission::Repeated);
+    assert_eq!(RetransmissionTimeout::default(), RetransmissionTimeout::new(1_000_000));
+    let TimeoutBounds { least, most, tick } = TimeoutBounds::default();
+    assert_eq!((least, most, tick), (1_000_000, 60_000_000, 1_000));
+}
+
+#[test]
+fn errors() {
+    let add = |offset| -> Result<(), FragmentError> { Ok(Assembler::<1>::empty().add(offset, 1)?) };
+    assert_eq!(add(3), Ok(()));
+    assert_eq!(FiniteError::from(TooManyHolesError), FiniteError::TooManyHoles);
+    assert_eq!(FragmentError::from(TooManyHolesError), FragmentError::TooManyHoles);
+}
+
+/// How many an iterator says that it yields, and how many it does; after each element, one less.
+fn counted(mut iter: impl ExactSizeIterator + FusedIterator) -> usize {
+    let count = iter.len();
+    for left in (0..count).rev() {
+        assert!(iter.next().is_some());
+        assert_eq!((iter.len(), iter.size_hint()), (left, (left, Some(left))));
+    }
+    assert!(iter.next().is_none() && iter.next().is_none());
+    count
+}
+
+#[test]
+fn counts() {
+    let mut ring = RingOver::over([0u8; 4]);
+    ring.enqueue_unallocated(3);
+    ring.dequeue_allocated(3);
+    ring.extend(*b"abc");
+    let mut back = ring.iter();
+    assert_eq!((back.next_back(), back.len()), (Some(&b'c'), 2));
+    assert_eq!(
+        (counted(ring.iter()), (&ring).into_iter().copied().collect()),
+        (3, b"abc".to_vec())
+    );
+    let mut assembler = Assembler::<4>::empty();
+    assert!(
+        assembler.add(0, 2).is_ok() && assembler.add(5, 1).is_ok() && assembler.add(9, 1).is_ok()
+    );
+    assert_eq!((counted(assembler.iter_data()), counted(assembler.holes())), (3, 2));
+    let mut storage = [0; 16];
+    let mut receiver = Receiver::<4>::empty(&mut storage[..]);
+    assert!(receiver.segment(2, b"c").is_ok() && receiver.segment(5, b"f").is_ok());
+    assert_eq!(counted(receiver.held()), 2);
+    assert_eq!(counted(receiver.newest_runs(5, &mut [0; 3])), 2);
+    assert_eq!(counted(receiver.newest_runs(5, &mut [0; 1])), 1);
+}
+
+#[test]
+fn elements_and_texts() {
+    let mut ring = RingOver::over([0u8; 4]);
+    assert!(ring.write_str("abc").is_ok() && ring.write_str("de").is_err());
+    assert_eq!((ring.len(), write!(ring, "{}", 7), ring.get(3)), (3, Ok(()), Some(&b'7')));
+    let mut numbers = [0; 3];
+    let mut ring = RingBuffer::new(&mut numbers[..]);
+    let extend = std::panic::AssertUnwindSafe(|| ring.extend([1, 2, 3, 4]));
+    assert!(std::panic::catch_unwind(extend).is_err());
+    assert_eq!(ring.into_iter().sum::<i32>(), 6);
+}
+
+#[cfg(feature = "std")]
+mod streams {
+    use net_base::finite::{FiniteReceiver, FiniteSender};
+    use net_base::receiver::Receiver;
+    use net_base::sender::Sender;
+    use net_base::storage::RingOver;
+    use std::io::{ErrorKind, Read, Write};
+
+    #[test]
+    fn readers() {
+        let mut text = String::new();
+        let mut ring = RingOver::over([0u8; 8]);
+        assert_eq!(ring.enqueue_slice(b"abcd"), 4);
+        assert_eq!(Read::by_ref(&mut ring).take(3).read_to_string(&mut text).unwrap(), 3);
+        let (mut one, mut other) = ([0; 8], [0; 8]);
+        let mut receiver = Receiver::<4>::empty(&mut one[..]);
+        let mut finite = FiniteReceiver::<4>::empty_at(&mut other[..], 0);
+        assert!(receiver.segment(0, b"ef").is_ok() && finite.keep(0, b"gh", true).is_ok());
+        assert_eq!(receiver.read_to_string(&mut text).unwrap(), 2);
+        assert_eq!(finite.read_to_string(&mut text).unwrap(), 2);
+        assert_eq!((&text[..], ring.len(), finite.has_read_all()), ("abcefgh", 1, true));
+    }
+
+    #[test]
+    fn writers() {
+        let mut ring = RingOver::over([0u8; 4]);
+        assert!(ring.write_all(b"abc").is_ok() && ring.flush().is_ok());
+        assert_eq!(ring.write_all(b"de").unwrap_err().kind(), ErrorKind::WriteZero);
+        assert_eq!(ring.as_slices(), (&b"abcd"[..], &b""[..]));
+        let (mut one, mut other) = ([0; 4], [0; 4]);
+        let (mut sender, mut finite) =
+            (Sender::new(&mut one[..]), FiniteSender::new_at(&mut other[..], 0));
+        for writer in [&mut sender as &mut dyn Write, &mut finite] {
+            assert!(writer.write_all(b"abc").is_ok() && writer.flush().is_ok());
+            assert_eq!(writer.write(b"de").unwrap(), 1);
+        }
+        assert_eq!(
+            (sender.peek_at(0, 9), finite.peek_at(1, 9)),
+            (&b"abcd"[..], (&b"bcd"[..], false))
+        );
+    }
+}
