@@ -18,10 +18,10 @@ REFUSED = Test("ending: the bytes of a last segment are refused")
 COMPLETE = Test("ending: all bytes and the end have come")
 READ_ALL = Test("ending: all bytes were read, up to the end")
 HELD_END = Test("ending: the end has come, and bytes before it are missing")
-WINDOW = Test("ending: is_acceptable finds a window")
-COUNT = Test("ending: is_acceptable has a number")
-FIRST_IN = Test("ending: is_acceptable, the first number may come")
-LAST_IN = Test("ending: is_acceptable, the last number may come")
+NO_END = Test("ending: can_end asks for the greatest number")
+END_FITS = Test("ending: the free window's end fits 64 bits")
+END_COUNTS = Test("ending: the acknowledged number is above the free window's end")
+QUEUED = Test("ending: as many bytes are queued as are to be removed")
 
 
 class Ending:
@@ -83,21 +83,22 @@ class Ending:
     def read(self, room):
         return show_bytes(self.bytes.read(room))
 
+    def remove(self, count):
+        if not QUEUED(count <= len(self.bytes.queue)):
+            return "forbidden"
+        self.bytes.read(count)
+        return "done"
+
     def can_end(self, pos):
+        if NO_END(pos == TOP):
+            return truth(False)
         return truth(pos == self.end if self.end is not None else pos >= self.top())
 
-    def is_acceptable(self, pos, count):
-        """The four rows of RFC 9293's table, section 3.10.7.4."""
-        next_, window = self.acknowledged, self.bytes.window
-        if pos + count > TOP:
-            return "forbidden"
-        if not WINDOW(window > 0):
-            return truth(count == 0 and pos == next_)
-        first_in = FIRST_IN(next_ <= pos < next_ + window)
-        if not COUNT(count > 0):
-            return truth(first_in)
-        last_in = LAST_IN(next_ <= pos + count - 1 < next_ + window)
-        return truth(first_in or last_in)
+    def window_end(self):
+        end = self.bytes.next + self.bytes.window
+        if not END_FITS(end <= TOP):
+            return "none"
+        return str((self.acknowledged if END_COUNTS(self.acknowledged > end) else end) - self.bytes.first)
 
 
 def position(random, ending):
@@ -114,9 +115,11 @@ def position(random, ending):
 
 def numbers_of(random, ending, name):
     if name == "keep":
-        pos, last = position(random, ending), int(random.one_in(3))
+        pos, last = position(random, ending), int(random.one_in(4))
         if random.one_in(3):
             pos = ending.bytes.next
+        elif random.one_in(3):
+            pos = min(TOP, ending.top() + 1)
         size = random.below(ending.bytes.capacity // 2 + 2)
         if last and ending.end is not None and not random.one_in(3):
             pos = max(0, ending.end - size)
@@ -124,12 +127,14 @@ def numbers_of(random, ending, name):
         return [pos, size, random.below(1000), last]
     if name == "read":
         return [random.below(ending.bytes.capacity + 2)]
-    if name == "is_acceptable":
-        return [position(random, ending), random.below(ending.bytes.capacity + 3)]
-    return [position(random, ending)]
+    if name == "remove":
+        return [random.below(len(ending.bytes.queue) + 2)]
+    if name == "can_end":
+        return [TOP if random.one_in(16) else position(random, ending)]
+    return []
 
 
-CALLS = ["keep"] * 9 + ["read"] * 4 + ["can_end"] * 2 + ["is_acceptable"] * 4
+CALLS = ["keep"] * 10 + ["read"] * 3 + ["remove"] + ["can_end"] * 3 + ["window_end"] * 3
 
 
 def draw(random, cases, lines):

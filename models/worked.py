@@ -541,9 +541,12 @@ ENDINGS = [
      "read 9: 4:; keep 4 0 0 1: 0 0|4 0 4 0 4 5 2"),
     (4, 1, 0, "keep 5 0 0 1: 0 0|0 0 4 0 - 0 0; keep 2 2 1 0: 2 0|0 0 4 1 - 0 0; keep 3 0 0 1: other_end; "
      "keep 4 0 0 1: 0 0|0 0 4 1 4 0 0"),
-    (2, 1, 100, "keep 100 2 1 0: 2 2|2 2 0 0 - 2 0; is_acceptable 102 0: 1; is_acceptable 102 1: 0; "
-     "keep 103 0 0 1: 0 0|2 2 0 0 - 2 0; keep 102 0 0 1: 0 0|2 2 0 0 2 3 1; is_acceptable 103 0: 1; "
-     "read 2: 2:; keep 102 0 0 1: 0 0|2 0 2 0 2 3 2"),
+    # A full storage: the end needs no room, and is announced above the free window's end.
+    (2, 1, 100, "keep 100 2 1 0: 2 2|2 2 0 0 - 2 0; window_end: 2; keep 103 0 0 1: 0 0|2 2 0 0 - 2 0; "
+     "keep 102 0 0 1: 0 0|2 2 0 0 2 3 1; window_end: 3; remove 3: forbidden; remove 1: done|2 1 1 0 2 3 1; "
+     "window_end: 3; read 2: 1:; window_end: 4; keep 102 0 0 1: 0 0|2 0 2 0 2 3 2"),
+    (1, 1, 0, "can_end 0: 1; can_end 18446744073709551614: 1; can_end 18446744073709551615: 0; keep 0 0 0 1: 0 0; "
+     "can_end 18446744073709551615: 0; can_end 0: 1"),
     # The end below a held byte; the end alone and out of order; another end, and bytes past the end; what was missing;
     # text after the end, the end again, another end.
     (8, 1, 100, "keep 100 2 1 0: 2 2|2 2 6 0 - 2 0; keep 106 1 2 0: 1 0|2 2 6 1 - 2 0; keep 104 2 3 1: other_end; "
@@ -554,9 +557,9 @@ ENDINGS = [
     # An end beyond the free window is cut off; one at its end needs no room.
     (4, 1, 0, "keep 0 6 1 1: 4 4|4 4 0 0 - 4 0; read 9: 4:; keep 4 4 2 1: 4 4|8 4 0 0 8 9 1; read 9: 4:; "
      "keep 8 0 0 0: 0 0|8 0 4 0 8 9 2"),
-    # The peer's acknowledgements after its end are within a window of 1.
-    (1, 1, 7, "is_acceptable 7 2: 1; is_acceptable 8 0: 0; keep 7 1 1 1: 1 1|1 1 0 0 1 2 1; is_acceptable 9 0: 1; "
-     "read 9: 1:; is_acceptable 9 0: 1; is_acceptable 8 0: 0; is_acceptable 10 0: 0"),
+    # The free window's end has no number.
+    (4, 1, 18446744073709551611, "window_end: 4; keep 18446744073709551611 1 1 0: 1 1|1 1 3 0 - 1 0; read 1: 1:; "
+     "window_end: none"),
 ]
 # Senders of streams that end: bytes, first position, and calls.
 CLOSINGS = [

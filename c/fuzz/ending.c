@@ -112,7 +112,7 @@ static uint64_t draw_position(void) {
 }
 
 static bool can_end(uint64_t position) {
-    return before.end == NO_END ? position >= top() : position == before.end;
+    return position != NO_END && (before.end == NO_END ? position >= top() : position == before.end);
 }
 
 static uint32_t answer(bool is_so) {
@@ -188,19 +188,27 @@ static void fuzz_read(void) {
     EXPECT(is_unchanged());
 }
 
-static void fuzz_is_acceptable(void) {
-    uint64_t first = next_position() + (next_position() == before.end), end = first + (is_nonsense ? 0 : window());
-    uint64_t position = once_in(2) ? first + below(3) - 1 : once_in(2) ? end - below(3) : draw_position();
-    uint64_t count = once_in(8) ? any_number() : below(4);
-    if (count > UINT64_MAX - position) is_nonsense = true;
-    uint64_t last = position + count - 1, room = is_nonsense ? 0 : window();
-    bool begins = position - first < room, ends = count > 0 && last - first < room;
-    if (position < first) begins = false;
-    if (last < first) ends = false;
-    bool wanted = room == 0 ? count == 0 && position == first : begins || ends;
-    EXPECT(net_base_finite_receiver_is_acceptable(receiver, storage, capacity, runs, most, position, count)
-           == answer(wanted));
+static void fuzz_remove(void) {
+    size_t of = once_in(4) ? any_number() : capacity, count = once_in(4) ? any_number() : below(capacity + 2);
+    bool right = is_sound_place(before.receiver.place, of) && has_next() && count <= before.receiver.place.length;
+    EXPECT(net_base_finite_receiver_remove(receiver, of, count) == right);
+    if (right) {
+        size_t from = before.receiver.place.read_at + count;
+        before.receiver.count_read += count;
+        before.receiver.place.read_at = of > 0 && from >= of ? from - of : from;
+        before.receiver.place.length -= count;
+    }
     EXPECT(is_unchanged());
+}
+
+static void fuzz_window_end(void) {
+    size_t of = once_in(4) ? any_number() : capacity;
+    uint64_t *end = (uint64_t *)(void *)result_room.bytes, old = *end, read = before.receiver.first + before.receiver.count_read;
+    bool right = has_next() && next_position() < NO_END && before.receiver.place.length <= of && of <= UINT64_MAX - read;
+    uint64_t wanted = read + of, acknowledged = next_position() + (next_position() == before.end);
+    if (wanted < acknowledged) wanted = acknowledged;
+    EXPECT(net_base_finite_receiver_window_end(receiver, of, end) == right);
+    EXPECT(*end == (right ? wanted : old) && is_unchanged());
 }
 
 static void fuzz_count_new(void) {
@@ -349,7 +357,7 @@ static void fuzz_acknowledge(void) {
 
 void fuzz_ending(void) {
     static void (*const of_receiver[])(void) = {fuzz_segment, fuzz_segment, fuzz_segment, fuzz_can_end, fuzz_arrived,
-        fuzz_read, fuzz_is_acceptable, fuzz_count_new, fuzz_receiver_is_sound};
+        fuzz_read, fuzz_remove, fuzz_window_end, fuzz_count_new, fuzz_receiver_is_sound};
     static void (*const of_sender[])(void) = {fuzz_numbers, fuzz_write, fuzz_close, fuzz_mark_sent, fuzz_acknowledge};
     if (once_in(3)) {
         draw_sender();

@@ -67,10 +67,15 @@ static bool make(const struct call *call) {
         say_bytes(into, net_base_finite_receiver_read(&head, storage, capacity, into, one));
     } else if (is(call, "can_end")) {
         say_truth(net_base_finite_receiver_can_end(&head, storage, capacity, runs, run_count, one) == NET_BASE_PRESENT);
-    } else if (is(call, "is_acceptable")) {
-        uint32_t status = net_base_finite_receiver_is_acceptable(
-            &head, storage, capacity, runs, run_count, one, call->numbers[1]);
-        say(status == NET_BASE_PRESENT ? "1" : status == NET_BASE_MISSING ? "0" : "forbidden");
+    } else if (is(call, "remove")) {
+        say(net_base_finite_receiver_remove(&head, capacity, one) ? "done" : "forbidden");
+    } else if (is(call, "window_end")) {
+        uint64_t end = 0;
+        if (net_base_finite_receiver_window_end(&head, capacity, &end)) {
+            say_number(end - first_position);
+        } else {
+            say("none");
+        }
     } else {
         return false;
     }

@@ -22,16 +22,18 @@ enum Kind {
     /// A position, a size, what the bytes represent, and 1 if the stream ends after them.
     Keep,
     Read,
+    Remove,
     CanEnd,
-    IsAcceptable,
+    WindowEnd,
 }
 
 /// The calls.
-static CALLS: [Entry<Kind>; 4] = [
+static CALLS: [Entry<Kind>; 5] = [
     ("keep", 4, Kind::Keep),
     ("read", 1, Kind::Read),
+    ("remove", 1, Kind::Remove),
     ("can_end", 1, Kind::CanEnd),
-    ("is_acceptable", 2, Kind::IsAcceptable),
+    ("window_end", 0, Kind::WindowEnd),
 ];
 
 impl<const N: usize> Ending<N> {
@@ -62,8 +64,9 @@ impl<const N: usize> Subject for Ending<N> {
         let reply = match kind {
             Kind::Keep => keep(receiver, one, &pattern(alloc, two, three)?, four == 1),
             Kind::Read => read(alloc, receiver, one)?,
+            Kind::Remove => remove(receiver, one),
             Kind::CanEnd => Reply::new().truth(receiver.can_end(one)),
-            Kind::IsAcceptable => is_acceptable(receiver, one, two),
+            Kind::WindowEnd => window_end(receiver, self.first),
         };
         Ok(Some(reply))
     }
@@ -121,9 +124,18 @@ fn read<const N: usize>(
     Ok(Reply::new().bytes(into.as_slice().get(..count).unwrap_or(&[])))
 }
 
-fn is_acceptable<const N: usize>(receiver: &FiniteReceiver<'_, N>, pos: u64, count: u64) -> Reply {
-    if count > u64::MAX - pos {
+fn remove<const N: usize>(receiver: &mut FiniteReceiver<'_, N>, count: u64) -> Reply {
+    if count > receiver.len() as u64 {
         return allowed(false);
     }
-    Reply::new().truth(receiver.is_acceptable(pos, count))
+    receiver.remove(count as usize);
+    allowed(true)
+}
+
+/// Returns a reply of the end of the free window, counted from a first position, if there is one.
+fn window_end<const N: usize>(receiver: &FiniteReceiver<'_, N>, first: u64) -> Reply {
+    match receiver.window_end() {
+        Some(end) => Reply::new().number(end.wrapping_sub(first)),
+        None => Reply::word("none"),
+    }
 }

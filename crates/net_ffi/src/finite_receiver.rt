@@ -1,6 +1,8 @@
 //! Segments of a stream that ends.
-ghost use Rattle.std.specs.Prelude.{◌≡◌, ◌↔◌, ◌+◌, ◌<◌, ℕ, List, length, IsTrue, MatchResult};
-ghost use Rattle.net_receiver.specs.Finite.{no_end, finite_after, finite_result};
+ghost use Rattle.std.specs.Prelude.{◌≡◌, ◌↔◌, ◌+◌, ◌<◌, ◌≤◌, ◌^◌, ◌==◌, ℕ, List, length, max};
+ghost use Rattle.std.specs.Prelude.{IsTrue, IsFalse, MatchResult, if◌then◌else◌};
+ghost use Rattle.net_receiver.specs.Finite.{no_end, acknowledged, finite_after, finite_result};
+ghost use Rattle.net_receiver.specs.ReceiverState.{limit_of};
 ghost use Rattle.net_assembler.specs.RunLists.{IsCanonical};
 ghost use Rattle.net_receiver.specs.FiniteHead.{finite_of, finite_storage_after, HasSoundFinite, next_of};
 ghost use Rattle.net_receiver.specs.FiniteLaws.{MatchesFinite, ReceivesFinite};
@@ -26,8 +28,8 @@ pub(crate) fn has_number(receiver: &FiniteReceiverHead) -> bool
 /// `is_last` says that the stream ends after the segment; the end is taken if it is at most the end of the free
 /// window.
 ///
-/// Returns what `net_base_receiver_segment` does, and is refused where that is, and also if the number after the
-/// segment doesn't fit 64 bits; or `NET_BASE_OTHER_END`, and nothing changes, if the segment says that the stream ends
+/// Returns what `net_base_receiver_segment` does, and is refused where that is, and also if `position` plus the number of
+/// bytes is 2^64 - 1 or more; or `NET_BASE_OTHER_END`, and nothing changes, if the segment says that the stream ends
 /// where it can't, as `net_base_finite_receiver_can_end` tells, also if there would be too many runs. A segment that is refused
 /// for its runs doesn't set the end.
 ///
@@ -84,5 +86,39 @@ pub extern "C" fn net_base_finite_receiver_segment(
         }
         Err(FiniteError::TooManyHoles) => NET_BASE_TOO_MANY_RUNS,
         Err(FiniteError::OtherEnd) => NET_BASE_OTHER_END,
+    }
+}
+
+/// Writes the end of the free window to `end`, for what is announced, where the storage has `capacity` bytes, and
+/// returns true: never below the number that `net_base_finite_receiver_acknowledged` writes, which is one above the
+/// free window's end where the end is counted and the storage is full.
+///
+/// If more than `capacity` bytes are queued, or the free window's end or the number after `next` doesn't fit 64 bits,
+/// it is refused: false, and nothing changes.
+#[unsafe(no_mangle)]
+pub extern "C" fn net_base_finite_receiver_window_end(
+    receiver: &FiniteReceiverHead,
+    capacity: usize,
+    end: &mut u64,
+) -> bool
+    ensures fits { IsTrue result ↔ ((receiver.now.receiver.place.length ≤ capacity) × (next_of receiver.now < no_end)
+        × (receiver.now.receiver.first + receiver.now.receiver.count_read + capacity < 2 ^ 64)) }
+    ensures end { IsTrue result → end.new ≡ max (receiver.now.receiver.first + receiver.now.receiver.count_read
+        + capacity) (if next_of receiver.now == receiver.now.end then next_of receiver.now + 1 else next_of
+        receiver.now) }
+    ensures limit { (storage : List ℕ) (runs : List (ℕ × ℕ)) → length storage ≡ capacity → HasSoundFinite
+        receiver.now storage runs → IsTrue result → end.new ≡ max (limit_of (finite_of receiver.now storage
+        runs).receiver) (acknowledged (finite_of receiver.now storage runs)) }
+    ensures unchanged { IsFalse result → end.new ≡ end.old }
+{
+    if receiver.receiver.place.length > capacity || !has_number(receiver) {
+        return false;
+    }
+    match receiver.window_end(capacity) {
+        Some(position) => {
+            *end = position;
+            true
+        }
+        None => false,
     }
 }

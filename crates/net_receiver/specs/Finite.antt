@@ -8,11 +8,10 @@
 --     finite_after N s pos xs last, finite_result N s pos xs last      what a segment leaves, and its result
 --     finite_after_read s n      what a read leaves
 --     is_complete s, acknowledged s, has_read_all s      what it says of the end
---     in_window s p, is_acceptable s pos n      the acceptability of RFC 9293, 3.10.7.4
 --     IsSameFinite s t      what `is_same_state` compares
 --     IsSoundEnd s      what is true of every such receiver
 --     finite_code      what is stored, as a code
-use Rattle.std.specs.Prelude.{◌≡◌, ℕ, ◌+◌, ◌-◌, ◌<◌, ◌≤◌, ◌^◌, max, Bool, ◌&&◌, ◌||◌, not, if◌then◌else◌}
+use Rattle.std.specs.Prelude.{◌≡◌, ℕ, ◌+◌, ◌-◌, ◌<◌, ◌≤◌, ◌^◌, max, Bool, ◌&&◌, not, if◌then◌else◌}
 use Rattle.std.specs.Prelude.{List, length, take, nat_lt, nat_le, nat_eq, is_ok, Result, Ok, Err}
 use Rattle.std.specs.Prelude.{refl}
 use Rattle.std.specs.Coded.{Coded, code_by, coded×, coded_ℕ}
@@ -100,20 +99,6 @@ is_complete s = nat_eq (next_position s.receiver) s.end
 -- the number that an acknowledgement carries: the first missing position, or the one after the end's own number
 abbrev pub acknowledged : FiniteState → ℕ
 acknowledged s = if is_complete s then s.end + 1 else next_position s.receiver
-
--- how many bytes have room after the queue; and the numbers that may arrive: as many, from the acknowledged one on
-abbrev pub window_of : FiniteState → ℕ
-window_of s = s.receiver.capacity - length s.receiver.queue
-
-abbrev pub in_window : FiniteState → ℕ → Bool
-in_window s p = nat_le (acknowledged s) p && nat_lt p (acknowledged s + window_of s)
-
--- of n numbers from pos on the first or the last may arrive; if none may, there is none, and pos is the
--- acknowledged one
-abbrev pub is_acceptable : FiniteState → ℕ → ℕ → Bool
-is_acceptable s pos n =
-    if nat_eq (window_of s) 0 then nat_eq n 0 && nat_eq pos (acknowledged s)
-    else in_window s pos || (nat_lt 0 n && in_window s (pos + n - 1))
 
 -- all bytes were read, up to the end
 abbrev pub has_read_all : FiniteState → Bool

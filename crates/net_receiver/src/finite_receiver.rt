@@ -1,9 +1,9 @@
 //! A receiver of a stream that ends.
 ghost use Rattle.std.specs.Prelude.{◌≡◌, ◌↔◌, ℕ, ◌+◌, ◌-◌, ◌<◌, ◌≤◌, ◌^◌, min, List, length, ◌++◌};
-ghost use Rattle.std.specs.Prelude.{IsTrue, Some, None, take, drop, slice_range, max, [], ◌∷◌};
+ghost use Rattle.std.specs.Prelude.{IsTrue, Some, None, take, drop, slice_range, max, [], ◌∷◌, nat_lt, ◌&&◌};
 ghost use Rattle.net_receiver.specs.Finite.{no_end, fresh_finite, can_end, finite_after};
 ghost use Rattle.net_receiver.specs.Finite.{finite_result, finite_after_read, is_complete};
-ghost use Rattle.net_receiver.specs.Finite.{acknowledged, has_read_all, is_acceptable};
+ghost use Rattle.net_receiver.specs.Finite.{acknowledged, has_read_all};
 ghost use Rattle.net_receiver.specs.Finite.{IsSameFinite, IsSoundEnd};
 ghost use Rattle.net_receiver.specs.FiniteHead.{finite_of, HasSoundFinite};
 ghost use Rattle.net_receiver.specs.Segments.{new_count};
@@ -160,8 +160,8 @@ impl<S: Storage<u8>, const N: usize> FiniteReceiverOver<S, N> {
         self.head.reset_at(first);
     }
 
-    /// Returns whether a segment fits: its bytes and an end after them have positions, as `keep`
-    /// requires.
+    /// Returns whether a segment fits, as `keep` requires: `pos + len` is below `u64::MAX`, so that an end
+    /// after its bytes has a number.
     pub fn fits(pos: u64, len: usize) -> bool
         ensures { IsTrue result ↔ (pos + len < no_end) }
     {
@@ -169,9 +169,10 @@ impl<S: Storage<u8>, const N: usize> FiniteReceiverOver<S, N> {
     }
 
     /// Returns whether the stream can end at a position: it is the end that is known, or none is,
-    /// and no byte is queued or held at it or above.
+    /// and no byte is queued or held at it or above. No stream ends at `u64::MAX`, after which there is
+    /// no number for an end.
     pub fn can_end(&self, pos: u64) -> bool
-        ensures { result ≡ can_end self.now pos }
+        ensures { result ≡ (nat_lt pos no_end && can_end self.now pos) }
     {
         self.head.can_end(whole(&self.storage), &self.runs, pos)
     }
@@ -265,7 +266,7 @@ impl<S: Storage<u8>, const N: usize> FiniteReceiverOver<S, N> {
         let lent = part.len();
         let answer = f(part);
         prove!(answer.0 <= lent, "more bytes than were lent");
-        self.head.receiver.remove(self.storage.count(), answer.0);
+        self.head.remove(self.storage.count(), answer.0);
         answer
     }
 
@@ -287,7 +288,7 @@ impl<S: Storage<u8>, const N: usize> FiniteReceiverOver<S, N> {
             count <= self.head.receiver.queued(),
             "more bytes than are queued"
         );
-        self.head.receiver.remove(self.storage.count(), count);
+        self.head.remove(self.storage.count(), count);
     }
 
     /// Shows the first part of the queue, which is empty only if the queue is.
@@ -331,25 +332,6 @@ impl<S: Storage<u8>, const N: usize> FiniteReceiverOver<S, N> {
             self.now.receiver.read ≡ length x }
     {
         self.head.has_read_all()
-    }
-
-    /// Returns whether a segment of `count` numbers from `pos` on is acceptable, as RFC 9293,
-    /// 3.10.7.4, has it: its first number may arrive, or its last one. The end is a number. If the
-    /// window is 0, only a segment without numbers at the acknowledged one is.
-    ///
-    /// An end alone at the acknowledged number, in a window of 0, isn't acceptable by this table, though
-    /// `keep` takes it, as it needs no room. A caller that wants it asks with the count of the bytes alone.
-    ///
-    /// # Requires
-    ///
-    /// `pos + count` fits 64 bits.
-    pub fn is_acceptable(&self, pos: u64, count: u64) -> bool
-        requires { pos + count < 2 ^ 64 }
-        ensures { result ≡ is_acceptable self.now pos count }
-    {
-        prove!(count <= u64::MAX - pos, "the segment ends too high");
-        self.head
-            .is_acceptable(whole(&self.storage), &self.runs, pos, count)
     }
 
     /// Returns the first missing position, as `ReceiverOver::next` does. It doesn't count the end:

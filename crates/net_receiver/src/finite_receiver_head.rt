@@ -1,10 +1,10 @@
 //! A receiver of a stream that ends, in parts.
 ghost use Rattle.std.specs.Prelude.{◌≡◌, ◌↔◌, ℕ, ◌+◌, ◌-◌, ◌<◌, ◌≤◌, ◌^◌, min, max, List, length};
-ghost use Rattle.std.specs.Prelude.{IsTrue, OnErr, Some, None, ◌==◌, ◌++◌, nat_lt, take, drop};
+ghost use Rattle.std.specs.Prelude.{IsTrue, OnErr, Some, None, ◌==◌, ◌++◌, nat_lt, take, drop, ◌&&◌};
 ghost use Rattle.std.specs.Prelude.{slice_range, if◌then◌else◌};
 ghost use Rattle.net_ring.specs.Ring.{queue};
 ghost use Rattle.net_ring.specs.RingHead.{IsSound as IsSoundPlace, ring_at};
-ghost use Rattle.net_receiver.specs.Finite.{in_window, is_acceptable, no_end, fresh_finite};
+ghost use Rattle.net_receiver.specs.Finite.{no_end, fresh_finite};
 ghost use Rattle.net_receiver.specs.Finite.{can_end, end_after, finite_after, finite_result};
 ghost use Rattle.net_receiver.specs.Finite.{finite_after_read, IsSameFinite, is_complete};
 ghost use Rattle.net_receiver.specs.Finite.{acknowledged, has_read_all};
@@ -90,8 +90,8 @@ impl FiniteReceiverHead {
                 .has_all_below(storage, runs, self.end.min(NO_END - 1))
     }
 
-    /// Returns whether a segment fits: its bytes and an end after them have positions, as `keep`
-    /// requires.
+    /// Returns whether a segment fits, as `keep` requires: `pos + len` is below `u64::MAX`, so that an end
+    /// after its bytes has a number.
     pub fn fits(pos: u64, len: usize) -> bool
         ensures { IsTrue result ↔ (pos + len < no_end) }
     {
@@ -119,16 +119,20 @@ impl FiniteReceiverHead {
         }
     }
 
-    /// Returns whether the stream can end at a position, as `FiniteReceiverOver::can_end` does. `u64::MAX`
-    /// is no end, which isn't tested here.
+    /// Returns whether the stream can end at a position, as `FiniteReceiverOver::can_end` does.
     ///
     /// # Requires
     ///
     /// Head, storage and runs are sound, as `is_sound` tests.
     pub fn can_end(&self, storage: &[u8], runs: &[Run], pos: u64) -> bool
         requires { HasSoundFinite self.now storage.now runs.now }
-        ensures { result ≡ can_end (finite_of self.now storage.now runs.now) pos }
+        ensures value { result
+            ≡ (nat_lt pos no_end && can_end (finite_of self.now storage.now runs.now) pos) }
+        ensures fits { pos < no_end → result ≡ can_end (finite_of self.now storage.now runs.now) pos }
     {
+        if pos == NO_END {
+            return false;
+        }
         if self.knows_end() {
             return pos == self.end;
         }
@@ -316,6 +320,29 @@ impl FiniteReceiverHead {
         self.receiver.read(storage, into)
     }
 
+    /// Removes the first `count` bytes of the queue, as `read` does, and copies none. `capacity` is
+    /// how many bytes the storage has.
+    ///
+    /// # Requires
+    ///
+    /// The queue is in the storage, it has `count` bytes, and the first missing position fits 64
+    /// bits, as they do where head, storage and runs are sound.
+    #[inline]
+    pub fn remove(&mut self, capacity: usize, count: usize)
+        requires place { IsSoundPlace capacity self.old.receiver.place }
+        requires queued { count ≤ self.old.receiver.place.length }
+        requires fits { next_of self.old < 2 ^ 64 }
+        ensures head { self.new.receiver ≡ head_after_read capacity count self.old.receiver }
+        ensures end { self.new.end ≡ self.old.end }
+        ensures sound { (storage : List ℕ) (runs : List (ℕ × ℕ)) → length storage ≡ capacity →
+            HasSoundFinite self.old storage runs → HasSoundFinite self.new storage runs }
+        ensures state { (storage : List ℕ) (runs : List (ℕ × ℕ)) → length storage ≡ capacity →
+            HasSoundFinite self.old storage runs → finite_of self.new storage runs
+            ≡ finite_after_read (finite_of self.old storage runs) count }
+    {
+        self.receiver.remove(capacity, count);
+    }
+
     /// Compares two receivers, as `FiniteReceiverOver::same_state` does.
     ///
     /// # Requires
@@ -338,38 +365,6 @@ impl FiniteReceiverHead {
             && self
                 .receiver
                 .is_same_state(storage, runs, &other.receiver, other_storage, other_runs)
-    }
-
-    /// Returns whether a number may arrive: it is the acknowledged one or above, by less than the
-    /// window.
-    #[inline]
-    fn is_in_window(&self, storage: &[u8], runs: &[Run], pos: u64) -> bool
-        requires { HasSoundFinite self.now storage.now runs.now }
-        ensures { result ≡ in_window (finite_of self.now storage.now runs.now) pos }
-    {
-        // Taken only for the precondition.
-        let _runs = runs;
-        let first = self.acknowledged();
-        pos >= first && pos - first < self.receiver.window(storage.len()) as u64
-    }
-
-    /// Returns whether a segment of `count` numbers from `pos` on is acceptable, as
-    /// `FiniteReceiverOver::is_acceptable` does.
-    ///
-    /// # Requires
-    ///
-    /// Head, storage and runs are sound, as `is_sound` tests, and `pos + count` fits 64 bits.
-    #[inline]
-    pub fn is_acceptable(&self, storage: &[u8], runs: &[Run], pos: u64, count: u64) -> bool
-        requires sound { HasSoundFinite self.now storage.now runs.now }
-        requires fits { pos + count < 2 ^ 64 }
-        ensures { result ≡ is_acceptable (finite_of self.now storage.now runs.now) pos count }
-    {
-        if self.receiver.window(storage.len()) == 0 {
-            return count == 0 && pos == self.acknowledged();
-        }
-        self.is_in_window(storage, runs, pos)
-            || count > 0 && self.is_in_window(storage, runs, pos + count - 1)
     }
 
     /// Returns how many bytes of a segment of `len` bytes at `position` would be new, as

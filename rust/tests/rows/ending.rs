@@ -43,10 +43,15 @@ impl<S: Storage<u8>, const N: usize> Subject for Ending<S, N> {
                 let count = receiver.read(&mut into);
                 bytes(&into[..count])
             }
-            "can_end" => truth(receiver.can_end(one)).to_string(),
-            "is_acceptable" => unless_panics("forbidden", || {
-                truth(receiver.is_acceptable(one, call.at(1))).to_string()
+            "remove" => unless_panics("forbidden", || {
+                receiver.remove(call.size(0));
+                "done".to_string()
             }),
+            "can_end" => truth(receiver.can_end(one)).to_string(),
+            "window_end" => {
+                let end = receiver.window_end();
+                end.map_or("none".to_string(), |end| (end - self.first).to_string())
+            }
             name => panic!("no call {name}"),
         }
     }

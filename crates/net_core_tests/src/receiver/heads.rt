@@ -20,8 +20,6 @@ fn ends_at_seven(head: &mut FiniteReceiverHead, storage: &mut [u8], runs: &mut [
     kept && head.knows_end()
         && head.end() == Some(7)
         && head.is_same_state(storage, runs, head, storage, runs)
-        && !head.is_acceptable(storage, runs, 7, 1)
-        && head.is_acceptable(storage, runs, 8, 1)
 }
 
 /// Returns whether no byte of a new receiver is queued or held at 5 or above, and it is in its own state.

@@ -12,7 +12,7 @@ pub returns-in-Ok-clause-state : goal.returns-in-Ok-clause-state
 returns-in-Ok-clause-state c =
     let s : FiniteState = finite_of c.args.self.now c.args.storage.now c.args.runs.now in
     left_state (length c.args.runs.now) s c.args.pos c.args.bytes.now c.args.is_last (no_other s (c.args.pos + length c.args.bytes.now) c.args.is_last
-    (elim c.else-is_last.branch [ else-is_last-via-then-is_last+else-not-can_end w ↦ inr (sym w.can_end.ensures ∙ w.if-not-can_end.false) | else-is_last-via-else-is_last w ↦ inl w.if-is_last.false ])) _
+    (elim c.else-is_last.branch [ else-is_last-via-then-is_last+else-not-can_end w ↦ inr (sym (w.can_end.ensures.fits c.requires.fits) ∙ w.if-not-can_end.false) | else-is_last-via-else-is_last w ↦ inl w.if-is_last.false ])) _
     (cut_is _ c.count_below-count.result c.args.bytes.now c.count_below-count.ensures)
     _ c.keep.ensures.state (Ok c.in-Ok.kept) c.in-Ok.ensures.numbers
     c.end_after-end.result c.end_after-end.ensures
@@ -21,7 +21,7 @@ pub returns-in-Ok-clause-value : goal.returns-in-Ok-clause-value
 returns-in-Ok-clause-value c =
     let s : FiniteState = finite_of c.args.self.now c.args.storage.now c.args.runs.now in
     left_result (length c.args.runs.now) s c.args.pos c.args.bytes.now c.args.is_last (no_other s (c.args.pos + length c.args.bytes.now) c.args.is_last
-    (elim c.else-is_last.branch [ else-is_last-via-then-is_last+else-not-can_end w ↦ inr (sym w.can_end.ensures ∙ w.if-not-can_end.false) | else-is_last-via-else-is_last w ↦ inl w.if-is_last.false ])) _
+    (elim c.else-is_last.branch [ else-is_last-via-then-is_last+else-not-can_end w ↦ inr (sym (w.can_end.ensures.fits c.requires.fits) ∙ w.if-not-can_end.false) | else-is_last-via-else-is_last w ↦ inl w.if-is_last.false ])) _
     (cut_is _ c.count_below-count.result c.args.bytes.now c.count_below-count.ensures)
     _ c.keep.ensures.state (Ok c.in-Ok.kept) c.in-Ok.ensures.numbers
 
@@ -35,7 +35,7 @@ pub returns-in-Err-clause-state : goal.returns-in-Err-clause-state
 returns-in-Err-clause-state c =
     let s : FiniteState = finite_of c.args.self.now c.args.storage.now c.args.runs.now in
     left_state (length c.args.runs.now) s c.args.pos c.args.bytes.now c.args.is_last (no_other s (c.args.pos + length c.args.bytes.now) c.args.is_last
-    (elim c.else-is_last.branch [ else-is_last-via-then-is_last+else-not-can_end w ↦ inr (sym w.can_end.ensures ∙ w.if-not-can_end.false) | else-is_last-via-else-is_last w ↦ inl w.if-is_last.false ])) _
+    (elim c.else-is_last.branch [ else-is_last-via-then-is_last+else-not-can_end w ↦ inr (sym (w.can_end.ensures.fits c.requires.fits) ∙ w.if-not-can_end.false) | else-is_last-via-else-is_last w ↦ inl w.if-is_last.false ])) _
     (cut_is _ c.count_below-count.result c.args.bytes.now c.count_below-count.ensures)
     _ c.keep.ensures.state (Err c.in-Err.field-0) c.in-Err.ensures.numbers
     s.end refl
@@ -44,7 +44,7 @@ pub returns-in-Err-clause-value : goal.returns-in-Err-clause-value
 returns-in-Err-clause-value c =
     let s : FiniteState = finite_of c.args.self.now c.args.storage.now c.args.runs.now in
     left_result (length c.args.runs.now) s c.args.pos c.args.bytes.now c.args.is_last (no_other s (c.args.pos + length c.args.bytes.now) c.args.is_last
-    (elim c.else-is_last.branch [ else-is_last-via-then-is_last+else-not-can_end w ↦ inr (sym w.can_end.ensures ∙ w.if-not-can_end.false) | else-is_last-via-else-is_last w ↦ inl w.if-is_last.false ])) _
+    (elim c.else-is_last.branch [ else-is_last-via-then-is_last+else-not-can_end w ↦ inr (sym (w.can_end.ensures.fits c.requires.fits) ∙ w.if-not-can_end.false) | else-is_last-via-else-is_last w ↦ inl w.if-is_last.false ])) _
     (cut_is _ c.count_below-count.result c.args.bytes.now c.count_below-count.ensures)
     _ c.keep.ensures.state (Err c.in-Err.field-0) c.in-Err.ensures.numbers
 
@@ -62,7 +62,7 @@ pub returns-in-Ok-clause-stored : goal.returns-in-Ok-clause-stored
 returns-in-Ok-clause-stored c =
     let s : FiniteState = finite_of c.args.self.now c.args.storage.now c.args.runs.now in
     left_storage c.args.self.now c.args.storage.now c.args.runs.now c.args.pos c.args.bytes.now c.args.is_last (no_other s (c.args.pos + length c.args.bytes.now) c.args.is_last
-    (elim c.else-is_last.branch [ else-is_last-via-then-is_last+else-not-can_end w ↦ inr (sym w.can_end.ensures ∙ w.if-not-can_end.false) | else-is_last-via-else-is_last w ↦ inl w.if-is_last.false ])) _
+    (elim c.else-is_last.branch [ else-is_last-via-then-is_last+else-not-can_end w ↦ inr (sym (w.can_end.ensures.fits c.requires.fits) ∙ w.if-not-can_end.false) | else-is_last-via-else-is_last w ↦ inl w.if-is_last.false ])) _
     (cut_is _ c.count_below-count.result c.args.bytes.now c.count_below-count.ensures)
     _ c.keep.ensures.stored
 
@@ -70,6 +70,6 @@ pub returns-in-Err-clause-stored : goal.returns-in-Err-clause-stored
 returns-in-Err-clause-stored c =
     let s : FiniteState = finite_of c.args.self.now c.args.storage.now c.args.runs.now in
     left_storage c.args.self.now c.args.storage.now c.args.runs.now c.args.pos c.args.bytes.now c.args.is_last (no_other s (c.args.pos + length c.args.bytes.now) c.args.is_last
-    (elim c.else-is_last.branch [ else-is_last-via-then-is_last+else-not-can_end w ↦ inr (sym w.can_end.ensures ∙ w.if-not-can_end.false) | else-is_last-via-else-is_last w ↦ inl w.if-is_last.false ])) _
+    (elim c.else-is_last.branch [ else-is_last-via-then-is_last+else-not-can_end w ↦ inr (sym (w.can_end.ensures.fits c.requires.fits) ∙ w.if-not-can_end.false) | else-is_last-via-else-is_last w ↦ inl w.if-is_last.false ])) _
     (cut_is _ c.count_below-count.result c.args.bytes.now c.count_below-count.ensures)
     _ c.keep.ensures.stored
