@@ -1,5 +1,5 @@
-//! smoltcp's `storage`, `time`, `phy` and `rand` as proved text that rustc compiles: no heap, no `unsafe`, no
-//! dependencies.
+//! smoltcp's `storage`, `time`, `rand`, and of `phy` capabilities, checksums and metadata, as proved text that rustc
+//! compiles: no heap, no `unsafe`, no dependencies.
 //!
 //! Names, signatures and behaviour are those of [smoltcp](https://github.com/smoltcp-rs/smoltcp) 0.14.0, except where an
 //! item says otherwise. Beyond smoltcp there are [`receiver::Receiver`], which joins segments that come in any order to a
@@ -29,8 +29,8 @@
 //! # What isn't
 //!
 //! The compiler; what is printed, and the texts of errors; conversions of storage; std's clocks; the traits and devices of
-//! [`phy`]; and that a `usize` has 64 bits, as the prover takes it: on 32 bits the text is only tested. README has a table
-//! of what is by hand, and why.
+//! [`phy`]; and that a `usize` has 64 bits, as the prover takes it: on 32 bits the text is only tested. README lists what
+//! is by hand, and why.
 //!
 //! # Features and targets
 //!
