@@ -5,7 +5,8 @@
     python3 tools/erase.py --check     writes nothing, and names each file that isn't so
 
 A file becomes itself without its *ghost forms*, those of the tables below. A form that isn't known is refused, with its
-file and line. A function's contract becomes a section of its documentation. tools/parts/erase_list.py says what else differs.
+file and line. A function's contract becomes a section of its documentation. tools/parts/erase_list.py says what else differs,
+and tools/parts/erase_names.py which types have other names.
 
 A public function with a precondition begins with a guard, `prove!(..)`, which becomes `assert!(..)`; one without is
 refused, but for those that the list names. What is written has the source's tokens without those of ghost forms, and no
@@ -17,7 +18,7 @@ from pathlib import Path
 
 sys.dont_write_bytecode = True
 from parts import erase_list as given
-from parts import erase_words
+from parts import erase_names, erase_words
 from parts.erase_tokens import SPACE, Refused, Text, words
 
 REPOSITORY = Path(__file__).resolve().parent.parent
@@ -309,6 +310,10 @@ def erased(said):
                 said.append(f'{source / path}:{refused}')
             unused, contracts = unused - eraser.used, contracts + eraser.contracts
             files[OUT / crate / ('mod.rs' if path.name == 'lib.rt' else path.with_suffix('.rs'))] = text
+    try:
+        files = dict(zip(files, erase_names.renamed(files.values())))
+    except Refused as refused:
+        said.append(f'the names of types: {refused}')
     files[OUT / 'contracts.rs'] = erase_words.page(REPOSITORY, given.CRATES, '\n'.join(contracts))
     said += [f'tools/parts/erase_list.py: nothing has use for: {text}' for text in sorted(unused)]
     return files

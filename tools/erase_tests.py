@@ -226,6 +226,54 @@ def page():
         assert not any('two' in row for row in rows), rows
 
 
+# A struct over any storage with its alias, as Rattle has them, and as Rust has them.
+ALIASED = ("/// B over any storage.\n///\n/// More.\npub struct AOver<S: Storage<u8>, const N: usize> {\n    a: S,\n}\n\n"
+           "/// A B.\npub type B<'a, const N: usize = { M }> = AOver<ManagedSlice<'a, u8>, N>;\n")
+NAMED = ("/// A B.\n///\n/// More.\npub struct B<'a, const N: usize = { M }, S: Storage<u8> = ManagedSlice<'a, u8>> {\n"
+         "    lent: core::marker::PhantomData<&'a ()>,\n    a: S,\n}\n\n"
+         "/// B over any storage.\npub type AOver<S, const N: usize> = B<'static, N, S>;\n")
+
+# A use of the old name, and what it becomes.
+USED = [
+    ('\nuse a::AOver;\npub use a::{AOver, B};\n', '\nuse a::B;\npub use a::{AOver, B};\n'),
+    ('impl<S: Storage<u8>> AOver<S, 4> {\n', "impl<S: Storage<u8>> B<'_, 4, S> {\n"),
+    ("impl<'a, S: C<D>> E<S> for AOver<S, N> {\n", "impl<'a, S: C<D>> E<S> for B<'_, N, S> {\n"),
+    ('fn f<O>(&self, b: &AOver<O, N>) -> u8 {}\n', "fn f<O>(&self, b: &B<'_, N, O>) -> u8 {}\n"),
+    ('struct C {\n    pub a: AOver<S, N>,\n}\n', "struct C {\n    pub a: B<'static, N, S>,\n}\n"),
+    ('f(AOver { a, b: 3 })', 'f(B { lent: core::marker::PhantomData, a, b: 3 })'),
+    ('let AOver {\n    a,\n} = b;', 'let B {\n    lent: core::marker::PhantomData,\n    a,\n} = b;'),
+    ('f(AOver::over(a), AOver::over(b))', 'f(B::over(a), B::over(b))'),
+    ('/// [`AOver::f`], [`AOver`](a::AOver)\n', '/// [`B::f`], [`B`](a::B)\n'),
+]
+
+# Texts that are refused beside that of ALIASED, and changes of that text.
+UNKNOWN = [
+    'fn f(b: AOver<S, N>) {}', 'fn f() -> AOver<S, N> {}', 'struct C {\n    a: AOver<S, N>,\n}', 'fn f(b: &mut AOver<S, N>) {}',
+    'use a::{AOver, B};', 'use a::AOver as C;', 'impl C<AOver<S, N>> for D {}', 'impl<S> AOver<Vec<u8>, N> {}', 'impl<S> AOver<S> {}',
+    'pub struct COver<S: Storage<u8>> {\n', 'f(AOver)', "type C = AOver<S, N>;",
+]
+CHANGED = [
+    ("= AOver<ManagedSlice<'a, u8>, N>", "= AOver<Vec<u8>, N>"), ("= AOver<ManagedSlice<'a, u8>, N>", "= AOver<ManagedSlice<'a, u8>>"),
+    ("= AOver<ManagedSlice<'a, u8>, N>", "= AOver<N, ManagedSlice<'a, u8>>"), ('const N: usize = { M }', 'const N: u8'),
+    ("B<'a, const N: usize = { M }>", "B<'a>"), ("B<'a, ", "B<'b, "), ('pub struct AOver', '#[repr(C)]\npub struct AOver'),
+    ('/// A B.\n', ''),
+]
+
+
+def names():
+    """The names of types over any storage; what isn't known is refused."""
+    rename = erase.erase_names.renamed
+    for text, wanted in USED:
+        assert rename([ALIASED, text]) == [NAMED, wanted], (text, rename([ALIASED, text]), wanted)
+    for texts in [[ALIASED, text] for text in UNKNOWN] + [[ALIASED.replace(old, new)] for old, new in CHANGED]:
+        try:
+            rename(texts)
+        except erase.Refused:
+            continue
+        raise AssertionError(texts)
+    assert rename([NAMED]) == [NAMED]
+
+
 def main():
     for text, wanted in GIVEN:
         assert of(text) == wanted, (text, of(text), wanted)
@@ -243,7 +291,8 @@ def main():
     own_checks()
     statuses()
     page()
-    print(f'{len(GIVEN)} texts erased, {len(REFUSED)} refused, {len(CALLED)} asked for a guard')
+    names()
+    print(f'{len(GIVEN)} texts erased, {len(REFUSED)} refused, {len(CALLED)} asked for a guard, {len(USED)} renamed')
 
 
 if __name__ == '__main__':

@@ -4,10 +4,12 @@ tools/public_items.txt, or writes that list. `git diff` of two versions of it sa
 
 Each line is what rustdoc shows of a module, a type, a trait, a function, a constant, a method or an impl, with attributes,
 fields and automatic traits. `+` are those that only all features give, `-` those that are there without features alone.
-Status 1 if the lists differ.
+Status 1 if the lists differ, if a link in the documentation leads nowhere, or if the page of a type lacks a public method
+that rust/src has of it.
 """
 import difflib
 import html
+import os
 import re
 import subprocess
 import sys
@@ -21,6 +23,9 @@ SETS = {"+": "--all-features", "-": "--no-default-features"}
 UNNAMED = re.compile(r"\b(?:Freeze|UnsafeUnpin|StructuralPartialEq) for ")
 # Of a page: methods of what a type derefs to, and impls for all types.
 OF_STD = re.compile(r'<h2 id="deref-methods.*?(?=<h2 id="(?:trait|synthetic)-)|<h2 id="blanket-implementations.*', re.S)
+# The methods of a type, in a source; what a page is that shows none of its own.
+IMPL = re.compile(r"^impl(?:<[^\n]*>)? (\w+)(?:<[^\n]*>)? \{\n(.*?)^\}", re.M | re.S)
+METHOD = re.compile(r"^    pub (?:const )?fn (\w+)", re.M)
 
 
 def plain(text):
@@ -49,14 +54,33 @@ def items(pages):
                     yield f"{path}: {plain(said)}"
 
 
-def listed():
+def unshown(pages):
+    """Public methods of types with pages, and those that a page lacks; all, if it is the page of an alias."""
+    methods, lacking = set(), []
+    for source in sorted((ROOT / "rust/src").rglob("*.rs")):
+        for name, body in IMPL.findall(source.read_text()):
+            for page in pages.rglob(f"*.{name}.html"):
+                text = page.read_text()
+                if "Redirecting to" in text:
+                    continue
+                own = METHOD.findall(body)
+                methods.update(f"{name}::{method}" for method in own)
+                lacking += [f"{page.name} has no {method}" for method in own
+                            if page.name.startswith("type.") or f'id="method.{method}"' not in text]
+    return methods, lacking
+
+
+def documented(features, folder):
+    """The crate's pages with these features."""
+    words = f"cargo doc --offline --quiet --no-deps --lib {features} --target-dir {folder}".split()
+    environment = os.environ | {"RUSTDOCFLAGS": "-D rustdoc::broken_intra_doc_links"}
+    subprocess.run(words, cwd=ROOT / "rust", env=environment, check=True)
+    return Path(folder) / "doc/net_base"
+
+
+def listed(pages):
     """The lines of the list, after the version of rustdoc and the crate's own attributes."""
-    found = {}
-    with tempfile.TemporaryDirectory() as folder:
-        for mark, features in SETS.items():
-            words = f"cargo doc --offline --quiet --no-deps --lib {features} --target-dir".split()
-            subprocess.run([*words, f"{folder}/{mark}"], cwd=ROOT / "rust", check=True)
-            found[mark] = set(items(Path(folder) / mark / "doc/net_base"))
+    found = {mark: set(items(pages[mark])) for mark in SETS}
     lines = [f"  {it}" for it in found["+"] & found["-"]]
     lines += [f"{mark} {it}" for mark, other in ("+-", "-+") for it in found[mark] - found[other]]
     version = subprocess.run(["rustdoc", "--version"], capture_output=True, text=True, check=True).stdout.split()[1]
@@ -65,14 +89,17 @@ def listed():
 
 
 def main(way):
-    now = listed()
+    with tempfile.TemporaryDirectory() as folder:
+        pages = {mark: documented(features, f"{folder}/{mark}") for mark, features in SETS.items()}
+        now, (methods, lacking) = listed(pages), unshown(pages["+"])
     if way == "--write":
         LIST.write_text("\n".join(now) + "\n")
     was = LIST.read_text().splitlines() if LIST.is_file() else [""]
     names = f"tools/public_items.txt, by {was[0]}", now[0]
     different = list(difflib.unified_diff(was[1:], now[1:], *names, n=0, lineterm=""))
     print("\n".join(different) or f"{len(now) - 1} public items, as listed")
-    return bool(different)
+    print("\n".join(lacking) or f"{len(methods)} methods, each on the page of its type")
+    return bool(different or lacking)
 
 
 if __name__ == "__main__":

@@ -67,7 +67,7 @@ impl<'a, const N: usize> FiniteReceiver<'a, N> {
     /// If `first` is `u64::MAX`: no number is left for the end.
     #[must_use]
     pub fn empty_at<S: Into<ManagedSlice<'a, u8>>>(storage: S, first: u64) -> Self {
-        FiniteReceiverOver::over_at(storage.into(), first)
+        FiniteReceiver::over_at(storage.into(), first)
     }
 }
 
@@ -79,11 +79,11 @@ impl<'a> FiniteSender<'a> {
     /// If `first` is `u64::MAX`: no number is left for the end.
     #[must_use]
     pub fn new_at<S: Into<ManagedSlice<'a, u8>>>(storage: S, first: u64) -> Self {
-        FiniteSenderOver::over_at(storage.into(), first)
+        FiniteSender::over_at(storage.into(), first)
     }
 }
 
-impl<S: Storage<u8>, const N: usize> fmt::Debug for FiniteReceiverOver<S, N> {
+impl<S: Storage<u8>, const N: usize> fmt::Debug for FiniteReceiver<'_, N, S> {
     fn fmt(&self, f: &mut fmt::Formatter) -> fmt::Result {
         f.debug_struct("FiniteReceiver")
             .field("next", &self.next())
@@ -96,7 +96,7 @@ impl<S: Storage<u8>, const N: usize> fmt::Debug for FiniteReceiverOver<S, N> {
 }
 
 /// The first number that isn't acknowledged, that after the last one, and whether the stream has its end: not the storage.
-impl<S: Storage<u8>> fmt::Debug for FiniteSenderOver<S> {
+impl<S: Storage<u8>> fmt::Debug for FiniteSender<'_, S> {
     fn fmt(&self, f: &mut fmt::Formatter) -> fmt::Result {
         f.debug_struct("FiniteSender")
             .field("first_number", &self.first_number())

@@ -60,11 +60,11 @@ impl<'a, const N: usize> Receiver<'a, N> {
     /// ```
     #[must_use]
     pub fn empty_at<S: Into<ManagedSlice<'a, u8>>>(storage: S, first: u64) -> Self {
-        ReceiverOver::over_at(storage.into(), first)
+        Receiver::over_at(storage.into(), first)
     }
 }
 
-impl<S: Storage<u8>, const N: usize> fmt::Debug for ReceiverOver<S, N> {
+impl<S: Storage<u8>, const N: usize> fmt::Debug for Receiver<'_, N, S> {
     fn fmt(&self, f: &mut fmt::Formatter) -> fmt::Result {
         f.debug_struct("Receiver")
             .field("next", &self.next())

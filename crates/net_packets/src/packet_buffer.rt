@@ -24,8 +24,7 @@ use std::marker::{Model, PhantomData};
 
 pub mod laws;
 
-/// A queue of packets over any storage: `M` has the slots and `B` the bytes. [`PacketBuffer`] is
-/// its usual form.
+/// A [`PacketBuffer`] over any storage: `M` has the slots and `B` the bytes.
 ///
 /// A packet has a header and bytes that are contiguous in the storage. If a packet does not fit
 /// before the storage's end, it is placed at the storage's beginning, and the bytes before the end

@@ -24,12 +24,12 @@ use net_assembler::Run;
 use net_ring::{ManagedSlice, Storage};
 use std::marker::Model;
 
-/// A receiver of one stream of bytes that ends: a `ReceiverOver` that knows where the stream ends, once
-/// a segment has said so.
+/// A [`FiniteReceiver`] over any storage.
 ///
-/// The end is the position after the last byte. It has a number, as a byte has (that of TCP's FIN), and
-/// needs no room. Segments may arrive in any order, the last one too. The held runs that a selective
-/// acknowledgement lists are of bytes alone: an end that came out of order is sent again.
+/// It is a `Receiver` that knows where the stream ends, once a segment has said so. The end is the
+/// position after the last byte. It has a number, as a byte has (that of TCP's FIN), and needs no room.
+/// Segments may arrive in any order, the last one too. The held runs that a selective acknowledgement
+/// lists are of bytes alone: an end that came out of order is sent again.
 ///
 /// Contracts see what the receiver of the bytes stores, and the end, `no_end` while it isn't known.
 pub struct FiniteReceiverOver<S: Storage<u8>, const N: usize> {
@@ -40,7 +40,7 @@ pub struct FiniteReceiverOver<S: Storage<u8>, const N: usize> {
     runs: [Run; N],
 }
 
-/// A receiver over storage that is lent or owned.
+/// A receiver of one stream of bytes that ends, over storage that is lent or owned.
 pub type FiniteReceiver<'a, const N: usize> = FiniteReceiverOver<ManagedSlice<'a, u8>, N>;
 
 impl<S: Storage<u8>, const N: usize> Model for FiniteReceiverOver<S, N> {

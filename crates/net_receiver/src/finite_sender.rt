@@ -15,12 +15,12 @@ use crate::laws;
 use net_ring::{ManagedSlice, Storage};
 use std::marker::Model;
 
-/// The sender of a stream that ends: a `Sender` that can be closed.
+/// A [`FiniteSender`] over any storage.
 ///
-/// Once it is closed nothing can be written, and the end has the number after the last byte's (that of
-/// TCP's FIN): it is sent, reported and acknowledged as a byte is, and takes no room. A number is kept
-/// for it, so that it can always be closed. The sender keeps the mark of what was sent itself, which
-/// counts the end.
+/// It is a `Sender` that can be closed. Once it is closed nothing can be written, and the end has the
+/// number after the last byte's (that of TCP's FIN): it is sent, reported and acknowledged as a byte
+/// is, and takes no room. A number is kept for it, so that it can always be closed. The sender keeps
+/// the mark of what was sent itself, which counts the end.
 ///
 /// Contracts see what they see of a `Sender`; 1 or 0 for whether it is closed, and for whether the end
 /// is acknowledged; and the number after the last one that was sent. No call takes memory. smoltcp has

@@ -11,8 +11,10 @@ use crate::sender_head::SenderHead;
 use net_ring::{ManagedSlice, Storage};
 use std::marker::Model;
 
-/// The sender of a stream: its queue has the bytes that were written and not yet acknowledged. It
-/// serves as the sending half of a TCP socket: `peek_at` lends the bytes of a segment.
+/// A [`Sender`] over any storage.
+///
+/// Its queue has the bytes that were written and not yet acknowledged. It serves as the sending half of
+/// a TCP socket: `peek_at` lends the bytes of a segment.
 ///
 /// Positions are absolute and counted in bytes, as a `Receiver` counts them. The storage's length is
 /// the most bytes that are queued.
@@ -28,7 +30,7 @@ pub struct SenderOver<S: Storage<u8>> {
     storage: S,
 }
 
-/// A sender over storage that is lent or owned.
+/// The sender of a stream, over storage that is lent or owned.
 ///
 /// ```
 /// use net_base::sender::Sender;

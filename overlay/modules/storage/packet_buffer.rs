@@ -3,10 +3,10 @@ use core::fmt;
 
 use super::PacketMetadata;
 use super::ring_buffer::Shown;
-use crate::proved::net_packets::PacketsOver;
+use crate::proved::net_packets::PacketBuffer;
 use crate::proved::net_ring::Storage;
 
-impl<H, M, B> fmt::Debug for PacketsOver<H, M, B>
+impl<H, M, B> fmt::Debug for PacketBuffer<'_, H, M, B>
 where
     M: Storage<PacketMetadata<H>> + fmt::Debug,
     B: Storage<u8> + fmt::Debug,

@@ -1,7 +1,7 @@
 //! What Rattle has no words for in a ring: its text.
 use core::fmt;
 
-use crate::proved::net_ring::{RingHead, RingOver, Storage};
+use crate::proved::net_ring::{RingBuffer, RingHead, Storage};
 
 /// What is printed of a ring: its storage and its head.
 pub(super) struct Shown<'s, S>(pub(super) &'s S, pub(super) RingHead);
@@ -16,7 +16,7 @@ impl<S: fmt::Debug> fmt::Debug for Shown<'_, S> {
     }
 }
 
-impl<T, S: Storage<T> + fmt::Debug> fmt::Debug for RingOver<T, S> {
+impl<T, S: Storage<T> + fmt::Debug> fmt::Debug for RingBuffer<'_, T, S> {
     fn fmt(&self, f: &mut fmt::Formatter) -> fmt::Result {
         Shown(&self.storage, self.head).fmt(f)
     }

@@ -3,7 +3,6 @@ use core::fmt;
 
 use super::FragmentBuffer;
 use crate::managed::ManagedSlice;
-use crate::proved::net_base::storage::FragmentsOver;
 use crate::proved::net_ring::Storage;
 use crate::time::Instant;
 
@@ -33,11 +32,11 @@ impl<'a, const N: usize> FragmentBuffer<'a, N> {
     /// ```
     #[must_use]
     pub fn empty<S: Into<ManagedSlice<'a, u8>>>(storage: S, expires_at: Instant) -> Self {
-        FragmentsOver::over(storage.into(), expires_at)
+        FragmentBuffer::over(storage.into(), expires_at)
     }
 }
 
-impl<B: Storage<u8>, const N: usize> fmt::Debug for FragmentsOver<B, N> {
+impl<B: Storage<u8>, const N: usize> fmt::Debug for FragmentBuffer<'_, N, B> {
     fn fmt(&self, f: &mut fmt::Formatter) -> fmt::Result {
         f.debug_struct("FragmentBuffer")
             .field("capacity", &self.capacity())

@@ -56,9 +56,9 @@ impl From<TooManyHolesError> for FragmentError {
 /// An array of its own as storage: then the constructors `over` can make a `static`, as in the example `interrupt`.
 ///
 /// ```
-/// use net_base::storage::RingOver;
+/// use net_base::storage::RingBuffer;
 ///
-/// const RING: RingOver<u8, [u8; 4]> = RingOver::over([0; 4]);
+/// const RING: RingBuffer<u8, [u8; 4]> = RingBuffer::over([0; 4]);
 /// let mut ring = RING;
 /// assert_eq!((ring.enqueue_slice(b"abcde"), ring.get_allocated(1, 9)), (4, &b"bcd"[..]));
 /// ```

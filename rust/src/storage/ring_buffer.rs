@@ -1,10 +1,10 @@
 //! By hand, of a ring: what is printed, since Rattle would print its storage, and traits that Rattle hasn't.
 use core::fmt;
 
-use super::{RingOver, Storage};
+use super::{RingBuffer, Storage};
 use crate::proved::net_ring::ring_buffer::Iter;
 
-impl<'a, T, S: Storage<T>> IntoIterator for &'a RingOver<T, S> {
+impl<'a, T, S: Storage<T>> IntoIterator for &'a RingBuffer<'_, T, S> {
     type Item = &'a T;
     type IntoIter = Iter<'a, T>;
 
@@ -14,7 +14,7 @@ impl<'a, T, S: Storage<T>> IntoIterator for &'a RingOver<T, S> {
 }
 
 /// Panics if there is no room for an element: those before it are queued.
-impl<T, S: Storage<T>> Extend<T> for RingOver<T, S> {
+impl<T, S: Storage<T>> Extend<T> for RingBuffer<'_, T, S> {
     fn extend<I: IntoIterator<Item = T>>(&mut self, elements: I) {
         for element in elements {
             self.push_one(element).expect("room for an element");
@@ -23,7 +23,7 @@ impl<T, S: Storage<T>> Extend<T> for RingOver<T, S> {
 }
 
 /// A text for which there is no room isn't queued, nor a part of it.
-impl<S: Storage<u8>> fmt::Write for RingOver<u8, S> {
+impl<S: Storage<u8>> fmt::Write for RingBuffer<'_, u8, S> {
     fn write_str(&mut self, text: &str) -> fmt::Result {
         if text.len() > self.window() {
             return Err(fmt::Error);
@@ -33,7 +33,7 @@ impl<S: Storage<u8>> fmt::Write for RingOver<u8, S> {
     }
 }
 
-impl<T, S: Storage<T>> fmt::Debug for RingOver<T, S> {
+impl<T, S: Storage<T>> fmt::Debug for RingBuffer<'_, T, S> {
     fn fmt(&self, f: &mut fmt::Formatter) -> fmt::Result {
         f.debug_struct("RingBuffer")
             .field("capacity", &self.capacity())
@@ -45,7 +45,7 @@ impl<T, S: Storage<T>> fmt::Debug for RingOver<T, S> {
 
 #[cfg(test)]
 mod tests {
-    use crate::storage::RingBuffer;
+    use super::*;
     use std::format;
 
     #[test]

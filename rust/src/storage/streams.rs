@@ -2,30 +2,30 @@
 //! be none.
 use std::io::{Read, Result, Write};
 
-use super::{RingOver, Storage};
-use crate::finite::{FiniteReceiverOver, FiniteSenderOver};
-use crate::receiver::ReceiverOver;
-use crate::sender::SenderOver;
+use super::{RingBuffer, Storage};
+use crate::finite::{FiniteReceiver, FiniteSender};
+use crate::receiver::Receiver;
+use crate::sender::Sender;
 
-impl<S: Storage<u8>> Read for RingOver<u8, S> {
+impl<S: Storage<u8>> Read for RingBuffer<'_, u8, S> {
     fn read(&mut self, into: &mut [u8]) -> Result<usize> {
         Ok(self.dequeue_slice(into))
     }
 }
 
-impl<S: Storage<u8>, const N: usize> Read for ReceiverOver<S, N> {
+impl<S: Storage<u8>, const N: usize> Read for Receiver<'_, N, S> {
     fn read(&mut self, into: &mut [u8]) -> Result<usize> {
-        Ok(ReceiverOver::read(self, into))
+        Ok(Receiver::read(self, into))
     }
 }
 
-impl<S: Storage<u8>, const N: usize> Read for FiniteReceiverOver<S, N> {
+impl<S: Storage<u8>, const N: usize> Read for FiniteReceiver<'_, N, S> {
     fn read(&mut self, into: &mut [u8]) -> Result<usize> {
-        Ok(FiniteReceiverOver::read(self, into))
+        Ok(FiniteReceiver::read(self, into))
     }
 }
 
-impl<S: Storage<u8>> Write for RingOver<u8, S> {
+impl<S: Storage<u8>> Write for RingBuffer<'_, u8, S> {
     fn write(&mut self, bytes: &[u8]) -> Result<usize> {
         Ok(self.enqueue_slice(bytes))
     }
@@ -35,9 +35,9 @@ impl<S: Storage<u8>> Write for RingOver<u8, S> {
     }
 }
 
-impl<S: Storage<u8>> Write for SenderOver<S> {
+impl<S: Storage<u8>> Write for Sender<'_, S> {
     fn write(&mut self, bytes: &[u8]) -> Result<usize> {
-        Ok(SenderOver::write(self, bytes))
+        Ok(Sender::write(self, bytes))
     }
 
     fn flush(&mut self) -> Result<()> {
@@ -45,9 +45,9 @@ impl<S: Storage<u8>> Write for SenderOver<S> {
     }
 }
 
-impl<S: Storage<u8>> Write for FiniteSenderOver<S> {
+impl<S: Storage<u8>> Write for FiniteSender<'_, S> {
     fn write(&mut self, bytes: &[u8]) -> Result<usize> {
-        Ok(FiniteSenderOver::write(self, bytes))
+        Ok(FiniteSender::write(self, bytes))
     }
 
     fn flush(&mut self) -> Result<()> {

@@ -29,10 +29,10 @@ pub enum FragmentError {
     OtherSize,
 }
 
-/// A packet that arrives in fragments, in any order, as those of IPv4 do, over any storage.
-/// [`FragmentBuffer`] is its usual form. `N` is how many maximal runs of bytes it has room for.
+/// A [`FragmentBuffer`] over any storage.
 ///
-/// Fragments may overlap: at each position the byte is that of the last fragment there.
+/// `N` is how many maximal runs of bytes it has room for. Fragments may overlap: at each position the
+/// byte is that of the last fragment there.
 ///
 /// ```text
 /// add(0, "abcde")    abcde.....
@@ -51,7 +51,7 @@ pub struct FragmentsOver<B: Storage<u8>, const N: usize> {
     runs: [Run; N],
 }
 
-/// A packet that arrives in fragments, over lent or owned bytes.
+/// A packet that arrives in fragments, in any order, as those of IPv4 do, over lent or owned bytes.
 pub type FragmentBuffer<'a, const N: usize> = FragmentsOver<ManagedSlice<'a, u8>, N>;
 
 impl<B: Storage<u8>, const N: usize> Model for FragmentsOver<B, N> {
