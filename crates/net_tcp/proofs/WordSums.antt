@@ -1,14 +1,15 @@
 -- Sums of words, and what folding keeps of them: the number modulo 65535, and whether it is 0.
 use Rattle.std.proofs.Common.{◌≡◌, ℕ, zero, suc, ◌+◌, ◌-◌, ◌*◌, ◌/◌, ◌%◌, ◌^◌, ◌<◌, ◌≤◌, List, [], ◌∷◌, ◌++◌}
 use Rattle.std.proofs.Common.{length, take, drop, refl, sym, ap, ◌∙◌, inl, inr, subst, arith, length-append}
-use Rattle.std.proofs.Common.{append-nil, All}
+use Rattle.std.proofs.Common.{append-nil, All, true, false, cond, nat_eq}
 use Rattle.std.specs.Prelude.{◌⊎◌}
 use Rattle.std.specs.Int.{w32, from_be_bytes}
-use Rattle.std.proofs.lemmas.Bool.{cases_lt}
+use Rattle.std.proofs.lemmas.Bool.{cases_lt, cond_both, eqb-true, eqb-false, false_from_ne_true}
 use Rattle.net_tcp.specs.InternetChecksum.{word_sum, folded, internet_checksum, updated, word_bytes, IsEven}
 use Rattle.net_tcp.specs.InternetChecksum.{add_words, carried_sum, IsCarriedSum, GroupsAdd, FoldsAdd}
 use Rattle.net_tcp.specs.InternetChecksum.{ChecksumVerifies, OnlyChecksumVerifies, UpdateIsChecksum}
-use Rattle.net_tcp.specs.InternetChecksum.{UpdateKeepsValid}
+use Rattle.net_tcp.specs.InternetChecksum.{UpdateKeepsValid, Sums, sum_with, sum_joined}
+use Rattle.net_tcp.specs.declared.internet_sum.PartsSum.{PartsSum}
 
 -- ---- folding
 -- two positive numbers that differ by a multiple of 65535 fold to one
@@ -108,23 +109,6 @@ block_more s w r rest part after is sum cut even =
     let all = groups_add part after even in
     let e : (s + word_sum part) + word_sum after ≡ s + word_sum rest = omega (arith, all, ap word_sum cut) in
     folded_more r (s + word_sum part) (word_sum after) (sum ∙ sym (folds_add s w) ∙ ap (λ n. folded (s + n)) is ∙ folds_add s (word_sum part)) ∙ ap folded e
-
--- ---- one part after another
--- a part that begins with a high byte
-pub parts_even : (s t a b : ℕ) (xs ys : List ℕ) → folded s ≡ folded (word_sum xs) → 0 ≡ length xs % 2 → folded t ≡ folded (s + word_sum ys) → b ≡ length ys % 2 →
-    (folded t ≡ folded (word_sum (xs ++ ys))) × (b ≡ length (xs ++ ys) % 2)
-parts_even s t a b xs ys sum even more odd = (
-  more ∙ folded_more s (word_sum xs) (word_sum ys) sum ∙ ap folded (sym (groups_add xs ys (sym even))),
-  omega (arith, length-append xs ys),
-)
-
--- a part that begins with a low byte
-pub parts_odd : (s t u b : ℕ) (xs ys : List ℕ) (x : ℕ) → folded s ≡ folded (word_sum xs) → 1 ≡ length xs % 2 → folded u ≡ folded (s + x) → folded t ≡ folded (u + word_sum ys) → b ≡ length ys % 2 →
-    (folded t ≡ folded (word_sum (xs ++ x ∷ ys))) × (b ≡ length (xs ++ x ∷ ys) % 2)
-parts_odd s t u b xs ys x sum odd low more end = (
-  more ∙ folded_more u (word_sum xs + x) (word_sum ys) (low ∙ folded_more s (word_sum xs) x sum) ∙ ap folded (sym (word_sum-append_odd xs x ys (sym odd))),
-  omega (arith, length-append xs (x ∷ ys)),
-)
 
 -- ---- a field of a message
 -- a word at an even offset
@@ -239,18 +223,76 @@ times : (a : ℕ) → folded (256 * folded a) ≡ folded (256 * a)
 times zero = refl
 times (suc n) = folded_alike (256 * folded (suc n)) (256 * suc n) (256 * (n / 65535)) 0 (omega arith) (omega arith) (omega arith)
 
-pub joined_odd : (s t w r b d : ℕ) (xs ys : List ℕ) → folded s ≡ folded (word_sum xs) → 1 ≡ length xs % 2 → folded t ≡ folded (word_sum ys) → b ≡ length ys % 2 →
-    w ≡ folded t % 256 * 256 + folded t / 256 → folded r ≡ folded (s + w) → b + d ≡ 1 →
-    (folded r ≡ folded (word_sum (xs ++ ys))) × (d ≡ length (xs ++ ys) % 2)
-joined_odd s t w r b d xs ys sum odd part end is all other =
-    let low : folded w ≡ folded (low_sum ys) = ap folded is ∙ swap_is (folded t) ∙ ap (λ n. folded (256 * n)) part ∙ times (word_sum ys) ∙ turned ys in (
-      all ∙ folded_more s (word_sum xs) w sum ∙ sym (folds_add (word_sum xs) w) ∙ ap (λ n. folded (word_sum xs + n)) low ∙ folds_add (word_sum xs) (low_sum ys)
-          ∙ ap folded (sym (after_odd xs ys (sym odd))),
-      omega (arith, length-append xs ys),
-    )
+-- ---- one part after another
+-- a folded sum is folded
+folded_twice : (n : ℕ) → folded (folded n) ≡ folded n
+folded_twice n = folded_small (folded n) (folded_le n)
 
-pub joined_even : (s t r b : ℕ) (xs ys : List ℕ) → folded s ≡ folded (word_sum xs) → 0 ≡ length xs % 2 → folded t ≡ folded (word_sum ys) → b ≡ length ys % 2 →
-    folded r ≡ folded (s + t) → (folded r ≡ folded (word_sum (xs ++ ys))) × (b ≡ length (xs ++ ys) % 2)
-joined_even s t r b xs ys sum even part end all =
-    parts_even s r 0 b xs ys sum even
-    (all ∙ sym (folds_add s t) ∙ ap (λ n. folded (s + n)) part ∙ folds_add s (word_sum ys)) end
+odd_of : (s : PartsSum) (xs : List ℕ) → Sums s xs → nat_eq s.odd 0 ≡ false → length xs % 2 ≡ 1
+odd_of s xs sums odd =
+    elim (cases_lt 0 (length xs % 2)) [
+      | inl some ↦ omega arith
+      | inr none ↦ absurd (eqb-false s.odd 0 odd (omega (arith, sums.1)))
+    ]
+
+even_of : (s : PartsSum) (xs : List ℕ) → Sums s xs → nat_eq s.odd 0 ≡ true → length xs % 2 ≡ 0
+even_of s xs sums even = sym sums.1 ∙ eqb-true s.odd 0 even
+
+low_part : (ys : List ℕ) → word_sum (0 ∷ ys) ≡ low_sum ys
+low_part ys = high_then_low 0 ys ∙ omega arith
+
+pub with_sums : (s : PartsSum) (xs ys : List ℕ) → Sums s xs → Sums (sum_with s ys) (xs ++ ys)
+with_sums s xs ys sums =
+    cond_both (nat_eq s.odd 0) ys (0 ∷ ys)
+    (λ zs. (folded (folded (s.sum + word_sum zs)) ≡ folded (word_sum (xs ++ ys))) × (length zs % 2 ≡ length (xs ++ ys) % 2))
+    (λ even. (let at = even_of s xs sums even in (
+      folded_twice (s.sum + word_sum ys) ∙ folded_more s.sum (word_sum xs) (word_sum ys) sums.0 ∙ ap folded (sym (groups_add xs ys at)),
+      omega (arith, length-append xs ys, at),
+    )))
+    (λ odd. (let at = odd_of s xs sums odd in (
+      folded_twice (s.sum + word_sum (0 ∷ ys)) ∙ ap (λ n. folded (s.sum + n)) (low_part ys) ∙ folded_more s.sum (word_sum xs) (low_sum ys) sums.0
+          ∙ ap folded (sym (after_odd xs ys at)),
+      omega (arith, length-append xs ys, at),
+    )))
+
+pub joined_sums : (s t : PartsSum) (xs ys : List ℕ) → Sums s xs → Sums t ys → Sums (sum_joined s t) (xs ++ ys)
+joined_sums s t xs ys sums after =
+    cond_both (nat_eq s.odd 0) (record { sum = folded (s.sum + t.sum); odd = t.odd })
+    (record { sum = folded (s.sum + 256 * t.sum); odd = cond (nat_eq t.odd 0) 1 0 }) (λ r. Sums r (xs ++ ys))
+    (λ even. (let at = even_of s xs sums even in (
+      folded_twice (s.sum + t.sum) ∙ folded_both t.sum (word_sum ys) after.0 ∙ ap folded (sym (groups_add xs ys at)),
+      omega (arith, length-append xs ys, at, after.1),
+    )))
+    (λ odd. (let at = odd_of s xs sums odd in (
+      folded_twice (s.sum + 256 * t.sum)
+          ∙ folded_both (256 * t.sum) (low_sum ys) (sym (times t.sum) ∙ ap (λ n. folded (256 * n)) after.0 ∙ times (word_sum ys) ∙ turned ys)
+          ∙ ap folded (sym (after_odd xs ys at)),
+      (let turned_over = other t.odd (omega (arith, after.1)) in omega (arith, length-append xs ys, at, after.1, turned_over)),
+    )))
+  where
+    folded_both : (a b : ℕ) → folded a ≡ folded b → folded (s.sum + a) ≡ folded (word_sum xs + b)
+    folded_both a b e =
+        folded_more s.sum (word_sum xs) a sums.0 ∙ sym (folds_add (word_sum xs) a) ∙ ap (λ n. folded (word_sum xs + n)) e ∙ folds_add (word_sum xs) b
+
+    other : (n : ℕ) → n < 2 → n + cond (nat_eq n 0) 1 0 ≡ 1
+    other zero h = refl
+    other (suc zero) h = refl
+    other (suc (suc n)) h = absurd (omega arith)
+
+-- a word with its bytes exchanged, in place of 256 times the number of which it is the folded one
+pub swapped_joins : (s t : ℕ) → folded (s + (folded t % 256 * 256 + folded t / 256)) ≡ folded (s + 256 * t)
+swapped_joins s t =
+    let w = folded t % 256 * 256 + folded t / 256 in
+    sym (folds_add s w) ∙ ap (λ n. folded (s + n)) (swap_is (folded t) ∙ times t) ∙ folds_add s (256 * t)
+
+-- a part whose first byte is a low one
+pub low_first : (s r : PartsSum) (part words : List ℕ) (u low : ℕ) → (s.odd ≡ 0 → ⊥) → folded u ≡ folded (s.sum + low) → part ≡ low ∷ words →
+    r.sum ≡ folded (u + word_sum words) → r.odd ≡ length words % 2 → r ≡ sum_with s part
+low_first s r part words u low odd with_low cut sum rest =
+    let off : nat_eq s.odd 0 ≡ false = false_from_ne_true _ (λ e. odd (eqb-true s.odd 0 e)) in
+    let all : (s.sum + low) + word_sum words ≡ s.sum + word_sum (0 ∷ low ∷ words) = omega arith in
+    let sum_is : r.sum ≡ folded (s.sum + word_sum (0 ∷ part)) =
+    sum ∙ folded_more u (s.sum + low) (word_sum words) with_low ∙ ap folded all ∙ ap (λ l. folded (s.sum + word_sum (0 ∷ l))) (sym cut) in
+    let odd_is : r.odd ≡ length (0 ∷ part) % 2 = omega (arith, rest, ap length cut) in
+    (λ i. record { sum = sum_is i; odd = odd_is i })
+    ∙ (λ i. record { sum = folded (s.sum + word_sum (cond (sym off i) part (0 ∷ part))); odd = length (cond (sym off i) part (0 ∷ part)) % 2 })

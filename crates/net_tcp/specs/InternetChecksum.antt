@@ -3,9 +3,10 @@
 --     folded n      n as one 16-bit word of ones' complement
 --     internet_checksum xs, updated c m n      the checksum, and c after a word m became n
 --     add_words, carried_sum      the sum as RFC 1071 describes it, carry by carry
+--     sum_with s xs, sum_joined s t      the running sum s after bytes xs, or after those of which t is the sum
 --     Sums s xs      the running sum s is that of the bytes xs
 use Rattle.std.specs.Prelude.{◌≡◌, ℕ, zero, suc, ◌+◌, ◌-◌, ◌*◌, ◌/◌, ◌%◌, ◌^◌, ◌<◌, ◌≤◌, ◌⊎◌}
-use Rattle.std.specs.Prelude.{List, [], ◌∷◌, ◌++◌, length, All}
+use Rattle.std.specs.Prelude.{List, [], ◌∷◌, ◌++◌, length, All, nat_eq, if◌then◌else◌}
 use Rattle.net_tcp.specs.declared.internet_sum.PartsSum.{PartsSum}
 
 -- the sum of the words of these bytes, the high byte first; a last odd byte is a high byte
@@ -34,6 +35,20 @@ word_bytes w = w / 256 ∷ w % 256 ∷ []
 -- an even number of bytes: the next one is a high byte
 abbrev pub IsEven : List ℕ → Type 0
 IsEven xs = length xs % 2 ≡ 0
+
+-- bytes that follow those of the sum s, from a high byte on: a low byte comes after a high byte 0
+abbrev pub from_high : PartsSum → List ℕ → List ℕ
+from_high s xs = if nat_eq s.odd 0 then xs else 0 ∷ xs
+
+-- the sum after them
+abbrev pub sum_with : PartsSum → List ℕ → PartsSum
+sum_with s xs = record { sum = folded (s.sum + word_sum (from_high s xs)); odd = length (from_high s xs) % 2 }
+
+-- the sum after the bytes of which t is the sum; from a low byte on they sum to 256 times as much
+abbrev pub sum_joined : PartsSum → PartsSum → PartsSum
+sum_joined s t =
+    if nat_eq s.odd 0 then record { sum = folded (s.sum + t.sum); odd = t.odd }
+    else record { sum = folded (s.sum + 256 * t.sum); odd = if nat_eq t.odd 0 then 1 else 0 }
 
 -- s is the sum of the bytes xs, so far
 abbrev pub Sums : PartsSum → List ℕ → Type 0

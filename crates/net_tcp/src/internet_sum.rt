@@ -1,15 +1,15 @@
 //! The Internet checksum (RFC 1071), over one part or several, and its update (RFC 1624).
-ghost use Rattle.std.specs.Prelude.{◌≡◌, ◌↔◌, ℕ, ◌+◌, ◌*◌, ◌%◌, ◌<◌, ◌≤◌, List, [], ◌++◌, ◌/◌, IsTrue};
+ghost use Rattle.std.specs.Prelude.{◌≡◌, ◌↔◌, ℕ, ◌+◌, ◌-◌, ◌*◌, ◌%◌, ◌<◌, ◌≤◌, List, [], ◌++◌, ◌/◌, IsTrue};
 ghost use Rattle.std.specs.Prelude.{length};
 ghost use Rattle.net_tcp.specs.InternetChecksum.{folded, word_sum, internet_checksum, updated};
-ghost use Rattle.net_tcp.specs.InternetChecksum.{Sums, word_bytes};
+ghost use Rattle.net_tcp.specs.InternetChecksum.{Sums, sum_joined, sum_with, word_bytes};
 
 /// The sum of the bytes of several parts of a message, one after another, of any lengths.
 /// One of zeros is that of no bytes.
 #[repr(C)]
 #[derive(Copy, Clone, Debug)]
 pub struct PartsSum {
-    /// The sum of the words, up to a multiple of 65535; 0 only if that sum is 0.
+    /// The sum of the words, folded to 16 bits; 0 only if that sum is 0.
     pub sum: u64,
     /// 1 if the next byte is the low byte of a word, 0 if it is the high one.
     pub odd: u64,
@@ -26,21 +26,23 @@ impl PartsSum {
 
     /// Adds the bytes that follow those which were added.
     pub fn add(&mut self, part: &[u8])
-        ensures { (xs : List ℕ) → Sums self.old xs → Sums self.new (xs ++ part.now) }
+        ensures value { self.new ≡ sum_with self.old part.now }
+        ensures bytes { (xs : List ℕ) → Sums self.old xs → Sums self.new (xs ++ part.now) }
     {
         *self = self.with(part);
     }
 
     /// Returns the sum of the bytes that were added and of those that follow them.
     pub fn with(self, part: &[u8]) -> Self
-        ensures { (xs : List ℕ) → Sums self xs → Sums result (xs ++ part.now) }
+        ensures value { result ≡ sum_with self part.now }
+        ensures bytes { (xs : List ℕ) → Sums self xs → Sums result (xs ++ part.now) }
     {
         if self.odd == 0 {
             return sum_from(self.sum, part);
         }
         match part.split_first() {
             Some((low, words)) => sum_from(add_carry(self.sum, u64::from(*low)), words),
-            None => self,
+            None => sum_from(self.sum, &[0]),
         }
     }
 
@@ -52,27 +54,29 @@ impl PartsSum {
     /// An even count of bytes was added.
     pub fn with_word(self, word: u16) -> Self
         requires { self.odd ≡ 0 }
-        ensures { (xs : List ℕ) → Sums self xs → Sums result (xs ++ word_bytes word) }
+        ensures value { result ≡ sum_with self (word_bytes word) }
+        ensures bytes { (xs : List ℕ) → Sums self xs → Sums result (xs ++ word_bytes word) }
     {
         prove!(self.odd == 0, "an odd count of bytes was added");
         PartsSum {
-            sum: add_carry(self.sum, u64::from(word)),
+            sum: folded_sum(self.sum, u64::from(word)),
             odd: 0,
         }
     }
 
     /// Returns the sum of the bytes that were added, and of those of which `after` is the sum.
     pub fn joined(self, after: PartsSum) -> Self
-        ensures { (xs ys : List ℕ) → Sums self xs → Sums after ys → Sums result (xs ++ ys) }
+        ensures value { result ≡ sum_joined self after }
+        ensures bytes { (xs ys : List ℕ) → Sums self xs → Sums after ys → Sums result (xs ++ ys) }
     {
         if self.odd == 0 {
             PartsSum {
-                sum: add_carry(self.sum, after.sum),
+                sum: folded_sum(self.sum, after.sum),
                 odd: after.odd,
             }
         } else {
             PartsSum {
-                sum: add_carry(self.sum, u64::from(swapped(fold(after.sum)))),
+                sum: folded_sum(self.sum, u64::from(swapped(fold(after.sum)))),
                 odd: u64::from(after.odd == 0),
             }
         }
@@ -80,7 +84,8 @@ impl PartsSum {
 
     /// Returns the checksum of the bytes that were added.
     pub fn checksum(&self) -> u16
-        ensures { (xs : List ℕ) → Sums self.now xs → result ≡ internet_checksum xs }
+        ensures value { result ≡ 65535 - folded self.now.sum }
+        ensures bytes { (xs : List ℕ) → Sums self.now xs → result ≡ internet_checksum xs }
     {
         u16::MAX - fold(self.sum)
     }
@@ -88,7 +93,8 @@ impl PartsSum {
     /// Returns whether the bytes that were added, with a checksum among them at an even offset, are
     /// valid.
     pub fn is_valid(&self) -> bool
-        ensures { (xs : List ℕ) → Sums self.now xs
+        ensures value { IsTrue result ↔ (folded self.now.sum ≡ 65535) }
+        ensures bytes { (xs : List ℕ) → Sums self.now xs
             → (IsTrue result ↔ (folded (word_sum xs) ≡ 65535)) }
     {
         fold(self.sum) == u16::MAX
@@ -120,11 +126,11 @@ pub fn updated_checksum(checksum: u16, old: u16, new: u16) -> u16
 
 /// Returns the sum of some words and of these bytes, the first of which is a high byte.
 fn sum_from(start: u64, bytes: &[u8]) -> PartsSum
-    ensures sum { folded result.sum ≡ folded (start + word_sum bytes.now) }
+    ensures sum { result.sum ≡ folded (start + word_sum bytes.now) }
     ensures odd { result.odd ≡ length bytes.now % 2 }
 {
     PartsSum {
-        sum: sum_words(start, bytes),
+        sum: u64::from(fold(sum_words(start, bytes))),
         odd: bytes.len() as u64 % 2,
     }
 }
@@ -183,6 +189,14 @@ fn add_carry(a: u64, b: u64) -> u64
 {
     let (sum, carried) = a.overflowing_add(b);
     sum + carried as u64
+}
+
+/// Adds two sums, and folds theirs.
+#[inline]
+fn folded_sum(a: u64, b: u64) -> u64
+    ensures { result ≡ folded (a + b) }
+{
+    u64::from(fold(add_carry(a, b)))
 }
 
 /// Returns a word with its bytes exchanged.

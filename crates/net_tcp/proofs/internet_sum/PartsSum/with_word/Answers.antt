@@ -1,10 +1,11 @@
-use Rattle.std.proofs.Common.{◌≡◌, ◌+◌, ◌∙◌, ap, sym, arith}
-use Rattle.net_tcp.specs.InternetChecksum.{folded, word_sum, word_bytes}
-use Rattle.net_tcp.proofs.WordSums.{parts_even}
+use Rattle.std.proofs.Common.{rules, ◌≡◌, ◌++◌, sym, subst}
+use Rattle.net_tcp.specs.InternetChecksum.{Sums, sum_with, word_bytes}
+use Rattle.net_tcp.specs.declared.internet_sum.PartsSum.{PartsSum}
+use Rattle.net_tcp.proofs.WordSums.{with_sums}
 use Rattle.net_tcp.proofs.internet_sum.PartsSum.with_word.Goals as goal
 
-pub returns : goal.returns
-returns c xs sums =
-    let word : c.args.self.sum + c.from.result ≡ c.args.self.sum + word_sum (word_bytes c.args.word) = omega arith in
-    parts_even c.args.self.sum c.add_carry.result 0 0 xs (word_bytes c.args.word) sums.0 (sym c.requires ∙ sums.1)
-    (c.add_carry.ensures ∙ ap folded word) (omega arith)
+pub returns-clause-bytes : goal.returns-clause-bytes
+returns-clause-bytes c xs sums =
+    let result : PartsSum = record { sum = c.folded_sum.result; odd = 0 } in
+    let value : result ≡ sum_with c.args.self (word_bytes c.args.word) = search rules in
+    subst (λ r. Sums r (xs ++ word_bytes c.args.word)) (sym value) (with_sums c.args.self xs (word_bytes c.args.word) sums)
