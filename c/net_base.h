@@ -24,9 +24,9 @@
  *
  * Duties
  *
- * Nothing checks these. The first four are about memory: a call that breaks one can touch any
- * memory. The others are about answers, and the proofs assume them: a call that breaks one touches
- * no other memory than it was passed, but may answer anything, or trap.
+ * Nothing checks these. A call that breaks one of the first four can touch any memory. The others
+ * are about answers, and the proofs assume them: a call that breaks one touches no other memory
+ * than it was passed, but may answer anything, or trap.
  *
  * 1. A pointer that isn't null is aligned, and valid: that of a slice, such as `data`, for as many
  *    elements as the parameter after it says, here `data_length`, of at most `PTRDIFF_MAX` bytes
@@ -42,21 +42,18 @@
  * 6. A head, its runs and its slots are written by calls of its own kind alone, those of a receiver
  *    by `net_base_receiver_..`, not its `place` by `net_base_ring_..` or its `held` by
  *    `net_base_assembler_..`. The caller may set a head to zeros, and then what the comment of its
- *    kind says: `first` of a receiver, `first_unacknowledged` of a sender, and `sent` of one of a
- *    stream that ends, `base` of a scoreboard, `expires_at` of a buffer of fragments, `end` of a
- *    receiver of a stream that ends, `edge` of an announced window, `timeout` of a timeout.
+ *    kind names, as `first` of a receiver.
  * 7. Where a comment says `Requires`, head and runs are sound, as a call whose name ends in
  *    `_is_sound` tests. What calls of its own kind wrote, from a new head on, is sound, if each
  *    slot that `net_base_packets_take_slot` was given was the first one.
  *
  * Refusals
  *
- * All else that calls need is tested, but that a taken slot is the first one. Arguments are tested
- * first: if they are nonsense, that is the refusal, whatever else is wrong. A null pointer is
- * nonsense, but to a slice of length 0. A refused call changes nothing. It returns `false` if it
- * returns a `bool`; `NET_BASE_REFUSED` if it returns a status, alone or as the first field of a
- * struct; `NET_BASE_NONE` if it returns a `size_t`, `UINT64_MAX` if it returns a `uint64_t`, alone
- * or as the first field of a struct; and 0 if it returns another number, which is refused for null
+ * All else that a call needs is tested, but that a taken slot is the first one. Nonsense in
+ * arguments, as a null pointer but to a slice of length 0, is refused before anything else. A
+ * refused call changes nothing. It returns `false` where it returns a `bool`; where it returns one
+ * of these alone or as the first field of a struct, `NET_BASE_REFUSED` of a status, `NET_BASE_NONE`
+ * of a `size_t`, `UINT64_MAX` of a `uint64_t`; and 0 of another number, which is refused for null
  * alone. `NET_BASE_REFUSED` always means a refusal; the others can also be results of calls that
  * are done.
  */
@@ -1029,8 +1026,7 @@ bool net_base_finite_receiver_is_sound(
 
 /* Returns `NET_BASE_PRESENT` if the stream can end at `position`: it is the end that is known, or
  * none is, and it isn't below the first missing position or a held run's end. Otherwise
- * `NET_BASE_MISSING`. `UINT64_MAX` is no end; while none is known this says `NET_BASE_PRESENT` of
- * it too.
+ * `NET_BASE_MISSING`, as of `UINT64_MAX`, which is no end.
  *
  * It is refused if `place` isn't that of a ring of `storage_length` bytes, `next` doesn't fit 64
  * bits, or `held.used` is above `runs_length`: `NET_BASE_REFUSED`.
@@ -1071,23 +1067,16 @@ size_t net_base_finite_receiver_read(
     struct net_base_finite_receiver *receiver, const uint8_t *storage, size_t storage_length,
     uint8_t *into, size_t into_length);
 
-/* Returns `NET_BASE_PRESENT` if a segment of `count` numbers from `position` on is acceptable by
- * the table of RFC 9293, section 3.10.7.4, and `NET_BASE_MISSING` if it isn't: its first number may
- * arrive, or its last one. The end is a number. The table's window has as many numbers as the free
- * window has bytes, from the acknowledged number on, also once all arrived. If it is 0, only a
- * segment without numbers at the acknowledged one is. An end alone there isn't, though
- * `net_base_finite_receiver_segment` takes it: a caller that wants it asks with the count of the
- * bytes alone.
+/* Removes `count` bytes from the head of the queue, as `net_base_finite_receiver_read` does, but
+ * copies none, and returns true; `net_base_ring_allocated` of `receiver.place` tells before where
+ * they are.
  *
- * It is refused if `place` isn't that of a ring of `storage_length` bytes, `next` doesn't fit 64
- * bits, or `held.used` is above `runs_length`, or if the segment doesn't end within 64 bits:
- * `NET_BASE_REFUSED`.
- *
- * Requires: head and runs are sound, as `net_base_finite_receiver_is_sound` tests.
+ * It is refused if `receiver.receiver.place` isn't that of a ring of `capacity` elements, or if
+ * fewer than `count` elements are queued, or if `next` doesn't fit 64 bits: false, and nothing
+ * changes.
  */
-uint32_t net_base_finite_receiver_is_acceptable(
-    const struct net_base_finite_receiver *receiver, const uint8_t *storage, size_t storage_length,
-    const struct net_base_run *runs, size_t runs_length, uint64_t position, uint64_t count);
+bool net_base_finite_receiver_remove(
+    struct net_base_finite_receiver *receiver, size_t capacity, size_t count);
 
 /* Returns how many bytes of a segment of `len` bytes at `position` would be new: those in the free
  * window and below the end whose positions are not held. It looks at each run.
@@ -1106,11 +1095,11 @@ size_t net_base_finite_receiver_count_new(
  * `net_base_receiver_segment` does. `is_last` says that the stream ends after the segment; the end
  * is taken if it is at most the end of the free window.
  *
- * Returns what `net_base_receiver_segment` does, and is refused where that is, and also if the
- * number after the segment doesn't fit 64 bits; or `NET_BASE_OTHER_END`, and nothing changes, if
- * the segment says that the stream ends where it can't, as `net_base_finite_receiver_can_end`
- * tells, also if there would be too many runs. A segment that is refused for its runs doesn't set
- * the end.
+ * Returns what `net_base_receiver_segment` does, and is refused where that is, and also if
+ * `position` plus the number of bytes is 2^64 - 1 or more; or `NET_BASE_OTHER_END`, and nothing
+ * changes, if the segment says that the stream ends where it can't, as
+ * `net_base_finite_receiver_can_end` tells, also if there would be too many runs. A segment that is
+ * refused for its runs doesn't set the end.
  *
  * Requires: head, storage and runs are sound, as `net_base_finite_receiver_is_sound` tests.
  */
@@ -1118,6 +1107,17 @@ uint32_t net_base_finite_receiver_segment(
     struct net_base_finite_receiver *receiver, uint8_t *storage, size_t storage_length,
     struct net_base_run *runs, size_t runs_length, uint64_t position, const uint8_t *bytes,
     size_t bytes_length, bool is_last, struct net_base_kept_counts *counts);
+
+/* Writes the end of the free window to `end`, for what is announced, where the storage has
+ * `capacity` bytes, and returns true: never below the number that
+ * `net_base_finite_receiver_acknowledged` writes, which is one above the free window's end where
+ * the end is counted and the storage is full.
+ *
+ * If more than `capacity` bytes are queued, or the free window's end or the number after `next`
+ * doesn't fit 64 bits, it is refused: false, and nothing changes.
+ */
+bool net_base_finite_receiver_window_end(
+    const struct net_base_finite_receiver *receiver, size_t capacity, uint64_t *end);
 
 /* Senders of a stream that ends. Once one is closed nothing can be written, and the end has the
  * number after the last byte's: it is sent and acknowledged as a byte is, and takes no room.
@@ -1477,7 +1477,7 @@ uint64_t net_base_rtt_estimate_timeout(
  * zeros is that of no bytes.
  */
 struct net_base_parts_sum {
-    /* The sum of the words, up to a multiple of 65535; 0 only if that sum is 0. */
+    /* The sum of the words, folded to 16 bits; 0 only if that sum is 0. */
     uint64_t sum;
     /* 1 if the next byte is the low byte of a word, 0 if it is the high one. */
     uint64_t odd;

@@ -530,11 +530,9 @@ pub unsafe extern "C" fn net_base_finite_receiver_read(receiver: Option<&mut Fin
 }
 
 #[unsafe(no_mangle)]
-pub unsafe extern "C" fn net_base_finite_receiver_is_acceptable(receiver: Option<&FiniteReceiverHead>, storage: *const u8, storage_length: usize, runs: *const Run, runs_length: usize, position: u64, count: u64) -> u32 {
-    let Some(receiver) = receiver else { return refusals::NET_BASE_REFUSED };
-    let Some(storage) = slice(storage, storage_length) else { return refusals::NET_BASE_REFUSED };
-    let Some(runs) = slice(runs, runs_length) else { return refusals::NET_BASE_REFUSED };
-    heads::finite_receiver::net_base_finite_receiver_is_acceptable(receiver, storage, runs, position, count)
+pub extern "C" fn net_base_finite_receiver_remove(receiver: Option<&mut FiniteReceiverHead>, capacity: usize, count: usize) -> bool {
+    let Some(receiver) = receiver else { return false };
+    heads::finite_receiver::net_base_finite_receiver_remove(receiver, capacity, count)
 }
 
 #[unsafe(no_mangle)]
@@ -553,6 +551,13 @@ pub unsafe extern "C" fn net_base_finite_receiver_segment(receiver: Option<&mut 
     let Some(bytes) = slice(bytes, bytes_length) else { return refusals::NET_BASE_REFUSED };
     let Some(counts) = counts else { return refusals::NET_BASE_REFUSED };
     finite_receiver::net_base_finite_receiver_segment(receiver, storage, runs, position, bytes, is_last, counts)
+}
+
+#[unsafe(no_mangle)]
+pub extern "C" fn net_base_finite_receiver_window_end(receiver: Option<&FiniteReceiverHead>, capacity: usize, end: Option<&mut u64>) -> bool {
+    let Some(receiver) = receiver else { return false };
+    let Some(end) = end else { return false };
+    finite_receiver::net_base_finite_receiver_window_end(receiver, capacity, end)
 }
 
 #[unsafe(no_mangle)]

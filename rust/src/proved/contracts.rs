@@ -724,13 +724,6 @@
 //! abbrev pub acknowledged : FiniteState → ℕ
 //! acknowledged s = if is_complete s then s.end + 1 else next_position s.receiver
 //!
-//! -- of n numbers from pos on the first or the last may arrive; if none may, there is none, and pos is the
-//! -- acknowledged one
-//! abbrev pub is_acceptable : FiniteState → ℕ → ℕ → Bool
-//! is_acceptable s pos n =
-//!     if nat_eq (window_of s) 0 then nat_eq n 0 && nat_eq pos (acknowledged s)
-//!     else in_window s pos || (nat_lt 0 n && in_window s (pos + n - 1))
-//!
 //! -- all bytes were read, up to the end
 //! abbrev pub has_read_all : FiniteState → Bool
 //! has_read_all s = nat_eq (s.receiver.first + s.receiver.read) s.end
@@ -1419,6 +1412,16 @@
 //! -- the bytes of a word
 //! abbrev pub word_bytes : ℕ → List ℕ
 //! word_bytes w = w / 256 ∷ w % 256 ∷ []
+//!
+//! -- the sum after them
+//! abbrev pub sum_with : PartsSum → List ℕ → PartsSum
+//! sum_with s xs = record { sum = folded (s.sum + word_sum (from_high s xs)); odd = length (from_high s xs) % 2 }
+//!
+//! -- the sum after the bytes of which t is the sum; from a low byte on they sum to 256 times as much
+//! abbrev pub sum_joined : PartsSum → PartsSum → PartsSum
+//! sum_joined s t =
+//!     if nat_eq s.odd 0 then record { sum = folded (s.sum + t.sum); odd = t.odd }
+//!     else record { sum = folded (s.sum + 256 * t.sum); odd = if nat_eq t.odd 0 then 1 else 0 }
 //!
 //! -- s is the sum of the bytes xs, so far
 //! abbrev pub Sums : PartsSum → List ℕ → Type 0

@@ -6,16 +6,16 @@
 //! is below that. `receiver` is a receiver, whose calls that only look may be made on it.
 // Written by tools/ffi.py.
 ghost use Rattle.net_ffi.specs.ReceiverParts.{IsPlausible};
-ghost use Rattle.net_receiver.specs.Finite.{acknowledged, can_end, finite_after_read, has_read_all, is_acceptable};
-ghost use Rattle.net_receiver.specs.Finite.{is_complete, no_end};
+ghost use Rattle.net_receiver.specs.Finite.{acknowledged, can_end, finite_after_read, has_read_all, is_complete};
+ghost use Rattle.net_receiver.specs.Finite.{no_end};
 ghost use Rattle.net_receiver.specs.FiniteHead.{HasSoundFinite, finite_of, next_of};
 ghost use Rattle.net_receiver.specs.FiniteLaws.{ReceivesFinite};
 ghost use Rattle.net_receiver.specs.Head.{head_after_read, receiver_of};
 ghost use Rattle.net_receiver.specs.Segments.{new_count};
 ghost use Rattle.net_ring.specs.Ring.{queue};
 ghost use Rattle.net_ring.specs.RingHead.{IsSound as IsSoundPlace, ring_at};
-ghost use Rattle.std.specs.Prelude.{IsFalse, IsTrue, List, drop, if◌then◌else◌, length, min, slice_range, take, ℕ};
-ghost use Rattle.std.specs.Prelude.{◌++◌, ◌+◌, ◌-◌, ◌<◌, ◌==◌, ◌^◌, ◌↔◌, ◌≡◌};
+ghost use Rattle.std.specs.Prelude.{IsFalse, IsTrue, List, drop, if◌then◌else◌, length, min, nat_lt, slice_range};
+ghost use Rattle.std.specs.Prelude.{take, ℕ, ◌&&◌, ◌++◌, ◌+◌, ◌-◌, ◌<◌, ◌==◌, ◌^◌, ◌↔◌, ◌≡◌, ◌≤◌};
 
 use crate::finite_receiver::has_number;
 use crate::receiver::{has_next, is_plausible};
@@ -40,8 +40,7 @@ pub extern "C" fn net_base_finite_receiver_is_sound(
 
 /// Returns `NET_BASE_PRESENT` if the stream can end at `position`: it is the end that is known, or
 /// none is, and it isn't below the first missing position or a held run's end. Otherwise
-/// `NET_BASE_MISSING`. `UINT64_MAX` is no end; while none is known this says `NET_BASE_PRESENT` of
-/// it too.
+/// `NET_BASE_MISSING`, as of `UINT64_MAX`, which is no end.
 ///
 /// It is refused if `place` isn't that of a ring of `storage.len()` bytes, `next` doesn't fit 64
 /// bits, or `held.used` is above `runs.len()`: `NET_BASE_REFUSED`.
@@ -58,8 +57,12 @@ pub extern "C" fn net_base_finite_receiver_can_end(
 ) -> u32
     requires sound { IsPlausible (length storage.now) (length runs.now) receiver.now.receiver → HasSoundFinite
         receiver.now storage.now runs.now }
-    ensures done { IsPlausible (length storage.now) (length runs.now) receiver.now.receiver → result ≡ (if can_end
-        (finite_of receiver.now storage.now runs.now) position then NET_BASE_PRESENT else NET_BASE_MISSING) }
+    ensures value { IsPlausible (length storage.now) (length runs.now) receiver.now.receiver → result ≡ (if (nat_lt
+        position no_end && can_end (finite_of receiver.now storage.now runs.now) position) then NET_BASE_PRESENT
+        else NET_BASE_MISSING) }
+    ensures fits { IsPlausible (length storage.now) (length runs.now) receiver.now.receiver → position < no_end →
+        result ≡ (if can_end (finite_of receiver.now storage.now runs.now) position then NET_BASE_PRESENT else
+        NET_BASE_MISSING) }
     ensures refused { (IsPlausible (length storage.now) (length runs.now) receiver.now.receiver → ⊥) → result ≡
         NET_BASE_REFUSED }
 {
@@ -165,43 +168,38 @@ pub extern "C" fn net_base_finite_receiver_read(
     receiver.read(storage, into)
 }
 
-/// Returns `NET_BASE_PRESENT` if a segment of `count` numbers from `position` on is acceptable by
-/// the table of RFC 9293, section 3.10.7.4, and `NET_BASE_MISSING` if it isn't: its first number
-/// may arrive, or its last one. The end is a number. The table's window has as many numbers as the
-/// free window has bytes, from the acknowledged number on, also once all arrived. If it is 0, only
-/// a segment without numbers at the acknowledged one is. An end alone there isn't, though
-/// `net_base_finite_receiver_segment` takes it: a caller that wants it asks with the count of the
-/// bytes alone.
+/// Removes `count` bytes from the head of the queue, as `net_base_finite_receiver_read` does, but
+/// copies none, and returns true; `net_base_ring_allocated` of `receiver.place` tells before where
+/// they are.
 ///
-/// It is refused if `place` isn't that of a ring of `storage.len()` bytes, `next` doesn't fit 64
-/// bits, or `held.used` is above `runs.len()`, or if the segment doesn't end within 64 bits:
-/// `NET_BASE_REFUSED`.
-///
-/// # Requires
-///
-/// Head and runs are sound, as `net_base_finite_receiver_is_sound` tests.
+/// It is refused if `receiver.receiver.place` isn't that of a ring of `capacity` elements, or if
+/// fewer than `count` elements are queued, or if `next` doesn't fit 64 bits: false, and nothing
+/// changes.
 #[unsafe(no_mangle)]
-pub extern "C" fn net_base_finite_receiver_is_acceptable(
-    receiver: &FiniteReceiverHead,
-    storage: &[u8],
-    runs: &[Run],
-    position: u64,
-    count: u64,
-) -> u32
-    requires sound { IsPlausible (length storage.now) (length runs.now) receiver.now.receiver → HasSoundFinite
-        receiver.now storage.now runs.now }
-    ensures done { (IsPlausible (length storage.now) (length runs.now) receiver.now.receiver) × (position + count <
-        2 ^ 64) → result ≡ (if is_acceptable (finite_of receiver.now storage.now runs.now) position count then
-        NET_BASE_PRESENT else NET_BASE_MISSING) }
-    ensures refused { ((IsPlausible (length storage.now) (length runs.now) receiver.now.receiver) × (position +
-        count < 2 ^ 64) → ⊥) → result ≡ NET_BASE_REFUSED }
+pub extern "C" fn net_base_finite_receiver_remove(
+    receiver: &mut FiniteReceiverHead,
+    capacity: usize,
+    count: usize,
+) -> bool
+    ensures done { IsTrue result ↔ ((IsSoundPlace capacity receiver.old.receiver.place) × (count ≤
+        receiver.old.receiver.place.length) × (next_of receiver.old < 2 ^ 64)) }
+    ensures head { IsTrue result → receiver.new.receiver ≡ head_after_read capacity count receiver.old.receiver }
+    ensures end { IsTrue result → receiver.new.end ≡ receiver.old.end }
+    ensures sound { IsTrue result → (storage : List ℕ) (runs : List (ℕ × ℕ)) → length storage ≡ capacity →
+        HasSoundFinite receiver.old storage runs → HasSoundFinite receiver.new storage runs }
+    ensures state { IsTrue result → (storage : List ℕ) (runs : List (ℕ × ℕ)) → length storage ≡ capacity →
+        HasSoundFinite receiver.old storage runs → finite_of receiver.new storage runs ≡ finite_after_read
+        (finite_of receiver.old storage runs) count }
+    ensures unchanged { IsFalse result → (receiver.new ≡ receiver.old) }
 {
-    if !is_plausible(&receiver.receiver, storage.len(), runs.len())
-        || count as u64 > u64::MAX - position
+    if !receiver.receiver.place.is_sound(capacity)
+        || count > receiver.receiver.place.length
+        || !has_next(&receiver.receiver)
     {
-        return NET_BASE_REFUSED;
+        return false;
     }
-    presence_of(receiver.is_acceptable(storage, runs, position, count))
+    receiver.remove(capacity, count);
+    true
 }
 
 /// Returns how many bytes of a segment of `len` bytes at `position` would be new: those in the free

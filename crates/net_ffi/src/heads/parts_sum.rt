@@ -2,15 +2,16 @@
 //!
 //! A head of zeros is new: no bytes were added.
 // Written by tools/ffi.py.
-ghost use Rattle.net_tcp.specs.InternetChecksum.{Sums, folded, internet_checksum, word_sum};
-ghost use Rattle.std.specs.Prelude.{IsTrue, List, ℕ, ◌++◌, ◌↔◌, ◌≡◌};
+ghost use Rattle.net_tcp.specs.InternetChecksum.{Sums, folded, internet_checksum, sum_with, word_sum};
+ghost use Rattle.std.specs.Prelude.{IsTrue, List, ℕ, ◌++◌, ◌-◌, ◌↔◌, ◌≡◌};
 
 use net_tcp::PartsSum;
 
 /// Adds the bytes that follow those which were added.
 #[unsafe(no_mangle)]
 pub extern "C" fn net_base_parts_sum_add(sum: &mut PartsSum, part: &[u8])
-    ensures { (xs : List ℕ) → Sums sum.old xs → Sums sum.new (xs ++ part.now) }
+    ensures value { sum.new ≡ sum_with sum.old part.now }
+    ensures bytes { (xs : List ℕ) → Sums sum.old xs → Sums sum.new (xs ++ part.now) }
 {
     sum.add(part);
 }
@@ -18,7 +19,8 @@ pub extern "C" fn net_base_parts_sum_add(sum: &mut PartsSum, part: &[u8])
 /// Returns the checksum of the bytes that were added.
 #[unsafe(no_mangle)]
 pub extern "C" fn net_base_parts_sum_checksum(sum: &PartsSum) -> u16
-    ensures { (xs : List ℕ) → Sums sum.now xs → result ≡ internet_checksum xs }
+    ensures value { result ≡ 65535 - folded sum.now.sum }
+    ensures bytes { (xs : List ℕ) → Sums sum.now xs → result ≡ internet_checksum xs }
 {
     sum.checksum()
 }
@@ -27,7 +29,8 @@ pub extern "C" fn net_base_parts_sum_checksum(sum: &PartsSum) -> u16
 /// valid. No bytes aren't.
 #[unsafe(no_mangle)]
 pub extern "C" fn net_base_parts_sum_is_valid(sum: &PartsSum) -> bool
-    ensures { (xs : List ℕ) → Sums sum.now xs → (IsTrue result ↔ (folded (word_sum xs) ≡ 65535)) }
+    ensures value { IsTrue result ↔ (folded sum.now.sum ≡ 65535) }
+    ensures bytes { (xs : List ℕ) → Sums sum.now xs → (IsTrue result ↔ (folded (word_sum xs) ≡ 65535)) }
 {
     sum.is_valid()
 }

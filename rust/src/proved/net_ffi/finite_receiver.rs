@@ -17,8 +17,8 @@ pub(crate) fn has_number(receiver: &FiniteReceiverHead) -> bool {
 /// `is_last` says that the stream ends after the segment; the end is taken if it is at most the end of the free
 /// window.
 ///
-/// Returns what `net_base_receiver_segment` does, and is refused where that is, and also if the number after the
-/// segment doesn't fit 64 bits; or `NET_BASE_OTHER_END`, and nothing changes, if the segment says that the stream ends
+/// Returns what `net_base_receiver_segment` does, and is refused where that is, and also if `position` plus the number of
+/// bytes is 2^64 - 1 or more; or `NET_BASE_OTHER_END`, and nothing changes, if the segment says that the stream ends
 /// where it can't, as `net_base_finite_receiver_can_end` tells, also if there would be too many runs. A segment that is refused
 /// for its runs doesn't set the end.
 ///
@@ -51,5 +51,29 @@ pub fn net_base_finite_receiver_segment(
         }
         Err(FiniteError::TooManyHoles) => NET_BASE_TOO_MANY_RUNS,
         Err(FiniteError::OtherEnd) => NET_BASE_OTHER_END,
+    }
+}
+
+/// Writes the end of the free window to `end`, for what is announced, where the storage has `capacity` bytes, and
+/// returns true: never below the number that `net_base_finite_receiver_acknowledged` writes, which is one above the
+/// free window's end where the end is counted and the storage is full.
+///
+/// If more than `capacity` bytes are queued, or the free window's end or the number after `next` doesn't fit 64 bits,
+/// it is refused: false, and nothing changes.
+#[inline(always)]
+pub fn net_base_finite_receiver_window_end(
+    receiver: &FiniteReceiverHead,
+    capacity: usize,
+    end: &mut u64,
+) -> bool {
+    if receiver.receiver.place.length > capacity || !has_number(receiver) {
+        return false;
+    }
+    match receiver.window_end(capacity) {
+        Some(position) => {
+            *end = position;
+            true
+        }
+        None => false,
     }
 }

@@ -19,9 +19,9 @@
 //!
 //! # Duties
 //!
-//! Nothing checks these. The first four are about memory: a call that breaks one can touch any memory. The others are
-//! about answers, and the proofs assume them: a call that breaks one touches no other memory than it was passed, but
-//! may answer anything, or trap.
+//! Nothing checks these. A call that breaks one of the first four can touch any memory. The others are about answers, and
+//! the proofs assume them: a call that breaks one touches no other memory than it was passed, but may answer anything,
+//! or trap.
 //!
 //! 1. A pointer that isn't null is aligned, and valid: that of a slice, such as `data`, for as many elements as the
 //!    parameter after it says, here `data_length`, of at most `PTRDIFF_MAX` bytes together; any other for one value. If
@@ -35,22 +35,18 @@
 //! 5. A storage, its runs and its slots have the same lengths in each call on a head.
 //! 6. A head, its runs and its slots are written by calls of its own kind alone, those of a receiver by
 //!    `net_base_receiver_..`, not its `place` by `net_base_ring_..` or its `held` by `net_base_assembler_..`. The
-//!    caller may set a head to zeros, and then what the comment of its kind says: `first` of a receiver,
-//!    `first_unacknowledged` of a sender, and `sent` of one of a stream that ends, `base` of a scoreboard, `expires_at`
-//!    of a buffer of fragments, `end` of a receiver of a stream that ends, `edge` of an announced window, `timeout` of
-//!    a timeout.
+//!    caller may set a head to zeros, and then what the comment of its kind names, as `first` of a receiver.
 //! 7. Where a comment says `Requires`, head and runs are sound, as a call whose name ends in `_is_sound` tests. What
 //!    calls of its own kind wrote, from a new head on, is sound, if each slot that `net_base_packets_take_slot` was given
 //!    was the first one.
 //!
 //! # Refusals
 //!
-//! All else that calls need is tested, but that a taken slot is the first one. Arguments are tested first: if they are
-//! nonsense, that is the refusal, whatever else is wrong. A null pointer is nonsense, but to a slice of length 0. A
-//! refused call changes nothing. It returns `false` if it returns a `bool`; `NET_BASE_REFUSED` if it returns a status,
-//! alone or as the first field of a struct; `NET_BASE_NONE` if it returns a `size_t`, `UINT64_MAX` if it returns a
-//! `uint64_t`, alone or as the first field of a struct; and 0 if it returns another number, which is refused for null
-//! alone. `NET_BASE_REFUSED` always means a refusal; the others can also be results of calls that are done.
+//! All else that a call needs is tested, but that a taken slot is the first one. Nonsense in arguments, as a null pointer
+//! but to a slice of length 0, is refused before anything else. A refused call changes nothing. It returns `false` where
+//! it returns a `bool`; where it returns one of these alone or as the first field of a struct, `NET_BASE_REFUSED` of a
+//! status, `NET_BASE_NONE` of a `size_t`, `UINT64_MAX` of a `uint64_t`; and 0 of another number, which is refused for
+//! null alone. `NET_BASE_REFUSED` always means a refusal; the others can also be results of calls that are done.
 
 pub mod finite_receiver;
 pub mod fragments;

@@ -1,7 +1,7 @@
 //! The head of a packet queue, which is a queue without its storages: where packets are placed, and how
 //! they are taken off.
 //!
-//! [`PacketsOver`](crate::proved::net_packets::PacketsOver) places packets by the rule here. A caller that has slots and bytes
+//! [`PacketBuffer`](crate::proved::net_packets::PacketBuffer) places packets by the rule here. A caller that has slots and bytes
 //! elsewhere, as a program in C, calls these functions with the number of slots, or the slots, and with
 //! the number of bytes.
 

@@ -5,32 +5,6 @@ use crate::proved::net_packets::packet_metadata::PacketMetadata;
 use crate::proved::net_ring::{Empty, Full, ManagedSlice, Storage};
 use core::marker::PhantomData;
 
-/// A queue of packets over any storage: `M` has the slots and `B` the bytes. [`PacketBuffer`] is
-/// its usual form.
-///
-/// A packet has a header and bytes that are contiguous in the storage. If a packet does not fit
-/// before the storage's end, it is placed at the storage's beginning, and the bytes before the end
-/// are skipped as its gap. A packet uses one slot, and a gap, which never has 0 bytes, one more.
-/// Packets leave in the order in which they were put in.
-///
-/// ```text
-/// bytes    y y y y y y x x x x x x x x - -     x of 8 bytes, then y of 6 after a gap of 2
-/// slots    x, gap, y
-/// ```
-///
-/// Contracts lead with `contents q`, the list of the headers and bytes of a queue's packets. The
-/// number of slots, the storage, the read index and the list of packets (header, size, gap)
-/// determine which packets are refused.
-pub struct PacketsOver<H, M: Storage<PacketMetadata<H>>, B: Storage<u8>> {
-    // Invariant: the head is sound for the storages. The slots in use are packets and gaps, whose sizes
-    // add up to the bytes in use. A packet is contiguous; a gap has bytes, ends at the storage's end, and
-    // has a packet after it.
-    head: PacketsHead,
-    slots: M,
-    bytes: B,
-    headers: PhantomData<H>,
-}
-
 /// A queue of packets over lent or owned storage.
 ///
 /// It serves sockets that send and receive whole packets, such as those of UDP and ICMP.
@@ -46,11 +20,33 @@ pub struct PacketsOver<H, M: Storage<PacketMetadata<H>>, B: Storage<u8>> {
 /// assert_eq!(queue.dequeue(), Ok((53, &mut b"abc"[..].to_vec()[..])));
 /// # Ok::<(), Full>(())
 /// ```
-pub type PacketBuffer<'a, H> = PacketsOver<
-    H,
-    ManagedSlice<'a, PacketMetadata<H>>,
-    ManagedSlice<'a, u8>,
->;
+///
+/// A packet has a header and bytes that are contiguous in the storage. If a packet does not fit
+/// before the storage's end, it is placed at the storage's beginning, and the bytes before the end
+/// are skipped as its gap. A packet uses one slot, and a gap, which never has 0 bytes, one more.
+/// Packets leave in the order in which they were put in.
+///
+/// ```text
+/// bytes    y y y y y y x x x x x x x x - -     x of 8 bytes, then y of 6 after a gap of 2
+/// slots    x, gap, y
+/// ```
+///
+/// Contracts lead with `contents q`, the list of the headers and bytes of a queue's packets. The
+/// number of slots, the storage, the read index and the list of packets (header, size, gap)
+/// determine which packets are refused.
+pub struct PacketBuffer<'a, H, M: Storage<PacketMetadata<H>> = ManagedSlice<'a, PacketMetadata<H>>, B: Storage<u8> = ManagedSlice<'a, u8>> {
+    lent: core::marker::PhantomData<&'a ()>,
+    // Invariant: the head is sound for the storages. The slots in use are packets and gaps, whose sizes
+    // add up to the bytes in use. A packet is contiguous; a gap has bytes, ends at the storage's end, and
+    // has a packet after it.
+    head: PacketsHead,
+    slots: M,
+    bytes: B,
+    headers: PhantomData<H>,
+}
+
+/// A [`PacketBuffer`] over any storage: `M` has the slots and `B` the bytes.
+pub type PacketsOver<H, M, B> = PacketBuffer<'static, H, M, B>;
 
 impl<'a, H> PacketBuffer<'a, H> {
     /// Returns a queue with no packets, which has as many slots as `slots` has elements, and room
@@ -67,12 +63,12 @@ impl<'a, H> PacketBuffer<'a, H> {
     pub fn new<A: Into<ManagedSlice<'a, PacketMetadata<H>>>, B: Into<ManagedSlice<'a, u8>>>(slots: A, bytes: B) -> Self {
         let slots = slots.into();
         let bytes = bytes.into();
-        PacketsOver::over(slots, bytes)
+        PacketBuffer::over(slots, bytes)
     }
 }
 
 /// Making, emptying and measuring a queue.
-impl<H, M: Storage<PacketMetadata<H>>, B: Storage<u8>> PacketsOver<H, M, B> {
+impl<H, M: Storage<PacketMetadata<H>>, B: Storage<u8>> PacketBuffer<'_, H, M, B> {
     /// Returns a queue with no packets over storages of any type. smoltcp has no such call:
     /// [`PacketBuffer::new`] is the one for two [`ManagedSlice`].
     ///
@@ -85,7 +81,8 @@ impl<H, M: Storage<PacketMetadata<H>>, B: Storage<u8>> PacketsOver<H, M, B> {
     /// ensures made { result ≡ no_packets (length (M.elements slots)) (B.elements bytes) }
     /// ```
     pub const fn over(slots: M, bytes: B) -> Self {
-        PacketsOver {
+        PacketBuffer {
+            lent: core::marker::PhantomData,
             head: PacketsHead::new(),
             slots,
             bytes,
@@ -313,7 +310,7 @@ impl<H, M: Storage<PacketMetadata<H>>, B: Storage<u8>> PacketsOver<H, M, B> {
 }
 
 /// Packets that are appended.
-impl<H, M: Storage<PacketMetadata<H>>, B: Storage<u8>> PacketsOver<H, M, B> {
+impl<H, M: Storage<PacketMetadata<H>>, B: Storage<u8>> PacketBuffer<'_, H, M, B> {
     /// Appends a packet of `size` bytes and lends them. Until they are written they are those that
     /// were in the storage. An empty queue begins at the storage's beginning.
     ///
@@ -355,8 +352,8 @@ impl<H, M: Storage<PacketMetadata<H>>, B: Storage<u8>> PacketsOver<H, M, B> {
         Ok(self.last_part_mut(size))
     }
 
-    /// Appends a packet of `size` bytes, or returns `Full`, as [`PacketsOver::enqueue`] does, of which
-    /// this is the first step: [`PacketsOver::last_mut`] lends the bytes. Each step has an exact
+    /// Appends a packet of `size` bytes, or returns `Full`, as [`PacketBuffer::enqueue`] does, of which
+    /// this is the first step: [`PacketBuffer::last_mut`] lends the bytes. Each step has an exact
     /// contract.
     ///
     /// ```
@@ -423,7 +420,7 @@ impl<H, M: Storage<PacketMetadata<H>>, B: Storage<u8>> PacketsOver<H, M, B> {
         self.last_part_mut(size)
     }
 
-    /// Appends a packet whose bytes are `data`, or returns `Full`, as [`PacketsOver::enqueue`] does.
+    /// Appends a packet whose bytes are `data`, or returns `Full`, as [`PacketBuffer::enqueue`] does.
     /// smoltcp has no such call.
     ///
     /// # Contract
@@ -449,7 +446,7 @@ impl<H, M: Storage<PacketMetadata<H>>, B: Storage<u8>> PacketsOver<H, M, B> {
     /// Appends a packet whose bytes `f` writes: `f` is lent `max_size` bytes, and returns how many
     /// of them, from the first on, are the packet. That number is returned.
     ///
-    /// Returns `Full` if [`PacketsOver::enqueue`] would for `max_size` bytes, and then drops the
+    /// Returns `Full` if [`PacketBuffer::enqueue`] would for `max_size` bytes, and then drops the
     /// header, does not call `f` and changes nothing. smoltcp places these packets by a rule of its
     /// own and can take more than `max_size` bytes.
     ///
@@ -508,7 +505,7 @@ impl<H, M: Storage<PacketMetadata<H>>, B: Storage<u8>> PacketsOver<H, M, B> {
 }
 
 /// The first packet, shown and taken off.
-impl<H, M: Storage<PacketMetadata<H>>, B: Storage<u8>> PacketsOver<H, M, B> {
+impl<H, M: Storage<PacketMetadata<H>>, B: Storage<u8>> PacketBuffer<'_, H, M, B> {
     /// Calls `f` on the header and the bytes of the first packet, and drops its gap. If `f` returns
     /// `Ok`, the packet is taken off; if it returns `Err`, the packet stays first, with what `f`
     /// wrote to its header and bytes.
@@ -611,8 +608,8 @@ impl<H, M: Storage<PacketMetadata<H>>, B: Storage<u8>> PacketsOver<H, M, B> {
     }
 
     /// Takes the first packet and its gap off, and returns its header and how many bytes it has, or
-    /// `Empty`, as [`PacketsOver::dequeue`] does, of which this is the first step:
-    /// [`PacketsOver::last_dequeued_mut`] lends the bytes. Each step has an exact contract.
+    /// `Empty`, as [`PacketBuffer::dequeue`] does, of which this is the first step:
+    /// [`PacketBuffer::last_dequeued_mut`] lends the bytes. Each step has an exact contract.
     ///
     /// ```
     /// # use net_base::storage::{PacketBuffer, PacketMetadata};
@@ -657,7 +654,7 @@ impl<H, M: Storage<PacketMetadata<H>>, B: Storage<u8>> PacketsOver<H, M, B> {
     /// # Requires, else it panics
     ///
     /// The `size` bytes before the read index are contiguous and none is a packet's, as after a
-    /// call of [`PacketsOver::take`] that returned `size`.
+    /// call of [`PacketBuffer::take`] that returned `size`.
     ///
     /// # Contract
     ///
@@ -772,7 +769,7 @@ impl<H, M: Storage<PacketMetadata<H>>, B: Storage<u8>> PacketsOver<H, M, B> {
 }
 
 /// Steps that the calls share.
-impl<H, M: Storage<PacketMetadata<H>>, B: Storage<u8>> PacketsOver<H, M, B> {
+impl<H, M: Storage<PacketMetadata<H>>, B: Storage<u8>> PacketBuffer<'_, H, M, B> {
     /// Returns the gap before a packet of `size` bytes, if it can be placed.
     ///
     /// # Contract
@@ -878,7 +875,7 @@ impl<H, M: Storage<PacketMetadata<H>>, B: Storage<u8>> PacketsOver<H, M, B> {
     }
 }
 
-impl<H, M: Storage<PacketMetadata<H>>, B: Storage<u8>> PacketsOver<H, M, B> {
+impl<H, M: Storage<PacketMetadata<H>>, B: Storage<u8>> PacketBuffer<'_, H, M, B> {
     /// Lends the last `size` bytes, which are those of the last packet.
     ///
     /// # Contract

@@ -9,15 +9,16 @@ use crate::proved::net_receiver::receiver::whole;
 use crate::proved::net_assembler::Run;
 use crate::proved::net_ring::{ManagedSlice, Storage};
 
-/// A receiver of one stream of bytes that ends: a `ReceiverOver` that knows where the stream ends, once
-/// a segment has said so.
+/// A receiver of one stream of bytes that ends, over storage that is lent or owned.
 ///
-/// The end is the position after the last byte. It has a number, as a byte has (that of TCP's FIN), and
-/// needs no room. Segments may arrive in any order, the last one too. The held runs that a selective
-/// acknowledgement lists are of bytes alone: an end that came out of order is sent again.
+/// It is a `Receiver` that knows where the stream ends, once a segment has said so. The end is the
+/// position after the last byte. It has a number, as a byte has (that of TCP's FIN), and needs no room.
+/// Segments may arrive in any order, the last one too. The held runs that a selective acknowledgement
+/// lists are of bytes alone: an end that came out of order is sent again.
 ///
 /// Contracts see what the receiver of the bytes stores, and the end, `no_end` while it isn't known.
-pub struct FiniteReceiverOver<S: Storage<u8>, const N: usize> {
+pub struct FiniteReceiver<'a, const N: usize = { crate::rattle::ASSEMBLER_MAX_SEGMENT_COUNT }, S: Storage<u8> = ManagedSlice<'a, u8>> {
+    lent: core::marker::PhantomData<&'a ()>,
     // Invariant: the head is sound with the storage and the runs, as `FiniteReceiverHead::is_sound`
     // tests.
     head: FiniteReceiverHead,
@@ -25,10 +26,10 @@ pub struct FiniteReceiverOver<S: Storage<u8>, const N: usize> {
     runs: [Run; N],
 }
 
-/// A receiver over storage that is lent or owned.
-pub type FiniteReceiver<'a, const N: usize = { crate::rattle::ASSEMBLER_MAX_SEGMENT_COUNT }> = FiniteReceiverOver<ManagedSlice<'a, u8>, N>;
+/// A [`FiniteReceiver`] over any storage.
+pub type FiniteReceiverOver<S, const N: usize> = FiniteReceiver<'static, N, S>;
 
-impl<S: Storage<u8>, const N: usize> FiniteReceiverOver<S, N> {
+impl<S: Storage<u8>, const N: usize> FiniteReceiver<'_, N, S> {
     /// Returns a receiver of a stream that begins at position 0: `over_at` with 0.
     ///
     /// # Requires, else it panics
@@ -69,7 +70,8 @@ impl<S: Storage<u8>, const N: usize> FiniteReceiverOver<S, N> {
     pub const fn over_at(storage: S, first: u64) -> Self {
         const { assert!(N >= 1, "N is at least 1") };
         assert!(first < NO_END, "no number is left for an end");
-        FiniteReceiverOver {
+        FiniteReceiver {
+            lent: core::marker::PhantomData,
             head: FiniteReceiverHead::new(first),
             storage,
             runs: [Run { start: 0, end: 0 }; N],
@@ -96,7 +98,8 @@ impl<S: Storage<u8>, const N: usize> FiniteReceiverOver<S, N> {
             head.is_sound(whole(&storage), &runs),
             "the head is not that of these parts"
         );
-        FiniteReceiverOver {
+        FiniteReceiver {
+            lent: core::marker::PhantomData,
             head,
             storage,
             runs,
@@ -115,7 +118,8 @@ impl<S: Storage<u8>, const N: usize> FiniteReceiverOver<S, N> {
     /// ensures runs { length result.2 ≡ N }
     /// ```
     pub(crate) fn into_parts(self) -> (FiniteReceiverHead, S, [Run; N]) {
-        let FiniteReceiverOver {
+        let FiniteReceiver {
+            lent: core::marker::PhantomData,
             head,
             storage,
             runs,
@@ -159,8 +163,8 @@ impl<S: Storage<u8>, const N: usize> FiniteReceiverOver<S, N> {
         self.head.reset_at(first);
     }
 
-    /// Returns whether a segment fits: its bytes and an end after them have positions, as `keep`
-    /// requires.
+    /// Returns whether a segment fits, as `keep` requires: `pos + len` is below `u64::MAX`, so that an end
+    /// after its bytes has a number.
     ///
     /// # Contract
     ///
@@ -174,21 +178,22 @@ impl<S: Storage<u8>, const N: usize> FiniteReceiverOver<S, N> {
     }
 
     /// Returns whether the stream can end at a position: it is the end that is known, or none is,
-    /// and no byte is queued or held at it or above.
+    /// and no byte is queued or held at it or above. No stream ends at `u64::MAX`, after which there is
+    /// no number for an end.
     ///
     /// # Contract
     ///
     /// In the words of [`contracts`](crate::contracts):
     ///
     /// ```text
-    /// ensures { result ≡ can_end self.now pos }
+    /// ensures { result ≡ (nat_lt pos no_end && can_end self.now pos) }
     /// ```
     pub fn can_end(&self, pos: u64) -> bool {
         self.head.can_end(whole(&self.storage), &self.runs, pos)
     }
 
     /// Keeps the bytes of a segment that are in the free window and below the end, as
-    /// `ReceiverOver::keep` does. `is_last` says that the stream ends after the segment.
+    /// `Receiver::keep` does. `is_last` says that the stream ends after the segment.
     ///
     /// The end is taken if it is at most the end of the free window: an end beyond that is cut off,
     /// as the bytes before it are, and is sent again. An end alone at the first missing position is
@@ -302,11 +307,11 @@ impl<S: Storage<u8>, const N: usize> FiniteReceiverOver<S, N> {
         let lent = part.len();
         let answer = f(part);
         assert!(answer.0 <= lent, "more bytes than were lent");
-        self.head.receiver.remove(self.storage.count(), answer.0);
+        self.head.remove(self.storage.count(), answer.0);
         answer
     }
 
-    /// Takes the first `count` bytes off the queue and copies none, as `ReceiverOver::remove` does.
+    /// Takes the first `count` bytes off the queue and copies none, as `Receiver::remove` does.
     ///
     /// # Requires, else it panics
     ///
@@ -331,7 +336,7 @@ impl<S: Storage<u8>, const N: usize> FiniteReceiverOver<S, N> {
             count <= self.head.receiver.queued(),
             "more bytes than are queued"
         );
-        self.head.receiver.remove(self.storage.count(), count);
+        self.head.remove(self.storage.count(), count);
     }
 
     /// Shows the first part of the queue, which is empty only if the queue is.
@@ -407,33 +412,7 @@ impl<S: Storage<u8>, const N: usize> FiniteReceiverOver<S, N> {
         self.head.has_read_all()
     }
 
-    /// Returns whether a segment of `count` numbers from `pos` on is acceptable, as RFC 9293,
-    /// 3.10.7.4, has it: its first number may arrive, or its last one. The end is a number. If the
-    /// window is 0, only a segment without numbers at the acknowledged one is.
-    ///
-    /// An end alone at the acknowledged number, in a window of 0, isn't acceptable by this table, though
-    /// `keep` takes it, as it needs no room. A caller that wants it asks with the count of the bytes alone.
-    ///
-    /// # Requires, else it panics
-    ///
-    /// `pos + count` fits 64 bits.
-    ///
-    /// # Contract
-    ///
-    /// In the words of [`contracts`](crate::contracts):
-    ///
-    /// ```text
-    /// requires { pos + count < 2 ^ 64 }
-    /// ensures { result ≡ is_acceptable self.now pos count }
-    /// ```
-    #[track_caller]
-    pub fn is_acceptable(&self, pos: u64, count: u64) -> bool {
-        assert!(count <= u64::MAX - pos, "the segment ends too high");
-        self.head
-            .is_acceptable(whole(&self.storage), &self.runs, pos, count)
-    }
-
-    /// Returns the first missing position, as `ReceiverOver::next` does. It doesn't count the end:
+    /// Returns the first missing position, as `Receiver::next` does. It doesn't count the end:
     /// `acknowledged` does.
     ///
     /// # Contract
@@ -528,7 +507,7 @@ impl<S: Storage<u8>, const N: usize> FiniteReceiverOver<S, N> {
         self.head.window_end(self.storage.count())
     }
 
-    /// Returns the held runs as absolute (start, end), as `ReceiverOver::held` does: of bytes alone.
+    /// Returns the held runs as absolute (start, end), as `Receiver::held` does: of bytes alone.
     ///
     /// # Contract
     ///
@@ -556,7 +535,7 @@ impl<S: Storage<u8>, const N: usize> FiniteReceiverOver<S, N> {
         self.head.receiver.held_count()
     }
 
-    /// Returns at most `K` held runs, the newest first, as `ReceiverOver::newest_runs` does.
+    /// Returns at most `K` held runs, the newest first, as `Receiver::newest_runs` does.
     ///
     /// # Contract
     ///
@@ -611,7 +590,7 @@ impl<S: Storage<u8>, const N: usize> FiniteReceiverOver<S, N> {
     /// ```text
     /// ensures { IsTrue result ↔ IsSameFinite self.now other.now }
     /// ```
-    pub fn same_state<O: Storage<u8>>(&self, other: &FiniteReceiverOver<O, N>) -> bool {
+    pub fn same_state<O: Storage<u8>>(&self, other: &FiniteReceiver<'_, N, O>) -> bool {
         let storage = whole(&self.storage);
         let other_storage = whole(&other.storage);
         self.head.is_same_state(storage, &self.runs, &other.head, other_storage, &other.runs)

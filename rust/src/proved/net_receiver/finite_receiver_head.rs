@@ -92,8 +92,8 @@ impl FiniteReceiverHead {
                 .has_all_below(storage, runs, self.end.min(NO_END - 1))
     }
 
-    /// Returns whether a segment fits: its bytes and an end after them have positions, as `keep`
-    /// requires.
+    /// Returns whether a segment fits, as `keep` requires: `pos + len` is below `u64::MAX`, so that an end
+    /// after its bytes has a number.
     ///
     /// # Contract
     ///
@@ -139,8 +139,7 @@ impl FiniteReceiverHead {
         }
     }
 
-    /// Returns whether the stream can end at a position, as `FiniteReceiverOver::can_end` does. `u64::MAX`
-    /// is no end, which isn't tested here.
+    /// Returns whether the stream can end at a position, as `FiniteReceiver::can_end` does.
     ///
     /// # Requires, else it panics
     ///
@@ -152,9 +151,14 @@ impl FiniteReceiverHead {
     ///
     /// ```text
     /// requires { HasSoundFinite self.now storage.now runs.now }
-    /// ensures { result ≡ can_end (finite_of self.now storage.now runs.now) pos }
+    /// ensures value { result
+    ///     ≡ (nat_lt pos no_end && can_end (finite_of self.now storage.now runs.now) pos) }
+    /// ensures fits { pos < no_end → result ≡ can_end (finite_of self.now storage.now runs.now) pos }
     /// ```
     pub fn can_end(&self, storage: &[u8], runs: &[Run], pos: u64) -> bool {
+        if pos == NO_END {
+            return false;
+        }
         if self.knows_end() {
             return pos == self.end;
         }
@@ -199,7 +203,7 @@ impl FiniteReceiverHead {
     }
 
     /// Keeps the bytes of a segment that are in the free window and below the end, and takes the end, as
-    /// `FiniteReceiverOver::keep` does. If it is refused, head, storage and runs stay as they were.
+    /// `FiniteReceiver::keep` does. If it is refused, head, storage and runs stay as they were.
     ///
     /// # Requires, else it panics
     ///
@@ -390,7 +394,36 @@ impl FiniteReceiverHead {
         self.receiver.read(storage, into)
     }
 
-    /// Compares two receivers, as `FiniteReceiverOver::same_state` does.
+    /// Removes the first `count` bytes of the queue, as `read` does, and copies none. `capacity` is
+    /// how many bytes the storage has.
+    ///
+    /// # Requires, else it panics
+    ///
+    /// The queue is in the storage, it has `count` bytes, and the first missing position fits 64
+    /// bits, as they do where head, storage and runs are sound.
+    ///
+    /// # Contract
+    ///
+    /// In the words of [`contracts`](crate::contracts):
+    ///
+    /// ```text
+    /// requires place { IsSoundPlace capacity self.old.receiver.place }
+    /// requires queued { count ≤ self.old.receiver.place.length }
+    /// requires fits { next_of self.old < 2 ^ 64 }
+    /// ensures head { self.new.receiver ≡ head_after_read capacity count self.old.receiver }
+    /// ensures end { self.new.end ≡ self.old.end }
+    /// ensures sound { (storage : List ℕ) (runs : List (ℕ × ℕ)) → length storage ≡ capacity →
+    ///     HasSoundFinite self.old storage runs → HasSoundFinite self.new storage runs }
+    /// ensures state { (storage : List ℕ) (runs : List (ℕ × ℕ)) → length storage ≡ capacity →
+    ///     HasSoundFinite self.old storage runs → finite_of self.new storage runs
+    ///     ≡ finite_after_read (finite_of self.old storage runs) count }
+    /// ```
+    #[inline]
+    pub fn remove(&mut self, capacity: usize, count: usize) {
+        self.receiver.remove(capacity, count);
+    }
+
+    /// Compares two receivers, as `FiniteReceiver::same_state` does.
     ///
     /// # Requires, else it panics
     ///
@@ -420,52 +453,8 @@ impl FiniteReceiverHead {
                 .is_same_state(storage, runs, &other.receiver, other_storage, other_runs)
     }
 
-    /// Returns whether a number may arrive: it is the acknowledged one or above, by less than the
-    /// window.
-    ///
-    /// # Contract
-    ///
-    /// In the words of [`contracts`](crate::contracts):
-    ///
-    /// ```text
-    /// requires { HasSoundFinite self.now storage.now runs.now }
-    /// ensures { result ≡ in_window (finite_of self.now storage.now runs.now) pos }
-    /// ```
-    #[inline]
-    fn is_in_window(&self, storage: &[u8], runs: &[Run], pos: u64) -> bool {
-        // Taken only for the precondition.
-        let _runs = runs;
-        let first = self.acknowledged();
-        pos >= first && pos - first < self.receiver.window(storage.len()) as u64
-    }
-
-    /// Returns whether a segment of `count` numbers from `pos` on is acceptable, as
-    /// `FiniteReceiverOver::is_acceptable` does.
-    ///
-    /// # Requires, else it panics
-    ///
-    /// Head, storage and runs are sound, as `is_sound` tests, and `pos + count` fits 64 bits.
-    ///
-    /// # Contract
-    ///
-    /// In the words of [`contracts`](crate::contracts):
-    ///
-    /// ```text
-    /// requires sound { HasSoundFinite self.now storage.now runs.now }
-    /// requires fits { pos + count < 2 ^ 64 }
-    /// ensures { result ≡ is_acceptable (finite_of self.now storage.now runs.now) pos count }
-    /// ```
-    #[inline]
-    pub fn is_acceptable(&self, storage: &[u8], runs: &[Run], pos: u64, count: u64) -> bool {
-        if self.receiver.window(storage.len()) == 0 {
-            return count == 0 && pos == self.acknowledged();
-        }
-        self.is_in_window(storage, runs, pos)
-            || count > 0 && self.is_in_window(storage, runs, pos + count - 1)
-    }
-
     /// Returns how many bytes of a segment of `len` bytes at `position` would be new, as
-    /// `FiniteReceiverOver::count_new` does.
+    /// `FiniteReceiver::count_new` does.
     ///
     /// # Requires, else it panics
     ///

@@ -3,17 +3,18 @@
 use crate::proved::net_receiver::finite_sender_head::FiniteSenderHead;
 use crate::proved::net_ring::{ManagedSlice, Storage};
 
-/// The sender of a stream that ends: a `Sender` that can be closed.
+/// A sender of a stream that ends, over storage that is lent or owned.
 ///
-/// Once it is closed nothing can be written, and the end has the number after the last byte's (that of
-/// TCP's FIN): it is sent, reported and acknowledged as a byte is, and takes no room. A number is kept
-/// for it, so that it can always be closed. The sender keeps the mark of what was sent itself, which
-/// counts the end.
+/// It is a `Sender` that can be closed. Once it is closed nothing can be written, and the end has the
+/// number after the last byte's (that of TCP's FIN): it is sent, reported and acknowledged as a byte
+/// is, and takes no room. A number is kept for it, so that it can always be closed. The sender keeps
+/// the mark of what was sent itself, which counts the end.
 ///
 /// Contracts see what they see of a `Sender`; 1 or 0 for whether it is closed, and for whether the end
 /// is acknowledged; and the number after the last one that was sent. No call takes memory. smoltcp has
 /// no such type.
-pub struct FiniteSenderOver<S: Storage<u8>> {
+pub struct FiniteSender<'a, S: Storage<u8> = ManagedSlice<'a, u8>> {
+    lent: core::marker::PhantomData<&'a ()>,
     // Invariant: the end is acknowledged only once the sender is closed and its queue is empty. What
     // was sent ends between what is acknowledged and what was written, the end counted. The end's
     // number fits 64 bits.
@@ -21,10 +22,10 @@ pub struct FiniteSenderOver<S: Storage<u8>> {
     storage: S,
 }
 
-/// A sender of a stream that ends, over storage that is lent or owned.
-pub type FiniteSender<'a> = FiniteSenderOver<ManagedSlice<'a, u8>>;
+/// A [`FiniteSender`] over any storage.
+pub type FiniteSenderOver<S> = FiniteSender<'static, S>;
 
-impl<S: Storage<u8>> FiniteSenderOver<S> {
+impl<S: Storage<u8>> FiniteSender<'_, S> {
     /// Returns a sender of a stream that begins at position 0: `over_at` with 0.
     ///
     /// # Contract
@@ -57,7 +58,8 @@ impl<S: Storage<u8>> FiniteSenderOver<S> {
     #[track_caller]
     pub const fn over_at(storage: S, first: u64) -> Self {
         assert!(first < u64::MAX, "no number is left for an end");
-        FiniteSenderOver {
+        FiniteSender {
+            lent: core::marker::PhantomData,
             head: FiniteSenderHead::new(first),
             storage,
         }
@@ -83,7 +85,7 @@ impl<S: Storage<u8>> FiniteSenderOver<S> {
             head.is_sound(storage.count()),
             "the head is not that of this storage"
         );
-        FiniteSenderOver { head, storage }
+        FiniteSender { lent: core::marker::PhantomData, head, storage }
     }
 
     /// Returns the head and the storage, which represent the sender.
@@ -97,7 +99,7 @@ impl<S: Storage<u8>> FiniteSenderOver<S> {
     /// ensures state { finite_sender_of result.0 (S.elements result.1) ≡ self }
     /// ```
     pub(crate) fn into_parts(self) -> (FiniteSenderHead, S) {
-        let FiniteSenderOver { head, storage } = self;
+        let FiniteSender { lent: core::marker::PhantomData, head, storage } = self;
         (head, storage)
     }
 
@@ -111,7 +113,7 @@ impl<S: Storage<u8>> FiniteSenderOver<S> {
     /// ensures { length (S.elements result) ≡ self.sender.capacity }
     /// ```
     pub fn into_storage(self) -> S {
-        let FiniteSenderOver { head: _, storage } = self;
+        let FiniteSender { lent: core::marker::PhantomData, head: _, storage } = self;
         storage
     }
 

@@ -7,8 +7,21 @@ use crate::proved::net_receiver::receiver_head::ReceiverHead;
 use crate::proved::net_assembler::{Run, TooManyHolesError};
 use crate::proved::net_ring::{ManagedSlice, Storage};
 
-/// A receiver of one stream of bytes, which stores them in a ring until they are read. It serves as
-/// the receiving half of a TCP socket, or of any protocol that names bytes by their positions.
+/// A receiver of one stream of bytes, over storage that is lent or owned.
+///
+/// ```
+/// use net_base::receiver::Receiver;
+///
+/// let mut storage = [0u8; 8];
+/// let mut receiver = Receiver::new_at(&mut storage[..], 100);
+/// assert_eq!(receiver.segment(103, b"de").map(|it| it.queued), Ok(0));
+/// assert_eq!(receiver.segment(100, b"abc").map(|it| it.queued), Ok(5));
+/// let mut into = [0; 8];
+/// assert_eq!((receiver.read(&mut into), &into[..5]), (5, &b"abcde"[..]));
+/// ```
+///
+/// It stores the bytes in a ring until they are read. It serves as the receiving half of a TCP socket,
+/// or of any protocol that names bytes by their positions.
 ///
 /// Positions are absolute and counted in bytes; the stream's first byte has the position `first`.
 /// `next` is the first missing one: the bytes after those read, up to `next`, are queued and can be
@@ -27,7 +40,8 @@ use crate::proved::net_ring::{ManagedSlice, Storage};
 /// Contracts see the first position, the capacity, the count of bytes read, the queue, and the held
 /// bytes by their positions. No call takes memory. smoltcp's TCP socket joins ring and assembler in
 /// its own `process`; this is the part of it that stores what was received.
-pub struct ReceiverOver<S: Storage<u8>, const N: usize> {
+pub struct Receiver<'a, const N: usize = { crate::rattle::ASSEMBLER_MAX_SEGMENT_COUNT }, S: Storage<u8> = ManagedSlice<'a, u8>> {
+    lent: core::marker::PhantomData<&'a ()>,
     // Invariant: the queue is that of the ring, whose read index is the count of bytes read modulo the
     // capacity. At most N runs are held, each after the first missing position and within the free
     // window. All positions fit 64 bits.
@@ -36,24 +50,13 @@ pub struct ReceiverOver<S: Storage<u8>, const N: usize> {
     runs: [Run; N],
 }
 
-/// A receiver over storage that is lent or owned.
-///
-/// ```
-/// use net_base::receiver::Receiver;
-///
-/// let mut storage = [0u8; 8];
-/// let mut receiver = Receiver::new_at(&mut storage[..], 100);
-/// assert_eq!(receiver.segment(103, b"de").map(|it| it.queued), Ok(0));
-/// assert_eq!(receiver.segment(100, b"abc").map(|it| it.queued), Ok(5));
-/// let mut into = [0; 8];
-/// assert_eq!((receiver.read(&mut into), &into[..5]), (5, &b"abcde"[..]));
-/// ```
-pub type Receiver<'a, const N: usize = { crate::rattle::ASSEMBLER_MAX_SEGMENT_COUNT }> = ReceiverOver<ManagedSlice<'a, u8>, N>;
+/// A [`Receiver`] over any storage.
+pub type ReceiverOver<S, const N: usize> = Receiver<'static, N, S>;
 
 impl<'a, const N: usize> Receiver<'a, N> {
 }
 
-impl<S: Storage<u8>, const N: usize> ReceiverOver<S, N> {
+impl<S: Storage<u8>, const N: usize> Receiver<'_, N, S> {
     /// Returns a receiver of a stream that begins at position 0: `over_at` with 0.
     ///
     /// # Requires, else it panics
@@ -96,7 +99,8 @@ impl<S: Storage<u8>, const N: usize> ReceiverOver<S, N> {
     /// ```
     pub const fn over_at(storage: S, first: u64) -> Self {
         const { assert!(N >= 1, "N is at least 1") };
-        ReceiverOver {
+        Receiver {
+            lent: core::marker::PhantomData,
             head: ReceiverHead::new(first),
             storage,
             runs: [Run { start: 0, end: 0 }; N],
@@ -123,7 +127,8 @@ impl<S: Storage<u8>, const N: usize> ReceiverOver<S, N> {
             head.is_sound(whole(&storage), &runs),
             "the head is not that of these parts"
         );
-        ReceiverOver {
+        Receiver {
+            lent: core::marker::PhantomData,
             head,
             storage,
             runs,
@@ -143,7 +148,8 @@ impl<S: Storage<u8>, const N: usize> ReceiverOver<S, N> {
     /// ensures runs { length result.2 ≡ N }
     /// ```
     pub(crate) fn into_parts(self) -> (ReceiverHead, S, [Run; N]) {
-        let ReceiverOver {
+        let Receiver {
+            lent: core::marker::PhantomData,
             head,
             storage,
             runs,
@@ -848,7 +854,7 @@ impl<S: Storage<u8>, const N: usize> ReceiverOver<S, N> {
     /// ensures states { TellsStates self.now other.now result }
     /// ensures converges { Converges self.now other.now result }
     /// ```
-    pub fn same_state<O: Storage<u8>>(&self, other: &ReceiverOver<O, N>) -> bool {
+    pub fn same_state<O: Storage<u8>>(&self, other: &Receiver<'_, N, O>) -> bool {
         let storage = whole(&self.storage);
         let other_storage = whole(&other.storage);
         self.head.is_same_state(storage, &self.runs, &other.head, other_storage, &other.runs)

@@ -169,7 +169,7 @@ impl ReceiverHead {
     /// # Requires, else it panics
     ///
     /// Head, storage and runs are sound, as `is_sound` tests, and the segment ends within 64 bits,
-    /// as `ReceiverOver::fits` tests.
+    /// as `Receiver::fits` tests.
     ///
     /// # Contract
     ///
@@ -232,13 +232,13 @@ impl ReceiverHead {
         [held.next(), held.next(), held.next()]
     }
 
-    /// Keeps the bytes of a segment that are in the free window, as `ReceiverOver::keep` does. If it is
+    /// Keeps the bytes of a segment that are in the free window, as `Receiver::keep` does. If it is
     /// refused, head, storage and runs stay as they were, with the runs that aren't in use.
     ///
     /// # Requires, else it panics
     ///
     /// Head, storage and runs are sound, as `is_sound` tests, and the segment ends within 64 bits,
-    /// as `ReceiverOver::fits` tests.
+    /// as `Receiver::fits` tests.
     ///
     /// # Contract
     ///
@@ -547,7 +547,7 @@ impl ReceiverHead {
         read.checked_add(capacity as u64)
     }
 
-    /// Returns the held runs, as `ReceiverOver::held` does: at most as many as `runs` has elements. The
+    /// Returns the held runs, as `Receiver::held` does: at most as many as `runs` has elements. The
     /// storage is for the contract only.
     ///
     /// # Requires, else it panics
@@ -590,7 +590,7 @@ impl ReceiverHead {
         self.held.used
     }
 
-    /// Lists held runs at the beginning of `into`, in the order of `ReceiverOver::newest_runs`, and
+    /// Lists held runs at the beginning of `into`, in the order of `Receiver::newest_runs`, and
     /// returns how many: as many as are held, or as `into` has elements. The rest of `into` stays as it
     /// is. The storage is for the contract only.
     ///
@@ -712,12 +712,12 @@ impl ReceiverHead {
     }
 
     /// Returns how many bytes of a segment of `len` bytes at `position` would be new, as
-    /// `ReceiverOver::count_new` does.
+    /// `Receiver::count_new` does.
     ///
     /// # Requires, else it panics
     ///
     /// Head, storage and runs are sound, as `is_sound` tests, and the segment ends within 64 bits,
-    /// as `ReceiverOver::fits` tests.
+    /// as `Receiver::fits` tests.
     ///
     /// # Contract
     ///
@@ -763,7 +763,7 @@ impl ReceiverHead {
         next <= pos && self.is_held_below(pos - next, runs)
     }
 
-    /// Compares two receivers, as `ReceiverOver::same_state` does.
+    /// Compares two receivers, as `Receiver::same_state` does.
     ///
     /// # Requires, else it panics
     ///

@@ -5,7 +5,7 @@
 #[repr(C)]
 #[derive(Copy, Clone, Debug, PartialEq, Eq, Hash)]
 pub struct PartsSum {
-    /// The sum of the words, up to a multiple of 65535; 0 only if that sum is 0.
+    /// The sum of the words, folded to 16 bits; 0 only if that sum is 0.
     pub sum: u64,
     /// 1 if the next byte is the low byte of a word, 0 if it is the high one.
     pub odd: u64,
@@ -33,7 +33,8 @@ impl PartsSum {
     /// In the words of [`contracts`](crate::contracts):
     ///
     /// ```text
-    /// ensures { (xs : List ℕ) → Sums self.old xs → Sums self.new (xs ++ part.now) }
+    /// ensures value { self.new ≡ sum_with self.old part.now }
+    /// ensures bytes { (xs : List ℕ) → Sums self.old xs → Sums self.new (xs ++ part.now) }
     /// ```
     pub fn add(&mut self, part: &[u8]) {
         *self = self.with(part);
@@ -46,7 +47,8 @@ impl PartsSum {
     /// In the words of [`contracts`](crate::contracts):
     ///
     /// ```text
-    /// ensures { (xs : List ℕ) → Sums self xs → Sums result (xs ++ part.now) }
+    /// ensures value { result ≡ sum_with self part.now }
+    /// ensures bytes { (xs : List ℕ) → Sums self xs → Sums result (xs ++ part.now) }
     /// ```
     pub fn with(self, part: &[u8]) -> Self {
         if self.odd == 0 {
@@ -54,7 +56,7 @@ impl PartsSum {
         }
         match part.split_first() {
             Some((low, words)) => sum_from(add_carry(self.sum, u64::from(*low)), words),
-            None => self,
+            None => sum_from(self.sum, &[0]),
         }
     }
 
@@ -71,13 +73,14 @@ impl PartsSum {
     ///
     /// ```text
     /// requires { self.odd ≡ 0 }
-    /// ensures { (xs : List ℕ) → Sums self xs → Sums result (xs ++ word_bytes word) }
+    /// ensures value { result ≡ sum_with self (word_bytes word) }
+    /// ensures bytes { (xs : List ℕ) → Sums self xs → Sums result (xs ++ word_bytes word) }
     /// ```
     #[track_caller]
     pub fn with_word(self, word: u16) -> Self {
         assert!(self.odd == 0, "an odd count of bytes was added");
         PartsSum {
-            sum: add_carry(self.sum, u64::from(word)),
+            sum: folded_sum(self.sum, u64::from(word)),
             odd: 0,
         }
     }
@@ -89,17 +92,18 @@ impl PartsSum {
     /// In the words of [`contracts`](crate::contracts):
     ///
     /// ```text
-    /// ensures { (xs ys : List ℕ) → Sums self xs → Sums after ys → Sums result (xs ++ ys) }
+    /// ensures value { result ≡ sum_joined self after }
+    /// ensures bytes { (xs ys : List ℕ) → Sums self xs → Sums after ys → Sums result (xs ++ ys) }
     /// ```
     pub fn joined(self, after: PartsSum) -> Self {
         if self.odd == 0 {
             PartsSum {
-                sum: add_carry(self.sum, after.sum),
+                sum: folded_sum(self.sum, after.sum),
                 odd: after.odd,
             }
         } else {
             PartsSum {
-                sum: add_carry(self.sum, u64::from(swapped(fold(after.sum)))),
+                sum: folded_sum(self.sum, u64::from(swapped(fold(after.sum)))),
                 odd: u64::from(after.odd == 0),
             }
         }
@@ -112,7 +116,8 @@ impl PartsSum {
     /// In the words of [`contracts`](crate::contracts):
     ///
     /// ```text
-    /// ensures { (xs : List ℕ) → Sums self.now xs → result ≡ internet_checksum xs }
+    /// ensures value { result ≡ 65535 - folded self.now.sum }
+    /// ensures bytes { (xs : List ℕ) → Sums self.now xs → result ≡ internet_checksum xs }
     /// ```
     pub fn checksum(&self) -> u16 {
         u16::MAX - fold(self.sum)
@@ -126,7 +131,8 @@ impl PartsSum {
     /// In the words of [`contracts`](crate::contracts):
     ///
     /// ```text
-    /// ensures { (xs : List ℕ) → Sums self.now xs
+    /// ensures value { IsTrue result ↔ (folded self.now.sum ≡ 65535) }
+    /// ensures bytes { (xs : List ℕ) → Sums self.now xs
     ///     → (IsTrue result ↔ (folded (word_sum xs) ≡ 65535)) }
     /// ```
     pub fn is_valid(&self) -> bool {
@@ -182,12 +188,12 @@ pub fn updated_checksum(checksum: u16, old: u16, new: u16) -> u16 {
 /// In the words of [`contracts`](crate::contracts):
 ///
 /// ```text
-/// ensures sum { folded result.sum ≡ folded (start + word_sum bytes.now) }
+/// ensures sum { result.sum ≡ folded (start + word_sum bytes.now) }
 /// ensures odd { result.odd ≡ length bytes.now % 2 }
 /// ```
 fn sum_from(start: u64, bytes: &[u8]) -> PartsSum {
     PartsSum {
-        sum: sum_words(start, bytes),
+        sum: u64::from(fold(sum_words(start, bytes))),
         odd: bytes.len() as u64 % 2,
     }
 }
@@ -270,6 +276,20 @@ fn sum_pairs(start: u64, bytes: &[u8]) -> u64 {
 fn add_carry(a: u64, b: u64) -> u64 {
     let (sum, carried) = a.overflowing_add(b);
     sum + carried as u64
+}
+
+/// Adds two sums, and folds theirs.
+///
+/// # Contract
+///
+/// In the words of [`contracts`](crate::contracts):
+///
+/// ```text
+/// ensures { result ≡ folded (a + b) }
+/// ```
+#[inline]
+fn folded_sum(a: u64, b: u64) -> u64 {
+    u64::from(fold(add_carry(a, b)))
 }
 
 /// Returns a word with its bytes exchanged.

@@ -20,10 +20,10 @@ pub enum FragmentError {
     OtherSize,
 }
 
-/// A packet that arrives in fragments, in any order, as those of IPv4 do, over any storage.
-/// [`FragmentBuffer`] is its usual form. `N` is how many maximal runs of bytes it has room for.
+/// A packet that arrives in fragments, in any order, as those of IPv4 do, over lent or owned bytes.
 ///
-/// Fragments may overlap: at each position the byte is that of the last fragment there.
+/// `N` is how many maximal runs of bytes it has room for. Fragments may overlap: at each position the
+/// byte is that of the last fragment there.
 ///
 /// ```text
 /// add(0, "abcde")    abcde.....
@@ -33,7 +33,8 @@ pub enum FragmentError {
 ///
 /// Contracts see the bytes of the storage, the set of the positions that arrived, the packet's
 /// size, once it is known, and the moment up to which the packet is waited for.
-pub struct FragmentsOver<B: Storage<u8>, const N: usize> {
+pub struct FragmentBuffer<'a, const N: usize = { crate::rattle::ASSEMBLER_MAX_SEGMENT_COUNT }, B: Storage<u8> = ManagedSlice<'a, u8>> {
+    lent: core::marker::PhantomData<&'a ()>,
     // Invariant: the runs are those of an assembler, the positions of the bytes that arrived. If the
     // total is known, the storage has room for it.
     head: FragmentsHead,
@@ -41,13 +42,13 @@ pub struct FragmentsOver<B: Storage<u8>, const N: usize> {
     runs: [Run; N],
 }
 
-/// A packet that arrives in fragments, over lent or owned bytes.
-pub type FragmentBuffer<'a, const N: usize = { crate::rattle::ASSEMBLER_MAX_SEGMENT_COUNT }> = FragmentsOver<ManagedSlice<'a, u8>, N>;
+/// A [`FragmentBuffer`] over any storage.
+pub type FragmentsOver<B, const N: usize> = FragmentBuffer<'static, N, B>;
 
 impl<'a, const N: usize> FragmentBuffer<'a, N> {
 }
 
-impl<B: Storage<u8>, const N: usize> FragmentsOver<B, N> {
+impl<B: Storage<u8>, const N: usize> FragmentBuffer<'_, N, B> {
     /// Returns an empty buffer over storage of any type, which expires after `expires_at`.
     ///
     /// # Requires, else it panics
@@ -66,7 +67,8 @@ impl<B: Storage<u8>, const N: usize> FragmentsOver<B, N> {
     /// ```
     pub const fn over(bytes: B, expires_at: Instant) -> Self {
         const { assert!(N >= 1, "a buffer of fragments has at least one run") };
-        FragmentsOver {
+        FragmentBuffer {
+            lent: core::marker::PhantomData,
             head: FragmentsHead::new(expires_at.total_micros()),
             bytes,
             runs: [Run { start: 0, end: 0 }; N],
@@ -94,7 +96,7 @@ impl<B: Storage<u8>, const N: usize> FragmentsOver<B, N> {
             head.is_sound(capacity, &runs),
             "the head is not that of these bytes and runs"
         );
-        FragmentsOver { head, bytes, runs }
+        FragmentBuffer { lent: core::marker::PhantomData, head, bytes, runs }
     }
 
     /// Returns the head, the bytes and the runs, which represent the buffer. smoltcp has no such call.
@@ -109,7 +111,7 @@ impl<B: Storage<u8>, const N: usize> FragmentsOver<B, N> {
     /// ensures runs { length result.2 ≡ N }
     /// ```
     pub(crate) fn into_parts(self) -> (FragmentsHead, B, [Run; N]) {
-        let FragmentsOver { head, bytes, runs } = self;
+        let FragmentBuffer { lent: core::marker::PhantomData, head, bytes, runs } = self;
         (head, bytes, runs)
     }
 
@@ -123,7 +125,8 @@ impl<B: Storage<u8>, const N: usize> FragmentsOver<B, N> {
     /// ensures { B.elements result ≡ self.bytes }
     /// ```
     pub fn into_storage(self) -> B {
-        let FragmentsOver {
+        let FragmentBuffer {
+            lent: core::marker::PhantomData,
             head: _,
             bytes,
             runs: _,

@@ -27,8 +27,7 @@ pub fn net_base_finite_receiver_is_sound(
 
 /// Returns `NET_BASE_PRESENT` if the stream can end at `position`: it is the end that is known, or
 /// none is, and it isn't below the first missing position or a held run's end. Otherwise
-/// `NET_BASE_MISSING`. `UINT64_MAX` is no end; while none is known this says `NET_BASE_PRESENT` of
-/// it too.
+/// `NET_BASE_MISSING`, as of `UINT64_MAX`, which is no end.
 ///
 /// It is refused if `place` isn't that of a ring of `storage.len()` bytes, `next` doesn't fit 64
 /// bits, or `held.used` is above `runs.len()`: `NET_BASE_REFUSED`.
@@ -104,35 +103,27 @@ pub fn net_base_finite_receiver_read(
     receiver.read(storage, into)
 }
 
-/// Returns `NET_BASE_PRESENT` if a segment of `count` numbers from `position` on is acceptable by
-/// the table of RFC 9293, section 3.10.7.4, and `NET_BASE_MISSING` if it isn't: its first number
-/// may arrive, or its last one. The end is a number. The table's window has as many numbers as the
-/// free window has bytes, from the acknowledged number on, also once all arrived. If it is 0, only
-/// a segment without numbers at the acknowledged one is. An end alone there isn't, though
-/// `net_base_finite_receiver_segment` takes it: a caller that wants it asks with the count of the
-/// bytes alone.
+/// Removes `count` bytes from the head of the queue, as `net_base_finite_receiver_read` does, but
+/// copies none, and returns true; `net_base_ring_allocated` of `receiver.place` tells before where
+/// they are.
 ///
-/// It is refused if `place` isn't that of a ring of `storage.len()` bytes, `next` doesn't fit 64
-/// bits, or `held.used` is above `runs.len()`, or if the segment doesn't end within 64 bits:
-/// `NET_BASE_REFUSED`.
-///
-/// # Requires
-///
-/// Head and runs are sound, as `net_base_finite_receiver_is_sound` tests.
+/// It is refused if `receiver.receiver.place` isn't that of a ring of `capacity` elements, or if
+/// fewer than `count` elements are queued, or if `next` doesn't fit 64 bits: false, and nothing
+/// changes.
 #[inline(always)]
-pub fn net_base_finite_receiver_is_acceptable(
-    receiver: &FiniteReceiverHead,
-    storage: &[u8],
-    runs: &[Run],
-    position: u64,
-    count: u64,
-) -> u32 {
-    if !is_plausible(&receiver.receiver, storage.len(), runs.len())
-        || count as u64 > u64::MAX - position
+pub fn net_base_finite_receiver_remove(
+    receiver: &mut FiniteReceiverHead,
+    capacity: usize,
+    count: usize,
+) -> bool {
+    if !receiver.receiver.place.is_sound(capacity)
+        || count > receiver.receiver.place.length
+        || !has_next(&receiver.receiver)
     {
-        return NET_BASE_REFUSED;
+        return false;
     }
-    presence_of(receiver.is_acceptable(storage, runs, position, count))
+    receiver.remove(capacity, count);
+    true
 }
 
 /// Returns how many bytes of a segment of `len` bytes at `position` would be new: those in the free

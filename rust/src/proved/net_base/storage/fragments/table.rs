@@ -3,7 +3,7 @@
 //! The slots are lent: as many packets are reassembled at a time. smoltcp has such a table of its own
 //! buffers, `PacketAssemblerSet`.
 
-use super::FragmentsOver;
+use super::FragmentBuffer;
 use crate::proved::net_base::time::Instant;
 use crate::proved::net_ring::{Full, Storage};
 
@@ -12,7 +12,7 @@ pub struct FragmentSlot<K, B: Storage<u8>, const N: usize> {
     /// The key of the packet, such as its source, destination, protocol and identification.
     pub key: Option<K>,
     /// Its fragments. Where there is no key, they are those of an earlier packet.
-    pub buffer: FragmentsOver<B, N>,
+    pub buffer: FragmentBuffer<'static, N, B>,
 }
 
 impl<K: Copy + Eq, B: Storage<u8>, const N: usize> FragmentSlot<K, B, N> {
@@ -37,7 +37,7 @@ impl<K: Copy + Eq, B: Storage<u8>, const N: usize> FragmentSlot<K, B, N> {
         const { assert!(N >= 1, "a buffer of fragments has at least one run") };
         FragmentSlot {
             key: None,
-            buffer: FragmentsOver::over(bytes, Instant::ZERO),
+            buffer: FragmentBuffer::over(bytes, Instant::ZERO),
         }
     }
 
