@@ -190,6 +190,11 @@ pub extern "C" fn net_base_finite_receiver_remove(
     ensures state { IsTrue result → (storage : List ℕ) (runs : List (ℕ × ℕ)) → length storage ≡ capacity →
         HasSoundFinite receiver.old storage runs → finite_of receiver.new storage runs ≡ finite_after_read
         (finite_of receiver.old storage runs) count }
+    ensures receives { IsTrue result → (storage : List ℕ) (runs : List (ℕ × ℕ)) → length storage ≡ capacity →
+        HasSoundFinite receiver.old storage runs → (f : ℕ) (x : List ℕ) → ReceivesFinite f x (finite_of receiver.old
+        storage runs) → ReceivesFinite f x (finite_of receiver.new storage runs) × (take count (queue (ring_at
+        storage receiver.old.receiver.place)) ≡ slice_range x receiver.old.receiver.count_read
+        (receiver.old.receiver.count_read + count)) }
     ensures unchanged { IsFalse result → (receiver.new ≡ receiver.old) }
 {
     if !receiver.receiver.place.is_sound(capacity)

@@ -417,6 +417,12 @@ impl FiniteReceiverHead {
     /// ensures state { (storage : List ℕ) (runs : List (ℕ × ℕ)) → length storage ≡ capacity →
     ///     HasSoundFinite self.old storage runs → finite_of self.new storage runs
     ///     ≡ finite_after_read (finite_of self.old storage runs) count }
+    /// ensures receives { (storage : List ℕ) (runs : List (ℕ × ℕ)) → length storage ≡ capacity →
+    ///     HasSoundFinite self.old storage runs → (f : ℕ) (x : List ℕ) →
+    ///     ReceivesFinite f x (finite_of self.old storage runs) →
+    ///     ReceivesFinite f x (finite_of self.new storage runs)
+    ///     × (take count (queue (ring_at storage self.old.receiver.place))
+    ///     ≡ slice_range x self.old.receiver.count_read (self.old.receiver.count_read + count)) }
     /// ```
     #[inline]
     pub fn remove(&mut self, capacity: usize, count: usize) {
