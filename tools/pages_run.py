@@ -1,0 +1,111 @@
+#!/usr/bin/env python3
+"""Runs the commands that pages tell users, as the pages have them, in a fresh clone: python3 tools/pages_run.py [--all]
+
+A command is a line of a block of a page, or a text of two words or more between backquotes, that begins with one of WORDS.
+A block that changes the folder is one command. `my.c` is the program in C of docs/FFI.md. Commands that take more than
+seconds, SLOW, are run with `--all` alone, and may say by status 2 that something is missing here; those of ELSEWHERE never.
+Both lists have the reasons; a name that ends in ` ..` is the beginning of commands. Status 1 if a command fails, or if a
+name of a list is on no page.
+"""
+import os
+import pathlib
+import re
+import subprocess
+import sys
+import tempfile
+
+ROOT = pathlib.Path(__file__).resolve().parent.parent
+# The pages, and where the commands of each are run, unless they name that folder.
+PAGES = {"README.md": ".", "rust/README.md": "rust", "docs/FFI.md": ".", "overlay/README.md": "."}
+WORDS = re.compile(r"\(?(?:[A-Z_]+=\S+ )?(?:cd|cargo|cc|sh|rt|rustup|python3|pkg-config|arm-none-eabi-gcc|echo|\.ci/run)(?= |$)")
+
+BLOCK = re.compile(r"(?<=\n\n)(?:    .*\n|\n(?=    ))+")
+
+PROVES = "it proves what it uses first"
+GATE = "the gate runs it too, in the repository"
+EMULATORS = "it wants compilers and emulators, and takes minutes"
+SLOW = {
+    ".ci/run": "it is the gate",
+    "(cd crates/net_bench && rt run -- ring 4 < stdin)": PROVES,
+    "rt new crates/my_crate start_lib ..": PROVES,
+    "(cd rust && cargo test --offline) && sh c/run.sh": GATE,
+    "cargo test --offline": GATE,
+    "sh features.sh": GATE,
+    "sh package.sh": GATE,
+    "sh c/run.sh": GATE,
+    "python3 overlay/test.py": GATE,
+    "sh rust/targets.sh": EMULATORS,
+    "sh c/targets.sh": EMULATORS,
+    "sh c/targets.sh --table": EMULATORS,
+    "sh examples/endpoint/run.sh": "it wants a TUN device, and takes minutes",
+    "sh examples/endpoint/run.sh --runs": "it wants a TUN device, and takes an hour",
+}
+CHECKOUT = "it wants a checkout of smoltcp; overlay/test.py runs the script over a stand-in"
+TARGET = "it wants Rust's library, or a compiler, for another processor; c/targets.sh builds for it"
+ELSEWHERE = {
+    "cargo cinstall": "it wants cargo-c",
+    "rustup target add": TARGET,
+    "sh rust/kit.sh FOLDER TARGET": TARGET,
+    "sh rust/targets.sh FOLDER": TARGET,
+    "(cd c && cargo build --profile small --target thumbv7em-none-eabi)": TARGET,
+    "arm-none-eabi-gcc ..": TARGET,
+    "rt lib": "the gate runs it, in crates/net_ffi",
+    "cargo package": "package.sh runs it",
+    "python3 overlay/overlay.py CHECKOUT [--into COPY] [--dry-run]": CHECKOUT,
+    "python3 overlay/overlay.py CHECKOUT --undo": CHECKOUT,
+    "python3 overlay/overlay.py CHECKOUT --into COPY": CHECKOUT,
+    "SMOLTCP=CHECKOUT ..": CHECKOUT,
+    "(cd CHECKOUT && cargo test); (cd COPY && cargo test)": CHECKOUT,
+}
+
+
+def blocks(text):
+    """The blocks of a page, each a list of lines."""
+    return [re.sub("^    ", "", block, flags=re.M).split("\n") for block in BLOCK.findall(text)]
+
+
+def commands(text):
+    """The commands of a page, in order, without the comments behind them."""
+    for block in blocks(text):
+        lines = [re.sub(r"  +#.*", "", line).strip() for line in block]
+        lines = [line for line in lines if WORDS.match(line)]
+        if any(re.search(r"(?:^|&& )cd ", line) for line in lines):
+            yield "\n".join(lines)
+        else:
+            yield from lines
+    prose = re.sub(r"^```.*?^```$", "", BLOCK.sub("", text), flags=re.M | re.S)
+    for quoted in re.findall(r"`([^`]+)`", prose):
+        if WORDS.match(quoted) and re.search(r"\s", quoted):
+            yield re.sub(r"\s+", " ", quoted)
+
+
+def listed(command, names):
+    """The name of a list that a command is, or begins with."""
+    return next((n for n in names if command == n or n.endswith(" ..") and command.startswith(n[:-2])), None)
+
+
+def main():
+    with tempfile.TemporaryDirectory() as folder:
+        clone = pathlib.Path(folder) / "net-base"
+        subprocess.run(["git", "clone", "--quiet", ROOT, clone], check=True)
+        program = next(block for block in blocks((clone / "docs/FFI.md").read_text()) if block[0].startswith("#include"))
+        (clone / "my.c").write_text("\n".join(program) + "\n")
+        environment = {name: value for name, value in os.environ.items() if name != "CARGO_TARGET_DIR"}
+        seen, run, failed = set(), 0, []
+        for page, place in PAGES.items():
+            for command in dict.fromkeys(commands((clone / page).read_text())):
+                seen |= {name for name in (listed(command, SLOW), listed(command, ELSEWHERE)) if name}
+                if listed(command, ELSEWHERE) or listed(command, SLOW) and "--all" not in sys.argv[1:]:
+                    continue
+                at = clone if f" {place}/" in command else clone / place
+                done = subprocess.run(["sh", "-ec", command], cwd=at, env=environment, capture_output=True, text=True)
+                run += 1
+                if done.returncode and not (listed(command, SLOW) and done.returncode == 2):
+                    failed.append(f"{page}: {command}: status {done.returncode}\n{done.stdout[-2000:]}{done.stderr[-2000:]}")
+    failed += [f"{name}: on no page" for name in (*SLOW, *ELSEWHERE) if name not in seen]
+    print("\n".join([*failed, f"{run} commands of {len(PAGES)} pages run"]))
+    sys.exit(bool(failed))
+
+
+if __name__ == "__main__":
+    main()
