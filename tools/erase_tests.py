@@ -227,9 +227,9 @@ def page():
 
 
 # A struct over any storage with its alias, as Rattle has them, and as Rust has them.
-ALIASED = ("/// B over any storage.\n///\n/// More.\npub struct AOver<S: Storage<u8>, const N: usize> {\n    a: S,\n}\n\n"
+ALIASED = ("/// B over any storage.\n///\n/// More.\n#[derive(Clone)]\npub struct AOver<S: Storage<u8>, const N: usize> {\n    a: S,\n}\n\n"
            "/// A B.\npub type B<'a, const N: usize = { M }> = AOver<ManagedSlice<'a, u8>, N>;\n")
-NAMED = ("/// A B.\n///\n/// More.\npub struct B<'a, const N: usize = { M }, S: Storage<u8> = ManagedSlice<'a, u8>> {\n"
+NAMED = ("/// A B.\n///\n/// More.\n#[derive(Clone)]\npub struct B<'a, const N: usize = { M }, S: Storage<u8> = ManagedSlice<'a, u8>> {\n"
          "    lent: core::marker::PhantomData<&'a ()>,\n    a: S,\n}\n\n"
          "/// B over any storage.\npub type AOver<S, const N: usize> = B<'static, N, S>;\n")
 

@@ -6,12 +6,14 @@ use std::fmt::Write as _;
 use std::hash::Hash;
 use std::iter::FusedIterator;
 
-use net_base::finite::FiniteError;
+use net_base::finite::{FiniteError, FiniteReceiver, FiniteSender};
 use net_base::receiver::Receiver;
 use net_base::scoreboard::Scoreboard;
+use net_base::sender::Sender;
 use net_base::sequence_number::SequenceNumber;
 use net_base::storage::{
-    Assembler, Empty, FragmentError, Full, RingBuffer, RingOver, TooManyHolesError,
+    Assembler, Empty, FragmentBuffer, FragmentError, Full, PacketBuffer, PacketMetadata,
+    RingBuffer, RingOver, TooManyHolesError,
 };
 use net_base::tcp::{
     AdvertisedWindow, PartsSum, PeerWindow, RetransmissionTimeout, TimeoutBounds, Transmission,
@@ -66,6 +68,35 @@ fn scoreboards() {
     one.acknowledge(20);
     other.acknowledge(21);
     assert!(one != other);
+}
+
+/// What is changed in a clone stays in the other.
+#[test]
+fn clones() {
+    let mut ring = RingBuffer::over([1u8, 2, 3]);
+    ring.enqueue_unallocated(2);
+    let mut other = ring.clone();
+    other.dequeue_allocated(1);
+    assert_eq!((ring.as_slices().0, other.as_slices().0), (&[1, 2][..], &[2][..]));
+    let mut queue = PacketBuffer::over([PacketMetadata::EMPTY; 2], [0u8; 4]);
+    assert_eq!(queue.push_slice('h', b"abc"), Ok(()));
+    assert_eq!(queue.clone().dequeue(), Ok(('h', &mut b"abc"[..].to_vec()[..])));
+    assert_eq!((queue.payload_bytes_count(), queue.clone().is_empty()), (3, false));
+    let mut fragments = FragmentBuffer::<4, _>::over([0u8; 4], Instant::ZERO);
+    assert_eq!((fragments.clone().add(0, b"ab"), fragments.set_total_size(2)), (Ok(()), Ok(())));
+    assert_eq!((fragments.assemble(), fragments.total_size()), (None, Some(2)));
+    let mut sender = Sender::over(*b"....");
+    assert_eq!((sender.write(b"ab"), sender.clone().write(b"cde")), (2, 2));
+    assert_eq!((sender.peek_at(0, 9), sender.clone().into_storage()), (&b"ab"[..], *b"ab.."));
+    let mut finite = FiniteSender::over([0u8; 4]);
+    finite.clone().close();
+    assert_eq!((finite.is_closed(), finite.write(b"a")), (false, 1));
+    let mut receiver = Receiver::<2, _>::over([0u8; 4]);
+    assert!(receiver.segment(1, b"b").is_ok() && receiver.clone().segment(0, b"a").is_ok());
+    assert_eq!((receiver.next(), receiver.clone().held().next()), (0, Some((1, 2))));
+    let mut finite = FiniteReceiver::<2, _>::over([0u8; 4]);
+    assert!(finite.clone().keep(0, b"a", true).is_ok());
+    assert_eq!((finite.keep(0, b"b", false).is_ok(), finite.end()), (true, None));
 }
 
 #[test]

@@ -103,3 +103,7 @@ impl{generics} core::iter::FusedIterator for {name} {{}}
 for name in ('struct AdvertisedWindow', 'struct PartsSum', 'struct PeerWindow', 'struct RttEstimate', 'struct TimeoutBounds',
              'enum Transmission', 'struct RetransmissionTimeout'):
     REPLACED.append(('', f'Debug)]\npub {name}', f'Debug, PartialEq, Eq, Hash)]\npub {name}'))
+
+# Rattle's clone can be refused. Over storage that can be cloned, such as an array, these can be too.
+for name in ('RingOver', 'PacketsOver', 'FragmentsOver', 'ReceiverOver', 'SenderOver', 'FiniteReceiverOver', 'FiniteSenderOver'):
+    REPLACED.append(('', f'pub struct {name}', f'#[derive(Clone)]\npub struct {name}'))

@@ -17,7 +17,7 @@ from parts.erase_tokens import Refused
 
 DOCS = r'((?:///[^\n]*\n)+)'
 ALIAS = re.compile(DOCS + r"pub type (\w+)<'a(, [^<>;]+?)?> = (\w+Over)<([^;]*)>;\n")
-STRUCT = DOCS + r'pub struct %s<(.*)> \{\n'
+STRUCT = DOCS + r'((?:#\[derive\([^\n]*\n)?)pub struct %s<(.*)> \{\n'
 GIVEN = re.compile(r"ManagedSlice<'a, \w+(?:<\w+>)?>|\w+")                  # what the alias says for a parameter
 FIELD, VALUE = "lent: core::marker::PhantomData<&'a ()>,", 'lent: core::marker::PhantomData,'
 USES = (
@@ -38,7 +38,7 @@ class Named:
     def __init__(self, alias, text):
         self.alias, self.docs, self.name, own, self.over, given = alias[0], *alias.groups()
         self.struct = re.search(STRUCT % self.over, text) or self.refuse('no struct beside its alias')
-        self.old, own, values = self.struct[2].split(', '), (own or '').split(', ')[1:], GIVEN.findall(given)
+        self.old, own, values = self.struct[3].split(', '), (own or '').split(', ')[1:], GIVEN.findall(given)
         more = [f'{parameter} = {value}' for parameter, value in zip(self.old, values) if value != bare(parameter)]
         self.new = [*own, *more]
         if (len(values) != len(self.old) or ', '.join(values) != re.sub(r'\s+', ' ', given).strip(' ,') or
@@ -62,7 +62,7 @@ class Named:
         other = f"pub type {self.over}<{plain}> = {self.of([bare(p) for p in self.old], chr(39) + 'static')};\n"
         struct = f"pub struct {self.name}<{', '.join([chr(39) + 'a', *self.new])}> {{\n    {FIELD}\n"
         text = text.replace(self.alias, first + other)
-        return text.replace(self.struct[0], self.docs + line + rest + struct)
+        return text.replace(self.struct[0], self.docs + line + rest + self.struct[2] + struct)
 
     def used(self, text, pattern, lifetime):
         """The text with the new name in the uses of this kind."""
