@@ -34,6 +34,7 @@ use core::marker::PhantomData;
 /// Contracts lead with `contents q`, the list of the headers and bytes of a queue's packets. The
 /// number of slots, the storage, the read index and the list of packets (header, size, gap)
 /// determine which packets are refused.
+#[derive(Clone)]
 pub struct PacketBuffer<'a, H, M: Storage<PacketMetadata<H>> = ManagedSlice<'a, PacketMetadata<H>>, B: Storage<u8> = ManagedSlice<'a, u8>> {
     lent: core::marker::PhantomData<&'a ()>,
     // Invariant: the head is sound for the storages. The slots in use are packets and gaps, whose sizes

@@ -17,6 +17,7 @@ use crate::proved::net_ring::{ManagedSlice, Storage};
 /// lists are of bytes alone: an end that came out of order is sent again.
 ///
 /// Contracts see what the receiver of the bytes stores, and the end, `no_end` while it isn't known.
+#[derive(Clone)]
 pub struct FiniteReceiver<'a, const N: usize = { crate::rattle::ASSEMBLER_MAX_SEGMENT_COUNT }, S: Storage<u8> = ManagedSlice<'a, u8>> {
     lent: core::marker::PhantomData<&'a ()>,
     // Invariant: the head is sound with the storage and the runs, as `FiniteReceiverHead::is_sound`

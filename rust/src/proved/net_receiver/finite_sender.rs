@@ -13,6 +13,7 @@ use crate::proved::net_ring::{ManagedSlice, Storage};
 /// Contracts see what they see of a `Sender`; 1 or 0 for whether it is closed, and for whether the end
 /// is acknowledged; and the number after the last one that was sent. No call takes memory. smoltcp has
 /// no such type.
+#[derive(Clone)]
 pub struct FiniteSender<'a, S: Storage<u8> = ManagedSlice<'a, u8>> {
     lent: core::marker::PhantomData<&'a ()>,
     // Invariant: the end is acknowledged only once the sender is closed and its queue is empty. What

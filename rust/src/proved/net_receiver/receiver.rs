@@ -40,6 +40,7 @@ use crate::proved::net_ring::{ManagedSlice, Storage};
 /// Contracts see the first position, the capacity, the count of bytes read, the queue, and the held
 /// bytes by their positions. No call takes memory. smoltcp's TCP socket joins ring and assembler in
 /// its own `process`; this is the part of it that stores what was received.
+#[derive(Clone)]
 pub struct Receiver<'a, const N: usize = { crate::rattle::ASSEMBLER_MAX_SEGMENT_COUNT }, S: Storage<u8> = ManagedSlice<'a, u8>> {
     lent: core::marker::PhantomData<&'a ()>,
     // Invariant: the queue is that of the ring, whose read index is the count of bytes read modulo the

@@ -33,6 +33,7 @@ pub enum FragmentError {
 ///
 /// Contracts see the bytes of the storage, the set of the positions that arrived, the packet's
 /// size, once it is known, and the moment up to which the packet is waited for.
+#[derive(Clone)]
 pub struct FragmentBuffer<'a, const N: usize = { crate::rattle::ASSEMBLER_MAX_SEGMENT_COUNT }, B: Storage<u8> = ManagedSlice<'a, u8>> {
     lent: core::marker::PhantomData<&'a ()>,
     // Invariant: the runs are those of an assembler, the positions of the bytes that arrived. If the
