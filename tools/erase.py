@@ -5,8 +5,8 @@
     python3 tools/erase.py --check     writes nothing, and names each file that isn't so
 
 A file becomes itself without its *ghost forms*, those of the tables below. A form that isn't known is refused, with its
-file and line. A function's contract becomes a section of its documentation. tools/parts/erase_list.py says what else differs,
-and tools/parts/erase_names.py which types have other names.
+file and line. The contract of a public function is folded at the end of its documentation. tools/parts/erase_list.py says
+what else differs, and tools/parts/erase_names.py which types have other names.
 
 A public function with a precondition begins with a guard, `prove!(..)`, which becomes `assert!(..)`; one without is
 refused, but for those that the list names. What is written has the source's tokens without those of ghost forms, and no
@@ -45,6 +45,8 @@ SOME_RUNS = re.compile(r'requires(?: \w+)? { 1 ≤ N }')                        
 HAS_RUNS = 'const { assert!(N >= 1, "N is at least 1") };'
 ANGLES = r'<(?:[^<>]|<(?:[^<>]|<[^<>]*>)*>)*>'
 GONE, NO_CLAUSE = '\0', '\1'                      # where a form, and where a clause, was
+LINK = re.compile(r'(?<=\()\w+(?:::\w+)+(?=\))')
+CALLABLE = re.compile(r'(?<=`f`) may be called on [^,]*(?:, and|(?:, if there is one)?\.$)')  # Rust knows it of a closure
 
 
 def branches(tree):
@@ -64,7 +66,7 @@ class Eraser(Text):
         super().__init__(text)
         self.crate, self.public, self.unguarded, self.into = crate, public, unguarded, into
         self.new, self.before, self.after = {}, {}, {}
-        self.owner, self.used, self.contracts = ('', 0), set(), []
+        self.owner, self.used, self.contracts = ('', 0, False), set(), []     # a type or trait, its end, and if it is a trait's
 
     def put(self, start, end, text):
         """Writes a text for the tokens from start to end."""
@@ -93,9 +95,7 @@ class Eraser(Text):
             begins = head is None and fresh
             if kind == 'doc':
                 head = k if begins and word.startswith('///') else head
-                line = re.sub(r'^(//[/!] *```)rust$', r'\1ignore', word)        # parts of proved functions
-                line = re.sub(r'(?<=^/// # Requires)$', ', else it panics' * (self.crate != given.EXPORTS), line)
-                k = self.put(k, k + 1, re.sub(r'(?<=\()\w+(?:::\w+)+(?=\))', lambda m: self.path(m.group()), line))
+                k = self.documentation(k, word)
             elif kind in SPACE:
                 k += 1
             elif word == '#':
@@ -111,6 +111,21 @@ class Eraser(Text):
                 fresh, k = self.form(k, kind, word, at, fresh, k if head is None else head)
                 head = None
         return self.finish()
+
+    def documentation(self, k, line):
+        """A line of documentation, its links anew: a part of a proved function goes, and what is required is what panics."""
+        if re.fullmatch('//[/!] *```rust', line):
+            end = next(j for j in range(k + 1, len(self.tokens)) if self.tokens[j][1].endswith(' ```'))
+            return self.put(k, end + 1 + 2 * (self.tokens[end + 2][1] == '///'), GONE)
+        if line == '/// # Requires' and self.crate != given.EXPORTS and not (k < self.owner[1] and self.owner[0].endswith('Head')):
+            said = CALLABLE.sub('', self.tokens[k + 4][1])                      # after a line without text
+            if said == '/// `f`':
+                return self.put(k - 2, k + 5, GONE)
+            if said == '/// `N` is at least 1.':
+                return self.put(k, k + 1, f"{line}, else it doesn't compile")
+            self.put(k, k + 1, '/// # Panics')
+            line, k = re.sub('^/// (.)', lambda m: f'/// Unless {m[1].lower()}', said), k + 4
+        return self.put(k, k + 1, LINK.sub(lambda m: self.path(m.group()), line))
 
     def form(self, k, kind, word, at, fresh, head):
         """Reads a form at k; returns whether another can begin after it, and where it ends."""
@@ -132,6 +147,8 @@ class Eraser(Text):
             return False, self.put(k, k + 1, 'pub mod')
         if fresh and word == 'impl':
             return self.implementation(k, head)
+        if fresh and word == 'trait':
+            self.owner = self.tokens[after][1], self.group(self.until(k, '{')), True
         if word == 'Drop' and (self.tokens[after][1] in ('+', *AFTER_BOUND)):
             return False, self.bound(k, after)
         if word == 'prove' and self.tokens[after][1] == '!':
@@ -174,7 +191,7 @@ class Eraser(Text):
             if not FOREIGN_IMPLS[said[-3]].fullmatch(body):
                 self.refuse(self.tokens[k][2], 'an impl that does more than those that are erased')
             return True, self.put(head, end, GONE)
-        self.owner = said[-1], end
+        self.owner = said[-1], end, 'for' in said
         return False, k + 1
 
     def function(self, k, head):
@@ -206,7 +223,8 @@ class Eraser(Text):
             self.convert(k, begin, body, margin, self.into[name])
         if any(map(SOME_RUNS.fullmatch, contract)) and 'prove!(N >= 1, ' not in self.source(body, self.group(body)):
             self.after[body] = f'\n{margin}    {HAS_RUNS}'
-        if contract and self.crate != given.EXPORTS:                          # what isn't seen has no page
+        seen = (pub is not None or k < self.owner[1] and self.owner[2]) and not owner.endswith('Head')
+        if contract and seen and self.crate != given.EXPORTS:                 # what isn't seen has no page
             self.document(k, head, margin, contract)
         return k + 1
 
@@ -231,8 +249,9 @@ class Eraser(Text):
         """Writes a contract to the documentation of the function at k."""
         docs = [d for d in range(head, k) if self.tokens[d][0] == 'doc']
         rows = [re.sub(f'^{margin}    ', '', row) for clause in contract for row in clause.split('\n')]
-        lines = ['///'] * bool(docs) + ['/// # Contract', '///', f'/// In the words of [`contracts`]({PAGE}):', '///',
-                                        '/// ```text', *(f'/// {row}' for row in rows), '/// ```']
+        lines = ['///'] * bool(docs) + ['/// <details><summary>Contract</summary>', '///',
+                                        f'/// In the words of [`contracts`]({PAGE}):', '///', '/// ```text',
+                                        *(f'/// {row}' for row in rows), '/// ```', '///', '/// </details>']
         if docs:
             self.after[docs[-1]] = ''.join(f'\n{margin}{line}' for line in lines)
         else:

@@ -10,11 +10,15 @@ import tempfile
 sys.dont_write_bytecode = True
 import erase
 
-CONTRACT = '''/// # Contract
+CONTRACT = '''/// <details><summary>Contract</summary>
 ///
 /// In the words of [`contracts`](crate::contracts):
 ///
 /// ```text
+'''
+END = '''/// ```
+///
+/// </details>
 '''
 
 
@@ -24,15 +28,22 @@ def of(text, **settings):
 
 # Pairs: a text, and what it becomes.
 GIVEN = [
-    ('fn f(x: u8) -> u8\n    requires a { x ≤ 3 }\n{\n    x\n}\n',
-     CONTRACT + '/// requires a { x ≤ 3 }\n/// ```\nfn f(x: u8) -> u8 {\n    x\n}\n'),
+    ('pub fn f(x: u8) -> u8\n    requires a { x ≤ 3 }\n{\n    x\n}\n',
+     CONTRACT + '/// requires a { x ≤ 3 }\n' + END + 'pub fn f(x: u8) -> u8 {\n    x\n}\n'),
+    # What isn't public has none, and what is of a trait has one.
+    ('/// D.\npub(crate) fn f()\n    ensures { ⊤ }\n{\n    g()\n}\nimpl A {\n    fn f()\n        ensures { ⊤ }\n    {\n'
+     '        g()\n    }\n}\nimpl AHead {\n    pub fn f()\n        ensures { ⊤ }\n    {\n        g()\n    }\n}\n',
+     '/// D.\npub(crate) fn f() {\n    g()\n}\nimpl A {\n    fn f() {\n        g()\n    }\n}\n'
+     'impl AHead {\n    pub fn f() {\n        g()\n    }\n}\n'),
+    ('impl A for B {\n    fn f()\n        ensures { ⊤ }\n    {\n        g()\n    }\n}\n',
+     'impl A for B {\n    ' + f'{CONTRACT}/// ensures {{ ⊤ }}\n{END}'.replace('\n', '\n    ') + 'fn f() {\n        g()\n    }\n}\n'),
     # A contract is after the documentation and before attributes; brackets and quotes in logic are none of Rust's.
-    ("/// D.\n#[inline]\npub(crate) fn f<'a>(x: &'a [u8; 3]) -> char\n    ensures { x' ≡ \"}\" }\n{\n    '}'\n}\n",
-     '/// D.\n///\n' + CONTRACT + "/// ensures { x' ≡ \"}\" }\n/// ```\n#[inline]\n"
-     "pub(crate) fn f<'a>(x: &'a [u8; 3]) -> char {\n    '}'\n}\n"),
+    ("/// D.\n#[inline]\npub fn f<'a>(x: &'a [u8; 3]) -> char\n    ensures { x' ≡ \"}\" }\n{\n    '}'\n}\n",
+     '/// D.\n///\n' + CONTRACT + "/// ensures { x' ≡ \"}\" }\n" + END + "#[inline]\n"
+     "pub fn f<'a>(x: &'a [u8; 3]) -> char {\n    '}'\n}\n"),
     # Clauses of several lines keep their shape.
-    ('    fn f()\n        ensures { a\n            b }\n    {\n        g();\n    }\n',
-     '    ' + CONTRACT.replace('\n', '\n    ') + '/// ensures { a\n    ///     b }\n    /// ```\n    fn f() {\n        g();\n    }\n'),
+    ('    pub fn f()\n        ensures { a\n            b }\n    {\n        g();\n    }\n',
+     '    ' + f'{CONTRACT}/// ensures {{ a\n///     b }}\n{END}'.replace('\n', '\n    ') + 'pub fn f() {\n        g();\n    }\n'),
     # Laws, their imports, and what calls them.
     ('/// A law.\npub fn law()\n    ensures { ⊤ }\n{}\nfn g() {}\n', 'fn g() {}\n'),
     ('fn f() {\n    crate::laws::x::<u8>();\n    laws::y();\n    g();\n}\n', 'fn f() {\n    g();\n}\n'),
@@ -61,7 +72,7 @@ GIVEN = [
     ('struct A;\n\n/// M.\nimpl Model for A {\n    ghost use x.y;\n    ghost Value = { ℕ };\n}\n\nfn f() {}\n',
      'struct A;\n\nfn f() {}\n'),
     ('trait T {\n    /// X.\n    ghost x: { A } = { b };\n\n    ghost y: { C };\n\n    fn f(&self) -> [u8; 3]\n        ensures { ⊤ };\n}\n',
-     'trait T {\n    ' + CONTRACT.replace('\n', '\n    ') + '/// ensures { ⊤ }\n    /// ```\n    fn f(&self) -> [u8; 3];\n}\n'),
+     'trait T {\n    ' + f'{CONTRACT}/// ensures {{ ⊤ }}\n{END}'.replace('\n', '\n    ') + 'fn f(&self) -> [u8; 3];\n}\n'),
     ('impl<T: Drop> Drop for A<T> {\n    fn drop(self) {\n        let A { x, y: _, } = self;\n        drop(x);\n    }\n}\nfn f() {}\n',
      'fn f() {}\n'),
     ('impl<T: Drop> Drop for A<T> {\n    fn drop(self) {\n        match self {\n            A::B(_) => {}\n            A::C(x) => drop(x),\n'
@@ -75,14 +86,24 @@ GIVEN = [
     ('impl AHead {\n    fn f(a: u8) {\n        prove!(a < 3);\n    }\n}\n', 'impl AHead {\n    fn f(a: u8) {\n        assert!(a < 3);\n    }\n}\n'),
     # That there is a run is tested when the program is compiled.
     ('pub const fn f<const N: usize>()\n    requires runs { 1 ≤ N }\n{\n    g()\n}\n',
-     CONTRACT + '/// requires runs { 1 ≤ N }\n/// ```\npub const fn f<const N: usize>() {\n    '
+     CONTRACT + '/// requires runs { 1 ≤ N }\n' + END + 'pub const fn f<const N: usize>() {\n    '
      'const { assert!(N >= 1, "N is at least 1") };\n    g()\n}\n'),
     ('pub const fn f<const N: usize>()\n    requires { 1 ≤ N }\n{\n    prove!(N >= 1, "some");\n    g()\n}\n',
-     CONTRACT + '/// requires { 1 ≤ N }\n/// ```\npub const fn f<const N: usize>() {\n    '
+     CONTRACT + '/// requires { 1 ≤ N }\n' + END + 'pub const fn f<const N: usize>() {\n    '
      'const { assert!(N >= 1, "some") };\n    g()\n}\n'),
-    # Examples of proved functions are parts; the others are run.
-    ('/// ```rust\n/// a?\n/// ```\n///\n/// ```\n/// b();\n/// ```\n///\n/// # Requires\nfn f() {}\n',
-     '/// ```ignore\n/// a?\n/// ```\n///\n/// ```\n/// b();\n/// ```\n///\n/// # Requires, else it panics\nfn f() {}\n'),
+    # Examples of proved functions are parts, and go; the others are run.
+    ('/// A.\n///\n/// ```rust\n/// a?\n/// ```\n///\n/// ```\n/// b();\n/// ```\nfn f() {}\n',
+     '/// A.\n///\n/// ```\n/// b();\n/// ```\nfn f() {}\n'),
+    # What is required panics, but in heads; where it doesn't compile, or is that a closure can be called, it can't be broken.
+    ('/// # Requires\n///\n/// The range ends,\n/// by [`f`](crate::f).\nfn f() {}\n',
+     '/// # Panics\n///\n/// Unless the range ends,\n/// by [`f`](crate::proved::net_tcp::f).\nfn f() {}\n'),
+    ('/// # Requires\n///\n/// `N` is at least 1.\nfn f() {}\n',
+     "/// # Requires, else it doesn't compile\n///\n/// `N` is at least 1.\nfn f() {}\n"),
+    ('/// # Requires\n///\n/// `f` may be called on x, and counts at most y.\nfn f() {}\n',
+     '/// # Panics\n///\n/// Unless `f` counts at most y.\nfn f() {}\n'),
+    ('/// A.\n///\n/// # Requires\n///\n/// `f` may be called on x, if there is one.\nfn f() {}\n', '/// A.\nfn f() {}\n'),
+    ('impl AHead {\n    /// # Requires\n    ///\n    /// The head is sound.\n    fn f() {}\n}\n',
+     'impl AHead {\n    /// # Requires\n    ///\n    /// The head is sound.\n    fn f() {}\n}\n'),
     ('/// [`f`](crate::a::f), [`g`](net_ring::g).\nfn f() {}\n',
      '/// [`f`](crate::proved::net_tcp::a::f), [`g`](crate::proved::net_ring::g).\nfn f() {}\n'),
 ]

@@ -3,7 +3,7 @@ import re
 
 NAME = re.compile(r"[A-Za-z_][\w'-]*")
 DEFINED = re.compile(r'^ *(?:abbrev |unfoldable )*pub (?:abbrev |unfoldable |record |data )*([^\s:]+)', re.M)
-TOP = '''What the words of a contract mean, in the section "Contract" of each function's documentation.
+TOP = '''What the words of a contract mean, which is folded at the end of each function's documentation.
 
 A clause is proved of the function's text in Rattle, for all arguments. Here its text is compiled by rustc, without the
 contract; what `requires` asks is tested, and if it isn't met the call panics.

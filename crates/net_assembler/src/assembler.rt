@@ -83,7 +83,7 @@ impl<const N: usize> Assembler<N> {
 impl<const N: usize> Assembler<N> {
     /// Returns an assembler with no position, which has room for `N` maximal runs.
     ///
-    /// smoltcp has only `new`. In Rust that has 4 runs, and this any number.
+    /// smoltcp has only `new`. In Rust that has the number of runs that features set, and this any.
     ///
     /// ```
     /// # use net_base::storage::Assembler;

@@ -23,9 +23,8 @@ use super::{HoleIter, RunIter, TooManyHolesError};
 /// It serves callers who keep the runs of an assembler elsewhere, as in the memory of a program in
 /// C. Each call takes them as a slice, whose length is the most runs that the assembler may have.
 /// The first `used` elements are its runs: they rise, with a hole between neighbours, and the
-/// others aren't read. They are counted from where the first of them starts, so that one starts at
-/// 0; `first_start` is that position, and so how many are missing before it. If positions below it
-/// are removed, only `first_start` changes. If there is no run, it isn't read.
+/// others aren't read. Position p is stored as p - `first_start`, which is where the first run
+/// starts: if positions below it are removed, only that changes. With no run it has no meaning.
 ///
 /// A head is canonical (`IsCanonical`) if both numbers are 0 where there is no run. `new` and `clear`
 /// make it so, and each call leaves it so.
