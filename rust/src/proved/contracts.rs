@@ -1,4 +1,4 @@
-//! What the words of a contract mean, in the section "Contract" of each function's documentation.
+//! What the words of a contract mean, which is folded at the end of each function's documentation.
 //!
 //! A clause is proved of the function's text in Rattle, for all arguments. Here its text is compiled by rustc, without the
 //! contract; what `requires` asks is tested, and if it isn't met the call panics.

@@ -54,14 +54,6 @@ pub struct FirstPacket {
 /// The calls that take the number of slots.
 impl PacketsHead {
     /// Returns the head of a queue with no packets.
-    ///
-    /// # Contract
-    ///
-    /// In the words of [`contracts`](crate::contracts):
-    ///
-    /// ```text
-    /// ensures { result ≡ packets_head (place 0 0) (place 0 0) }
-    /// ```
     #[inline]
     pub const fn new() -> Self {
         PacketsHead {
@@ -71,14 +63,6 @@ impl PacketsHead {
     }
 
     /// Returns whether the head is sound for `slot_count` slots and `capacity` bytes.
-    ///
-    /// # Contract
-    ///
-    /// In the words of [`contracts`](crate::contracts):
-    ///
-    /// ```text
-    /// ensures { IsTrue result ↔ IsSoundHead slot_count capacity self }
-    /// ```
     #[inline]
     pub fn is_sound(self, slot_count: usize, capacity: usize) -> bool {
         self.slots.is_sound(slot_count) && self.bytes.is_sound(capacity)
@@ -86,15 +70,6 @@ impl PacketsHead {
 
     /// Returns how many bytes are skipped before a packet of `size` bytes; `None` if there are no
     /// `size` contiguous free bytes, or no slot for the packet or its gap.
-    ///
-    /// # Contract
-    ///
-    /// In the words of [`contracts`](crate::contracts):
-    ///
-    /// ```text
-    /// requires sound { IsSoundHead slot_count capacity self }
-    /// ensures gap { result ≡ placement_in slot_count capacity self size }
-    /// ```
     #[inline]
     pub fn placement(self, slot_count: usize, capacity: usize, size: usize) -> Option<usize> {
         let contiguous = contiguous_if_placed(self.bytes, capacity);
@@ -107,27 +82,6 @@ impl PacketsHead {
     ///
     /// An empty queue begins at the storage's beginning. The caller writes the size of the gap, if
     /// it has a slot, and size and header of the packet to their slots.
-    ///
-    /// # Contract
-    ///
-    /// In the words of [`contracts`](crate::contracts):
-    ///
-    /// ```text
-    /// requires sound { IsSoundHead slot_count capacity self.old }
-    /// ensures full { IsNone result ↔ (placement_in slot_count capacity self.old size ≡ None) }
-    /// ensures unchanged { IsNone result → self.new ≡ self.old }
-    /// ensures gap { IfSome result
-    ///     (λ p. placement_in slot_count capacity self.old size ≡ Some p.gap) }
-    /// ensures slots { IfSome result (λ p. let m = self.old.slots in
-    ///     (p.gap_slot ≡ index_after slot_count m.read_at m.length)
-    ///     × (p.slot ≡ index_after slot_count m.read_at (m.length + (slots_for p.gap - 1)))) }
-    /// ensures from { IfSome result (λ p. let b = rewound self.old.bytes in
-    ///     p.from ≡ index_after capacity b.read_at (b.length + p.gap)) }
-    /// ensures within { IfSome result (λ p. (p.gap_slot < slot_count) × (p.slot < slot_count)) }
-    /// ensures contiguous { IfSome result (λ p. p.from + size ≤ capacity) }
-    /// ensures placed { IfSome result (λ p. self.new ≡ with_packet_placed p.gap size self.old) }
-    /// ensures sound { IsSoundHead slot_count capacity self.new }
-    /// ```
     #[inline]
     pub fn place(&mut self, slot_count: usize, capacity: usize, size: usize) -> Option<PacketPlace> {
         let gap = self.placement(slot_count, capacity, size)?;
@@ -149,22 +103,9 @@ impl PacketsHead {
     /// Takes the first slot and its `size` bytes off, and returns the index of the first of these
     /// bytes: of a gap before the first packet, or of the first packet.
     ///
-    /// # Requires, else it panics
+    /// # Requires
     ///
     /// The head is sound, a slot is used, and at least `size` bytes are.
-    ///
-    /// # Contract
-    ///
-    /// In the words of [`contracts`](crate::contracts):
-    ///
-    /// ```text
-    /// requires sound { IsSoundHead slot_count capacity self.old }
-    /// requires slot { 1 ≤ self.old.slots.length }
-    /// requires size { size ≤ self.old.bytes.length }
-    /// ensures from { result ≡ self.old.bytes.read_at }
-    /// ensures taken { self.new ≡ with_slot_taken slot_count capacity size self.old }
-    /// ensures sound { IsSoundHead slot_count capacity self.new }
-    /// ```
     #[inline]
     pub fn take(&mut self, slot_count: usize, capacity: usize, size: usize) -> usize {
         let from = self.bytes.read_at;
@@ -176,35 +117,15 @@ impl PacketsHead {
     /// Takes the last `count` bytes off the last packet, after a closure or another program wrote
     /// fewer bytes than were placed. The caller lowers the size in the packet's slot.
     ///
-    /// # Requires, else it panics
+    /// # Requires
     ///
     /// At least `count` bytes are used.
-    ///
-    /// # Contract
-    ///
-    /// In the words of [`contracts`](crate::contracts):
-    ///
-    /// ```text
-    /// requires size { count ≤ self.old.bytes.length }
-    /// ensures slots { self.new.slots ≡ self.old.slots }
-    /// ensures bytes { self.new.bytes
-    ///     ≡ place self.old.bytes.read_at (self.old.bytes.length - count) }
-    /// ensures sound { (n c : ℕ) → IsSoundHead n c self.old → IsSoundHead n c self.new }
-    /// ```
     #[inline]
     pub fn shorten_last(&mut self, count: usize) {
         self.bytes.drop_last(count);
     }
 
     /// Empties the queue.
-    ///
-    /// # Contract
-    ///
-    /// In the words of [`contracts`](crate::contracts):
-    ///
-    /// ```text
-    /// ensures { self.new ≡ packets_head (place 0 0) (place 0 0) }
-    /// ```
     #[inline]
     pub fn clear(&mut self) {
         self.slots.clear();
@@ -217,14 +138,6 @@ impl PacketsHead {
     /// Returns whether head and slots are those of a queue over `capacity` bytes: the head is sound; the
     /// packets and gaps of the slots in use take the bytes in use; each packet is contiguous; and a gap
     /// has bytes, ends at the storage's end and has a packet after it. It looks at each slot in use.
-    ///
-    /// # Contract
-    ///
-    /// In the words of [`contracts`](crate::contracts):
-    ///
-    /// ```text
-    /// ensures { IsTrue result ↔ HasSoundSlots capacity self slots.now }
-    /// ```
     pub fn has_sound_slots(self, slots: &[PacketSlot], capacity: usize) -> bool {
         if !self.is_sound(slots.len(), capacity) {
             return false;
@@ -241,25 +154,6 @@ impl PacketsHead {
     }
 
     /// Returns how far the test has come after a slot, if that can follow.
-    ///
-    /// # Contract
-    ///
-    /// In the words of [`contracts`](crate::contracts):
-    ///
-    /// ```text
-    /// requires sound { IsSound capacity self.bytes }
-    /// requires within { done.offset + done.gap ≤ self.bytes.length }
-    /// requires ends { done.gap ≢ 0 →
-    ///     index_after capacity self.bytes.read_at done.offset + done.gap ≡ capacity }
-    /// ensures none { IsNone result → (ms : List (PacketMetadata ⊤)) →
-    ///     AreSlotsAfter capacity self.bytes done.offset done.gap (metadata slot.now ∷ ms) → ⊥ }
-    /// ensures next { IfSome result (λ next. (ms : List (PacketMetadata ⊤)) →
-    ///     AreSlotsAfter capacity self.bytes done.offset done.gap (metadata slot.now ∷ ms)
-    ///     ↔ AreSlotsAfter capacity self.bytes next.offset next.gap ms) }
-    /// ensures within { IfSome result (λ next. next.offset + next.gap ≤ self.bytes.length) }
-    /// ensures ends { IfSome result (λ next. next.gap ≢ 0 →
-    ///     index_after capacity self.bytes.read_at next.offset + next.gap ≡ capacity) }
-    /// ```
     #[inline]
     fn progress(self, capacity: usize, done: Progress, slot: &PacketSlot) -> Option<Progress> {
         if slot.size > self.bytes.length - done.offset - done.gap {
@@ -286,18 +180,6 @@ impl PacketsHead {
 
     /// Returns whether `first` can be the first slot in use: its bytes are used and contiguous, and
     /// a gap has some and ends at the storage's end.
-    ///
-    /// # Contract
-    ///
-    /// In the words of [`contracts`](crate::contracts):
-    ///
-    /// ```text
-    /// requires sound { IsSoundHead slot_count capacity self }
-    /// ensures can { IsTrue result ↔ CanTake capacity self first.now }
-    /// ensures first { (ss : List PacketSlot) → length ss ≡ slot_count →
-    ///     HasSoundSlots capacity self ss → 1 ≤ self.slots.length →
-    ///     slice_get ss self.slots.read_at ≡ Some first.now → CanTake capacity self first.now }
-    /// ```
     #[inline]
     pub fn can_take(self, slot_count: usize, capacity: usize, first: &PacketSlot) -> bool {
         let to_end = capacity - self.bytes.read_at;
@@ -308,42 +190,15 @@ impl PacketsHead {
     /// Takes the first slot in use, `first`, off with its bytes, and returns the index of the first of
     /// these bytes: of the gap before the first packet, or of the first packet.
     ///
-    /// # Requires, else it panics
+    /// # Requires
     ///
     /// The head is sound, and [`can_take`](PacketsHead::can_take) returns true.
-    ///
-    /// # Contract
-    ///
-    /// In the words of [`contracts`](crate::contracts):
-    ///
-    /// ```text
-    /// requires sound { IsSoundHead slot_count capacity self.old }
-    /// requires first { CanTake capacity self.old first.now }
-    /// ensures from { result ≡ self.old.bytes.read_at }
-    /// ensures taken { self.new ≡ with_slot_taken slot_count capacity first.now.size self.old }
-    /// ensures sound { IsSoundHead slot_count capacity self.new }
-    /// ensures slots { (ss : List PacketSlot) → length ss ≡ slot_count →
-    ///     HasSoundSlots capacity self.old ss → slice_get ss self.old.slots.read_at ≡ Some first.now
-    ///     → HasSoundSlots capacity self.new ss }
-    /// ensures state { (ss : List PacketSlot) (xs : List ℕ) → length ss ≡ slot_count →
-    ///     length xs ≡ capacity → HasSoundSlots capacity self.old ss →
-    ///     slice_get ss self.old.slots.read_at ≡ Some first.now →
-    ///     queue_of self.new ss xs ≡ after_slot first.now (queue_of self.old ss xs) }
-    /// ```
     #[inline]
     pub fn take_slot(&mut self, slot_count: usize, capacity: usize, first: &PacketSlot) -> usize {
         self.take(slot_count, capacity, first.size)
     }
 
     /// Returns whether `last` can be the slot of the last packet, and has at least `count` bytes.
-    ///
-    /// # Contract
-    ///
-    /// In the words of [`contracts`](crate::contracts):
-    ///
-    /// ```text
-    /// ensures { IsTrue result ↔ CanShorten self last.now count }
-    /// ```
     #[inline]
     fn can_shorten(self, last: &PacketSlot, count: usize) -> bool {
         self.slots.length > 0
@@ -354,27 +209,6 @@ impl PacketsHead {
 
     /// Takes the last `count` bytes off the last packet, whose slot is `last`, and lowers the size
     /// there.
-    ///
-    /// # Contract
-    ///
-    /// In the words of [`contracts`](crate::contracts):
-    ///
-    /// ```text
-    /// requires last { CanShorten self.old last.old count }
-    /// ensures slot { last.new ≡ packet_slot (last.old.size - count) }
-    /// ensures slots { self.new.slots ≡ self.old.slots }
-    /// ensures bytes { self.new.bytes
-    ///     ≡ place self.old.bytes.read_at (self.old.bytes.length - count) }
-    /// ensures sound { (n c : ℕ) → IsSoundHead n c self.old → IsSoundHead n c self.new }
-    /// ensures sound_slots { (c : ℕ) (ss : List PacketSlot) → HasSoundSlots c self.old ss →
-    ///     slice_get ss (last_slot_index self.old ss) ≡ Some last.old →
-    ///     HasSoundSlots c self.new (set ss (last_slot_index self.old ss) last.new) }
-    /// ensures state { (c : ℕ) (ss : List PacketSlot) (xs : List ℕ) → length xs ≡ c →
-    ///     HasSoundSlots c self.old ss →
-    ///     slice_get ss (last_slot_index self.old ss) ≡ Some last.old →
-    ///     queue_of self.new (set ss (last_slot_index self.old ss) last.new) xs
-    ///     ≡ with_last_size (last.old.size - count) (queue_of self.old ss xs) }
-    /// ```
     #[inline]
     fn shorten_slot(&mut self, last: &mut PacketSlot, count: usize) {
         self.shorten_last(count);
@@ -386,27 +220,6 @@ impl PacketsHead {
     ///
     /// Returns false, and changes nothing, if the last slot in use can't be that of a packet of at
     /// least `count` bytes, or none is in use.
-    ///
-    /// # Contract
-    ///
-    /// In the words of [`contracts`](crate::contracts):
-    ///
-    /// ```text
-    /// requires sound { IsSoundHead (length slots.old) capacity self.old }
-    /// ensures done { IsTrue result ↔ CanShorten self.old (last_slot self.old slots.old) count }
-    /// ensures head { IsTrue result → (self.new.slots ≡ self.old.slots) × (self.new.bytes
-    ///     ≡ place self.old.bytes.read_at (self.old.bytes.length - count)) }
-    /// ensures slots { IsTrue result → slots.new ≡ set slots.old (last_slot_index self.old slots.old)
-    ///     (packet_slot ((last_slot self.old slots.old).size - count)) }
-    /// ensures unchanged { IsFalse result → (self.new ≡ self.old) × (slots.new ≡ slots.old) }
-    /// ensures sound { IsSoundHead (length slots.old) capacity self.new }
-    /// ensures sound_slots { HasSoundSlots capacity self.old slots.old →
-    ///     HasSoundSlots capacity self.new slots.new }
-    /// ensures state { IsTrue result → (xs : List ℕ) → length xs ≡ capacity →
-    ///     HasSoundSlots capacity self.old slots.old → queue_of self.new slots.new xs
-    ///     ≡ with_last_size ((last_slot self.old slots.old).size - count)
-    ///     (queue_of self.old slots.old xs) }
-    /// ```
     #[inline]
     pub fn shorten_last_in(
         &mut self,
@@ -426,29 +239,6 @@ impl PacketsHead {
     }
 
     /// Appends a packet of `size` bytes as [`place`](PacketsHead::place) does, and writes its slots.
-    ///
-    /// # Contract
-    ///
-    /// In the words of [`contracts`](crate::contracts):
-    ///
-    /// ```text
-    /// requires sound { IsSoundHead (length slots.old) capacity self.old }
-    /// ensures full { IsNone result
-    ///     ↔ (placement_in (length slots.old) capacity self.old size ≡ None) }
-    /// ensures unchanged { IsNone result → (self.new ≡ self.old) × (slots.new ≡ slots.old) }
-    /// ensures gap { IfSome result
-    ///     (λ p. placement_in (length slots.old) capacity self.old size ≡ Some p.gap) }
-    /// ensures place { IfSome result
-    ///     (λ p. p ≡ place_after_gap (length slots.old) capacity self.old p.gap) }
-    /// ensures placed { IfSome result (λ p. self.new ≡ with_packet_placed p.gap size self.old) }
-    /// ensures slots { IfSome result (λ p. slots.new ≡ slots_written p size slots.old) }
-    /// ensures sound { IsSoundHead (length slots.old) capacity self.new }
-    /// ensures sound_slots { HasSoundSlots capacity self.old slots.old →
-    ///     HasSoundSlots capacity self.new slots.new }
-    /// ensures state { (xs : List ℕ) → length xs ≡ capacity →
-    ///     HasSoundSlots capacity self.old slots.old → queue_of self.new slots.new xs
-    ///     ≡ with_packet_if_room (queue_of self.old slots.old xs) size tt }
-    /// ```
     #[inline]
     pub fn enqueue(
         &mut self,
@@ -465,30 +255,6 @@ impl PacketsHead {
     ///
     /// `None`, and nothing changes, if no slot is in use, or the first ones can't be those of a
     /// packet.
-    ///
-    /// # Contract
-    ///
-    /// In the words of [`contracts`](crate::contracts):
-    ///
-    /// ```text
-    /// requires sound { IsSoundHead (length slots.now) capacity self.old }
-    /// ensures none { IsNone result ↔ (HasFirst capacity self.old slots.now → ⊥) }
-    /// ensures unchanged { IsNone result → self.new ≡ self.old }
-    /// ensures first { IfSome result (λ p. p ≡ first_packet capacity self.old slots.now) }
-    /// ensures taken { IfSome result
-    ///     (λ p. self.new ≡ head_after_first capacity self.old slots.now) }
-    /// ensures sound { IsSoundHead (length slots.now) capacity self.new }
-    /// ensures has_first { HasSoundSlots capacity self.old slots.now →
-    ///     1 ≤ self.old.slots.length → HasFirst capacity self.old slots.now }
-    /// ensures sound_slots { HasSoundSlots capacity self.old slots.now →
-    ///     HasSoundSlots capacity self.new slots.now }
-    /// ensures state { IfSome result (λ p. (xs : List ℕ) → length xs ≡ capacity →
-    ///     HasSoundSlots capacity self.old slots.now → queue_of self.new slots.now xs
-    ///     ≡ without_first_and_gap (queue_of self.old slots.now xs)) }
-    /// ensures place { IfSome result (λ p. (xs : List ℕ) → length xs ≡ capacity →
-    ///     HasSoundSlots capacity self.old slots.now →
-    ///     IsFirstAt (queue_of self.old slots.now xs) p) }
-    /// ```
     #[inline]
     pub fn dequeue(&mut self, slots: &[PacketSlot], capacity: usize) -> Option<FirstPacket> {
         self.take_first(slots, capacity)
@@ -497,20 +263,6 @@ impl PacketsHead {
     /// Returns where the first packet is.
     ///
     /// `None` if no slot is in use, or the first ones can't be those of a packet.
-    ///
-    /// # Contract
-    ///
-    /// In the words of [`contracts`](crate::contracts):
-    ///
-    /// ```text
-    /// requires sound { IsSoundHead (length slots.now) capacity self }
-    /// ensures none { IsNone result ↔ (HasFirst capacity self slots.now → ⊥) }
-    /// ensures first { IfSome result (λ p. p ≡ first_packet capacity self slots.now) }
-    /// ensures has_first { HasSoundSlots capacity self slots.now → 1 ≤ self.slots.length →
-    ///     HasFirst capacity self slots.now }
-    /// ensures place { IfSome result (λ p. (xs : List ℕ) → length xs ≡ capacity →
-    ///     HasSoundSlots capacity self slots.now → IsFirstAt (queue_of self slots.now xs) p) }
-    /// ```
     #[inline]
     pub fn peek(self, slots: &[PacketSlot], capacity: usize) -> Option<FirstPacket> {
         let mut head = self;
@@ -518,21 +270,6 @@ impl PacketsHead {
     }
 
     /// Takes the first packet off, and the gap before it, and returns where it is.
-    ///
-    /// # Contract
-    ///
-    /// In the words of [`contracts`](crate::contracts):
-    ///
-    /// ```text
-    /// requires sound { IsSoundHead (length slots.now) capacity self.old }
-    /// ensures none { IsNone result ↔ (HasFirst capacity self.old slots.now → ⊥) }
-    /// ensures unchanged { IsNone result → self.new ≡ self.old }
-    /// ensures some { IfSome result (λ p. 1 ≤ self.old.slots.length) }
-    /// ensures first { IfSome result (λ p. p ≡ first_packet capacity self.old slots.now) }
-    /// ensures taken { IfSome result
-    ///     (λ p. self.new ≡ head_after_first capacity self.old slots.now) }
-    /// ensures sound { IsSoundHead (length slots.now) capacity self.new }
-    /// ```
     #[inline]
     fn take_first(&mut self, slots: &[PacketSlot], capacity: usize) -> Option<FirstPacket> {
         let mut head = *self;
@@ -544,22 +281,6 @@ impl PacketsHead {
 
     /// Takes the gap before the first packet off, if there is one, and returns how many bytes it
     /// has. `None`, and nothing changes, if no slot is in use, or the first one can't be a gap's.
-    ///
-    /// # Contract
-    ///
-    /// In the words of [`contracts`](crate::contracts):
-    ///
-    /// ```text
-    /// requires sound { IsSoundHead (length slots.now) capacity self.old }
-    /// ensures none { IsNone result ↔ ((1 ≤ self.old.slots.length)
-    ///     × ((first_slot self.old slots.now).is_gap ≢ 0
-    ///     → CanTake capacity self.old (first_slot self.old slots.now)) → ⊥) }
-    /// ensures some { IfSome result (λ gap. 1 ≤ self.old.slots.length) }
-    /// ensures gap { IfSome result (λ gap. gap ≡ (first_packet capacity self.old slots.now).gap) }
-    /// ensures skipped { IfSome result
-    ///     (λ gap. self.new ≡ head_after_gap capacity self.old slots.now) }
-    /// ensures sound { IsSoundHead (length slots.now) capacity self.new }
-    /// ```
     #[inline]
     fn skip_gap(&mut self, slots: &[PacketSlot], capacity: usize) -> Option<usize> {
         if self.slots.length == 0 {
@@ -577,23 +298,6 @@ impl PacketsHead {
     }
 
     /// Takes the first packet off, after a gap of `gap` bytes that is gone, and returns where it is.
-    ///
-    /// # Contract
-    ///
-    /// In the words of [`contracts`](crate::contracts):
-    ///
-    /// ```text
-    /// requires sound { IsSoundHead (length slots.now) capacity self.old }
-    /// ensures none { IsNone result ↔ (((first_slot self.old slots.now).is_gap ≡ 0)
-    ///     × CanTake capacity self.old (first_slot self.old slots.now) → ⊥) }
-    /// ensures first { IfSome result
-    ///     (λ p. (p.gap ≡ gap) × (p.slot ≡ self.old.slots.read_at)
-    ///     × (p.from ≡ self.old.bytes.read_at)
-    ///     × (p.size ≡ (first_slot self.old slots.now).size)) }
-    /// ensures taken { IfSome result (λ p. self.new ≡ with_slot_taken (length slots.now) capacity
-    ///     (first_slot self.old slots.now).size self.old) }
-    /// ensures sound { IsSoundHead (length slots.now) capacity self.new }
-    /// ```
     #[inline]
     fn take_packet(
         &mut self,
@@ -621,16 +325,6 @@ impl PacketsHead {
 
 /// Returns how many free bytes are contiguous for a packet that is placed. In an empty ring all are
 /// contiguous, since it is then read from the storage's beginning.
-///
-/// # Contract
-///
-/// In the words of [`contracts`](crate::contracts):
-///
-/// ```text
-/// requires { IsSound capacity bytes }
-/// ensures count { result ≡ contiguous_free capacity (rewound bytes) }
-/// ensures within { result ≤ capacity - bytes.length }
-/// ```
 #[inline]
 fn contiguous_if_placed(bytes: RingHead, capacity: usize) -> usize {
     if bytes.length == 0 {
@@ -642,15 +336,6 @@ fn contiguous_if_placed(bytes: RingHead, capacity: usize) -> usize {
 
 /// Returns the gap before a packet of `size` bytes, if `window` bytes are free, of which the first
 /// `contiguous` are contiguous; `None` if it does not fit.
-///
-/// # Contract
-///
-/// In the words of [`contracts`](crate::contracts):
-///
-/// ```text
-/// requires { contiguous ≤ window }
-/// ensures { result ≡ gap_for size contiguous window }
-/// ```
 #[inline]
 fn gap_for(size: usize, contiguous: usize, window: usize) -> Option<usize> {
     // `p` are the bytes of the packet, `x` and `y` those of others, and `-` the gap.
@@ -667,31 +352,12 @@ fn gap_for(size: usize, contiguous: usize, window: usize) -> Option<usize> {
 }
 
 /// Returns how many slots a packet after a gap of `gap` bytes uses.
-///
-/// # Contract
-///
-/// In the words of [`contracts`](crate::contracts):
-///
-/// ```text
-/// ensures count { result ≡ slots_for gap }
-/// ensures some { 1 ≤ result }
-/// ensures one { result ≤ 1 → gap ≡ 0 }
-/// ensures two { 1 < result → 0 < gap }
-/// ```
 #[inline]
 pub(crate) fn slots_for(gap: usize) -> usize {
     if gap == 0 { 1 } else { 2 }
 }
 
 /// Returns the gap, if `free` slots are enough for it and its packet.
-///
-/// # Contract
-///
-/// In the words of [`contracts`](crate::contracts):
-///
-/// ```text
-/// ensures { result ≡ if_slots free gap }
-/// ```
 #[inline]
 fn if_slots(free: usize, gap: Option<usize>) -> Option<usize> {
     match gap {
@@ -707,16 +373,6 @@ fn if_slots(free: usize, gap: Option<usize>) -> Option<usize> {
 }
 
 /// Writes the slots of a packet of `size` bytes and of its gap, if that has one.
-///
-/// # Contract
-///
-/// In the words of [`contracts`](crate::contracts):
-///
-/// ```text
-/// requires gap_slot { place.gap_slot < length slots.old }
-/// requires slot { place.slot < length slots.old }
-/// ensures { slots.new ≡ slots_written place size slots.old }
-/// ```
 #[inline]
 fn write_slots(slots: &mut [PacketSlot], place: PacketPlace, size: usize) {
     if place.gap > 0 {

@@ -53,7 +53,7 @@ impl<'a, H> PacketBuffer<'a, H> {
     /// Returns a queue with no packets, which has as many slots as `slots` has elements, and room
     /// for as many bytes as `bytes` has.
     ///
-    /// # Contract
+    /// <details><summary>Contract</summary>
     ///
     /// In the words of [`contracts`](crate::contracts):
     ///
@@ -61,6 +61,8 @@ impl<'a, H> PacketBuffer<'a, H> {
     /// ensures empty { contents result ≡ [] }
     /// ensures made { result ≡ no_packets (length (elements slots.entry)) (elements bytes.entry) }
     /// ```
+    ///
+    /// </details>
     pub fn new<A: Into<ManagedSlice<'a, PacketMetadata<H>>>, B: Into<ManagedSlice<'a, u8>>>(slots: A, bytes: B) -> Self {
         let slots = slots.into();
         let bytes = bytes.into();
@@ -73,7 +75,7 @@ impl<H, M: Storage<PacketMetadata<H>>, B: Storage<u8>> PacketBuffer<'_, H, M, B>
     /// Returns a queue with no packets over storages of any type. smoltcp has no such call:
     /// [`PacketBuffer::new`] is the one for two [`ManagedSlice`].
     ///
-    /// # Contract
+    /// <details><summary>Contract</summary>
     ///
     /// In the words of [`contracts`](crate::contracts):
     ///
@@ -81,6 +83,8 @@ impl<H, M: Storage<PacketMetadata<H>>, B: Storage<u8>> PacketBuffer<'_, H, M, B>
     /// ensures empty { contents result ≡ [] }
     /// ensures made { result ≡ no_packets (length (M.elements slots)) (B.elements bytes) }
     /// ```
+    ///
+    /// </details>
     pub const fn over(slots: M, bytes: B) -> Self {
         PacketBuffer {
             lent: core::marker::PhantomData,
@@ -103,7 +107,7 @@ impl<H, M: Storage<PacketMetadata<H>>, B: Storage<u8>> PacketBuffer<'_, H, M, B>
     /// assert!(!queue.is_empty());
     /// ```
     ///
-    /// # Contract
+    /// <details><summary>Contract</summary>
     ///
     /// In the words of [`contracts`](crate::contracts):
     ///
@@ -111,6 +115,8 @@ impl<H, M: Storage<PacketMetadata<H>>, B: Storage<u8>> PacketBuffer<'_, H, M, B>
     /// ensures empty { IsTrue result ↔ (contents self.now ≡ []) }
     /// ensures packets { result ≡ (length self.now.packets == 0) }
     /// ```
+    ///
+    /// </details>
     #[inline]
     pub fn is_empty(&self) -> bool {
         self.head.slots.length == 0
@@ -128,13 +134,15 @@ impl<H, M: Storage<PacketMetadata<H>>, B: Storage<u8>> PacketBuffer<'_, H, M, B>
     /// assert!(queue.is_full());
     /// ```
     ///
-    /// # Contract
+    /// <details><summary>Contract</summary>
     ///
     /// In the words of [`contracts`](crate::contracts):
     ///
     /// ```text
     /// ensures { result ≡ (self.now.slot_count - slots_used self.now.packets == 0) }
     /// ```
+    ///
+    /// </details>
     #[inline]
     pub fn is_full(&self) -> bool {
         self.head.slots.length == self.slots.count()
@@ -151,13 +159,15 @@ impl<H, M: Storage<PacketMetadata<H>>, B: Storage<u8>> PacketBuffer<'_, H, M, B>
     /// assert!(queue.has_room(13) && !queue.has_room(14));
     /// ```
     ///
-    /// # Contract
+    /// <details><summary>Contract</summary>
     ///
     /// In the words of [`contracts`](crate::contracts):
     ///
     /// ```text
     /// ensures { IsTrue result ↔ IsSome (placement self.now size) }
     /// ```
+    ///
+    /// </details>
     #[inline]
     pub fn has_room(&self, size: usize) -> bool {
         self.placement(size).is_some()
@@ -172,13 +182,15 @@ impl<H, M: Storage<PacketMetadata<H>>, B: Storage<u8>> PacketBuffer<'_, H, M, B>
     /// assert_eq!(PacketBuffer::new(&mut slots[..], &mut bytes[..]).packet_capacity(), 4);
     /// ```
     ///
-    /// # Contract
+    /// <details><summary>Contract</summary>
     ///
     /// In the words of [`contracts`](crate::contracts):
     ///
     /// ```text
     /// ensures { result ≡ self.now.slot_count }
     /// ```
+    ///
+    /// </details>
     #[inline]
     pub fn packet_capacity(&self) -> usize {
         self.slots.count()
@@ -193,13 +205,15 @@ impl<H, M: Storage<PacketMetadata<H>>, B: Storage<u8>> PacketBuffer<'_, H, M, B>
     /// assert_eq!(PacketBuffer::new(&mut slots[..], &mut bytes[..]).payload_capacity(), 16);
     /// ```
     ///
-    /// # Contract
+    /// <details><summary>Contract</summary>
     ///
     /// In the words of [`contracts`](crate::contracts):
     ///
     /// ```text
     /// ensures { result ≡ length self.now.storage }
     /// ```
+    ///
+    /// </details>
     #[inline]
     pub fn payload_capacity(&self) -> usize {
         self.bytes.count()
@@ -217,13 +231,15 @@ impl<H, M: Storage<PacketMetadata<H>>, B: Storage<u8>> PacketBuffer<'_, H, M, B>
     /// assert_eq!(queue.payload_bytes_count(), 3);
     /// ```
     ///
-    /// # Contract
+    /// <details><summary>Contract</summary>
     ///
     /// In the words of [`contracts`](crate::contracts):
     ///
     /// ```text
     /// ensures { result ≡ bytes_used self.now.packets }
     /// ```
+    ///
+    /// </details>
     #[inline]
     pub fn payload_bytes_count(&self) -> usize {
         self.head.bytes.length
@@ -241,13 +257,15 @@ impl<H, M: Storage<PacketMetadata<H>>, B: Storage<u8>> PacketBuffer<'_, H, M, B>
     /// assert_eq!(queue.slots_used(), 1);
     /// ```
     ///
-    /// # Contract
+    /// <details><summary>Contract</summary>
     ///
     /// In the words of [`contracts`](crate::contracts):
     ///
     /// ```text
     /// ensures { result ≡ slots_used self.now.packets }
     /// ```
+    ///
+    /// </details>
     #[inline]
     pub fn slots_used(&self) -> usize {
         self.head.slots.length
@@ -265,7 +283,7 @@ impl<H, M: Storage<PacketMetadata<H>>, B: Storage<u8>> PacketBuffer<'_, H, M, B>
     /// assert_eq!(queue.len(), 1);
     /// ```
     ///
-    /// # Contract
+    /// <details><summary>Contract</summary>
     ///
     /// In the words of [`contracts`](crate::contracts):
     ///
@@ -273,6 +291,8 @@ impl<H, M: Storage<PacketMetadata<H>>, B: Storage<u8>> PacketBuffer<'_, H, M, B>
     /// ensures contents { result ≡ length (contents self.now) }
     /// ensures packets { result ≡ length self.now.packets }
     /// ```
+    ///
+    /// </details>
     pub fn len(&self) -> usize {
         let from = self.head.slots.read_at;
         let cut = self.head.slots.contiguous_queue(self.slots.count());
@@ -296,7 +316,7 @@ impl<H, M: Storage<PacketMetadata<H>>, B: Storage<u8>> PacketBuffer<'_, H, M, B>
     /// assert!(queue.is_empty());
     /// ```
     ///
-    /// # Contract
+    /// <details><summary>Contract</summary>
     ///
     /// In the words of [`contracts`](crate::contracts):
     ///
@@ -305,6 +325,8 @@ impl<H, M: Storage<PacketMetadata<H>>, B: Storage<u8>> PacketBuffer<'_, H, M, B>
     /// ensures made { self.new ≡ no_packets self.old.slot_count self.old.storage }
     /// ensures call { Makes Reset self.old self.new }
     /// ```
+    ///
+    /// </details>
     pub fn reset(&mut self) {
         self.head.clear();
     }
@@ -329,7 +351,7 @@ impl<H, M: Storage<PacketMetadata<H>>, B: Storage<u8>> PacketBuffer<'_, H, M, B>
     /// # Ok::<(), Full>(())
     /// ```
     ///
-    /// # Contract
+    /// <details><summary>Contract</summary>
     ///
     /// In the words of [`contracts`](crate::contracts):
     ///
@@ -346,6 +368,8 @@ impl<H, M: Storage<PacketMetadata<H>>, B: Storage<u8>> PacketBuffer<'_, H, M, B>
     /// ensures call { IfOk result (λ r. (ws : List ℕ) → length ws ≡ size → Makes (Enqueue header ws)
     ///     self.old (with_last_bytes (with_packet_if_room self.old size header) ws)) }
     /// ```
+    ///
+    /// </details>
     pub fn enqueue(&mut self, size: usize, header: H) -> Result<&mut [u8], Full> {
         let Ok(()) = self.place(size, header) else {
             return Err(Full);
@@ -367,7 +391,7 @@ impl<H, M: Storage<PacketMetadata<H>>, B: Storage<u8>> PacketBuffer<'_, H, M, B>
     /// assert_eq!(queue.peek().ok(), Some((&1, &b"abc"[..])));
     /// ```
     ///
-    /// # Contract
+    /// <details><summary>Contract</summary>
     ///
     /// In the words of [`contracts`](crate::contracts):
     ///
@@ -384,6 +408,8 @@ impl<H, M: Storage<PacketMetadata<H>>, B: Storage<u8>> PacketBuffer<'_, H, M, B>
     ///     × (length self.new.storage ≡ length self.old.storage) }
     /// ensures call { OnOk result (Makes (Place header (last_bytes self.new)) self.old self.new) }
     /// ```
+    ///
+    /// </details>
     pub fn place(&mut self, size: usize, header: H) -> Result<(), Full> {
         let slot_count = self.slots.count();
         let capacity = self.bytes.count();
@@ -400,7 +426,7 @@ impl<H, M: Storage<PacketMetadata<H>>, B: Storage<u8>> PacketBuffer<'_, H, M, B>
 
     /// Lends the bytes of the last packet, or none if the queue has no packets.
     ///
-    /// # Contract
+    /// <details><summary>Contract</summary>
     ///
     /// In the words of [`contracts`](crate::contracts):
     ///
@@ -416,6 +442,8 @@ impl<H, M: Storage<PacketMetadata<H>>, B: Storage<u8>> PacketBuffer<'_, H, M, B>
     /// ensures call { (ws : List ℕ) → self.old.packets ≢ [] → length ws ≡ length result.now
     ///     → Makes (WriteLast ws) self.old (with_last_bytes self.old ws) }
     /// ```
+    ///
+    /// </details>
     pub fn last_mut(&mut self) -> &mut [u8] {
         let size = self.last_size();
         self.last_part_mut(size)
@@ -424,7 +452,7 @@ impl<H, M: Storage<PacketMetadata<H>>, B: Storage<u8>> PacketBuffer<'_, H, M, B>
     /// Appends a packet whose bytes are `data`, or returns `Full`, as [`PacketBuffer::enqueue`] does.
     /// smoltcp has no such call.
     ///
-    /// # Contract
+    /// <details><summary>Contract</summary>
     ///
     /// In the words of [`contracts`](crate::contracts):
     ///
@@ -438,6 +466,8 @@ impl<H, M: Storage<PacketMetadata<H>>, B: Storage<u8>> PacketBuffer<'_, H, M, B>
     ///     × (length self.new.storage ≡ length self.old.storage) }
     /// ensures call { OnOk result (Makes (Enqueue header «data».now) self.old self.new) }
     /// ```
+    ///
+    /// </details>
     pub fn push_slice(&mut self, header: H, data: &[u8]) -> Result<(), Full> {
         self.place(data.len(), header)?;
         self.last_part_mut(data.len()).copy_from_slice(data);
@@ -464,11 +494,11 @@ impl<H, M: Storage<PacketMetadata<H>>, B: Storage<u8>> PacketBuffer<'_, H, M, B>
     /// assert_eq!(queue.peek().ok(), Some((&1, &b"abc"[..])));
     /// ```
     ///
-    /// # Requires, else it panics
+    /// # Panics
     ///
-    /// `f` may be called on the `max_size` bytes that it is lent, and returns at most `max_size`.
+    /// Unless `f` returns at most `max_size`.
     ///
-    /// # Contract
+    /// <details><summary>Contract</summary>
     ///
     /// In the words of [`contracts`](crate::contracts):
     ///
@@ -482,6 +512,8 @@ impl<H, M: Storage<PacketMetadata<H>>, B: Storage<u8>> PacketBuffer<'_, H, M, B>
     /// ensures capacity { (self.new.slot_count ≡ self.old.slot_count)
     ///     × (length self.new.storage ≡ length self.old.storage) }
     /// ```
+    ///
+    /// </details>
     #[track_caller]
     pub fn enqueue_with_infallible<'b, F: FnOnce(&'b mut [u8]) -> usize>(
         &'b mut self,
@@ -525,11 +557,7 @@ impl<H, M: Storage<PacketMetadata<H>>, B: Storage<u8>> PacketBuffer<'_, H, M, B>
     /// # Ok::<(), Full>(())
     /// ```
     ///
-    /// # Requires, else it panics
-    ///
-    /// `f` may be called on the first packet, if there is one.
-    ///
-    /// # Contract
+    /// <details><summary>Contract</summary>
     ///
     /// In the words of [`contracts`](crate::contracts):
     ///
@@ -542,6 +570,8 @@ impl<H, M: Storage<PacketMetadata<H>>, B: Storage<u8>> PacketBuffer<'_, H, M, B>
     /// ensures capacity { (self.new.slot_count ≡ self.old.slot_count)
     ///     × (length self.new.storage ≡ length self.old.storage) }
     /// ```
+    ///
+    /// </details>
     pub fn dequeue_with<'c, R, E, F: FnOnce(&mut H, &'c mut [u8]) -> Result<R, E>>(
         &'c mut self,
         f: F,
@@ -582,7 +612,7 @@ impl<H, M: Storage<PacketMetadata<H>>, B: Storage<u8>> PacketBuffer<'_, H, M, B>
     /// # Ok::<(), Full>(())
     /// ```
     ///
-    /// # Contract
+    /// <details><summary>Contract</summary>
     ///
     /// In the words of [`contracts`](crate::contracts):
     ///
@@ -601,6 +631,8 @@ impl<H, M: Storage<PacketMetadata<H>>, B: Storage<u8>> PacketBuffer<'_, H, M, B>
     ///     → Makes (Dequeue r.0 r.1.now ws) self.old
     ///     (with_bytes (without_first_and_gap self.old) (without_gap self.old).read_at ws)) }
     /// ```
+    ///
+    /// </details>
     pub fn dequeue(&mut self) -> Result<(H, &mut [u8]), Empty> {
         let Ok((header, size)) = self.take() else {
             return Err(Empty);
@@ -622,7 +654,7 @@ impl<H, M: Storage<PacketMetadata<H>>, B: Storage<u8>> PacketBuffer<'_, H, M, B>
     /// assert_eq!(queue.last_dequeued_mut(3), b"abc");
     /// ```
     ///
-    /// # Contract
+    /// <details><summary>Contract</summary>
     ///
     /// In the words of [`contracts`](crate::contracts):
     ///
@@ -642,6 +674,8 @@ impl<H, M: Storage<PacketMetadata<H>>, B: Storage<u8>> PacketBuffer<'_, H, M, B>
     /// ensures call { IfOk result
     ///     (λ r. Makes (Take r.0 (last_dequeued_bytes self.new r.1)) self.old self.new) }
     /// ```
+    ///
+    /// </details>
     pub fn take(&mut self) -> Result<(H, usize), Empty> {
         self.skip();
         let Some((header, size)) = self.take_first() else {
@@ -652,12 +686,12 @@ impl<H, M: Storage<PacketMetadata<H>>, B: Storage<u8>> PacketBuffer<'_, H, M, B>
 
     /// Lends the `size` bytes before the read index: those of the packet that was taken off last.
     ///
-    /// # Requires, else it panics
+    /// # Panics
     ///
-    /// The `size` bytes before the read index are contiguous and none is a packet's, as after a
+    /// Unless the `size` bytes before the read index are contiguous and none is a packet's, as after a
     /// call of [`PacketBuffer::take`] that returned `size`.
     ///
-    /// # Contract
+    /// <details><summary>Contract</summary>
     ///
     /// In the words of [`contracts`](crate::contracts):
     ///
@@ -675,6 +709,8 @@ impl<H, M: Storage<PacketMetadata<H>>, B: Storage<u8>> PacketBuffer<'_, H, M, B>
     /// ensures call { (ws : List ℕ) → length ws ≡ size → Makes (WriteLastDequeued ws) self.old
     ///     (with_bytes self.old (last_dequeued_bytes_index self.old size) ws) }
     /// ```
+    ///
+    /// </details>
     #[track_caller]
     pub fn last_dequeued_mut(&mut self, size: usize) -> &mut [u8] {
         let capacity = self.bytes.count();
@@ -702,7 +738,7 @@ impl<H, M: Storage<PacketMetadata<H>>, B: Storage<u8>> PacketBuffer<'_, H, M, B>
     /// assert_eq!((queue.pop_slice(&mut into), &into), (Ok((1, 3)), b"abc--"));
     /// ```
     ///
-    /// # Contract
+    /// <details><summary>Contract</summary>
     ///
     /// In the words of [`contracts`](crate::contracts):
     ///
@@ -725,6 +761,8 @@ impl<H, M: Storage<PacketMetadata<H>>, B: Storage<u8>> PacketBuffer<'_, H, M, B>
     /// ensures call { IfOk result
     ///     (λ r. Makes (Take r.0 (head_bytes (contents self.old))) self.old self.new) }
     /// ```
+    ///
+    /// </details>
     pub fn pop_slice(&mut self, into: &mut [u8]) -> Result<(H, usize), Empty> {
         let (header, size) = self.take()?;
         let count = copy(into, self.last_dequeued_mut(size));
@@ -746,7 +784,7 @@ impl<H, M: Storage<PacketMetadata<H>>, B: Storage<u8>> PacketBuffer<'_, H, M, B>
     /// # Ok::<(), Full>(())
     /// ```
     ///
-    /// # Contract
+    /// <details><summary>Contract</summary>
     ///
     /// In the words of [`contracts`](crate::contracts):
     ///
@@ -763,6 +801,8 @@ impl<H, M: Storage<PacketMetadata<H>>, B: Storage<u8>> PacketBuffer<'_, H, M, B>
     /// ensures bytes { IfOk result (λ r. r.1.now ≡ first_bytes (without_gap self.old)) }
     /// ensures call { Makes Peek self.old (without_gap self.old) }
     /// ```
+    ///
+    /// </details>
     pub fn peek(&mut self) -> Result<(&H, &[u8]), Empty> {
         self.skip();
         self.first()
@@ -772,15 +812,6 @@ impl<H, M: Storage<PacketMetadata<H>>, B: Storage<u8>> PacketBuffer<'_, H, M, B>
 /// Steps that the calls share.
 impl<H, M: Storage<PacketMetadata<H>>, B: Storage<u8>> PacketBuffer<'_, H, M, B> {
     /// Returns the gap before a packet of `size` bytes, if it can be placed.
-    ///
-    /// # Contract
-    ///
-    /// In the words of [`contracts`](crate::contracts):
-    ///
-    /// ```text
-    /// ensures gap { result ≡ placement self.now size }
-    /// ensures well_placed { IsWellPlaced self.now }
-    /// ```
     #[inline]
     fn placement(&self, size: usize) -> Option<usize> {
         self.head
@@ -788,15 +819,6 @@ impl<H, M: Storage<PacketMetadata<H>>, B: Storage<u8>> PacketBuffer<'_, H, M, B>
     }
 
     /// Returns the gap before the first packet, or 0 if there is none.
-    ///
-    /// # Contract
-    ///
-    /// In the words of [`contracts`](crate::contracts):
-    ///
-    /// ```text
-    /// ensures gap { result ≡ first_gap self.now.packets }
-    /// ensures well_placed { IsWellPlaced self.now }
-    /// ```
     #[inline]
     fn first_gap(&self) -> usize {
         if self.head.slots.length == 0 {
@@ -810,16 +832,6 @@ impl<H, M: Storage<PacketMetadata<H>>, B: Storage<u8>> PacketBuffer<'_, H, M, B>
     }
 
     /// Drops the gap before the first packet.
-    ///
-    /// # Contract
-    ///
-    /// In the words of [`contracts`](crate::contracts):
-    ///
-    /// ```text
-    /// ensures skipped { self.new ≡ without_gap self.old }
-    /// ensures unchanged { first_gap self.old.packets ≡ 0 → self.new ≡ self.old }
-    /// ensures well_placed { IsWellPlaced self.old }
-    /// ```
     #[inline]
     fn skip(&mut self) {
         let gap = self.first_gap();
@@ -829,17 +841,6 @@ impl<H, M: Storage<PacketMetadata<H>>, B: Storage<u8>> PacketBuffer<'_, H, M, B>
     }
 
     /// Returns the first packet, which has no gap before it.
-    ///
-    /// # Contract
-    ///
-    /// In the words of [`contracts`](crate::contracts):
-    ///
-    /// ```text
-    /// requires { first_gap self.now.packets ≡ 0 }
-    /// ensures no_packet { IsErr result ↔ (length self.now.packets ≡ 0) }
-    /// ensures first { IfOk result (λ r. IsFirstSized self.now.packets r.0.now (length r.1.now)) }
-    /// ensures bytes { IfOk result (λ r. r.1.now ≡ first_bytes self.now) }
-    /// ```
     fn first(&self) -> Result<(&H, &[u8]), Empty> {
         if self.head.slots.length == 0 {
             return Err(Empty);
@@ -855,15 +856,6 @@ impl<H, M: Storage<PacketMetadata<H>>, B: Storage<u8>> PacketBuffer<'_, H, M, B>
     }
 
     /// Returns the size of the last packet, or 0 if there is none.
-    ///
-    /// # Contract
-    ///
-    /// In the words of [`contracts`](crate::contracts):
-    ///
-    /// ```text
-    /// ensures size { result ≡ first_size (only_last self.now.packets) }
-    /// ensures well_placed { IsWellPlaced self.now }
-    /// ```
     fn last_size(&self) -> usize {
         if self.head.slots.length == 0 {
             return 0;
@@ -878,18 +870,6 @@ impl<H, M: Storage<PacketMetadata<H>>, B: Storage<u8>> PacketBuffer<'_, H, M, B>
 
 impl<H, M: Storage<PacketMetadata<H>>, B: Storage<u8>> PacketBuffer<'_, H, M, B> {
     /// Lends the last `size` bytes, which are those of the last packet.
-    ///
-    /// # Contract
-    ///
-    /// In the words of [`contracts`](crate::contracts):
-    ///
-    /// ```text
-    /// requires { size ≡ first_size (only_last self.old.packets) }
-    /// ensures* writes_back { sem 𝓛 (lends_bytes H.row M.row B.row M.Storage B.Storage
-    ///     self.entry result (with_last_bytes self.old)) }
-    /// ensures value { result.now ≡ last_bytes self.old }
-    /// ensures size { length result.now ≡ first_size (only_last self.old.packets) }
-    /// ```
     fn last_part_mut(&mut self, size: usize) -> &mut [u8] {
         let before = self.head.bytes.length - size;
         let from = self.head.bytes.index(self.bytes.count(), before);
@@ -897,18 +877,6 @@ impl<H, M: Storage<PacketMetadata<H>>, B: Storage<u8>> PacketBuffer<'_, H, M, B>
     }
 
     /// Takes the first packet, which has no gap before it, off, and returns its header and size.
-    ///
-    /// # Contract
-    ///
-    /// In the words of [`contracts`](crate::contracts):
-    ///
-    /// ```text
-    /// requires { first_gap self.old.packets ≡ 0 }
-    /// ensures none { IsNone result ↔ (length self.old.packets ≡ 0) }
-    /// ensures unchanged { IsNone result → self.new ≡ self.old }
-    /// ensures first { IfSome result (λ r. IsFirstSized self.old.packets r.0 r.1) }
-    /// ensures left { IfSome result (λ r. self.new ≡ without_first self.old) }
-    /// ```
     fn take_first(&mut self) -> Option<(H, usize)> {
         if self.head.slots.length == 0 {
             return None;
@@ -924,29 +892,11 @@ impl<H, M: Storage<PacketMetadata<H>>, B: Storage<u8>> PacketBuffer<'_, H, M, B>
 }
 
 /// Returns how many of the slots are those of packets, not of gaps.
-///
-/// # Contract
-///
-/// In the words of [`contracts`](crate::contracts):
-///
-/// ```text
-/// ensures count { result ≡ length (filter (λ m. is_some m.header) slots.now) }
-/// ensures within { result ≤ length slots.now }
-/// ```
 fn count_packets<H>(slots: &[PacketMetadata<H>]) -> usize {
     slots.iter().filter(|slot| slot.header.is_some()).count()
 }
 
 /// Copies as many bytes as both have, and returns how many.
-///
-/// # Contract
-///
-/// In the words of [`contracts`](crate::contracts):
-///
-/// ```text
-/// ensures count { result ≡ min (length bytes.now) (length into.old) }
-/// ensures copied { into.new ≡ take result bytes.now ++ drop result into.old }
-/// ```
 fn copy(into: &mut [u8], bytes: &[u8]) -> usize {
     let count = bytes.len().min(into.len());
     into[..count].copy_from_slice(&bytes[..count]);
@@ -954,16 +904,6 @@ fn copy(into: &mut [u8], bytes: &[u8]) -> usize {
 }
 
 /// Writes the slots of a packet of `size` bytes and of its gap, if that has one.
-///
-/// # Contract
-///
-/// In the words of [`contracts`](crate::contracts):
-///
-/// ```text
-/// requires gap_slot { place.gap_slot < length (M.elements slots.old) }
-/// requires slot { place.slot < length (M.elements slots.old) }
-/// ensures { M.elements slots.new ≡ slots_with place size header (M.elements slots.old) }
-/// ```
 #[inline]
 fn write_slots<H, M: Storage<PacketMetadata<H>>>(
     slots: &mut M,
@@ -985,20 +925,6 @@ fn write_slots<H, M: Storage<PacketMetadata<H>>>(
 
 /// Takes the header out of the slot at the index `at`, and returns the slot's size and the header;
 /// `None`, and nothing changes, if it has none.
-///
-/// # Contract
-///
-/// In the words of [`contracts`](crate::contracts):
-///
-/// ```text
-/// requires { at < length (M.elements slots.old) }
-/// ensures none { IsNone result → (size : _) (h : _) →
-///     slice_get (M.elements slots.old) at ≡ Some (slot size (Some h)) → ⊥ }
-/// ensures some { IfSome result
-///     (λ r. slice_get (M.elements slots.old) at ≡ Some (slot r.0 (Some r.1))) }
-/// ensures left { IfSome result
-///     (λ r. M.elements slots.new ≡ set (M.elements slots.old) at (slot r.0 None)) }
-/// ```
 fn lift_header<H, M: Storage<PacketMetadata<H>>>(
     slots: &mut M,
     at: usize,
@@ -1010,15 +936,6 @@ fn lift_header<H, M: Storage<PacketMetadata<H>>>(
 }
 
 /// Writes size and header of a packet to the slot at the index `at`.
-///
-/// # Contract
-///
-/// In the words of [`contracts`](crate::contracts):
-///
-/// ```text
-/// requires { at < length (M.elements slots.old) }
-/// ensures { M.elements slots.new ≡ set (M.elements slots.old) at (slot size (Some header)) }
-/// ```
 fn put_header<H, M: Storage<PacketMetadata<H>>>(
     slots: &mut M,
     at: usize,

@@ -33,11 +33,11 @@ pub type FiniteReceiverOver<S, const N: usize> = FiniteReceiver<'static, N, S>;
 impl<S: Storage<u8>, const N: usize> FiniteReceiver<'_, N, S> {
     /// Returns a receiver of a stream that begins at position 0: `over_at` with 0.
     ///
-    /// # Requires, else it panics
+    /// # Requires, else it doesn't compile
     ///
     /// `N` is at least 1.
     ///
-    /// # Contract
+    /// <details><summary>Contract</summary>
     ///
     /// In the words of [`contracts`](crate::contracts):
     ///
@@ -46,6 +46,8 @@ impl<S: Storage<u8>, const N: usize> FiniteReceiver<'_, N, S> {
     /// ensures state { result ≡ fresh_finite 0 (length (S.elements storage)) }
     /// ensures receives { (x : List ℕ) → ReceivesFinite 0 x result }
     /// ```
+    ///
+    /// </details>
     pub const fn over(storage: S) -> Self {
         const { assert!(N >= 1, "N is at least 1") };
         Self::over_at(storage, 0)
@@ -53,11 +55,11 @@ impl<S: Storage<u8>, const N: usize> FiniteReceiver<'_, N, S> {
 
     /// Returns a receiver of a stream that begins at position `first`; nothing has arrived.
     ///
-    /// # Requires, else it panics
+    /// # Panics
     ///
-    /// `N` is at least 1, and `first` is not the greatest number of 64 bits.
+    /// Unless `N` is at least 1, and `first` is not the greatest number of 64 bits.
     ///
-    /// # Contract
+    /// <details><summary>Contract</summary>
     ///
     /// In the words of [`contracts`](crate::contracts):
     ///
@@ -67,6 +69,8 @@ impl<S: Storage<u8>, const N: usize> FiniteReceiver<'_, N, S> {
     /// ensures state { result ≡ fresh_finite first (length (S.elements storage)) }
     /// ensures receives { (x : List ℕ) → ReceivesFinite first x result }
     /// ```
+    ///
+    /// </details>
     #[track_caller]
     pub const fn over_at(storage: S, first: u64) -> Self {
         const { assert!(N >= 1, "N is at least 1") };
@@ -81,11 +85,11 @@ impl<S: Storage<u8>, const N: usize> FiniteReceiver<'_, N, S> {
 
     /// Returns the receiver that a head, a storage and runs represent.
     ///
-    /// # Requires, else it panics
+    /// # Panics
     ///
-    /// They are sound, as `FiniteReceiverHead::is_sound` tests.
+    /// Unless they are sound, as `FiniteReceiverHead::is_sound` tests.
     ///
-    /// # Contract
+    /// <details><summary>Contract</summary>
     ///
     /// In the words of [`contracts`](crate::contracts):
     ///
@@ -93,6 +97,8 @@ impl<S: Storage<u8>, const N: usize> FiniteReceiver<'_, N, S> {
     /// requires { HasSoundFinite head (S.elements storage) runs }
     /// ensures { result ≡ finite_of head (S.elements storage) runs.entry }
     /// ```
+    ///
+    /// </details>
     #[track_caller]
     pub(crate) fn from_parts(head: FiniteReceiverHead, storage: S, runs: [Run; N]) -> Self {
         assert!(
@@ -109,7 +115,7 @@ impl<S: Storage<u8>, const N: usize> FiniteReceiver<'_, N, S> {
 
     /// Returns the head, the storage and the runs, which represent the receiver.
     ///
-    /// # Contract
+    /// <details><summary>Contract</summary>
     ///
     /// In the words of [`contracts`](crate::contracts):
     ///
@@ -118,6 +124,8 @@ impl<S: Storage<u8>, const N: usize> FiniteReceiver<'_, N, S> {
     /// ensures state { finite_of result.0 (S.elements result.1) result.2 ≡ self }
     /// ensures runs { length result.2 ≡ N }
     /// ```
+    ///
+    /// </details>
     pub(crate) fn into_parts(self) -> (FiniteReceiverHead, S, [Run; N]) {
         let FiniteReceiver {
             lent: core::marker::PhantomData,
@@ -130,13 +138,15 @@ impl<S: Storage<u8>, const N: usize> FiniteReceiver<'_, N, S> {
 
     /// Returns the storage, of which the bytes can be any.
     ///
-    /// # Contract
+    /// <details><summary>Contract</summary>
     ///
     /// In the words of [`contracts`](crate::contracts):
     ///
     /// ```text
     /// ensures { length (S.elements result) ≡ self.receiver.capacity }
     /// ```
+    ///
+    /// </details>
     pub fn into_storage(self) -> S {
         let (_head, storage, _runs) = self.into_parts();
         storage
@@ -145,11 +155,11 @@ impl<S: Storage<u8>, const N: usize> FiniteReceiver<'_, N, S> {
     /// Begins again over the same storage: a receiver of a stream that begins at position `first`;
     /// nothing has arrived.
     ///
-    /// # Requires, else it panics
+    /// # Panics
     ///
-    /// `first` is not the greatest number of 64 bits.
+    /// Unless `first` is not the greatest number of 64 bits.
     ///
-    /// # Contract
+    /// <details><summary>Contract</summary>
     ///
     /// In the words of [`contracts`](crate::contracts):
     ///
@@ -158,6 +168,8 @@ impl<S: Storage<u8>, const N: usize> FiniteReceiver<'_, N, S> {
     /// ensures state { self.new ≡ fresh_finite first self.old.receiver.capacity }
     /// ensures receives { (x : List ℕ) → ReceivesFinite first x self.new }
     /// ```
+    ///
+    /// </details>
     #[track_caller]
     pub fn reset_at(&mut self, first: u64) {
         assert!(first < NO_END, "no number is left for an end");
@@ -167,13 +179,15 @@ impl<S: Storage<u8>, const N: usize> FiniteReceiver<'_, N, S> {
     /// Returns whether a segment fits, as `keep` requires: `pos + len` is below `u64::MAX`, so that an end
     /// after its bytes has a number.
     ///
-    /// # Contract
+    /// <details><summary>Contract</summary>
     ///
     /// In the words of [`contracts`](crate::contracts):
     ///
     /// ```text
     /// ensures { IsTrue result ↔ (pos + len < no_end) }
     /// ```
+    ///
+    /// </details>
     pub fn fits(pos: u64, len: usize) -> bool {
         FiniteReceiverHead::fits(pos, len)
     }
@@ -182,13 +196,15 @@ impl<S: Storage<u8>, const N: usize> FiniteReceiver<'_, N, S> {
     /// and no byte is queued or held at it or above. No stream ends at `u64::MAX`, after which there is
     /// no number for an end.
     ///
-    /// # Contract
+    /// <details><summary>Contract</summary>
     ///
     /// In the words of [`contracts`](crate::contracts):
     ///
     /// ```text
     /// ensures { result ≡ (nat_lt pos no_end && can_end self.now pos) }
     /// ```
+    ///
+    /// </details>
     pub fn can_end(&self, pos: u64) -> bool {
         self.head.can_end(whole(&self.storage), &self.runs, pos)
     }
@@ -201,11 +217,11 @@ impl<S: Storage<u8>, const N: usize> FiniteReceiver<'_, N, S> {
     /// taken where nothing is free too. A segment is refused, and nothing changes, if it says that the
     /// stream ends where it can't (`can_end`), or if its bytes are refused.
     ///
-    /// # Requires, else it panics
+    /// # Panics
     ///
-    /// The segment fits, as `fits` tests.
+    /// Unless the segment fits, as `fits` tests.
     ///
-    /// # Contract
+    /// <details><summary>Contract</summary>
     ///
     /// In the words of [`contracts`](crate::contracts):
     ///
@@ -218,6 +234,8 @@ impl<S: Storage<u8>, const N: usize> FiniteReceiver<'_, N, S> {
     /// ensures read { self.new.receiver.read ≡ self.old.receiver.read }
     /// ensures grows { acknowledged self.old ≤ acknowledged self.new }
     /// ```
+    ///
+    /// </details>
     #[track_caller]
     pub fn keep(&mut self, pos: u64, bytes: &[u8], is_last: bool) -> Result<KeptBytes, FiniteError> {
         assert!(Self::fits(pos, bytes.len()), "the segment ends too high");
@@ -229,7 +247,7 @@ impl<S: Storage<u8>, const N: usize> FiniteReceiver<'_, N, S> {
     /// Moves bytes from the head of the queue to the beginning of `into`, and returns how many: as
     /// many as are queued and as `into` has room for. The rest of `into` stays as it is.
     ///
-    /// # Contract
+    /// <details><summary>Contract</summary>
     ///
     /// In the words of [`contracts`](crate::contracts):
     ///
@@ -243,6 +261,8 @@ impl<S: Storage<u8>, const N: usize> FiniteReceiver<'_, N, S> {
     /// ensures bytes { (f : ℕ) (x : List ℕ) → ReceivesFinite f x self.old → take result into.new
     ///     ≡ slice_range x self.old.receiver.read (self.old.receiver.read + result) }
     /// ```
+    ///
+    /// </details>
     pub fn read(&mut self, into: &mut [u8]) -> usize {
         self.head.read(whole(&self.storage), into)
     }
@@ -250,7 +270,7 @@ impl<S: Storage<u8>, const N: usize> FiniteReceiver<'_, N, S> {
     /// Shows the queue, in order, in two parts: the bytes up to the storage's end, and those from its
     /// beginning on. The second part is empty unless the queue wraps.
     ///
-    /// # Contract
+    /// <details><summary>Contract</summary>
     ///
     /// In the words of [`contracts`](crate::contracts):
     ///
@@ -262,6 +282,8 @@ impl<S: Storage<u8>, const N: usize> FiniteReceiver<'_, N, S> {
     ///     result.0.now ++ result.1.now ≡ slice_range x self.now.receiver.read
     ///     (self.now.receiver.read + length self.now.receiver.queue) }
     /// ```
+    ///
+    /// </details>
     pub fn as_slices(&self) -> (&[u8], &[u8]) {
         self.head.receiver.as_slices(whole(&self.storage))
     }
@@ -280,11 +302,11 @@ impl<S: Storage<u8>, const N: usize> FiniteReceiver<'_, N, S> {
     /// assert_eq!((receiver.len(), receiver.has_read_all()), (1, false));
     /// ```
     ///
-    /// # Requires, else it panics
+    /// # Panics
     ///
-    /// `f` may be called on the part that it is lent, and counts at most its length.
+    /// Unless `f` counts at most its length.
     ///
-    /// # Contract
+    /// <details><summary>Contract</summary>
     ///
     /// In the words of [`contracts`](crate::contracts):
     ///
@@ -302,6 +324,8 @@ impl<S: Storage<u8>, const N: usize> FiniteReceiver<'_, N, S> {
     ///     take result.0 self.old.receiver.queue
     ///     ≡ slice_range x self.old.receiver.read (self.old.receiver.read + result.0) }
     /// ```
+    ///
+    /// </details>
     #[track_caller]
     pub fn read_with<R, F: FnOnce(&[u8]) -> (usize, R)>(&mut self, f: F) -> (usize, R) {
         let part = self.first_slice();
@@ -314,11 +338,11 @@ impl<S: Storage<u8>, const N: usize> FiniteReceiver<'_, N, S> {
 
     /// Takes the first `count` bytes off the queue and copies none, as `Receiver::remove` does.
     ///
-    /// # Requires, else it panics
+    /// # Panics
     ///
-    /// At least `count` bytes are queued.
+    /// Unless at least `count` bytes are queued.
     ///
-    /// # Contract
+    /// <details><summary>Contract</summary>
     ///
     /// In the words of [`contracts`](crate::contracts):
     ///
@@ -331,6 +355,8 @@ impl<S: Storage<u8>, const N: usize> FiniteReceiver<'_, N, S> {
     ///     take count self.old.receiver.queue
     ///     ≡ slice_range x self.old.receiver.read (self.old.receiver.read + count) }
     /// ```
+    ///
+    /// </details>
     #[track_caller]
     pub fn remove(&mut self, count: usize) {
         assert!(
@@ -341,15 +367,6 @@ impl<S: Storage<u8>, const N: usize> FiniteReceiver<'_, N, S> {
     }
 
     /// Shows the first part of the queue, which is empty only if the queue is.
-    ///
-    /// # Contract
-    ///
-    /// In the words of [`contracts`](crate::contracts):
-    ///
-    /// ```text
-    /// ensures value { result.now ≡ first_part self.now.receiver }
-    /// ensures some { 0 < length self.now.receiver.queue → 0 < contiguous_count self.now.receiver }
-    /// ```
     fn first_slice(&self) -> &[u8] {
         let receiver = &self.head.receiver;
         receiver.peek(whole(&self.storage), 0, receiver.queued())
@@ -357,7 +374,7 @@ impl<S: Storage<u8>, const N: usize> FiniteReceiver<'_, N, S> {
 
     /// Returns the position after the last byte, once it is known.
     ///
-    /// # Contract
+    /// <details><summary>Contract</summary>
     ///
     /// In the words of [`contracts`](crate::contracts):
     ///
@@ -365,13 +382,15 @@ impl<S: Storage<u8>, const N: usize> FiniteReceiver<'_, N, S> {
     /// ensures some { self.now.end < no_end → result ≡ Some self.now.end }
     /// ensures none { no_end ≤ self.now.end → result ≡ None }
     /// ```
+    ///
+    /// </details>
     pub fn end(&self) -> Option<u64> {
         self.head.end()
     }
 
     /// Returns whether all bytes and the end have arrived. Once it is so it stays so.
     ///
-    /// # Contract
+    /// <details><summary>Contract</summary>
     ///
     /// In the words of [`contracts`](crate::contracts):
     ///
@@ -380,6 +399,8 @@ impl<S: Storage<u8>, const N: usize> FiniteReceiver<'_, N, S> {
     /// ensures whole { (f : ℕ) (x : List ℕ) → ReceivesFinite f x self.now → IsTrue result →
     ///     self.now.receiver.read + length self.now.receiver.queue ≡ length x }
     /// ```
+    ///
+    /// </details>
     pub fn is_complete(&self) -> bool {
         self.head.is_complete()
     }
@@ -387,20 +408,22 @@ impl<S: Storage<u8>, const N: usize> FiniteReceiver<'_, N, S> {
     /// Returns the number that an acknowledgement carries: the first missing position, or, once all
     /// bytes and the end have arrived, the end plus 1, since the end has a number.
     ///
-    /// # Contract
+    /// <details><summary>Contract</summary>
     ///
     /// In the words of [`contracts`](crate::contracts):
     ///
     /// ```text
     /// ensures { result ≡ acknowledged self.now }
     /// ```
+    ///
+    /// </details>
     pub fn acknowledged(&self) -> u64 {
         self.head.acknowledged()
     }
 
     /// Returns whether all bytes were read, up to the end. Once it is so it stays so.
     ///
-    /// # Contract
+    /// <details><summary>Contract</summary>
     ///
     /// In the words of [`contracts`](crate::contracts):
     ///
@@ -409,6 +432,8 @@ impl<S: Storage<u8>, const N: usize> FiniteReceiver<'_, N, S> {
     /// ensures whole { (f : ℕ) (x : List ℕ) → ReceivesFinite f x self.now → IsTrue result →
     ///     self.now.receiver.read ≡ length x }
     /// ```
+    ///
+    /// </details>
     pub fn has_read_all(&self) -> bool {
         self.head.has_read_all()
     }
@@ -416,59 +441,67 @@ impl<S: Storage<u8>, const N: usize> FiniteReceiver<'_, N, S> {
     /// Returns the first missing position, as `Receiver::next` does. It doesn't count the end:
     /// `acknowledged` does.
     ///
-    /// # Contract
+    /// <details><summary>Contract</summary>
     ///
     /// In the words of [`contracts`](crate::contracts):
     ///
     /// ```text
     /// ensures { result ≡ next_position self.now.receiver }
     /// ```
+    ///
+    /// </details>
     pub fn next(&self) -> u64 {
         self.head.receiver.next()
     }
 
     /// Returns how many bytes are queued.
     ///
-    /// # Contract
+    /// <details><summary>Contract</summary>
     ///
     /// In the words of [`contracts`](crate::contracts):
     ///
     /// ```text
     /// ensures { result ≡ length self.now.receiver.queue }
     /// ```
+    ///
+    /// </details>
     pub fn len(&self) -> usize {
         self.head.receiver.queued()
     }
 
     /// Returns whether no byte is queued; bytes may be held.
     ///
-    /// # Contract
+    /// <details><summary>Contract</summary>
     ///
     /// In the words of [`contracts`](crate::contracts):
     ///
     /// ```text
     /// ensures { IsTrue result ↔ (self.now.receiver.queue ≡ []) }
     /// ```
+    ///
+    /// </details>
     pub fn is_empty(&self) -> bool {
         self.len() == 0
     }
 
     /// Returns how many bytes have room, queued and held ones included: the storage's length.
     ///
-    /// # Contract
+    /// <details><summary>Contract</summary>
     ///
     /// In the words of [`contracts`](crate::contracts):
     ///
     /// ```text
     /// ensures { result ≡ self.now.receiver.capacity }
     /// ```
+    ///
+    /// </details>
     pub fn capacity(&self) -> usize {
         self.storage.count()
     }
 
     /// Returns the window: how many bytes have room after the queue, held ones among them.
     ///
-    /// # Contract
+    /// <details><summary>Contract</summary>
     ///
     /// In the words of [`contracts`](crate::contracts):
     ///
@@ -476,6 +509,8 @@ impl<S: Storage<u8>, const N: usize> FiniteReceiver<'_, N, S> {
     /// ensures window { result ≡ self.now.receiver.capacity - length self.now.receiver.queue }
     /// ensures room { length self.now.receiver.queue + result ≡ self.now.receiver.capacity }
     /// ```
+    ///
+    /// </details>
     pub fn window(&self) -> usize {
         self.head.receiver.window(self.storage.count())
     }
@@ -494,7 +529,7 @@ impl<S: Storage<u8>, const N: usize> FiniteReceiver<'_, N, S> {
     /// assert_eq!((receiver.acknowledged(), receiver.window_end()), (4, Some(4)));
     /// ```
     ///
-    /// # Contract
+    /// <details><summary>Contract</summary>
     ///
     /// In the words of [`contracts`](crate::contracts):
     ///
@@ -504,13 +539,15 @@ impl<S: Storage<u8>, const N: usize> FiniteReceiver<'_, N, S> {
     /// ensures none { 2 ^ 64 ≤ limit_of self.now.receiver → result ≡ None }
     /// ensures after_next { next_position self.now.receiver ≤ limit_of self.now.receiver }
     /// ```
+    ///
+    /// </details>
     pub fn window_end(&self) -> Option<u64> {
         self.head.window_end(self.storage.count())
     }
 
     /// Returns the held runs as absolute (start, end), as `Receiver::held` does: of bytes alone.
     ///
-    /// # Contract
+    /// <details><summary>Contract</summary>
     ///
     /// In the words of [`contracts`](crate::contracts):
     ///
@@ -518,13 +555,15 @@ impl<S: Storage<u8>, const N: usize> FiniteReceiver<'_, N, S> {
     /// ensures runs { result ≡ maximal_runs (domain self.now.receiver.held) }
     /// ensures bound { length result ≤ N }
     /// ```
+    ///
+    /// </details>
     pub fn held(&self) -> HeldRuns<'_, N> {
         self.head.receiver.held(whole(&self.storage), &self.runs)
     }
 
     /// Returns how many runs are held, without a look at them: as many as `held` yields, at most `N`.
     ///
-    /// # Contract
+    /// <details><summary>Contract</summary>
     ///
     /// In the words of [`contracts`](crate::contracts):
     ///
@@ -532,13 +571,15 @@ impl<S: Storage<u8>, const N: usize> FiniteReceiver<'_, N, S> {
     /// ensures count { result ≡ run_count (domain self.now.receiver.held) }
     /// ensures bound { result ≤ N }
     /// ```
+    ///
+    /// </details>
     pub fn held_count(&self) -> usize {
         self.head.receiver.held_count()
     }
 
     /// Returns at most `K` held runs, the newest first, as `Receiver::newest_runs` does.
     ///
-    /// # Contract
+    /// <details><summary>Contract</summary>
     ///
     /// In the words of [`contracts`](crate::contracts):
     ///
@@ -547,6 +588,8 @@ impl<S: Storage<u8>, const N: usize> FiniteReceiver<'_, N, S> {
     /// ensures count { length result ≤ K }
     /// ensures recent { recent.new ≡ with_starts recent.old result }
     /// ```
+    ///
+    /// </details>
     pub fn newest_runs<const K: usize>(
         &self,
         position: u64,
@@ -562,11 +605,11 @@ impl<S: Storage<u8>, const N: usize> FiniteReceiver<'_, N, S> {
     /// Returns how many bytes of a segment of `len` bytes at `position` would be new: those in the
     /// free window and below the end whose positions are not held.
     ///
-    /// # Requires, else it panics
+    /// # Panics
     ///
-    /// The segment fits, as `fits` tests.
+    /// Unless the segment fits, as `fits` tests.
     ///
-    /// # Contract
+    /// <details><summary>Contract</summary>
     ///
     /// In the words of [`contracts`](crate::contracts):
     ///
@@ -574,6 +617,8 @@ impl<S: Storage<u8>, const N: usize> FiniteReceiver<'_, N, S> {
     /// requires { position + len < no_end }
     /// ensures { result ≡ new_count self.now.receiver position (min len (self.now.end - position)) }
     /// ```
+    ///
+    /// </details>
     #[track_caller]
     pub fn count_new(&self, position: u64, len: usize) -> usize {
         assert!(Self::fits(position, len), "the segment ends too high");
@@ -584,13 +629,15 @@ impl<S: Storage<u8>, const N: usize> FiniteReceiver<'_, N, S> {
     /// Returns whether two receivers of a stream that ends are equal in first position, count of
     /// bytes read, queued bytes, held runs and end.
     ///
-    /// # Contract
+    /// <details><summary>Contract</summary>
     ///
     /// In the words of [`contracts`](crate::contracts):
     ///
     /// ```text
     /// ensures { IsTrue result ↔ IsSameFinite self.now other.now }
     /// ```
+    ///
+    /// </details>
     pub fn same_state<O: Storage<u8>>(&self, other: &FiniteReceiver<'_, N, O>) -> bool {
         let storage = whole(&self.storage);
         let other_storage = whole(&other.storage);
@@ -598,15 +645,6 @@ impl<S: Storage<u8>, const N: usize> FiniteReceiver<'_, N, S> {
     }
 
     /// States what is true of every receiver; it does nothing. Callers use `laws::is_sound_end`.
-    ///
-    /// # Contract
-    ///
-    /// In the words of [`contracts`](crate::contracts):
-    ///
-    /// ```text
-    /// ensures bytes { IsSound N self.now.receiver }
-    /// ensures end { IsSoundEnd self.now }
-    /// ```
     pub(crate) fn is_sound(&self) {
         let _next = self.head.receiver.next();
     }

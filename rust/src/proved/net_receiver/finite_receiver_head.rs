@@ -30,21 +30,9 @@ impl FiniteReceiverHead {
     /// Returns the head of a receiver of a stream that begins at position `first`; nothing has
     /// arrived. It is sound with every storage and all runs.
     ///
-    /// # Requires, else it panics
+    /// # Requires
     ///
     /// `first` is not the greatest number of 64 bits.
-    ///
-    /// # Contract
-    ///
-    /// In the words of [`contracts`](crate::contracts):
-    ///
-    /// ```text
-    /// requires { first < no_end }
-    /// ensures sound { (storage : List ℕ) (runs : List (ℕ × ℕ)) → HasSoundFinite result storage runs }
-    /// ensures state { (storage : List ℕ) (runs : List (ℕ × ℕ)) →
-    ///     finite_of result storage runs ≡ fresh_finite first (length storage) }
-    /// ensures canonical { IsCanonical result.receiver.held }
-    /// ```
     pub const fn new(first: u64) -> Self {
         FiniteReceiverHead {
             receiver: ReceiverHead::new(first),
@@ -55,21 +43,9 @@ impl FiniteReceiverHead {
     /// Begins again: the head of a receiver of a stream that begins at position `first`, as `new`
     /// returns it.
     ///
-    /// # Requires, else it panics
+    /// # Requires
     ///
     /// `first` is not the greatest number of 64 bits.
-    ///
-    /// # Contract
-    ///
-    /// In the words of [`contracts`](crate::contracts):
-    ///
-    /// ```text
-    /// requires { first < no_end }
-    /// ensures sound { (storage : List ℕ) (runs : List (ℕ × ℕ)) → HasSoundFinite self.new storage runs }
-    /// ensures state { (storage : List ℕ) (runs : List (ℕ × ℕ)) →
-    ///     finite_of self.new storage runs ≡ fresh_finite first (length storage) }
-    /// ensures canonical { IsCanonical self.new.receiver.held }
-    /// ```
     #[inline]
     pub fn reset_at(&mut self, first: u64) {
         *self = FiniteReceiverHead::new(first);
@@ -77,14 +53,6 @@ impl FiniteReceiverHead {
 
     /// Returns whether this head, a storage and runs are sound. It takes a look at each held run,
     /// and at no byte.
-    ///
-    /// # Contract
-    ///
-    /// In the words of [`contracts`](crate::contracts):
-    ///
-    /// ```text
-    /// ensures { IsTrue result ↔ HasSoundFinite self.now storage.now runs.now }
-    /// ```
     pub fn is_sound(&self, storage: &[u8], runs: &[Run]) -> bool {
         self.receiver.is_sound(storage, runs)
             && self
@@ -94,43 +62,17 @@ impl FiniteReceiverHead {
 
     /// Returns whether a segment fits, as `keep` requires: `pos + len` is below `u64::MAX`, so that an end
     /// after its bytes has a number.
-    ///
-    /// # Contract
-    ///
-    /// In the words of [`contracts`](crate::contracts):
-    ///
-    /// ```text
-    /// ensures { IsTrue result ↔ (pos + len < no_end) }
-    /// ```
     pub fn fits(pos: u64, len: usize) -> bool {
         pos < NO_END && (len as u64) < NO_END - pos
     }
 
     /// Returns whether the end is known.
-    ///
-    /// # Contract
-    ///
-    /// In the words of [`contracts`](crate::contracts):
-    ///
-    /// ```text
-    /// ensures value { result ≡ nat_lt self.now.end no_end }
-    /// ensures known { IsTrue result ↔ (self.now.end < no_end) }
-    /// ```
     #[inline]
     pub fn knows_end(&self) -> bool {
         self.end < NO_END
     }
 
     /// Returns the position after the last byte, once it is known.
-    ///
-    /// # Contract
-    ///
-    /// In the words of [`contracts`](crate::contracts):
-    ///
-    /// ```text
-    /// ensures some { self.now.end < no_end → result ≡ Some self.now.end }
-    /// ensures none { no_end ≤ self.now.end → result ≡ None }
-    /// ```
     pub fn end(&self) -> Option<u64> {
         if self.knows_end() {
             Some(self.end)
@@ -141,20 +83,9 @@ impl FiniteReceiverHead {
 
     /// Returns whether the stream can end at a position, as `FiniteReceiver::can_end` does.
     ///
-    /// # Requires, else it panics
+    /// # Requires
     ///
     /// Head, storage and runs are sound, as `is_sound` tests.
-    ///
-    /// # Contract
-    ///
-    /// In the words of [`contracts`](crate::contracts):
-    ///
-    /// ```text
-    /// requires { HasSoundFinite self.now storage.now runs.now }
-    /// ensures value { result
-    ///     ≡ (nat_lt pos no_end && can_end (finite_of self.now storage.now runs.now) pos) }
-    /// ensures fits { pos < no_end → result ≡ can_end (finite_of self.now storage.now runs.now) pos }
-    /// ```
     pub fn can_end(&self, storage: &[u8], runs: &[Run], pos: u64) -> bool {
         if pos == NO_END {
             return false;
@@ -167,15 +98,6 @@ impl FiniteReceiverHead {
 
     /// Returns the end that is known after a segment that ends at `pos`, where the storage has
     /// `capacity` bytes.
-    ///
-    /// # Contract
-    ///
-    /// In the words of [`contracts`](crate::contracts):
-    ///
-    /// ```text
-    /// requires { HasSoundFinite self.now storage.now runs.now }
-    /// ensures { result ≡ end_after (finite_of self.now storage.now runs.now) pos is_last }
-    /// ```
     #[inline]
     fn end_after(&self, storage: &[u8], runs: &[Run], pos: u64, is_last: bool) -> u64 {
         // Taken only for the precondition.
@@ -189,14 +111,6 @@ impl FiniteReceiverHead {
     }
 
     /// Returns how many of `len` bytes at `pos` are below the end.
-    ///
-    /// # Contract
-    ///
-    /// In the words of [`contracts`](crate::contracts):
-    ///
-    /// ```text
-    /// ensures { result ≡ min len (self.now.end - pos) }
-    /// ```
     #[inline]
     fn count_below(&self, pos: u64, len: usize) -> usize {
         (len as u64).min(self.end.saturating_sub(pos)) as usize
@@ -205,33 +119,9 @@ impl FiniteReceiverHead {
     /// Keeps the bytes of a segment that are in the free window and below the end, and takes the end, as
     /// `FiniteReceiver::keep` does. If it is refused, head, storage and runs stay as they were.
     ///
-    /// # Requires, else it panics
+    /// # Requires
     ///
     /// Head, storage and runs are sound, as `is_sound` tests, and the segment fits, as `fits` tests.
-    ///
-    /// # Contract
-    ///
-    /// In the words of [`contracts`](crate::contracts):
-    ///
-    /// ```text
-    /// requires sound { HasSoundFinite self.old storage.old runs.old }
-    /// requires fits { pos + length bytes.now < no_end }
-    /// ensures sound { HasSoundFinite self.new storage.new runs.new }
-    /// ensures state { finite_of self.new storage.new runs.new
-    ///     ≡ finite_after (length runs.old) (finite_of self.old storage.old runs.old)
-    ///     pos bytes.now is_last }
-    /// ensures value { result ≡ finite_result (length runs.old)
-    ///     (finite_of self.old storage.old runs.old) pos bytes.now is_last }
-    /// ensures stored { storage.new
-    ///     ≡ finite_storage_after self.old storage.old runs.old pos bytes.now is_last }
-    /// ensures unchanged { OnErr result ((self.new ≡ self.old) × (storage.new ≡ storage.old)
-    ///     × (runs.new ≡ runs.old)) }
-    /// ensures canonical { IsCanonical self.old.receiver.held → IsCanonical self.new.receiver.held }
-    /// ensures receives { (f : ℕ) (x : List ℕ) →
-    ///     ReceivesFinite f x (finite_of self.old storage.old runs.old) →
-    ///     MatchesFinite f x pos bytes.now is_last →
-    ///     ReceivesFinite f x (finite_of self.new storage.new runs.new) }
-    /// ```
     #[inline]
     pub fn keep(
         &mut self,
@@ -258,22 +148,10 @@ impl FiniteReceiverHead {
 
     /// Returns whether all bytes and the end have arrived. Once it is so it stays so.
     ///
-    /// # Requires, else it panics
+    /// # Requires
     ///
     /// The first missing position and the one after it fit 64 bits, as they do where head, storage
     /// and runs are sound.
-    ///
-    /// # Contract
-    ///
-    /// In the words of [`contracts`](crate::contracts):
-    ///
-    /// ```text
-    /// requires { next_of self.now < no_end }
-    /// ensures value { result ≡ (next_of self.now == self.now.end) }
-    /// ensures state { (storage : List ℕ) (runs : List (ℕ × ℕ)) →
-    ///     HasSoundFinite self.now storage runs →
-    ///     result ≡ is_complete (finite_of self.now storage runs) }
-    /// ```
     #[inline]
     pub fn is_complete(&self) -> bool {
         self.receiver.next() == self.end
@@ -282,23 +160,10 @@ impl FiniteReceiverHead {
     /// Returns the number that an acknowledgement carries: the first missing position, or, once all
     /// bytes and the end have arrived, the end plus 1, since the end has a number.
     ///
-    /// # Requires, else it panics
+    /// # Requires
     ///
     /// The first missing position and the one after it fit 64 bits, as they do where head, storage
     /// and runs are sound.
-    ///
-    /// # Contract
-    ///
-    /// In the words of [`contracts`](crate::contracts):
-    ///
-    /// ```text
-    /// requires { next_of self.now < no_end }
-    /// ensures state { (storage : List ℕ) (runs : List (ℕ × ℕ)) →
-    ///     HasSoundFinite self.now storage runs →
-    ///     result ≡ acknowledged (finite_of self.now storage runs) }
-    /// ensures value { result
-    ///     ≡ (if next_of self.now == self.now.end then next_of self.now + 1 else next_of self.now) }
-    /// ```
     #[inline]
     pub fn acknowledged(&self) -> u64 {
         let next = self.receiver.next();
@@ -307,19 +172,9 @@ impl FiniteReceiverHead {
 
     /// Returns whether all bytes were read, up to the end. Once it is so it stays so.
     ///
-    /// # Requires, else it panics
+    /// # Requires
     ///
     /// The first missing position fits 64 bits, as it does where head, storage and runs are sound.
-    ///
-    /// # Contract
-    ///
-    /// In the words of [`contracts`](crate::contracts):
-    ///
-    /// ```text
-    /// requires { next_of self.now < no_end }
-    /// ensures state { (storage : List ℕ) (runs : List (ℕ × ℕ)) →
-    ///     result ≡ has_read_all (finite_of self.now storage runs) }
-    /// ```
     #[inline]
     pub fn has_read_all(&self) -> bool {
         self.receiver.first + self.receiver.count_read == self.end
@@ -329,28 +184,10 @@ impl FiniteReceiverHead {
     /// never below `acknowledged`, which is one above the free window's end where the end is counted and
     /// the storage is full. `None` if the free window's end doesn't fit 64 bits.
     ///
-    /// # Requires, else it panics
+    /// # Requires
     ///
     /// The first missing position and the one after it fit 64 bits, as they do where head, storage
     /// and runs are sound.
-    ///
-    /// # Contract
-    ///
-    /// In the words of [`contracts`](crate::contracts):
-    ///
-    /// ```text
-    /// requires { next_of self.now < no_end }
-    /// ensures some { let limit = self.now.receiver.first + self.now.receiver.count_read + capacity in
-    ///     limit < 2 ^ 64 → result ≡ Some (max limit
-    ///     (if next_of self.now == self.now.end then next_of self.now + 1 else next_of self.now)) }
-    /// ensures none { 2 ^ 64 ≤ self.now.receiver.first + self.now.receiver.count_read + capacity →
-    ///     result ≡ None }
-    /// ensures state { (storage : List ℕ) (runs : List (ℕ × ℕ)) → length storage ≡ capacity →
-    ///     HasSoundFinite self.now storage runs →
-    ///     limit_of (finite_of self.now storage runs).receiver < 2 ^ 64 →
-    ///     result ≡ Some (max (limit_of (finite_of self.now storage runs).receiver)
-    ///     (acknowledged (finite_of self.now storage runs))) }
-    /// ```
     #[inline]
     pub fn window_end(&self, capacity: usize) -> Option<u64> {
         let end = self.receiver.window_end(capacity)?;
@@ -360,35 +197,10 @@ impl FiniteReceiverHead {
     /// Moves bytes from the head of the queue to the beginning of `into`, and returns how many: as
     /// many as are queued and as `into` has room for. The rest of `into` stays as it is.
     ///
-    /// # Requires, else it panics
+    /// # Requires
     ///
     /// The queue is in the storage, and the first missing position fits 64 bits, as they do where
     /// head, storage and runs are sound.
-    ///
-    /// # Contract
-    ///
-    /// In the words of [`contracts`](crate::contracts):
-    ///
-    /// ```text
-    /// requires place { IsSoundPlace (length storage.now) self.old.receiver.place }
-    /// requires fits { next_of self.old < 2 ^ 64 }
-    /// ensures count { result ≡ min (length into.old) self.old.receiver.place.length }
-    /// ensures into { let queued = queue (ring_at storage.now self.old.receiver.place) in
-    ///     into.new ≡ take (length into.old) queued ++ drop (length queued) into.old }
-    /// ensures head { self.new.receiver
-    ///     ≡ head_after_read (length storage.now) result self.old.receiver }
-    /// ensures end { self.new.end ≡ self.old.end }
-    /// ensures sound { (runs : List (ℕ × ℕ)) → HasSoundFinite self.old storage.now runs →
-    ///     HasSoundFinite self.new storage.now runs }
-    /// ensures state { (runs : List (ℕ × ℕ)) → HasSoundFinite self.old storage.now runs →
-    ///     finite_of self.new storage.now runs
-    ///     ≡ finite_after_read (finite_of self.old storage.now runs) (length into.old) }
-    /// ensures receives { (runs : List (ℕ × ℕ)) → HasSoundFinite self.old storage.now runs →
-    ///     (f : ℕ) (x : List ℕ) → ReceivesFinite f x (finite_of self.old storage.now runs) →
-    ///     ReceivesFinite f x (finite_of self.new storage.now runs)
-    ///     × (take result into.new ≡ slice_range x self.old.receiver.count_read
-    ///     (self.old.receiver.count_read + result)) }
-    /// ```
     #[inline]
     pub fn read(&mut self, storage: &[u8], into: &mut [u8]) -> usize {
         self.receiver.read(storage, into)
@@ -397,33 +209,10 @@ impl FiniteReceiverHead {
     /// Removes the first `count` bytes of the queue, as `read` does, and copies none. `capacity` is
     /// how many bytes the storage has.
     ///
-    /// # Requires, else it panics
+    /// # Requires
     ///
     /// The queue is in the storage, it has `count` bytes, and the first missing position fits 64
     /// bits, as they do where head, storage and runs are sound.
-    ///
-    /// # Contract
-    ///
-    /// In the words of [`contracts`](crate::contracts):
-    ///
-    /// ```text
-    /// requires place { IsSoundPlace capacity self.old.receiver.place }
-    /// requires queued { count ≤ self.old.receiver.place.length }
-    /// requires fits { next_of self.old < 2 ^ 64 }
-    /// ensures head { self.new.receiver ≡ head_after_read capacity count self.old.receiver }
-    /// ensures end { self.new.end ≡ self.old.end }
-    /// ensures sound { (storage : List ℕ) (runs : List (ℕ × ℕ)) → length storage ≡ capacity →
-    ///     HasSoundFinite self.old storage runs → HasSoundFinite self.new storage runs }
-    /// ensures state { (storage : List ℕ) (runs : List (ℕ × ℕ)) → length storage ≡ capacity →
-    ///     HasSoundFinite self.old storage runs → finite_of self.new storage runs
-    ///     ≡ finite_after_read (finite_of self.old storage runs) count }
-    /// ensures receives { (storage : List ℕ) (runs : List (ℕ × ℕ)) → length storage ≡ capacity →
-    ///     HasSoundFinite self.old storage runs → (f : ℕ) (x : List ℕ) →
-    ///     ReceivesFinite f x (finite_of self.old storage runs) →
-    ///     ReceivesFinite f x (finite_of self.new storage runs)
-    ///     × (take count (queue (ring_at storage self.old.receiver.place))
-    ///     ≡ slice_range x self.old.receiver.count_read (self.old.receiver.count_read + count)) }
-    /// ```
     #[inline]
     pub fn remove(&mut self, capacity: usize, count: usize) {
         self.receiver.remove(capacity, count);
@@ -431,20 +220,9 @@ impl FiniteReceiverHead {
 
     /// Compares two receivers, as `FiniteReceiver::same_state` does.
     ///
-    /// # Requires, else it panics
+    /// # Requires
     ///
     /// Both heads are sound with their storages and runs, as `is_sound` tests.
-    ///
-    /// # Contract
-    ///
-    /// In the words of [`contracts`](crate::contracts):
-    ///
-    /// ```text
-    /// requires sound { HasSoundFinite self.now storage.now runs.now }
-    /// requires other_sound { HasSoundFinite other.now other_storage.now other_runs.now }
-    /// ensures { IsTrue result ↔ IsSameFinite (finite_of self.now storage.now runs.now)
-    ///     (finite_of other.now other_storage.now other_runs.now) }
-    /// ```
     pub fn is_same_state(
         &self,
         storage: &[u8],
@@ -462,20 +240,9 @@ impl FiniteReceiverHead {
     /// Returns how many bytes of a segment of `len` bytes at `position` would be new, as
     /// `FiniteReceiver::count_new` does.
     ///
-    /// # Requires, else it panics
+    /// # Requires
     ///
     /// Head, storage and runs are sound, as `is_sound` tests, and the segment fits, as `fits` tests.
-    ///
-    /// # Contract
-    ///
-    /// In the words of [`contracts`](crate::contracts):
-    ///
-    /// ```text
-    /// requires sound { HasSoundFinite self.now storage.now runs.now }
-    /// requires fits { position + len < no_end }
-    /// ensures { result ≡ new_count (receiver_of self.now.receiver storage.now runs.now) position
-    ///     (min len (self.now.end - position)) }
-    /// ```
     pub fn count_new(&self, storage: &[u8], runs: &[Run], position: u64, len: usize) -> usize {
         let count = self.count_below(position, len);
         self.receiver.count_new(storage, runs, position, count)

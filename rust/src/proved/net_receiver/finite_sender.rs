@@ -29,7 +29,7 @@ pub type FiniteSenderOver<S> = FiniteSender<'static, S>;
 impl<S: Storage<u8>> FiniteSender<'_, S> {
     /// Returns a sender of a stream that begins at position 0: `over_at` with 0.
     ///
-    /// # Contract
+    /// <details><summary>Contract</summary>
     ///
     /// In the words of [`contracts`](crate::contracts):
     ///
@@ -37,17 +37,19 @@ impl<S: Storage<u8>> FiniteSender<'_, S> {
     /// ensures state { result ≡ fresh_finite_sender (length (S.elements storage)) 0 }
     /// ensures sends { Sends 0 [] result.sender }
     /// ```
+    ///
+    /// </details>
     pub const fn over(storage: S) -> Self {
         Self::over_at(storage, 0)
     }
 
     /// Returns a sender of a stream that begins at position `first`, to which nothing was written.
     ///
-    /// # Requires, else it panics
+    /// # Panics
     ///
-    /// `first` is not the greatest number of 64 bits: the end has a number after it.
+    /// Unless `first` is not the greatest number of 64 bits: the end has a number after it.
     ///
-    /// # Contract
+    /// <details><summary>Contract</summary>
     ///
     /// In the words of [`contracts`](crate::contracts):
     ///
@@ -56,6 +58,8 @@ impl<S: Storage<u8>> FiniteSender<'_, S> {
     /// ensures state { result ≡ fresh_finite_sender (length (S.elements storage)) first }
     /// ensures sends { Sends first [] result.sender }
     /// ```
+    ///
+    /// </details>
     #[track_caller]
     pub const fn over_at(storage: S, first: u64) -> Self {
         assert!(first < u64::MAX, "no number is left for an end");
@@ -68,11 +72,11 @@ impl<S: Storage<u8>> FiniteSender<'_, S> {
 
     /// Returns the sender that a head and a storage represent.
     ///
-    /// # Requires, else it panics
+    /// # Panics
     ///
-    /// The head is sound for the storage, as `FiniteSenderHead::is_sound` tests.
+    /// Unless the head is sound for the storage, as `FiniteSenderHead::is_sound` tests.
     ///
-    /// # Contract
+    /// <details><summary>Contract</summary>
     ///
     /// In the words of [`contracts`](crate::contracts):
     ///
@@ -80,6 +84,8 @@ impl<S: Storage<u8>> FiniteSender<'_, S> {
     /// requires { IsSoundFiniteSender (length (S.elements storage)) head }
     /// ensures { result ≡ finite_sender_of head (S.elements storage) }
     /// ```
+    ///
+    /// </details>
     #[track_caller]
     pub(crate) fn from_parts(head: FiniteSenderHead, storage: S) -> Self {
         assert!(
@@ -91,7 +97,7 @@ impl<S: Storage<u8>> FiniteSender<'_, S> {
 
     /// Returns the head and the storage, which represent the sender.
     ///
-    /// # Contract
+    /// <details><summary>Contract</summary>
     ///
     /// In the words of [`contracts`](crate::contracts):
     ///
@@ -99,6 +105,8 @@ impl<S: Storage<u8>> FiniteSender<'_, S> {
     /// ensures sound { IsSoundFiniteSender (length (S.elements result.1)) result.0 }
     /// ensures state { finite_sender_of result.0 (S.elements result.1) ≡ self }
     /// ```
+    ///
+    /// </details>
     pub(crate) fn into_parts(self) -> (FiniteSenderHead, S) {
         let FiniteSender { lent: core::marker::PhantomData, head, storage } = self;
         (head, storage)
@@ -106,13 +114,15 @@ impl<S: Storage<u8>> FiniteSender<'_, S> {
 
     /// Returns the storage, of which the bytes can be any.
     ///
-    /// # Contract
+    /// <details><summary>Contract</summary>
     ///
     /// In the words of [`contracts`](crate::contracts):
     ///
     /// ```text
     /// ensures { length (S.elements result) ≡ self.sender.capacity }
     /// ```
+    ///
+    /// </details>
     pub fn into_storage(self) -> S {
         let FiniteSender { lent: core::marker::PhantomData, head: _, storage } = self;
         storage
@@ -121,11 +131,11 @@ impl<S: Storage<u8>> FiniteSender<'_, S> {
     /// Begins again over the same storage: a stream that begins at position `first`, to which nothing
     /// was written.
     ///
-    /// # Requires, else it panics
+    /// # Panics
     ///
-    /// `first` is not the greatest number of 64 bits.
+    /// Unless `first` is not the greatest number of 64 bits.
     ///
-    /// # Contract
+    /// <details><summary>Contract</summary>
     ///
     /// In the words of [`contracts`](crate::contracts):
     ///
@@ -134,6 +144,8 @@ impl<S: Storage<u8>> FiniteSender<'_, S> {
     /// ensures state { self.new ≡ fresh_finite_sender self.old.sender.capacity first }
     /// ensures sends { Sends first [] self.new.sender }
     /// ```
+    ///
+    /// </details>
     #[track_caller]
     pub fn reset_at(&mut self, first: u64) {
         assert!(first < u64::MAX, "no number is left for an end");
@@ -143,78 +155,90 @@ impl<S: Storage<u8>> FiniteSender<'_, S> {
     /// Returns the first number that isn't acknowledged: TCP's SND.UNA. It is the first unacknowledged
     /// position, or the one after it once the end is acknowledged.
     ///
-    /// # Contract
+    /// <details><summary>Contract</summary>
     ///
     /// In the words of [`contracts`](crate::contracts):
     ///
     /// ```text
     /// ensures { result ≡ first_number self.now }
     /// ```
+    ///
+    /// </details>
     pub fn first_number(&self) -> u64 {
         self.head.first_number(self.storage.count())
     }
 
     /// Returns the number after the last byte's, and after the end's once the sender is closed.
     ///
-    /// # Contract
+    /// <details><summary>Contract</summary>
     ///
     /// In the words of [`contracts`](crate::contracts):
     ///
     /// ```text
     /// ensures { result ≡ numbers_end self.now }
     /// ```
+    ///
+    /// </details>
     pub fn numbers_end(&self) -> u64 {
         self.head.numbers_end(self.storage.count())
     }
 
     /// Returns the number after the last one that was ever sent: TCP's SND.MAX.
     ///
-    /// # Contract
+    /// <details><summary>Contract</summary>
     ///
     /// In the words of [`contracts`](crate::contracts):
     ///
     /// ```text
     /// ensures { result ≡ self.now.sent }
     /// ```
+    ///
+    /// </details>
     pub fn sent(&self) -> u64 {
         self.head.sent
     }
 
     /// Returns how many bytes are queued.
     ///
-    /// # Contract
+    /// <details><summary>Contract</summary>
     ///
     /// In the words of [`contracts`](crate::contracts):
     ///
     /// ```text
     /// ensures { result ≡ length self.now.sender.queue }
     /// ```
+    ///
+    /// </details>
     pub fn len(&self) -> usize {
         self.head.sender.place.length
     }
 
     /// Returns whether all bytes that were written are acknowledged.
     ///
-    /// # Contract
+    /// <details><summary>Contract</summary>
     ///
     /// In the words of [`contracts`](crate::contracts):
     ///
     /// ```text
     /// ensures { result ≡ (length self.now.sender.queue == 0) }
     /// ```
+    ///
+    /// </details>
     pub fn is_empty(&self) -> bool {
         self.len() == 0
     }
 
     /// Returns the most bytes that are queued: the storage's length.
     ///
-    /// # Contract
+    /// <details><summary>Contract</summary>
     ///
     /// In the words of [`contracts`](crate::contracts):
     ///
     /// ```text
     /// ensures { result ≡ self.now.sender.capacity }
     /// ```
+    ///
+    /// </details>
     pub fn capacity(&self) -> usize {
         self.storage.count()
     }
@@ -222,20 +246,22 @@ impl<S: Storage<u8>> FiniteSender<'_, S> {
     /// Returns the window: how many bytes `write` would take. None once the sender is closed. A number
     /// is kept for the end.
     ///
-    /// # Contract
+    /// <details><summary>Contract</summary>
     ///
     /// In the words of [`contracts`](crate::contracts):
     ///
     /// ```text
     /// ensures { result ≡ finite_room self.now }
     /// ```
+    ///
+    /// </details>
     pub fn window(&self) -> usize {
         self.head.room(self.storage.count())
     }
 
     /// Enqueues the first of these bytes, as many as `window` says, and returns how many.
     ///
-    /// # Contract
+    /// <details><summary>Contract</summary>
     ///
     /// In the words of [`contracts`](crate::contracts):
     ///
@@ -246,6 +272,8 @@ impl<S: Storage<u8>> FiniteSender<'_, S> {
     ///     → Sends f (w ++ take result bytes.now) self.new.sender }
     /// ensures number { first_number self.new ≡ first_number self.old }
     /// ```
+    ///
+    /// </details>
     pub fn write(&mut self, bytes: &[u8]) -> usize {
         let capacity = self.storage.count();
         self.head.write(self.storage.part_mut(0, capacity), bytes)
@@ -253,7 +281,7 @@ impl<S: Storage<u8>> FiniteSender<'_, S> {
 
     /// Ends the stream after what was written. A second call changes nothing.
     ///
-    /// # Contract
+    /// <details><summary>Contract</summary>
     ///
     /// In the words of [`contracts`](crate::contracts):
     ///
@@ -263,6 +291,8 @@ impl<S: Storage<u8>> FiniteSender<'_, S> {
     ///     Sends f w self.new.sender }
     /// ensures number { first_number self.new ≡ first_number self.old }
     /// ```
+    ///
+    /// </details>
     pub fn close(&mut self) {
         self.head.close(self.storage.count());
     }
@@ -273,7 +303,7 @@ impl<S: Storage<u8>> FiniteSender<'_, S> {
     ///
     /// Clause `later` says that the segment is one of the stream whatever is written later.
     ///
-    /// # Contract
+    /// <details><summary>Contract</summary>
     ///
     /// In the words of [`contracts`](crate::contracts):
     ///
@@ -299,6 +329,8 @@ impl<S: Storage<u8>> FiniteSender<'_, S> {
     ///     self.now.sender.first_unacknowledged ≤ pos → (self.now.closed ≡ 1 → more ≡ []) →
     ///     MatchesFinite f (w ++ more) pos result.0.now result.1 }
     /// ```
+    ///
+    /// </details>
     pub fn peek_at(&self, pos: u64, max: usize) -> (&[u8], bool) {
         let lent = self.head.peek_at(self.storage.count(), pos, max);
         let from = lent.0.from;
@@ -308,7 +340,7 @@ impl<S: Storage<u8>> FiniteSender<'_, S> {
     /// Notes that all numbers below `pos` were sent, the end's among them if `pos` is past it, and
     /// returns true. Returns false, and changes nothing, if `pos` is above `numbers_end`.
     ///
-    /// # Contract
+    /// <details><summary>Contract</summary>
     ///
     /// In the words of [`contracts`](crate::contracts):
     ///
@@ -320,6 +352,8 @@ impl<S: Storage<u8>> FiniteSender<'_, S> {
     /// ensures number { first_number self.new ≡ first_number self.old }
     /// ensures refused { IsFalse result → self.new ≡ self.old }
     /// ```
+    ///
+    /// </details>
     pub fn mark_sent(&mut self, pos: u64) -> bool {
         self.head.mark_sent(self.storage.count(), pos)
     }
@@ -328,7 +362,7 @@ impl<S: Storage<u8>> FiniteSender<'_, S> {
     /// returns true. Returns false, and changes nothing, if `next` is below `first_number` or above
     /// `sent`.
     ///
-    /// # Contract
+    /// <details><summary>Contract</summary>
     ///
     /// In the words of [`contracts`](crate::contracts):
     ///
@@ -341,6 +375,8 @@ impl<S: Storage<u8>> FiniteSender<'_, S> {
     /// ensures number { IsTrue result → first_number self.new ≡ next }
     /// ensures refused { IsFalse result → self.new ≡ self.old }
     /// ```
+    ///
+    /// </details>
     pub fn acknowledge(&mut self, next: u64) -> bool {
         self.head.acknowledge(self.storage.count(), next)
     }
@@ -348,39 +384,45 @@ impl<S: Storage<u8>> FiniteSender<'_, S> {
     /// Returns whether a SACK block can be right: it has a number, and none above those that were
     /// sent, of which the end's is one.
     ///
-    /// # Contract
+    /// <details><summary>Contract</summary>
     ///
     /// In the words of [`contracts`](crate::contracts):
     ///
     /// ```text
     /// ensures { IsTrue result ↔ ((start < end) × (end ≤ self.now.sent)) }
     /// ```
+    ///
+    /// </details>
     pub fn is_block(&self, start: u64, end: u64) -> bool {
         self.head.is_block(start, end)
     }
 
     /// Returns whether the sender is closed.
     ///
-    /// # Contract
+    /// <details><summary>Contract</summary>
     ///
     /// In the words of [`contracts`](crate::contracts):
     ///
     /// ```text
     /// ensures { result ≡ (self.now.closed == 1) }
     /// ```
+    ///
+    /// </details>
     pub fn is_closed(&self) -> bool {
         self.head.is_closed()
     }
 
     /// Returns whether all bytes and the end are acknowledged. Once it is so it stays so.
     ///
-    /// # Contract
+    /// <details><summary>Contract</summary>
     ///
     /// In the words of [`contracts`](crate::contracts):
     ///
     /// ```text
     /// ensures { result ≡ (self.now.finished == 1) }
     /// ```
+    ///
+    /// </details>
     pub fn is_closed_and_acknowledged(&self) -> bool {
         self.head.is_closed_and_acknowledged()
     }

@@ -25,21 +25,9 @@ impl FiniteSenderHead {
     /// Returns the head of a sender of a stream that begins at position `first`; nothing was
     /// written. It is sound for every storage.
     ///
-    /// # Requires, else it panics
+    /// # Requires
     ///
     /// `first` is not the greatest number of 64 bits.
-    ///
-    /// # Contract
-    ///
-    /// In the words of [`contracts`](crate::contracts):
-    ///
-    /// ```text
-    /// requires { first < no_end }
-    /// ensures sound { (capacity : ℕ) → IsSoundFiniteSender capacity result }
-    /// ensures state { (storage : List ℕ) →
-    ///     finite_sender_of result storage ≡ fresh_finite_sender (length storage) first }
-    /// ensures numbers { result ≡ finite_sender_head first }
-    /// ```
     pub const fn new(first: u64) -> Self {
         FiniteSenderHead {
             sender: SenderHead::new(first),
@@ -50,14 +38,6 @@ impl FiniteSenderHead {
     }
 
     /// Returns whether this head is sound for a storage of `capacity` bytes.
-    ///
-    /// # Contract
-    ///
-    /// In the words of [`contracts`](crate::contracts):
-    ///
-    /// ```text
-    /// ensures { IsTrue result ↔ IsSoundFiniteSender capacity self.now }
-    /// ```
     pub fn is_sound(&self, capacity: usize) -> bool {
         if !self.sender.is_sound(capacity) || self.closed > 1 || self.finished > self.closed {
             return false;
@@ -75,34 +55,15 @@ impl FiniteSenderHead {
 
     /// Returns the first number that isn't acknowledged.
     ///
-    /// # Requires, else it panics
+    /// # Requires
     ///
     /// The head is sound for a storage of `capacity` bytes, as in each call below.
-    ///
-    /// # Contract
-    ///
-    /// In the words of [`contracts`](crate::contracts):
-    ///
-    /// ```text
-    /// requires { IsSoundFiniteSender _capacity self.now }
-    /// ensures { result ≡ self.now.sender.first_unacknowledged + self.now.finished }
-    /// ```
     #[inline]
     pub fn first_number(&self, _capacity: usize) -> u64 {
         self.sender.first_unacknowledged + self.finished
     }
 
     /// Returns the number after the last byte's, and after the end's once the sender is closed.
-    ///
-    /// # Contract
-    ///
-    /// In the words of [`contracts`](crate::contracts):
-    ///
-    /// ```text
-    /// requires { IsSoundFiniteSender _capacity self.now }
-    /// ensures { result ≡ self.now.sender.first_unacknowledged + self.now.sender.place.length
-    ///     + self.now.closed }
-    /// ```
     #[inline]
     pub fn numbers_end(&self, _capacity: usize) -> u64 {
         self.sender.end() + self.closed
@@ -110,16 +71,6 @@ impl FiniteSenderHead {
 
     /// Returns how many bytes `write` would take: none once the sender is closed. A number is kept
     /// for the end.
-    ///
-    /// # Contract
-    ///
-    /// In the words of [`contracts`](crate::contracts):
-    ///
-    /// ```text
-    /// requires { IsSoundFiniteSender capacity self.now }
-    /// ensures { (storage : List ℕ) → length storage ≡ capacity →
-    ///     result ≡ finite_room (finite_sender_of self.now storage) }
-    /// ```
     #[inline]
     pub fn room(&self, capacity: usize) -> usize {
         if self.closed != 0 {
@@ -130,27 +81,6 @@ impl FiniteSenderHead {
     }
 
     /// Enqueues the first of these bytes, as many as `room` says, and returns how many.
-    ///
-    /// # Contract
-    ///
-    /// In the words of [`contracts`](crate::contracts):
-    ///
-    /// ```text
-    /// requires { IsSoundFiniteSender (length storage.old) self.old }
-    /// ensures sound { IsSoundFiniteSender (length storage.old) self.new }
-    /// ensures count { result
-    ///     ≡ min (length bytes.now) (finite_room (finite_sender_of self.old storage.old)) }
-    /// ensures state { finite_sender_of self.new storage.new
-    ///     ≡ with_bytes (finite_sender_of self.old storage.old) (take result bytes.now) }
-    /// ensures ring { self.old.closed ≡ 0 →
-    ///     let g = rewind_if_empty (ring_at storage.old self.old.sender.place) in
-    ///     ring_at storage.new self.new.sender.place
-    ///     ≡ with_enqueued result (with_elements_wrapping g (write_at g) (take result bytes.now)) }
-    /// ensures closed { 0 < self.old.closed → (self.new ≡ self.old) × (storage.new ≡ storage.old) }
-    /// ensures sends { (f : ℕ) (w : List ℕ) →
-    ///     Sends f w (finite_sender_of self.old storage.old).sender →
-    ///     Sends f (w ++ take result bytes.now) (finite_sender_of self.new storage.new).sender }
-    /// ```
     #[inline]
     pub fn write(&mut self, storage: &mut [u8], bytes: &[u8]) -> usize {
         if self.closed != 0 {
@@ -161,17 +91,6 @@ impl FiniteSenderHead {
     }
 
     /// Ends the stream after what was written. A second call changes nothing.
-    ///
-    /// # Contract
-    ///
-    /// In the words of [`contracts`](crate::contracts):
-    ///
-    /// ```text
-    /// requires { IsSoundFiniteSender _capacity self.old }
-    /// ensures sound { IsSoundFiniteSender _capacity self.new }
-    /// ensures state { (storage : List ℕ) → length storage ≡ _capacity →
-    ///     finite_sender_of self.new storage ≡ closed_sender (finite_sender_of self.old storage) }
-    /// ```
     #[inline]
     pub fn close(&mut self, _capacity: usize) {
         self.closed = 1;
@@ -179,16 +98,6 @@ impl FiniteSenderHead {
 
     /// Returns whether a segment whose bytes end at `pos` ends the stream: the sender is closed, and
     /// `pos` is the position after the last byte.
-    ///
-    /// # Contract
-    ///
-    /// In the words of [`contracts`](crate::contracts):
-    ///
-    /// ```text
-    /// requires { IsSoundFiniteSender _capacity self.now }
-    /// ensures state { (storage : List ℕ) → length storage ≡ _capacity →
-    ///     result ≡ has_end_at (finite_sender_of self.now storage) pos }
-    /// ```
     #[inline]
     pub fn has_end_at(&self, _capacity: usize, pos: u64) -> bool {
         self.closed == 1 && pos == self.sender.end()
@@ -197,38 +106,6 @@ impl FiniteSenderHead {
     /// Returns where the bytes of a segment from `pos` on are, at most `max`, as
     /// `SenderHead::peek_at` does, and whether the segment ends the stream. A segment at `pos` without
     /// bytes that ends it is the end alone.
-    ///
-    /// # Contract
-    ///
-    /// In the words of [`contracts`](crate::contracts):
-    ///
-    /// ```text
-    /// requires { IsSoundFiniteSender capacity self.now }
-    /// ensures within { result.0.from + result.0.contiguous ≤ capacity }
-    /// ensures count { (storage : List ℕ) → length storage ≡ capacity →
-    ///     self.now.sender.first_unacknowledged ≤ pos → result.0.contiguous ≡ min max
-    ///     (contiguous_end (finite_sender_of self.now storage).sender pos - pos) }
-    /// ensures before { pos < self.now.sender.first_unacknowledged →
-    ///     (result.0.contiguous ≡ 0) × (result.0.from ≡ 0) × (result.0.count ≡ 0) }
-    /// ensures from { self.now.sender.first_unacknowledged ≤ pos →
-    ///     result.0.from ≡ queued_index capacity self.now.sender.place
-    ///     (pos - self.now.sender.first_unacknowledged) }
-    /// ensures whole { self.now.sender.first_unacknowledged ≤ pos → result.0.count ≡ min max
-    ///     (self.now.sender.place.length - (pos - self.now.sender.first_unacknowledged)) }
-    /// ensures end { IsTrue result.1 ↔ ((self.now.closed ≡ 1) × (pos + result.0.contiguous
-    ///     ≡ self.now.sender.first_unacknowledged + self.now.sender.place.length)) }
-    /// ensures fits { pos ≤ self.now.sender.first_unacknowledged + self.now.sender.place.length →
-    ///     pos + result.0.contiguous < no_end }
-    /// ensures bytes { (storage : List ℕ) → length storage ≡ capacity →
-    ///     take result.0.contiguous (drop result.0.from storage)
-    ///     ≡ take result.0.contiguous (drop (pos - self.now.sender.first_unacknowledged)
-    ///     (queue (ring_at storage self.now.sender.place))) }
-    /// ensures says { (storage : List ℕ) → length storage ≡ capacity →
-    ///     self.now.sender.first_unacknowledged ≤ pos → (f : ℕ) (w : List ℕ) →
-    ///     Sends f w (finite_sender_of self.now storage).sender →
-    ///     MatchesFinite f w pos (take result.0.contiguous (drop result.0.from storage))
-    ///     result.1 }
-    /// ```
     #[inline]
     pub fn peek_at(&self, capacity: usize, pos: u64, max: usize) -> (Span, bool) {
         let span = self.sender.peek_at(capacity, pos, max);
@@ -237,16 +114,6 @@ impl FiniteSenderHead {
     }
 
     /// Returns whether `len` bytes at `pos` end the stream.
-    ///
-    /// # Contract
-    ///
-    /// In the words of [`contracts`](crate::contracts):
-    ///
-    /// ```text
-    /// requires { IsSoundFiniteSender _capacity self.now }
-    /// ensures { IsTrue result ↔ ((self.now.closed ≡ 1) × (pos + len
-    ///     ≡ self.now.sender.first_unacknowledged + self.now.sender.place.length)) }
-    /// ```
     #[inline]
     fn ends_after(&self, _capacity: usize, pos: u64, len: usize) -> bool {
         let end = self.sender.end();
@@ -255,19 +122,6 @@ impl FiniteSenderHead {
 
     /// Notes that all numbers below `pos` were sent, the end's among them if `pos` is past it.
     /// Returns false, and changes nothing, if `pos` is above `numbers_end`.
-    ///
-    /// # Contract
-    ///
-    /// In the words of [`contracts`](crate::contracts):
-    ///
-    /// ```text
-    /// requires { IsSoundFiniteSender capacity self.old }
-    /// ensures sound { IsSoundFiniteSender capacity self.new }
-    /// ensures accepted { IsTrue result ↔ (pos ≤ self.old.sender.first_unacknowledged
-    ///     + self.old.sender.place.length + self.old.closed) }
-    /// ensures mark { IsTrue result → self.new ≡ record self.old { sent = max self.old.sent pos } }
-    /// ensures refused { IsFalse result → self.new ≡ self.old }
-    /// ```
     #[inline]
     pub fn mark_sent(&mut self, capacity: usize, pos: u64) -> bool {
         if pos > self.numbers_end(capacity) {
@@ -279,26 +133,6 @@ impl FiniteSenderHead {
 
     /// Drops the bytes below `next`, and notes that the end is acknowledged if `next` is past it.
     /// Returns false, and changes nothing, if `next` is below `first_number` or above what was sent.
-    ///
-    /// # Contract
-    ///
-    /// In the words of [`contracts`](crate::contracts):
-    ///
-    /// ```text
-    /// requires { IsSoundFiniteSender capacity self.old }
-    /// ensures sound { IsSoundFiniteSender capacity self.new }
-    /// ensures accepted { IsTrue result ↔ ((self.old.sender.first_unacknowledged
-    ///     + self.old.finished ≤ next) × (next ≤ self.old.sent)) }
-    /// ensures first { IsTrue result →
-    ///     self.new.sender.first_unacknowledged + self.new.finished ≡ next }
-    /// ensures state { IsTrue result → (storage : List ℕ) → length storage ≡ capacity →
-    ///     finite_sender_of self.new storage
-    ///     ≡ acknowledged_below (finite_sender_of self.old storage) next }
-    /// ensures sends { (storage : List ℕ) → length storage ≡ capacity → (f : ℕ) (w : List ℕ) →
-    ///     Sends f w (finite_sender_of self.old storage).sender →
-    ///     Sends f w (finite_sender_of self.new storage).sender }
-    /// ensures refused { IsFalse result → self.new ≡ self.old }
-    /// ```
     #[inline]
     pub fn acknowledge(&mut self, capacity: usize, next: u64) -> bool {
         if next < self.first_number(capacity) || next > self.sent {
@@ -311,42 +145,18 @@ impl FiniteSenderHead {
 
     /// Returns whether a SACK block can be right: it has a number, and none above those that were
     /// sent, of which the end's is one.
-    ///
-    /// # Contract
-    ///
-    /// In the words of [`contracts`](crate::contracts):
-    ///
-    /// ```text
-    /// ensures { IsTrue result ↔ ((start < end) × (end ≤ self.now.sent)) }
-    /// ```
     #[inline]
     pub fn is_block(&self, start: u64, end: u64) -> bool {
         start < end && end <= self.sent
     }
 
     /// Returns whether the sender is closed.
-    ///
-    /// # Contract
-    ///
-    /// In the words of [`contracts`](crate::contracts):
-    ///
-    /// ```text
-    /// ensures { result ≡ (self.now.closed == 1) }
-    /// ```
     #[inline]
     pub fn is_closed(&self) -> bool {
         self.closed == 1
     }
 
     /// Returns whether all bytes and the end are acknowledged. Once it is so it stays so.
-    ///
-    /// # Contract
-    ///
-    /// In the words of [`contracts`](crate::contracts):
-    ///
-    /// ```text
-    /// ensures { result ≡ (self.now.finished == 1) }
-    /// ```
     #[inline]
     pub fn is_closed_and_acknowledged(&self) -> bool {
         self.finished == 1

@@ -16,15 +16,6 @@ pub type HeldRuns<'a, const N: usize = { crate::rattle::ASSEMBLER_MAX_SEGMENT_CO
 
 impl<'a> HeldRunIter<'a> {
     /// Returns these runs, counted from the position `from`.
-    ///
-    /// # Contract
-    ///
-    /// In the words of [`contracts`](crate::contracts):
-    ///
-    /// ```text
-    /// requires { EndBelow (2 ^ 64) (runs_shifted_up from runs) }
-    /// ensures { result ≡ runs_shifted_up from runs.entry }
-    /// ```
     #[inline]
     pub(crate) fn over(runs: RunIter<'a>, from: u64) -> Self {
         HeldRunIter { runs, from }

@@ -23,15 +23,6 @@ pub struct NewestRunIter<const K: usize> {
 
 impl<const K: usize> NewestRunIter<K> {
     /// Returns the first `count` of these runs.
-    ///
-    /// # Contract
-    ///
-    /// In the words of [`contracts`](crate::contracts):
-    ///
-    /// ```text
-    /// requires { count ≤ K }
-    /// ensures { result ≡ take count runs.entry }
-    /// ```
     pub(crate) fn over(runs: [HeldRun; K], count: usize) -> Self {
         NewestRunIter {
             runs,
@@ -66,14 +57,6 @@ impl<const K: usize> Iterator for NewestRunIter<K> {
 }
 
 /// Returns whether one of these runs has a position.
-///
-/// # Contract
-///
-/// In the words of [`contracts`](crate::contracts):
-///
-/// ```text
-/// ensures { result ≡ list_any (lies_in position) listed.now }
-/// ```
 pub(crate) fn is_listed(listed: &[HeldRun], position: u64) -> bool {
     listed
         .iter()
@@ -81,14 +64,6 @@ pub(crate) fn is_listed(listed: &[HeldRun], position: u64) -> bool {
 }
 
 /// Writes the starts of these runs to the beginning of `recent`, as many as it has room for.
-///
-/// # Contract
-///
-/// In the words of [`contracts`](crate::contracts):
-///
-/// ```text
-/// ensures { recent.new ≡ with_starts recent.old listed.now }
-/// ```
 pub(crate) fn remember(recent: &mut [u64], listed: &[HeldRun]) {
     for i in 0..listed.len().min(recent.len()) {
         let run = &listed[i];

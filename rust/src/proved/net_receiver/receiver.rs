@@ -60,11 +60,11 @@ impl<'a, const N: usize> Receiver<'a, N> {
 impl<S: Storage<u8>, const N: usize> Receiver<'_, N, S> {
     /// Returns a receiver of a stream that begins at position 0: `over_at` with 0.
     ///
-    /// # Requires, else it panics
+    /// # Requires, else it doesn't compile
     ///
     /// `N` is at least 1.
     ///
-    /// # Contract
+    /// <details><summary>Contract</summary>
     ///
     /// In the words of [`contracts`](crate::contracts):
     ///
@@ -74,6 +74,8 @@ impl<S: Storage<u8>, const N: usize> Receiver<'_, N, S> {
     /// ensures refines { Refines result fresh_kept }
     /// ensures receives { (x : List ℕ) → ReceivesFrom 0 x result }
     /// ```
+    ///
+    /// </details>
     pub const fn over(storage: S) -> Self {
         const { assert!(N >= 1, "N is at least 1") };
         Self::over_at(storage, 0)
@@ -84,11 +86,11 @@ impl<S: Storage<u8>, const N: usize> Receiver<'_, N, S> {
     ///
     /// Its capacity is the length of `storage` in bytes, of which 0 is allowed.
     ///
-    /// # Requires, else it panics
+    /// # Requires, else it doesn't compile
     ///
     /// `N` is at least 1.
     ///
-    /// # Contract
+    /// <details><summary>Contract</summary>
     ///
     /// In the words of [`contracts`](crate::contracts):
     ///
@@ -98,6 +100,8 @@ impl<S: Storage<u8>, const N: usize> Receiver<'_, N, S> {
     /// ensures refines { Refines result fresh_kept }
     /// ensures receives { (x : List ℕ) → ReceivesFrom first x result }
     /// ```
+    ///
+    /// </details>
     pub const fn over_at(storage: S, first: u64) -> Self {
         const { assert!(N >= 1, "N is at least 1") };
         Receiver {
@@ -110,11 +114,11 @@ impl<S: Storage<u8>, const N: usize> Receiver<'_, N, S> {
 
     /// Returns the receiver that a head, a storage and runs represent. smoltcp has no such call.
     ///
-    /// # Requires, else it panics
+    /// # Panics
     ///
-    /// They are sound, as `ReceiverHead::is_sound` tests.
+    /// Unless they are sound, as `ReceiverHead::is_sound` tests.
     ///
-    /// # Contract
+    /// <details><summary>Contract</summary>
     ///
     /// In the words of [`contracts`](crate::contracts):
     ///
@@ -122,6 +126,8 @@ impl<S: Storage<u8>, const N: usize> Receiver<'_, N, S> {
     /// requires { HasSoundParts head (S.elements storage) runs }
     /// ensures { result ≡ receiver_of head (S.elements storage) runs.entry }
     /// ```
+    ///
+    /// </details>
     #[track_caller]
     pub(crate) fn from_parts(head: ReceiverHead, storage: S, runs: [Run; N]) -> Self {
         assert!(
@@ -139,7 +145,7 @@ impl<S: Storage<u8>, const N: usize> Receiver<'_, N, S> {
     /// Returns the head, the storage and the runs, which represent the receiver. smoltcp has no such
     /// call.
     ///
-    /// # Contract
+    /// <details><summary>Contract</summary>
     ///
     /// In the words of [`contracts`](crate::contracts):
     ///
@@ -148,6 +154,8 @@ impl<S: Storage<u8>, const N: usize> Receiver<'_, N, S> {
     /// ensures state { receiver_of result.0 (S.elements result.1) result.2 ≡ self }
     /// ensures runs { length result.2 ≡ N }
     /// ```
+    ///
+    /// </details>
     pub(crate) fn into_parts(self) -> (ReceiverHead, S, [Run; N]) {
         let Receiver {
             lent: core::marker::PhantomData,
@@ -160,13 +168,15 @@ impl<S: Storage<u8>, const N: usize> Receiver<'_, N, S> {
 
     /// Returns the storage, of which the bytes can be any.
     ///
-    /// # Contract
+    /// <details><summary>Contract</summary>
     ///
     /// In the words of [`contracts`](crate::contracts):
     ///
     /// ```text
     /// ensures { length (S.elements result) ≡ self.capacity }
     /// ```
+    ///
+    /// </details>
     pub fn into_storage(self) -> S {
         let (_head, storage, _runs) = self.into_parts();
         storage
@@ -175,7 +185,7 @@ impl<S: Storage<u8>, const N: usize> Receiver<'_, N, S> {
     /// Begins again over the same storage: a receiver of a stream that begins at position `first`;
     /// nothing is read, queued or held.
     ///
-    /// # Contract
+    /// <details><summary>Contract</summary>
     ///
     /// In the words of [`contracts`](crate::contracts):
     ///
@@ -184,6 +194,8 @@ impl<S: Storage<u8>, const N: usize> Receiver<'_, N, S> {
     /// ensures refines { Refines self.new fresh_kept }
     /// ensures receives { (x : List ℕ) → ReceivesFrom first x self.new }
     /// ```
+    ///
+    /// </details>
     pub fn reset_at(&mut self, first: u64) {
         self.head.reset_at(first);
     }
@@ -195,13 +207,15 @@ impl<S: Storage<u8>, const N: usize> Receiver<'_, N, S> {
     /// assert!(Receiver::<4>::fits(u64::MAX - 2, 2) && !Receiver::<4>::fits(u64::MAX - 2, 3));
     /// ```
     ///
-    /// # Contract
+    /// <details><summary>Contract</summary>
     ///
     /// In the words of [`contracts`](crate::contracts):
     ///
     /// ```text
     /// ensures { IsTrue result ↔ (pos + len < 2 ^ 64) }
     /// ```
+    ///
+    /// </details>
     pub const fn fits(pos: u64, len: usize) -> bool {
         len as u64 <= u64::MAX - pos
     }
@@ -232,11 +246,11 @@ impl<S: Storage<u8>, const N: usize> Receiver<'_, N, S> {
     /// assert_eq!(receiver.segment(0, b"abcd").map(|it| it.queued), Ok(5));
     /// ```
     ///
-    /// # Requires, else it panics
+    /// # Panics
     ///
-    /// The segment ends within 64 bits, as `fits` tests.
+    /// Unless the segment ends within 64 bits, as `fits` tests.
     ///
-    /// # Contract
+    /// <details><summary>Contract</summary>
     ///
     /// In the words of [`contracts`](crate::contracts):
     ///
@@ -254,6 +268,8 @@ impl<S: Storage<u8>, const N: usize> Receiver<'_, N, S> {
     /// ensures receives { (f : ℕ) (x : List ℕ) → ReceivesFrom f x self.old →
     ///     MatchesStream f x pos bytes.now → ReceivesFrom f x self.new }
     /// ```
+    ///
+    /// </details>
     // Inlined, so that a caller that doesn't look at `sack` doesn't pay for it.
     #[inline(always)]
     #[track_caller]
@@ -277,11 +293,11 @@ impl<S: Storage<u8>, const N: usize> Receiver<'_, N, S> {
     /// assert_eq!(receiver.keep(0, b"ab"), Ok(KeptBytes { kept: 2, queued: 4 }));
     /// ```
     ///
-    /// # Requires, else it panics
+    /// # Panics
     ///
-    /// The segment ends within 64 bits, as `fits` tests.
+    /// Unless the segment ends within 64 bits, as `fits` tests.
     ///
-    /// # Contract
+    /// <details><summary>Contract</summary>
     ///
     /// In the words of [`contracts`](crate::contracts):
     ///
@@ -298,6 +314,8 @@ impl<S: Storage<u8>, const N: usize> Receiver<'_, N, S> {
     /// ensures receives { (f : ℕ) (x : List ℕ) → ReceivesFrom f x self.old →
     ///     MatchesStream f x pos bytes.now → ReceivesFrom f x self.new }
     /// ```
+    ///
+    /// </details>
     #[inline]
     #[track_caller]
     pub fn keep(&mut self, pos: u64, bytes: &[u8]) -> Result<KeptBytes, TooManyHolesError> {
@@ -314,13 +332,6 @@ impl<S: Storage<u8>, const N: usize> Receiver<'_, N, S> {
     /// As in `segment`, the clauses `state`, `count` and `into` are about what is stored, `step`
     /// about kept lists, and `receives` and `bytes` about the stream of the segments.
     ///
-    /// ```ignore
-    /// if Receiver::<4>::fits(pos, payload.len()) {
-    ///     let _accepted = receiver.segment(pos, payload).is_ok();
-    /// }
-    /// receiver.read(into)
-    /// ```
-    ///
     /// ```
     /// # use net_base::receiver::Receiver;
     /// # let mut storage = [0u8; 16];
@@ -330,7 +341,7 @@ impl<S: Storage<u8>, const N: usize> Receiver<'_, N, S> {
     /// assert_eq!((receiver.read(&mut into), &into, receiver.len()), (2, b"ab", 1));
     /// ```
     ///
-    /// # Contract
+    /// <details><summary>Contract</summary>
     ///
     /// In the words of [`contracts`](crate::contracts):
     ///
@@ -348,6 +359,8 @@ impl<S: Storage<u8>, const N: usize> Receiver<'_, N, S> {
     /// ensures bytes { (f : ℕ) (x : List ℕ) → ReceivesFrom f x self.old → take result into.new
     ///     ≡ slice_range x self.old.read (self.old.read + result) }
     /// ```
+    ///
+    /// </details>
     pub fn read(&mut self, into: &mut [u8]) -> usize {
         self.head.read(whole(&self.storage), into)
     }
@@ -365,7 +378,7 @@ impl<S: Storage<u8>, const N: usize> Receiver<'_, N, S> {
     /// assert_eq!((receiver.peek_slice(&mut into), &into, receiver.len()), (2, b"ab", 3));
     /// ```
     ///
-    /// # Contract
+    /// <details><summary>Contract</summary>
     ///
     /// In the words of [`contracts`](crate::contracts):
     ///
@@ -380,6 +393,8 @@ impl<S: Storage<u8>, const N: usize> Receiver<'_, N, S> {
     /// ensures bytes { (f : ℕ) (x : List ℕ) → ReceivesFrom f x self.now → take result into.new
     ///     ≡ slice_range x self.now.read (self.now.read + result) }
     /// ```
+    ///
+    /// </details>
     pub fn peek_slice(&self, into: &mut [u8]) -> usize {
         self.head.peek_slice(whole(&self.storage), into)
     }
@@ -398,7 +413,7 @@ impl<S: Storage<u8>, const N: usize> Receiver<'_, N, S> {
     /// assert_eq!(receiver.peek(1, 9), b"bc");
     /// ```
     ///
-    /// # Contract
+    /// <details><summary>Contract</summary>
     ///
     /// In the words of [`contracts`](crate::contracts):
     ///
@@ -416,6 +431,8 @@ impl<S: Storage<u8>, const N: usize> Receiver<'_, N, S> {
     /// ensures bytes { (f : ℕ) (x : List ℕ) → ReceivesFrom f x self.now →
     ///     result.now ≡ take (length result.now) (drop (self.now.read + offset) x) }
     /// ```
+    ///
+    /// </details>
     pub fn peek(&self, offset: usize, size: usize) -> &[u8] {
         self.head.peek(whole(&self.storage), offset, size)
     }
@@ -425,7 +442,7 @@ impl<S: Storage<u8>, const N: usize> Receiver<'_, N, S> {
     ///
     /// `peek` shows the first of them alone. smoltcp has no such call.
     ///
-    /// # Contract
+    /// <details><summary>Contract</summary>
     ///
     /// In the words of [`contracts`](crate::contracts):
     ///
@@ -433,6 +450,8 @@ impl<S: Storage<u8>, const N: usize> Receiver<'_, N, S> {
     /// ensures bytes { result.0.now ++ result.1.now ≡ take size (drop offset self.now.queue) }
     /// ensures cut { length result.0.now ≡ contiguous_count_from self.now offset size }
     /// ```
+    ///
+    /// </details>
     pub fn peek_slices(&self, offset: usize, size: usize) -> (&[u8], &[u8]) {
         self.head.peek_slices(whole(&self.storage), offset, size)
     }
@@ -452,7 +471,7 @@ impl<S: Storage<u8>, const N: usize> Receiver<'_, N, S> {
     /// assert_eq!(receiver.as_slices(), (&b"cd"[..], &b"ef"[..]));
     /// ```
     ///
-    /// # Contract
+    /// <details><summary>Contract</summary>
     ///
     /// In the words of [`contracts`](crate::contracts):
     ///
@@ -470,6 +489,8 @@ impl<S: Storage<u8>, const N: usize> Receiver<'_, N, S> {
     ///     result.0.now ++ result.1.now
     ///     ≡ slice_range x self.now.read (self.now.read + length self.now.queue) }
     /// ```
+    ///
+    /// </details>
     pub fn as_slices(&self) -> (&[u8], &[u8]) {
         self.head.as_slices(whole(&self.storage))
     }
@@ -489,11 +510,11 @@ impl<S: Storage<u8>, const N: usize> Receiver<'_, N, S> {
     /// assert_eq!(receiver.peek(0, 9), b"c");
     /// ```
     ///
-    /// # Requires, else it panics
+    /// # Panics
     ///
-    /// `f` may be called on the part that it is lent, and counts at most its length.
+    /// Unless `f` counts at most its length.
     ///
-    /// # Contract
+    /// <details><summary>Contract</summary>
     ///
     /// In the words of [`contracts`](crate::contracts):
     ///
@@ -515,6 +536,8 @@ impl<S: Storage<u8>, const N: usize> Receiver<'_, N, S> {
     ///     take result.0 self.old.queue
     ///     ≡ slice_range x self.old.read (self.old.read + result.0) }
     /// ```
+    ///
+    /// </details>
     #[track_caller]
     pub fn read_with<R, F: FnOnce(&[u8]) -> (usize, R)>(&mut self, f: F) -> (usize, R) {
         let part = self.first_slice();
@@ -528,11 +551,11 @@ impl<S: Storage<u8>, const N: usize> Receiver<'_, N, S> {
     /// Takes the first `count` bytes off the queue, as `read` does, and copies none: `peek` and
     /// `as_slices` show them before.
     ///
-    /// # Requires, else it panics
+    /// # Panics
     ///
-    /// At least `count` bytes are queued.
+    /// Unless at least `count` bytes are queued.
     ///
-    /// # Contract
+    /// <details><summary>Contract</summary>
     ///
     /// In the words of [`contracts`](crate::contracts):
     ///
@@ -548,6 +571,8 @@ impl<S: Storage<u8>, const N: usize> Receiver<'_, N, S> {
     /// ensures bytes { (f : ℕ) (x : List ℕ) → ReceivesFrom f x self.old → take count self.old.queue
     ///     ≡ slice_range x self.old.read (self.old.read + count) }
     /// ```
+    ///
+    /// </details>
     #[track_caller]
     pub fn remove(&mut self, count: usize) {
         assert!(count <= self.head.queued(), "more bytes than are queued");
@@ -555,15 +580,6 @@ impl<S: Storage<u8>, const N: usize> Receiver<'_, N, S> {
     }
 
     /// Shows the first part of the queue, which is empty only if the queue is.
-    ///
-    /// # Contract
-    ///
-    /// In the words of [`contracts`](crate::contracts):
-    ///
-    /// ```text
-    /// ensures value { result.now ≡ first_part self.now }
-    /// ensures some { 0 < length self.now.queue → 0 < contiguous_count self.now }
-    /// ```
     fn first_slice(&self) -> &[u8] {
         self.head.peek(whole(&self.storage), 0, self.head.queued())
     }
@@ -579,26 +595,30 @@ impl<S: Storage<u8>, const N: usize> Receiver<'_, N, S> {
     /// assert_eq!(receiver.next(), 3);
     /// ```
     ///
-    /// # Contract
+    /// <details><summary>Contract</summary>
     ///
     /// In the words of [`contracts`](crate::contracts):
     ///
     /// ```text
     /// ensures { result ≡ next_position self.now }
     /// ```
+    ///
+    /// </details>
     pub fn next(&self) -> u64 {
         self.head.next()
     }
 
     /// Returns how many bytes are queued.
     ///
-    /// # Contract
+    /// <details><summary>Contract</summary>
     ///
     /// In the words of [`contracts`](crate::contracts):
     ///
     /// ```text
     /// ensures { result ≡ length self.now.queue }
     /// ```
+    ///
+    /// </details>
     pub fn queued(&self) -> usize {
         self.head.queued()
     }
@@ -614,7 +634,7 @@ impl<S: Storage<u8>, const N: usize> Receiver<'_, N, S> {
     /// assert_eq!(receiver.window(), 13);
     /// ```
     ///
-    /// # Contract
+    /// <details><summary>Contract</summary>
     ///
     /// In the words of [`contracts`](crate::contracts):
     ///
@@ -622,6 +642,8 @@ impl<S: Storage<u8>, const N: usize> Receiver<'_, N, S> {
     /// ensures window { result ≡ self.now.capacity - length self.now.queue }
     /// ensures room { length self.now.queue + result ≡ self.now.capacity }
     /// ```
+    ///
+    /// </details>
     pub fn window(&self) -> usize {
         self.head.window(self.storage.count())
     }
@@ -639,7 +661,7 @@ impl<S: Storage<u8>, const N: usize> Receiver<'_, N, S> {
     /// assert_eq!(receiver.window_end(), Some(119));
     /// ```
     ///
-    /// # Contract
+    /// <details><summary>Contract</summary>
     ///
     /// In the words of [`contracts`](crate::contracts):
     ///
@@ -648,6 +670,8 @@ impl<S: Storage<u8>, const N: usize> Receiver<'_, N, S> {
     /// ensures none { 2 ^ 64 ≤ limit_of self.now → result ≡ None }
     /// ensures after_next { next_position self.now ≤ limit_of self.now }
     /// ```
+    ///
+    /// </details>
     pub fn window_end(&self) -> Option<u64> {
         self.head.window_end(self.storage.count())
     }
@@ -660,13 +684,15 @@ impl<S: Storage<u8>, const N: usize> Receiver<'_, N, S> {
     /// assert_eq!(Receiver::new(&mut storage[..]).capacity(), 16);
     /// ```
     ///
-    /// # Contract
+    /// <details><summary>Contract</summary>
     ///
     /// In the words of [`contracts`](crate::contracts):
     ///
     /// ```text
     /// ensures { result ≡ self.now.capacity }
     /// ```
+    ///
+    /// </details>
     pub fn capacity(&self) -> usize {
         self.storage.count()
     }
@@ -681,13 +707,15 @@ impl<S: Storage<u8>, const N: usize> Receiver<'_, N, S> {
     /// assert_eq!(receiver.len(), 3);
     /// ```
     ///
-    /// # Contract
+    /// <details><summary>Contract</summary>
     ///
     /// In the words of [`contracts`](crate::contracts):
     ///
     /// ```text
     /// ensures { result ≡ length self.now.queue }
     /// ```
+    ///
+    /// </details>
     pub fn len(&self) -> usize {
         self.queued()
     }
@@ -702,13 +730,15 @@ impl<S: Storage<u8>, const N: usize> Receiver<'_, N, S> {
     /// assert!(receiver.is_empty());
     /// ```
     ///
-    /// # Contract
+    /// <details><summary>Contract</summary>
     ///
     /// In the words of [`contracts`](crate::contracts):
     ///
     /// ```text
     /// ensures { IsTrue result ↔ (self.now.queue ≡ []) }
     /// ```
+    ///
+    /// </details>
     pub fn is_empty(&self) -> bool {
         self.queued() == 0
     }
@@ -725,7 +755,7 @@ impl<S: Storage<u8>, const N: usize> Receiver<'_, N, S> {
     /// assert!(receiver.held().eq([(105, 108)]));
     /// ```
     ///
-    /// # Contract
+    /// <details><summary>Contract</summary>
     ///
     /// In the words of [`contracts`](crate::contracts):
     ///
@@ -735,13 +765,15 @@ impl<S: Storage<u8>, const N: usize> Receiver<'_, N, S> {
     /// ensures above { All (λ run. (next_position self.now < run.0) × (run.0 < run.1)) result }
     /// ensures within { All (λ run. run.1 ≤ limit_of self.now) result }
     /// ```
+    ///
+    /// </details>
     pub fn held(&self) -> HeldRuns<'_, N> {
         self.head.held(whole(&self.storage), &self.runs)
     }
 
     /// Returns how many runs are held, without a look at them: as many as `held` yields, at most `N`.
     ///
-    /// # Contract
+    /// <details><summary>Contract</summary>
     ///
     /// In the words of [`contracts`](crate::contracts):
     ///
@@ -749,6 +781,8 @@ impl<S: Storage<u8>, const N: usize> Receiver<'_, N, S> {
     /// ensures count { result ≡ run_count (domain self.now.held) }
     /// ensures bound { result ≤ N }
     /// ```
+    ///
+    /// </details>
     pub fn held_count(&self) -> usize {
         self.head.held_count()
     }
@@ -774,7 +808,7 @@ impl<S: Storage<u8>, const N: usize> Receiver<'_, N, S> {
     /// assert!(receiver.newest_runs(104, &mut recent).eq([(104, 106), (108, 109)]));
     /// ```
     ///
-    /// # Contract
+    /// <details><summary>Contract</summary>
     ///
     /// In the words of [`contracts`](crate::contracts):
     ///
@@ -783,6 +817,8 @@ impl<S: Storage<u8>, const N: usize> Receiver<'_, N, S> {
     /// ensures count { length result ≤ K }
     /// ensures recent { recent.new ≡ with_starts recent.old result }
     /// ```
+    ///
+    /// </details>
     pub fn newest_runs<const K: usize>(
         &self,
         position: u64,
@@ -812,11 +848,11 @@ impl<S: Storage<u8>, const N: usize> Receiver<'_, N, S> {
     /// assert_eq!((receiver.count_new(3, 4), receiver.count_new(4, 2)), (2, 0));
     /// ```
     ///
-    /// # Requires, else it panics
+    /// # Panics
     ///
-    /// The segment ends within 64 bits, as `fits` tests.
+    /// Unless the segment ends within 64 bits, as `fits` tests.
     ///
-    /// # Contract
+    /// <details><summary>Contract</summary>
     ///
     /// In the words of [`contracts`](crate::contracts):
     ///
@@ -824,6 +860,8 @@ impl<S: Storage<u8>, const N: usize> Receiver<'_, N, S> {
     /// requires { position + len < 2 ^ 64 }
     /// ensures { result ≡ new_count self.now position len }
     /// ```
+    ///
+    /// </details>
     #[track_caller]
     pub fn count_new(&self, position: u64, len: usize) -> usize {
         let fits = Self::fits(position, len);
@@ -846,7 +884,7 @@ impl<S: Storage<u8>, const N: usize> Receiver<'_, N, S> {
     /// assert!(receiver.same_state(&Receiver::new(&mut other[..])));
     /// ```
     ///
-    /// # Contract
+    /// <details><summary>Contract</summary>
     ///
     /// In the words of [`contracts`](crate::contracts):
     ///
@@ -855,6 +893,8 @@ impl<S: Storage<u8>, const N: usize> Receiver<'_, N, S> {
     /// ensures states { TellsStates self.now other.now result }
     /// ensures converges { Converges self.now other.now result }
     /// ```
+    ///
+    /// </details>
     pub fn same_state<O: Storage<u8>>(&self, other: &Receiver<'_, N, O>) -> bool {
         let storage = whole(&self.storage);
         let other_storage = whole(&other.storage);
@@ -862,28 +902,12 @@ impl<S: Storage<u8>, const N: usize> Receiver<'_, N, S> {
     }
 
     /// States what is true of every receiver; it does nothing. Callers use `laws::is_sound`.
-    ///
-    /// # Contract
-    ///
-    /// In the words of [`contracts`](crate::contracts):
-    ///
-    /// ```text
-    /// ensures { IsSound N self.now }
-    /// ```
     pub(crate) fn is_sound(&self) {
         let _next = self.head.next();
     }
 }
 
 /// Shows all bytes of a storage.
-///
-/// # Contract
-///
-/// In the words of [`contracts`](crate::contracts):
-///
-/// ```text
-/// ensures { result.now ≡ S.elements storage.now }
-/// ```
 pub(crate) fn whole<S: Storage<u8>>(storage: &S) -> &[u8] {
     storage.part(0, storage.count())
 }

@@ -31,19 +31,6 @@ pub struct ReceiverHead {
 impl ReceiverHead {
     /// Returns the head of a receiver of a stream that begins at position `first`; nothing is read,
     /// queued or held. It is sound with every storage and all runs.
-    ///
-    /// # Contract
-    ///
-    /// In the words of [`contracts`](crate::contracts):
-    ///
-    /// ```text
-    /// ensures sound { (storage : List ℕ) (runs : List (ℕ × ℕ)) →
-    ///     HasSoundParts result storage runs }
-    /// ensures state { (storage : List ℕ) (runs : List (ℕ × ℕ)) →
-    ///     receiver_of result storage runs ≡ fresh_receiver first (length storage) }
-    /// ensures canonical { IsCanonical result.held }
-    /// ensures numbers { result ≡ receiver_head first }
-    /// ```
     pub const fn new(first: u64) -> Self {
         ReceiverHead {
             first,
@@ -58,18 +45,6 @@ impl ReceiverHead {
 
     /// Begins again: the head of a receiver of a stream that begins at position `first`, as `new`
     /// returns it.
-    ///
-    /// # Contract
-    ///
-    /// In the words of [`contracts`](crate::contracts):
-    ///
-    /// ```text
-    /// ensures sound { (storage : List ℕ) (runs : List (ℕ × ℕ)) →
-    ///     HasSoundParts self.new storage runs }
-    /// ensures state { (storage : List ℕ) (runs : List (ℕ × ℕ)) →
-    ///     receiver_of self.new storage runs ≡ fresh_receiver first (length storage) }
-    /// ensures canonical { IsCanonical self.new.held }
-    /// ```
     #[inline]
     pub fn reset_at(&mut self, first: u64) {
         *self = ReceiverHead::new(first);
@@ -77,14 +52,6 @@ impl ReceiverHead {
 
     /// Returns whether this head, a storage and runs are sound: those of a receiver. It takes a look
     /// at each held run, and at no byte.
-    ///
-    /// # Contract
-    ///
-    /// In the words of [`contracts`](crate::contracts):
-    ///
-    /// ```text
-    /// ensures { IsTrue result ↔ HasSoundParts self.now storage.now runs.now }
-    /// ```
     pub fn is_sound(&self, storage: &[u8], runs: &[Run]) -> bool {
         let capacity = storage.len();
         if !self.place.is_sound(capacity) {
@@ -105,15 +72,6 @@ impl ReceiverHead {
     }
 
     /// Returns whether the queue begins where the byte after those read has its index.
-    ///
-    /// # Contract
-    ///
-    /// In the words of [`contracts`](crate::contracts):
-    ///
-    /// ```text
-    /// ensures { IsTrue result ↔ (0 < capacity →
-    ///     self.now.place.read_at ≡ self.now.count_read % capacity) }
-    /// ```
     fn reads_in_turn(&self, capacity: usize) -> bool {
         if capacity == 0 {
             return true;
@@ -122,15 +80,6 @@ impl ReceiverHead {
     }
 
     /// Returns whether the first missing position fits 64 bits.
-    ///
-    /// # Contract
-    ///
-    /// In the words of [`contracts`](crate::contracts):
-    ///
-    /// ```text
-    /// ensures { IsTrue result
-    ///     ↔ (self.now.first + self.now.count_read + self.now.place.length < 2 ^ 64) }
-    /// ```
     fn next_fits(&self) -> bool {
         let rest = u64::MAX - self.first;
         if self.count_read > rest {
@@ -140,16 +89,6 @@ impl ReceiverHead {
     }
 
     /// Returns whether the offset of each held byte is above 0 and below `limit`.
-    ///
-    /// # Contract
-    ///
-    /// In the words of [`contracts`](crate::contracts):
-    ///
-    /// ```text
-    /// requires { HasSoundRuns self.now.held runs.now }
-    /// ensures { IsTrue result ↔ ((p : ℕ) →
-    ///     IsTrue (contains (set_of self.now.held runs.now) p) → (0 < p) × (p < limit)) }
-    /// ```
     fn is_held_below(&self, limit: u64, runs: &[Run]) -> bool {
         let used = self.held.used;
         if used == 0 {
@@ -166,39 +105,10 @@ impl ReceiverHead {
     /// Keeps the bytes of a segment that are in the free window, as `keep` does, and lists the
     /// first three held runs.
     ///
-    /// # Requires, else it panics
+    /// # Requires
     ///
     /// Head, storage and runs are sound, as `is_sound` tests, and the segment ends within 64 bits,
     /// as `Receiver::fits` tests.
-    ///
-    /// # Contract
-    ///
-    /// In the words of [`contracts`](crate::contracts):
-    ///
-    /// ```text
-    /// requires sound { HasSoundParts self.old storage.old runs.old }
-    /// requires fits { pos + length bytes.now < 2 ^ 64 }
-    /// ensures sound { HasSoundParts self.new storage.new runs.new }
-    /// ensures state { let v = receiver_of self.old storage.old runs.old in
-    ///     receiver_of self.new storage.new runs.new ≡ state_after receiver_ops v
-    ///     (verdict receiver_ops (length runs.old) v (piece pos bytes.now)) }
-    /// ensures step { StepRefines (length runs.old) (receiver_of self.old storage.old runs.old)
-    ///     (receiver_of self.new storage.new runs.new)
-    ///     (Segment pos bytes.now) (SegmentReply result) }
-    /// ensures receives { (f : ℕ) (x : List ℕ) →
-    ///     ReceivesFrom f x (receiver_of self.old storage.old runs.old) →
-    ///     MatchesStream f x pos bytes.now →
-    ///     ReceivesFrom f x (receiver_of self.new storage.new runs.new) }
-    /// ensures stored { let v = receiver_of self.old storage.old runs.old in
-    ///     storage.new ≡ storage_after self.old storage.old
-    ///     (verdict receiver_ops (length runs.old) v (piece pos bytes.now)) }
-    /// ensures value { let v = receiver_of self.old storage.old runs.old in
-    ///     result ≡ segment_result receiver_ops v
-    ///     (verdict receiver_ops (length runs.old) v (piece pos bytes.now)) }
-    /// ensures unchanged { OnErr result ((self.new ≡ self.old) × (storage.new ≡ storage.old)
-    ///     × (runs.new ≡ runs.old)) }
-    /// ensures canonical { IsCanonical self.old.held → IsCanonical self.new.held }
-    /// ```
     #[inline(always)]
     pub fn segment(
         &mut self,
@@ -217,15 +127,6 @@ impl ReceiverHead {
     }
 
     /// Returns the first three held runs. The storage is for the contract only.
-    ///
-    /// # Contract
-    ///
-    /// In the words of [`contracts`](crate::contracts):
-    ///
-    /// ```text
-    /// requires { HasSoundParts self.now storage.now runs.now }
-    /// ensures { result ≡ first_three (maximal_runs (domain (receiver_of self.now storage.now runs.now).held)) }
-    /// ```
     #[inline(always)]
     fn first_runs(&self, storage: &[u8], runs: &[Run]) -> [Option<(u64, u64)>; 3] {
         let mut held = self.held(storage, runs);
@@ -235,36 +136,10 @@ impl ReceiverHead {
     /// Keeps the bytes of a segment that are in the free window, as `Receiver::keep` does. If it is
     /// refused, head, storage and runs stay as they were, with the runs that aren't in use.
     ///
-    /// # Requires, else it panics
+    /// # Requires
     ///
     /// Head, storage and runs are sound, as `is_sound` tests, and the segment ends within 64 bits,
     /// as `Receiver::fits` tests.
-    ///
-    /// # Contract
-    ///
-    /// In the words of [`contracts`](crate::contracts):
-    ///
-    /// ```text
-    /// requires sound { HasSoundParts self.old storage.old runs.old }
-    /// requires fits { pos + length bytes.now < 2 ^ 64 }
-    /// ensures sound { HasSoundParts self.new storage.new runs.new }
-    /// ensures state { let v = receiver_of self.old storage.old runs.old in
-    ///     receiver_of self.new storage.new runs.new ≡ state_after receiver_ops v
-    ///     (verdict receiver_ops (length runs.old) v (piece pos bytes.now)) }
-    /// ensures stored { let v = receiver_of self.old storage.old runs.old in
-    ///     storage.new ≡ storage_after self.old storage.old
-    ///     (verdict receiver_ops (length runs.old) v (piece pos bytes.now)) }
-    /// ensures numbers { let v = receiver_of self.old storage.old runs.old in
-    ///     result ≡ numbers receiver_ops v
-    ///     (verdict receiver_ops (length runs.old) v (piece pos bytes.now)) }
-    /// ensures unchanged { OnErr result ((self.new ≡ self.old) × (storage.new ≡ storage.old)
-    ///     × (runs.new ≡ runs.old)) }
-    /// ensures canonical { IsCanonical self.old.held → IsCanonical self.new.held }
-    /// ensures receives { (f : ℕ) (x : List ℕ) →
-    ///     ReceivesFrom f x (receiver_of self.old storage.old runs.old) →
-    ///     MatchesStream f x pos bytes.now →
-    ///     ReceivesFrom f x (receiver_of self.new storage.new runs.new) }
-    /// ```
     #[inline(always)]
     pub fn keep(
         &mut self,
@@ -292,37 +167,10 @@ impl ReceiverHead {
     /// Moves bytes from the head of the queue to the beginning of `into`, and returns how many: as
     /// many as are queued and as `into` has room for. The rest of `into` stays as it is.
     ///
-    /// # Requires, else it panics
+    /// # Requires
     ///
     /// The queue is in the storage, and the first missing position fits 64 bits, as they do where
     /// head, storage and runs are sound.
-    ///
-    /// # Contract
-    ///
-    /// In the words of [`contracts`](crate::contracts):
-    ///
-    /// ```text
-    /// requires place { IsSoundPlace (length storage.now) self.old.place }
-    /// requires fits { self.old.first + self.old.count_read + self.old.place.length < 2 ^ 64 }
-    /// ensures count { result ≡ min (length into.old) self.old.place.length }
-    /// ensures into { let queued = queue (ring_at storage.now self.old.place) in
-    ///     into.new ≡ take (length into.old) queued ++ drop (length queued) into.old }
-    /// ensures head { self.new ≡ head_after_read (length storage.now) result self.old }
-    /// ensures sound { (runs : List (ℕ × ℕ)) → HasSoundParts self.old storage.now runs →
-    ///     HasSoundParts self.new storage.now runs }
-    /// ensures state { (runs : List (ℕ × ℕ)) → HasSoundParts self.old storage.now runs →
-    ///     receiver_of self.new storage.now runs
-    ///     ≡ receiver_after_read (receiver_of self.old storage.now runs) (length into.old) }
-    /// ensures step { (runs : List (ℕ × ℕ)) → HasSoundParts self.old storage.now runs →
-    ///     StepRefines (length runs) (receiver_of self.old storage.now runs)
-    ///     (receiver_of self.new storage.now runs)
-    ///     (Read (length into.old)) (ReadReply (take result into.new)) }
-    /// ensures receives { (runs : List (ℕ × ℕ)) → HasSoundParts self.old storage.now runs →
-    ///     (f : ℕ) (x : List ℕ) → ReceivesFrom f x (receiver_of self.old storage.now runs) →
-    ///     ReceivesFrom f x (receiver_of self.new storage.now runs)
-    ///     × (take result into.new
-    ///     ≡ slice_range x self.old.count_read (self.old.count_read + result)) }
-    /// ```
     #[inline]
     pub fn read(&mut self, storage: &[u8], into: &mut [u8]) -> usize {
         let count = self.place.dequeue_slice(storage, into);
@@ -334,20 +182,9 @@ impl ReceiverHead {
     /// many as are queued and as `into` has room for. The rest of `into` stays as it is, and the
     /// queue too.
     ///
-    /// # Requires, else it panics
+    /// # Requires
     ///
     /// The queue is in the storage.
-    ///
-    /// # Contract
-    ///
-    /// In the words of [`contracts`](crate::contracts):
-    ///
-    /// ```text
-    /// requires { IsSoundPlace (length storage.now) self.now.place }
-    /// ensures count { result ≡ min (length into.old) self.now.place.length }
-    /// ensures into { let queued = queue (ring_at storage.now self.now.place) in
-    ///     into.new ≡ take (length into.old) queued ++ drop (length queued) into.old }
-    /// ```
     #[inline]
     pub fn peek_slice(&self, storage: &[u8], into: &mut [u8]) -> usize {
         self.place.read_allocated(storage, 0, into)
@@ -356,22 +193,9 @@ impl ReceiverHead {
     /// Shows bytes of the queue that are contiguous, from its byte `offset` on: `size`, or as many
     /// as there are up to the end of the queue or of the storage.
     ///
-    /// # Requires, else it panics
+    /// # Requires
     ///
     /// The queue is in the storage.
-    ///
-    /// # Contract
-    ///
-    /// In the words of [`contracts`](crate::contracts):
-    ///
-    /// ```text
-    /// requires { IsSoundPlace (length storage.now) self.now.place }
-    /// ensures count { let g = ring_at storage.now self.now.place in
-    ///     length result.now ≡ contiguous_allocated g offset size }
-    /// ensures not_empty { offset < self.now.place.length → 0 < size → 0 < length result.now }
-    /// ensures value { let g = ring_at storage.now self.now.place in
-    ///     result.now ≡ take (length result.now) (drop offset (queue g)) }
-    /// ```
     #[inline]
     pub fn peek<'a>(&self, storage: &'a [u8], offset: usize, size: usize) -> &'a [u8] {
         let span = self.place.allocated(storage.len(), offset, size);
@@ -381,21 +205,9 @@ impl ReceiverHead {
     /// Shows at most `size` bytes of the queue, from its byte `offset` on, in two parts: those up to the
     /// storage's end, and those from its beginning on. The second part is empty unless the bytes wrap.
     ///
-    /// # Requires, else it panics
+    /// # Requires
     ///
     /// The queue is in the storage.
-    ///
-    /// # Contract
-    ///
-    /// In the words of [`contracts`](crate::contracts):
-    ///
-    /// ```text
-    /// requires { IsSoundPlace (length storage.now) self.now.place }
-    /// ensures bytes { result.0.now ++ result.1.now
-    ///     ≡ take size (drop offset (queue (ring_at storage.now self.now.place))) }
-    /// ensures cut { length result.0.now
-    ///     ≡ contiguous_allocated (ring_at storage.now self.now.place) offset size }
-    /// ```
     #[inline]
     pub fn peek_slices<'a>(
         &self,
@@ -413,19 +225,9 @@ impl ReceiverHead {
     /// Shows the queue, in order, in two parts: the bytes up to the storage's end, and those from
     /// its beginning on. The second part is empty unless the queue wraps.
     ///
-    /// # Requires, else it panics
+    /// # Requires
     ///
     /// The queue is in the storage.
-    ///
-    /// # Contract
-    ///
-    /// In the words of [`contracts`](crate::contracts):
-    ///
-    /// ```text
-    /// requires { IsSoundPlace (length storage.now) self.now.place }
-    /// ensures queue { result.0.now ++ result.1.now ≡ queue (ring_at storage.now self.now.place) }
-    /// ensures cut { length result.0.now ≡ contiguous_queued (ring_at storage.now self.now.place) }
-    /// ```
     #[inline]
     pub fn as_slices<'a>(&self, storage: &'a [u8]) -> (&'a [u8], &'a [u8]) {
         let span = self.place.allocated(storage.len(), 0, self.place.length);
@@ -438,37 +240,10 @@ impl ReceiverHead {
     /// Removes the first `count` bytes of the queue, as `read` does, and copies none. `capacity` is
     /// how many bytes the storage has.
     ///
-    /// # Requires, else it panics
+    /// # Requires
     ///
     /// The queue is in the storage, it has `count` bytes, and the first missing position fits 64
     /// bits.
-    ///
-    /// # Contract
-    ///
-    /// In the words of [`contracts`](crate::contracts):
-    ///
-    /// ```text
-    /// requires place { IsSoundPlace capacity self.old.place }
-    /// requires queued { count ≤ self.old.place.length }
-    /// requires fits { self.old.first + self.old.count_read + self.old.place.length < 2 ^ 64 }
-    /// ensures head { self.new ≡ head_after_read capacity count self.old }
-    /// ensures sound { (storage : List ℕ) (runs : List (ℕ × ℕ)) → length storage ≡ capacity →
-    ///     HasSoundParts self.old storage runs → HasSoundParts self.new storage runs }
-    /// ensures state { (storage : List ℕ) (runs : List (ℕ × ℕ)) → length storage ≡ capacity →
-    ///     HasSoundParts self.old storage runs → receiver_of self.new storage runs
-    ///     ≡ receiver_after_read (receiver_of self.old storage runs) count }
-    /// ensures step { (storage : List ℕ) (runs : List (ℕ × ℕ)) → length storage ≡ capacity →
-    ///     HasSoundParts self.old storage runs →
-    ///     StepRefines (length runs) (receiver_of self.old storage runs)
-    ///     (receiver_of self.new storage runs)
-    ///     (Read count) (ReadReply (take count (queue (ring_at storage self.old.place)))) }
-    /// ensures receives { (storage : List ℕ) (runs : List (ℕ × ℕ)) → length storage ≡ capacity →
-    ///     HasSoundParts self.old storage runs → (f : ℕ) (x : List ℕ) →
-    ///     ReceivesFrom f x (receiver_of self.old storage runs) →
-    ///     ReceivesFrom f x (receiver_of self.new storage runs)
-    ///     × (take count (queue (ring_at storage self.old.place))
-    ///     ≡ slice_range x self.old.count_read (self.old.count_read + count)) }
-    /// ```
     #[inline]
     pub fn remove(&mut self, capacity: usize, count: usize) {
         self.place.dequeue(capacity, count);
@@ -478,32 +253,15 @@ impl ReceiverHead {
     /// Returns the first missing position: the first position, plus the count of bytes read, plus
     /// those queued.
     ///
-    /// # Requires, else it panics
+    /// # Requires
     ///
     /// The sum fits 64 bits, as it does where head, storage and runs are sound.
-    ///
-    /// # Contract
-    ///
-    /// In the words of [`contracts`](crate::contracts):
-    ///
-    /// ```text
-    /// requires { self.now.first + self.now.count_read + self.now.place.length < 2 ^ 64 }
-    /// ensures { result ≡ self.now.first + self.now.count_read + self.now.place.length }
-    /// ```
     #[inline(always)]
     pub fn next(&self) -> u64 {
         self.first + self.count_read + self.place.length as u64
     }
 
     /// Returns how many bytes are queued.
-    ///
-    /// # Contract
-    ///
-    /// In the words of [`contracts`](crate::contracts):
-    ///
-    /// ```text
-    /// ensures { result ≡ self.now.place.length }
-    /// ```
     #[inline(always)]
     pub fn queued(&self) -> usize {
         self.place.length
@@ -512,18 +270,9 @@ impl ReceiverHead {
     /// Returns the window, where the storage has `capacity` bytes: how many bytes have room after
     /// the queue, held ones among them.
     ///
-    /// # Requires, else it panics
+    /// # Requires
     ///
     /// No more is queued than the capacity, as is so where head, storage and runs are sound.
-    ///
-    /// # Contract
-    ///
-    /// In the words of [`contracts`](crate::contracts):
-    ///
-    /// ```text
-    /// requires { self.now.place.length ≤ capacity }
-    /// ensures { result ≡ capacity - self.now.place.length }
-    /// ```
     #[inline(always)]
     pub fn window(&self, capacity: usize) -> usize {
         capacity - self.place.length
@@ -531,16 +280,6 @@ impl ReceiverHead {
 
     /// Returns the end of the free window, where the storage has `capacity` bytes: the first
     /// position for which there is no room. `None` if it doesn't fit 64 bits.
-    ///
-    /// # Contract
-    ///
-    /// In the words of [`contracts`](crate::contracts):
-    ///
-    /// ```text
-    /// ensures some { self.now.first + self.now.count_read + capacity < 2 ^ 64 →
-    ///     result ≡ Some (self.now.first + self.now.count_read + capacity) }
-    /// ensures none { 2 ^ 64 ≤ self.now.first + self.now.count_read + capacity → result ≡ None }
-    /// ```
     #[inline(always)]
     pub fn window_end(&self, capacity: usize) -> Option<u64> {
         let read = self.first.checked_add(self.count_read)?;
@@ -550,23 +289,9 @@ impl ReceiverHead {
     /// Returns the held runs, as `Receiver::held` does: at most as many as `runs` has elements. The
     /// storage is for the contract only.
     ///
-    /// # Requires, else it panics
+    /// # Requires
     ///
     /// Head, storage and runs are sound, as `is_sound` tests.
-    ///
-    /// # Contract
-    ///
-    /// In the words of [`contracts`](crate::contracts):
-    ///
-    /// ```text
-    /// requires { HasSoundParts self.now storage.now runs.now }
-    /// ensures runs { result ≡ maximal_runs (domain (receiver_of self.now storage.now runs.now).held) }
-    /// ensures bound { length result ≤ length runs.now }
-    /// ensures above { let v = receiver_of self.now storage.now runs.now in
-    ///     All (λ run. (next_position v < run.0) × (run.0 < run.1)) result }
-    /// ensures within { let v = receiver_of self.now storage.now runs.now in
-    ///     All (λ run. run.1 ≤ limit_of v) result }
-    /// ```
     #[inline(always)]
     pub fn held<'a>(&self, storage: &[u8], runs: &'a [Run]) -> HeldRunIter<'a> {
         // Taken only for the precondition.
@@ -575,16 +300,6 @@ impl ReceiverHead {
     }
 
     /// Returns how many runs are held, without a look at them.
-    ///
-    /// # Contract
-    ///
-    /// In the words of [`contracts`](crate::contracts):
-    ///
-    /// ```text
-    /// ensures value { result ≡ self.now.held.used }
-    /// ensures state { (storage : List ℕ) (runs : List (ℕ × ℕ)) → HasSoundParts self.now storage runs →
-    ///     result ≡ run_count (domain (receiver_of self.now storage runs).held) }
-    /// ```
     #[inline(always)]
     pub fn held_count(&self) -> usize {
         self.held.used
@@ -594,23 +309,9 @@ impl ReceiverHead {
     /// returns how many: as many as are held, or as `into` has elements. The rest of `into` stays as it
     /// is. The storage is for the contract only.
     ///
-    /// # Requires, else it panics
+    /// # Requires
     ///
     /// Head, storage and runs are sound, as `is_sound` tests.
-    ///
-    /// # Contract
-    ///
-    /// In the words of [`contracts`](crate::contracts):
-    ///
-    /// ```text
-    /// requires { HasSoundParts self.now storage.now runs.now }
-    /// ensures listed { take result into.new ≡ newest_runs (length into.old)
-    ///     (domain (receiver_of self.now storage.now runs.now).held) (position ∷ recent.old) }
-    /// ensures count { result ≤ length into.old }
-    /// ensures rest { drop result into.new ≡ drop result into.old }
-    /// ensures recent { recent.new
-    ///     ≡ with_starts recent.old (take result into.new) }
-    /// ```
     pub fn newest_runs(
         &self,
         storage: &[u8],
@@ -625,18 +326,6 @@ impl ReceiverHead {
     }
 
     /// Lists the runs as `newest_runs` does, and leaves `recent` as it is.
-    ///
-    /// # Contract
-    ///
-    /// In the words of [`contracts`](crate::contracts):
-    ///
-    /// ```text
-    /// requires { HasSoundParts self.now storage.now runs.now }
-    /// ensures listed { take result into.new ≡ newest_runs (length into.old)
-    ///     (domain (receiver_of self.now storage.now runs.now).held) (position ∷ recent.now) }
-    /// ensures count { result ≤ length into.old }
-    /// ensures rest { drop result into.new ≡ drop result into.old }
-    /// ```
     fn list_runs(
         &self,
         storage: &[u8],
@@ -657,20 +346,6 @@ impl ReceiverHead {
 
     /// Lists the run that has a position after the first `count`, unless one of them has it, and
     /// returns how many are listed then.
-    ///
-    /// # Contract
-    ///
-    /// In the words of [`contracts`](crate::contracts):
-    ///
-    /// ```text
-    /// requires sound { HasSoundParts self.now storage.now runs.now }
-    /// requires count { count ≤ length into.old }
-    /// ensures listed { take result into.new ≡ with_run (length into.old)
-    ///     (domain (receiver_of self.now storage.now runs.now).held)
-    ///     (take count into.old) position }
-    /// ensures count { result ≤ length into.old }
-    /// ensures rest { drop result into.new ≡ drop result into.old }
-    /// ```
     fn list_run(
         &self,
         storage: &[u8],
@@ -693,15 +368,6 @@ impl ReceiverHead {
 
     /// Returns the held run that has a position, as (start, end), the end not included; `None` if
     /// the position isn't held. The storage is for the contract only.
-    ///
-    /// # Contract
-    ///
-    /// In the words of [`contracts`](crate::contracts):
-    ///
-    /// ```text
-    /// requires { HasSoundParts self.now storage.now runs.now }
-    /// ensures { result ≡ run_at (domain (receiver_of self.now storage.now runs.now).held) position }
-    /// ```
     fn run_at(&self, storage: &[u8], runs: &[Run], position: u64) -> Option<(u64, u64)> {
         for (start, end) in self.held(storage, runs) {
             if start <= position && position < end {
@@ -714,20 +380,10 @@ impl ReceiverHead {
     /// Returns how many bytes of a segment of `len` bytes at `position` would be new, as
     /// `Receiver::count_new` does.
     ///
-    /// # Requires, else it panics
+    /// # Requires
     ///
     /// Head, storage and runs are sound, as `is_sound` tests, and the segment ends within 64 bits,
     /// as `Receiver::fits` tests.
-    ///
-    /// # Contract
-    ///
-    /// In the words of [`contracts`](crate::contracts):
-    ///
-    /// ```text
-    /// requires sound { HasSoundParts self.now storage.now runs.now }
-    /// requires fits { position + len < 2 ^ 64 }
-    /// ensures { result ≡ new_count (receiver_of self.now storage.now runs.now) position len }
-    /// ```
     pub fn count_new(&self, storage: &[u8], runs: &[Run], position: u64, len: usize) -> usize {
         let next = self.next();
         let limit = next.saturating_add(self.window(storage.len()) as u64);
@@ -744,18 +400,9 @@ impl ReceiverHead {
     /// Returns whether all bytes that are queued or held are below a position. The storage is for
     /// the contract only.
     ///
-    /// # Requires, else it panics
+    /// # Requires
     ///
     /// Head, storage and runs are sound, as `is_sound` tests.
-    ///
-    /// # Contract
-    ///
-    /// In the words of [`contracts`](crate::contracts):
-    ///
-    /// ```text
-    /// requires { HasSoundParts self.now storage.now runs.now }
-    /// ensures { IsTrue result ↔ (top_of (receiver_of self.now storage.now runs.now) ≤ pos) }
-    /// ```
     pub fn has_all_below(&self, storage: &[u8], runs: &[Run], pos: u64) -> bool {
         // Taken only for the precondition.
         let _storage = storage;
@@ -765,20 +412,9 @@ impl ReceiverHead {
 
     /// Compares two receivers, as `Receiver::same_state` does.
     ///
-    /// # Requires, else it panics
+    /// # Requires
     ///
     /// Both heads are sound with their storages and runs, as `is_sound` tests.
-    ///
-    /// # Contract
-    ///
-    /// In the words of [`contracts`](crate::contracts):
-    ///
-    /// ```text
-    /// requires sound { HasSoundParts self.now storage.now runs.now }
-    /// requires other_sound { HasSoundParts other.now other_storage.now other_runs.now }
-    /// ensures { IsTrue result ↔ IsSameState (receiver_of self.now storage.now runs.now)
-    ///     (receiver_of other.now other_storage.now other_runs.now) }
-    /// ```
     pub fn is_same_state(
         &self,
         storage: &[u8],
@@ -794,17 +430,6 @@ impl ReceiverHead {
     }
 
     /// Returns whether two receivers have equal queues, compared slice by slice.
-    ///
-    /// # Contract
-    ///
-    /// In the words of [`contracts`](crate::contracts):
-    ///
-    /// ```text
-    /// requires place { IsSoundPlace (length storage.now) self.now.place }
-    /// requires other_place { IsSoundPlace (length other_storage.now) other.now.place }
-    /// ensures { IsTrue result ↔ (queue (ring_at storage.now self.now.place)
-    ///     ≡ queue (ring_at other_storage.now other.now.place)) }
-    /// ```
     fn is_same_queue(&self, storage: &[u8], other: &ReceiverHead, other_storage: &[u8]) -> bool {
         let length = self.place.length;
         if length != other.place.length {

@@ -44,11 +44,11 @@ impl<const N: usize> Scoreboard<N> {
     /// let scoreboard = Scoreboard::<0>::empty();
     /// ```
     ///
-    /// # Requires, else it panics
+    /// # Requires, else it doesn't compile
     ///
     /// `N` is at least 1.
     ///
-    /// # Contract
+    /// <details><summary>Contract</summary>
     ///
     /// In the words of [`contracts`](crate::contracts):
     ///
@@ -56,6 +56,8 @@ impl<const N: usize> Scoreboard<N> {
     /// requires { 1 ≤ N }
     /// ensures { result ≡ nothing }
     /// ```
+    ///
+    /// </details>
     pub const fn empty() -> Self {
         const { assert!(N >= 1, "N is at least 1") };
         Scoreboard {
@@ -67,11 +69,11 @@ impl<const N: usize> Scoreboard<N> {
     /// Returns a scoreboard of a stream that begins at position `first`, to which nothing was reported.
     /// All positions below `first` count as reported.
     ///
-    /// # Requires, else it panics
+    /// # Requires, else it doesn't compile
     ///
     /// `N` is at least 1.
     ///
-    /// # Contract
+    /// <details><summary>Contract</summary>
     ///
     /// In the words of [`contracts`](crate::contracts):
     ///
@@ -79,6 +81,8 @@ impl<const N: usize> Scoreboard<N> {
     /// requires { 1 ≤ N }
     /// ensures { result ≡ with_range nothing 0 first }
     /// ```
+    ///
+    /// </details>
     pub const fn empty_at(first: u64) -> Self {
         const { assert!(N >= 1, "N is at least 1") };
         Scoreboard {
@@ -89,11 +93,11 @@ impl<const N: usize> Scoreboard<N> {
 
     /// Returns the scoreboard that a head and runs represent.
     ///
-    /// # Requires, else it panics
+    /// # Panics
     ///
-    /// They are sound, as `ScoreboardHead::is_sound` tests.
+    /// Unless they are sound, as `ScoreboardHead::is_sound` tests.
     ///
-    /// # Contract
+    /// <details><summary>Contract</summary>
     ///
     /// In the words of [`contracts`](crate::contracts):
     ///
@@ -101,6 +105,8 @@ impl<const N: usize> Scoreboard<N> {
     /// requires { IsSoundBoard head runs }
     /// ensures { result ≡ reported_by head runs.entry }
     /// ```
+    ///
+    /// </details>
     #[track_caller]
     pub(crate) fn from_parts(head: ScoreboardHead, runs: [Run; N]) -> Self {
         assert!(head.is_sound(&runs), "the head is not that of these runs");
@@ -109,7 +115,7 @@ impl<const N: usize> Scoreboard<N> {
 
     /// Returns the head and the runs, which represent the scoreboard.
     ///
-    /// # Contract
+    /// <details><summary>Contract</summary>
     ///
     /// In the words of [`contracts`](crate::contracts):
     ///
@@ -118,6 +124,8 @@ impl<const N: usize> Scoreboard<N> {
     /// ensures set { reported_by result.0 result.1 ≡ self.entry }
     /// ensures length { length result.1 ≡ N }
     /// ```
+    ///
+    /// </details>
     pub(crate) fn into_parts(self) -> (ScoreboardHead, [Run; N]) {
         let Scoreboard { head, runs } = self;
         (head, runs)
@@ -126,13 +134,15 @@ impl<const N: usize> Scoreboard<N> {
     /// Begins again: a stream that begins at position `first`, to which nothing was reported. All
     /// positions below `first` count as reported.
     ///
-    /// # Contract
+    /// <details><summary>Contract</summary>
     ///
     /// In the words of [`contracts`](crate::contracts):
     ///
     /// ```text
     /// ensures { self.new ≡ with_range nothing 0 first }
     /// ```
+    ///
+    /// </details>
     pub fn reset_at(&mut self, first: u64) {
         self.head.reset_at(first);
     }
@@ -148,13 +158,15 @@ impl<const N: usize> Scoreboard<N> {
     /// assert!(!scoreboard.contains(5));
     /// ```
     ///
-    /// # Contract
+    /// <details><summary>Contract</summary>
     ///
     /// In the words of [`contracts`](crate::contracts):
     ///
     /// ```text
     /// ensures { self.new ≡ nothing }
     /// ```
+    ///
+    /// </details>
     pub fn clear(&mut self) {
         self.head.reset_at(0);
     }
@@ -179,7 +191,7 @@ impl<const N: usize> Scoreboard<N> {
     /// assert!(scoreboard.contains(11) && !scoreboard.contains(14));
     /// ```
     ///
-    /// # Contract
+    /// <details><summary>Contract</summary>
     ///
     /// In the words of [`contracts`](crate::contracts):
     ///
@@ -190,6 +202,8 @@ impl<const N: usize> Scoreboard<N> {
     /// ensures refused { IsErr result ↔ ((start < end) × (end ≤ sent)
     ///     × HasNoRoom N self.old start (end - start)) }
     /// ```
+    ///
+    /// </details>
     pub fn report(&mut self, start: u64, end: u64, sent: u64) -> Result<bool, TooManyHolesError> {
         if !ScoreboardHead::is_block(start, end, sent) {
             return Ok(false);
@@ -208,26 +222,30 @@ impl<const N: usize> Scoreboard<N> {
     /// assert_eq!(scoreboard.next_hole(0, 20), Some((9, 20)));
     /// ```
     ///
-    /// # Contract
+    /// <details><summary>Contract</summary>
     ///
     /// In the words of [`contracts`](crate::contracts):
     ///
     /// ```text
     /// ensures { self.new ≡ with_range self.old 0 next }
     /// ```
+    ///
+    /// </details>
     pub fn acknowledge(&mut self, next: u64) {
         self.head.acknowledge(&mut self.runs, next);
     }
 
     /// Returns the first position that wasn't reported.
     ///
-    /// # Contract
+    /// <details><summary>Contract</summary>
     ///
     /// In the words of [`contracts`](crate::contracts):
     ///
     /// ```text
     /// ensures { result ≡ front self.now }
     /// ```
+    ///
+    /// </details>
     pub fn first_unreported(&self) -> u64 {
         self.head.first_unreported(&self.runs)
     }
@@ -241,13 +259,15 @@ impl<const N: usize> Scoreboard<N> {
     /// assert!(scoreboard.contains(8) && !scoreboard.contains(9));
     /// ```
     ///
-    /// # Contract
+    /// <details><summary>Contract</summary>
     ///
     /// In the words of [`contracts`](crate::contracts):
     ///
     /// ```text
     /// ensures { result ≡ contains self.now pos }
     /// ```
+    ///
+    /// </details>
     pub fn contains(&self, pos: u64) -> bool {
         self.head.contains(&self.runs, pos)
     }
@@ -255,7 +275,7 @@ impl<const N: usize> Scoreboard<N> {
     /// Returns the runs beyond the first position that wasn't reported, as absolute (start, end), the end
     /// not included, in rising order, at most `N`.
     ///
-    /// # Contract
+    /// <details><summary>Contract</summary>
     ///
     /// In the words of [`contracts`](crate::contracts):
     ///
@@ -263,45 +283,53 @@ impl<const N: usize> Scoreboard<N> {
     /// ensures runs { result ≡ maximal_runs (beyond self.now) }
     /// ensures bound { length result ≤ N }
     /// ```
+    ///
+    /// </details>
     pub fn reported(&self) -> HeldRuns<'_, N> {
         self.head.reported(&self.runs)
     }
 
     /// Returns the position after the last one that was reported; 0 if none was.
     ///
-    /// # Contract
+    /// <details><summary>Contract</summary>
     ///
     /// In the words of [`contracts`](crate::contracts):
     ///
     /// ```text
     /// ensures { IsEnd self.now result }
     /// ```
+    ///
+    /// </details>
     pub fn highest_reported(&self) -> u64 {
         self.head.highest_reported(&self.runs)
     }
 
     /// Returns how many positions were reported beyond the first one that wasn't.
     ///
-    /// # Contract
+    /// <details><summary>Contract</summary>
     ///
     /// In the words of [`contracts`](crate::contracts):
     ///
     /// ```text
     /// ensures { result ≡ length (positions (beyond self.now)) }
     /// ```
+    ///
+    /// </details>
     pub fn count_beyond(&self) -> usize {
         self.head.count_beyond(&self.runs)
     }
 
     /// Returns the first position from `pos` on that wasn't reported.
     ///
-    /// # Contract
+    /// <details><summary>Contract</summary>
     ///
     /// In the words of [`contracts`](crate::contracts):
     ///
     /// ```text
     /// ensures { result ≡ first_missing self.now pos }
     /// ```
+    ///
+    /// </details>
     pub fn first_missing(&self, pos: u64) -> u64 {
         self.head.first_missing(&self.runs, pos)
     }
@@ -318,13 +346,15 @@ impl<const N: usize> Scoreboard<N> {
     /// assert_eq!(scoreboard.next_hole(12, 20), None);
     /// ```
     ///
-    /// # Contract
+    /// <details><summary>Contract</summary>
     ///
     /// In the words of [`contracts`](crate::contracts):
     ///
     /// ```text
     /// ensures { IsHole self.now pos limit result }
     /// ```
+    ///
+    /// </details>
     pub fn next_hole(&self, pos: u64, limit: u64) -> Option<(u64, u64)> {
         let (start, end) = self.head.next_hole(&self.runs, pos, limit);
         if start < end {
@@ -340,13 +370,15 @@ impl<const N: usize> Scoreboard<N> {
     /// above a position if it begins above it; of a position that wasn't reported that is the RFC's rule
     /// exactly, by law `losses` of `net_receiver`.
     ///
-    /// # Contract
+    /// <details><summary>Contract</summary>
     ///
     /// In the words of [`contracts`](crate::contracts):
     ///
     /// ```text
     /// ensures { IsLossBound duplicates segment_size self.now result }
     /// ```
+    ///
+    /// </details>
     pub fn lost_below(&self, duplicates: usize, segment_size: usize) -> u64 {
         self.head.lost_below(&self.runs, duplicates, segment_size)
     }
@@ -366,7 +398,7 @@ impl<const N: usize> Scoreboard<N> {
     /// assert_eq!(scoreboard.next_lost(100, 3, 100), None);
     /// ```
     ///
-    /// # Contract
+    /// <details><summary>Contract</summary>
     ///
     /// In the words of [`contracts`](crate::contracts):
     ///
@@ -374,6 +406,8 @@ impl<const N: usize> Scoreboard<N> {
     /// ensures { (limit : ℕ) → IsLossBound duplicates segment_size self.now limit →
     ///     IsHole self.now pos limit result }
     /// ```
+    ///
+    /// </details>
     pub fn next_lost(&self, pos: u64, duplicates: usize, segment_size: usize) -> Option<(u64, u64)> {
         self.next_hole(pos, self.lost_below(duplicates, segment_size))
     }

@@ -26,20 +26,6 @@ pub struct ScoreboardHead {
 impl ScoreboardHead {
     /// Returns a scoreboard of a stream that begins at position `first`, to which nothing was reported,
     /// whatever its runs. All positions below `first` count as reported.
-    ///
-    /// # Contract
-    ///
-    /// In the words of [`contracts`](crate::contracts):
-    ///
-    /// ```text
-    /// ensures base { result.base ≡ first }
-    /// ensures no_run { result.reported.used ≡ 0 }
-    /// ensures no_start { result.reported.first_start ≡ 0 }
-    /// ensures sound { (runs : List (ℕ × ℕ)) → IsSoundBoard result runs }
-    /// ensures empty { (runs : List (ℕ × ℕ)) →
-    ///     reported_by result runs ≡ with_range nothing 0 first }
-    /// ensures numbers { result ≡ scoreboard_head first }
-    /// ```
     pub const fn new_at(first: u64) -> Self {
         ScoreboardHead {
             base: first,
@@ -48,51 +34,17 @@ impl ScoreboardHead {
     }
 
     /// Returns a scoreboard to which nothing was reported, whatever its runs: `new_at` with 0.
-    ///
-    /// # Contract
-    ///
-    /// In the words of [`contracts`](crate::contracts):
-    ///
-    /// ```text
-    /// ensures base { result.base ≡ 0 }
-    /// ensures no_run { result.reported.used ≡ 0 }
-    /// ensures no_start { result.reported.first_start ≡ 0 }
-    /// ensures sound { (runs : List (ℕ × ℕ)) → IsSoundBoard result runs }
-    /// ensures empty { (runs : List (ℕ × ℕ)) → reported_by result runs ≡ nothing }
-    /// ensures numbers { result ≡ scoreboard_head 0 }
-    /// ```
     pub const fn new() -> Self {
         ScoreboardHead::new_at(0)
     }
 
     /// Begins again: a scoreboard of a stream that begins at position `first`, as `new_at` returns it.
-    ///
-    /// # Contract
-    ///
-    /// In the words of [`contracts`](crate::contracts):
-    ///
-    /// ```text
-    /// ensures base { self.new.base ≡ first }
-    /// ensures no_run { self.new.reported.used ≡ 0 }
-    /// ensures no_start { self.new.reported.first_start ≡ 0 }
-    /// ensures sound { (runs : List (ℕ × ℕ)) → IsSoundBoard self.new runs }
-    /// ensures empty { (runs : List (ℕ × ℕ)) →
-    ///     reported_by self.new runs ≡ with_range nothing 0 first }
-    /// ```
     pub fn reset_at(&mut self, first: u64) {
         *self = ScoreboardHead::new_at(first);
     }
 
     /// Returns whether the scoreboard is sound with these runs, for any numbers in both. It looks at
     /// each used run.
-    ///
-    /// # Contract
-    ///
-    /// In the words of [`contracts`](crate::contracts):
-    ///
-    /// ```text
-    /// ensures { IsTrue result ↔ IsSoundBoard self.now runs.now }
-    /// ```
     pub fn is_sound(&self, runs: &[Run]) -> bool {
         if !self.reported.is_sound(runs) {
             return false;
@@ -105,14 +57,6 @@ impl ScoreboardHead {
 
     /// Returns whether a SACK block can be right: it has a position, and none from `sent` on, which
     /// is the position after the last byte that was ever sent.
-    ///
-    /// # Contract
-    ///
-    /// In the words of [`contracts`](crate::contracts):
-    ///
-    /// ```text
-    /// ensures { IsTrue result ↔ ((start < end) × (end ≤ sent)) }
-    /// ```
     pub fn is_block(start: u64, end: u64, sent: u64) -> bool {
         start < end && end <= sent
     }
@@ -124,25 +68,9 @@ impl ScoreboardHead {
     /// would be more runs than the slice has elements. Then the block isn't known, and its bytes are sent
     /// again. On a processor of 32 bits it is refused too if `end` is 2^32 or more above the base.
     ///
-    /// # Requires, else it panics
+    /// # Requires
     ///
     /// The scoreboard is sound with the runs, and `start` is at most `end`, as `is_block` tests.
-    ///
-    /// # Contract
-    ///
-    /// In the words of [`contracts`](crate::contracts):
-    ///
-    /// ```text
-    /// requires sound { IsSoundBoard self.old runs.old }
-    /// requires block { start ≤ end }
-    /// ensures sound { IsSoundBoard self.new runs.new }
-    /// ensures ok { OnOk result
-    ///     (reported_by self.new runs.new ≡ with_range (reported_by self.old runs.old) start (end - start)) }
-    /// ensures unchanged { OnErr result ((self.new ≡ self.old) × (runs.new ≡ runs.old)) }
-    /// ensures refused { IsErr result
-    ///     ↔ HasNoRoom (length runs.old) (reported_by self.old runs.old) start (end - start) }
-    /// ensures canonical { IsCanonical self.old.reported → IsCanonical self.new.reported }
-    /// ```
     pub fn report(
         &mut self,
         runs: &mut [Run],
@@ -164,20 +92,9 @@ impl ScoreboardHead {
 
     /// Reports all positions below `next`. It is never refused, whatever the number of runs.
     ///
-    /// # Requires, else it panics
+    /// # Requires
     ///
     /// The scoreboard is sound with the runs.
-    ///
-    /// # Contract
-    ///
-    /// In the words of [`contracts`](crate::contracts):
-    ///
-    /// ```text
-    /// requires sound { IsSoundBoard self.old runs.old }
-    /// ensures sound { IsSoundBoard self.new runs.new }
-    /// ensures set { reported_by self.new runs.new ≡ with_range (reported_by self.old runs.old) 0 next }
-    /// ensures canonical { IsCanonical self.old.reported → IsCanonical self.new.reported }
-    /// ```
     pub fn acknowledge(&mut self, runs: &mut [Run], next: u64) {
         if next <= self.base {
             return;
@@ -191,36 +108,18 @@ impl ScoreboardHead {
 
     /// Returns the first position that wasn't reported.
     ///
-    /// # Requires, else it panics
+    /// # Requires
     ///
     /// The scoreboard is sound with the runs.
-    ///
-    /// # Contract
-    ///
-    /// In the words of [`contracts`](crate::contracts):
-    ///
-    /// ```text
-    /// requires { IsSoundBoard self.now _runs.now }
-    /// ensures { result ≡ front (reported_by self.now _runs.now) }
-    /// ```
     pub fn first_unreported(&self, _runs: &[Run]) -> u64 {
         self.base
     }
 
     /// Returns whether a position was reported.
     ///
-    /// # Requires, else it panics
+    /// # Requires
     ///
     /// The scoreboard is sound with the runs.
-    ///
-    /// # Contract
-    ///
-    /// In the words of [`contracts`](crate::contracts):
-    ///
-    /// ```text
-    /// requires { IsSoundBoard self.now runs.now }
-    /// ensures { result ≡ contains (reported_by self.now runs.now) pos }
-    /// ```
     pub fn contains(&self, runs: &[Run], pos: u64) -> bool {
         if pos < self.base {
             return true;
@@ -235,55 +134,27 @@ impl ScoreboardHead {
     /// Returns the runs beyond the first position that wasn't reported, as absolute (start, end), the end
     /// not included, in rising order.
     ///
-    /// # Requires, else it panics
+    /// # Requires
     ///
     /// The scoreboard is sound with the runs.
-    ///
-    /// # Contract
-    ///
-    /// In the words of [`contracts`](crate::contracts):
-    ///
-    /// ```text
-    /// requires { IsSoundBoard self.now runs.now }
-    /// ensures runs { result ≡ maximal_runs (beyond (reported_by self.now runs.now)) }
-    /// ensures bound { length result ≤ length runs.now }
-    /// ```
     pub fn reported<'a>(&self, runs: &'a [Run]) -> HeldRunIter<'a> {
         HeldRunIter::over(self.reported.iter_data(runs), self.base)
     }
 
     /// Returns the position after the last one that was reported; 0 if none was.
     ///
-    /// # Requires, else it panics
+    /// # Requires
     ///
     /// The scoreboard is sound with the runs.
-    ///
-    /// # Contract
-    ///
-    /// In the words of [`contracts`](crate::contracts):
-    ///
-    /// ```text
-    /// requires { IsSoundBoard self.now runs.now }
-    /// ensures { IsEnd (reported_by self.now runs.now) result }
-    /// ```
     pub fn highest_reported(&self, runs: &[Run]) -> u64 {
         self.base + highest_offset(&self.reported, runs) as u64
     }
 
     /// Returns how many positions were reported beyond the first one that wasn't.
     ///
-    /// # Requires, else it panics
+    /// # Requires
     ///
     /// The scoreboard is sound with the runs.
-    ///
-    /// # Contract
-    ///
-    /// In the words of [`contracts`](crate::contracts):
-    ///
-    /// ```text
-    /// requires { IsSoundBoard self.now runs.now }
-    /// ensures { result ≡ length (positions (beyond (reported_by self.now runs.now))) }
-    /// ```
     pub fn count_beyond(&self, runs: &[Run]) -> usize {
         let mut count = 0;
         for (start, end) in self.reported.iter_data(runs) {
@@ -294,18 +165,9 @@ impl ScoreboardHead {
 
     /// Returns the first position from `pos` on that wasn't reported.
     ///
-    /// # Requires, else it panics
+    /// # Requires
     ///
     /// The scoreboard is sound with the runs.
-    ///
-    /// # Contract
-    ///
-    /// In the words of [`contracts`](crate::contracts):
-    ///
-    /// ```text
-    /// requires { IsSoundBoard self.now runs.now }
-    /// ensures { result ≡ first_missing (reported_by self.now runs.now) pos }
-    /// ```
     pub fn first_missing(&self, runs: &[Run], pos: u64) -> u64 {
         let from = pos.max(self.base);
         for (start, end) in self.reported(runs) {
@@ -322,18 +184,9 @@ impl ScoreboardHead {
     /// above a position if it begins above it; of a position that wasn't reported that is the RFC's rule
     /// exactly, by law `losses` of `net_receiver`.
     ///
-    /// # Requires, else it panics
+    /// # Requires
     ///
     /// The scoreboard is sound with the runs.
-    ///
-    /// # Contract
-    ///
-    /// In the words of [`contracts`](crate::contracts):
-    ///
-    /// ```text
-    /// requires { IsSoundBoard self.now runs.now }
-    /// ensures { IsLossBound duplicates segment_size (reported_by self.now runs.now) result }
-    /// ```
     pub fn lost_below(&self, runs: &[Run], duplicates: usize, segment_size: usize) -> u64 {
         let most = duplicates.saturating_sub(1).saturating_mul(segment_size);
         let mut count = self.reported.used;
@@ -354,18 +207,9 @@ impl ScoreboardHead {
     /// from `pos` on that wasn't reported, and ends at the next one that was, or at `limit`. If there
     /// is none below `limit`, both are `limit`.
     ///
-    /// # Requires, else it panics
+    /// # Requires
     ///
     /// The scoreboard is sound with the runs.
-    ///
-    /// # Contract
-    ///
-    /// In the words of [`contracts`](crate::contracts):
-    ///
-    /// ```text
-    /// requires { IsSoundBoard self.now runs.now }
-    /// ensures { IsNextHole (reported_by self.now runs.now) pos limit result.0 result.1 }
-    /// ```
     pub fn next_hole(&self, runs: &[Run], pos: u64, limit: u64) -> (u64, u64) {
         let start = self.first_missing(runs, pos).min(limit);
         let mut end = limit;
@@ -377,15 +221,6 @@ impl ScoreboardHead {
 }
 
 /// Returns the end of the last run; 0 if there is none.
-///
-/// # Contract
-///
-/// In the words of [`contracts`](crate::contracts):
-///
-/// ```text
-/// requires { HasSoundRuns reported.now runs.now }
-/// ensures { IsEnd (set_of reported.now runs.now) result }
-/// ```
 fn highest_offset(reported: &AssemblerHead, runs: &[Run]) -> usize {
     let mut end = 0;
     for (_start, to) in reported.iter_data(runs) {
@@ -395,14 +230,6 @@ fn highest_offset(reported: &AssemblerHead, runs: &[Run]) -> usize {
 }
 
 /// Returns the lesser of two positions if the first is above `pos`, and otherwise the second.
-///
-/// # Contract
-///
-/// In the words of [`contracts`](crate::contracts):
-///
-/// ```text
-/// ensures { result ≡ (if nat_lt pos start then min start nearest else nearest) }
-/// ```
 fn nearer(pos: u64, start: u64, nearest: u64) -> u64 {
     if start <= pos {
         return nearest;

@@ -22,17 +22,6 @@ pub struct SenderHead {
 impl SenderHead {
     /// Returns the head of a sender of a stream that begins at position `first`, to which nothing
     /// was written. It is sound for every storage.
-    ///
-    /// # Contract
-    ///
-    /// In the words of [`contracts`](crate::contracts):
-    ///
-    /// ```text
-    /// ensures sound { (capacity : ℕ) → IsSoundHead capacity result }
-    /// ensures state { (storage : List ℕ) → sender_of result storage
-    ///     ≡ sender_state (length storage) first [] (first + length storage) }
-    /// ensures numbers { result ≡ sender_head first }
-    /// ```
     pub const fn new(first: u64) -> Self {
         SenderHead {
             first_unacknowledged: first,
@@ -44,28 +33,11 @@ impl SenderHead {
     }
 
     /// Returns whether this head is sound for a storage of `capacity` bytes.
-    ///
-    /// # Contract
-    ///
-    /// In the words of [`contracts`](crate::contracts):
-    ///
-    /// ```text
-    /// ensures { IsTrue result ↔ IsSoundHead capacity self.now }
-    /// ```
     pub fn is_sound(&self, capacity: usize) -> bool {
         self.place.is_sound(capacity) && self.end_fits()
     }
 
     /// Returns whether the position after the last byte that was written fits 64 bits.
-    ///
-    /// # Contract
-    ///
-    /// In the words of [`contracts`](crate::contracts):
-    ///
-    /// ```text
-    /// ensures { IsTrue result
-    ///     ↔ (self.now.first_unacknowledged + self.now.place.length < 2 ^ 64) }
-    /// ```
     #[inline]
     pub fn end_fits(&self) -> bool {
         self.place.length as u64 <= u64::MAX - self.first_unacknowledged
@@ -73,18 +45,9 @@ impl SenderHead {
 
     /// Returns the position after the last byte that was written.
     ///
-    /// # Requires, else it panics
+    /// # Requires
     ///
     /// It fits 64 bits, as `end_fits` tests, and as it does where the head is sound for a storage.
-    ///
-    /// # Contract
-    ///
-    /// In the words of [`contracts`](crate::contracts):
-    ///
-    /// ```text
-    /// requires { self.now.first_unacknowledged + self.now.place.length < 2 ^ 64 }
-    /// ensures { result ≡ self.now.first_unacknowledged + self.now.place.length }
-    /// ```
     #[inline]
     pub fn end(&self) -> u64 {
         self.first_unacknowledged + self.place.length as u64
@@ -93,19 +56,9 @@ impl SenderHead {
     /// Returns how many bytes `write` would take: as many as have room in a storage of `capacity`
     /// bytes and below the last position.
     ///
-    /// # Requires, else it panics
+    /// # Requires
     ///
     /// The head is sound for such a storage.
-    ///
-    /// # Contract
-    ///
-    /// In the words of [`contracts`](crate::contracts):
-    ///
-    /// ```text
-    /// requires { IsSoundHead capacity self.now }
-    /// ensures value { result ≡ min (capacity - self.now.place.length)
-    ///     (2 ^ 64 - 1 - (self.now.first_unacknowledged + self.now.place.length)) }
-    /// ```
     #[inline]
     pub fn room(&self, capacity: usize) -> usize {
         let free = (capacity - self.place.length) as u64;
@@ -114,26 +67,9 @@ impl SenderHead {
 
     /// Enqueues the first of these bytes, as many as `room` says, and returns how many.
     ///
-    /// # Requires, else it panics
+    /// # Requires
     ///
     /// The head is sound for the storage.
-    ///
-    /// # Contract
-    ///
-    /// In the words of [`contracts`](crate::contracts):
-    ///
-    /// ```text
-    /// requires { IsSoundHead (length storage.old) self.old }
-    /// ensures sound { IsSoundHead (length storage.old) self.new }
-    /// ensures count { result ≡ min (length bytes.now) (room_of (sender_of self.old storage.old)) }
-    /// ensures state { sender_of self.new storage.new
-    ///     ≡ with_written (sender_of self.old storage.old) (take result bytes.now) }
-    /// ensures ring { let g = rewind_if_empty (ring_at storage.old self.old.place) in
-    ///     ring_at storage.new self.new.place
-    ///     ≡ with_enqueued result (with_elements_wrapping g (write_at g) (take result bytes.now)) }
-    /// ensures sends { (f : ℕ) (w : List ℕ) → Sends f w (sender_of self.old storage.old) →
-    ///     Sends f (w ++ take result bytes.now) (sender_of self.new storage.new) }
-    /// ```
     #[inline]
     pub fn write(&mut self, storage: &mut [u8], bytes: &[u8]) -> usize {
         let count = bytes.len().min(self.room(storage.len()));
@@ -143,37 +79,9 @@ impl SenderHead {
     /// Returns where at most `max` queued bytes are, from the one at `pos` on; none if the byte at
     /// `pos` isn't queued. The storage has `capacity` bytes.
     ///
-    /// # Requires, else it panics
+    /// # Requires
     ///
     /// The head is sound for such a storage.
-    ///
-    /// # Contract
-    ///
-    /// In the words of [`contracts`](crate::contracts):
-    ///
-    /// ```text
-    /// requires { IsSoundHead capacity self.now }
-    /// ensures from { self.now.first_unacknowledged ≤ pos → result.from
-    ///     ≡ queued_index capacity self.now.place (pos - self.now.first_unacknowledged) }
-    /// ensures count { self.now.first_unacknowledged ≤ pos → result.count
-    ///     ≡ min max (self.now.place.length - (pos - self.now.first_unacknowledged)) }
-    /// ensures contiguous { self.now.first_unacknowledged ≤ pos →
-    ///     result.contiguous ≡ min result.count (capacity - result.from) }
-    /// ensures before { pos < self.now.first_unacknowledged →
-    ///     (result.from ≡ 0) × (result.count ≡ 0) × (result.contiguous ≡ 0) }
-    /// ensures within { result.from + result.contiguous ≤ capacity }
-    /// ensures end { (storage : List ℕ) → length storage ≡ capacity →
-    ///     self.now.first_unacknowledged ≤ pos → result.contiguous
-    ///     ≡ min max (contiguous_end (sender_of self.now storage) pos - pos) }
-    /// ensures bytes { (storage : List ℕ) → length storage ≡ capacity →
-    ///     take result.contiguous (drop result.from storage)
-    ///     ≡ take result.contiguous (drop (pos - self.now.first_unacknowledged)
-    ///     (queue (ring_at storage self.now.place))) }
-    /// ensures says { (storage : List ℕ) → length storage ≡ capacity →
-    ///     self.now.first_unacknowledged ≤ pos → (f : ℕ) (w : List ℕ) →
-    ///     Sends f w (sender_of self.now storage) →
-    ///     MatchesStream f w pos (take result.contiguous (drop result.from storage)) }
-    /// ```
     #[inline]
     pub fn peek_at(&self, capacity: usize, pos: u64, max: usize) -> Span {
         if pos < self.first_unacknowledged {
@@ -190,28 +98,9 @@ impl SenderHead {
     /// Drops the bytes below `next`, and returns whether it did: false, and nothing changes, if
     /// `next` is below `first_unacknowledged` or above `end`. The storage has `capacity` bytes.
     ///
-    /// # Requires, else it panics
+    /// # Requires
     ///
     /// The head is sound for such a storage.
-    ///
-    /// # Contract
-    ///
-    /// In the words of [`contracts`](crate::contracts):
-    ///
-    /// ```text
-    /// requires { IsSoundHead capacity self.old }
-    /// ensures sound { IsSoundHead capacity self.new }
-    /// ensures accepted { IsTrue result ↔ ((self.old.first_unacknowledged ≤ next)
-    ///     × (next ≤ self.old.first_unacknowledged + self.old.place.length)) }
-    /// ensures first { IsTrue result → self.new.first_unacknowledged ≡ next }
-    /// ensures place { IsTrue result → self.new.place ≡ dequeued_place capacity
-    ///     (next - self.old.first_unacknowledged) self.old.place }
-    /// ensures state { IsTrue result → (storage : List ℕ) → length storage ≡ capacity →
-    ///     sender_of self.new storage ≡ sender_from (sender_of self.old storage) next }
-    /// ensures sends { (storage : List ℕ) → length storage ≡ capacity → (f : ℕ) (w : List ℕ) →
-    ///     Sends f w (sender_of self.old storage) → Sends f w (sender_of self.new storage) }
-    /// ensures refused { IsFalse result → self.new ≡ self.old }
-    /// ```
     #[inline]
     pub fn acknowledge(&mut self, capacity: usize, next: u64) -> bool {
         if !is_acknowledgeable(self.first_unacknowledged, self.end(), next) {
@@ -229,22 +118,9 @@ impl SenderHead {
     ///
     /// The caller keeps this mark. It begins as the position of the stream's first byte.
     ///
-    /// # Requires, else it panics
+    /// # Requires
     ///
     /// The position after the last byte that was written fits 64 bits, as `end_fits` tests.
-    ///
-    /// # Contract
-    ///
-    /// In the words of [`contracts`](crate::contracts):
-    ///
-    /// ```text
-    /// requires { self.now.first_unacknowledged + self.now.place.length < 2 ^ 64 }
-    /// ensures accepted { IsTrue result
-    ///     ↔ ((sent.old ≤ self.now.first_unacknowledged + self.now.place.length)
-    ///     × (pos ≤ self.now.first_unacknowledged + self.now.place.length)) }
-    /// ensures mark { IsTrue result → sent.new ≡ max sent.old pos }
-    /// ensures refused { IsFalse result → sent.new ≡ sent.old }
-    /// ```
     #[inline]
     pub fn mark_sent(&self, sent: &mut u64, pos: u64) -> bool {
         let end = self.end();
@@ -259,28 +135,9 @@ impl SenderHead {
     /// after the last byte that was ever sent, as `mark_sent` keeps it. Returns false, and changes
     /// nothing, if `next` is below `first_unacknowledged` or above `sent`, or `sent` is above `end`.
     ///
-    /// # Requires, else it panics
+    /// # Requires
     ///
     /// The head is sound for such a storage.
-    ///
-    /// # Contract
-    ///
-    /// In the words of [`contracts`](crate::contracts):
-    ///
-    /// ```text
-    /// requires { IsSoundHead capacity self.old }
-    /// ensures sound { IsSoundHead capacity self.new }
-    /// ensures accepted { IsTrue result ↔ ((self.old.first_unacknowledged ≤ next) × (next ≤ sent)
-    ///     × (sent ≤ self.old.first_unacknowledged + self.old.place.length)) }
-    /// ensures first { IsTrue result → self.new.first_unacknowledged ≡ next }
-    /// ensures place { IsTrue result → self.new.place ≡ dequeued_place capacity
-    ///     (next - self.old.first_unacknowledged) self.old.place }
-    /// ensures state { IsTrue result → (storage : List ℕ) → length storage ≡ capacity →
-    ///     sender_of self.new storage ≡ sender_from (sender_of self.old storage) next }
-    /// ensures sends { (storage : List ℕ) → length storage ≡ capacity → (f : ℕ) (w : List ℕ) →
-    ///     Sends f w (sender_of self.old storage) → Sends f w (sender_of self.new storage) }
-    /// ensures refused { IsFalse result → self.new ≡ self.old }
-    /// ```
     #[inline]
     pub fn acknowledge_sent(&mut self, capacity: usize, next: u64, sent: u64) -> bool {
         if next > sent || sent > self.end() {
@@ -292,15 +149,6 @@ impl SenderHead {
 
 /// Returns whether an acknowledgement of the bytes below `next` is accepted, where those from
 /// `first` up to `end` are queued.
-///
-/// # Contract
-///
-/// In the words of [`contracts`](crate::contracts):
-///
-/// ```text
-/// ensures value { result ≡ (nat_le first next && nat_le next end) }
-/// ensures within { IsTrue result ↔ ((first ≤ next) × (next ≤ end)) }
-/// ```
 #[inline]
 fn is_acknowledgeable(first: u64, end: u64, next: u64) -> bool {
     first <= next && next <= end

@@ -6,13 +6,15 @@ pub const MAX_SCALE: u8 = 14;
 /// Returns the least scale by which this capacity, rounded down to a unit, can be announced, or 14 if
 /// none can.
 ///
-/// # Contract
+/// <details><summary>Contract</summary>
 ///
 /// In the words of [`contracts`](crate::contracts):
 ///
 /// ```text
 /// ensures { IsScaleFor capacity result }
 /// ```
+///
+/// </details>
 pub fn scale_for(capacity: u64) -> u8 {
     for scale in 0..MAX_SCALE {
         if capacity >> scale <= 0xffff {
@@ -34,13 +36,15 @@ pub struct AdvertisedWindow {
 impl AdvertisedWindow {
     /// Returns a window of which nothing was announced, before the byte at `first`.
     ///
-    /// # Contract
+    /// <details><summary>Contract</summary>
     ///
     /// In the words of [`contracts`](crate::contracts):
     ///
     /// ```text
     /// ensures { result.edge ≡ first }
     /// ```
+    ///
+    /// </details>
     pub const fn new(first: u64) -> Self {
         AdvertisedWindow { edge: first }
     }
@@ -53,11 +57,11 @@ impl AdvertisedWindow {
     /// next multiple: at one scale the number may then be less than what was promised, by less than a
     /// unit. What was promised is still acceptable, and `edge` stays.
     ///
-    /// # Requires, else it panics
+    /// # Panics
     ///
-    /// The scale is at most 14, and the window doesn't end before `next`.
+    /// Unless the scale is at most 14, and the window doesn't end before `next`.
     ///
-    /// # Contract
+    /// <details><summary>Contract</summary>
     ///
     /// In the words of [`contracts`](crate::contracts):
     ///
@@ -73,6 +77,8 @@ impl AdvertisedWindow {
     /// ensures lost { self.old.edge ≤ window_end → self.old.edge ≤ announced next scale 65535 →
     ///     self.old.edge < announced next scale result + 2 ^ scale }
     /// ```
+    ///
+    /// </details>
     #[track_caller]
     pub fn announce(&mut self, scale: u8, next: u64, window_end: u64) -> u16 {
         assert!(scale <= MAX_SCALE, "a greater scale than 14");
@@ -91,11 +97,11 @@ impl AdvertisedWindow {
     /// before, rounded down. So the edge grows by what is worth an update, or only up to `next` (RFC
     /// 9293, section 3.8.6.2.2).
     ///
-    /// # Requires, else it panics
+    /// # Panics
     ///
-    /// The scale is at most 14, and the window doesn't end before `next`.
+    /// Unless the scale is at most 14, and the window doesn't end before `next`.
     ///
-    /// # Contract
+    /// <details><summary>Contract</summary>
     ///
     /// In the words of [`contracts`](crate::contracts):
     ///
@@ -112,6 +118,8 @@ impl AdvertisedWindow {
     /// ensures steps { self.old.edge + worth capacity mss ≤ self.new.edge
     ///     ⊎ (self.new.edge ≡ max self.old.edge next) }
     /// ```
+    ///
+    /// </details>
     #[track_caller]
     pub fn announce_in_steps(
         &mut self,
@@ -137,11 +145,11 @@ impl AdvertisedWindow {
     /// Returns whether an update is worth a segment of its own: whether the edge would move by half
     /// of the receiver's capacity, or by one segment of `mss` bytes.
     ///
-    /// # Requires, else it panics
+    /// # Panics
     ///
-    /// The scale is at most 14, and the window doesn't end before `next`.
+    /// Unless the scale is at most 14, and the window doesn't end before `next`.
     ///
-    /// # Contract
+    /// <details><summary>Contract</summary>
     ///
     /// In the words of [`contracts`](crate::contracts):
     ///
@@ -151,6 +159,8 @@ impl AdvertisedWindow {
     /// ensures { IsTrue result
     ///     ↔ (worth capacity mss ≤ gain self.now.edge scale next window_end) }
     /// ```
+    ///
+    /// </details>
     #[track_caller]
     pub fn is_update_due(
         &self,
@@ -172,17 +182,6 @@ impl AdvertisedWindow {
 }
 
 /// Returns the number to announce.
-///
-/// # Contract
-///
-/// In the words of [`contracts`](crate::contracts):
-///
-/// ```text
-/// requires scale { scale ≤ 14 }
-/// requires room { next ≤ window_end }
-/// ensures value { result ≡ field_for scale (window_end - next) }
-/// ensures within { announced next scale result ≤ window_end }
-/// ```
 #[inline]
 fn field(scale: u8, next: u64, window_end: u64) -> u16 {
     ((window_end - next) >> scale).min(0xffff) as u16

@@ -39,13 +39,15 @@ pub enum Arrival {
 /// It is if it has a position within the window. If it has none at all it must be within the window
 /// itself, or at `next` if the window is empty.
 ///
-/// # Contract
+/// <details><summary>Contract</summary>
 ///
 /// In the words of [`contracts`](crate::contracts):
 ///
 /// ```text
 /// ensures { IsTrue result ↔ IsAcceptable next window seq len }
 /// ```
+///
+/// </details>
 pub fn is_acceptable(next: u64, window: u64, seq: u64, len: u64) -> bool {
     if seq < next {
         window > 0 && next - seq < len
@@ -65,7 +67,7 @@ pub fn is_acceptable(next: u64, window: u64, seq: u64, len: u64) -> bool {
 /// other's window never hear of one another. Whether a segment may acknowledge what it does is tested
 /// afterwards, by `is_acknowledgement`.
 ///
-/// # Contract
+/// <details><summary>Contract</summary>
 ///
 /// In the words of [`contracts`](crate::contracts):
 ///
@@ -79,6 +81,8 @@ pub fn is_acceptable(next: u64, window: u64, seq: u64, len: u64) -> bool {
 /// ensures reset { (result ≡ Arrival.Reset) ↔ (IsTrue segment.rst × (segment.seq ≡ next)) }
 /// ensures ignored { (result ≡ Arrival.Ignore) ↔ IsIgnored next window segment }
 /// ```
+///
+/// </details>
 pub fn classify(next: u64, window: u64, segment: Segment) -> Arrival {
     let is_acceptable = is_acceptable(next, window, segment.seq, segment.len);
     let is_probe = window == 0 && segment.len > 0 && segment.seq == next;
@@ -105,13 +109,15 @@ pub fn classify(next: u64, window: u64, segment: Segment) -> Arrival {
 /// `first_unacknowledged` by more than the greatest window that the peer ever announced (RFC 5961,
 /// section 5). If it may not, nothing of the segment is taken, and it is answered.
 ///
-/// # Contract
+/// <details><summary>Contract</summary>
 ///
 /// In the words of [`contracts`](crate::contracts):
 ///
 /// ```text
 /// ensures { IsTrue result ↔ ((first_unacknowledged ≤ ack + greatest_window) × (ack ≤ sent)) }
 /// ```
+///
+/// </details>
 pub fn is_acknowledgement(
     first_unacknowledged: u64,
     sent: u64,

@@ -14,7 +14,7 @@ pub struct PartsSum {
 impl PartsSum {
     /// Returns the sum of no bytes.
     ///
-    /// # Contract
+    /// <details><summary>Contract</summary>
     ///
     /// In the words of [`contracts`](crate::contracts):
     ///
@@ -22,13 +22,15 @@ impl PartsSum {
     /// ensures nothing { Sums result [] }
     /// ensures zeros { (result.sum ≡ 0) × (result.odd ≡ 0) }
     /// ```
+    ///
+    /// </details>
     pub const fn new() -> Self {
         PartsSum { sum: 0, odd: 0 }
     }
 
     /// Adds the bytes that follow those which were added.
     ///
-    /// # Contract
+    /// <details><summary>Contract</summary>
     ///
     /// In the words of [`contracts`](crate::contracts):
     ///
@@ -36,13 +38,15 @@ impl PartsSum {
     /// ensures value { self.new ≡ sum_with self.old part.now }
     /// ensures bytes { (xs : List ℕ) → Sums self.old xs → Sums self.new (xs ++ part.now) }
     /// ```
+    ///
+    /// </details>
     pub fn add(&mut self, part: &[u8]) {
         *self = self.with(part);
     }
 
     /// Returns the sum of the bytes that were added and of those that follow them.
     ///
-    /// # Contract
+    /// <details><summary>Contract</summary>
     ///
     /// In the words of [`contracts`](crate::contracts):
     ///
@@ -50,6 +54,8 @@ impl PartsSum {
     /// ensures value { result ≡ sum_with self part.now }
     /// ensures bytes { (xs : List ℕ) → Sums self xs → Sums result (xs ++ part.now) }
     /// ```
+    ///
+    /// </details>
     pub fn with(self, part: &[u8]) -> Self {
         if self.odd == 0 {
             return sum_from(self.sum, part);
@@ -63,11 +69,11 @@ impl PartsSum {
     /// Returns the sum of the bytes that were added and of a word that follows them, as one of a
     /// pseudo-header.
     ///
-    /// # Requires, else it panics
+    /// # Panics
     ///
-    /// An even count of bytes was added.
+    /// Unless an even count of bytes was added.
     ///
-    /// # Contract
+    /// <details><summary>Contract</summary>
     ///
     /// In the words of [`contracts`](crate::contracts):
     ///
@@ -76,6 +82,8 @@ impl PartsSum {
     /// ensures value { result ≡ sum_with self (word_bytes word) }
     /// ensures bytes { (xs : List ℕ) → Sums self xs → Sums result (xs ++ word_bytes word) }
     /// ```
+    ///
+    /// </details>
     #[track_caller]
     pub fn with_word(self, word: u16) -> Self {
         assert!(self.odd == 0, "an odd count of bytes was added");
@@ -87,7 +95,7 @@ impl PartsSum {
 
     /// Returns the sum of the bytes that were added, and of those of which `after` is the sum.
     ///
-    /// # Contract
+    /// <details><summary>Contract</summary>
     ///
     /// In the words of [`contracts`](crate::contracts):
     ///
@@ -95,6 +103,8 @@ impl PartsSum {
     /// ensures value { result ≡ sum_joined self after }
     /// ensures bytes { (xs ys : List ℕ) → Sums self xs → Sums after ys → Sums result (xs ++ ys) }
     /// ```
+    ///
+    /// </details>
     pub fn joined(self, after: PartsSum) -> Self {
         if self.odd == 0 {
             PartsSum {
@@ -111,7 +121,7 @@ impl PartsSum {
 
     /// Returns the checksum of the bytes that were added.
     ///
-    /// # Contract
+    /// <details><summary>Contract</summary>
     ///
     /// In the words of [`contracts`](crate::contracts):
     ///
@@ -119,6 +129,8 @@ impl PartsSum {
     /// ensures value { result ≡ 65535 - folded self.now.sum }
     /// ensures bytes { (xs : List ℕ) → Sums self.now xs → result ≡ internet_checksum xs }
     /// ```
+    ///
+    /// </details>
     pub fn checksum(&self) -> u16 {
         u16::MAX - fold(self.sum)
     }
@@ -126,7 +138,7 @@ impl PartsSum {
     /// Returns whether the bytes that were added, with a checksum among them at an even offset, are
     /// valid.
     ///
-    /// # Contract
+    /// <details><summary>Contract</summary>
     ///
     /// In the words of [`contracts`](crate::contracts):
     ///
@@ -135,6 +147,8 @@ impl PartsSum {
     /// ensures bytes { (xs : List ℕ) → Sums self.now xs
     ///     → (IsTrue result ↔ (folded (word_sum xs) ≡ 65535)) }
     /// ```
+    ///
+    /// </details>
     pub fn is_valid(&self) -> bool {
         fold(self.sum) == u16::MAX
     }
@@ -142,26 +156,30 @@ impl PartsSum {
 
 /// Returns the checksum of these bytes.
 ///
-/// # Contract
+/// <details><summary>Contract</summary>
 ///
 /// In the words of [`contracts`](crate::contracts):
 ///
 /// ```text
 /// ensures { result ≡ internet_checksum bytes.now }
 /// ```
+///
+/// </details>
 pub fn checksum(bytes: &[u8]) -> u16 {
     u16::MAX - fold(sum_words(0, bytes))
 }
 
 /// Returns whether these bytes, with their checksum among them at an even offset, are valid.
 ///
-/// # Contract
+/// <details><summary>Contract</summary>
 ///
 /// In the words of [`contracts`](crate::contracts):
 ///
 /// ```text
 /// ensures { IsTrue result ↔ (folded (word_sum bytes.now) ≡ 65535) }
 /// ```
+///
+/// </details>
 pub fn is_valid(bytes: &[u8]) -> bool {
     fold(sum_words(0, bytes)) == u16::MAX
 }
@@ -169,28 +187,21 @@ pub fn is_valid(bytes: &[u8]) -> bool {
 /// Returns the checksum of a message in which the word `old`, at an even offset, became `new`, from its
 /// checksum before (RFC 1624, equation 3); of one that is all zeros then, 0 in place of 65535.
 ///
-/// # Contract
+/// <details><summary>Contract</summary>
 ///
 /// In the words of [`contracts`](crate::contracts):
 ///
 /// ```text
 /// ensures { result ≡ updated checksum old new }
 /// ```
+///
+/// </details>
 pub fn updated_checksum(checksum: u16, old: u16, new: u16) -> u16 {
     let without = u64::from(u16::MAX - checksum) + u64::from(u16::MAX - old);
     u16::MAX - fold(without + u64::from(new))
 }
 
 /// Returns the sum of some words and of these bytes, the first of which is a high byte.
-///
-/// # Contract
-///
-/// In the words of [`contracts`](crate::contracts):
-///
-/// ```text
-/// ensures sum { result.sum ≡ folded (start + word_sum bytes.now) }
-/// ensures odd { result.odd ≡ length bytes.now % 2 }
-/// ```
 fn sum_from(start: u64, bytes: &[u8]) -> PartsSum {
     PartsSum {
         sum: u64::from(fold(sum_words(start, bytes))),
@@ -202,14 +213,6 @@ fn sum_from(start: u64, bytes: &[u8]) -> PartsSum {
 const BLOCK: usize = 1 << 16;
 
 /// Adds the words of these bytes to a sum.
-///
-/// # Contract
-///
-/// In the words of [`contracts`](crate::contracts):
-///
-/// ```text
-/// ensures { folded result ≡ folded (start + word_sum bytes.now) }
-/// ```
 fn sum_words(start: u64, bytes: &[u8]) -> u64 {
     let mut sum = start;
     let mut rest = bytes;
@@ -222,15 +225,6 @@ fn sum_words(start: u64, bytes: &[u8]) -> u64 {
 }
 
 /// Returns a sum of the words of a block. The loop has no carries, so that it is done by vectors.
-///
-/// # Contract
-///
-/// In the words of [`contracts`](crate::contracts):
-///
-/// ```text
-/// requires { length bytes.now ≤ BLOCK }
-/// ensures { folded result ≡ folded (word_sum bytes.now) }
-/// ```
 fn sum_block(bytes: &[u8]) -> u64 {
     let mut sum = 0;
     let mut rest = bytes;
@@ -242,14 +236,6 @@ fn sum_block(bytes: &[u8]) -> u64 {
 }
 
 /// Adds the words of a few bytes to a sum.
-///
-/// # Contract
-///
-/// In the words of [`contracts`](crate::contracts):
-///
-/// ```text
-/// ensures { folded result ≡ folded (start + word_sum bytes.now) }
-/// ```
 fn sum_pairs(start: u64, bytes: &[u8]) -> u64 {
     let mut sum = start;
     let mut rest = bytes;
@@ -264,14 +250,6 @@ fn sum_pairs(start: u64, bytes: &[u8]) -> u64 {
 }
 
 /// Adds two sums, and a carry out of 64 bits at the low end.
-///
-/// # Contract
-///
-/// In the words of [`contracts`](crate::contracts):
-///
-/// ```text
-/// ensures { folded result ≡ folded (a + b) }
-/// ```
 #[inline]
 fn add_carry(a: u64, b: u64) -> u64 {
     let (sum, carried) = a.overflowing_add(b);
@@ -279,42 +257,18 @@ fn add_carry(a: u64, b: u64) -> u64 {
 }
 
 /// Adds two sums, and folds theirs.
-///
-/// # Contract
-///
-/// In the words of [`contracts`](crate::contracts):
-///
-/// ```text
-/// ensures { result ≡ folded (a + b) }
-/// ```
 #[inline]
 fn folded_sum(a: u64, b: u64) -> u64 {
     u64::from(fold(add_carry(a, b)))
 }
 
 /// Returns a word with its bytes exchanged.
-///
-/// # Contract
-///
-/// In the words of [`contracts`](crate::contracts):
-///
-/// ```text
-/// ensures { result ≡ word % 256 * 256 + word / 256 }
-/// ```
 #[inline]
 fn swapped(word: u16) -> u16 {
     word % 256 * 256 + word / 256
 }
 
 /// Folds a sum to one word.
-///
-/// # Contract
-///
-/// In the words of [`contracts`](crate::contracts):
-///
-/// ```text
-/// ensures { result ≡ folded sum }
-/// ```
 #[inline]
 fn fold(sum: u64) -> u16 {
     if sum == 0 {

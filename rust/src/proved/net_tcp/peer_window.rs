@@ -17,11 +17,11 @@ pub struct PeerWindow {
 
 /// Returns how many bytes the field of a segment announces.
 ///
-/// # Requires, else it panics
+/// # Panics
 ///
-/// The scale is at most 14.
+/// Unless the scale is at most 14.
 ///
-/// # Contract
+/// <details><summary>Contract</summary>
 ///
 /// In the words of [`contracts`](crate::contracts):
 ///
@@ -30,6 +30,8 @@ pub struct PeerWindow {
 /// ensures value { result ≡ field * 2 ^ scale }
 /// ensures few { result < 2 ^ 30 }
 /// ```
+///
+/// </details>
 #[track_caller]
 pub fn scaled(field: u16, scale: u8) -> u64 {
     assert!(scale <= MAX_SCALE, "a greater scale than 14");
@@ -39,13 +41,15 @@ pub fn scaled(field: u16, scale: u8) -> u64 {
 impl PeerWindow {
     /// Returns the window that a segment announced.
     ///
-    /// # Contract
+    /// <details><summary>Contract</summary>
     ///
     /// In the words of [`contracts`](crate::contracts):
     ///
     /// ```text
     /// ensures { result ≡ window_from seq ack window }
     /// ```
+    ///
+    /// </details>
     pub fn new(seq: u64, ack: u64, window: u64) -> Self {
         PeerWindow {
             edge: ack.saturating_add(window),
@@ -62,7 +66,7 @@ impl PeerWindow {
     /// each later one. It makes no difference whether the sender takes what the segment acknowledges
     /// before this call or after it.
     ///
-    /// # Contract
+    /// <details><summary>Contract</summary>
     ///
     /// In the words of [`contracts`](crate::contracts):
     ///
@@ -74,6 +78,8 @@ impl PeerWindow {
     /// ensures state { self.new
     ///     ≡ after_update self.old first_unacknowledged sent seq ack window }
     /// ```
+    ///
+    /// </details>
     pub fn update(
         &mut self,
         first_unacknowledged: u64,
@@ -91,15 +97,6 @@ impl PeerWindow {
 
     /// Returns whether the segment of these numbers acknowledges more than the one that the window is
     /// from, or is not older.
-    ///
-    /// # Contract
-    ///
-    /// In the words of [`contracts`](crate::contracts):
-    ///
-    /// ```text
-    /// ensures value { result ≡ replaces self.now seq ack }
-    /// ensures newer { IsTrue result ↔ Replaces self.now seq ack }
-    /// ```
     #[inline]
     fn is_replaced_by(&self, seq: u64, ack: u64) -> bool {
         self.ack < ack || self.seq < seq || self.seq == seq && self.ack <= ack
@@ -108,26 +105,30 @@ impl PeerWindow {
     /// Returns how many bytes from `pos` on may be sent: none if the edge is at or below it, as it
     /// may be after the window shrank.
     ///
-    /// # Contract
+    /// <details><summary>Contract</summary>
     ///
     /// In the words of [`contracts`](crate::contracts):
     ///
     /// ```text
     /// ensures { result ≡ self.now.edge - pos }
     /// ```
+    ///
+    /// </details>
     pub fn usable(&self, pos: u64) -> u64 {
         self.edge.saturating_sub(pos)
     }
 
     /// Returns the end of what may be sent of the bytes below `end`.
     ///
-    /// # Contract
+    /// <details><summary>Contract</summary>
     ///
     /// In the words of [`contracts`](crate::contracts):
     ///
     /// ```text
     /// ensures { result ≡ min self.now.edge end }
     /// ```
+    ///
+    /// </details>
     pub fn send_limit(&self, end: u64) -> u64 {
         self.edge.min(end)
     }
@@ -135,7 +136,7 @@ impl PeerWindow {
     /// Returns whether a probe may be sent, the one byte at `first_unacknowledged`: the window has
     /// closed, and there are bytes below `end` that wait.
     ///
-    /// # Contract
+    /// <details><summary>Contract</summary>
     ///
     /// In the words of [`contracts`](crate::contracts):
     ///
@@ -145,6 +146,8 @@ impl PeerWindow {
     /// ensures progress { first_unacknowledged < end → IsFalse result →
     ///     first_unacknowledged < min self.now.edge end }
     /// ```
+    ///
+    /// </details>
     pub fn is_probe_allowed(&self, first_unacknowledged: u64, end: u64) -> bool {
         self.edge <= first_unacknowledged && first_unacknowledged < end
     }
@@ -154,7 +157,7 @@ impl PeerWindow {
     /// A peer whose window is shut takes no number beyond it, though a probe was sent there, nor what
     /// such a segment acknowledges. Law `acknowledgements` says when this number is acceptable.
     ///
-    /// # Contract
+    /// <details><summary>Contract</summary>
     ///
     /// In the words of [`contracts`](crate::contracts):
     ///
@@ -164,6 +167,8 @@ impl PeerWindow {
     /// ensures promised { result ≤ max self.now.edge first_unacknowledged }
     /// ensures first { first_unacknowledged ≤ sent → first_unacknowledged ≤ result }
     /// ```
+    ///
+    /// </details>
     pub fn acknowledgement_number(&self, first_unacknowledged: u64, sent: u64) -> u64 {
         sent.min(self.edge.max(first_unacknowledged))
     }

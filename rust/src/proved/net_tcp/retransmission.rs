@@ -38,7 +38,7 @@ pub enum Transmission {
 impl RttEstimate {
     /// Returns the estimate after the first sample.
     ///
-    /// # Contract
+    /// <details><summary>Contract</summary>
     ///
     /// In the words of [`contracts`](crate::contracts):
     ///
@@ -46,6 +46,8 @@ impl RttEstimate {
     /// ensures value { result ≡ first_estimate (sample time) }
     /// ensures small { IsSmall result }
     /// ```
+    ///
+    /// </details>
     pub fn first(time: u64) -> Self {
         let time = time.min(LONGEST_SAMPLE);
         RttEstimate {
@@ -56,11 +58,11 @@ impl RttEstimate {
 
     /// Returns the estimate after one more sample.
     ///
-    /// # Requires, else it panics
+    /// # Panics
     ///
-    /// The estimate was made by samples, as `is_small` tests.
+    /// Unless the estimate was made by samples, as `is_small` tests.
     ///
-    /// # Contract
+    /// <details><summary>Contract</summary>
     ///
     /// In the words of [`contracts`](crate::contracts):
     ///
@@ -69,6 +71,8 @@ impl RttEstimate {
     /// ensures value { result ≡ next_estimate self (sample time) }
     /// ensures small { IsSmall result }
     /// ```
+    ///
+    /// </details>
     #[track_caller]
     pub fn with_sample(self, time: u64) -> Self {
         assert!(self.is_small(), "an estimate that was not made by samples");
@@ -81,33 +85,37 @@ impl RttEstimate {
 
     /// Returns whether this estimate has room for a sample, as any has that was made by samples.
     ///
-    /// # Contract
+    /// <details><summary>Contract</summary>
     ///
     /// In the words of [`contracts`](crate::contracts):
     ///
     /// ```text
     /// ensures { IsTrue result ↔ IsSmall self }
     /// ```
+    ///
+    /// </details>
     pub const fn is_small(self) -> bool {
         self.srtt_8 <= 1 << 63 && self.rttvar_4 <= 1 << 62
     }
 
     /// Returns the smoothed time.
     ///
-    /// # Contract
+    /// <details><summary>Contract</summary>
     ///
     /// In the words of [`contracts`](crate::contracts):
     ///
     /// ```text
     /// ensures { result ≡ self.srtt_8 / 8 }
     /// ```
+    ///
+    /// </details>
     pub fn srtt(self) -> u64 {
         self.srtt_8 >> 3
     }
 
     /// Returns the timeout that it gives: at least the smoothed time, but for the greatest timeout.
     ///
-    /// # Contract
+    /// <details><summary>Contract</summary>
     ///
     /// In the words of [`contracts`](crate::contracts):
     ///
@@ -117,6 +125,8 @@ impl RttEstimate {
     /// ensures most { bounds.least ≤ bounds.most → result ≤ bounds.most }
     /// ensures long { min bounds.most (self.srtt_8 / 8) ≤ result }
     /// ```
+    ///
+    /// </details>
     pub fn timeout(self, bounds: TimeoutBounds) -> u64 {
         let time = (self.srtt_8 >> 3).saturating_add(bounds.tick.max(self.rttvar_4));
         bounds.least.max(bounds.most.min(time))
@@ -138,7 +148,7 @@ pub struct RetransmissionTimeout {
 impl RetransmissionTimeout {
     /// Returns a timeout before any sample. The RFC has 1 second.
     ///
-    /// # Contract
+    /// <details><summary>Contract</summary>
     ///
     /// In the words of [`contracts`](crate::contracts):
     ///
@@ -147,6 +157,8 @@ impl RetransmissionTimeout {
     /// ensures none { estimate_of result ≡ None }
     /// ensures small { IsSmallIfAny (estimate_of result) }
     /// ```
+    ///
+    /// </details>
     pub const fn new(timeout: u64) -> Self {
         RetransmissionTimeout {
             estimate: RttEstimate {
@@ -160,13 +172,15 @@ impl RetransmissionTimeout {
 
     /// Returns the estimate, if there was a sample.
     ///
-    /// # Contract
+    /// <details><summary>Contract</summary>
     ///
     /// In the words of [`contracts`](crate::contracts):
     ///
     /// ```text
     /// ensures { result ≡ estimate_of self.now }
     /// ```
+    ///
+    /// </details>
     pub fn rtt(&self) -> Option<RttEstimate> {
         if self.has_estimate == 0 {
             return None;
@@ -176,11 +190,11 @@ impl RetransmissionTimeout {
 
     /// Takes over the sample of a segment that was acknowledged now, if it was sent once.
     ///
-    /// # Requires, else it panics
+    /// # Panics
     ///
-    /// The estimate, if there is one, was made by samples, as `is_small` tests.
+    /// Unless the estimate, if there is one, was made by samples, as `is_small` tests.
     ///
-    /// # Contract
+    /// <details><summary>Contract</summary>
     ///
     /// In the words of [`contracts`](crate::contracts):
     ///
@@ -189,6 +203,8 @@ impl RetransmissionTimeout {
     /// ensures state { self.new ≡ after_acknowledgement bounds sent now self.old }
     /// ensures small { IsSmallIfAny (estimate_of self.new) }
     /// ```
+    ///
+    /// </details>
     #[track_caller]
     pub fn acknowledged(&mut self, bounds: TimeoutBounds, sent: Transmission, now: u64) {
         assert!(self.is_small(), "an estimate that was not made by samples");
@@ -201,13 +217,15 @@ impl RetransmissionTimeout {
     /// Returns whether the estimate, if there is one, has room for a sample, as any has that was made
     /// by samples.
     ///
-    /// # Contract
+    /// <details><summary>Contract</summary>
     ///
     /// In the words of [`contracts`](crate::contracts):
     ///
     /// ```text
     /// ensures { IsTrue result ↔ IsSmallIfAny (estimate_of self.now) }
     /// ```
+    ///
+    /// </details>
     pub fn is_small(&self) -> bool {
         self.has_estimate == 0 || self.estimate.is_small()
     }
@@ -216,11 +234,11 @@ impl RetransmissionTimeout {
     /// segment was sent once: of one that was sent again it is not known which of the copies was
     /// acknowledged.
     ///
-    /// # Requires, else it panics
+    /// # Panics
     ///
-    /// The estimate, if there is one, was made by samples, as `is_small` tests.
+    /// Unless the estimate, if there is one, was made by samples, as `is_small` tests.
     ///
-    /// # Contract
+    /// <details><summary>Contract</summary>
     ///
     /// In the words of [`contracts`](crate::contracts):
     ///
@@ -229,6 +247,8 @@ impl RetransmissionTimeout {
     /// ensures state { self.new ≡ after_sample bounds time self.old }
     /// ensures small { IsSmallIfAny (estimate_of self.new) }
     /// ```
+    ///
+    /// </details>
     #[track_caller]
     pub fn take_sample(&mut self, bounds: TimeoutBounds, time: u64) {
         assert!(self.is_small(), "an estimate that was not made by samples");
@@ -239,7 +259,7 @@ impl RetransmissionTimeout {
 
     /// Doubles the timeout within the bounds, after it passed.
     ///
-    /// # Contract
+    /// <details><summary>Contract</summary>
     ///
     /// In the words of [`contracts`](crate::contracts):
     ///
@@ -248,6 +268,8 @@ impl RetransmissionTimeout {
     /// ensures estimate { self.new.estimate ≡ self.old.estimate }
     /// ensures has_estimate { self.new.has_estimate ≡ self.old.has_estimate }
     /// ```
+    ///
+    /// </details>
     pub fn expired(&mut self, bounds: TimeoutBounds) {
         let timeout = self.timeout.saturating_mul(2);
         self.timeout = bounds.least.max(bounds.most.min(timeout));
@@ -255,16 +277,6 @@ impl RetransmissionTimeout {
 }
 
 /// Returns the estimate after a sample.
-///
-/// # Contract
-///
-/// In the words of [`contracts`](crate::contracts):
-///
-/// ```text
-/// requires { IsSmallIfAny estimate }
-/// ensures value { result ≡ estimate_after estimate (sample time) }
-/// ensures small { IsSmall result }
-/// ```
 fn updated(estimate: Option<RttEstimate>, time: u64) -> RttEstimate {
     match estimate {
         Some(estimate) => estimate.with_sample(time),

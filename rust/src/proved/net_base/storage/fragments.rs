@@ -52,11 +52,11 @@ impl<'a, const N: usize> FragmentBuffer<'a, N> {
 impl<B: Storage<u8>, const N: usize> FragmentBuffer<'_, N, B> {
     /// Returns an empty buffer over storage of any type, which expires after `expires_at`.
     ///
-    /// # Requires, else it panics
+    /// # Requires, else it doesn't compile
     ///
     /// `N` is at least 1.
     ///
-    /// # Contract
+    /// <details><summary>Contract</summary>
     ///
     /// In the words of [`contracts`](crate::contracts):
     ///
@@ -66,6 +66,8 @@ impl<B: Storage<u8>, const N: usize> FragmentBuffer<'_, N, B> {
     /// ensures nothing { (result.present ≡ nothing) × (result.total ≡ None) }
     /// ensures expires { result.expires_at ≡ expires_at }
     /// ```
+    ///
+    /// </details>
     pub const fn over(bytes: B, expires_at: Instant) -> Self {
         const { assert!(N >= 1, "a buffer of fragments has at least one run") };
         FragmentBuffer {
@@ -78,11 +80,11 @@ impl<B: Storage<u8>, const N: usize> FragmentBuffer<'_, N, B> {
 
     /// Returns the buffer that a head, bytes and runs represent. smoltcp has no such call.
     ///
-    /// # Requires, else it panics
+    /// # Panics
     ///
-    /// They are sound: the runs are those of an assembler, and a known size is at most that of `bytes`.
+    /// Unless they are sound: the runs are those of an assembler, and a known size is at most that of `bytes`.
     ///
-    /// # Contract
+    /// <details><summary>Contract</summary>
     ///
     /// In the words of [`contracts`](crate::contracts):
     ///
@@ -90,6 +92,8 @@ impl<B: Storage<u8>, const N: usize> FragmentBuffer<'_, N, B> {
     /// requires { HasSoundParts head (B.elements bytes) runs }
     /// ensures { result ≡ fragments_of head (B.elements bytes) runs.entry }
     /// ```
+    ///
+    /// </details>
     #[track_caller]
     pub(crate) fn from_parts(head: FragmentsHead, bytes: B, runs: [Run; N]) -> Self {
         let capacity = bytes.count();
@@ -102,7 +106,7 @@ impl<B: Storage<u8>, const N: usize> FragmentBuffer<'_, N, B> {
 
     /// Returns the head, the bytes and the runs, which represent the buffer. smoltcp has no such call.
     ///
-    /// # Contract
+    /// <details><summary>Contract</summary>
     ///
     /// In the words of [`contracts`](crate::contracts):
     ///
@@ -111,6 +115,8 @@ impl<B: Storage<u8>, const N: usize> FragmentBuffer<'_, N, B> {
     /// ensures state { fragments_of result.0 (B.elements result.1) result.2 ≡ self }
     /// ensures runs { length result.2 ≡ N }
     /// ```
+    ///
+    /// </details>
     pub(crate) fn into_parts(self) -> (FragmentsHead, B, [Run; N]) {
         let FragmentBuffer { lent: core::marker::PhantomData, head, bytes, runs } = self;
         (head, bytes, runs)
@@ -118,13 +124,15 @@ impl<B: Storage<u8>, const N: usize> FragmentBuffer<'_, N, B> {
 
     /// Returns the bytes, as fragments were written to them. smoltcp has no such call.
     ///
-    /// # Contract
+    /// <details><summary>Contract</summary>
     ///
     /// In the words of [`contracts`](crate::contracts):
     ///
     /// ```text
     /// ensures { B.elements result ≡ self.bytes }
     /// ```
+    ///
+    /// </details>
     pub fn into_storage(self) -> B {
         let FragmentBuffer {
             lent: core::marker::PhantomData,
@@ -144,13 +152,15 @@ impl<B: Storage<u8>, const N: usize> FragmentBuffer<'_, N, B> {
     /// assert_eq!(FragmentBuffer::new(&mut bytes[..], Instant::ZERO).capacity(), 8);
     /// ```
     ///
-    /// # Contract
+    /// <details><summary>Contract</summary>
     ///
     /// In the words of [`contracts`](crate::contracts):
     ///
     /// ```text
     /// ensures { result ≡ length self.now.bytes }
     /// ```
+    ///
+    /// </details>
     pub fn capacity(&self) -> usize {
         self.bytes.count()
     }
@@ -167,13 +177,15 @@ impl<B: Storage<u8>, const N: usize> FragmentBuffer<'_, N, B> {
     /// assert!(buffer.add(2, b"c").is_ok() && !buffer.is_empty());
     /// ```
     ///
-    /// # Contract
+    /// <details><summary>Contract</summary>
     ///
     /// In the words of [`contracts`](crate::contracts):
     ///
     /// ```text
     /// ensures { IsTrue result ↔ (self.now.present ≡ nothing) }
     /// ```
+    ///
+    /// </details>
     pub fn is_empty(&self) -> bool {
         self.head.present.is_empty()
     }
@@ -189,13 +201,15 @@ impl<B: Storage<u8>, const N: usize> FragmentBuffer<'_, N, B> {
     /// assert_eq!(buffer.expires_at(), Instant::from_millis(5));
     /// ```
     ///
-    /// # Contract
+    /// <details><summary>Contract</summary>
     ///
     /// In the words of [`contracts`](crate::contracts):
     ///
     /// ```text
     /// ensures { result ≡ self.now.expires_at }
     /// ```
+    ///
+    /// </details>
     pub fn expires_at(&self) -> Instant {
         moment_of(&self.head)
     }
@@ -216,7 +230,7 @@ impl<B: Storage<u8>, const N: usize> FragmentBuffer<'_, N, B> {
     /// assert_eq!(buffer.add(0, b"ab"), Err(FragmentError::TooManyHoles));
     /// ```
     ///
-    /// # Contract
+    /// <details><summary>Contract</summary>
     ///
     /// In the words of [`contracts`](crate::contracts):
     ///
@@ -232,6 +246,8 @@ impl<B: Storage<u8>, const N: usize> FragmentBuffer<'_, N, B> {
     /// ensures refused { IsErr result ↔ ((length self.old.bytes < offset + length «data».now)
     ///     ⊎ MakesTooManyRuns N self.old.present offset (length «data».now)) }
     /// ```
+    ///
+    /// </details>
     pub fn add(&mut self, offset: usize, data: &[u8]) -> Result<(), FragmentError> {
         let count = self.bytes.count();
         let bytes = self.bytes.part_mut(0, count);
@@ -253,7 +269,7 @@ impl<B: Storage<u8>, const N: usize> FragmentBuffer<'_, N, B> {
     /// assert_eq!(buffer.assemble(), Some(&b""[..]));
     /// ```
     ///
-    /// # Contract
+    /// <details><summary>Contract</summary>
     ///
     /// In the words of [`contracts`](crate::contracts):
     ///
@@ -266,19 +282,23 @@ impl<B: Storage<u8>, const N: usize> FragmentBuffer<'_, N, B> {
     /// ensures refused { IsErr result
     ///     ↔ ((length self.old.bytes < size) ⊎ DiffersFrom self.old.total size) }
     /// ```
+    ///
+    /// </details>
     pub fn set_total_size(&mut self, size: usize) -> Result<(), FragmentError> {
         self.head.set_total_size(self.bytes.count(), size)
     }
 
     /// Returns the packet's size, once it is known. smoltcp has no such call.
     ///
-    /// # Contract
+    /// <details><summary>Contract</summary>
     ///
     /// In the words of [`contracts`](crate::contracts):
     ///
     /// ```text
     /// ensures { result ≡ self.now.total }
     /// ```
+    ///
+    /// </details>
     pub fn total_size(&self) -> Option<usize> {
         self.head.total_size()
     }
@@ -289,13 +309,15 @@ impl<B: Storage<u8>, const N: usize> FragmentBuffer<'_, N, B> {
     /// It is asked before `add`, by callers who refuse a packet whose fragments overlap (RFC 5722). A
     /// fragment that arrives twice overlaps too. smoltcp has no such call.
     ///
-    /// # Contract
+    /// <details><summary>Contract</summary>
     ///
     /// In the words of [`contracts`](crate::contracts):
     ///
     /// ```text
     /// ensures { IsTrue result ↔ Meets self.now.present offset len }
     /// ```
+    ///
+    /// </details>
     pub fn overlaps(&self, offset: usize, len: usize) -> bool {
         self.head.overlaps(&self.runs, offset, len)
     }
@@ -315,7 +337,7 @@ impl<B: Storage<u8>, const N: usize> FragmentBuffer<'_, N, B> {
     /// # Ok::<(), FragmentError>(())
     /// ```
     ///
-    /// # Contract
+    /// <details><summary>Contract</summary>
     ///
     /// In the words of [`contracts`](crate::contracts):
     ///
@@ -324,6 +346,8 @@ impl<B: Storage<u8>, const N: usize> FragmentBuffer<'_, N, B> {
     /// ensures bytes { IfSome result
     ///     (λ r. (size : ℕ) × IsComplete self.now size × (r.now ≡ take size self.now.bytes)) }
     /// ```
+    ///
+    /// </details>
     pub fn assemble(&self) -> Option<&[u8]> {
         match self.head.complete(&self.runs) {
             Some(size) => Some(self.bytes.part(0, size)),
@@ -342,13 +366,15 @@ impl<B: Storage<u8>, const N: usize> FragmentBuffer<'_, N, B> {
     /// assert!(buffer.is_expired(Instant::from_micros(5_001)));
     /// ```
     ///
-    /// # Contract
+    /// <details><summary>Contract</summary>
     ///
     /// In the words of [`contracts`](crate::contracts):
     ///
     /// ```text
     /// ensures { IsTrue result ↔ (self.now.expires_at <ℤ now) }
     /// ```
+    ///
+    /// </details>
     pub fn is_expired(&self, now: Instant) -> bool {
         self.head.is_expired(now.total_micros())
     }
@@ -367,7 +393,7 @@ impl<B: Storage<u8>, const N: usize> FragmentBuffer<'_, N, B> {
     /// # Ok::<(), FragmentError>(())
     /// ```
     ///
-    /// # Contract
+    /// <details><summary>Contract</summary>
     ///
     /// In the words of [`contracts`](crate::contracts):
     ///
@@ -376,20 +402,14 @@ impl<B: Storage<u8>, const N: usize> FragmentBuffer<'_, N, B> {
     /// ensures nothing { (self.new.present ≡ nothing) × (self.new.total ≡ None) }
     /// ensures expires { self.new.expires_at ≡ expires_at }
     /// ```
+    ///
+    /// </details>
     pub fn reset(&mut self, expires_at: Instant) {
         self.head.reset(expires_at.total_micros());
     }
 }
 
 /// The last moment at which the packet is waited for.
-///
-/// # Contract
-///
-/// In the words of [`contracts`](crate::contracts):
-///
-/// ```text
-/// ensures { result ≡ head.now.expires_at }
-/// ```
 fn moment_of(head: &FragmentsHead) -> Instant {
     Instant::from_micros(head.expires_at)
 }

@@ -41,13 +41,15 @@ impl Instant {
     /// assert_eq!(Instant::from_micros(1_500).total_millis(), 1);
     /// ```
     ///
-    /// # Contract
+    /// <details><summary>Contract</summary>
     ///
     /// In the words of [`contracts`](crate::contracts):
     ///
     /// ```text
     /// ensures { result ≡ micros }
     /// ```
+    ///
+    /// </details>
     #[inline]
     pub fn from_micros<A: Into<i64>>(micros: A) -> Instant {
         let micros = micros.into();
@@ -62,13 +64,15 @@ impl Instant {
     /// assert_eq!(LATER, Instant::from_micros(1_500));
     /// ```
     ///
-    /// # Contract
+    /// <details><summary>Contract</summary>
     ///
     /// In the words of [`contracts`](crate::contracts):
     ///
     /// ```text
     /// ensures { result ≡ micros }
     /// ```
+    ///
+    /// </details>
     #[inline]
     pub const fn from_micros_const(micros: i64) -> Instant {
         Instant { micros }
@@ -76,13 +80,15 @@ impl Instant {
 
     /// Returns whether the value fits; precondition of `from_millis`.
     ///
-    /// # Contract
+    /// <details><summary>Contract</summary>
     ///
     /// In the words of [`contracts`](crate::contracts):
     ///
     /// ```text
     /// ensures { IsTrue result ↔ IsMoment (millis *ℤ pos 1_000) }
     /// ```
+    ///
+    /// </details>
     #[inline]
     pub const fn fits_millis(millis: i64) -> bool {
         matches!(millis.checked_mul(1_000), Some(_))
@@ -95,11 +101,11 @@ impl Instant {
     /// assert_eq!(Instant::from_millis(-5).total_micros(), -5_000);
     /// ```
     ///
-    /// # Requires, else it panics
+    /// # Panics
     ///
-    /// So many microseconds fit 64 bits with a sign, as `fits_millis` tests.
+    /// Unless so many microseconds fit 64 bits with a sign, as `fits_millis` tests.
     ///
-    /// # Contract
+    /// <details><summary>Contract</summary>
     ///
     /// In the words of [`contracts`](crate::contracts):
     ///
@@ -107,6 +113,8 @@ impl Instant {
     /// requires fits_millis { IsMoment (millis *ℤ pos 1_000) }
     /// ensures { result ≡ millis *ℤ pos 1_000 }
     /// ```
+    ///
+    /// </details>
     #[inline]
     #[track_caller]
     pub fn from_millis<A: Into<i64>>(millis: A) -> Instant {
@@ -126,11 +134,11 @@ impl Instant {
     /// assert_eq!(LATER, Instant::from_micros(5_000));
     /// ```
     ///
-    /// # Requires, else it panics
+    /// # Panics
     ///
-    /// So many microseconds fit 64 bits with a sign, as `fits_millis` tests.
+    /// Unless so many microseconds fit 64 bits with a sign, as `fits_millis` tests.
     ///
-    /// # Contract
+    /// <details><summary>Contract</summary>
     ///
     /// In the words of [`contracts`](crate::contracts):
     ///
@@ -138,6 +146,8 @@ impl Instant {
     /// requires fits_millis { IsMoment (millis *ℤ pos 1_000) }
     /// ensures { result ≡ millis *ℤ pos 1_000 }
     /// ```
+    ///
+    /// </details>
     #[inline]
     #[track_caller]
     pub const fn from_millis_const(millis: i64) -> Instant {
@@ -152,13 +162,15 @@ impl Instant {
 
     /// Returns whether the value fits; precondition of `from_secs`.
     ///
-    /// # Contract
+    /// <details><summary>Contract</summary>
     ///
     /// In the words of [`contracts`](crate::contracts):
     ///
     /// ```text
     /// ensures { IsTrue result ↔ IsMoment (secs *ℤ pos 1_000_000) }
     /// ```
+    ///
+    /// </details>
     #[inline]
     pub const fn fits_secs(secs: i64) -> bool {
         matches!(secs.checked_mul(1_000_000), Some(_))
@@ -171,11 +183,11 @@ impl Instant {
     /// assert_eq!(Instant::from_secs(5).total_millis(), 5_000);
     /// ```
     ///
-    /// # Requires, else it panics
+    /// # Panics
     ///
-    /// So many microseconds fit 64 bits with a sign, as `fits_secs` tests.
+    /// Unless so many microseconds fit 64 bits with a sign, as `fits_secs` tests.
     ///
-    /// # Contract
+    /// <details><summary>Contract</summary>
     ///
     /// In the words of [`contracts`](crate::contracts):
     ///
@@ -183,6 +195,8 @@ impl Instant {
     /// requires fits_secs { IsMoment (secs *ℤ pos 1_000_000) }
     /// ensures { result ≡ secs *ℤ pos 1_000_000 }
     /// ```
+    ///
+    /// </details>
     #[inline]
     #[track_caller]
     pub fn from_secs<A: Into<i64>>(secs: A) -> Instant {
@@ -201,13 +215,15 @@ impl Instant {
     /// assert_eq!(Instant::from_millis(5_674).millis(), 674);
     /// ```
     ///
-    /// # Contract
+    /// <details><summary>Contract</summary>
     ///
     /// In the words of [`contracts`](crate::contracts):
     ///
     /// ```text
     /// ensures { result ≡ moment_millis self.now }
     /// ```
+    ///
+    /// </details>
     #[inline]
     pub const fn millis(&self) -> i64 {
         self.micros() / 1_000
@@ -220,13 +236,15 @@ impl Instant {
     /// assert_eq!(Instant::from_millis(5_674).micros(), 674_000);
     /// ```
     ///
-    /// # Contract
+    /// <details><summary>Contract</summary>
     ///
     /// In the words of [`contracts`](crate::contracts):
     ///
     /// ```text
     /// ensures { result ≡ moment_micros self.now }
     /// ```
+    ///
+    /// </details>
     #[inline]
     pub const fn micros(&self) -> i64 {
         self.micros % 1_000_000
@@ -239,13 +257,15 @@ impl Instant {
     /// assert_eq!(Instant::from_millis(5_674).secs(), 5);
     /// ```
     ///
-    /// # Contract
+    /// <details><summary>Contract</summary>
     ///
     /// In the words of [`contracts`](crate::contracts):
     ///
     /// ```text
     /// ensures { result ≡ moment_secs self.now }
     /// ```
+    ///
+    /// </details>
     #[inline]
     pub const fn secs(&self) -> i64 {
         self.micros / 1_000_000
@@ -258,13 +278,15 @@ impl Instant {
     /// assert_eq!(Instant::from_micros(5_674).total_millis(), 5);
     /// ```
     ///
-    /// # Contract
+    /// <details><summary>Contract</summary>
     ///
     /// In the words of [`contracts`](crate::contracts):
     ///
     /// ```text
     /// ensures { result ≡ int_div self.now (pos 1_000) }
     /// ```
+    ///
+    /// </details>
     #[inline]
     pub const fn total_millis(&self) -> i64 {
         self.micros / 1_000
@@ -277,13 +299,15 @@ impl Instant {
     /// assert_eq!(Instant::from_millis(5).total_micros(), 5_000);
     /// ```
     ///
-    /// # Contract
+    /// <details><summary>Contract</summary>
     ///
     /// In the words of [`contracts`](crate::contracts):
     ///
     /// ```text
     /// ensures { result ≡ self.now }
     /// ```
+    ///
+    /// </details>
     #[inline]
     pub const fn total_micros(&self) -> i64 {
         self.micros
@@ -291,13 +315,15 @@ impl Instant {
 
     /// Returns whether the sum fits: whether `+` and `+=` don't saturate.
     ///
-    /// # Contract
+    /// <details><summary>Contract</summary>
     ///
     /// In the words of [`contracts`](crate::contracts):
     ///
     /// ```text
     /// ensures { IsTrue result ↔ IsMoment (self.now +ℤ pos duration) }
     /// ```
+    ///
+    /// </details>
     #[inline]
     pub fn can_add(&self, duration: Duration) -> bool {
         self.checked_add(duration).is_some()
@@ -305,13 +331,15 @@ impl Instant {
 
     /// Returns whether the difference fits: whether `-` and `-=` don't saturate.
     ///
-    /// # Contract
+    /// <details><summary>Contract</summary>
     ///
     /// In the words of [`contracts`](crate::contracts):
     ///
     /// ```text
     /// ensures { IsTrue result ↔ IsMoment (self.now -ℤ pos duration) }
     /// ```
+    ///
+    /// </details>
     #[inline]
     pub fn can_sub(&self, duration: Duration) -> bool {
         self.checked_sub(duration).is_some()
@@ -325,13 +353,15 @@ impl Instant {
     /// assert_eq!(last.checked_add(Duration::from_micros(1)), None);
     /// ```
     ///
-    /// # Contract
+    /// <details><summary>Contract</summary>
     ///
     /// In the words of [`contracts`](crate::contracts):
     ///
     /// ```text
     /// ensures { SomeIff result (IsMoment (self.now +ℤ pos duration)) (self.now +ℤ pos duration) }
     /// ```
+    ///
+    /// </details>
     #[inline]
     pub fn checked_add(&self, duration: Duration) -> Option<Instant> {
         match self.micros.checked_add_unsigned(duration.total_micros()) {
@@ -348,13 +378,15 @@ impl Instant {
     /// assert_eq!(first.checked_sub(Duration::from_micros(1)), None);
     /// ```
     ///
-    /// # Contract
+    /// <details><summary>Contract</summary>
     ///
     /// In the words of [`contracts`](crate::contracts):
     ///
     /// ```text
     /// ensures { SomeIff result (IsMoment (self.now -ℤ pos duration)) (self.now -ℤ pos duration) }
     /// ```
+    ///
+    /// </details>
     #[inline]
     pub fn checked_sub(&self, duration: Duration) -> Option<Instant> {
         match self.micros.checked_sub_unsigned(duration.total_micros()) {
@@ -365,18 +397,13 @@ impl Instant {
 
     /// Returns the moment `duration` later, or the last moment if that is after it.
     ///
-    /// ```ignore
-    /// self.timeout = self.timeout.saturating_mul(2);
-    /// self.deadline = now.saturating_add(self.timeout);
-    /// ```
-    ///
     /// ```
     /// # use net_base::time::{Duration, Instant};
     /// let moment = Instant::ZERO.saturating_add(Duration::MAX);
     /// assert_eq!(moment, Instant::from_micros(i64::MAX));
     /// ```
     ///
-    /// # Contract
+    /// <details><summary>Contract</summary>
     ///
     /// In the words of [`contracts`](crate::contracts):
     ///
@@ -384,6 +411,8 @@ impl Instant {
     /// ensures exact { IsMoment (self.now +ℤ pos duration) → result ≡ self.now +ℤ pos duration }
     /// ensures last { (IsMoment (self.now +ℤ pos duration) → ⊥) → result ≡ pos (2 ^ 63 - 1) }
     /// ```
+    ///
+    /// </details>
     #[inline]
     pub fn saturating_add(&self, duration: Duration) -> Instant {
         let micros = self.micros.wrapping_add_unsigned(duration.total_micros());
@@ -401,7 +430,7 @@ impl Instant {
     /// assert_eq!(moment, Instant::from_micros(i64::MIN));
     /// ```
     ///
-    /// # Contract
+    /// <details><summary>Contract</summary>
     ///
     /// In the words of [`contracts`](crate::contracts):
     ///
@@ -409,6 +438,8 @@ impl Instant {
     /// ensures exact { IsMoment (self.now -ℤ pos duration) → result ≡ self.now -ℤ pos duration }
     /// ensures first { (IsMoment (self.now -ℤ pos duration) → ⊥) → result ≡ negsuc (2 ^ 63 - 1) }
     /// ```
+    ///
+    /// </details>
     #[inline]
     pub fn saturating_sub(&self, duration: Duration) -> Instant {
         let micros = self.micros.wrapping_sub_unsigned(duration.total_micros());
@@ -419,14 +450,6 @@ impl Instant {
     }
 
     /// Returns the text of the moment, whatever the options.
-    ///
-    /// # Contract
-    ///
-    /// In the words of [`contracts`](crate::contracts):
-    ///
-    /// ```text
-    /// ensures { IfOk result (λ text. inline_text text ≡ moment_text self.now) }
-    /// ```
     fn text(&self) -> Result<InlineText<LONGEST_TEXT>, fmt::Error> {
         let secs = self.secs();
         let millis = self.millis();

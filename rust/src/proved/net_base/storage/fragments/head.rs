@@ -28,20 +28,6 @@ pub struct FragmentsHead {
 
 impl FragmentsHead {
     /// Returns the head of an empty buffer that expires after `expires_at`.
-    ///
-    /// # Contract
-    ///
-    /// In the words of [`contracts`](crate::contracts):
-    ///
-    /// ```text
-    /// ensures sound { (bytes : List ℕ) (runs : List (ℕ × ℕ)) → HasSoundParts result bytes runs }
-    /// ensures nothing { (runs : List (ℕ × ℕ)) → set_of result.present runs ≡ nothing }
-    /// ensures total { total_of result ≡ None }
-    /// ensures expires { result.expires_at ≡ expires_at }
-    /// ensures zeros { (result.present.used ≡ 0) × (result.present.first_start ≡ 0)
-    ///     × (result.has_total ≡ 0) × (result.total ≡ 0) }
-    /// ensures exact { IsExact result }
-    /// ```
     pub const fn new(expires_at: i64) -> Self {
         FragmentsHead {
             present: AssemblerHead::new(),
@@ -52,36 +38,12 @@ impl FragmentsHead {
     }
 
     /// Begins again, for a packet that expires after `expires_at`.
-    ///
-    /// # Contract
-    ///
-    /// In the words of [`contracts`](crate::contracts):
-    ///
-    /// ```text
-    /// ensures sound { (bytes : List ℕ) (runs : List (ℕ × ℕ)) →
-    ///     HasSoundParts self.new bytes runs }
-    /// ensures nothing { (runs : List (ℕ × ℕ)) → set_of self.new.present runs ≡ nothing }
-    /// ensures total { total_of self.new ≡ None }
-    /// ensures expires { self.new.expires_at ≡ expires_at }
-    /// ensures zeros { (self.new.present.used ≡ 0) × (self.new.present.first_start ≡ 0)
-    ///     × (self.new.has_total ≡ 0) × (self.new.total ≡ 0) }
-    /// ensures exact { IsExact self.new }
-    /// ```
     pub fn reset(&mut self, expires_at: i64) {
         *self = FragmentsHead::new(expires_at);
     }
 
     /// Returns whether `present` and these runs are those of an assembler, and a known size is at most `capacity`, for
     /// any numbers. It looks at each used run.
-    ///
-    /// # Contract
-    ///
-    /// In the words of [`contracts`](crate::contracts):
-    ///
-    /// ```text
-    /// ensures { (bytes : List ℕ) → length bytes ≡ capacity →
-    ///     (IsTrue result ↔ HasSoundParts self.now bytes runs.now) }
-    /// ```
     pub fn is_sound(&self, capacity: usize, runs: &[Run]) -> bool {
         self.present.is_sound(runs) && (self.has_total == 0 || self.total <= capacity)
     }
@@ -91,33 +53,9 @@ impl FragmentsHead {
     /// It is refused, and nothing changes, exactly if it reaches past the buffer's end, which is
     /// `TooLong`, or else would leave more maximal runs than there is room for, which is `TooManyHoles`.
     ///
-    /// # Requires, else it panics
+    /// # Requires
     ///
     /// Head, bytes and runs are those of a buffer.
-    ///
-    /// # Contract
-    ///
-    /// In the words of [`contracts`](crate::contracts):
-    ///
-    /// ```text
-    /// requires sound { HasSoundParts self.old bytes.old runs.old }
-    /// ensures sound { HasSoundParts self.new bytes.new runs.new }
-    /// ensures ok { OnOk result (fragments_of self.new bytes.new runs.new
-    ///     ≡ with_fragment (fragments_of self.old bytes.old runs.old) offset «data».now) }
-    /// ensures unchanged { OnErr result
-    ///     ((self.new ≡ self.old) × (bytes.new ≡ bytes.old) × (runs.new ≡ runs.old)) }
-    /// ensures too_long { (result ≡ Err FragmentError.TooLong)
-    ///     ↔ (length bytes.old < offset + length «data».now) }
-    /// ensures too_many { (result ≡ Err FragmentError.TooManyHoles)
-    ///     ↔ ((offset + length «data».now ≤ length bytes.old) × MakesTooManyRuns (length runs.old)
-    ///     (set_of self.old.present runs.old) offset (length «data».now)) }
-    /// ensures refused { IsErr result ↔ ((length bytes.old < offset + length «data».now)
-    ///     ⊎ MakesTooManyRuns (length runs.old) (set_of self.old.present runs.old)
-    ///     offset (length «data».now)) }
-    /// ensures others { (self.new.has_total ≡ self.old.has_total)
-    ///     × (self.new.total ≡ self.old.total) × (self.new.expires_at ≡ self.old.expires_at) }
-    /// ensures exact { IsExact self.old → IsExact self.new }
-    /// ```
     pub fn add(
         &mut self,
         bytes: &mut [u8],
@@ -140,26 +78,6 @@ impl FragmentsHead {
     ///
     /// It is refused, and nothing changes, exactly if the buffer has fewer bytes, which is `TooLong`, or
     /// else if another size is known, which is `OtherSize`.
-    ///
-    /// # Contract
-    ///
-    /// In the words of [`contracts`](crate::contracts):
-    ///
-    /// ```text
-    /// ensures ok { OnOk result ((self.new.has_total ≡ 1) × (self.new.total ≡ size)
-    ///     × (self.new.present ≡ self.old.present) × (self.new.expires_at ≡ self.old.expires_at)) }
-    /// ensures total { OnOk result (total_of self.new ≡ Some size) }
-    /// ensures sound { OnOk result ((bytes : List ℕ) (runs : List (ℕ × ℕ)) →
-    ///     length bytes ≡ capacity → HasSoundParts self.old bytes runs →
-    ///     HasSoundParts self.new bytes runs) }
-    /// ensures unchanged { OnErr result (self.new ≡ self.old) }
-    /// ensures too_long { (result ≡ Err FragmentError.TooLong) ↔ (capacity < size) }
-    /// ensures other_size { (result ≡ Err FragmentError.OtherSize)
-    ///     ↔ ((size ≤ capacity) × DiffersFrom (total_of self.old) size) }
-    /// ensures refused { IsErr result
-    ///     ↔ ((capacity < size) ⊎ DiffersFrom (total_of self.old) size) }
-    /// ensures exact { IsExact self.old → IsExact self.new }
-    /// ```
     pub fn set_total_size(&mut self, capacity: usize, size: usize) -> Result<(), FragmentError> {
         if size > capacity {
             return Err(FragmentError::TooLong);
@@ -173,14 +91,6 @@ impl FragmentsHead {
     }
 
     /// Returns the packet's size, once it is known.
-    ///
-    /// # Contract
-    ///
-    /// In the words of [`contracts`](crate::contracts):
-    ///
-    /// ```text
-    /// ensures { result ≡ total_of self.now }
-    /// ```
     pub fn total_size(&self) -> Option<usize> {
         if self.has_total == 0 {
             None
@@ -195,18 +105,9 @@ impl FragmentsHead {
     /// It is asked before `add`, by callers who refuse a packet whose fragments overlap (RFC 5722). A
     /// fragment that arrives twice overlaps too.
     ///
-    /// # Requires, else it panics
+    /// # Requires
     ///
     /// The runs are sound.
-    ///
-    /// # Contract
-    ///
-    /// In the words of [`contracts`](crate::contracts):
-    ///
-    /// ```text
-    /// requires sound { HasSoundRuns self.now.present runs.now }
-    /// ensures { IsTrue result ↔ Meets (set_of self.now.present runs.now) offset len }
-    /// ```
     pub fn overlaps(&self, runs: &[Run], offset: usize, len: usize) -> bool {
         for (start, end) in self.present.iter_data(runs) {
             if start.saturating_sub(offset) < len && offset < end {
@@ -219,23 +120,9 @@ impl FragmentsHead {
     /// Returns the packet's size, if it is known and all its bytes have arrived: they are the first
     /// ones of the buffer.
     ///
-    /// # Requires, else it panics
+    /// # Requires
     ///
     /// The runs are sound.
-    ///
-    /// # Contract
-    ///
-    /// In the words of [`contracts`](crate::contracts):
-    ///
-    /// ```text
-    /// requires sound { HasSoundRuns self.now.present runs.now }
-    /// ensures complete { (bytes : List ℕ) → (IsSome result
-    ///     ↔ ((size : ℕ) × IsComplete (fragments_of self.now bytes runs.now) size)) }
-    /// ensures size { IfSome result (λ size. (bytes : List ℕ) →
-    ///     IsComplete (fragments_of self.now bytes runs.now) size) }
-    /// ensures fits { IfSome result (λ size. (bytes : List ℕ) →
-    ///     HasSoundParts self.now bytes runs.now → size ≤ length bytes) }
-    /// ```
     pub fn complete(&self, runs: &[Run]) -> Option<usize> {
         if self.has_total == 0 || self.present.peek_front(runs) < self.total {
             return None;
@@ -244,14 +131,6 @@ impl FragmentsHead {
     }
 
     /// Returns whether `now` is after the last moment at which the packet is waited for.
-    ///
-    /// # Contract
-    ///
-    /// In the words of [`contracts`](crate::contracts):
-    ///
-    /// ```text
-    /// ensures { IsTrue result ↔ (self.now.expires_at <ℤ now) }
-    /// ```
     pub fn is_expired(&self, now: i64) -> bool {
         self.expires_at < now
     }

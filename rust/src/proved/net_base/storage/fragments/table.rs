@@ -18,11 +18,11 @@ pub struct FragmentSlot<K, B: Storage<u8>, const N: usize> {
 impl<K: Copy + Eq, B: Storage<u8>, const N: usize> FragmentSlot<K, B, N> {
     /// Returns a free slot over the bytes, whose buffer is empty and expires after the origin.
     ///
-    /// # Requires, else it panics
+    /// # Requires, else it doesn't compile
     ///
     /// `N` is at least 1.
     ///
-    /// # Contract
+    /// <details><summary>Contract</summary>
     ///
     /// In the words of [`contracts`](crate::contracts):
     ///
@@ -33,6 +33,8 @@ impl<K: Copy + Eq, B: Storage<u8>, const N: usize> FragmentSlot<K, B, N> {
     /// ensures nothing { (result.buffer.present ≡ nothing) × (result.buffer.total ≡ None) }
     /// ensures expires { result.buffer.expires_at ≡ pos 0 }
     /// ```
+    ///
+    /// </details>
     pub fn over(bytes: B) -> Self {
         const { assert!(N >= 1, "a buffer of fragments has at least one run") };
         FragmentSlot {
@@ -43,13 +45,15 @@ impl<K: Copy + Eq, B: Storage<u8>, const N: usize> FragmentSlot<K, B, N> {
 
     /// Returns whether the slot is for the packet of this key.
     ///
-    /// # Contract
+    /// <details><summary>Contract</summary>
     ///
     /// In the words of [`contracts`](crate::contracts):
     ///
     /// ```text
     /// ensures { result ≡ is_for K.PartialEq.eq key self.now.key }
     /// ```
+    ///
+    /// </details>
     pub fn is_for(&self, key: K) -> bool {
         match &self.key {
             Some(own) => *own == key,
@@ -59,7 +63,7 @@ impl<K: Copy + Eq, B: Storage<u8>, const N: usize> FragmentSlot<K, B, N> {
 
     /// Begins with the packet of this key, which is waited for up to `expires_at`.
     ///
-    /// # Contract
+    /// <details><summary>Contract</summary>
     ///
     /// In the words of [`contracts`](crate::contracts):
     ///
@@ -67,6 +71,8 @@ impl<K: Copy + Eq, B: Storage<u8>, const N: usize> FragmentSlot<K, B, N> {
     /// ensures key { self.new.key ≡ Some key }
     /// ensures buffer { self.new.buffer ≡ begun self.old.buffer expires_at }
     /// ```
+    ///
+    /// </details>
     pub fn begin(&mut self, key: K, expires_at: Instant) {
         self.key = Some(key);
         self.buffer.reset(expires_at);
@@ -74,7 +80,7 @@ impl<K: Copy + Eq, B: Storage<u8>, const N: usize> FragmentSlot<K, B, N> {
 
     /// Frees the slot if its packet is waited for up to a moment before `now`.
     ///
-    /// # Contract
+    /// <details><summary>Contract</summary>
     ///
     /// In the words of [`contracts`](crate::contracts):
     ///
@@ -83,6 +89,8 @@ impl<K: Copy + Eq, B: Storage<u8>, const N: usize> FragmentSlot<K, B, N> {
     /// ensures kept { (self.old.buffer.expires_at <ℤ now → ⊥) → self.new.key ≡ self.old.key }
     /// ensures buffer { self.new.buffer ≡ self.old.buffer }
     /// ```
+    ///
+    /// </details>
     pub fn expire(&mut self, now: Instant) {
         if self.buffer.is_expired(now) {
             self.key = None;
@@ -92,7 +100,7 @@ impl<K: Copy + Eq, B: Storage<u8>, const N: usize> FragmentSlot<K, B, N> {
 
 /// Returns the first slot for the packet of this key.
 ///
-/// # Contract
+/// <details><summary>Contract</summary>
 ///
 /// In the words of [`contracts`](crate::contracts):
 ///
@@ -100,6 +108,8 @@ impl<K: Copy + Eq, B: Storage<u8>, const N: usize> FragmentSlot<K, B, N> {
 /// ensures first { result ≡ position (λ s. is_for K.PartialEq.eq key s.key) slots.now }
 /// ensures within { IfSome result (λ at. at < length slots.now) }
 /// ```
+///
+/// </details>
 pub fn find<K: Copy + Eq, B: Storage<u8>, const N: usize>(
     slots: &[FragmentSlot<K, B, N>],
     key: K,
@@ -114,7 +124,7 @@ pub fn find<K: Copy + Eq, B: Storage<u8>, const N: usize>(
 
 /// Returns the first slot without a key.
 ///
-/// # Contract
+/// <details><summary>Contract</summary>
 ///
 /// In the words of [`contracts`](crate::contracts):
 ///
@@ -122,6 +132,8 @@ pub fn find<K: Copy + Eq, B: Storage<u8>, const N: usize>(
 /// ensures first { result ≡ position (λ s. is_none s.key) slots.now }
 /// ensures within { IfSome result (λ at. at < length slots.now) }
 /// ```
+///
+/// </details>
 pub fn find_free<K: Copy + Eq, B: Storage<u8>, const N: usize>(
     slots: &[FragmentSlot<K, B, N>],
 ) -> Option<usize> {
@@ -138,7 +150,7 @@ pub fn find_free<K: Copy + Eq, B: Storage<u8>, const N: usize>(
 ///
 /// `Full` exactly if no slot is for it and none is free; then nothing changes.
 ///
-/// # Contract
+/// <details><summary>Contract</summary>
 ///
 /// In the words of [`contracts`](crate::contracts):
 ///
@@ -155,6 +167,8 @@ pub fn find_free<K: Copy + Eq, B: Storage<u8>, const N: usize>(
 ///     × ((s : _) → slice_get slots.old at ≡ Some s → slots.new
 ///     ≡ set slots.old at (record { key = Some key; buffer = begun s.buffer expires_at }))) }
 /// ```
+///
+/// </details>
 pub fn claim<K: Copy + Eq, B: Storage<u8>, const N: usize>(
     slots: &mut [FragmentSlot<K, B, N>],
     key: K,
@@ -172,7 +186,7 @@ pub fn claim<K: Copy + Eq, B: Storage<u8>, const N: usize>(
 
 /// Frees the slots of packets that are waited for up to a moment before `now`.
 ///
-/// # Contract
+/// <details><summary>Contract</summary>
 ///
 /// In the words of [`contracts`](crate::contracts):
 ///
@@ -181,6 +195,8 @@ pub fn claim<K: Copy + Eq, B: Storage<u8>, const N: usize>(
 ///     × ((s.buffer.expires_at <ℤ now → ⊥) → t.key ≡ s.key)
 ///     × (t.buffer ≡ s.buffer)) slots.old slots.new }
 /// ```
+///
+/// </details>
 pub fn remove_expired<K: Copy + Eq, B: Storage<u8>, const N: usize>(
     slots: &mut [FragmentSlot<K, B, N>],
     now: Instant,
@@ -195,7 +211,7 @@ pub fn remove_expired<K: Copy + Eq, B: Storage<u8>, const N: usize>(
 ///
 /// `None`, and nothing changes, exactly if no slot is for the packet, or a byte of it is missing.
 ///
-/// # Contract
+/// <details><summary>Contract</summary>
 ///
 /// In the words of [`contracts`](crate::contracts):
 ///
@@ -210,6 +226,8 @@ pub fn remove_expired<K: Copy + Eq, B: Storage<u8>, const N: usize>(
 ///     slice_get slots.old at ≡ Some s → (size : ℕ) → IsComplete s.buffer size → ⊥ }
 /// ensures unchanged { IsNone result → slots.new ≡ slots.old }
 /// ```
+///
+/// </details>
 pub fn take_complete<K: Copy + Eq, B: Storage<u8>, const N: usize>(
     slots: &mut [FragmentSlot<K, B, N>],
     key: K,
