@@ -24,7 +24,7 @@ pub mod receiver {
             self.0.next()
         }
         #[inline]
-        pub fn segment(&mut self, position: u64, bytes: &[u8]) -> Result<receiver::Segment, ()> {
+        pub fn keep(&mut self, position: u64, bytes: &[u8]) -> Result<receiver::Segment, ()> {
             self.0.segment(position, bytes).ok_or(())
         }
         #[inline]
