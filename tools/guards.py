@@ -1,0 +1,120 @@
+#!/usr/bin/env python3
+"""Proves that each guard tests enough, by twins:
+
+    python3 tools/guards.py             proves the twins; status 1 if one isn't proved
+    python3 tools/guards.py --faults    proves none of the twins in which one guard is weaker; status 1 if one is proved
+    python3 tools/guards.py --print     prints the twins
+
+A function with guards, as tools/erase.py reads them, has a twin, with its parameters and without its preconditions: it
+returns if what a guard tests is false, and then calls the function. So it is proved only if the guards imply the
+preconditions. The twins are a crate over copies of the libraries, as `rt check` or `rt lib` of a crate above them left
+them: otherwise those are proved first.
+"""
+import re
+import shutil
+import subprocess
+import sys
+import tempfile
+from pathlib import Path
+
+sys.dont_write_bytecode = True
+import erase
+from parts import erase_list as given
+
+TOP = '''//! Twins of the functions with guards.
+#![tactic(auto)]
+
+use net_assembler::{Assembler, Turns};
+use net_base::phy::DeviceCapabilities;
+use net_base::time::{Duration, Instant};
+use net_receiver::{FiniteReceiverOver, FiniteSenderOver, ReceiverOver};
+use net_ring::{RingOver, Storage};
+use net_tcp::{AdvertisedWindow, MAX_SCALE, PartsSum, RetransmissionTimeout, RttEstimate, TimeoutBounds};
+use net_tcp::{Transmission, scaled};
+use std::ops::{Add, AddAssign, Div, DivAssign, Mul, MulAssign, Shl, ShlAssign, Shr, ShrAssign, Sub, SubAssign};
+
+'''
+HEADER = re.compile(r'impl(?:<(.*?)>)? (?:\S+ for )?(\w+)(<.*>)?\s*')
+SIGNATURE = re.compile(r'fn (\w+)(?:<(.*?)>)?\(([^()]*)\)', re.S)
+
+
+def guarded():
+    """The functions with guards: name, header of the impl, signature, what the guards test, whether N is tested."""
+    exported = erase.public()
+    for crate, _, text in erase.sources():
+        eraser = erase.Eraser(text, crate, exported, given.UNGUARDED)
+        eraser.run()
+        yield from (function for function in eraser.guarded if function[3])
+
+
+def weaker(test):
+    """Tests that are true of more than this one."""
+    found = [test.replace(a, b) for a, b in ((' < ', ' <= '), (' > ', ' >= '), (' == ', ' >= ')) if a in test]
+    found += re.sub('(.*) <= (.*)', r'\1 <= (\2).saturating_add(1)', test), re.sub(r'(, |\()(\w+(?:\.len\(\))?)\)$', r'\1\2 / 2)', test)
+    return ['true', *(other for other in found if other != test)]
+
+
+def faulty():
+    """The same, one of their guards weaker."""
+    for name, header, signature, tests, is_some in guarded():
+        for k, test in enumerate(tests):
+            for other in weaker(test):
+                yield name, header, signature, [*tests[:k], other, *tests[k + 1:]], is_some
+
+
+def parts(text):
+    """The parts of a list of parameters."""
+    return [part.strip() for part in re.split(r',(?![^<]*>)', text) if part.strip()]
+
+
+def twin(title, header, signature, tests, is_some):
+    """The twin of a function, under another name; what it takes by value can be dropped."""
+    outer, owner, arguments = HEADER.fullmatch(header).groups('') if header else ('', '', '')
+    name, inner, parameters = SIGNATURE.search(signature).groups('')
+    parameters, path = parts(parameters), f'{owner}::{arguments}' if arguments else owner
+    passed, called = [part.split(':')[0] for part in parameters], f'{path}::{name}'.removeprefix('::')
+    if passed and passed[0].endswith('self'):
+        parameters[0] = f'this: {passed[0][:-4]}{owner}{arguments}'
+        passed, called = passed[1:], f'this.{name}'
+    generics = ', '.join(part if re.search('^const |Drop', part) else part + (' + ' if ':' in part else ': ') + 'Drop'
+                         for part in parts(outer) + parts(inner))
+    tests = ['N >= 1'] * is_some + [re.sub(r'\bself\b', 'this', re.sub(r'\bSelf\b', path, test)) for test in tests]
+    return (f'pub fn {title}{f"<{generics}>" * bool(generics)}({", ".join(parameters)}) {{\n'
+            + ''.join(f'    if !({test}) {{\n        return;\n    }}\n' for test in tests)
+            + f'    let _ = {called}({", ".join(passed)});\n}}\n')
+
+
+def check(text):
+    """What the check of this crate says, and its status."""
+    rows = [row for row in (erase.REPOSITORY / 'crates.txt').read_text().split('\n') if row.split(':')[0] in given.CRATES]
+    names = [row.split(':')[0] for row in rows]
+    with tempfile.TemporaryDirectory() as folder:
+        crates = Path(folder) / 'crates'
+        for part in (Path(name) / part for name in names for part in ('src', 'specs', 'proofs', 'out/rlib')):
+            if (erase.REPOSITORY / 'crates' / part).is_dir():
+                shutil.copytree(erase.REPOSITORY / 'crates' / part, crates / part)
+        (crates.parent / 'crates.txt').write_text('\n'.join([*rows, f'twins: {" ".join(names)}', '']))
+        (crates / 'twins/src').mkdir(parents=True)
+        (crates / 'twins/src/lib.rt').write_text(text)
+        ran = subprocess.run(['rt', 'check'], cwd=crates / 'twins', stdout=subprocess.PIPE, stderr=subprocess.STDOUT, text=True)
+        return ran.stdout, ran.returncode
+
+
+def main(arguments):
+    functions = [*(faulty() if arguments == ['--faults'] else guarded())]
+    names = [f'twin_{k}_{re.sub("[^a-z]+", "_", function[0].lower())}' for k, function in enumerate(functions)]
+    text = TOP + '\n'.join(twin(name, *function[1:]) for name, function in zip(names, functions))
+    if arguments == ['--print']:
+        print(text, end='')
+        return 0
+    said, status = check(text)
+    if arguments == ['--faults']:
+        proved = [f'{name} is proved' for name in names if not re.search(rf'\b{name}\b', said)]
+        print(*proved, f'{len(names) - len(proved)} of {len(names)} weaker guards are refused', sep='\n')
+        return bool(proved)
+    print(said if status else f'the guards of {len(names)} functions test enough')
+    return status
+
+
+if __name__ == '__main__':
+    sys.exit(main(sys.argv[1:]))
