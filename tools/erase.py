@@ -203,9 +203,10 @@ class Eraser(Text):
             if pub is not None and re.search(r'Head\b', self.source(k, begin)):    # it has no guards: it stays inside
                 self.put(pub, pub + 1, 'pub(crate)')
             elif asked:
-                conditions = self.guard(name, k, body, len(asked))
-                self.guarded.append((name, owner.header, self.source(k, begin), conditions, is_some))
-                if self.guards & set(range(body, self.group(body) if self.tokens[body][1] == '{' else body)):
+                guards, tests = self.guard(name, k, body, len(asked))
+                self.guards |= guards
+                self.guarded.append((name, owner.header, self.source(k, begin), tests, is_some))
+                if guards:
                     first = next(j for j in range(head, k + 1) if self.tokens[j][1] in ('pub', 'const', 'fn'))
                     self.before[first] = f'{self.before.get(first, "")}#[track_caller]\n{margin}'
             self.contracts += contract * (pub is not None)
@@ -218,24 +219,22 @@ class Eraser(Text):
         return k + 1
 
     def guard(self, name, k, body, count):
-        """Finds the guards of a function with so many preconditions, and returns what they test."""
+        """The guards of a function with so many preconditions: where they begin, and what they test."""
         end = self.group(body) if self.tokens[body][1] == '{' else body
-        every = {j for j in range(body, end) if self.tokens[j][1] == 'prove'}
         if name in self.unguarded:
-            listed = words(self.unguarded[name][1])
-            if listed.count('prove') != len(every) or ' '.join(listed) not in ' '.join(words(self.source(body, end))):
+            guards, listed = {j for j in range(body, end) if self.tokens[j][1] == 'prove'}, words(self.unguarded[name][1])
+            if listed.count('prove') != len(guards) or ' '.join(listed) not in ' '.join(words(self.source(body, end))):
                 self.refuse(self.tokens[k][2], f'{name} has other guards than the list')
-            self.used, self.guards = self.used | {name}, self.guards | every
-            return []
-        found, j = [], self.next(body + 1)
+            self.used |= {name}
+            return guards, []
+        guards, tests, j = set(), [], self.next(body + 1)
         while self.tokens[j][1] == 'prove':
-            self.guards |= {j}
             begin = self.next(j + 2)
-            found.append(self.source(begin + 1, self.until(begin + 1, ',', ')')).strip())
+            guards, tests = guards | {j}, [*tests, self.source(begin + 1, self.until(begin + 1, ',', ')')).strip()]
             j = self.next(self.group(begin) + 1)
-        if len(found) != count:
-            self.refuse(self.tokens[k][2], f'{name} has {count} preconditions and {len(found)} guards')
-        return found
+        if len(tests) != count:
+            self.refuse(self.tokens[k][2], f'{name} has {count} preconditions and {len(tests)} guards')
+        return guards, tests
 
     def convert(self, k, begin, body, margin, parameters):
         """Lets parameters be all that converts to their types."""
