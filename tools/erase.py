@@ -8,9 +8,9 @@ A file becomes itself without its *ghost forms*, those of the tables below. A fo
 file and line. A function's contract becomes a section of its documentation. tools/parts/erase_list.py says what else differs.
 
 A function with preconditions that can be called from outside begins with as many guards, `prove!(..)`, which become
-`assert!(..)`; another number is refused, and so is a guard elsewhere, but for what the list names. That the guards are
-enough is proved by the twins of tools/guards.py. What is written has the source's tokens without those of ghost forms,
-and no word of contracts; erased again, it stays.
+`assert!(..)`; another number is refused, and so is a guard elsewhere, but for what the list names. tools/guards.py proves
+that they test enough. What is written has the source's tokens without those of ghost forms, and no word of contracts;
+erased again, it stays.
 """
 import re
 import sys

@@ -184,7 +184,7 @@ def said(text, **settings):
 
 def guards():
     """Each guard of the sources, taken out, behind a statement, and one that holds always: the first two are refused, and
-    so is the third, if no twin tests it. Returns how many there are."""
+    so is the third, if the function has no checked call. Returns how many there are."""
     settings, count = {'public': erase.public(), 'unguarded': erase.given.UNGUARDED}, 0
     for crate, path, text in erase.sources():
         eraser = erase.Eraser(text, crate, **settings)

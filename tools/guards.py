@@ -1,14 +1,14 @@
 #!/usr/bin/env python3
-"""Proves that each guard tests enough, by twins:
+"""Proves that each guard tests enough, by checked calls:
 
-    python3 tools/guards.py             proves the twins; status 1 if one isn't proved
-    python3 tools/guards.py --faults    proves none of the twins in which one guard is weaker; status 1 if one is proved
-    python3 tools/guards.py --print     prints the twins
+    python3 tools/guards.py                proves the checked calls; status 1 if one isn't proved
+    python3 tools/guards.py --faults [K]   tries those in which one guard is weaker, or each Kth; status 1 if one is proved
+    python3 tools/guards.py --print        prints the checked calls
 
-A function with guards, as tools/erase.py reads them, has a twin, with its parameters and without its preconditions: it
+A function with guards, as tools/erase.py reads them, has a checked call, with its parameters and without preconditions: it
 returns if what a guard tests is false, and then calls the function. So it is proved only if the guards imply the
-preconditions. The twins are a crate over copies of the libraries, as `rt check` or `rt lib` of a crate above them left
-them: otherwise those are proved first.
+preconditions. They are a crate over copies of the libraries, as `rt check` or `rt lib` of a crate above them left them:
+otherwise those are proved first.
 """
 import re
 import shutil
@@ -21,7 +21,7 @@ sys.dont_write_bytecode = True
 import erase
 from parts import erase_list as given
 
-TOP = '''//! Twins of the functions with guards.
+TOP = '''//! Checked calls of the functions with guards.
 #![tactic(auto)]
 
 use net_assembler::{Assembler, Turns};
@@ -50,7 +50,8 @@ def guarded():
 def weaker(test):
     """Tests that are true of more than this one."""
     found = [test.replace(a, b) for a, b in ((' < ', ' <= '), (' > ', ' >= '), (' == ', ' >= ')) if a in test]
-    found += re.sub('(.*) <= (.*)', r'\1 <= (\2).saturating_add(1)', test), re.sub(r'(, |\()(\w+(?:\.len\(\))?)\)$', r'\1\2 / 2)', test)
+    found += [re.sub('(.*) <= (.*)', r'\1 <= (\2).saturating_add(1)', test)]
+    found += [re.sub(r'(, |\()(\w+(?:\.len\(\))?)\)$', r'\1\2 / 2)', test)]
     return ['true', *(other for other in found if other != test)]
 
 
@@ -67,8 +68,9 @@ def parts(text):
     return [part.strip() for part in re.split(r',(?![^<]*>)', text) if part.strip()]
 
 
-def twin(title, header, signature, tests, is_some):
-    """The twin of a function, under another name; what it takes by value can be dropped."""
+def checked(title, header, signature, tests, is_some):
+    """The checked call of a function, under another name. What it takes by value can be dropped; what it makes is
+    returned, since the type of a result fits the memory."""
     outer, owner, arguments = HEADER.fullmatch(header).groups('') if header else ('', '', '')
     name, inner, parameters = SIGNATURE.search(signature).groups('')
     parameters, path = parts(parameters), f'{owner}::{arguments}' if arguments else owner
@@ -79,9 +81,12 @@ def twin(title, header, signature, tests, is_some):
     generics = ', '.join(part if re.search('^const |Drop', part) else part + (' + ' if ':' in part else ': ') + 'Drop'
                          for part in parts(outer) + parts(inner))
     tests = ['N >= 1'] * is_some + [re.sub(r'\bself\b', 'this', re.sub(r'\bSelf\b', path, test)) for test in tests]
-    return (f'pub fn {title}{f"<{generics}>" * bool(generics)}({", ".join(parameters)}) {{\n'
-            + ''.join(f'    if !({test}) {{\n        return;\n    }}\n' for test in tests)
-            + f'    let _ = {called}({", ".join(passed)});\n}}\n')
+    call = f'{called}({", ".join(passed)})'
+    result, refused, last = '', 'return', f'let _ = {call};'
+    if '-> Self' in signature:
+        result, refused, last = f' -> Option<{owner}{arguments}>', 'return None', f'Some({call})'
+    return (f'pub fn {title}{f"<{generics}>" * bool(generics)}({", ".join(parameters)}){result} {{\n'
+            + ''.join(f'    if !({test}) {{\n        {refused};\n    }}\n' for test in tests) + f'    {last}\n}}\n')
 
 
 def check(text):
@@ -93,25 +98,28 @@ def check(text):
         for part in (Path(name) / part for name in names for part in ('src', 'specs', 'proofs', 'out/rlib')):
             if (erase.REPOSITORY / 'crates' / part).is_dir():
                 shutil.copytree(erase.REPOSITORY / 'crates' / part, crates / part)
-        (crates.parent / 'crates.txt').write_text('\n'.join([*rows, f'twins: {" ".join(names)}', '']))
-        (crates / 'twins/src').mkdir(parents=True)
-        (crates / 'twins/src/lib.rt').write_text(text)
-        ran = subprocess.run(['rt', 'check'], cwd=crates / 'twins', stdout=subprocess.PIPE, stderr=subprocess.STDOUT, text=True)
+        (crates.parent / 'crates.txt').write_text('\n'.join([*rows, f'checked: {" ".join(names)}', '']))
+        (crates / 'checked/src').mkdir(parents=True)
+        (crates / 'checked/src/lib.rt').write_text(text)
+        ran = subprocess.run(['rt', 'check'], cwd=crates / 'checked', text=True,
+                             stdout=subprocess.PIPE, stderr=subprocess.STDOUT)
         return ran.stdout, ran.returncode
 
 
 def main(arguments):
-    functions = [*(faulty() if arguments == ['--faults'] else guarded())]
-    names = [f'twin_{k}_{re.sub("[^a-z]+", "_", function[0].lower())}' for k, function in enumerate(functions)]
-    text = TOP + '\n'.join(twin(name, *function[1:]) for name, function in zip(names, functions))
+    is_faulty = arguments[:1] == ['--faults']
+    functions = [*faulty()][::int((*arguments, '1')[1])] if is_faulty else [*guarded()]
+    names = [f'call_{k}_{re.sub("[^a-z]+", "_", function[0].lower())}' for k, function in enumerate(functions)]
+    text = TOP + '\n'.join(checked(name, *function[1:]) for name, function in zip(names, functions))
     if arguments == ['--print']:
         print(text, end='')
         return 0
     said, status = check(text)
-    if arguments == ['--faults']:
-        proved = [f'{name} is proved' for name in names if not re.search(rf'\b{name}\b', said)]
-        print(*proved, f'{len(names) - len(proved)} of {len(names)} weaker guards are refused', sep='\n')
-        return bool(proved)
+    if is_faulty:
+        unseen = [f'not refused: {name} {tests}' for name, (_, _, _, tests, _) in zip(names, functions)
+                  if f'fn checked::{name}: no proof' not in said]
+        print(*unseen, f'{len(names) - len(unseen)} of {len(names)} weaker guards are refused', sep='\n')
+        return bool(unseen)
     print(said if status else f'the guards of {len(names)} functions test enough')
     return status
 

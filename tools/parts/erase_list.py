@@ -31,8 +31,8 @@ INTO = {
 # Functions that the layer by hand has for one number of runs, as smoltcp.
 BY_HAND = ['Assembler::new', 'FragmentBuffer::new', 'Receiver::new', 'Receiver::new_at']
 
-# Functions with a precondition that no guard at their beginning tests, so that they have no twin (tools/guards.py): why,
-# and the statements that test it. What a closure counted is known once it has returned.
+# Functions with a precondition that no guard at their beginning tests, so that tools/guards.py has no checked call of
+# them: why, and the statements that test it. What a closure counted is known once it has returned.
 SLICES = 'a slice of Rust tests its indices', ''
 CLOSURE = 'Rust knows that a closure can be called', ''
 COUNT = 'Rust knows that a closure can be called; what it counts is tested after the call'
