@@ -60,7 +60,7 @@ def branches(tree):
 
 
 class Eraser(Text):
-    """One file of a crate; functions of the types `public` can be called from outside.
+    """One file of a crate; contracts of the types `public` are on the page of contracts.
 
     `new` has the text that is written for a token, where that is another one; `before` and `after` what is added."""
 
@@ -199,8 +199,9 @@ class Eraser(Text):
         pub = next((j for j in range(head, k) if self.tokens[j][1] == 'pub' and self.tokens[j + 1][1] != '('), None)
         is_some = any(map(SOME_RUNS.fullmatch, contract))
         asked = [clause for clause in contract if clause[0] == 'r' and not SOME_RUNS.fullmatch(clause)] + owner.asked
-        if name.split('::')[0] in self.public and (pub is not None or owner.is_trait or owner.asked):
-            if pub is not None and re.search(r'Head\b', self.source(k, begin)):    # it has no guards: it stays inside
+        is_called = pub is not None or owner.is_trait or owner.asked
+        if is_called and not owner.name.endswith('Head') and self.crate != given.EXPORTS:     # those stay inside
+            if pub is not None and re.search(r'Head\b', self.source(k, begin)):
                 self.put(pub, pub + 1, 'pub(crate)')
             elif asked:
                 guards, tests = self.guard(name, k, body, len(asked))
@@ -209,7 +210,8 @@ class Eraser(Text):
                 if guards:
                     first = next(j for j in range(head, k + 1) if self.tokens[j][1] in ('pub', 'const', 'fn'))
                     self.before[first] = f'{self.before.get(first, "")}#[track_caller]\n{margin}'
-            self.contracts += contract * (pub is not None)
+        if pub is not None and name.split('::')[0] in self.public:
+            self.contracts += contract
         if name in self.into:
             self.convert(k, begin, body, margin, self.into[name])
         if is_some:
@@ -302,12 +304,6 @@ class Eraser(Text):
         return out[:top] + vec + out[top:] if re.search(r'\bVec<', out) and vec not in out else out
 
 
-def public():
-    """The names that the layer by hand exports."""
-    layer = ''.join(file.read_text() for file in OUT.parent.rglob('*.rs') if OUT not in file.parents)
-    return set(re.findall(r'\w+', ' '.join(re.findall(r'pub use crate::proved([^;]*);', layer))))
-
-
 def sources():
     """The files that are erased: of each its crate, the path in that, and the text."""
     for crate, omitted in given.CRATES.items():
@@ -319,17 +315,18 @@ def sources():
 
 def erased(said):
     """Each file of the result, by its path, with its text; what is refused is appended to `said`."""
+    layer = ''.join(file.read_text() for file in OUT.parent.rglob('*.rs') if OUT not in file.parents)
+    public = set(re.findall(r'\w+', ' '.join(re.findall(r'pub use crate::proved([^;]*);', layer))))
     names, contracts = ('contracts', *given.CRATES), []
     modules = ''.join('#[cfg(feature = "c")]\n' * (name == given.EXPORTS) + f'pub mod {name};\n' for name in names)
     files = {OUT / 'mod.rs': TOP + modules}
     unused = {old for _, old, _ in given.REPLACED} | given.UNGUARDED.keys()
-    exported = public()
     for crate, path, text in sources():
         for file, old, new in given.REPLACED:
             if file in ('', f'{crate}/{path}') and old in text:
                 unused -= {old}
                 text = text.replace(old, new)
-        eraser = Eraser(text, crate, exported, given.UNGUARDED, given.INTO)
+        eraser = Eraser(text, crate, public, given.UNGUARDED, given.INTO)
         try:
             text = eraser.run()
             if Eraser(text, crate).run() != text:

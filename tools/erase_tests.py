@@ -152,13 +152,13 @@ CALLED = [
     # Operators, and methods of traits.
     ('impl Add for A', 'ghost can_add = { x }; fn add(self, y: A) -> A', 'prove!(x < 3); g(x)', None),
     ('impl Add for A', 'ghost can_add = { x }; fn add(self, y: A) -> A', 'g(x)', '1 preconditions and 0 guards'),
-    ('impl Add for B', 'ghost can_add = { x }; fn add(self, y: A) -> A', 'g(x)', None),
     ('pub trait A<T>: B', f'fn f(x: u8) {ONE}', 'g(x)', '1 preconditions and 0 guards'),
     # What is called from inside has none; a head stays inside.
     ('impl A', f'fn f(x: u8) {ONE}', 'g(x)', None),
     ('impl A', f'fn f(x: u8) {ONE}', 'prove!(x < 3); g(x)', 'a guard that'),
     ('impl A', f'pub(crate) fn f(x: u8) {ONE}', 'g(x)', None),
-    ('impl B', f'pub fn f(x: u8) {ONE}', 'g(x)', None),
+    ('impl AHead', f'pub fn f(x: u8) {ONE}', 'g(x)', None),
+    ('impl AHead', f'pub fn f(x: u8) {ONE}', 'prove!(x < 3); g(x)', 'a guard that'),
     ('impl A', f'pub fn f(x: AHead) {ONE}', 'g(x)', None),
     ('impl A', f'pub fn f(x: AHead) {ONE}', 'prove!(x < 3); g(x)', 'a guard that'),
     # The list names a function with its type, and has the statements.
@@ -185,7 +185,7 @@ def said(text, **settings):
 def guards():
     """Each guard of the sources, taken out, behind a statement, and one that holds always: the first two are refused, and
     so is the third, if the function has no checked call. Returns how many there are."""
-    settings, count = {'public': erase.public(), 'unguarded': erase.given.UNGUARDED}, 0
+    settings, count = {'unguarded': erase.given.UNGUARDED}, 0
     for crate, path, text in erase.sources():
         eraser = erase.Eraser(text, crate, **settings)
         eraser.run()
@@ -278,15 +278,15 @@ def main():
     for text, part in REFUSED:
         assert part in (said(text) or ''), (text, part, said(text))
     for header, signature, body, part in CALLED:
-        why = said(f'{header} {{\n    {signature} {{\n        {body}\n    }}\n}}\n', public={'A', 'C'}, unguarded=LISTED)
+        why = said(f'{header} {{\n    {signature} {{\n        {body}\n    }}\n}}\n', unguarded=LISTED)
         assert part in (why or '') if part else why is None, (header, signature, body, part, why)
     # A guard says who called.
     guard = 'impl A {\n    #[inline]\n    pub const fn f(x: u8) requires { x }\n    {\n        prove!(x < 3, "x");\n    }\n}\n'
     wanted = '    #[inline]\n    #[track_caller]\n    pub const fn f(x: u8) {\n        assert!(x < 3, "x");\n    }\n}\n'
-    assert of(guard, public={'A'}).endswith(wanted), of(guard, public={'A'})
+    assert of(guard).endswith(wanted), of(guard)
     # A head stays inside; parameters are converted.
     head = 'impl A {\n    pub fn place(&self) -> AHead {\n        self.a\n    }\n}\n'
-    assert of(head, public={'A'}) == head.replace('pub fn', 'pub(crate) fn')
+    assert of(head) == head.replace('pub fn', 'pub(crate) fn')
     wanted = 'impl A {\n    pub fn f<A: Into<B<C, D>>>(x: A, y: u8) {\n        let x = x.into();\n        g(x);\n    }\n}\n'
     assert of('impl A {\n    pub fn f(x: B<C, D>, y: u8) {\n        g(x);\n    }\n}\n', into={'A::f': ['x']}) == wanted
     own_checks()

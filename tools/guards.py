@@ -40,9 +40,8 @@ SIGNATURE = re.compile(r'fn (\w+)(?:<(.*?)>)?\(([^()]*)\)', re.S)
 
 def guarded():
     """The functions with guards: name, header of the impl, signature, what the guards test, whether N is tested."""
-    exported = erase.public()
     for crate, _, text in erase.sources():
-        eraser = erase.Eraser(text, crate, exported, given.UNGUARDED)
+        eraser = erase.Eraser(text, crate, unguarded=given.UNGUARDED)
         eraser.run()
         yield from (function for function in eraser.guarded if function[3])
 
