@@ -8,12 +8,14 @@ A file becomes itself without its *ghost forms*, those of the tables below. A fo
 file and line. The contract of a public function is folded at the end of its documentation. tools/parts/erase_list.py says
 what else differs, and tools/parts/erase_names.py which types have other names.
 
-A public function with a precondition begins with a guard, `prove!(..)`, which becomes `assert!(..)`; one without is
-refused, but for those that the list names. What is written has the source's tokens without those of ghost forms, and no
-word of contracts; erased again, it stays.
+A function with preconditions that can be called from outside begins with as many guards, `prove!(..)`, which become
+`assert!(..)`; another number is refused, and so is a guard elsewhere, but for what the list names. tools/guards.py proves
+that they test enough. What is written has the source's tokens without those of ghost forms, and no word of contracts;
+erased again, it stays.
 """
 import re
 import sys
+from collections import namedtuple
 from pathlib import Path
 
 sys.dont_write_bytecode = True
@@ -48,6 +50,9 @@ GONE, NO_CLAUSE = '\0', '\1'                      # where a form, and where a cl
 LINK = re.compile(r'(?<=\()\w+(?:::\w+)+(?=\))')
 CALLABLE = re.compile(r'(?<=`f`) may be called on [^,]*(?:, and|(?:, if there is one)?\.$)')  # Rust knows it of a closure
 
+# What functions are of: the type or trait, where that ends, the header, and the ghost members that are preconditions.
+Owner = namedtuple('Owner', 'name end header asked is_trait', defaults=('', 0, '', [], False))
+
 
 def branches(tree):
     """The paths of an import without its braces, of which it has at most one pair."""
@@ -58,7 +63,7 @@ def branches(tree):
 
 
 class Eraser(Text):
-    """One file of a crate; functions of the types `public` can be called from outside.
+    """One file of a crate; contracts of the types `public` are on the page of contracts.
 
     `new` has the text that is written for a token, where that is another one; `before` and `after` what is added."""
 
@@ -66,7 +71,8 @@ class Eraser(Text):
         super().__init__(text)
         self.crate, self.public, self.unguarded, self.into = crate, public, unguarded, into
         self.new, self.before, self.after = {}, {}, {}
-        self.owner, self.used, self.contracts = ('', 0, False), set(), []     # a type or trait, its end, and if it is a trait's
+        self.owner, self.used, self.contracts = Owner(), set(), []
+        self.guards, self.guarded = set(), []            # tokens where guards begin; functions that have some
 
     def put(self, start, end, text):
         """Writes a text for the tokens from start to end."""
@@ -117,7 +123,7 @@ class Eraser(Text):
         if re.fullmatch('//[/!] *```rust', line):
             end = next(j for j in range(k + 1, len(self.tokens)) if self.tokens[j][1].endswith(' ```'))
             return self.put(k, end + 1 + 2 * (self.tokens[end + 2][1] == '///'), GONE)
-        if line == '/// # Requires' and self.crate != given.EXPORTS and not (k < self.owner[1] and self.owner[0].endswith('Head')):
+        if line == '/// # Requires' and self.crate != given.EXPORTS and not (k < self.owner.end and self.owner.name.endswith('Head')):
             said = CALLABLE.sub('', self.tokens[k + 4][1])                      # after a line without text
             if said == '/// `f`':
                 return self.put(k - 2, k + 5, GONE)
@@ -147,18 +153,14 @@ class Eraser(Text):
             return False, self.put(k, k + 1, 'pub mod')
         if fresh and word == 'impl':
             return self.implementation(k, head)
-        if fresh and word == 'trait':
-            self.owner = self.tokens[after][1], self.group(self.until(k, '{')), True
         if word == 'Drop' and (self.tokens[after][1] in ('+', *AFTER_BOUND)):
             return False, self.bound(k, after)
+        if word == 'trait':
+            self.owner = Owner(self.tokens[after][1], self.group(self.until(k, '{')), is_trait=True)
+            return False, k + 1
         if word == 'prove' and self.tokens[after][1] == '!':
-            if self.text.startswith('prove!(N >= 1, ', at):             # tested when the program is compiled
-                end = self.group(self.next(after + 1))
-                self.after[end - 1] = ' }'
-                return False, self.put(k, k + 1, 'const { assert')
-            first, owner, margin = self.inside
-            if not owner.endswith('Head') and '#[track' not in self.before.get(first, ''):
-                self.before[first] = f'{self.before.get(first, "")}#[track_caller]\n{margin}'
+            if k not in self.guards and not self.text[:at].endswith('const _: () = '):
+                self.refuse(at, 'a guard that does not begin a function with a precondition')
             return False, self.put(k, k + 1, 'assert')
         path, end = word, k + 1
         while self.tokens[end][1] == '::' and self.tokens[end + 1][0] == 'word':
@@ -191,7 +193,8 @@ class Eraser(Text):
             if not FOREIGN_IMPLS[said[-3]].fullmatch(body):
                 self.refuse(self.tokens[k][2], 'an impl that does more than those that are erased')
             return True, self.put(head, end, GONE)
-        self.owner = said[-1], end, 'for' in said
+        asked = [word for kind, word, _ in self.tokens[brace:end] if kind == 'ghost' and word.startswith('ghost can_')]
+        self.owner = Owner(said[-1], end, self.source(k, brace), asked)
         return False, k + 1
 
     def function(self, k, head):
@@ -204,36 +207,54 @@ class Eraser(Text):
             self.refuse(self.tokens[body][2], 'no body after a contract')
         if contract and self.tokens[body][1] + self.tokens[self.next(body + 1)][1] == '{}':
             return self.put(head, self.next(body + 1) + 1, GONE)
-        owner = self.owner[0] if k < self.owner[1] else ''
-        name = f'{owner}::{self.tokens[self.next(k + 1)][1]}'.removeprefix('::')
+        owner = self.owner if k < self.owner.end else Owner()
+        name = f'{owner.name}::{self.tokens[self.next(k + 1)][1]}'.removeprefix('::')
         if name in given.BY_HAND:
             return self.put(head, self.group(body), GONE)
-        pub = next((j for j in range(head, k) if self.tokens[j][1] == 'pub' and self.tokens[j + 1][1] != '('), None)
-        if pub is not None and name.split('::')[0] in self.public:
-            if re.search(r'Head\b', self.source(k, begin)):                 # a head has no guards: it stays inside
-                self.put(pub, pub + 1, 'pub(crate)')
-            elif any(clause[0] == 'r' and not SOME_RUNS.fullmatch(clause) for clause in contract):
-                self.used |= set() if self.is_guarded(body) else {name}
-            self.contracts += contract
-        if self.used - self.unguarded.keys():
-            self.refuse(self.tokens[k][2], f'{name} has a precondition and no guard')
         margin = re.search(r'[ \t]*$', self.text[:self.tokens[head][2]]).group()
-        self.inside = next(j for j in range(head, k + 1) if self.tokens[j][1] in ('pub', 'const', 'fn')), owner, margin
+        pub = next((j for j in range(head, k) if self.tokens[j][1] == 'pub' and self.tokens[j + 1][1] != '('), None)
+        is_some = any(map(SOME_RUNS.fullmatch, contract))
+        asked = [clause for clause in contract if clause[0] == 'r' and not SOME_RUNS.fullmatch(clause)] + owner.asked
+        is_called = pub is not None or owner.is_trait or owner.asked
+        if is_called and not owner.name.endswith('Head') and self.crate != given.EXPORTS:     # those stay inside
+            if pub is not None and re.search(r'Head\b', self.source(k, begin)):
+                self.put(pub, pub + 1, 'pub(crate)')
+            elif asked:
+                guards, tests = self.guard(name, k, body, len(asked))
+                self.guards |= guards
+                self.guarded.append((name, owner.header, self.source(k, begin), tests, is_some))
+                if guards:
+                    first = next(j for j in range(head, k + 1) if self.tokens[j][1] in ('pub', 'const', 'fn'))
+                    self.before[first] = f'{self.before.get(first, "")}#[track_caller]\n{margin}'
+        if pub is not None and name.split('::')[0] in self.public:
+            self.contracts += contract
         if name in self.into:
             self.convert(k, begin, body, margin, self.into[name])
-        if any(map(SOME_RUNS.fullmatch, contract)) and 'prove!(N >= 1, ' not in self.source(body, self.group(body)):
+        if is_some:
             self.after[body] = f'\n{margin}    {HAS_RUNS}'
-        seen = (pub is not None or k < self.owner[1] and self.owner[2]) and not owner.endswith('Head')
+        is_of_trait = owner.is_trait or re.search(r'\bfor\b', owner.header)
+        seen = (pub is not None or is_of_trait) and not owner.name.endswith('Head')
         if contract and seen and self.crate != given.EXPORTS:                 # what isn't seen has no page
             self.document(k, head, margin, contract)
         return k + 1
 
-    def is_guarded(self, body):
-        """Whether a body begins with a guard, after the `let`s that this needs."""
-        k = self.next(body + 1)
-        while self.tokens[k][1] == 'let':
-            k = self.next(self.until(k, ';') + 1)
-        return self.tokens[k][1] == 'prove'
+    def guard(self, name, k, body, count):
+        """The guards of a function with so many preconditions: where they begin, and what they test."""
+        end = self.group(body) if self.tokens[body][1] == '{' else body
+        if name in self.unguarded:
+            guards, listed = {j for j in range(body, end) if self.tokens[j][1] == 'prove'}, words(self.unguarded[name][1])
+            if listed.count('prove') != len(guards) or ' '.join(listed) not in ' '.join(words(self.source(body, end))):
+                self.refuse(self.tokens[k][2], f'{name} has other guards than the list')
+            self.used |= {name}
+            return guards, []
+        guards, tests, j = set(), [], self.next(body + 1)
+        while self.tokens[j][1] == 'prove':
+            begin = self.next(j + 2)
+            guards, tests = guards | {j}, [*tests, self.source(begin + 1, self.until(begin + 1, ',', ')')).strip()]
+            j = self.next(self.group(begin) + 1)
+        if len(tests) != count:
+            self.refuse(self.tokens[k][2], f'{name} has {count} preconditions and {len(tests)} guards')
+        return guards, tests
 
     def convert(self, k, begin, body, margin, parameters):
         """Lets parameters be all that converts to their types."""
@@ -302,6 +323,15 @@ class Eraser(Text):
         return out[:top] + vec + out[top:] if re.search(r'\bVec<', out) and vec not in out else out
 
 
+def sources():
+    """The files that are erased: of each its crate, the path in that, and the text."""
+    for crate, omitted in given.CRATES.items():
+        source = REPOSITORY / 'crates' / crate / 'src'
+        for path in sorted(file.relative_to(source) for file in source.rglob('*.rt')):
+            if not {LAWS, *omitted} & set(path.with_suffix('').parts):
+                yield crate, path, (source / path).read_text()
+
+
 def erased(said):
     """Each file of the result, by its path, with its text; what is refused is appended to `said`."""
     layer = ''.join(file.read_text() for file in OUT.parent.rglob('*.rs') if OUT not in file.parents)
@@ -310,25 +340,20 @@ def erased(said):
     modules = ''.join('#[cfg(feature = "c")]\n' * (name == given.EXPORTS) + f'pub mod {name};\n' for name in names)
     files = {OUT / 'mod.rs': TOP + modules}
     unused = {old for _, old, _ in given.REPLACED} | given.UNGUARDED.keys()
-    for crate, omitted in given.CRATES.items():
-        source = REPOSITORY / 'crates' / crate / 'src'
-        for path in sorted(file.relative_to(source) for file in source.rglob('*.rt')):
-            if {LAWS, *omitted} & set(path.with_suffix('').parts):
-                continue
-            text = (source / path).read_text()
-            for file, old, new in given.REPLACED:
-                if file in ('', f'{crate}/{path}') and old in text:
-                    unused -= {old}
-                    text = text.replace(old, new)
-            eraser = Eraser(text, crate, public, given.UNGUARDED, given.INTO)
-            try:
-                text = eraser.run()
-                if Eraser(text, crate).run() != text:
-                    raise Refused('erased again, it is another text')
-            except Refused as refused:
-                said.append(f'{source / path}:{refused}')
-            unused, contracts = unused - eraser.used, contracts + eraser.contracts
-            files[OUT / crate / ('mod.rs' if path.name == 'lib.rt' else path.with_suffix('.rs'))] = text
+    for crate, path, text in sources():
+        for file, old, new in given.REPLACED:
+            if file in ('', f'{crate}/{path}') and old in text:
+                unused -= {old}
+                text = text.replace(old, new)
+        eraser = Eraser(text, crate, public, given.UNGUARDED, given.INTO)
+        try:
+            text = eraser.run()
+            if Eraser(text, crate).run() != text:
+                raise Refused('erased again, it is another text')
+        except Refused as refused:
+            said.append(f'{REPOSITORY / "crates" / crate / "src" / path}:{refused}')
+        unused, contracts = unused - eraser.used, contracts + eraser.contracts
+        files[OUT / crate / ('mod.rs' if path.name == 'lib.rt' else path.with_suffix('.rs'))] = text
     try:
         files = dict(zip(files, erase_names.renamed(files.values())))
     except Refused as refused:

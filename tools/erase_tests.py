@@ -4,6 +4,7 @@ python3 tools/erase_tests.py"""
 import contextlib
 import io
 import pathlib
+import re
 import sys
 import tempfile
 
@@ -28,8 +29,8 @@ def of(text, **settings):
 
 # Pairs: a text, and what it becomes.
 GIVEN = [
-    ('pub fn f(x: u8) -> u8\n    requires a { x ≤ 3 }\n{\n    x\n}\n',
-     CONTRACT + '/// requires a { x ≤ 3 }\n' + END + 'pub fn f(x: u8) -> u8 {\n    x\n}\n'),
+    ('pub fn f(x: u8) -> u8\n    ensures a { result ≡ x }\n{\n    x\n}\n',
+     CONTRACT + '/// ensures a { result ≡ x }\n' + END + 'pub fn f(x: u8) -> u8 {\n    x\n}\n'),
     # What isn't public has none, and what is of a trait has one.
     ('/// D.\npub(crate) fn f()\n    ensures { ⊤ }\n{\n    g()\n}\nimpl A {\n    fn f()\n        ensures { ⊤ }\n    {\n'
      '        g()\n    }\n}\nimpl AHead {\n    pub fn f()\n        ensures { ⊤ }\n    {\n        g()\n    }\n}\n',
@@ -80,17 +81,14 @@ GIVEN = [
     ('impl Clone for A {\n    fn clone(&self) -> Result<A, E> {\n        Ok(b)\n    }\n}\nfn f() {}\n', 'fn f() {}\n'),
     ('#![tactic(auto)]\n#[tactic(auto, using(a::b))]\nfn f() {}\n', 'fn f() {}\n'),
     ('#[error("no room")]\nstruct A;\n', 'struct A;\n'),
-    # Words of contracts in texts and comments are none; a guard says who called.
-    ('fn f(a: u8) {\n    let s = "ghost { requires";\n    // ghost use\n    prove!(a < 3, "ghost");\n}\n',
-     '#[track_caller]\nfn f(a: u8) {\n    let s = "ghost { requires";\n    // ghost use\n    assert!(a < 3, "ghost");\n}\n'),
-    ('impl AHead {\n    fn f(a: u8) {\n        prove!(a < 3);\n    }\n}\n', 'impl AHead {\n    fn f(a: u8) {\n        assert!(a < 3);\n    }\n}\n'),
+    # Words of contracts in texts and comments are none.
+    ('fn f() {\n    let s = "ghost { requires prove!(";\n    // ghost use\n}\n',
+     'fn f() {\n    let s = "ghost { requires prove!(";\n    // ghost use\n}\n'),
+    ('const _: () = prove!(size_of::<A>() == 0);\n', 'const _: () = assert!(size_of::<A>() == 0);\n'),
     # That there is a run is tested when the program is compiled.
     ('pub const fn f<const N: usize>()\n    requires runs { 1 ≤ N }\n{\n    g()\n}\n',
      CONTRACT + '/// requires runs { 1 ≤ N }\n' + END + 'pub const fn f<const N: usize>() {\n    '
      'const { assert!(N >= 1, "N is at least 1") };\n    g()\n}\n'),
-    ('pub const fn f<const N: usize>()\n    requires { 1 ≤ N }\n{\n    prove!(N >= 1, "some");\n    g()\n}\n',
-     CONTRACT + '/// requires { 1 ≤ N }\n' + END + 'pub const fn f<const N: usize>() {\n    '
-     'const { assert!(N >= 1, "some") };\n    g()\n}\n'),
     # Examples of proved functions are parts, and go; the others are run.
     ('/// A.\n///\n/// ```rust\n/// a?\n/// ```\n///\n/// ```\n/// b();\n/// ```\nfn f() {}\n',
      '/// A.\n///\n/// ```\n/// b();\n/// ```\nfn f() {}\n'),
@@ -149,28 +147,52 @@ REFUSED = [
     ('impl Drop for A {\n    fn drop(self) {\n        match self {\n            A::B(x) => drop(y),\n        }\n    }\n}\n', 'does more'),
     ('impl Model for A {\n    fn f() {}\n}\n', 'does more'),
     ('impl Clone for A {\n    fn clone(&self) -> A {\n        A\n    }\n}\n', 'does more'),
+    ('fn f(a: u8) {\n    prove!(a < 3);\n}\n', 'a guard that'),
+    ('fn f<const N: usize>()\n    requires { 1 ≤ N }\n{\n    prove!(N >= 1);\n    g()\n}\n', 'a guard that'),
 ]
 
-# Of a type that can be called from outside.
+# What can be called from outside: a header, a signature with its contract, a body, and a part of what is said of it.
+ONE, TWO = 'requires { x < 3 }', 'requires a { x < 3 } requires b { y < 3 }'
 CALLED = [
-    ('impl A {\n    pub fn f(x: u8)\n        requires { x < 3 }\n    {\n        let y = x < 3;\n        prove!(y);\n    }\n}\n', None),
-    ('impl A {\n    pub fn f(x: u8)\n        requires { x < 3 }\n    {\n        g(x);\n        prove!(x < 3);\n    }\n}\n', 'no guard'),
-    ('impl<T: B<C>> A<T> {\n    pub const fn f(x: u8)\n        requires a { x < 3 }\n    {\n        g(x)\n    }\n}\n', 'no guard'),
-    ('impl A {\n    fn f(x: u8)\n        requires { x < 3 }\n    {\n        g(x)\n    }\n}\n', None),
-    ('impl A {\n    pub(crate) fn f(x: u8)\n        requires { x < 3 }\n    {\n        g(x)\n    }\n}\n', None),
-    ('impl B {\n    pub fn f(x: u8)\n        requires { x < 3 }\n    {\n        g(x)\n    }\n}\n', None),
-    ('impl A {\n    pub fn listed(x: u8)\n        requires { x < 3 }\n    {\n        g(x)\n    }\n}\n', None),
-    ('impl A<B> {\n    pub fn f(x: u8)\n        requires { 1 ≤ N }\n        requires { x < 3 }\n    {\n        g(x)\n    }\n}\n', 'no guard'),
-    # A guard after a branch, a loop or a match may be passed by; the list names a function with its type.
-    ('impl A {\n    pub fn f(x: u8)\n        requires { x < 3 }\n    {\n        if y {\n            return;\n        }\n'
-     '        prove!(x < 3);\n    }\n}\n', 'no guard'),
-    ('impl A {\n    pub fn f(x: u8)\n        requires { x < 3 }\n    {\n        for y in z {}\n        prove!(x < 3);\n    }\n}\n',
-     'no guard'),
-    ('impl A {\n    pub fn f(x: u8)\n        requires { x < 3 }\n    {\n        match y {\n            _ => return,\n        }\n'
-     '        prove!(x < 3);\n    }\n}\n', 'no guard'),
-    ('impl A {\n    pub fn f(x: u8)\n        requires { (1 ≤ N) × (x < 3) }\n    {\n        g(x)\n    }\n}\n', 'no guard'),
-    ('impl C {\n    pub fn listed(x: u8)\n        requires { x < 3 }\n    {\n        g(x)\n    }\n}\n', 'no guard'),
+    ('impl A', f'pub fn f(x: u8) {ONE}', 'prove!(x < 3);', None),
+    ('impl A', f'pub fn f(x: u8) {ONE}', 'prove!(x < 3, "x"); g(x)', None),
+    ('impl<T: B<C>> A<T>', f'pub const fn f(x: u8) {ONE}', 'g(x)', '1 preconditions and 0 guards'),
+    ('impl A', f'pub fn f(x: u8) {ONE}', 'g(x); prove!(x < 3);', '0 guards'),
+    ('impl A', f'pub fn f(x: u8) {ONE}', 'let y = x < 3; prove!(y);', '0 guards'),
+    ('impl A', f'pub fn f(x: u8) {ONE}', 'if y { return; } prove!(x < 3);', '0 guards'),
+    ('impl A', f'pub fn f(x: u8) {ONE}', 'if y { prove!(x < 3); }', '0 guards'),
+    ('impl A', f'pub fn f(x: u8) {TWO}', 'prove!(x < 3); prove!(y < 3); g(x)', None),
+    ('impl A', f'pub fn f(x: u8) {TWO}', 'prove!(x < 3); g(x)', '2 preconditions and 1 guards'),
+    ('impl A', f'pub fn f(x: u8) {TWO}', 'prove!(x < 3); g(x); prove!(y < 3);', '1 guards'),
+    ('impl A', f'pub fn f(x: u8) {ONE}', 'prove!(x < 3); prove!(y < 3);', '1 preconditions and 2 guards'),
+    ('impl A', f'pub fn f(x: u8) {ONE}', 'prove!(x < 3); g(x); prove!(y < 3);', 'a guard that'),
+    # That there is a run is a guard that the eraser writes.
+    ('impl A<B>', f'pub fn f(x: u8) requires {{ 1 ≤ N }} {ONE}', 'g(x)', '1 preconditions and 0 guards'),
+    ('impl A<B>', f'pub fn f(x: u8) requires {{ 1 ≤ N }} {ONE}', 'prove!(x < 3); g(x)', None),
+    ('impl A', 'pub fn f(x: u8) requires { (1 ≤ N) × (x < 3) }', 'g(x)', '0 guards'),
+    # Operators, and methods of traits.
+    ('impl Add for A', 'ghost can_add = { x }; fn add(self, y: A) -> A', 'prove!(x < 3); g(x)', None),
+    ('impl Add for A', 'ghost can_add = { x }; fn add(self, y: A) -> A', 'g(x)', '1 preconditions and 0 guards'),
+    ('pub trait A<T>: B', f'fn f(x: u8) {ONE}', 'g(x)', '1 preconditions and 0 guards'),
+    # What is called from inside has none; a head stays inside.
+    ('impl A', f'fn f(x: u8) {ONE}', 'g(x)', None),
+    ('impl A', f'fn f(x: u8) {ONE}', 'prove!(x < 3); g(x)', 'a guard that'),
+    ('impl A', f'pub(crate) fn f(x: u8) {ONE}', 'g(x)', None),
+    ('impl AHead', f'pub fn f(x: u8) {ONE}', 'g(x)', None),
+    ('impl AHead', f'pub fn f(x: u8) {ONE}', 'prove!(x < 3); g(x)', 'a guard that'),
+    ('impl A', f'pub fn f(x: AHead) {ONE}', 'g(x)', None),
+    ('impl A', f'pub fn f(x: AHead) {ONE}', 'prove!(x < 3); g(x)', 'a guard that'),
+    # The list names a function with its type, and has the statements.
+    ('impl A', f'pub fn listed(x: u8) {ONE}', 'g(x)', None),
+    ('impl A', f'pub fn listed(x: u8) {ONE}', 'prove!(x < 3); g(x)', 'other guards'),
+    ('impl C', f'pub fn listed(x: u8) {ONE}', 'g(x)', '0 guards'),
+    ('impl A', f'pub fn counted(x: u8) {ONE}', 'h(x); let y = g(x);\n  prove!(y < x, "y"); h(x)', None),
+    ('impl A', f'pub fn counted(x: u8) {ONE}', 'let y = g(x); h(x); prove!(y < x, "y")', 'other guards'),
+    ('impl A', f'pub fn counted(x: u8) {ONE}', 'let y = g(x); prove!(y < x + 1, "y")', 'other guards'),
+    ('impl A', f'pub fn counted(x: u8) {ONE}', 'let y = g(x); prove!(y < x, "y"); prove!(y < x, "y")', 'other guards'),
+    ('impl A', f'pub fn counted(x: u8) {ONE}', 'g(x)', 'other guards'),
 ]
+LISTED = {'A::listed': ('a reason', ''), 'A::counted': ('a reason', 'let y = g(x); prove!(y < x, "y");')}
 
 
 def said(text, **settings):
@@ -179,6 +201,29 @@ def said(text, **settings):
         of(text, **settings)
     except erase.Refused as refused:
         return str(refused)
+
+
+def guards():
+    """Each guard of the sources, taken out, behind a statement, and one that holds always: the first two are refused, and
+    so is the third, if the function has no checked call. Returns how many there are."""
+    settings, count = {'unguarded': erase.given.UNGUARDED}, 0
+    for crate, path, text in erase.sources():
+        eraser = erase.Eraser(text, crate, **settings)
+        eraser.run()
+        for k in sorted(eraser.guards):
+            open_, count = eraser.next(k + 2), count + 1
+            begin, end = eraser.tokens[k][2], eraser.tokens[eraser.next(eraser.group(open_)) + 1][2]
+            for other in ('', f'let before = 0; {text[begin:end]}'):
+                assert said(text[:begin] + other + text[end:], **settings), (path, text[begin:end])
+            changed = erase.Eraser(f'{text[:begin]}prove!(true);{text[end:]}', crate, **settings)
+            try:
+                changed.run()
+                assert any('true' in tests for _, _, _, tests, _ in changed.guarded), (path, text[begin:end])
+            except erase.Refused:
+                pass
+    told = (erase.REPOSITORY / 'docs/TRUST.md').read_text().split('### What is tested without such a proof')[1].split('## ')[0]
+    assert set(re.findall(r'`(\w+::\w+)`', told)) == settings['unguarded'].keys(), told
+    return count
 
 
 def own_checks():
@@ -199,7 +244,7 @@ def own_checks():
             return f'{super().run()}// once more\n'
 
     try:
-        erase.given.CRATES, erase.given.REPLACED, erase.given.UNGUARDED = {}, [('', 'no such text', '')], {'A::f': 'none'}
+        erase.given.CRATES, erase.given.REPLACED, erase.given.UNGUARDED = {}, [('', 'no such text', '')], {'A::f': ('', '')}
         found = []
         erase.erased(found)
         assert [line.rpartition(': ')[2] for line in found] == ['A::f', 'no such text'], found
@@ -301,19 +346,24 @@ def main():
         assert of(wanted) == wanted, (wanted, of(wanted))
     for text, part in REFUSED:
         assert part in (said(text) or ''), (text, part, said(text))
-    for text, part in CALLED:
-        why = said(text, public={'A', 'C'}, unguarded={'A::listed': 'a reason'})
-        assert part in (why or '') if part else why is None, (text, part, why)
+    for header, signature, body, part in CALLED:
+        why = said(f'{header} {{\n    {signature} {{\n        {body}\n    }}\n}}\n', unguarded=LISTED)
+        assert part in (why or '') if part else why is None, (header, signature, body, part, why)
+    # A guard says who called.
+    guard = 'impl A {\n    #[inline]\n    pub const fn f(x: u8) requires { x }\n    {\n        prove!(x < 3, "x");\n    }\n}\n'
+    wanted = '    #[inline]\n    #[track_caller]\n    pub const fn f(x: u8) {\n        assert!(x < 3, "x");\n    }\n}\n'
+    assert of(guard).endswith(wanted), of(guard)
     # A head stays inside; parameters are converted.
     head = 'impl A {\n    pub fn place(&self) -> AHead {\n        self.a\n    }\n}\n'
-    assert of(head, public={'A'}) == head.replace('pub fn', 'pub(crate) fn')
+    assert of(head) == head.replace('pub fn', 'pub(crate) fn')
     wanted = 'impl A {\n    pub fn f<A: Into<B<C, D>>>(x: A, y: u8) {\n        let x = x.into();\n        g(x);\n    }\n}\n'
     assert of('impl A {\n    pub fn f(x: B<C, D>, y: u8) {\n        g(x);\n    }\n}\n', into={'A::f': ['x']}) == wanted
     own_checks()
     statuses()
     page()
     names()
-    print(f'{len(GIVEN)} texts erased, {len(REFUSED)} refused, {len(CALLED)} asked for a guard, {len(USED)} renamed')
+    print(f'{len(GIVEN)} texts erased, {len(REFUSED)} refused, {len(CALLED)} asked for guards, {len(USED)} renamed; '
+          f'{guards()} guards of the sources')
 
 
 if __name__ == '__main__':

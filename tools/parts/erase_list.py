@@ -31,16 +31,33 @@ INTO = {
 # Functions that the layer by hand has for one number of runs, as smoltcp.
 BY_HAND = ['Assembler::new', 'FragmentBuffer::new', 'Receiver::new', 'Receiver::new_at']
 
-# Public functions with a precondition and no guard of their own, and why they need none.
-CLOSURE = 'Rust knows that a closure can be called; what it counts is tested'
+# Functions with a precondition that no guard at their beginning tests, so that tools/guards.py has no checked call of
+# them: why, and the statements that test it. What a closure counted is known once it has returned.
+SLICES = 'a slice of Rust tests its indices', ''
+CLOSURE = 'Rust knows that a closure can be called', ''
+COUNT = 'Rust knows that a closure can be called; what it counts is tested after the call'
+READ = (COUNT, 'let lent = part.len(); let answer = f(part); prove!(answer.0 <= lent, "more bytes than were lent");')
+MANY = 'let answer = f(self.storage.part_mut(from, to)); prove!(answer.0 <= to - from, "more elements than were lent");'
 UNGUARDED = {
-    'Assembler::add': 'what it calls tests that the range fits',
-    'Assembler::add_then_remove_front': 'what it calls tests that the range fits',
+    'Storage::part': SLICES,
+    'Storage::part_mut': SLICES,
+    'Storage::element': SLICES,
+    'Storage::element_mut': SLICES,
     'RingOver::enqueue_one_with': CLOSURE,
     'RingOver::dequeue_one_with': CLOSURE,
-    'RingOver::enqueue_many_with': CLOSURE,
-    'PacketsOver::enqueue_with_infallible': CLOSURE,
     'PacketsOver::dequeue_with': CLOSURE,
+    'RingOver::enqueue_many_with': (COUNT, MANY),
+    'RingOver::dequeue_many_with': (COUNT, MANY),
+    'PacketsOver::enqueue_with_infallible':
+        (COUNT, 'let count = f(self.bytes.part_mut(place.from, place.from + max_size)); '
+                'prove!(count <= max_size, "more bytes than were lent");'),
+    'ReceiverOver::read_with': READ,
+    'FiniteReceiverOver::read_with': READ,
+    'PacketsOver::last_dequeued_mut':
+        ('no public call tells where the bytes before the read index begin',
+         'let capacity = self.bytes.count(); prove!(size <= capacity - self.head.bytes.length, "the bytes are not free"); '
+         'let from = self.head.bytes.last_dequeued_index(capacity, size); '
+         'prove!(size <= capacity - from, "the bytes are not contiguous");'),
 }
 
 # A file, or nothing for all; an old text, which occurs there; the new one.

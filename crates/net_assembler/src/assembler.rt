@@ -104,7 +104,6 @@ impl<const N: usize> Assembler<N> {
         ensures no_run { runs result ≡ 0 }
         ensures bound { runs result ≤ N }
     {
-        prove!(N >= 1, "an assembler has at least one run");
         Assembler {
             head: AssemblerHead::new(),
             runs: [Run { start: 0, end: 0 }; N],
@@ -121,7 +120,6 @@ impl<const N: usize> Assembler<N> {
         ensures set { result ≡ set_of head runs.entry }
         ensures bound { run_count result ≤ N }
     {
-        prove!(head.is_sound(&runs), "the head is not that of these runs");
         Assembler { head, runs }
     }
 
@@ -238,6 +236,10 @@ impl<const N: usize> Assembler<N> {
         ensures more { runs self.new ≤ runs self.old + 1 }
         ensures bound { runs self.new ≤ N }
     {
+        prove!(
+            Self::fits(offset, size),
+            "the range's end is above `usize::MAX`"
+        );
         self.add_counted(offset, size, &mut Turns::new())
     }
 
@@ -270,8 +272,10 @@ impl<const N: usize> Assembler<N> {
         ensures no_look_lost { turns.old.0 ≤ turns.new.0 }
         ensures no_move_lost { turns.old.1 ≤ turns.new.1 }
     {
-        let fits = AssemblerHead::fits(offset, size);
-        prove!(fits, "the range's end is above `usize::MAX`");
+        prove!(
+            Self::fits(offset, size),
+            "the range's end is above `usize::MAX`"
+        );
         self.head.add_counted(&mut self.runs, offset, size, turns)
     }
 
@@ -356,6 +360,11 @@ impl<const N: usize> Assembler<N> {
         ensures more { runs self.new ≤ runs self.old + 1 }
         ensures bound { runs self.new ≤ N }
     {
+        // A range at 0 fits, so its fast path needs no test of that.
+        prove!(
+            offset == 0 || Self::fits(offset, size),
+            "the range's end is above `usize::MAX`"
+        );
         self.head
             .add_then_remove_front(&mut self.runs, offset, size)
     }

@@ -194,8 +194,7 @@ impl DeviceCapabilities {
         requires has_ip_mtu { HasIpMtu self.now }
         ensures { result ≡ ip_mtu_of self.now }
     {
-        let fits = self.has_ip_mtu();
-        prove!(fits, "attempt to subtract with overflow");
+        prove!(self.has_ip_mtu(), "attempt to subtract with overflow");
         match self.medium {
             Medium::Ethernet => self.max_transmission_unit - ETHERNET_HEADER_LEN,
             Medium::Ip => self.max_transmission_unit,
@@ -235,8 +234,10 @@ impl DeviceCapabilities {
         requires fits_ip_header { FitsIpHeader self.now ip_header_len }
         ensures { result ≡ fragment_size_of self.now ip_header_len }
     {
-        let fits = self.fits_ip_header(ip_header_len);
-        prove!(fits, "attempt to subtract with overflow");
+        prove!(
+            self.fits_ip_header(ip_header_len),
+            "attempt to subtract with overflow"
+        );
         let room = self.ip_mtu() - ip_header_len;
         room / IPV4_FRAGMENT_PAYLOAD_ALIGNMENT * IPV4_FRAGMENT_PAYLOAD_ALIGNMENT
     }

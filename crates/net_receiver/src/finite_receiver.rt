@@ -15,7 +15,7 @@ ghost use Rattle.net_receiver.specs.NewestRuns.{newest_runs, with_starts};
 ghost use Rattle.net_receiver.specs.ReceiverState.{domain, limit_of, next_position, IsSound};
 
 use crate::finite_error::FiniteError;
-use crate::finite_receiver_head::{FiniteReceiverHead, NO_END};
+use crate::finite_receiver_head::FiniteReceiverHead;
 use crate::held_runs::HeldRuns;
 use crate::kept::KeptBytes;
 use crate::newest_runs::{HeldRun, NewestRunIter};
@@ -95,7 +95,7 @@ impl<S: Storage<u8>, const N: usize> FiniteReceiverOver<S, N> {
         ensures state { result ≡ fresh_finite first (length (S.elements storage)) }
         ensures receives { (x : List ℕ) → ReceivesFinite first x result }
     {
-        prove!(first < NO_END, "no number is left for an end");
+        prove!(first < u64::MAX, "no number is left for an end");
         FiniteReceiverOver {
             head: FiniteReceiverHead::new(first),
             storage,
@@ -112,10 +112,6 @@ impl<S: Storage<u8>, const N: usize> FiniteReceiverOver<S, N> {
         requires { HasSoundFinite head (S.elements storage) runs }
         ensures { result ≡ finite_of head (S.elements storage) runs.entry }
     {
-        prove!(
-            head.is_sound(whole(&storage), &runs),
-            "the head is not that of these parts"
-        );
         FiniteReceiverOver {
             head,
             storage,
@@ -156,7 +152,7 @@ impl<S: Storage<u8>, const N: usize> FiniteReceiverOver<S, N> {
         ensures state { self.new ≡ fresh_finite first self.old.receiver.capacity }
         ensures receives { (x : List ℕ) → ReceivesFinite first x self.new }
     {
-        prove!(first < NO_END, "no number is left for an end");
+        prove!(first < u64::MAX, "no number is left for an end");
         self.head.reset_at(first);
     }
 
@@ -284,10 +280,7 @@ impl<S: Storage<u8>, const N: usize> FiniteReceiverOver<S, N> {
             take count self.old.receiver.queue
             ≡ slice_range x self.old.receiver.read (self.old.receiver.read + count) }
     {
-        prove!(
-            count <= self.head.receiver.queued(),
-            "more bytes than are queued"
-        );
+        prove!(count <= self.len(), "more bytes than are queued");
         self.head.remove(self.storage.count(), count);
     }
 

@@ -91,10 +91,6 @@ impl<S: Storage<u8>> FiniteSenderOver<S> {
         requires { IsSoundFiniteSender (length (S.elements storage)) head }
         ensures { result ≡ finite_sender_of head (S.elements storage) }
     {
-        prove!(
-            head.is_sound(storage.count()),
-            "the head is not that of this storage"
-        );
         FiniteSenderOver { head, storage }
     }
 

@@ -104,7 +104,6 @@ impl<const N: usize> Scoreboard<N> {
         requires { IsSoundBoard head runs }
         ensures { result ≡ reported_by head runs.entry }
     {
-        prove!(head.is_sound(&runs), "the head is not that of these runs");
         Scoreboard { head, runs }
     }
 

@@ -96,10 +96,6 @@ impl<S: Storage<u8>> SenderOver<S> {
         requires { IsSoundHead (length (S.elements storage)) head }
         ensures { result ≡ sender_of head (S.elements storage) }
     {
-        prove!(
-            head.is_sound(storage.count()),
-            "the head is not that of this storage"
-        );
         SenderOver { head, storage }
     }
 

@@ -137,11 +137,6 @@ impl<T, S: Storage<T>> RingOver<T, S> {
         requires sound { IsSound (length (S.elements storage)) head }
         ensures ring { result ≡ ring_at (S.elements storage) head }
     {
-        let capacity = storage.count();
-        prove!(
-            head.is_sound(capacity),
-            "the head is not that of this storage"
-        );
         RingOver {
             storage,
             head,
@@ -894,8 +889,7 @@ impl<T, S: Storage<T>> RingOver<T, S> {
         ensures of_spare { spare self.new ≡ drop count (spare self.old) }
         ensures call { Makes (EnqueueUnallocated (take count (spare self.old))) self.old self.new }
     {
-        let window = self.window();
-        prove!(count <= window, "no room for so many elements");
+        prove!(count <= self.window(), "no room for so many elements");
         self.head.enqueue(self.storage.count(), count);
     }
 
@@ -1020,7 +1014,7 @@ impl<T, S: Storage<T>> RingOver<T, S> {
         ensures room { window self.new ≡ window self.old + count }
         ensures call { Makes (Dequeue (take count (queue self.old))) self.old self.new }
     {
-        prove!(count <= self.head.length, "fewer elements are queued");
+        prove!(count <= self.len(), "fewer elements are queued");
         self.head.dequeue(self.storage.count(), count);
     }
 }

@@ -285,8 +285,6 @@ impl AssemblerHead {
                 return Ok(end);
             }
         }
-        let fits = Self::fits(offset, size);
-        prove!(fits, "the range's end is above `usize::MAX`");
         self.add_apart(runs, offset, size, &mut Turns::new())?;
         Ok(self.remove_front(runs))
     }

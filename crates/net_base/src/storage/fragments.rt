@@ -98,7 +98,6 @@ impl<B: Storage<u8>, const N: usize> FragmentsOver<B, N> {
         ensures nothing { (result.present ≡ nothing) × (result.total ≡ None) }
         ensures expires { result.expires_at ≡ expires_at }
     {
-        prove!(N >= 1, "a buffer of fragments has at least one run");
         FragmentsOver {
             head: FragmentsHead::new(expires_at.total_micros()),
             bytes,
@@ -115,11 +114,6 @@ impl<B: Storage<u8>, const N: usize> FragmentsOver<B, N> {
         requires { HasSoundParts head (B.elements bytes) runs }
         ensures { result ≡ fragments_of head (B.elements bytes) runs.entry }
     {
-        let capacity = bytes.count();
-        prove!(
-            head.is_sound(capacity, &runs),
-            "the head is not that of these bytes and runs"
-        );
         FragmentsOver { head, bytes, runs }
     }
 

@@ -91,8 +91,10 @@ impl Duration {
         requires fits_millis { IsLength (millis * 1_000) }
         ensures { result ≡ millis * 1_000 }
     {
-        let fits = Self::fits_millis(millis);
-        prove!(fits, "attempt to multiply with overflow");
+        prove!(
+            Self::fits_millis(millis),
+            "attempt to multiply with overflow"
+        );
         Duration {
             micros: millis * 1_000,
         }
@@ -121,8 +123,7 @@ impl Duration {
         requires fits_secs { IsLength (secs * 1_000_000) }
         ensures { result ≡ secs * 1_000_000 }
     {
-        let fits = Self::fits_secs(secs);
-        prove!(fits, "attempt to multiply with overflow");
+        prove!(Self::fits_secs(secs), "attempt to multiply with overflow");
         Duration {
             micros: secs * 1_000_000,
         }
@@ -210,8 +211,10 @@ impl Duration {
         requires fits_core { IsLength (as_nanos duration / 1_000) }
         ensures { result ≡ as_nanos duration / 1_000 }
     {
-        let fits = Self::fits_core(duration);
-        prove!(fits, "attempt to multiply with overflow");
+        prove!(
+            Self::fits_core(duration),
+            "attempt to multiply with overflow"
+        );
         Duration {
             micros: duration.as_micros() as u64,
         }
@@ -380,8 +383,7 @@ impl Add for Duration {
 
     #[inline]
     fn add(self, rhs: Duration) -> Duration {
-        let fits = self.can_add(rhs);
-        prove!(fits, "attempt to add with overflow");
+        prove!(self.can_add(rhs), "attempt to add with overflow");
         Duration {
             micros: self.micros + rhs.micros,
         }
@@ -396,8 +398,7 @@ impl AddAssign for Duration {
 
     #[inline]
     fn add_assign(&mut self, rhs: Duration) {
-        let fits = self.can_add(rhs);
-        prove!(fits, "attempt to add with overflow");
+        prove!(self.can_add(rhs), "attempt to add with overflow");
         self.micros += rhs.micros;
     }
 }
@@ -412,8 +413,7 @@ impl Sub for Duration {
 
     #[inline]
     fn sub(self, rhs: Duration) -> Duration {
-        let fits = self.can_sub(rhs);
-        prove!(fits, "overflow when subtracting durations");
+        prove!(self.can_sub(rhs), "overflow when subtracting durations");
         Duration {
             micros: self.micros - rhs.micros,
         }
@@ -428,8 +428,7 @@ impl SubAssign for Duration {
 
     #[inline]
     fn sub_assign(&mut self, rhs: Duration) {
-        let fits = self.can_sub(rhs);
-        prove!(fits, "overflow when subtracting durations");
+        prove!(self.can_sub(rhs), "overflow when subtracting durations");
         self.micros -= rhs.micros;
     }
 }
@@ -444,8 +443,7 @@ impl Mul<u32> for Duration {
 
     #[inline]
     fn mul(self, rhs: u32) -> Duration {
-        let fits = self.can_mul(rhs);
-        prove!(fits, "attempt to multiply with overflow");
+        prove!(self.can_mul(rhs), "attempt to multiply with overflow");
         Duration {
             micros: self.micros * u64::from(rhs),
         }
@@ -460,8 +458,7 @@ impl MulAssign<u32> for Duration {
 
     #[inline]
     fn mul_assign(&mut self, rhs: u32) {
-        let fits = self.can_mul(rhs);
-        prove!(fits, "attempt to multiply with overflow");
+        prove!(self.can_mul(rhs), "attempt to multiply with overflow");
         self.micros *= u64::from(rhs);
     }
 }
@@ -476,6 +473,7 @@ impl Div<u32> for Duration {
 
     #[inline]
     fn div(self, rhs: u32) -> Duration {
+        prove!(rhs > 0, "attempt to divide by zero");
         Duration {
             micros: self.micros / u64::from(rhs),
         }
@@ -490,6 +488,7 @@ impl DivAssign<u32> for Duration {
 
     #[inline]
     fn div_assign(&mut self, rhs: u32) {
+        prove!(rhs > 0, "attempt to divide by zero");
         self.micros /= u64::from(rhs);
     }
 }

@@ -99,8 +99,10 @@ impl Instant {
         requires fits_millis { IsMoment (millis *ℤ pos 1_000) }
         ensures { result ≡ millis *ℤ pos 1_000 }
     {
-        let fits = Self::fits_millis(millis);
-        prove!(fits, "attempt to multiply with overflow");
+        prove!(
+            Self::fits_millis(millis),
+            "attempt to multiply with overflow"
+        );
         Instant {
             micros: millis * 1_000,
         }
@@ -154,8 +156,7 @@ impl Instant {
         requires fits_secs { IsMoment (secs *ℤ pos 1_000_000) }
         ensures { result ≡ secs *ℤ pos 1_000_000 }
     {
-        let fits = Self::fits_secs(secs);
-        prove!(fits, "attempt to multiply with overflow");
+        prove!(Self::fits_secs(secs), "attempt to multiply with overflow");
         Instant {
             micros: secs * 1_000_000,
         }

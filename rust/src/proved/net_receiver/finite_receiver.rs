@@ -1,7 +1,7 @@
 //! A receiver of a stream that ends.
 
 use crate::proved::net_receiver::finite_error::FiniteError;
-use crate::proved::net_receiver::finite_receiver_head::{FiniteReceiverHead, NO_END};
+use crate::proved::net_receiver::finite_receiver_head::FiniteReceiverHead;
 use crate::proved::net_receiver::held_runs::HeldRuns;
 use crate::proved::net_receiver::kept::KeptBytes;
 use crate::proved::net_receiver::newest_runs::{HeldRun, NewestRunIter};
@@ -74,7 +74,7 @@ impl<S: Storage<u8>, const N: usize> FiniteReceiver<'_, N, S> {
     #[track_caller]
     pub const fn over_at(storage: S, first: u64) -> Self {
         const { assert!(N >= 1, "N is at least 1") };
-        assert!(first < NO_END, "no number is left for an end");
+        assert!(first < u64::MAX, "no number is left for an end");
         FiniteReceiver {
             lent: core::marker::PhantomData,
             head: FiniteReceiverHead::new(first),
@@ -99,12 +99,7 @@ impl<S: Storage<u8>, const N: usize> FiniteReceiver<'_, N, S> {
     /// ```
     ///
     /// </details>
-    #[track_caller]
     pub(crate) fn from_parts(head: FiniteReceiverHead, storage: S, runs: [Run; N]) -> Self {
-        assert!(
-            head.is_sound(whole(&storage), &runs),
-            "the head is not that of these parts"
-        );
         FiniteReceiver {
             lent: core::marker::PhantomData,
             head,
@@ -172,7 +167,7 @@ impl<S: Storage<u8>, const N: usize> FiniteReceiver<'_, N, S> {
     /// </details>
     #[track_caller]
     pub fn reset_at(&mut self, first: u64) {
-        assert!(first < NO_END, "no number is left for an end");
+        assert!(first < u64::MAX, "no number is left for an end");
         self.head.reset_at(first);
     }
 
@@ -359,10 +354,7 @@ impl<S: Storage<u8>, const N: usize> FiniteReceiver<'_, N, S> {
     /// </details>
     #[track_caller]
     pub fn remove(&mut self, count: usize) {
-        assert!(
-            count <= self.head.receiver.queued(),
-            "more bytes than are queued"
-        );
+        assert!(count <= self.len(), "more bytes than are queued");
         self.head.remove(self.storage.count(), count);
     }
 

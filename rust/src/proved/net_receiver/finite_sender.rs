@@ -86,12 +86,7 @@ impl<S: Storage<u8>> FiniteSender<'_, S> {
     /// ```
     ///
     /// </details>
-    #[track_caller]
     pub(crate) fn from_parts(head: FiniteSenderHead, storage: S) -> Self {
-        assert!(
-            head.is_sound(storage.count()),
-            "the head is not that of this storage"
-        );
         FiniteSender { lent: core::marker::PhantomData, head, storage }
     }
 

@@ -128,12 +128,7 @@ impl<S: Storage<u8>, const N: usize> Receiver<'_, N, S> {
     /// ```
     ///
     /// </details>
-    #[track_caller]
     pub(crate) fn from_parts(head: ReceiverHead, storage: S, runs: [Run; N]) -> Self {
-        assert!(
-            head.is_sound(whole(&storage), &runs),
-            "the head is not that of these parts"
-        );
         Receiver {
             lent: core::marker::PhantomData,
             head,
@@ -274,8 +269,10 @@ impl<S: Storage<u8>, const N: usize> Receiver<'_, N, S> {
     #[inline(always)]
     #[track_caller]
     pub fn segment(&mut self, pos: u64, bytes: &[u8]) -> Result<Kept, TooManyHolesError> {
-        let fits = Self::fits(pos, bytes.len());
-        assert!(fits, "the segment's end is above `u64::MAX`");
+        assert!(
+            Self::fits(pos, bytes.len()),
+            "the segment's end is above `u64::MAX`"
+        );
         let count = self.storage.count();
         let storage = self.storage.part_mut(0, count);
         self.head.segment(storage, &mut self.runs, pos, bytes)
@@ -319,8 +316,10 @@ impl<S: Storage<u8>, const N: usize> Receiver<'_, N, S> {
     #[inline]
     #[track_caller]
     pub fn keep(&mut self, pos: u64, bytes: &[u8]) -> Result<KeptBytes, TooManyHolesError> {
-        let fits = Self::fits(pos, bytes.len());
-        assert!(fits, "the segment's end is above `u64::MAX`");
+        assert!(
+            Self::fits(pos, bytes.len()),
+            "the segment's end is above `u64::MAX`"
+        );
         let count = self.storage.count();
         let storage = self.storage.part_mut(0, count);
         self.head.keep(storage, &mut self.runs, pos, bytes)
@@ -575,7 +574,7 @@ impl<S: Storage<u8>, const N: usize> Receiver<'_, N, S> {
     /// </details>
     #[track_caller]
     pub fn remove(&mut self, count: usize) {
-        assert!(count <= self.head.queued(), "more bytes than are queued");
+        assert!(count <= self.queued(), "more bytes than are queued");
         self.head.remove(self.storage.count(), count);
     }
 
@@ -864,8 +863,10 @@ impl<S: Storage<u8>, const N: usize> Receiver<'_, N, S> {
     /// </details>
     #[track_caller]
     pub fn count_new(&self, position: u64, len: usize) -> usize {
-        let fits = Self::fits(position, len);
-        assert!(fits, "the segment's end is above `u64::MAX`");
+        assert!(
+            Self::fits(position, len),
+            "the segment's end is above `u64::MAX`"
+        );
         self.head
             .count_new(whole(&self.storage), &self.runs, position, len)
     }

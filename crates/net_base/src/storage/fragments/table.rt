@@ -36,7 +36,6 @@ impl<K: Copy + Eq, B: Storage<u8>, const N: usize> FragmentSlot<K, B, N> {
         ensures nothing { (result.buffer.present ≡ nothing) × (result.buffer.total ≡ None) }
         ensures expires { result.buffer.expires_at ≡ pos 0 }
     {
-        prove!(N >= 1, "a buffer of fragments has at least one run");
         FragmentSlot {
             key: None,
             buffer: FragmentsOver::over(bytes, Instant::ZERO),

@@ -69,7 +69,7 @@ impl<B: Storage<u8>, const N: usize> FragmentBuffer<'_, N, B> {
     ///
     /// </details>
     pub const fn over(bytes: B, expires_at: Instant) -> Self {
-        const { assert!(N >= 1, "a buffer of fragments has at least one run") };
+        const { assert!(N >= 1, "N is at least 1") };
         FragmentBuffer {
             lent: core::marker::PhantomData,
             head: FragmentsHead::new(expires_at.total_micros()),
@@ -94,13 +94,7 @@ impl<B: Storage<u8>, const N: usize> FragmentBuffer<'_, N, B> {
     /// ```
     ///
     /// </details>
-    #[track_caller]
     pub(crate) fn from_parts(head: FragmentsHead, bytes: B, runs: [Run; N]) -> Self {
-        let capacity = bytes.count();
-        assert!(
-            head.is_sound(capacity, &runs),
-            "the head is not that of these bytes and runs"
-        );
         FragmentBuffer { lent: core::marker::PhantomData, head, bytes, runs }
     }
 

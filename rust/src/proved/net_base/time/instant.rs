@@ -119,8 +119,10 @@ impl Instant {
     #[track_caller]
     pub fn from_millis<A: Into<i64>>(millis: A) -> Instant {
         let millis = millis.into();
-        let fits = Self::fits_millis(millis);
-        assert!(fits, "attempt to multiply with overflow");
+        assert!(
+            Self::fits_millis(millis),
+            "attempt to multiply with overflow"
+        );
         Instant {
             micros: millis * 1_000,
         }
@@ -201,8 +203,7 @@ impl Instant {
     #[track_caller]
     pub fn from_secs<A: Into<i64>>(secs: A) -> Instant {
         let secs = secs.into();
-        let fits = Self::fits_secs(secs);
-        assert!(fits, "attempt to multiply with overflow");
+        assert!(Self::fits_secs(secs), "attempt to multiply with overflow");
         Instant {
             micros: secs * 1_000_000,
         }

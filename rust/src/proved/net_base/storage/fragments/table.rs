@@ -36,7 +36,7 @@ impl<K: Copy + Eq, B: Storage<u8>, const N: usize> FragmentSlot<K, B, N> {
     ///
     /// </details>
     pub fn over(bytes: B) -> Self {
-        const { assert!(N >= 1, "a buffer of fragments has at least one run") };
+        const { assert!(N >= 1, "N is at least 1") };
         FragmentSlot {
             key: None,
             buffer: FragmentBuffer::over(bytes, Instant::ZERO),

@@ -1,0 +1,127 @@
+#!/usr/bin/env python3
+"""Proves that each guard tests enough, by checked calls:
+
+    python3 tools/guards.py                proves the checked calls; status 1 if one isn't proved
+    python3 tools/guards.py --faults [K]   tries those in which one guard is weaker, or each Kth; status 1 if one is proved
+    python3 tools/guards.py --print        prints the checked calls
+
+A function with guards, as tools/erase.py reads them, has a checked call, with its parameters and without preconditions: it
+returns if what a guard tests is false, and then calls the function. So it is proved only if the guards imply the
+preconditions. They are a crate over copies of the libraries, as `rt check` or `rt lib` of a crate above them left them:
+otherwise those are proved first.
+"""
+import re
+import shutil
+import subprocess
+import sys
+import tempfile
+from pathlib import Path
+
+sys.dont_write_bytecode = True
+import erase
+from parts import erase_list as given
+
+TOP = '''//! Checked calls of the functions with guards.
+#![tactic(auto)]
+
+use net_assembler::{Assembler, Turns};
+use net_base::phy::DeviceCapabilities;
+use net_base::time::{Duration, Instant};
+use net_receiver::{FiniteReceiverOver, FiniteSenderOver, ReceiverOver};
+use net_ring::{RingOver, Storage};
+use net_tcp::{AdvertisedWindow, MAX_SCALE, PartsSum, RetransmissionTimeout, RttEstimate, TimeoutBounds};
+use net_tcp::{Transmission, scaled};
+use std::ops::{Add, AddAssign, Div, DivAssign, Mul, MulAssign, Shl, ShlAssign, Shr, ShrAssign, Sub, SubAssign};
+
+'''
+HEADER = re.compile(r'impl(?:<(.*?)>)? (?:\S+ for )?(\w+)(<.*>)?\s*')
+SIGNATURE = re.compile(r'fn (\w+)(?:<(.*?)>)?\(([^()]*)\)', re.S)
+
+
+def guarded():
+    """The functions with guards: name, header of the impl, signature, what the guards test, whether N is tested."""
+    for crate, _, text in erase.sources():
+        eraser = erase.Eraser(text, crate, unguarded=given.UNGUARDED)
+        eraser.run()
+        yield from (function for function in eraser.guarded if function[3])
+
+
+def weaker(test):
+    """Tests that are true of more than this one."""
+    found = [test.replace(a, b) for a, b in ((' < ', ' <= '), (' > ', ' >= '), (' == ', ' >= ')) if a in test]
+    found += [re.sub('(.*) <= (.*)', r'\1 <= (\2).saturating_add(1)', test)]
+    found += [re.sub(r'(, |\()(\w+(?:\.len\(\))?)\)$', r'\1\2 / 2)', test)]
+    return ['true', *(other for other in found if other != test)]
+
+
+def faulty():
+    """The same, one of their guards weaker."""
+    for name, header, signature, tests, is_some in guarded():
+        for k, test in enumerate(tests):
+            for other in weaker(test):
+                yield name, header, signature, [*tests[:k], other, *tests[k + 1:]], is_some
+
+
+def parts(text):
+    """The parts of a list of parameters."""
+    return [part.strip() for part in re.split(r',(?![^<]*>)', text) if part.strip()]
+
+
+def checked(title, header, signature, tests, is_some):
+    """The checked call of a function, under another name. What it takes by value can be dropped; what it makes is
+    returned, since the type of a result fits the memory."""
+    outer, owner, arguments = HEADER.fullmatch(header).groups('') if header else ('', '', '')
+    name, inner, parameters = SIGNATURE.search(signature).groups('')
+    parameters, path = parts(parameters), f'{owner}::{arguments}' if arguments else owner
+    passed, called = [part.split(':')[0] for part in parameters], f'{path}::{name}'.removeprefix('::')
+    if passed and passed[0].endswith('self'):
+        parameters[0] = f'this: {passed[0][:-4]}{owner}{arguments}'
+        passed, called = passed[1:], f'this.{name}'
+    generics = ', '.join(part if re.search('^const |Drop', part) else part + (' + ' if ':' in part else ': ') + 'Drop'
+                         for part in parts(outer) + parts(inner))
+    tests = ['N >= 1'] * is_some + [re.sub(r'\bself\b', 'this', re.sub(r'\bSelf\b', path, test)) for test in tests]
+    call = f'{called}({", ".join(passed)})'
+    result, refused, last = '', 'return', f'let _ = {call};'
+    if '-> Self' in signature:
+        result, refused, last = f' -> Option<{owner}{arguments}>', 'return None', f'Some({call})'
+    return (f'pub fn {title}{f"<{generics}>" * bool(generics)}({", ".join(parameters)}){result} {{\n'
+            + ''.join(f'    if !({test}) {{\n        {refused};\n    }}\n' for test in tests) + f'    {last}\n}}\n')
+
+
+def check(text):
+    """What the check of this crate says, and its status."""
+    rows = [row for row in (erase.REPOSITORY / 'crates.txt').read_text().split('\n') if row.split(':')[0] in given.CRATES]
+    names = [row.split(':')[0] for row in rows]
+    with tempfile.TemporaryDirectory() as folder:
+        crates = Path(folder) / 'crates'
+        for part in (Path(name) / part for name in names for part in ('src', 'specs', 'proofs', 'out/rlib')):
+            if (erase.REPOSITORY / 'crates' / part).is_dir():
+                shutil.copytree(erase.REPOSITORY / 'crates' / part, crates / part)
+        (crates.parent / 'crates.txt').write_text('\n'.join([*rows, f'checked: {" ".join(names)}', '']))
+        (crates / 'checked/src').mkdir(parents=True)
+        (crates / 'checked/src/lib.rt').write_text(text)
+        ran = subprocess.run(['rt', 'check'], cwd=crates / 'checked', text=True,
+                             stdout=subprocess.PIPE, stderr=subprocess.STDOUT)
+        return ran.stdout, ran.returncode
+
+
+def main(arguments):
+    is_faulty = arguments[:1] == ['--faults']
+    functions = [*faulty()][::int((*arguments, '1')[1])] if is_faulty else [*guarded()]
+    names = [f'call_{k}_{re.sub("[^a-z]+", "_", function[0].lower())}' for k, function in enumerate(functions)]
+    text = TOP + '\n'.join(checked(name, *function[1:]) for name, function in zip(names, functions))
+    if arguments == ['--print']:
+        print(text, end='')
+        return 0
+    said, status = check(text)
+    if is_faulty:
+        unseen = [f'not refused: {name} {tests}' for name, (_, _, _, tests, _) in zip(names, functions)
+                  if f'fn checked::{name}: no proof' not in said]
+        print(*unseen, f'{len(names) - len(unseen)} of {len(names)} weaker guards are refused', sep='\n')
+        return bool(unseen)
+    print(said if status else f'the guards of {len(names)} functions test enough')
+    return status
+
+
+if __name__ == '__main__':
+    sys.exit(main(sys.argv[1:]))
