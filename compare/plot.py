@@ -7,7 +7,7 @@ mark for each table: the median of the ratios to smoltcp, in a line from the low
 a bar for smoltcp by itself. What is outside the scale is drawn at its edge.
 
 With --table it prints the medians and the instructions, as a table in Markdown: of a group of more than two rows its mean,
-and of each group the rows that have its lowest or highest median in one of the tables.
+and of each group the row that has its highest median in one of the tables.
 """
 import html
 import math
@@ -82,11 +82,10 @@ def svg(tables):
 
 
 def shown(group, tables):
-    """Those of a group's rows that have its lowest or highest median in a table."""
-    extreme = {end(table, key=lambda name: table[name].median)
-               for table in ({name: table[name] for name in group if name in table} for table in tables) if table
-               for end in (min, max)}
-    return [name for name in group if name in extreme]
+    """Those of a group's rows that have its highest median in a table."""
+    highest = {max(table, key=lambda name: table[name].median)
+               for table in ({name: table[name] for name in group if name in table} for table in tables) if table}
+    return [name for name in group if name in highest]
 
 
 def line(cells):
