@@ -30,6 +30,7 @@ pub mod Scoreboards
 pub mod Losses
 pub mod Holes
 pub mod NewestRuns
+pub mod NewestFirst
 pub mod NewBytes
 pub mod Ends
 pub mod FiniteReceivers
