@@ -34,4 +34,5 @@ pub mod NewestFirst
 pub mod NewBytes
 pub mod Ends
 pub mod FiniteReceivers
+pub mod FiniteSchedules
 pub mod FiniteSenders
