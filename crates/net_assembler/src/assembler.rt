@@ -6,7 +6,8 @@ ghost use Rattle.net_assembler.specs.Assembler.{MakesTooManyRuns, display_text};
 ghost use Rattle.net_assembler.specs.Positions.{RangeFits, contains, front, holes, holes_before, maximal_runs};
 ghost use Rattle.net_assembler.specs.Positions.{nothing, runs, runs as run_count, runs_shifted_up, shift_down};
 ghost use Rattle.net_assembler.specs.Positions.{with_range};
-ghost use Rattle.net_assembler.specs.RunLists.{AreRuns, FitsFrom, HasSoundRuns, IsRising, contig_text, set_of};
+ghost use Rattle.net_assembler.specs.RunLists.{AreRuns, FitsFrom, HasSoundRuns, IsCanonical, IsRising, contig_text};
+ghost use Rattle.net_assembler.specs.RunLists.{set_of};
 ghost use Rattle.net_assembler.specs.Turns.{binary_digits};
 
 mod error;
@@ -35,7 +36,8 @@ pub use turns::Turns;
 pub struct Assembler<const N: usize> {
     // Invariant: the first `head.used` runs rise, with a hole between neighbours. They are counted from
     // where the first of them starts, so that it starts at 0; that position is `head.first_start`. Each
-    // end is a number of 64 bits also where it is counted from position 0.
+    // end is a number of 64 bits also where it is counted from position 0. If there is no run, the head is 0
+    // in both numbers.
     // The head precedes the runs: so close to the value's beginning, its numbers are read by short
     // instructions.
     head: AssemblerHead,
@@ -52,11 +54,12 @@ impl<const N: usize> Model for Assembler<N> {
     ghost coded = { set.code coded_ℕ };
 
     ghost use Rattle.std.specs.Prelude.{◌≡◌, length};
-    ghost use Rattle.net_assembler.specs.RunLists.{set_of, HasSoundRuns};
+    ghost use Rattle.net_assembler.specs.RunLists.{set_of, HasSoundRuns, IsCanonical};
 
     ghost view = { λ a. set_of a.head a.runs };
 
-    ghost invariant = { λ a. HasSoundRuns a.head a.runs × (length a.runs ≡ N) };
+    ghost invariant = { λ a.
+        HasSoundRuns a.head a.runs × (length a.runs ≡ N) × IsCanonical a.head };
 }
 
 impl<const N: usize> Assembler<N> {
@@ -120,6 +123,12 @@ impl<const N: usize> Assembler<N> {
         ensures set { result ≡ set_of head runs.entry }
         ensures bound { run_count result ≤ N }
     {
+        if head.used == 0 {
+            return Assembler {
+                head: AssemblerHead::new(),
+                runs,
+            };
+        }
         Assembler { head, runs }
     }
 
@@ -128,6 +137,7 @@ impl<const N: usize> Assembler<N> {
         ensures sound { HasSoundRuns result.0 result.1 }
         ensures set { set_of result.0 result.1 ≡ self.entry }
         ensures length { length result.1 ≡ N }
+        ensures canonical { IsCanonical result.0 }
     {
         let Assembler { head, runs } = self;
         (head, runs)
@@ -138,6 +148,7 @@ impl<const N: usize> Assembler<N> {
         ensures sound { HasSoundRuns result.0 result.1.now }
         ensures set { set_of result.0 result.1.now ≡ self.now }
         ensures length { length result.1.now ≡ N }
+        ensures canonical { IsCanonical result.0 }
     {
         (self.head, &self.runs)
     }

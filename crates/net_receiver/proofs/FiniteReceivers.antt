@@ -41,11 +41,11 @@ sound_end_stays N s (Arrives pos xs last) sound fits = sound_after N s pos xs la
 sound_end_stays N s (Reads n) sound fits = sound_read s n sound
 
 -- ---- the end stays
-known : (s : FiniteState) → s.end < no_end → knows_end s ≡ true
+pub known : (s : FiniteState) → s.end < no_end → knows_end s ≡ true
 known s h = grind (arith, nat_tests)
 
 -- the end that a segment may bring is the known one
-same_end : (s : FiniteState) (e : ℕ) → knows_end s ≡ true → can_end s e ≡ true → e ≡ s.end
+pub same_end : (s : FiniteState) (e : ℕ) → knows_end s ≡ true → can_end s e ≡ true → e ≡ s.end
 same_end s e on can = eqb-true e s.end (sym (ap (λ b. cond b (nat_eq e s.end) (nat_le (top_of s.receiver) e)) on) ∙ can)
 
 one_end : (N : ℕ) (s : FiniteState) (c : FiniteCommand) → knows_end s ≡ true → (finite_after_command N s c).end ≡ s.end
@@ -54,7 +54,7 @@ one_end N s (Arrives pos xs last) on =
     (λ (is : (last ≡ true) × (e ≡ pos + length xs) × (can_end s e ≡ true)). same_end s e on is.2) which)
 one_end N s (Reads n) on = refl
 
-next_grows : (N : ℕ) (s : FiniteState) (c : FiniteCommand) → next_position s.receiver ≤ next_position (finite_after_command N s c).receiver
+pub next_grows : (N : ℕ) (s : FiniteState) (c : FiniteCommand) → next_position s.receiver ≤ next_position (finite_after_command N s c).receiver
 next_grows N s (Arrives pos xs last) =
     after_by (λ t. next_position s.receiver ≤ next_position t.receiver) N s pos xs last (omega arith)
     (λ e which. next_position_grows N s.receiver (Segment pos (below_end s pos xs)))
@@ -173,7 +173,7 @@ all_take N f x s (c ∷ cs) r h =
       sym (append_assoc (take s.receiver.read x) (bytes_of s c) (bytes_taken N t cs)) ∙ ap (λ l. l ++ bytes_taken N t cs) (one_takes N f x s c r) ∙ rest.1,
     )
 
-all_sound : (N : ℕ) (s : FiniteState) (cs : List FiniteCommand) → IsSoundEnd s → All CommandFits cs → IsSoundEnd (finite_after_commands N s cs)
+pub all_sound : (N : ℕ) (s : FiniteState) (cs : List FiniteCommand) → IsSoundEnd s → All CommandFits cs → IsSoundEnd (finite_after_commands N s cs)
 all_sound N s [] sound fit = sound
 all_sound N s (c ∷ cs) sound fit =
     all_sound N (finite_after_command N s c) cs (sound_end_stays N s c sound (All-head CommandFits c cs fit)) (All-tail CommandFits c cs fit)
@@ -240,7 +240,7 @@ acknowledged_grows N s (c ∷ cs) sound fit =
     let rest = acknowledged_grows N (finite_after_command N s c) cs (sound_end_stays N s c sound here) (All-tail CommandFits c cs fit) in
     omega (arith, one_acknowledged N s c sound here)
 
-ok_of : (r : Result KeptBytes TooManyHolesError) → IsOk (with_error r) → is_ok r ≡ true
+pub ok_of : (r : Result KeptBytes TooManyHolesError) → IsOk (with_error r) → is_ok r ≡ true
 ok_of (Ok k) h = refl
 ok_of (Err e) h = absurd (both_ways false refl h)
 

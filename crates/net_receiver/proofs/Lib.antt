@@ -30,7 +30,9 @@ pub mod Scoreboards
 pub mod Losses
 pub mod Holes
 pub mod NewestRuns
+pub mod NewestFirst
 pub mod NewBytes
 pub mod Ends
 pub mod FiniteReceivers
+pub mod FiniteSchedules
 pub mod FiniteSenders

@@ -1,8 +1,9 @@
--- The runs that are listed newest first: maximal ones, each once, and that of the first position first.
+-- The runs that are listed newest first: maximal ones, each once, in the order of the positions.
 use Rattle.std.proofs.Common.{◌≡◌, ◌⊎◌, inl, inr, ℕ, ◌+◌, ◌-◌, ◌<◌, ◌≤◌, ◌||◌, Bool, true, false, cond, List}
 use Rattle.std.proofs.Common.{[], ◌∷◌, ◌++◌, length, map, take, Some, None, All, slice_get, is_some, refl}
 use Rattle.std.proofs.Common.{sym, ap, subst, ◌∙◌, arith, ⊎_elim, leb-true, le-leb, le_refl, take_all}
-use Rattle.std.proofs.Common.{length-append}
+use Rattle.std.proofs.Common.{length-append, append_assoc, suc, unwrap_or, zero}
+use Rattle.std.proofs.lemmas.Option.{slice_get_within}
 use Rattle.std.specs.Prelude.{count_by}
 use Rattle.std.specs.List.{find, list_any}
 use Rattle.std.specs.Option.{option_to_list}
@@ -16,7 +17,7 @@ use Rattle.std.proofs.lemmas.List.Sums.{sum_by-append, sum_by-cons}
 use Rattle.net_assembler.specs.Positions.{Positions, contains, maximal_runs, lies_in, IsMaximalRun}
 use Rattle.net_assembler.specs.AssemblerLaws.{MaximalRunsOfEverySet}
 use Rattle.net_receiver.specs.NewestRuns.{run_at, with_run, runs_of, starts, newest_runs, AreNewestRuns}
-use Rattle.net_receiver.specs.NewestRuns.{NewestRunsAreListed}
+use Rattle.net_receiver.specs.NewestRuns.{NewestRunsAreListed, IsListedBy, IsNamed}
 
 -- ---- a list and a test
 module _ {X : Type 0} (t : X → Bool) (P : X → Type 0) where
@@ -61,13 +62,44 @@ module _ {X : Type 0} (t : X → Bool) where
   counted_more xs y =
       omega (arith, sum_by-append (λ z. cond (t z) 1 0) xs (y ∷ []), sum_by-cons (λ z. cond (t z) 1 0) y [])
 
+  -- where one is that passes
+  pub listed_at : (xs : List X) → list_any t xs ≡ true → (i : ℕ) × (x : X) × (slice_get xs i ≡ Some x) × (t x ≡ true)
+  listed_at [] h = absurd (both_ways false refl h)
+  listed_at (x ∷ xs) h =
+      ⊎_elim (λ (e : t x ≡ true). (0, x, refl, e))
+      (λ (e : list_any t xs ≡ true). (let rest = listed_at xs e in (suc rest.0, rest.1, rest.2, rest.3)))
+      (or_cases (t x) (list_any t xs) h)
+
+-- ---- a list after another
+module _ {X : Type 0} where
+  pub at-left : (xs ys : List X) (i : ℕ) (x : X) → slice_get xs i ≡ Some x → slice_get (xs ++ ys) i ≡ Some x
+  at-left [] ys i x e = absurd (both_ways false refl (ap is_some e))
+  at-left (z ∷ xs) ys zero x e = e
+  at-left (z ∷ xs) ys (suc i) x e = at-left xs ys i x e
+
+  pub at-front : (xs ys : List X) (i : ℕ) (x : X) → i < length xs → slice_get (xs ++ ys) i ≡ Some x → slice_get xs i ≡ Some x
+  at-front [] ys i x l e = absurd (omega (arith, l))
+  at-front (z ∷ xs) ys zero x l e = e
+  at-front (z ∷ xs) ys (suc i) x l e = at-front xs ys i x (omega (arith, l)) e
+
+  at-end : (xs : List X) (y : X) → slice_get (xs ++ y ∷ []) (length xs) ≡ Some y
+  at-end [] y = refl
+  at-end (x ∷ xs) y = at-end xs y
+
+  at-either : (xs : List X) (y : X) (i : ℕ) (x : X) → slice_get (xs ++ y ∷ []) i ≡ Some x → (slice_get xs i ≡ Some x) ⊎ ((i ≡ length xs) × (x ≡ y))
+  at-either [] y zero x e = inr (refl, sym (ap (λ o. unwrap_or o y) e))
+  at-either [] y (suc i) x e = absurd (both_ways false refl (ap is_some e))
+  at-either (z ∷ xs) y zero x e = inl e
+  at-either (z ∷ xs) y (suc i) x e =
+      ⊎_elim (λ old. inl old) (λ (last : (i ≡ length xs) × (x ≡ y)). inr (ap suc last.0, last.1)) (at-either xs y i x e)
+
 abbrev Runs : Type 0
 Runs = List (ℕ × ℕ)
 
-lies : (p : ℕ) (r : ℕ × ℕ) → lies_in p r ≡ true → (r.0 ≤ p) × (p < r.1)
+pub lies : (p : ℕ) (r : ℕ × ℕ) → lies_in p r ≡ true → (r.0 ≤ p) × (p < r.1)
 lies p r h = (let both = and_parts _ _ h in (leb-true r.0 p both.0, ltb-true p r.1 both.1))
 
-lies_from : (p : ℕ) (r : ℕ × ℕ) → r.0 ≤ p → p < r.1 → lies_in p r ≡ true
+pub lies_from : (p : ℕ) (r : ℕ × ℕ) → r.0 ≤ p → p < r.1 → lies_in p r ≡ true
 lies_from p r a b = and_from _ _ (le-leb r.0 p a) (lt-ltb p r.1 b)
 
 module _ (s : Positions) where
@@ -85,7 +117,7 @@ module _ (s : Positions) where
       ⊎_elim (λ (l : a.1 < b.1). absurd (both_ways _ m.ended (n.inside a.1 (omega arith) (omega arith))))
       (λ (l : b.1 ≤ a.1). l) (cases_lt a.1 b.1)
 
-  share : (a b : ℕ × ℕ) → Max a → Max b → (p q : ℕ) → lies_in q a ≡ true → lies_in q b ≡ true → lies_in p a ≡ true → lies_in p b ≡ true
+  pub share : (a b : ℕ × ℕ) → Max a → Max b → (p q : ℕ) → lies_in q a ≡ true → lies_in q b ≡ true → lies_in p a ≡ true → lies_in p b ≡ true
   share a b m n p q qa qb pa =
       let ya = lies q a qa in
       let yb = lies q b qb in
@@ -190,20 +222,120 @@ module _ (s : Positions) where
         (λ (e : list_any (lies_in q) ms ≡ true). covers_runs (with_run k s rs m.0) ms next (All-tail Max m ms ok) q e)
         (or_cases (lies_in q m) (list_any (lies_in q) ms) h)
 
-    -- the first stays the first
-    first_on : (rs : Runs) (p : ℕ) (r : ℕ × ℕ) → length rs ≤ k → slice_get rs 0 ≡ Some r → slice_get (with_run k s rs p) 0 ≡ Some r
-    first_on [] p r few e = absurd (both_ways false refl (ap is_some e))
-    first_on (x ∷ rs) p r few e = by_case (λ l. slice_get l 0 ≡ Some r) (x ∷ rs) p few (λ _. e) (λ _. e) (λ _. e) (λ _ _ _ _ _. e)
+    -- what is true of the list and of the positions that it was made from
+    record Ordered (qs : List ℕ) (rs : Runs) : Type 0 where
+      short : length rs ≤ length qs
+      named : (i : ℕ) (r : ℕ × ℕ) → slice_get rs i ≡ Some r → IsNamed qs (length qs) r
+      covers : (b q : ℕ) → slice_get qs b ≡ Some q → contains s q ≡ true → Covers rs q
+      newest : (b q : ℕ) → slice_get qs b ≡ Some q → contains s q ≡ true → b < k → IsListedBy rs b q
+      order : (i j b q : ℕ) (x y : ℕ × ℕ) → i < j → slice_get rs i ≡ Some x → slice_get rs j ≡ Some y →
+          slice_get qs b ≡ Some q → lies_in q y ≡ true → IsNamed qs b x
 
-    first_all : (rs : Runs) (ps : List ℕ) (r : ℕ × ℕ) → Good rs → slice_get rs 0 ≡ Some r → slice_get (runs_of k s rs ps) 0 ≡ Some r
-    first_all rs [] r g e = e
-    first_all rs (p ∷ ps) r g e = first_all (with_run k s rs p) ps r (good rs p g) (first_on rs p r g.few e)
+    module _ (rs : Runs) (qs : List ℕ) (p : ℕ) (g : Good rs) (o : Ordered qs rs) where
+      abbrev all_qs : List ℕ
+      all_qs = qs ++ p ∷ []
 
-    first_new : (p : ℕ) → contains s p ≡ true → 0 < k → (r : ℕ × ℕ) × (slice_get (with_run k s [] p) 0 ≡ Some r) × (lies_in p r ≡ true)
-    first_new p held some =
-        by_case (λ l. (r : ℕ × ℕ) × (slice_get l 0 ≡ Some r) × (lies_in p r ≡ true)) [] p (omega arith)
-        (λ e. absurd (both_ways false refl e)) (λ e. absurd (omega (arith, e))) (λ e. absurd (both_ways _ e (has p held)))
-        (λ r m at none l. (r, refl, at))
+      -- a run that is named stays so
+      still : (n m : ℕ) (r : ℕ × ℕ) → n ≤ m → IsNamed qs n r → IsNamed all_qs m r
+      still n m r l is = (is.0, is.1, omega (arith, is.2), at-left qs (p ∷ []) is.0 is.1 is.3, is.4)
+
+      -- the run at i, before that of the position at b
+      old_order : (i j b q : ℕ) (x y : ℕ × ℕ) → i < j → slice_get rs i ≡ Some x → slice_get rs j ≡ Some y →
+          slice_get all_qs b ≡ Some q → lies_in q y ≡ true → IsNamed all_qs b x
+      old_order i j b q x y l at at' is in_y =
+          ⊎_elim (λ (old : slice_get qs b ≡ Some q). still b b x (le_refl b) (o.order i j b q x y l at at' old in_y))
+          (λ (last : (b ≡ length qs) × (q ≡ p)). still (length qs) b x (omega (arith, last.0)) (o.named i x at))
+          (at-either qs p b q is)
+
+      same : (contains s p ≡ true → Covers rs p) → (contains s p ≡ true → length qs < k → IsListedBy rs (length qs) p) → Ordered all_qs rs
+      same covered listed =
+          let size = length-append qs (p ∷ []) in
+          record {
+            short = omega (arith, o.short, size);
+            named = λ i r at. still (length qs) (length all_qs) r (omega (arith, size)) (o.named i r at);
+            covers = λ b q is held.
+                ⊎_elim (λ (old : slice_get qs b ≡ Some q). o.covers b q old held)
+                (λ (last : (b ≡ length qs) × (q ≡ p)). subst (λ t. contains s t ≡ true → Covers rs t) (sym last.1) covered held)
+                (at-either qs p b q is);
+            newest = λ b q is held l.
+                ⊎_elim (λ (old : slice_get qs b ≡ Some q). o.newest b q old held l)
+                (λ (last : (b ≡ length qs) × (q ≡ p)).
+                let found = listed (ap (contains s) (sym last.1) ∙ held) (omega (arith, last.0)) in
+                (found.0, found.1, omega (arith, found.2, last.0), found.3, ap (λ t. lies_in t found.1) last.1 ∙ found.4))
+                (at-either qs p b q is);
+            order = old_order;
+          }
+
+      more : (r : ℕ × ℕ) → Max r → lies_in p r ≡ true → list_any (lies_in p) rs ≡ false → length rs < k → Ordered all_qs (rs ++ r ∷ [])
+      more r m at none l =
+          let size = length-append qs (p ∷ []) in
+          let sizes = length-append rs (r ∷ []) in
+          record {
+            short = omega (arith, o.short, size, sizes);
+            named = λ i x is.
+                ⊎_elim (λ (old : slice_get rs i ≡ Some x). still (length qs) (length all_qs) x (omega (arith, size)) (o.named i x old))
+                (λ (last : (i ≡ length rs) × (x ≡ r)).
+                (length qs, p, omega (arith, size), at-end qs p, ap (lies_in p) last.1 ∙ at))
+                (at-either rs r i x is);
+            covers = λ b q is held.
+                ⊎_elim (λ (old : slice_get qs b ≡ Some q).
+                ⊎_elim (λ e. inl (list_any-append (lies_in q) rs (r ∷ []) ∙ or_left _ _ e)) (λ e. absurd (omega (arith, e, l))) (o.covers b q old held))
+                (λ (last : (b ≡ length qs) × (q ≡ p)).
+                inl (list_any-append (lies_in q) rs (r ∷ []) ∙ or_right _ _ (or_left _ _ (ap (λ t. lies_in t r) last.1 ∙ at))))
+                (at-either qs p b q is);
+            newest = λ b q is held few.
+                ⊎_elim (λ (old : slice_get qs b ≡ Some q).
+                let found = o.newest b q old held few in
+                (found.0, found.1, found.2, at-left rs (r ∷ []) found.0 found.1 found.3, found.4))
+                (λ (last : (b ≡ length qs) × (q ≡ p)).
+                (length rs, r, omega (arith, o.short, last.0), at-end rs r, ap (λ t. lies_in t r) last.1 ∙ at))
+                (at-either qs p b q is);
+            order = λ i j b q x y less is is' at_b in_y.
+                ⊎_elim
+                (λ (old : slice_get rs j ≡ Some y).
+                let within = slice_get_within rs j y old in
+                ⊎_elim (λ (first : slice_get rs i ≡ Some x). old_order i j b q x y less first old at_b in_y)
+                (λ (last : (i ≡ length rs) × (x ≡ r)). absurd (omega (arith, within, less, last.0)))
+                (at-either rs r i x is))
+                (λ (last : (j ≡ length rs) × (y ≡ r)).
+                ⊎_elim
+                (λ (first : slice_get rs i ≡ Some x).
+                let in_r = ap (lies_in q) (sym last.1) ∙ in_y in
+                ⊎_elim
+                (λ (old : slice_get qs b ≡ Some q).
+                let there = lies q r in_r in
+                ⊎_elim (λ e. absurd (both_ways _ none (shares rs g.maximal r m p q in_r at e))) (λ e. absurd (omega (arith, e, l)))
+                (o.covers b q old (m.inside q there.0 there.1)))
+                (λ (new : (b ≡ length qs) × (q ≡ p)). still (length qs) b x (omega (arith, new.0)) (o.named i x first))
+                (at-either qs p b q at_b))
+                (λ (both : (i ≡ length rs) × (x ≡ r)). absurd (omega (arith, less, last.0, both.0)))
+                (at-either rs r i x is))
+                (at-either rs r j y is');
+          }
+
+      one_more : Ordered all_qs (with_run k s rs p)
+      one_more =
+          by_case (Ordered all_qs) rs p g.few
+          (λ e. same (λ _. inl e) (λ _ l.
+          let found = listed_at (lies_in p) rs e in (found.0, found.1, omega (arith, o.short, slice_get_within rs found.0 found.1 found.2), found.2, found.3)))
+          (λ e. same (λ _. inr e) (λ _ l. absurd (omega (arith, o.short, e, l))))
+          (λ e. same (λ held. absurd (both_ways _ e (has p held))) (λ held l. absurd (both_ways _ e (has p held))))
+          more
+
+    all_ordered : (rs : Runs) (qs ps : List ℕ) → Good rs → Ordered qs rs → Ordered (qs ++ ps) (runs_of k s rs ps)
+    all_ordered rs qs [] g o = subst (λ l. Ordered l rs) (sym (append-nil qs)) o
+    all_ordered rs qs (p ∷ ps) g o =
+        subst (λ l. Ordered l (runs_of k s (with_run k s rs p) ps)) (append_assoc qs (p ∷ []) ps)
+        (all_ordered (with_run k s rs p) (qs ++ p ∷ []) ps (good rs p g) (one_more rs qs p g o))
+
+    empty_ordered : Ordered [] []
+    empty_ordered = record {
+      short = omega arith;
+      named = λ i r e. absurd (both_ways false refl (ap is_some e));
+      covers = λ b q e. absurd (both_ways false refl (ap is_some e));
+      newest = λ b q e. absurd (both_ways false refl (ap is_some e));
+      order = λ i j b q x y l e. absurd (both_ways false refl (ap is_some e));
+    }
 
     empty_good : Good []
     empty_good = record { maximal = All-nil Max; few = omega arith; once = λ p. omega arith }
@@ -212,6 +344,7 @@ module _ (s : Positions) where
     newest_are ps =
         let early = all_good [] ps empty_good in
         let g = all_good (runs_of k s [] ps) (starts s) early in
+        let o = all_ordered (runs_of k s [] ps) ps (starts s) early (all_ordered [] [] ps empty_good empty_ordered) in
         record {
           maximal = g.maximal;
           few = g.few;
@@ -221,11 +354,10 @@ module _ (s : Positions) where
               (λ e. inl (omega (arith, g.once p, some_counted (lies_in p) (newest_runs k s ps) e)))
               (λ e. inr e)
               (covers_runs (runs_of k s [] ps) (maximal_runs s) early all p (has p held));
-          newest = λ p older is held some.
-              let first = first_new p held some in
-              let then = subst (λ l. slice_get (runs_of k s [] l) 0 ≡ Some first.0) (sym is)
-              (first_all (with_run k s [] p) older first.0 (good [] p empty_good) first.1) in
-              (first.0, first_all (runs_of k s [] ps) (starts s) first.0 early then, first.2);
+          newest = λ b p is. o.newest b p (at-left ps (starts s) b p is);
+          order = λ i j b p q r l at at' is in_r.
+              let found = o.order i j b p q r l at at' (at-left ps (starts s) b p is) in_r in
+              (found.0, found.1, found.2, at-front ps (starts s) found.0 found.1 (omega (arith, found.2, slice_get_within ps b p is)) found.3, found.4);
         }
 
 pub newest_runs_are_listed : MaximalRunsOfEverySet → NewestRunsAreListed

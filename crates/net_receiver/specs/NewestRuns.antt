@@ -4,6 +4,7 @@
 --     runs_of k held listed ps      with the runs of ps, in the order of ps
 --     newest_runs k held ps      the runs of ps, each once, and then the other runs, rising; k at most
 --     with_starts ps rs      the starts of these runs over the first of the positions ps
+--     IsNamed ps n run      one of the first n of these positions is in the run
 --     AreNewestRuns k held ps list      what is true of it, by the law `NewestRunsAreListed`
 use Rattle.std.specs.Prelude.{◌≡◌, ◌⊎◌, ℕ, ◌<◌, ◌≤◌, if◌then◌else◌, List, [], ◌∷◌, ◌++◌, map, length, take}
 use Rattle.std.specs.Prelude.{drop, slice_get, Option, Some, IsTrue, All, count_by}
@@ -38,15 +39,25 @@ abbrev pub with_starts : List ℕ → List (ℕ × ℕ) → List ℕ
 with_starts ps rs = take (length ps) (map (λ r. r.0) rs) ++ drop (length rs) ps
 
 -- ---- laws
+-- one of the first n of these positions is in the run
+abbrev pub IsNamed : List ℕ → ℕ → ℕ × ℕ → Type 0
+IsNamed ps n run = (a : ℕ) × (p : ℕ) × (a < n) × (slice_get ps a ≡ Some p) × IsTrue (lies_in p run)
+
+-- the run of the position p is listed, with at most b others before it
+abbrev pub IsListedBy : List (ℕ × ℕ) → ℕ → ℕ → Type 0
+IsListedBy list b p = (j : ℕ) × (run : ℕ × ℕ) × (j ≤ b) × (slice_get list j ≡ Some run) × IsTrue (lies_in p run)
+
 -- the runs listed are maximal ones, k at most; no position is in two of them, and each held position is in
--- one, unless k are listed; the first is that of the first position, if it is held
+-- one, unless k are listed; the runs of the first k positions are listed, if these are held; and a run is
+-- listed before that of one of the positions only if an earlier one of the positions is in it
 pub record AreNewestRuns (k : ℕ) (held : Positions) (ps : List ℕ) (list : List (ℕ × ℕ)) : Type 0 where
   pub maximal : All (IsMaximalRun held) list
   pub few : length list ≤ k
   pub once : (p : ℕ) → count_by (lies_in p) list ≤ 1
   pub complete : (p : ℕ) → IsTrue (contains held p) → (count_by (lies_in p) list ≡ 1) ⊎ (length list ≡ k)
-  pub newest : (p : ℕ) (older : List ℕ) → ps ≡ p ∷ older → IsTrue (contains held p) → 0 < k →
-      (run : ℕ × ℕ) × (slice_get list 0 ≡ Some run) × IsTrue (lies_in p run)
+  pub newest : (b p : ℕ) → slice_get ps b ≡ Some p → IsTrue (contains held p) → b < k → IsListedBy list b p
+  pub order : (i j b p : ℕ) (q r : ℕ × ℕ) → i < j → slice_get list i ≡ Some q → slice_get list j ≡ Some r →
+      slice_get ps b ≡ Some p → IsTrue (lies_in p r) → IsNamed ps b q
 
 -- `newest_runs` lists them
 abbrev pub NewestRunsAreListed : Type 0
