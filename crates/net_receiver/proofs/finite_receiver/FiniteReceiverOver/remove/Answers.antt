@@ -1,6 +1,7 @@
 use Rattle.std.proofs.Common.{sym, subst}
 use Rattle.net_receiver.specs.Finite.{IsSoundEnd}
 use Rattle.net_receiver.specs.FiniteHead.{finite_of}
+use Rattle.net_receiver.specs.FiniteLaws.{ReceivesFinite}
 use Rattle.net_receiver.proofs.Ends.{sound_read}
 use Rattle.net_receiver.proofs.finite_receiver.FiniteReceiverOver.remove.Goals as goal
 
@@ -16,3 +17,13 @@ invariant_of-self g c =
       },
       c.self.invariant.1,
     )
+
+pub returns-clause-receives : goal.returns-clause-receives
+returns-clause-receives g c = λ f x received.
+    let i = c.self.inside in
+    let xs = g.S.Storage.elements i.storage in
+    let was = subst (ReceivesFinite f x) (sym c.self.view_is) received in
+    record {
+      bytes = (c.remove.ensures.receives xs i.runs (sym c.count.ensures) c.self.invariant.0.parts f x was.bytes).0;
+      end = was.end;
+    }
