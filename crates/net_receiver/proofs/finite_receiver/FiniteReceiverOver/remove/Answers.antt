@@ -1,4 +1,5 @@
-use Rattle.std.proofs.Common.{sym}
+use Rattle.std.proofs.Common.{sym, subst}
+use Rattle.net_receiver.specs.FiniteLaws.{ReceivesFinite}
 use Rattle.net_receiver.proofs.finite_receiver.FiniteReceiverOver.remove.Goals as goal
 
 pub invariant_of-self : goal.invariant_of-self
@@ -7,3 +8,9 @@ invariant_of-self g c =
       c.remove.ensures.sound (g.S.Storage.elements i.storage) i.runs (sym c.count.ensures) c.self.invariant.0,
       c.self.invariant.1,
     )
+
+pub returns-clause-receives : goal.returns-clause-receives
+returns-clause-receives g c = λ f x received.
+    let i = c.self.inside in
+    (c.remove.ensures.receives (g.S.Storage.elements i.storage) i.runs (sym c.count.ensures) c.self.invariant.0 f x
+    (subst (ReceivesFinite f x) (sym c.self.view_is) received)).0
