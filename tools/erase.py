@@ -119,11 +119,12 @@ class Eraser(Text):
         return self.finish()
 
     def documentation(self, k, line):
-        """A line of documentation, its links anew: a part of a proved function goes, and what is required is what panics."""
+        """A line of documentation, its links anew; a part of a proved function goes, and what is required panics."""
         if re.fullmatch('//[/!] *```rust', line):
             end = next(j for j in range(k + 1, len(self.tokens)) if self.tokens[j][1].endswith(' ```'))
             return self.put(k, end + 1 + 2 * (self.tokens[end + 2][1] == '///'), GONE)
-        if line == '/// # Requires' and self.crate != given.EXPORTS and not (k < self.owner.end and self.owner.name.endswith('Head')):
+        of_head = k < self.owner.end and self.owner.name.endswith('Head')
+        if line == '/// # Requires' and self.crate != given.EXPORTS and not of_head:
             said = CALLABLE.sub('', self.tokens[k + 4][1])                      # after a line without text
             if said == '/// `f`':
                 return self.put(k - 2, k + 5, GONE)

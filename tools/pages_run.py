@@ -1,7 +1,7 @@
 #!/usr/bin/env python3
 """Runs the commands that pages tell users, as the pages have them, in a fresh clone: python3 tools/pages_run.py [--all]
 
-A command is a line of a block of a page, or a text of two words or more between backquotes, that begins with one of WORDS.
+A command is a line of a block of a page, or a text of two words or more between backquotes, that begins with one of FIRST.
 A block that changes the folder is one command. `my.c` is the program in C of docs/FFI.md. Commands that take more than
 seconds, SLOW, are run with `--all` alone, and may say by status 2 that something is missing here; those of ELSEWHERE never.
 Both lists have the reasons; a name that ends in ` ..` is the beginning of commands. Status 1 if a command fails, or if a
@@ -17,7 +17,8 @@ import tempfile
 ROOT = pathlib.Path(__file__).resolve().parent.parent
 # The pages, and where the commands of each are run, unless they name that folder.
 PAGES = {"README.md": ".", "rust/README.md": "rust", "docs/FFI.md": ".", "overlay/README.md": "."}
-WORDS = re.compile(r"\(?(?:[A-Z_]+=\S+ )?(?:cd|cargo|cc|sh|rt|rustup|python3|pkg-config|arm-none-eabi-gcc|echo|\.ci/run)(?= |$)")
+FIRST = r"cd|cargo|cc|sh|rt|rustup|python3|pkg-config|arm-none-eabi-gcc|echo|\.ci/run"
+WORDS = re.compile(rf"\(?(?:[A-Z_]+=\S+ )?(?:{FIRST})(?= |$)")
 
 BLOCK = re.compile(r"(?<=\n\n)(?:    .*\n|\n(?=    ))+")
 
@@ -101,7 +102,8 @@ def main():
                 done = subprocess.run(["sh", "-ec", command], cwd=at, env=environment, capture_output=True, text=True)
                 run += 1
                 if done.returncode and not (listed(command, SLOW) and done.returncode == 2):
-                    failed.append(f"{page}: {command}: status {done.returncode}\n{done.stdout[-2000:]}{done.stderr[-2000:]}")
+                    told = done.stdout[-2000:] + done.stderr[-2000:]
+                    failed.append(f"{page}: {command}: status {done.returncode}\n{told}")
     failed += [f"{name}: on no page" for name in (*SLOW, *ELSEWHERE) if name not in seen]
     print("\n".join([*failed, f"{run} commands of {len(PAGES)} pages run"]))
     sys.exit(bool(failed))

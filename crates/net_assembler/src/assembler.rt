@@ -217,10 +217,6 @@ impl<const N: usize> Assembler<N> {
 
     /// Adds the positions from `offset` to `offset + size - 1`; none if `size` is 0.
     ///
-    /// The range is refused, and the set stays as it was, exactly if the set with these positions
-    /// would have more than `N` maximal runs: never while there are fewer than `N`. Ranges that
-    /// only touch form one run.
-    ///
     /// ```rust
     /// assembler.add(offset, size)?;
     /// Ok(assembler.peek_front())
@@ -233,6 +229,12 @@ impl<const N: usize> Assembler<N> {
     /// assert_eq!(assembler.add(6, 4), Ok(()));
     /// assert!(assembler.iter_data().eq([(4, 10)]));
     /// ```
+    ///
+    /// # Errors
+    ///
+    /// The range is refused, and the set stays as it was, exactly if the set with these positions
+    /// would have more than `N` maximal runs: never while there are fewer than `N`. Ranges that
+    /// only touch form one run.
     ///
     /// # Requires
     ///
@@ -259,6 +261,10 @@ impl<const N: usize> Assembler<N> {
     ///
     /// Looks rise by at most twice the number of binary digits of `N`, which is 3 for 4 and 6 for
     /// 32, moves by at most `N`, and both together by at most `4 * N`. Neither count falls.
+    ///
+    /// # Errors
+    ///
+    /// The range is refused exactly if `add` refuses it, and then the set stays as it was.
     ///
     /// # Requires
     ///
@@ -338,10 +344,7 @@ impl<const N: usize> Assembler<N> {
 
     /// Adds a range as `add` does, and then removes the front as `remove_front` does.
     ///
-    /// A range at 0 is never refused, since the run that it is part of is removed at once. TCP
-    /// depends on that: if the segment that it waits for were refused, no other could complete the
-    /// front, and the connection would stall. A range elsewhere is refused exactly if `add` refuses
-    /// it, and then the set stays as it was. With `size` 0 a run can still be removed.
+    /// With `size` 0 a run can still be removed.
     ///
     /// ```
     /// # use net_base::storage::{Assembler, TooManyHolesError};
@@ -351,6 +354,13 @@ impl<const N: usize> Assembler<N> {
     /// assert_eq!(assembler.add_then_remove_front(0, 2), Ok(2));
     /// assert!(assembler.iter_data().eq([(2, 4)]));
     /// ```
+    ///
+    /// # Errors
+    ///
+    /// A range at 0 is never refused, since the run that it is part of is removed at once. TCP
+    /// depends on that: if the segment that it waits for were refused, no other could complete the
+    /// front, and the connection would stall. A range elsewhere is refused exactly if `add` refuses
+    /// it, and then the set stays as it was.
     ///
     /// # Requires
     ///

@@ -118,8 +118,8 @@ impl Rand {
     /// Draws 16 bits until a draw is above 1024, and returns that draw. The generator stays at that
     /// draw's state.
     ///
-    /// It returns from every state, after at most 2^64 draws: by `laws::full_period` each state
-    /// leads to every state, including one whose draw is above 1024.
+    /// It returns from every state, after at most 2^64 draws: each state leads to every state,
+    /// including one whose draw is above 1024.
     ///
     /// ```
     /// # use net_base::rand::Rand;

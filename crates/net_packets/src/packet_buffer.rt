@@ -283,10 +283,6 @@ impl<H: Drop, M: Storage<PacketMetadata<H>>, B: Storage<u8>> PacketsOver<H, M, B
     /// Appends a packet of `size` bytes and lends them. Until they are written they are those that
     /// were in the storage. An empty queue begins at the storage's beginning.
     ///
-    /// Returns `Full`, drops the header and changes nothing, if there are no `size` contiguous free
-    /// bytes, or no slot for the packet or its gap. If smoltcp refuses, it can leave a gap with no
-    /// packet.
-    ///
     /// ```
     /// # use net_base::storage::{Full, PacketBuffer, PacketMetadata};
     /// # let mut slots = [PacketMetadata::EMPTY; 4];
@@ -296,6 +292,12 @@ impl<H: Drop, M: Storage<PacketMetadata<H>>, B: Storage<u8>> PacketsOver<H, M, B
     /// assert_eq!(queue.peek().ok(), Some((&1, &b"abc"[..])));
     /// # Ok::<(), Full>(())
     /// ```
+    ///
+    /// # Errors
+    ///
+    /// `Full` if there are no `size` contiguous free bytes, or no slot for the packet or its gap.
+    /// Then the header is dropped, and nothing changes. If smoltcp refuses, it can leave a gap with
+    /// no packet.
     pub fn enqueue(&mut self, size: usize, header: H) -> Result<&mut [u8], Full>
         ensures* writes_back { sem 𝓛 (lends_bytes_if H.row M.row B.row M.Storage B.Storage
             self.entry result (with_last_bytes (with_packet_if_room self.old size header))) }
@@ -315,9 +317,8 @@ impl<H: Drop, M: Storage<PacketMetadata<H>>, B: Storage<u8>> PacketsOver<H, M, B
         Ok(self.last_part_mut(size))
     }
 
-    /// Appends a packet of `size` bytes, or returns `Full`, as [`PacketsOver::enqueue`] does, of which
-    /// this is the first step: [`PacketsOver::last_mut`] lends the bytes. Each step has an exact
-    /// contract.
+    /// Appends a packet of `size` bytes, as [`PacketsOver::enqueue`] does, of which this is the
+    /// first step: [`PacketsOver::last_mut`] lends the bytes. Each step has an exact contract.
     ///
     /// ```
     /// # use net_base::storage::{PacketBuffer, PacketMetadata};
@@ -328,6 +329,11 @@ impl<H: Drop, M: Storage<PacketMetadata<H>>, B: Storage<u8>> PacketsOver<H, M, B
     /// queue.last_mut().copy_from_slice(b"abc");
     /// assert_eq!(queue.peek().ok(), Some((&1, &b"abc"[..])));
     /// ```
+    ///
+    /// # Errors
+    ///
+    /// `Full` if [`PacketsOver::enqueue`] returns it. Then the header is dropped, and nothing
+    /// changes.
     pub fn place(&mut self, size: usize, header: H) -> Result<(), Full>
         ensures accepted { OnOk result ((ws : List ℕ) → length ws ≡ size
             → contents (with_last_bytes self.new ws) ≡ contents self.old ++ (header, ws) ∷ []) }
@@ -371,8 +377,13 @@ impl<H: Drop, M: Storage<PacketMetadata<H>>, B: Storage<u8>> PacketsOver<H, M, B
         self.last_part_mut(size)
     }
 
-    /// Appends a packet whose bytes are `data`, or returns `Full`, as [`PacketsOver::enqueue`] does.
-    /// smoltcp has no such call.
+    /// Appends a packet whose bytes are `data`, as [`PacketsOver::enqueue`] does. smoltcp has no
+    /// such call.
+    ///
+    /// # Errors
+    ///
+    /// `Full` if [`PacketsOver::enqueue`] returns it. Then the header is dropped, and nothing
+    /// changes.
     pub fn push_slice(&mut self, header: H, data: &[u8]) -> Result<(), Full>
         ensures pushed { OnOk result
             (contents self.new ≡ contents self.old ++ (header, «data».now) ∷ []) }
@@ -391,9 +402,7 @@ impl<H: Drop, M: Storage<PacketMetadata<H>>, B: Storage<u8>> PacketsOver<H, M, B
     /// Appends a packet whose bytes `f` writes: `f` is lent `max_size` bytes, and returns how many
     /// of them, from the first on, are the packet. That number is returned.
     ///
-    /// Returns `Full` if [`PacketsOver::enqueue`] would for `max_size` bytes, and then drops the
-    /// header, does not call `f` and changes nothing. smoltcp places these packets by a rule of its
-    /// own and can take more than `max_size` bytes.
+    /// smoltcp places these packets by a rule of its own and can take more than `max_size` bytes.
     ///
     /// ```
     /// # use net_base::storage::{PacketBuffer, PacketMetadata};
@@ -407,6 +416,11 @@ impl<H: Drop, M: Storage<PacketMetadata<H>>, B: Storage<u8>> PacketsOver<H, M, B
     /// assert_eq!(written, Ok(3));
     /// assert_eq!(queue.peek().ok(), Some((&1, &b"abc"[..])));
     /// ```
+    ///
+    /// # Errors
+    ///
+    /// `Full` if [`PacketsOver::enqueue`] returns it for `max_size` bytes. Then the header is
+    /// dropped, `f` isn't called, and nothing changes.
     ///
     /// # Requires
     ///
@@ -450,8 +464,6 @@ impl<H: Drop, M: Storage<PacketMetadata<H>>, B: Storage<u8>> PacketsOver<H, M, B
     /// `Ok`, the packet is taken off; if it returns `Err`, the packet stays first, with what `f`
     /// wrote to its header and bytes.
     ///
-    /// Returns `Empty`, does not call `f` and changes nothing, if the queue has no packets.
-    ///
     /// ```
     /// # use net_base::storage::{Full, PacketBuffer, PacketMetadata};
     /// # let mut slots = [PacketMetadata::EMPTY; 4];
@@ -463,6 +475,10 @@ impl<H: Drop, M: Storage<PacketMetadata<H>>, B: Storage<u8>> PacketsOver<H, M, B
     /// assert!(queue.is_empty());
     /// # Ok::<(), Full>(())
     /// ```
+    ///
+    /// # Errors
+    ///
+    /// `Empty` if the queue has no packets. Then `f` isn't called, and nothing changes.
     ///
     /// # Requires
     ///
@@ -501,8 +517,6 @@ impl<H: Drop, M: Storage<PacketMetadata<H>>, B: Storage<u8>> PacketsOver<H, M, B
 
     /// Takes the first packet and its gap off, returns its header and lends its bytes.
     ///
-    /// Returns `Empty`, and changes nothing, if the queue has no packets.
-    ///
     /// ```
     /// # use net_base::storage::{Empty, Full, PacketBuffer, PacketMetadata};
     /// # let mut slots = [PacketMetadata::EMPTY; 4];
@@ -514,6 +528,10 @@ impl<H: Drop, M: Storage<PacketMetadata<H>>, B: Storage<u8>> PacketsOver<H, M, B
     /// assert_eq!(queue.dequeue(), Err(Empty));
     /// # Ok::<(), Full>(())
     /// ```
+    ///
+    /// # Errors
+    ///
+    /// `Empty` if the queue has no packets. Then nothing changes.
     pub fn dequeue(&mut self) -> Result<(H, &mut [u8]), Empty>
         ensures* writes_back { sem 𝓛 (lends_packet_if H.row M.row B.row M.Storage B.Storage
             self.entry result (with_bytes (without_first_and_gap self.old) (without_gap self.old).read_at)) }
@@ -535,8 +553,8 @@ impl<H: Drop, M: Storage<PacketMetadata<H>>, B: Storage<u8>> PacketsOver<H, M, B
         Ok((header, self.last_dequeued_mut(size)))
     }
 
-    /// Takes the first packet and its gap off, and returns its header and how many bytes it has, or
-    /// `Empty`, as [`PacketsOver::dequeue`] does, of which this is the first step:
+    /// Takes the first packet and its gap off, and returns its header and how many bytes it has, as
+    /// [`PacketsOver::dequeue`] does, of which this is the first step:
     /// [`PacketsOver::last_dequeued_mut`] lends the bytes. Each step has an exact contract.
     ///
     /// ```
@@ -548,6 +566,10 @@ impl<H: Drop, M: Storage<PacketMetadata<H>>, B: Storage<u8>> PacketsOver<H, M, B
     /// assert_eq!(queue.take(), Ok((1, 3)));
     /// assert_eq!(queue.last_dequeued_mut(3), b"abc");
     /// ```
+    ///
+    /// # Errors
+    ///
+    /// `Empty` if the queue has no packets. Then nothing changes.
     pub fn take(&mut self) -> Result<(H, usize), Empty>
         ensures empty { IsErr result ↔ (contents self.old ≡ []) }
         ensures taken { IfOk result
@@ -604,7 +626,7 @@ impl<H: Drop, M: Storage<PacketMetadata<H>>, B: Storage<u8>> PacketsOver<H, M, B
     /// Takes the first packet and its gap off, copies as many of its bytes as `into` has room for,
     /// and returns its header and how many bytes were copied. Bytes that don't fit are lost.
     ///
-    /// Returns `Empty`, and changes nothing, if the queue has no packets. smoltcp has no such call.
+    /// smoltcp has no such call.
     ///
     /// ```
     /// # use net_base::storage::{PacketBuffer, PacketMetadata};
@@ -615,6 +637,10 @@ impl<H: Drop, M: Storage<PacketMetadata<H>>, B: Storage<u8>> PacketsOver<H, M, B
     /// let mut into = *b"-----";
     /// assert_eq!((queue.pop_slice(&mut into), &into), (Ok((1, 3)), b"abc--"));
     /// ```
+    ///
+    /// # Errors
+    ///
+    /// `Empty` if the queue has no packets. Then nothing changes.
     pub fn pop_slice(&mut self, into: &mut [u8]) -> Result<(H, usize), Empty>
         ensures empty { IsErr result ↔ (contents self.old ≡ []) }
         ensures popped { IfOk result
@@ -641,8 +667,6 @@ impl<H: Drop, M: Storage<PacketMetadata<H>>, B: Storage<u8>> PacketsOver<H, M, B
 
     /// Shows the header and the bytes of the first packet, and drops its gap.
     ///
-    /// Returns `Empty`, and changes nothing, if the queue has no packets.
-    ///
     /// ```
     /// # use net_base::storage::{Full, PacketBuffer, PacketMetadata};
     /// # let mut slots = [PacketMetadata::EMPTY; 4];
@@ -653,6 +677,10 @@ impl<H: Drop, M: Storage<PacketMetadata<H>>, B: Storage<u8>> PacketsOver<H, M, B
     /// assert_eq!(queue.peek(), Ok((&1, &b"abc"[..])));
     /// # Ok::<(), Full>(())
     /// ```
+    ///
+    /// # Errors
+    ///
+    /// `Empty` if the queue has no packets. Then nothing changes.
     pub fn peek(&mut self) -> Result<(&H, &[u8]), Empty>
         ensures* skips { sem 𝓛 (ends_as H.row M.row B.row M.Storage B.Storage
             self.entry (without_gap self.old)) }

@@ -346,8 +346,7 @@ impl<T, S: Storage<T>> RingOver<T, S> {
     /// Calls `f` on the next free element, enqueues it if `f` returns `Ok`, and returns what `f`
     /// returned.
     ///
-    /// What `f` wrote stays in the storage in both cases. A full ring returns `Full`, stays as it
-    /// is and does not call `f`.
+    /// What `f` wrote stays in the storage in both cases.
     ///
     /// ```
     /// # use net_base::storage::RingBuffer;
@@ -357,6 +356,10 @@ impl<T, S: Storage<T>> RingOver<T, S> {
     /// assert_eq!(ring.enqueue_one_with(|_| Err::<(), _>("no")), Ok(Err("no")));
     /// assert_eq!(ring.len(), 1);
     /// ```
+    ///
+    /// # Errors
+    ///
+    /// `Full` if the ring is full. Then it stays as it is, and `f` isn't called.
     ///
     /// # Requires
     ///
@@ -390,8 +393,6 @@ impl<T, S: Storage<T>> RingOver<T, S> {
 
     /// Enqueues the next free element, as it is, and lends it.
     ///
-    /// A full ring returns `Full` and stays as it is.
-    ///
     /// ```
     /// # use net_base::storage::{Full, RingBuffer};
     /// # let mut storage = [0u8; 1];
@@ -400,6 +401,10 @@ impl<T, S: Storage<T>> RingOver<T, S> {
     /// assert_eq!(ring.enqueue_one(), Err(Full));
     /// # Ok::<(), Full>(())
     /// ```
+    ///
+    /// # Errors
+    ///
+    /// `Full` if the ring is full. Then it stays as it is.
     pub fn enqueue_one(&mut self) -> Result<&mut T, Full>
         ensures* writes_back { sem 𝓛 (lends_one_if T.row S.row S.Storage self.entry
             (with_enqueued 1 self.old) (write_at self.old) result) }
@@ -437,8 +442,7 @@ impl<T, S: Storage<T>> RingOver<T, S> {
     /// Calls `f` on the first element of the queue, dequeues it if `f` returns `Ok`, and returns
     /// what `f` returned.
     ///
-    /// What `f` wrote stays in the storage in both cases. An empty ring returns `Empty`, stays as
-    /// it is and does not call `f`.
+    /// What `f` wrote stays in the storage in both cases.
     ///
     /// ```
     /// # use net_base::storage::{Empty, RingBuffer};
@@ -449,6 +453,10 @@ impl<T, S: Storage<T>> RingOver<T, S> {
     /// assert_eq!(ring.dequeue_one_with(|byte| Ok::<_, ()>(*byte)), Ok(Ok(b'a')));
     /// assert_eq!(ring.dequeue_one_with(|byte| Ok::<_, ()>(*byte)), Err(Empty));
     /// ```
+    ///
+    /// # Errors
+    ///
+    /// `Empty` if the ring is empty. Then it stays as it is, and `f` isn't called.
     ///
     /// # Requires
     ///
@@ -481,8 +489,6 @@ impl<T, S: Storage<T>> RingOver<T, S> {
 
     /// Dequeues the first element of the queue, and lends it.
     ///
-    /// An empty ring returns `Empty` and stays as it is.
-    ///
     /// ```
     /// # use net_base::storage::{Empty, RingBuffer};
     /// # let mut storage = [0u8; 4];
@@ -491,6 +497,10 @@ impl<T, S: Storage<T>> RingOver<T, S> {
     /// assert_eq!(ring.dequeue_one(), Ok(&mut b'a'));
     /// assert_eq!(ring.dequeue_one(), Err(Empty));
     /// ```
+    ///
+    /// # Errors
+    ///
+    /// `Empty` if the ring is empty. Then it stays as it is.
     pub fn dequeue_one(&mut self) -> Result<&mut T, Empty>
         ensures* writes_back { sem 𝓛 (lends_one_if T.row S.row S.Storage self.entry
             (with_dequeued 1 self.old) self.old.read_at result) }
@@ -555,7 +565,7 @@ impl<T, S: Storage<T>> RingOver<T, S> {
 impl<T: Drop, S: Storage<T>> RingOver<T, S> {
     /// Enqueues an element, over the next free one.
     ///
-    /// A full ring returns `Full`, stays as it is and drops the element. smoltcp has no such call.
+    /// smoltcp has no such call.
     ///
     /// ```
     /// # use net_base::storage::{Full, RingBuffer};
@@ -563,6 +573,10 @@ impl<T: Drop, S: Storage<T>> RingOver<T, S> {
     /// # let mut ring = RingBuffer::new(&mut storage[..]);
     /// assert_eq!((ring.push_one(7), ring.push_one(8)), (Ok(()), Err(Full)));
     /// ```
+    ///
+    /// # Errors
+    ///
+    /// `Full` if the ring is full. Then it stays as it is, and the element is dropped.
     #[tactic(auto, unfolding(crate::specs::RingHistory::Makes))]
     pub fn push_one(&mut self, element: T) -> Result<(), Full>
         ensures full { IsErr result ↔ (window self.old ≡ 0) }

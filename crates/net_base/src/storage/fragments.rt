@@ -188,9 +188,7 @@ impl<B: Storage<u8>, const N: usize> FragmentsOver<B, N> {
 
     /// Adds a fragment, whose first byte is that of the packet at `offset`.
     ///
-    /// It is refused, and nothing changes, exactly if it reaches past the buffer's end, which is
-    /// `TooLong`, or else would leave more than `N` maximal runs, which is `TooManyHoles`. The end of an
-    /// accepted fragment fits `usize`.
+    /// The end of an accepted fragment fits `usize`.
     ///
     /// ```
     /// # use net_base::storage::{FragmentBuffer, FragmentError};
@@ -201,6 +199,11 @@ impl<B: Storage<u8>, const N: usize> FragmentsOver<B, N> {
     /// assert_eq!(buffer.add(6, b"gh"), Ok(()));
     /// assert_eq!(buffer.add(0, b"ab"), Err(FragmentError::TooManyHoles));
     /// ```
+    ///
+    /// # Errors
+    ///
+    /// It is refused, and nothing changes, exactly if it reaches past the buffer's end, which is
+    /// `TooLong`, or else would leave more than `N` maximal runs, which is `TooManyHoles`.
     pub fn add(&mut self, offset: usize, data: &[u8]) -> Result<(), FragmentError>
         ensures ok { OnOk result (self.new ≡ with_fragment self.old offset «data».now) }
         ensures unchanged { OnErr result (self.new ≡ self.old) }
@@ -220,9 +223,6 @@ impl<B: Storage<u8>, const N: usize> FragmentsOver<B, N> {
 
     /// Sets the packet's size to `size` bytes.
     ///
-    /// It is refused, and nothing changes, exactly if the buffer has fewer bytes, which is `TooLong`, or
-    /// else if another size is known, which is `OtherSize`.
-    ///
     /// ```
     /// # use net_base::storage::{FragmentBuffer, FragmentError};
     /// # use net_base::time::Instant;
@@ -232,6 +232,11 @@ impl<B: Storage<u8>, const N: usize> FragmentsOver<B, N> {
     /// assert_eq!(buffer.set_total_size(0), Ok(()));
     /// assert_eq!(buffer.assemble(), Some(&b""[..]));
     /// ```
+    ///
+    /// # Errors
+    ///
+    /// It is refused, and nothing changes, exactly if the buffer has fewer bytes, which is
+    /// `TooLong`, or else if another size is known, which is `OtherSize`.
     pub fn set_total_size(&mut self, size: usize) -> Result<(), FragmentError>
         ensures ok { OnOk result (self.new ≡ record self.old { total = Some size }) }
         ensures unchanged { OnErr result (self.new ≡ self.old) }
