@@ -633,6 +633,10 @@
 //!   pub runs : AreRuns (used_runs head rs)
 //!   pub first : StartsAtZero (used_runs head rs)
 //!   pub fits : FitsFrom head.first_start (used_runs head rs)
+//!
+//! -- where there is no run, both numbers of a head are 0
+//! abbrev pub IsCanonical : AssemblerHead → Type 0
+//! IsCanonical head = head.used ≡ 0 → head.first_start ≡ 0
 //! ```
 //!
 //! # net_assembler, Turns

@@ -337,10 +337,6 @@ impl<H, M: Storage<PacketMetadata<H>>, B: Storage<u8>> PacketBuffer<'_, H, M, B>
     /// Appends a packet of `size` bytes and lends them. Until they are written they are those that
     /// were in the storage. An empty queue begins at the storage's beginning.
     ///
-    /// Returns `Full`, drops the header and changes nothing, if there are no `size` contiguous free
-    /// bytes, or no slot for the packet or its gap. If smoltcp refuses, it can leave a gap with no
-    /// packet.
-    ///
     /// ```
     /// # use net_base::storage::{Full, PacketBuffer, PacketMetadata};
     /// # let mut slots = [PacketMetadata::EMPTY; 4];
@@ -350,6 +346,12 @@ impl<H, M: Storage<PacketMetadata<H>>, B: Storage<u8>> PacketBuffer<'_, H, M, B>
     /// assert_eq!(queue.peek().ok(), Some((&1, &b"abc"[..])));
     /// # Ok::<(), Full>(())
     /// ```
+    ///
+    /// # Errors
+    ///
+    /// `Full` if there are no `size` contiguous free bytes, or no slot for the packet or its gap.
+    /// Then the header is dropped, and nothing changes. If smoltcp refuses, it can leave a gap with
+    /// no packet.
     ///
     /// <details><summary>Contract</summary>
     ///
@@ -377,9 +379,8 @@ impl<H, M: Storage<PacketMetadata<H>>, B: Storage<u8>> PacketBuffer<'_, H, M, B>
         Ok(self.last_part_mut(size))
     }
 
-    /// Appends a packet of `size` bytes, or returns `Full`, as [`PacketBuffer::enqueue`] does, of which
-    /// this is the first step: [`PacketBuffer::last_mut`] lends the bytes. Each step has an exact
-    /// contract.
+    /// Appends a packet of `size` bytes, as [`PacketBuffer::enqueue`] does, of which this is the
+    /// first step: [`PacketBuffer::last_mut`] lends the bytes. Each step has an exact contract.
     ///
     /// ```
     /// # use net_base::storage::{PacketBuffer, PacketMetadata};
@@ -390,6 +391,11 @@ impl<H, M: Storage<PacketMetadata<H>>, B: Storage<u8>> PacketBuffer<'_, H, M, B>
     /// queue.last_mut().copy_from_slice(b"abc");
     /// assert_eq!(queue.peek().ok(), Some((&1, &b"abc"[..])));
     /// ```
+    ///
+    /// # Errors
+    ///
+    /// `Full` if [`PacketBuffer::enqueue`] returns it. Then the header is dropped, and nothing
+    /// changes.
     ///
     /// <details><summary>Contract</summary>
     ///
@@ -449,8 +455,13 @@ impl<H, M: Storage<PacketMetadata<H>>, B: Storage<u8>> PacketBuffer<'_, H, M, B>
         self.last_part_mut(size)
     }
 
-    /// Appends a packet whose bytes are `data`, or returns `Full`, as [`PacketBuffer::enqueue`] does.
-    /// smoltcp has no such call.
+    /// Appends a packet whose bytes are `data`, as [`PacketBuffer::enqueue`] does. smoltcp has no
+    /// such call.
+    ///
+    /// # Errors
+    ///
+    /// `Full` if [`PacketBuffer::enqueue`] returns it. Then the header is dropped, and nothing
+    /// changes.
     ///
     /// <details><summary>Contract</summary>
     ///
@@ -477,9 +488,7 @@ impl<H, M: Storage<PacketMetadata<H>>, B: Storage<u8>> PacketBuffer<'_, H, M, B>
     /// Appends a packet whose bytes `f` writes: `f` is lent `max_size` bytes, and returns how many
     /// of them, from the first on, are the packet. That number is returned.
     ///
-    /// Returns `Full` if [`PacketBuffer::enqueue`] would for `max_size` bytes, and then drops the
-    /// header, does not call `f` and changes nothing. smoltcp places these packets by a rule of its
-    /// own and can take more than `max_size` bytes.
+    /// smoltcp places these packets by a rule of its own and can take more than `max_size` bytes.
     ///
     /// ```
     /// # use net_base::storage::{PacketBuffer, PacketMetadata};
@@ -493,6 +502,11 @@ impl<H, M: Storage<PacketMetadata<H>>, B: Storage<u8>> PacketBuffer<'_, H, M, B>
     /// assert_eq!(written, Ok(3));
     /// assert_eq!(queue.peek().ok(), Some((&1, &b"abc"[..])));
     /// ```
+    ///
+    /// # Errors
+    ///
+    /// `Full` if [`PacketBuffer::enqueue`] returns it for `max_size` bytes. Then the header is
+    /// dropped, `f` isn't called, and nothing changes.
     ///
     /// # Panics
     ///
@@ -543,8 +557,6 @@ impl<H, M: Storage<PacketMetadata<H>>, B: Storage<u8>> PacketBuffer<'_, H, M, B>
     /// `Ok`, the packet is taken off; if it returns `Err`, the packet stays first, with what `f`
     /// wrote to its header and bytes.
     ///
-    /// Returns `Empty`, does not call `f` and changes nothing, if the queue has no packets.
-    ///
     /// ```
     /// # use net_base::storage::{Full, PacketBuffer, PacketMetadata};
     /// # let mut slots = [PacketMetadata::EMPTY; 4];
@@ -556,6 +568,10 @@ impl<H, M: Storage<PacketMetadata<H>>, B: Storage<u8>> PacketBuffer<'_, H, M, B>
     /// assert!(queue.is_empty());
     /// # Ok::<(), Full>(())
     /// ```
+    ///
+    /// # Errors
+    ///
+    /// `Empty` if the queue has no packets. Then `f` isn't called, and nothing changes.
     ///
     /// <details><summary>Contract</summary>
     ///
@@ -598,8 +614,6 @@ impl<H, M: Storage<PacketMetadata<H>>, B: Storage<u8>> PacketBuffer<'_, H, M, B>
 
     /// Takes the first packet and its gap off, returns its header and lends its bytes.
     ///
-    /// Returns `Empty`, and changes nothing, if the queue has no packets.
-    ///
     /// ```
     /// # use net_base::storage::{Empty, Full, PacketBuffer, PacketMetadata};
     /// # let mut slots = [PacketMetadata::EMPTY; 4];
@@ -611,6 +625,10 @@ impl<H, M: Storage<PacketMetadata<H>>, B: Storage<u8>> PacketBuffer<'_, H, M, B>
     /// assert_eq!(queue.dequeue(), Err(Empty));
     /// # Ok::<(), Full>(())
     /// ```
+    ///
+    /// # Errors
+    ///
+    /// `Empty` if the queue has no packets. Then nothing changes.
     ///
     /// <details><summary>Contract</summary>
     ///
@@ -640,8 +658,8 @@ impl<H, M: Storage<PacketMetadata<H>>, B: Storage<u8>> PacketBuffer<'_, H, M, B>
         Ok((header, self.last_dequeued_mut(size)))
     }
 
-    /// Takes the first packet and its gap off, and returns its header and how many bytes it has, or
-    /// `Empty`, as [`PacketBuffer::dequeue`] does, of which this is the first step:
+    /// Takes the first packet and its gap off, and returns its header and how many bytes it has, as
+    /// [`PacketBuffer::dequeue`] does, of which this is the first step:
     /// [`PacketBuffer::last_dequeued_mut`] lends the bytes. Each step has an exact contract.
     ///
     /// ```
@@ -653,6 +671,10 @@ impl<H, M: Storage<PacketMetadata<H>>, B: Storage<u8>> PacketBuffer<'_, H, M, B>
     /// assert_eq!(queue.take(), Ok((1, 3)));
     /// assert_eq!(queue.last_dequeued_mut(3), b"abc");
     /// ```
+    ///
+    /// # Errors
+    ///
+    /// `Empty` if the queue has no packets. Then nothing changes.
     ///
     /// <details><summary>Contract</summary>
     ///
@@ -726,7 +748,7 @@ impl<H, M: Storage<PacketMetadata<H>>, B: Storage<u8>> PacketBuffer<'_, H, M, B>
     /// Takes the first packet and its gap off, copies as many of its bytes as `into` has room for,
     /// and returns its header and how many bytes were copied. Bytes that don't fit are lost.
     ///
-    /// Returns `Empty`, and changes nothing, if the queue has no packets. smoltcp has no such call.
+    /// smoltcp has no such call.
     ///
     /// ```
     /// # use net_base::storage::{PacketBuffer, PacketMetadata};
@@ -737,6 +759,10 @@ impl<H, M: Storage<PacketMetadata<H>>, B: Storage<u8>> PacketBuffer<'_, H, M, B>
     /// let mut into = *b"-----";
     /// assert_eq!((queue.pop_slice(&mut into), &into), (Ok((1, 3)), b"abc--"));
     /// ```
+    ///
+    /// # Errors
+    ///
+    /// `Empty` if the queue has no packets. Then nothing changes.
     ///
     /// <details><summary>Contract</summary>
     ///
@@ -771,8 +797,6 @@ impl<H, M: Storage<PacketMetadata<H>>, B: Storage<u8>> PacketBuffer<'_, H, M, B>
 
     /// Shows the header and the bytes of the first packet, and drops its gap.
     ///
-    /// Returns `Empty`, and changes nothing, if the queue has no packets.
-    ///
     /// ```
     /// # use net_base::storage::{Full, PacketBuffer, PacketMetadata};
     /// # let mut slots = [PacketMetadata::EMPTY; 4];
@@ -783,6 +807,10 @@ impl<H, M: Storage<PacketMetadata<H>>, B: Storage<u8>> PacketBuffer<'_, H, M, B>
     /// assert_eq!(queue.peek(), Ok((&1, &b"abc"[..])));
     /// # Ok::<(), Full>(())
     /// ```
+    ///
+    /// # Errors
+    ///
+    /// `Empty` if the queue has no packets. Then nothing changes.
     ///
     /// <details><summary>Contract</summary>
     ///

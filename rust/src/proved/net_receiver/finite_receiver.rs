@@ -209,8 +209,12 @@ impl<S: Storage<u8>, const N: usize> FiniteReceiver<'_, N, S> {
     ///
     /// The end is taken if it is at most the end of the free window: an end beyond that is cut off,
     /// as the bytes before it are, and is sent again. An end alone at the first missing position is
-    /// taken where nothing is free too. A segment is refused, and nothing changes, if it says that the
-    /// stream ends where it can't (`can_end`), or if its bytes are refused.
+    /// taken where nothing is free too.
+    ///
+    /// # Errors
+    ///
+    /// `OtherEnd` if the segment says that the stream ends where it can't (`can_end`), else
+    /// `TooManyHoles` if its bytes are refused. Then nothing changes.
     ///
     /// # Panics
     ///

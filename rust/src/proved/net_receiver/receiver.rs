@@ -220,10 +220,7 @@ impl<S: Storage<u8>, const N: usize> Receiver<'_, N, S> {
     /// does the same, and lists no runs.
     ///
     /// They are written at their positions, over those held there, and all bytes that are then
-    /// contiguous from `next` on join the queue. If there are none, nothing changes. The segment is
-    /// refused, and nothing changes, exactly if the bytes do not begin at `next` and together with
-    /// those held would make more than `N` runs. So a segment that begins at or below `next` is
-    /// never refused, and its kept bytes join the queue.
+    /// contiguous from `next` on join the queue. If there are none, nothing changes.
     ///
     /// `state` and `reply` say what the call leaves and returns, by the rules on what is stored. `step`
     /// says it of each kept list that the receiver represents, by the rules of a schedule. The other
@@ -240,6 +237,12 @@ impl<S: Storage<u8>, const N: usize> Receiver<'_, N, S> {
     /// assert_eq!(receiver.segment(6, b"g"), Err(TooManyHolesError));
     /// assert_eq!(receiver.segment(0, b"abcd").map(|it| it.queued), Ok(5));
     /// ```
+    ///
+    /// # Errors
+    ///
+    /// The segment is refused, and nothing changes, exactly if the bytes do not begin at `next` and
+    /// together with those held would make more than `N` runs. So a segment that begins at or below
+    /// `next` is never refused, and its kept bytes join the queue.
     ///
     /// # Panics
     ///
@@ -289,6 +292,10 @@ impl<S: Storage<u8>, const N: usize> Receiver<'_, N, S> {
     /// assert_eq!(receiver.keep(2, b"cd"), Ok(KeptBytes { kept: 2, queued: 0 }));
     /// assert_eq!(receiver.keep(0, b"ab"), Ok(KeptBytes { kept: 2, queued: 4 }));
     /// ```
+    ///
+    /// # Errors
+    ///
+    /// A segment is refused exactly if `segment` refuses it, and then nothing changes.
     ///
     /// # Panics
     ///
@@ -648,7 +655,7 @@ impl<S: Storage<u8>, const N: usize> Receiver<'_, N, S> {
     }
 
     /// Returns the end of the free window, `next` plus `window`: the first position for which there
-    /// is no room. `None` if it doesn't fit 64 bits. It never falls (`laws::numbers`).
+    /// is no room. `None` if it doesn't fit 64 bits. It never falls.
     ///
     /// ```
     /// # use net_base::receiver::Receiver;

@@ -173,11 +173,8 @@ impl<const N: usize> Scoreboard<N> {
     /// does, and returns true. Blocks may overlap. `sent` is the position after the last byte that was
     /// ever sent, as `Sender::mark_sent` keeps it.
     ///
-    /// Returns false, and changes nothing, if it is no block of bytes that were sent: if `start` isn't
-    /// below `end`, or `end` is above `sent`. Returns an error, and changes nothing, exactly if the block
-    /// begins beyond the first position that wasn't reported, and there would be more than `N` runs
-    /// beyond it: then the block isn't known, and its bytes are sent again. On a processor of 32 bits it
-    /// is refused too if `end` is 2^32 or more above the first position that wasn't reported.
+    /// Returns false, and changes nothing, if it is no block of bytes that were sent: if `start`
+    /// isn't below `end`, or `end` is above `sent`.
     ///
     /// ```
     /// # use net_base::scoreboard::Scoreboard;
@@ -188,6 +185,13 @@ impl<const N: usize> Scoreboard<N> {
     /// assert_eq!(scoreboard.report(14, 15, 20), Err(TooManyHolesError));
     /// assert!(scoreboard.contains(11) && !scoreboard.contains(14));
     /// ```
+    ///
+    /// # Errors
+    ///
+    /// The block is refused, and nothing changes, exactly if it begins beyond the first position
+    /// that wasn't reported, and there would be more than `N` runs beyond it: then the block isn't
+    /// known, and its bytes are sent again. On a processor of 32 bits it is refused too if `end` is
+    /// 2^32 or more above the first position that wasn't reported.
     ///
     /// <details><summary>Contract</summary>
     ///
@@ -366,7 +370,7 @@ impl<const N: usize> Scoreboard<N> {
     /// section 4: from it on `duplicates` runs were reported (3 in TCP; 0 counts as 1), or more bytes than
     /// `duplicates - 1` segments of `segment_size` bytes have. It is 0 if nothing is lost. A run counts as
     /// above a position if it begins above it; of a position that wasn't reported that is the RFC's rule
-    /// exactly, by law `losses` of `net_receiver`.
+    /// exactly.
     ///
     /// <details><summary>Contract</summary>
     ///

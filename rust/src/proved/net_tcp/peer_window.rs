@@ -155,7 +155,7 @@ impl PeerWindow {
     /// the window if that is below it, or `first_unacknowledged` if the window ends before that.
     ///
     /// A peer whose window is shut takes no number beyond it, though a probe was sent there, nor what
-    /// such a segment acknowledges. Law `acknowledgements` says when this number is acceptable.
+    /// such a segment acknowledges.
     ///
     /// <details><summary>Contract</summary>
     ///

@@ -210,9 +210,7 @@ impl<B: Storage<u8>, const N: usize> FragmentBuffer<'_, N, B> {
 
     /// Adds a fragment, whose first byte is that of the packet at `offset`.
     ///
-    /// It is refused, and nothing changes, exactly if it reaches past the buffer's end, which is
-    /// `TooLong`, or else would leave more than `N` maximal runs, which is `TooManyHoles`. The end of an
-    /// accepted fragment fits `usize`.
+    /// The end of an accepted fragment fits `usize`.
     ///
     /// ```
     /// # use net_base::storage::{FragmentBuffer, FragmentError};
@@ -223,6 +221,11 @@ impl<B: Storage<u8>, const N: usize> FragmentBuffer<'_, N, B> {
     /// assert_eq!(buffer.add(6, b"gh"), Ok(()));
     /// assert_eq!(buffer.add(0, b"ab"), Err(FragmentError::TooManyHoles));
     /// ```
+    ///
+    /// # Errors
+    ///
+    /// It is refused, and nothing changes, exactly if it reaches past the buffer's end, which is
+    /// `TooLong`, or else would leave more than `N` maximal runs, which is `TooManyHoles`.
     ///
     /// <details><summary>Contract</summary>
     ///
@@ -250,9 +253,6 @@ impl<B: Storage<u8>, const N: usize> FragmentBuffer<'_, N, B> {
 
     /// Sets the packet's size to `size` bytes.
     ///
-    /// It is refused, and nothing changes, exactly if the buffer has fewer bytes, which is `TooLong`, or
-    /// else if another size is known, which is `OtherSize`.
-    ///
     /// ```
     /// # use net_base::storage::{FragmentBuffer, FragmentError};
     /// # use net_base::time::Instant;
@@ -262,6 +262,11 @@ impl<B: Storage<u8>, const N: usize> FragmentBuffer<'_, N, B> {
     /// assert_eq!(buffer.set_total_size(0), Ok(()));
     /// assert_eq!(buffer.assemble(), Some(&b""[..]));
     /// ```
+    ///
+    /// # Errors
+    ///
+    /// It is refused, and nothing changes, exactly if the buffer has fewer bytes, which is
+    /// `TooLong`, or else if another size is known, which is `OtherSize`.
     ///
     /// <details><summary>Contract</summary>
     ///

@@ -148,6 +148,8 @@ pub fn find_free<K: Copy + Eq, B: Storage<u8>, const N: usize>(
 /// Returns the slot for the packet of this key: the one that is for it, or else the first free one, which
 /// then begins with it, and waits for it up to `expires_at`.
 ///
+/// # Errors
+///
 /// `Full` exactly if no slot is for it and none is free; then nothing changes.
 ///
 /// <details><summary>Contract</summary>
