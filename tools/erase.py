@@ -9,8 +9,8 @@ file and line. A function's contract becomes a section of its documentation. too
 and tools/parts/erase_names.py which types have other names.
 
 A public function with a precondition begins with a guard, `prove!(..)`, which becomes `assert!(..)`; one without is
-refused, but for those that the list names. What is written has the source's tokens without those of ghost forms, and no
-word of contracts; erased again, it stays.
+refused, but for those that the list names. One that only answers becomes `#[must_use]`. What is written has the source's
+tokens without those of ghost forms, and no word of contracts; erased again, it stays.
 """
 import re
 import sys
@@ -202,6 +202,8 @@ class Eraser(Text):
             self.refuse(self.tokens[k][2], f'{name} has a precondition and no guard')
         margin = re.search(r'[ \t]*$', self.text[:self.tokens[head][2]]).group()
         self.inside = next(j for j in range(head, k + 1) if self.tokens[j][1] in ('pub', 'const', 'fn')), owner, margin
+        if pub is not None and pub not in self.new and name.split('::')[0] in self.public and self.is_pure(k, begin):
+            self.before[pub] = f'#[must_use]\n{margin}'
         if name in self.into:
             self.convert(k, begin, body, margin, self.into[name])
         if any(map(SOME_RUNS.fullmatch, contract)) and 'prove!(N >= 1, ' not in self.source(body, self.group(body)):
@@ -209,6 +211,10 @@ class Eraser(Text):
         if contract and self.crate != given.EXPORTS:                          # what isn't seen has no page
             self.document(k, head, margin, contract)
         return k + 1
+
+    def is_pure(self, k, begin):
+        """Whether a call of the function at k leaves nothing but its answer, which isn't a `Result`: that is marked."""
+        return '&mut' not in self.source(k, begin) and re.search(r'->(?! Result\b)', self.source(k, begin))
 
     def is_guarded(self, body):
         """Whether a body begins with a guard, after the `let`s that this needs."""
@@ -236,7 +242,7 @@ class Eraser(Text):
         if docs:
             self.after[docs[-1]] = ''.join(f'\n{margin}{line}' for line in lines)
         else:
-            self.before[head] = ''.join(f'{line}\n{margin}' for line in lines)
+            self.before[head] = ''.join(f'{line}\n{margin}' for line in lines) + self.before.get(head, '')
 
     def attribute(self, k):
         bracket = k + 1 + (self.tokens[k + 1][1] == '!')

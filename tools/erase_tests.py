@@ -283,6 +283,12 @@ def main():
     for text, part in CALLED:
         why = said(text, public={'A', 'C'}, unguarded={'A::listed': 'a reason'})
         assert part in (why or '') if part else why is None, (text, part, why)
+    # What changes nothing, and can be called from outside, must be used; a `Result` is marked by itself.
+    pure = 'impl A {\n    pub const fn f(&self) -> u8 {\n        self.a\n    }\n}\n'
+    assert of(pure, public={'A'}) == pure.replace('    pub', '    #[must_use]\n    pub')
+    for other in (pure.replace('&self', '&mut self'), pure.replace('u8', 'Result<u8, B>'), pure.replace(' -> u8', ''),
+                  pure.replace('impl A', 'impl B'), pure.replace('pub ', '')):
+        assert of(other, public={'A'}) == other
     # A head stays inside; parameters are converted.
     head = 'impl A {\n    pub fn place(&self) -> AHead {\n        self.a\n    }\n}\n'
     assert of(head, public={'A'}) == head.replace('pub fn', 'pub(crate) fn')
