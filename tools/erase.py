@@ -10,8 +10,8 @@ what else differs, and tools/parts/erase_names.py which types have other names.
 
 A function with preconditions that can be called from outside begins with as many guards, `prove!(..)`, which become
 `assert!(..)`; another number is refused, and so is a guard elsewhere, but for what the list names. tools/guards.py proves
-that they test enough. What is written has the source's tokens without those of ghost forms, and no word of contracts;
-erased again, it stays.
+that they test enough. A public function that only answers becomes `#[must_use]`. What is written has the source's tokens
+without those of ghost forms, and no word of contracts; erased again, it stays.
 """
 import re
 import sys
@@ -229,6 +229,8 @@ class Eraser(Text):
                     self.before[first] = f'{self.before.get(first, "")}#[track_caller]\n{margin}'
         if pub is not None and name.split('::')[0] in self.public:
             self.contracts += contract
+            if pub not in self.new and self.is_pure(k, begin):
+                self.before[pub] = f'#[must_use]\n{margin}{self.before.get(pub, "")}'
         if name in self.into:
             self.convert(k, begin, body, margin, self.into[name])
         if is_some:
@@ -257,6 +259,10 @@ class Eraser(Text):
             self.refuse(self.tokens[k][2], f'{name} has {count} preconditions and {len(tests)} guards')
         return guards, tests
 
+    def is_pure(self, k, begin):
+        """Whether a call of the function at k leaves nothing but its answer, which isn't a `Result`: that is marked."""
+        return '&mut' not in self.source(k, begin) and re.search(r'->(?! Result\b)', self.source(k, begin))
+
     def convert(self, k, begin, body, margin, parameters):
         """Lets parameters be all that converts to their types."""
         signature, generics = self.source(k, begin), []
@@ -277,7 +283,7 @@ class Eraser(Text):
         if docs:
             self.after[docs[-1]] = ''.join(f'\n{margin}{line}' for line in lines)
         else:
-            self.before[head] = ''.join(f'{line}\n{margin}' for line in lines)
+            self.before[head] = ''.join(f'{line}\n{margin}' for line in lines) + self.before.get(head, '')
 
     def attribute(self, k):
         bracket = k + 1 + (self.tokens[k + 1][1] == '!')

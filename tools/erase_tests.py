@@ -353,6 +353,12 @@ def main():
     guard = 'impl A {\n    #[inline]\n    pub const fn f(x: u8) requires { x }\n    {\n        prove!(x < 3, "x");\n    }\n}\n'
     wanted = '    #[inline]\n    #[track_caller]\n    pub const fn f(x: u8) {\n        assert!(x < 3, "x");\n    }\n}\n'
     assert of(guard).endswith(wanted), of(guard)
+    # What changes nothing, and can be called from outside, must be used; a `Result` is marked by itself.
+    pure = 'impl A {\n    pub const fn f(&self) -> u8 {\n        self.a\n    }\n}\n'
+    assert of(pure, public={'A'}) == pure.replace('    pub', '    #[must_use]\n    pub')
+    for other in (pure.replace('&self', '&mut self'), pure.replace('u8', 'Result<u8, B>'), pure.replace(' -> u8', ''),
+                  pure.replace('impl A', 'impl B'), pure.replace('pub ', '')):
+        assert of(other, public={'A'}) == other
     # A head stays inside; parameters are converted.
     head = 'impl A {\n    pub fn place(&self) -> AHead {\n        self.a\n    }\n}\n'
     assert of(head) == head.replace('pub fn', 'pub(crate) fn')

@@ -124,3 +124,8 @@ for name in ('struct AdvertisedWindow', 'struct PartsSum', 'struct PeerWindow', 
 # Rattle's clone can be refused. Over storage that can be cloned, such as an array, these can be too.
 for name in ('RingOver', 'PacketsOver', 'FragmentsOver', 'ReceiverOver', 'SenderOver', 'FiniteReceiverOver', 'FiniteSenderOver'):
     REPLACED.append(('', f'pub struct {name}', f'#[derive(Clone)]\npub struct {name}'))
+
+# Calls of a ring whose answers smoltcp marks so.
+for name in ('enqueue_many', 'enqueue_slice', 'dequeue_many', 'dequeue_slice', 'get_unallocated', 'write_unallocated',
+             'read_allocated'):
+    REPLACED.append(('net_ring/ring_buffer.rt', f'    pub fn {name}(', f'    #[must_use]\n    pub fn {name}('))

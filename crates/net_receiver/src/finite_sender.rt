@@ -178,6 +178,7 @@ impl<S: Storage<u8>> FiniteSenderOver<S> {
     }
 
     /// Enqueues the first of these bytes, as many as `window` says, and returns how many.
+    #[must_use]
     pub fn write(&mut self, bytes: &[u8]) -> usize
         ensures count { result ≡ min (length bytes.now) (finite_room self.old) }
         ensures state { self.new ≡ with_bytes self.old (take result bytes.now) }
@@ -234,6 +235,7 @@ impl<S: Storage<u8>> FiniteSenderOver<S> {
 
     /// Notes that all numbers below `pos` were sent, the end's among them if `pos` is past it, and
     /// returns true. Returns false, and changes nothing, if `pos` is above `numbers_end`.
+    #[must_use]
     pub fn mark_sent(&mut self, pos: u64) -> bool
         ensures accepted { IsTrue result ↔ (pos ≤ numbers_end self.old) }
         ensures mark { IsTrue result → self.new ≡ record self.old { sent = max self.old.sent pos } }
@@ -248,6 +250,7 @@ impl<S: Storage<u8>> FiniteSenderOver<S> {
     /// Dequeues the bytes below `next`, notes that the end is acknowledged if `next` is past it, and
     /// returns true. Returns false, and changes nothing, if `next` is below `first_number` or above
     /// `sent`.
+    #[must_use]
     pub fn acknowledge(&mut self, next: u64) -> bool
         ensures accepted { IsTrue result
             ↔ ((first_number self.old ≤ next) × (next ≤ self.old.sent)) }

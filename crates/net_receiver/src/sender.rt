@@ -223,6 +223,7 @@ impl<S: Storage<u8>> SenderOver<S> {
     /// assert_eq!((sender.write(b"abc"), sender.write(b"def")), (3, 1));
     /// assert_eq!(sender.peek_at(0, 9), b"abcd");
     /// ```
+    #[must_use]
     pub fn write(&mut self, bytes: &[u8]) -> usize
         ensures count { result ≡ min (length bytes.now) (room_of self.old) }
         ensures state { self.new ≡ with_written self.old (take result bytes.now) }
@@ -277,6 +278,7 @@ impl<S: Storage<u8>> SenderOver<S> {
     /// assert!(sender.acknowledge(102) && !sender.acknowledge(104));
     /// assert_eq!(sender.peek_at(102, 9), b"c");
     /// ```
+    #[must_use]
     pub fn acknowledge(&mut self, next: u64) -> bool
         ensures accepted { IsTrue result
             ↔ ((self.old.first_unacknowledged ≤ next) × (next ≤ end_of self.old)) }
@@ -302,6 +304,7 @@ impl<S: Storage<u8>> SenderOver<S> {
     /// assert!(sender.mark_sent(&mut sent, 102) && sender.mark_sent(&mut sent, 101));
     /// assert!(sent == 102 && !sender.mark_sent(&mut sent, 104));
     /// ```
+    #[must_use]
     pub fn mark_sent(&self, sent: &mut u64, pos: u64) -> bool
         ensures accepted { IsTrue result
             ↔ ((sent.old ≤ end_of self.now) × (pos ≤ end_of self.now)) }
@@ -326,6 +329,7 @@ impl<S: Storage<u8>> SenderOver<S> {
     /// assert!(!sender.acknowledge_sent(103, sent) && sender.acknowledge_sent(102, sent));
     /// assert_eq!(sender.peek_at(102, 9), b"c");
     /// ```
+    #[must_use]
     pub fn acknowledge_sent(&mut self, next: u64, sent: u64) -> bool
         ensures accepted { IsTrue result ↔ ((self.old.first_unacknowledged ≤ next) × (next ≤ sent)
             × (sent ≤ end_of self.old)) }

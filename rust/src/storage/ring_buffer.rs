@@ -28,7 +28,7 @@ impl<S: Storage<u8>> fmt::Write for RingBuffer<'_, u8, S> {
         if text.len() > self.window() {
             return Err(fmt::Error);
         }
-        self.enqueue_slice(text.as_bytes());
+        let _all = self.enqueue_slice(text.as_bytes());
         Ok(())
     }
 }

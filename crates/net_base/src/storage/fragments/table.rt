@@ -155,6 +155,7 @@ pub fn remove_expired<K: Copy + Eq, B: Storage<u8>, const N: usize>(
 /// claimed again, `assemble` of its buffer shows the packet. So a packet is handed out once.
 ///
 /// `None`, and nothing changes, exactly if no slot is for the packet, or a byte of it is missing.
+#[must_use]
 pub fn take_complete<K: Copy + Eq, B: Storage<u8>, const N: usize>(
     slots: &mut [FragmentSlot<K, B, N>],
     key: K,
