@@ -48,6 +48,7 @@ impl<S: Storage<u8>, const N: usize> FiniteReceiver<'_, N, S> {
     /// ```
     ///
     /// </details>
+    #[must_use]
     pub const fn over(storage: S) -> Self {
         const { assert!(N >= 1, "N is at least 1") };
         Self::over_at(storage, 0)
@@ -71,6 +72,7 @@ impl<S: Storage<u8>, const N: usize> FiniteReceiver<'_, N, S> {
     /// ```
     ///
     /// </details>
+    #[must_use]
     #[track_caller]
     pub const fn over_at(storage: S, first: u64) -> Self {
         const { assert!(N >= 1, "N is at least 1") };
@@ -142,6 +144,7 @@ impl<S: Storage<u8>, const N: usize> FiniteReceiver<'_, N, S> {
     /// ```
     ///
     /// </details>
+    #[must_use]
     pub fn into_storage(self) -> S {
         let (_head, storage, _runs) = self.into_parts();
         storage
@@ -183,6 +186,7 @@ impl<S: Storage<u8>, const N: usize> FiniteReceiver<'_, N, S> {
     /// ```
     ///
     /// </details>
+    #[must_use]
     pub fn fits(pos: u64, len: usize) -> bool {
         FiniteReceiverHead::fits(pos, len)
     }
@@ -200,6 +204,7 @@ impl<S: Storage<u8>, const N: usize> FiniteReceiver<'_, N, S> {
     /// ```
     ///
     /// </details>
+    #[must_use]
     pub fn can_end(&self, pos: u64) -> bool {
         self.head.can_end(whole(&self.storage), &self.runs, pos)
     }
@@ -283,6 +288,7 @@ impl<S: Storage<u8>, const N: usize> FiniteReceiver<'_, N, S> {
     /// ```
     ///
     /// </details>
+    #[must_use]
     pub fn as_slices(&self) -> (&[u8], &[u8]) {
         self.head.receiver.as_slices(whole(&self.storage))
     }
@@ -380,6 +386,7 @@ impl<S: Storage<u8>, const N: usize> FiniteReceiver<'_, N, S> {
     /// ```
     ///
     /// </details>
+    #[must_use]
     pub fn end(&self) -> Option<u64> {
         self.head.end()
     }
@@ -397,6 +404,7 @@ impl<S: Storage<u8>, const N: usize> FiniteReceiver<'_, N, S> {
     /// ```
     ///
     /// </details>
+    #[must_use]
     pub fn is_complete(&self) -> bool {
         self.head.is_complete()
     }
@@ -413,6 +421,7 @@ impl<S: Storage<u8>, const N: usize> FiniteReceiver<'_, N, S> {
     /// ```
     ///
     /// </details>
+    #[must_use]
     pub fn acknowledged(&self) -> u64 {
         self.head.acknowledged()
     }
@@ -430,6 +439,7 @@ impl<S: Storage<u8>, const N: usize> FiniteReceiver<'_, N, S> {
     /// ```
     ///
     /// </details>
+    #[must_use]
     pub fn has_read_all(&self) -> bool {
         self.head.has_read_all()
     }
@@ -446,6 +456,7 @@ impl<S: Storage<u8>, const N: usize> FiniteReceiver<'_, N, S> {
     /// ```
     ///
     /// </details>
+    #[must_use]
     pub fn next(&self) -> u64 {
         self.head.receiver.next()
     }
@@ -461,6 +472,7 @@ impl<S: Storage<u8>, const N: usize> FiniteReceiver<'_, N, S> {
     /// ```
     ///
     /// </details>
+    #[must_use]
     pub fn len(&self) -> usize {
         self.head.receiver.queued()
     }
@@ -476,6 +488,7 @@ impl<S: Storage<u8>, const N: usize> FiniteReceiver<'_, N, S> {
     /// ```
     ///
     /// </details>
+    #[must_use]
     pub fn is_empty(&self) -> bool {
         self.len() == 0
     }
@@ -491,6 +504,7 @@ impl<S: Storage<u8>, const N: usize> FiniteReceiver<'_, N, S> {
     /// ```
     ///
     /// </details>
+    #[must_use]
     pub fn capacity(&self) -> usize {
         self.storage.count()
     }
@@ -507,6 +521,7 @@ impl<S: Storage<u8>, const N: usize> FiniteReceiver<'_, N, S> {
     /// ```
     ///
     /// </details>
+    #[must_use]
     pub fn window(&self) -> usize {
         self.head.receiver.window(self.storage.count())
     }
@@ -537,6 +552,7 @@ impl<S: Storage<u8>, const N: usize> FiniteReceiver<'_, N, S> {
     /// ```
     ///
     /// </details>
+    #[must_use]
     pub fn window_end(&self) -> Option<u64> {
         self.head.window_end(self.storage.count())
     }
@@ -553,6 +569,7 @@ impl<S: Storage<u8>, const N: usize> FiniteReceiver<'_, N, S> {
     /// ```
     ///
     /// </details>
+    #[must_use]
     pub fn held(&self) -> HeldRuns<'_, N> {
         self.head.receiver.held(whole(&self.storage), &self.runs)
     }
@@ -569,6 +586,7 @@ impl<S: Storage<u8>, const N: usize> FiniteReceiver<'_, N, S> {
     /// ```
     ///
     /// </details>
+    #[must_use]
     pub fn held_count(&self) -> usize {
         self.head.receiver.held_count()
     }
@@ -615,6 +633,7 @@ impl<S: Storage<u8>, const N: usize> FiniteReceiver<'_, N, S> {
     /// ```
     ///
     /// </details>
+    #[must_use]
     #[track_caller]
     pub fn count_new(&self, position: u64, len: usize) -> usize {
         assert!(Self::fits(position, len), "the segment ends too high");
@@ -634,6 +653,7 @@ impl<S: Storage<u8>, const N: usize> FiniteReceiver<'_, N, S> {
     /// ```
     ///
     /// </details>
+    #[must_use]
     pub fn same_state<O: Storage<u8>>(&self, other: &FiniteReceiver<'_, N, O>) -> bool {
         let storage = whole(&self.storage);
         let other_storage = whole(&other.storage);

@@ -39,6 +39,7 @@ impl<S: Storage<u8>> FiniteSender<'_, S> {
     /// ```
     ///
     /// </details>
+    #[must_use]
     pub const fn over(storage: S) -> Self {
         Self::over_at(storage, 0)
     }
@@ -60,6 +61,7 @@ impl<S: Storage<u8>> FiniteSender<'_, S> {
     /// ```
     ///
     /// </details>
+    #[must_use]
     #[track_caller]
     pub const fn over_at(storage: S, first: u64) -> Self {
         assert!(first < u64::MAX, "no number is left for an end");
@@ -118,6 +120,7 @@ impl<S: Storage<u8>> FiniteSender<'_, S> {
     /// ```
     ///
     /// </details>
+    #[must_use]
     pub fn into_storage(self) -> S {
         let FiniteSender { lent: core::marker::PhantomData, head: _, storage } = self;
         storage
@@ -159,6 +162,7 @@ impl<S: Storage<u8>> FiniteSender<'_, S> {
     /// ```
     ///
     /// </details>
+    #[must_use]
     pub fn first_number(&self) -> u64 {
         self.head.first_number(self.storage.count())
     }
@@ -174,6 +178,7 @@ impl<S: Storage<u8>> FiniteSender<'_, S> {
     /// ```
     ///
     /// </details>
+    #[must_use]
     pub fn numbers_end(&self) -> u64 {
         self.head.numbers_end(self.storage.count())
     }
@@ -189,6 +194,7 @@ impl<S: Storage<u8>> FiniteSender<'_, S> {
     /// ```
     ///
     /// </details>
+    #[must_use]
     pub fn sent(&self) -> u64 {
         self.head.sent
     }
@@ -204,6 +210,7 @@ impl<S: Storage<u8>> FiniteSender<'_, S> {
     /// ```
     ///
     /// </details>
+    #[must_use]
     pub fn len(&self) -> usize {
         self.head.sender.place.length
     }
@@ -219,6 +226,7 @@ impl<S: Storage<u8>> FiniteSender<'_, S> {
     /// ```
     ///
     /// </details>
+    #[must_use]
     pub fn is_empty(&self) -> bool {
         self.len() == 0
     }
@@ -234,6 +242,7 @@ impl<S: Storage<u8>> FiniteSender<'_, S> {
     /// ```
     ///
     /// </details>
+    #[must_use]
     pub fn capacity(&self) -> usize {
         self.storage.count()
     }
@@ -250,6 +259,7 @@ impl<S: Storage<u8>> FiniteSender<'_, S> {
     /// ```
     ///
     /// </details>
+    #[must_use]
     pub fn window(&self) -> usize {
         self.head.room(self.storage.count())
     }
@@ -269,6 +279,7 @@ impl<S: Storage<u8>> FiniteSender<'_, S> {
     /// ```
     ///
     /// </details>
+    #[must_use]
     pub fn write(&mut self, bytes: &[u8]) -> usize {
         let capacity = self.storage.count();
         self.head.write(self.storage.part_mut(0, capacity), bytes)
@@ -326,6 +337,7 @@ impl<S: Storage<u8>> FiniteSender<'_, S> {
     /// ```
     ///
     /// </details>
+    #[must_use]
     pub fn peek_at(&self, pos: u64, max: usize) -> (&[u8], bool) {
         let lent = self.head.peek_at(self.storage.count(), pos, max);
         let from = lent.0.from;
@@ -349,6 +361,7 @@ impl<S: Storage<u8>> FiniteSender<'_, S> {
     /// ```
     ///
     /// </details>
+    #[must_use]
     pub fn mark_sent(&mut self, pos: u64) -> bool {
         self.head.mark_sent(self.storage.count(), pos)
     }
@@ -372,6 +385,7 @@ impl<S: Storage<u8>> FiniteSender<'_, S> {
     /// ```
     ///
     /// </details>
+    #[must_use]
     pub fn acknowledge(&mut self, next: u64) -> bool {
         self.head.acknowledge(self.storage.count(), next)
     }
@@ -388,6 +402,7 @@ impl<S: Storage<u8>> FiniteSender<'_, S> {
     /// ```
     ///
     /// </details>
+    #[must_use]
     pub fn is_block(&self, start: u64, end: u64) -> bool {
         self.head.is_block(start, end)
     }
@@ -403,6 +418,7 @@ impl<S: Storage<u8>> FiniteSender<'_, S> {
     /// ```
     ///
     /// </details>
+    #[must_use]
     pub fn is_closed(&self) -> bool {
         self.head.is_closed()
     }
@@ -418,6 +434,7 @@ impl<S: Storage<u8>> FiniteSender<'_, S> {
     /// ```
     ///
     /// </details>
+    #[must_use]
     pub fn is_closed_and_acknowledged(&self) -> bool {
         self.head.is_closed_and_acknowledged()
     }

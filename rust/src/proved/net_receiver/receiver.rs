@@ -76,6 +76,7 @@ impl<S: Storage<u8>, const N: usize> Receiver<'_, N, S> {
     /// ```
     ///
     /// </details>
+    #[must_use]
     pub const fn over(storage: S) -> Self {
         const { assert!(N >= 1, "N is at least 1") };
         Self::over_at(storage, 0)
@@ -102,6 +103,7 @@ impl<S: Storage<u8>, const N: usize> Receiver<'_, N, S> {
     /// ```
     ///
     /// </details>
+    #[must_use]
     pub const fn over_at(storage: S, first: u64) -> Self {
         const { assert!(N >= 1, "N is at least 1") };
         Receiver {
@@ -172,6 +174,7 @@ impl<S: Storage<u8>, const N: usize> Receiver<'_, N, S> {
     /// ```
     ///
     /// </details>
+    #[must_use]
     pub fn into_storage(self) -> S {
         let (_head, storage, _runs) = self.into_parts();
         storage
@@ -211,6 +214,7 @@ impl<S: Storage<u8>, const N: usize> Receiver<'_, N, S> {
     /// ```
     ///
     /// </details>
+    #[must_use]
     pub const fn fits(pos: u64, len: usize) -> bool {
         len as u64 <= u64::MAX - pos
     }
@@ -439,6 +443,7 @@ impl<S: Storage<u8>, const N: usize> Receiver<'_, N, S> {
     /// ```
     ///
     /// </details>
+    #[must_use]
     pub fn peek(&self, offset: usize, size: usize) -> &[u8] {
         self.head.peek(whole(&self.storage), offset, size)
     }
@@ -458,6 +463,7 @@ impl<S: Storage<u8>, const N: usize> Receiver<'_, N, S> {
     /// ```
     ///
     /// </details>
+    #[must_use]
     pub fn peek_slices(&self, offset: usize, size: usize) -> (&[u8], &[u8]) {
         self.head.peek_slices(whole(&self.storage), offset, size)
     }
@@ -497,6 +503,7 @@ impl<S: Storage<u8>, const N: usize> Receiver<'_, N, S> {
     /// ```
     ///
     /// </details>
+    #[must_use]
     pub fn as_slices(&self) -> (&[u8], &[u8]) {
         self.head.as_slices(whole(&self.storage))
     }
@@ -610,6 +617,7 @@ impl<S: Storage<u8>, const N: usize> Receiver<'_, N, S> {
     /// ```
     ///
     /// </details>
+    #[must_use]
     pub fn next(&self) -> u64 {
         self.head.next()
     }
@@ -625,6 +633,7 @@ impl<S: Storage<u8>, const N: usize> Receiver<'_, N, S> {
     /// ```
     ///
     /// </details>
+    #[must_use]
     pub fn queued(&self) -> usize {
         self.head.queued()
     }
@@ -650,6 +659,7 @@ impl<S: Storage<u8>, const N: usize> Receiver<'_, N, S> {
     /// ```
     ///
     /// </details>
+    #[must_use]
     pub fn window(&self) -> usize {
         self.head.window(self.storage.count())
     }
@@ -678,6 +688,7 @@ impl<S: Storage<u8>, const N: usize> Receiver<'_, N, S> {
     /// ```
     ///
     /// </details>
+    #[must_use]
     pub fn window_end(&self) -> Option<u64> {
         self.head.window_end(self.storage.count())
     }
@@ -699,6 +710,7 @@ impl<S: Storage<u8>, const N: usize> Receiver<'_, N, S> {
     /// ```
     ///
     /// </details>
+    #[must_use]
     pub fn capacity(&self) -> usize {
         self.storage.count()
     }
@@ -722,6 +734,7 @@ impl<S: Storage<u8>, const N: usize> Receiver<'_, N, S> {
     /// ```
     ///
     /// </details>
+    #[must_use]
     pub fn len(&self) -> usize {
         self.queued()
     }
@@ -745,6 +758,7 @@ impl<S: Storage<u8>, const N: usize> Receiver<'_, N, S> {
     /// ```
     ///
     /// </details>
+    #[must_use]
     pub fn is_empty(&self) -> bool {
         self.queued() == 0
     }
@@ -773,6 +787,7 @@ impl<S: Storage<u8>, const N: usize> Receiver<'_, N, S> {
     /// ```
     ///
     /// </details>
+    #[must_use]
     pub fn held(&self) -> HeldRuns<'_, N> {
         self.head.held(whole(&self.storage), &self.runs)
     }
@@ -789,6 +804,7 @@ impl<S: Storage<u8>, const N: usize> Receiver<'_, N, S> {
     /// ```
     ///
     /// </details>
+    #[must_use]
     pub fn held_count(&self) -> usize {
         self.head.held_count()
     }
@@ -868,6 +884,7 @@ impl<S: Storage<u8>, const N: usize> Receiver<'_, N, S> {
     /// ```
     ///
     /// </details>
+    #[must_use]
     #[track_caller]
     pub fn count_new(&self, position: u64, len: usize) -> usize {
         assert!(
@@ -903,6 +920,7 @@ impl<S: Storage<u8>, const N: usize> Receiver<'_, N, S> {
     /// ```
     ///
     /// </details>
+    #[must_use]
     pub fn same_state<O: Storage<u8>>(&self, other: &Receiver<'_, N, O>) -> bool {
         let storage = whole(&self.storage);
         let other_storage = whole(&other.storage);

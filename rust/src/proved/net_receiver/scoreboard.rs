@@ -58,6 +58,7 @@ impl<const N: usize> Scoreboard<N> {
     /// ```
     ///
     /// </details>
+    #[must_use]
     pub const fn empty() -> Self {
         const { assert!(N >= 1, "N is at least 1") };
         Scoreboard {
@@ -83,6 +84,7 @@ impl<const N: usize> Scoreboard<N> {
     /// ```
     ///
     /// </details>
+    #[must_use]
     pub const fn empty_at(first: u64) -> Self {
         const { assert!(N >= 1, "N is at least 1") };
         Scoreboard {
@@ -248,6 +250,7 @@ impl<const N: usize> Scoreboard<N> {
     /// ```
     ///
     /// </details>
+    #[must_use]
     pub fn first_unreported(&self) -> u64 {
         self.head.first_unreported(&self.runs)
     }
@@ -270,6 +273,7 @@ impl<const N: usize> Scoreboard<N> {
     /// ```
     ///
     /// </details>
+    #[must_use]
     pub fn contains(&self, pos: u64) -> bool {
         self.head.contains(&self.runs, pos)
     }
@@ -287,6 +291,7 @@ impl<const N: usize> Scoreboard<N> {
     /// ```
     ///
     /// </details>
+    #[must_use]
     pub fn reported(&self) -> HeldRuns<'_, N> {
         self.head.reported(&self.runs)
     }
@@ -302,6 +307,7 @@ impl<const N: usize> Scoreboard<N> {
     /// ```
     ///
     /// </details>
+    #[must_use]
     pub fn highest_reported(&self) -> u64 {
         self.head.highest_reported(&self.runs)
     }
@@ -317,6 +323,7 @@ impl<const N: usize> Scoreboard<N> {
     /// ```
     ///
     /// </details>
+    #[must_use]
     pub fn count_beyond(&self) -> usize {
         self.head.count_beyond(&self.runs)
     }
@@ -332,6 +339,7 @@ impl<const N: usize> Scoreboard<N> {
     /// ```
     ///
     /// </details>
+    #[must_use]
     pub fn first_missing(&self, pos: u64) -> u64 {
         self.head.first_missing(&self.runs, pos)
     }
@@ -357,6 +365,7 @@ impl<const N: usize> Scoreboard<N> {
     /// ```
     ///
     /// </details>
+    #[must_use]
     pub fn next_hole(&self, pos: u64, limit: u64) -> Option<(u64, u64)> {
         let (start, end) = self.head.next_hole(&self.runs, pos, limit);
         if start < end {
@@ -381,6 +390,7 @@ impl<const N: usize> Scoreboard<N> {
     /// ```
     ///
     /// </details>
+    #[must_use]
     pub fn lost_below(&self, duplicates: usize, segment_size: usize) -> u64 {
         self.head.lost_below(&self.runs, duplicates, segment_size)
     }
@@ -410,6 +420,7 @@ impl<const N: usize> Scoreboard<N> {
     /// ```
     ///
     /// </details>
+    #[must_use]
     pub fn next_lost(&self, pos: u64, duplicates: usize, segment_size: usize) -> Option<(u64, u64)> {
         self.next_hole(pos, self.lost_below(duplicates, segment_size))
     }

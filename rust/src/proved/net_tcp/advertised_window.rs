@@ -15,6 +15,7 @@ pub const MAX_SCALE: u8 = 14;
 /// ```
 ///
 /// </details>
+#[must_use]
 pub fn scale_for(capacity: u64) -> u8 {
     for scale in 0..MAX_SCALE {
         if capacity >> scale <= 0xffff {
@@ -45,6 +46,7 @@ impl AdvertisedWindow {
     /// ```
     ///
     /// </details>
+    #[must_use]
     pub const fn new(first: u64) -> Self {
         AdvertisedWindow { edge: first }
     }
@@ -161,6 +163,7 @@ impl AdvertisedWindow {
     /// ```
     ///
     /// </details>
+    #[must_use]
     #[track_caller]
     pub fn is_update_due(
         &self,

@@ -48,6 +48,7 @@ pub enum Arrival {
 /// ```
 ///
 /// </details>
+#[must_use]
 pub fn is_acceptable(next: u64, window: u64, seq: u64, len: u64) -> bool {
     if seq < next {
         window > 0 && next - seq < len
@@ -83,6 +84,7 @@ pub fn is_acceptable(next: u64, window: u64, seq: u64, len: u64) -> bool {
 /// ```
 ///
 /// </details>
+#[must_use]
 pub fn classify(next: u64, window: u64, segment: Segment) -> Arrival {
     let is_acceptable = is_acceptable(next, window, segment.seq, segment.len);
     let is_probe = window == 0 && segment.len > 0 && segment.seq == next;
@@ -118,6 +120,7 @@ pub fn classify(next: u64, window: u64, segment: Segment) -> Arrival {
 /// ```
 ///
 /// </details>
+#[must_use]
 pub fn is_acknowledgement(
     first_unacknowledged: u64,
     sent: u64,

@@ -24,6 +24,7 @@ impl PartsSum {
     /// ```
     ///
     /// </details>
+    #[must_use]
     pub const fn new() -> Self {
         PartsSum { sum: 0, odd: 0 }
     }
@@ -56,6 +57,7 @@ impl PartsSum {
     /// ```
     ///
     /// </details>
+    #[must_use]
     pub fn with(self, part: &[u8]) -> Self {
         if self.odd == 0 {
             return sum_from(self.sum, part);
@@ -84,6 +86,7 @@ impl PartsSum {
     /// ```
     ///
     /// </details>
+    #[must_use]
     #[track_caller]
     pub fn with_word(self, word: u16) -> Self {
         assert!(self.odd == 0, "an odd count of bytes was added");
@@ -105,6 +108,7 @@ impl PartsSum {
     /// ```
     ///
     /// </details>
+    #[must_use]
     pub fn joined(self, after: PartsSum) -> Self {
         if self.odd == 0 {
             PartsSum {
@@ -131,6 +135,7 @@ impl PartsSum {
     /// ```
     ///
     /// </details>
+    #[must_use]
     pub fn checksum(&self) -> u16 {
         u16::MAX - fold(self.sum)
     }
@@ -149,6 +154,7 @@ impl PartsSum {
     /// ```
     ///
     /// </details>
+    #[must_use]
     pub fn is_valid(&self) -> bool {
         fold(self.sum) == u16::MAX
     }
@@ -165,6 +171,7 @@ impl PartsSum {
 /// ```
 ///
 /// </details>
+#[must_use]
 pub fn checksum(bytes: &[u8]) -> u16 {
     u16::MAX - fold(sum_words(0, bytes))
 }
@@ -180,6 +187,7 @@ pub fn checksum(bytes: &[u8]) -> u16 {
 /// ```
 ///
 /// </details>
+#[must_use]
 pub fn is_valid(bytes: &[u8]) -> bool {
     fold(sum_words(0, bytes)) == u16::MAX
 }
@@ -196,6 +204,7 @@ pub fn is_valid(bytes: &[u8]) -> bool {
 /// ```
 ///
 /// </details>
+#[must_use]
 pub fn updated_checksum(checksum: u16, old: u16, new: u16) -> u16 {
     let without = u64::from(u16::MAX - checksum) + u64::from(u16::MAX - old);
     u16::MAX - fold(without + u64::from(new))

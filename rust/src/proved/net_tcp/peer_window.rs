@@ -32,6 +32,7 @@ pub struct PeerWindow {
 /// ```
 ///
 /// </details>
+#[must_use]
 #[track_caller]
 pub fn scaled(field: u16, scale: u8) -> u64 {
     assert!(scale <= MAX_SCALE, "a greater scale than 14");
@@ -50,6 +51,7 @@ impl PeerWindow {
     /// ```
     ///
     /// </details>
+    #[must_use]
     pub fn new(seq: u64, ack: u64, window: u64) -> Self {
         PeerWindow {
             edge: ack.saturating_add(window),
@@ -114,6 +116,7 @@ impl PeerWindow {
     /// ```
     ///
     /// </details>
+    #[must_use]
     pub fn usable(&self, pos: u64) -> u64 {
         self.edge.saturating_sub(pos)
     }
@@ -129,6 +132,7 @@ impl PeerWindow {
     /// ```
     ///
     /// </details>
+    #[must_use]
     pub fn send_limit(&self, end: u64) -> u64 {
         self.edge.min(end)
     }
@@ -148,6 +152,7 @@ impl PeerWindow {
     /// ```
     ///
     /// </details>
+    #[must_use]
     pub fn is_probe_allowed(&self, first_unacknowledged: u64, end: u64) -> bool {
         self.edge <= first_unacknowledged && first_unacknowledged < end
     }
@@ -169,6 +174,7 @@ impl PeerWindow {
     /// ```
     ///
     /// </details>
+    #[must_use]
     pub fn acknowledgement_number(&self, first_unacknowledged: u64, sent: u64) -> u64 {
         sent.min(self.edge.max(first_unacknowledged))
     }

@@ -48,6 +48,7 @@ impl RttEstimate {
     /// ```
     ///
     /// </details>
+    #[must_use]
     pub fn first(time: u64) -> Self {
         let time = time.min(LONGEST_SAMPLE);
         RttEstimate {
@@ -73,6 +74,7 @@ impl RttEstimate {
     /// ```
     ///
     /// </details>
+    #[must_use]
     #[track_caller]
     pub fn with_sample(self, time: u64) -> Self {
         assert!(self.is_small(), "an estimate that was not made by samples");
@@ -94,6 +96,7 @@ impl RttEstimate {
     /// ```
     ///
     /// </details>
+    #[must_use]
     pub const fn is_small(self) -> bool {
         self.srtt_8 <= 1 << 63 && self.rttvar_4 <= 1 << 62
     }
@@ -109,6 +112,7 @@ impl RttEstimate {
     /// ```
     ///
     /// </details>
+    #[must_use]
     pub fn srtt(self) -> u64 {
         self.srtt_8 >> 3
     }
@@ -127,6 +131,7 @@ impl RttEstimate {
     /// ```
     ///
     /// </details>
+    #[must_use]
     pub fn timeout(self, bounds: TimeoutBounds) -> u64 {
         let time = (self.srtt_8 >> 3).saturating_add(bounds.tick.max(self.rttvar_4));
         bounds.least.max(bounds.most.min(time))
@@ -159,6 +164,7 @@ impl RetransmissionTimeout {
     /// ```
     ///
     /// </details>
+    #[must_use]
     pub const fn new(timeout: u64) -> Self {
         RetransmissionTimeout {
             estimate: RttEstimate {
@@ -181,6 +187,7 @@ impl RetransmissionTimeout {
     /// ```
     ///
     /// </details>
+    #[must_use]
     pub fn rtt(&self) -> Option<RttEstimate> {
         if self.has_estimate == 0 {
             return None;
@@ -226,6 +233,7 @@ impl RetransmissionTimeout {
     /// ```
     ///
     /// </details>
+    #[must_use]
     pub fn is_small(&self) -> bool {
         self.has_estimate == 0 || self.estimate.is_small()
     }

@@ -68,6 +68,7 @@ impl<B: Storage<u8>, const N: usize> FragmentBuffer<'_, N, B> {
     /// ```
     ///
     /// </details>
+    #[must_use]
     pub const fn over(bytes: B, expires_at: Instant) -> Self {
         const { assert!(N >= 1, "N is at least 1") };
         FragmentBuffer {
@@ -127,6 +128,7 @@ impl<B: Storage<u8>, const N: usize> FragmentBuffer<'_, N, B> {
     /// ```
     ///
     /// </details>
+    #[must_use]
     pub fn into_storage(self) -> B {
         let FragmentBuffer {
             lent: core::marker::PhantomData,
@@ -155,6 +157,7 @@ impl<B: Storage<u8>, const N: usize> FragmentBuffer<'_, N, B> {
     /// ```
     ///
     /// </details>
+    #[must_use]
     pub fn capacity(&self) -> usize {
         self.bytes.count()
     }
@@ -180,6 +183,7 @@ impl<B: Storage<u8>, const N: usize> FragmentBuffer<'_, N, B> {
     /// ```
     ///
     /// </details>
+    #[must_use]
     pub fn is_empty(&self) -> bool {
         self.head.present.is_empty()
     }
@@ -204,6 +208,7 @@ impl<B: Storage<u8>, const N: usize> FragmentBuffer<'_, N, B> {
     /// ```
     ///
     /// </details>
+    #[must_use]
     pub fn expires_at(&self) -> Instant {
         moment_of(&self.head)
     }
@@ -298,6 +303,7 @@ impl<B: Storage<u8>, const N: usize> FragmentBuffer<'_, N, B> {
     /// ```
     ///
     /// </details>
+    #[must_use]
     pub fn total_size(&self) -> Option<usize> {
         self.head.total_size()
     }
@@ -317,6 +323,7 @@ impl<B: Storage<u8>, const N: usize> FragmentBuffer<'_, N, B> {
     /// ```
     ///
     /// </details>
+    #[must_use]
     pub fn overlaps(&self, offset: usize, len: usize) -> bool {
         self.head.overlaps(&self.runs, offset, len)
     }
@@ -347,6 +354,7 @@ impl<B: Storage<u8>, const N: usize> FragmentBuffer<'_, N, B> {
     /// ```
     ///
     /// </details>
+    #[must_use]
     pub fn assemble(&self) -> Option<&[u8]> {
         match self.head.complete(&self.runs) {
             Some(size) => Some(self.bytes.part(0, size)),
@@ -374,6 +382,7 @@ impl<B: Storage<u8>, const N: usize> FragmentBuffer<'_, N, B> {
     /// ```
     ///
     /// </details>
+    #[must_use]
     pub fn is_expired(&self, now: Instant) -> bool {
         self.head.is_expired(now.total_micros())
     }

@@ -51,6 +51,7 @@ impl Instant {
     ///
     /// </details>
     #[inline]
+    #[must_use]
     pub fn from_micros<A: Into<i64>>(micros: A) -> Instant {
         let micros = micros.into();
         Instant { micros }
@@ -74,6 +75,7 @@ impl Instant {
     ///
     /// </details>
     #[inline]
+    #[must_use]
     pub const fn from_micros_const(micros: i64) -> Instant {
         Instant { micros }
     }
@@ -90,6 +92,7 @@ impl Instant {
     ///
     /// </details>
     #[inline]
+    #[must_use]
     pub const fn fits_millis(millis: i64) -> bool {
         matches!(millis.checked_mul(1_000), Some(_))
     }
@@ -116,6 +119,7 @@ impl Instant {
     ///
     /// </details>
     #[inline]
+    #[must_use]
     #[track_caller]
     pub fn from_millis<A: Into<i64>>(millis: A) -> Instant {
         let millis = millis.into();
@@ -151,6 +155,7 @@ impl Instant {
     ///
     /// </details>
     #[inline]
+    #[must_use]
     #[track_caller]
     pub const fn from_millis_const(millis: i64) -> Instant {
         assert!(
@@ -174,6 +179,7 @@ impl Instant {
     ///
     /// </details>
     #[inline]
+    #[must_use]
     pub const fn fits_secs(secs: i64) -> bool {
         matches!(secs.checked_mul(1_000_000), Some(_))
     }
@@ -200,6 +206,7 @@ impl Instant {
     ///
     /// </details>
     #[inline]
+    #[must_use]
     #[track_caller]
     pub fn from_secs<A: Into<i64>>(secs: A) -> Instant {
         let secs = secs.into();
@@ -226,6 +233,7 @@ impl Instant {
     ///
     /// </details>
     #[inline]
+    #[must_use]
     pub const fn millis(&self) -> i64 {
         self.micros() / 1_000
     }
@@ -247,6 +255,7 @@ impl Instant {
     ///
     /// </details>
     #[inline]
+    #[must_use]
     pub const fn micros(&self) -> i64 {
         self.micros % 1_000_000
     }
@@ -268,6 +277,7 @@ impl Instant {
     ///
     /// </details>
     #[inline]
+    #[must_use]
     pub const fn secs(&self) -> i64 {
         self.micros / 1_000_000
     }
@@ -289,6 +299,7 @@ impl Instant {
     ///
     /// </details>
     #[inline]
+    #[must_use]
     pub const fn total_millis(&self) -> i64 {
         self.micros / 1_000
     }
@@ -310,6 +321,7 @@ impl Instant {
     ///
     /// </details>
     #[inline]
+    #[must_use]
     pub const fn total_micros(&self) -> i64 {
         self.micros
     }
@@ -326,6 +338,7 @@ impl Instant {
     ///
     /// </details>
     #[inline]
+    #[must_use]
     pub fn can_add(&self, duration: Duration) -> bool {
         self.checked_add(duration).is_some()
     }
@@ -342,6 +355,7 @@ impl Instant {
     ///
     /// </details>
     #[inline]
+    #[must_use]
     pub fn can_sub(&self, duration: Duration) -> bool {
         self.checked_sub(duration).is_some()
     }
@@ -364,6 +378,7 @@ impl Instant {
     ///
     /// </details>
     #[inline]
+    #[must_use]
     pub fn checked_add(&self, duration: Duration) -> Option<Instant> {
         match self.micros.checked_add_unsigned(duration.total_micros()) {
             Some(micros) => Some(Instant { micros }),
@@ -389,6 +404,7 @@ impl Instant {
     ///
     /// </details>
     #[inline]
+    #[must_use]
     pub fn checked_sub(&self, duration: Duration) -> Option<Instant> {
         match self.micros.checked_sub_unsigned(duration.total_micros()) {
             Some(micros) => Some(Instant { micros }),
@@ -415,6 +431,7 @@ impl Instant {
     ///
     /// </details>
     #[inline]
+    #[must_use]
     pub fn saturating_add(&self, duration: Duration) -> Instant {
         let micros = self.micros.wrapping_add_unsigned(duration.total_micros());
         if micros < self.micros {
@@ -442,6 +459,7 @@ impl Instant {
     ///
     /// </details>
     #[inline]
+    #[must_use]
     pub fn saturating_sub(&self, duration: Duration) -> Instant {
         let micros = self.micros.wrapping_sub_unsigned(duration.total_micros());
         if micros > self.micros {

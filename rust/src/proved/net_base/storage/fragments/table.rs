@@ -230,6 +230,7 @@ pub fn remove_expired<K: Copy + Eq, B: Storage<u8>, const N: usize>(
 /// ```
 ///
 /// </details>
+#[must_use]
 pub fn take_complete<K: Copy + Eq, B: Storage<u8>, const N: usize>(
     slots: &mut [FragmentSlot<K, B, N>],
     key: K,
