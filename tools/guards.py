@@ -115,8 +115,8 @@ def main(arguments):
         return 0
     said, status = check(text)
     if is_faulty:
-        unseen = [f'not refused: {name} {tests}' for name, (_, _, _, tests, _) in zip(names, functions)
-                  if f'fn checked::{name}: no proof' not in said]
+        unseen = [f'not refused: {function[0]} {function[3]}' for name, function in zip(names, functions)
+                  if not re.search(rf'fn checked::{name}: no proof.* `{function[0].split("::")[-1]}-requires', said)]
         print(*unseen, f'{len(names) - len(unseen)} of {len(names)} weaker guards are refused', sep='\n')
         return bool(unseen)
     print(said if status else f'the guards of {len(names)} functions test enough')
