@@ -2,6 +2,7 @@
 ghost use Rattle.std.specs.Prelude.{◌≡◌, ◌↔◌, ◌-◌, ◌<◌, ◌≤◌, ℕ, length, true, Ok, IsTrue, IfOk, IsErr};
 ghost use Rattle.net_assembler.specs.Positions.{contains, first_missing, front, maximal_runs, nothing};
 ghost use Rattle.net_assembler.specs.Positions.{positions, with_range};
+ghost use Rattle.net_assembler.specs.RunLists.{IsCanonical};
 ghost use Rattle.net_receiver.specs.Losses.{IsHole, IsLossBound};
 ghost use Rattle.net_receiver.specs.Scoreboards.{HasNoRoom, IsEnd, IsSoundBoard, beyond, reported_by};
 
@@ -32,7 +33,8 @@ use std::marker::Model;
 #[derive(Clone, Drop)]
 pub struct Scoreboard<const N: usize> {
     // Invariant: the runs are those of an assembler, counted from the first position that wasn't
-    // reported, which is in none of them. Each end fits 64 bits.
+    // reported, which is in none of them. Each end fits 64 bits. If there is no run, that assembler's head
+    // is 0 in both numbers.
     head: ScoreboardHead,
     runs: [Run; N],
 }
@@ -42,6 +44,7 @@ impl<const N: usize> Model for Scoreboard<N> {
     ghost use Rattle.std.specs.FinSet as set;
     ghost use Rattle.std.specs.Prelude.{◌≡◌, length};
     ghost use Rattle.net_assembler.specs.Positions.{Positions};
+    ghost use Rattle.net_assembler.specs.RunLists.{IsCanonical};
     ghost use Rattle.net_receiver.specs.Scoreboards.{reported_by, IsSoundBoard};
 
     ghost Value = { Positions };
@@ -50,7 +53,8 @@ impl<const N: usize> Model for Scoreboard<N> {
 
     ghost view = { λ b. reported_by b.head b.runs };
 
-    ghost invariant = { λ b. IsSoundBoard b.head b.runs × (length b.runs ≡ N) };
+    ghost invariant = { λ b.
+        IsSoundBoard b.head b.runs × (length b.runs ≡ N) × IsCanonical b.head.reported };
 }
 
 impl<const N: usize> Scoreboard<N> {
@@ -104,6 +108,12 @@ impl<const N: usize> Scoreboard<N> {
         requires { IsSoundBoard head runs }
         ensures { result ≡ reported_by head runs.entry }
     {
+        if head.reported.used == 0 {
+            return Scoreboard {
+                head: ScoreboardHead::new_at(head.base),
+                runs,
+            };
+        }
         Scoreboard { head, runs }
     }
 
@@ -112,6 +122,7 @@ impl<const N: usize> Scoreboard<N> {
         ensures sound { IsSoundBoard result.0 result.1 }
         ensures set { reported_by result.0 result.1 ≡ self.entry }
         ensures length { length result.1 ≡ N }
+        ensures canonical { IsCanonical result.0.reported }
     {
         let Scoreboard { head, runs } = self;
         (head, runs)

@@ -1,4 +1,5 @@
-use Rattle.std.proofs.Common.{◌∙◌, ◌++◌, min, ap, sym, length, take, drop}
+use Rattle.std.proofs.Common.{◌∙◌, ◌++◌, min, ap, sym, subst, length, take, drop}
+use Rattle.net_assembler.specs.RunLists.{IsCanonical}
 use Rattle.net_receiver.specs.Rules.{Read, ReadReply}
 use Rattle.net_receiver.specs.ReceiverState.{ReceiverState, receiver_after_read}
 use Rattle.net_receiver.proofs.Called.{stays}
@@ -8,8 +9,11 @@ use Rattle.net_receiver.proofs.receiver.ReceiverOver.read.Goals as goal
 
 pub invariant_of-self : goal.invariant_of-self
 invariant_of-self g c =
-    let before = lent_sound _ _ _ _ c.whole.ensures c.self.invariant.0 in
-    (back_sound _ _ _ _ c.whole.ensures (c.read.ensures.sound c.self.inside.runs before), c.self.invariant.1)
+    let before = lent_sound _ _ _ _ c.whole.ensures c.self.invariant.0 in (
+      back_sound _ _ _ _ c.whole.ensures (c.read.ensures.sound c.self.inside.runs before),
+      c.self.invariant.1,
+      subst (λ h. IsCanonical h.held) (sym c.read.ensures.head) c.self.invariant.2,
+    )
 
 pub returns-clause-state : goal.returns-clause-state
 returns-clause-state g c =

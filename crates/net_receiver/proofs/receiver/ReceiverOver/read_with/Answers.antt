@@ -1,5 +1,6 @@
 -- `f` was run on the queue's first part; what it counts is taken off, as by a read of that many bytes.
-use Rattle.std.proofs.Common.{refl, sym, ap, ◌∙◌, length, take, arith}
+use Rattle.std.proofs.Common.{refl, sym, ap, subst, ◌∙◌, length, take, arith}
+use Rattle.net_assembler.specs.RunLists.{IsCanonical}
 use Rattle.net_receiver.specs.Rules.{Read, ReadReply}
 use Rattle.net_receiver.specs.ReceiverState.{receiver_after_read}
 use Rattle.net_receiver.proofs.Called.{stays}
@@ -11,8 +12,11 @@ pub f-answer-requires : goal.f-answer-requires
 f-answer-requires g c = c.requires.callable c.first_slice-part.result c.first_slice-part.ensures.value
 
 pub invariant_of-self : goal.invariant_of-self
-invariant_of-self g c =
-    (c.remove.ensures.sound (g.S.Storage.elements c.self.inside.storage) c.self.inside.runs (sym c.count.ensures) c.self.invariant.0, c.self.invariant.1)
+invariant_of-self g c = (
+  c.remove.ensures.sound (g.S.Storage.elements c.self.inside.storage) c.self.inside.runs (sym c.count.ensures) c.self.invariant.0,
+  c.self.invariant.1,
+  subst (λ h. IsCanonical h.held) (sym c.remove.ensures.head) c.self.invariant.2,
+)
 
 pub returns-clause-state : goal.returns-clause-state
 returns-clause-state g c =

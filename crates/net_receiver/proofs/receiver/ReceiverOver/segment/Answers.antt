@@ -45,7 +45,7 @@ result_is g c =
     ∙ (λ k. segment_result receiver_ops (before k) (verdict receiver_ops (c.self.invariant.1 k) (before k) (piece c.args.pos c.args.bytes.now)))
 
 pub invariant_of-self : goal.invariant_of-self
-invariant_of-self g c = (sound_is g c, runs_are g c)
+invariant_of-self g c = (sound_is g c, runs_are g c, c.segment.ensures.canonical c.self.invariant.2)
 
 pub returns-clause-state : goal.returns-clause-state
 returns-clause-state g c = state_is g c
