@@ -4,7 +4,7 @@ use crate::proved::net_receiver::held_runs::HeldRuns;
 use crate::proved::net_receiver::kept::{Kept, KeptBytes};
 use crate::proved::net_receiver::newest_runs::{HeldRun, NewestRunIter};
 use crate::proved::net_receiver::receiver_head::ReceiverHead;
-use crate::proved::net_assembler::{Run, TooManyHolesError};
+use crate::proved::net_assembler::{AssemblerHead, Run, TooManyHolesError};
 use crate::proved::net_ring::{ManagedSlice, Storage};
 
 /// A receiver of one stream of bytes, over storage that is lent or owned.
@@ -131,6 +131,17 @@ impl<S: Storage<u8>, const N: usize> Receiver<'_, N, S> {
     ///
     /// </details>
     pub(crate) fn from_parts(head: ReceiverHead, storage: S, runs: [Run; N]) -> Self {
+        if head.held.used == 0 {
+            return Receiver {
+                lent: core::marker::PhantomData,
+                head: ReceiverHead {
+                    held: AssemblerHead::new(),
+                    ..head
+                },
+                storage,
+                runs,
+            };
+        }
         Receiver {
             lent: core::marker::PhantomData,
             head,
@@ -150,6 +161,7 @@ impl<S: Storage<u8>, const N: usize> Receiver<'_, N, S> {
     /// ensures sound { HasSoundParts result.0 (S.elements result.1) result.2 }
     /// ensures state { receiver_of result.0 (S.elements result.1) result.2 ≡ self }
     /// ensures runs { length result.2 ≡ N }
+    /// ensures canonical { IsCanonical result.0.held }
     /// ```
     ///
     /// </details>

@@ -26,7 +26,8 @@ use crate::proved::net_assembler::{Run, TooManyHolesError};
 #[derive(Clone)]
 pub struct Scoreboard<const N: usize> {
     // Invariant: the runs are those of an assembler, counted from the first position that wasn't
-    // reported, which is in none of them. Each end fits 64 bits.
+    // reported, which is in none of them. Each end fits 64 bits. If there is no run, that assembler's head
+    // is 0 in both numbers.
     head: ScoreboardHead,
     runs: [Run; N],
 }
@@ -110,6 +111,12 @@ impl<const N: usize> Scoreboard<N> {
     ///
     /// </details>
     pub(crate) fn from_parts(head: ScoreboardHead, runs: [Run; N]) -> Self {
+        if head.reported.used == 0 {
+            return Scoreboard {
+                head: ScoreboardHead::new_at(head.base),
+                runs,
+            };
+        }
         Scoreboard { head, runs }
     }
 
@@ -123,6 +130,7 @@ impl<const N: usize> Scoreboard<N> {
     /// ensures sound { IsSoundBoard result.0 result.1 }
     /// ensures set { reported_by result.0 result.1 ≡ self.entry }
     /// ensures length { length result.1 ≡ N }
+    /// ensures canonical { IsCanonical result.0.reported }
     /// ```
     ///
     /// </details>
