@@ -37,6 +37,7 @@ FOREIGN_IMPLS = {                                 # other traits in Rattle, and 
                        r'match self {(?: \w+ :: \w+ \( (?:_ \) => { }|(\w+) \) => drop \( \1 \) ,))+ }) }'),
     'Clone': re.compile(r'fn clone \( & self \) -> Result < .* }'),           # it can be refused: the layer has another
 }
+BOUND = re.compile(r'prove!\((?:(?!prove!)[^;])*"in any `usize`",?\s*\);')   # that a sum or a cast is a `usize`
 LAWS = 'laws'                                     # modules of theorems; calls of their functions
 CONTRACT_WORDS = {'ghost', 'requires', 'ensures', 'tactic', 'Model', 'Drop', 'prove'}
 AFTER_BOUND = (',', '>', '{', 'for')              # what may follow the last bound of a type
@@ -58,6 +59,8 @@ class Eraser(Text):
     """One file of a crate; functions of the types `public` can be called from outside.
 
     `new` has the text that is written for a token, where that is another one; `before` and `after` what is added."""
+
+    bounds = False                                # whether bounds stay, as `assert!`, for tools/widths.py
 
     def __init__(self, text, crate, public=(), unguarded={}, into={}):
         super().__init__(text)
@@ -133,6 +136,8 @@ class Eraser(Text):
             return self.implementation(k, head)
         if word == 'Drop' and (self.tokens[after][1] in ('+', *AFTER_BOUND)):
             return False, self.bound(k, after)
+        if word == 'prove' and BOUND.match(self.text, at):
+            return True, self.put(k, k + 1, 'assert') if self.bounds else self.put(k, self.until(k, ';') + 1, GONE)
         if word == 'prove' and self.tokens[after][1] == '!':
             if self.text.startswith('prove!(N >= 1, ', at):             # tested when the program is compiled
                 end = self.group(self.next(after + 1))
@@ -214,7 +219,7 @@ class Eraser(Text):
         k = self.next(body + 1)
         while self.tokens[k][1] == 'let':
             k = self.next(self.until(k, ';') + 1)
-        return self.tokens[k][1] == 'prove'
+        return self.tokens[k][1] == 'prove' and not BOUND.match(self.text, self.tokens[k][2])
 
     def convert(self, k, begin, body, margin, parameters):
         """Lets parameters be all that converts to their types."""
@@ -257,6 +262,8 @@ class Eraser(Text):
         old, omitted = branches(tree), set(given.CRATES[self.crate])
         ghost = re.compile(rf'(?:std|thiserror)\b.*::(?:{"|".join(GHOST_IMPORTS)})$|(?:.*::)?{LAWS}(?:::|$)')
         new = [self.path(b) for b in old if not ghost.match(b) and not set(b.split('::')[:-1]) & omitted]
+        if 'most(' not in (self.text if self.bounds else BOUND.sub('', self.text)):
+            new = [path for path in new if not path.endswith('::width::most')]    # only bounds name it
         root = re.match(r'\w+', tree).group()
         if new != old and new == [self.path(root) + b[len(root):] for b in old]:
             self.put(self.next(k + 1), self.next(k + 1) + 1, self.path(root))

@@ -73,6 +73,13 @@ GIVEN = [
     ('fn f(a: u8) {\n    let s = "ghost { requires";\n    // ghost use\n    prove!(a < 3, "ghost");\n}\n',
      '#[track_caller]\nfn f(a: u8) {\n    let s = "ghost { requires";\n    // ghost use\n    assert!(a < 3, "ghost");\n}\n'),
     ('impl AHead {\n    fn f(a: u8) {\n        prove!(a < 3);\n    }\n}\n', 'impl AHead {\n    fn f(a: u8) {\n        assert!(a < 3);\n    }\n}\n'),
+    # A bound goes, and with it the import that no other line has use for.
+    ('use a::width::most;\nfn f(a: usize) -> usize {\n    let b = a + 1;\n    prove!(b <= most(), "in any `usize`");\n    b\n}\n',
+     'fn f(a: usize) -> usize {\n    let b = a + 1;\n    b\n}\n'),
+    ('use a::width::most;\nfn f(a: usize) -> bool {\n    prove!(\n        a + 1 <= g(a),\n        "in any `usize`"\n    );\n'
+     '    a < most()\n}\n', 'use a::width::most;\nfn f(a: usize) -> bool {\n    a < most()\n}\n'),
+    ('fn f(a: u8) {\n    prove!(a < 3, "below 3");\n    prove!(a <= 2, "in any `usize`");\n}\n',
+     '#[track_caller]\nfn f(a: u8) {\n    assert!(a < 3, "below 3");\n}\n'),
     # That there is a run is tested when the program is compiled.
     ('pub const fn f<const N: usize>()\n    requires runs { 1 ≤ N }\n{\n    g()\n}\n',
      CONTRACT + '/// requires runs { 1 ≤ N }\n/// ```\npub const fn f<const N: usize>() {\n    '
@@ -140,6 +147,9 @@ CALLED = [
     ('impl B {\n    pub fn f(x: u8)\n        requires { x < 3 }\n    {\n        g(x)\n    }\n}\n', None),
     ('impl A {\n    pub fn listed(x: u8)\n        requires { x < 3 }\n    {\n        g(x)\n    }\n}\n', None),
     ('impl A<B> {\n    pub fn f(x: u8)\n        requires { 1 ≤ N }\n        requires { x < 3 }\n    {\n        g(x)\n    }\n}\n', 'no guard'),
+    # A bound is no guard.
+    ('impl A {\n    pub fn f(x: usize)\n        requires { x < 3 }\n    {\n        prove!(x < 3, "in any `usize`");\n    }\n}\n',
+     'no guard'),
     # A guard after a branch, a loop or a match may be passed by; the list names a function with its type.
     ('impl A {\n    pub fn f(x: u8)\n        requires { x < 3 }\n    {\n        if y {\n            return;\n        }\n'
      '        prove!(x < 3);\n    }\n}\n', 'no guard'),
