@@ -217,9 +217,9 @@ class Eraser(Text):
     def is_guarded(self, body):
         """Whether a body begins with a guard, after the `let`s that this needs."""
         k = self.next(body + 1)
-        while self.tokens[k][1] == 'let':
+        while self.tokens[k][1] == 'let' or BOUND.match(self.text, self.tokens[k][2]):
             k = self.next(self.until(k, ';') + 1)
-        return self.tokens[k][1] == 'prove' and not BOUND.match(self.text, self.tokens[k][2])
+        return self.tokens[k][1] == 'prove'
 
     def convert(self, k, begin, body, margin, parameters):
         """Lets parameters be all that converts to their types."""
