@@ -238,7 +238,9 @@ impl DeviceCapabilities {
         let fits = self.fits_ip_header(ip_header_len);
         prove!(fits, "attempt to subtract with overflow");
         let room = self.ip_mtu() - ip_header_len;
-        room / IPV4_FRAGMENT_PAYLOAD_ALIGNMENT * IPV4_FRAGMENT_PAYLOAD_ALIGNMENT
+        let size = room / IPV4_FRAGMENT_PAYLOAD_ALIGNMENT * IPV4_FRAGMENT_PAYLOAD_ALIGNMENT;
+        prove!(size <= room, "in any `usize`");
+        size
     }
 }
 
