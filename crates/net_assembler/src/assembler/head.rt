@@ -680,9 +680,8 @@ fn join_range(
     }
     //  |--- first ---|  ..  |--- next - 1 ---|    |--- next ---|
     //         |====== range ======|                                    they become one with it
-    let second = first + 1;
-    prove!(second <= used, "in any `usize`");
-    let next = runs_starting_by(&runs[..used], second, by, end, turns);
+    prove!(first + 1 <= used, "in any `usize`");
+    let next = runs_starting_by(&runs[..used], first + 1, by, end, turns);
     let low = by + start_of(runs, first);
     prove!(low <= most(), "in any `usize`");
     let low = low.min(start);
@@ -693,11 +692,11 @@ fn join_range(
         start: low,
         end: high,
     };
-    if by == 0 && next == second {
+    if by == 0 && next == first + 1 {
         return Ok(used);
     }
-    remove_runs(runs, used, second, next, by, turns);
-    Ok(used - (next - second))
+    remove_runs(runs, used, first + 1, next, by, turns);
+    Ok(used - (next - (first + 1)))
 }
 
 /// Returns how many runs end before `offset`, which the last doesn't. The first is tested by itself.

@@ -95,8 +95,8 @@ returns-then-end-first_start-clause-joined c =
       omega (arith, c.requires.used),
     )
 
-pub returns-then-next-second-clause-joined : goal.returns-then-next-second-clause-joined
-returns-then-next-second-clause-joined c =
+pub returns-then-next-first-clause-joined : goal.returns-then-next-first-clause-joined
+returns-then-next-first-clause-joined c =
     let xs = c.args.runs.now in
     let cs = take c.args.used xs in
     let len = length-take-le c.args.used xs c.requires.used in
@@ -168,8 +168,8 @@ returns-then-end-first_start-clause-turns c =
       no_move_lost = omega (arith, first.moves, first.within, moved.moves);
     }
 
-pub returns-then-next-second-clause-turns : goal.returns-then-next-second-clause-turns
-returns-then-next-second-clause-turns c =
+pub returns-then-next-first-clause-turns : goal.returns-then-next-first-clause-turns
+returns-then-next-first-clause-turns c =
     let n = length c.args.runs.now in
     let len = length-take-le c.args.used c.args.runs.now c.requires.used in
     let d = below_binary_digits n in
