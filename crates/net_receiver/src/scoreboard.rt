@@ -1,9 +1,9 @@
 //! A scoreboard: which positions a sender knows that the other end has.
-ghost use Rattle.std.specs.Prelude.{◌≡◌, ◌↔◌, ◌-◌, ◌<◌, ◌≤◌, ℕ, length, true, Ok, IsTrue, IfOk, IsErr};
+ghost use Rattle.std.specs.Prelude.{◌⊎◌, ◌≡◌, ◌↔◌, ◌-◌, ◌<◌, ◌≤◌, ℕ, length, true, Ok, IsTrue, IfOk, IsErr};
 ghost use Rattle.net_assembler.specs.Positions.{contains, first_missing, front, maximal_runs, nothing};
 ghost use Rattle.net_assembler.specs.Positions.{positions, with_range};
 ghost use Rattle.net_receiver.specs.Losses.{IsHole, IsLossBound};
-ghost use Rattle.net_receiver.specs.Scoreboards.{HasNoRoom, IsEnd, IsSoundBoard, beyond, reported_by};
+ghost use Rattle.net_receiver.specs.Scoreboards.{HasNoRoom, IsEnd, IsSoundBoard, IsTooFar, beyond, reported_by};
 
 use crate::held_runs::HeldRuns;
 use crate::scoreboard_head::ScoreboardHead;
@@ -149,8 +149,8 @@ impl<const N: usize> Scoreboard<N> {
     /// Returns false, and changes nothing, if it is no block of bytes that were sent: if `start` isn't
     /// below `end`, or `end` is above `sent`. Returns an error, and changes nothing, exactly if the block
     /// begins beyond the first position that wasn't reported, and there would be more than `N` runs
-    /// beyond it: then the block isn't known, and its bytes are sent again. On a processor of 32 bits it
-    /// is refused too if `end` is 2^32 or more above the first position that wasn't reported.
+    /// beyond it, or `end` is 2^32 or more above it: then the block isn't known, and its bytes are sent
+    /// again.
     ///
     /// ```
     /// # use net_base::scoreboard::Scoreboard;
@@ -166,7 +166,7 @@ impl<const N: usize> Scoreboard<N> {
         ensures ok { result ≡ Ok true → self.new ≡ with_range self.old start (end - start) }
         ensures unchanged { (result ≡ Ok true → ⊥) → self.new ≡ self.old }
         ensures refused { IsErr result ↔ ((start < end) × (end ≤ sent)
-            × HasNoRoom N self.old start (end - start)) }
+            × (HasNoRoom N self.old start (end - start) ⊎ IsTooFar self.old start (end - start))) }
     {
         if !ScoreboardHead::is_block(start, end, sent) {
             return Ok(false);
