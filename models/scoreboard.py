@@ -10,6 +10,7 @@ ORDER = Order("scoreboard: start and end of a block")
 START_OF = Order("scoreboard: start of a block and first position that wasn't reported")
 RUNS = {most: Count(f"scoreboard of {most}: runs", min(most, 8)) for most in SIZES}
 REFUSED = {most: Test(f"scoreboard of {most}: a block would make too many runs") for most in SIZES}
+FAR = Test("scoreboard: a block ends 2^32 or more above the first position that wasn't reported")
 MOVES = Test("scoreboard: a block moves the first position that wasn't reported")
 NEXT = Order("scoreboard: acknowledge, position and first one that wasn't reported")
 NEXT_IN = Test("scoreboard: acknowledge ends in a run, or before one that touches it")
@@ -54,6 +55,8 @@ class Scoreboard:
         START_OF.least(start, front)
         runs = with_range(self.runs, start, end)
         if REFUSED[self.most](start > front and len(self.beyond(runs)) > self.most):
+            return "refused"
+        if FAR(start > front and end - front >= 1 << 32):
             return "refused"
         MOVES(self.front(runs) > front)
         self.runs = runs

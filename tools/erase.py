@@ -40,6 +40,7 @@ FOREIGN_IMPLS = {                                 # other traits in Rattle, and 
                        r'match self {(?: \w+ :: \w+ \( (?:_ \) => { }|(\w+) \) => drop \( \1 \) ,))+ }) }'),
     'Clone': re.compile(r'fn clone \( & self \) -> Result < .* }'),           # it can be refused: the layer has another
 }
+BOUND = re.compile(r'prove!\((?:(?!prove!)[^;])*"in any `usize`",?\s*\);')   # that a sum or a cast is a `usize`
 LAWS = 'laws'                                     # modules of theorems; calls of their functions
 CONTRACT_WORDS = {'ghost', 'requires', 'ensures', 'tactic', 'Model', 'Drop', 'prove'}
 AFTER_BOUND = (',', '>', '{', 'for')              # what may follow the last bound of a type
@@ -66,6 +67,8 @@ class Eraser(Text):
     """One file of a crate; contracts of the types `public` are on the page of contracts.
 
     `new` has the text that is written for a token, where that is another one; `before` and `after` what is added."""
+
+    bounds = False                                # whether bounds stay, as `assert!`, for tools/widths.py
 
     def __init__(self, text, crate, public=(), unguarded={}, into={}):
         super().__init__(text)
@@ -159,6 +162,8 @@ class Eraser(Text):
         if word == 'trait':
             self.owner = Owner(self.tokens[after][1], self.group(self.until(k, '{')), is_trait=True)
             return False, k + 1
+        if word == 'prove' and self.is_bound(k):
+            return True, self.put(k, k + 1, 'assert') if self.bounds else self.put(k, self.until(k, ';') + 1, GONE)
         if word == 'prove' and self.tokens[after][1] == '!':
             if k not in self.guards and not self.text[:at].endswith('const _: () = '):
                 self.refuse(at, 'a guard that does not begin a function with a precondition')
@@ -245,7 +250,7 @@ class Eraser(Text):
         """The guards of a function with so many preconditions: where they begin, and what they test."""
         end = self.group(body) if self.tokens[body][1] == '{' else body
         if name in self.unguarded:
-            guards, listed = {j for j in range(body, end) if self.tokens[j][1] == 'prove'}, words(self.unguarded[name][1])
+            guards, listed = {j for j in range(body, end) if self.tokens[j][1] == 'prove' and not self.is_bound(j)}, words(self.unguarded[name][1])
             if listed.count('prove') != len(guards) or ' '.join(listed) not in ' '.join(words(self.source(body, end))):
                 self.refuse(self.tokens[k][2], f'{name} has other guards than the list')
             self.used |= {name}
@@ -253,11 +258,15 @@ class Eraser(Text):
         guards, tests, j = set(), [], self.next(body + 1)
         while self.tokens[j][1] == 'prove':
             begin = self.next(j + 2)
-            guards, tests = guards | {j}, [*tests, self.source(begin + 1, self.until(begin + 1, ',', ')')).strip()]
+            if not self.is_bound(j):
+                guards, tests = guards | {j}, [*tests, self.source(begin + 1, self.until(begin + 1, ',', ')')).strip()]
             j = self.next(self.group(begin) + 1)
         if len(tests) != count:
             self.refuse(self.tokens[k][2], f'{name} has {count} preconditions and {len(tests)} guards')
         return guards, tests
+
+    def is_bound(self, k):
+        return BOUND.match(self.text, self.tokens[k][2])
 
     def is_pure(self, k, begin):
         """Whether a call of the function at k leaves nothing but its answer, which isn't a `Result`: that is marked."""
@@ -305,6 +314,8 @@ class Eraser(Text):
         old, omitted = branches(tree), set(given.CRATES[self.crate])
         ghost = re.compile(rf'(?:std|thiserror)\b.*::(?:{"|".join(GHOST_IMPORTS)})$|(?:.*::)?{LAWS}(?:::|$)')
         new = [self.path(b) for b in old if not ghost.match(b) and not set(b.split('::')[:-1]) & omitted]
+        if 'most(' not in (self.text if self.bounds else BOUND.sub('', self.text)):
+            new = [path for path in new if not path.endswith('::width::most')]    # only bounds name it
         root = re.match(r'\w+', tree).group()
         if new != old and new == [self.path(root) + b[len(root):] for b in old]:
             self.put(self.next(k + 1), self.next(k + 1) + 1, self.path(root))

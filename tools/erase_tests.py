@@ -85,6 +85,11 @@ GIVEN = [
     ('fn f() {\n    let s = "ghost { requires prove!(";\n    // ghost use\n}\n',
      'fn f() {\n    let s = "ghost { requires prove!(";\n    // ghost use\n}\n'),
     ('const _: () = prove!(size_of::<A>() == 0);\n', 'const _: () = assert!(size_of::<A>() == 0);\n'),
+    # A bound goes, and with it the import that no other line has use for.
+    ('use a::width::most;\nfn f(a: usize) -> usize {\n    let b = a + 1;\n    prove!(b <= most(), "in any `usize`");\n    b\n}\n',
+     'fn f(a: usize) -> usize {\n    let b = a + 1;\n    b\n}\n'),
+    ('use a::width::most;\nfn f(a: usize) -> bool {\n    prove!(\n        a + 1 <= g(a),\n        "in any `usize`"\n    );\n'
+     '    a < most()\n}\n', 'use a::width::most;\nfn f(a: usize) -> bool {\n    a < most()\n}\n'),
     # That there is a run is tested when the program is compiled.
     ('pub const fn f<const N: usize>()\n    requires runs { 1 ≤ N }\n{\n    g()\n}\n',
      CONTRACT + '/// requires runs { 1 ≤ N }\n' + END + 'pub const fn f<const N: usize>() {\n    '
@@ -191,6 +196,9 @@ CALLED = [
     ('impl A', f'pub fn counted(x: u8) {ONE}', 'let y = g(x); prove!(y < x + 1, "y")', 'other guards'),
     ('impl A', f'pub fn counted(x: u8) {ONE}', 'let y = g(x); prove!(y < x, "y"); prove!(y < x, "y")', 'other guards'),
     ('impl A', f'pub fn counted(x: u8) {ONE}', 'g(x)', 'other guards'),
+    # A bound is no guard.
+    ('impl A', f'pub fn f(x: u8) {ONE}', 'prove!(x < 3, "in any `usize`"); g(x)', '0 guards'),
+    ('impl A', f'pub fn f(x: u8) {ONE}', 'prove!(x < 5, "in any `usize`"); prove!(x < 3); g(x)', None),
 ]
 LISTED = {'A::listed': ('a reason', ''), 'A::counted': ('a reason', 'let y = g(x); prove!(y < x, "y");')}
 

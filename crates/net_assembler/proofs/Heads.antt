@@ -1,13 +1,14 @@
 -- A head and runs that are those of an assembler: its runs as a list, and their set.
 use Rattle.std.proofs.Common.{◌≡◌, ℕ, ◌+◌, ◌-◌, ◌<◌, ◌≤◌, ◌^◌, List, [], ◌∷◌, length, take, drop, set, get_or}
 use Rattle.std.proofs.Common.{max, min, refl, sym, ap, subst, ◌∙◌, arith}
-use Rattle.std.specs.Prelude.{Result, Ok, Err, IsOk, IsErr, OnErr}
+use Rattle.std.specs.Prelude.{Result, Ok, Err, IsOk, IsErr, IsTrue, OnErr}
 use Rattle.std.proofs.lemmas.List.{nil_from_length, length-map, length-take-le, length-drop, get_or-take}
+use Rattle.net_assembler.specs.Width.{shortfall}
 use Rattle.net_assembler.specs.declared.assembler.error.TooManyHolesError.{TooManyHolesError}
 use Rattle.net_assembler.specs.declared.assembler.head.AssemblerHead.{AssemblerHead}
 use Rattle.net_assembler.specs.AssemblerLaws.{Adds, AddsThenRemovesFront}
 use Rattle.net_assembler.specs.Positions.{Positions, front, holes, holes_before, nothing, runs, runs_shifted_up}
-use Rattle.net_assembler.specs.Positions.{with_range, maximal_runs, shift_down}
+use Rattle.net_assembler.specs.Positions.{contains, with_range, maximal_runs, shift_down}
 use Rattle.net_assembler.specs.RunLists.{start_at, end_at, AreRuns, HasSoundRuns, StartsAtZero, FitsFrom}
 use Rattle.net_assembler.specs.RunLists.{used_runs, runs_of, set_of, set_of_runs, runs_with_range}
 use Rattle.net_assembler.specs.RunLists.{runs_shifted_down}
@@ -16,7 +17,7 @@ use Rattle.std.proofs.Math.Seq.{take-set-lt}
 use Rattle.net_assembler.proofs.MaximalRuns.{one_run_more}
 use Rattle.net_assembler.proofs.Positions.{either, too_many}
 use Rattle.net_assembler.proofs.Runs.{rising-runs_with_range, set-shifted_down, front_of_runs, step_after, step_before, step_meets}
-use Rattle.net_assembler.proofs.Runs.{front-set_of_runs, runs-set_of_runs, maximal_runs-set_of_runs}
+use Rattle.net_assembler.proofs.Runs.{contains-set_of_runs, front-set_of_runs, runs-set_of_runs, maximal_runs-set_of_runs}
 use Rattle.net_assembler.proofs.Runs.{set_of_runs_injective, set-runs_with_range, runs-runs_with_range}
 use Rattle.net_assembler.proofs.RunLists.{front_none, shift_down-zero, Completed, completed_at, at_run, apart}
 use Rattle.net_assembler.proofs.RunLists.{front_of_first, front_some, no_runs, shifted_down_set, with_range-none, top_of}
@@ -25,7 +26,7 @@ use Rattle.net_assembler.proofs.ShiftedRuns.{first-runs_with_range, up-none}
 use Rattle.net_assembler.proofs.ShiftedRuns.{fits-runs_with_range, fits-up, up-runs_with_range, up-up}
 use Rattle.net_assembler.proofs.ShiftedRuns.{zero-runs_with_range, length-up, drop-up, runs-up, down-up}
 use Rattle.net_assembler.proofs.ShiftedRuns.{fits-at, start-up, first_at, get_or-up, up-injective, fits-less}
-use Rattle.net_assembler.proofs.ShiftedRuns.{rising-cut, fits-cut, down-cut}
+use Rattle.net_assembler.proofs.ShiftedRuns.{rising-cut, fits-cut, down-cut, in_runs-fits}
 
 module _ (h : AssemblerHead) (xs : List (ℕ × ℕ)) (s : HasSoundRuns h xs) where
   pub length-used_runs : length (used_runs h xs) ≡ h.used
@@ -74,7 +75,7 @@ module _ (h : AssemblerHead) (xs : List (ℕ × ℕ)) (s : HasSoundRuns h xs) wh
       either (cases_lt i k) (λ b. omega (arith, pairs_apart i k b m, pair_rises k m))
       (λ b. let e : i ≡ k = omega arith in let same = ap (end_at xs) e in omega arith)
 
-  pub pair_fits : (k : ℕ) → k < h.used → h.first_start + end_at xs k < 2 ^ 64
+  pub pair_fits : (k : ℕ) → k < h.used → h.first_start + end_at xs k + shortfall < 2 ^ 64
   pair_fits k l =
       let p = fits-at h.first_start (used_runs h xs) k s.fits (omega (arith, length-used_runs)) in
       omega (arith, p, end_of k l)
@@ -115,6 +116,10 @@ module _ (h : AssemblerHead) (xs : List (ℕ × ℕ)) (s : HasSoundRuns h xs) wh
   starts_by n m some few before =
       either (cases_lt 0 (n - 1)) (λ b. omega (arith, before (n - 1) b (omega arith), start_of (n - 1) (omega arith)))
       (λ b. let zeroth : n - 1 ≡ 0 = omega arith in omega (arith, ap (start_at xs) zeroth, first_pair (omega arith)))
+
+  -- each position is below the greatest number of `usize`
+  pub position_fits : (p : ℕ) → IsTrue (contains (set_of h xs) p) → p + 1 + shortfall < 2 ^ 64
+  position_fits p m = in_runs-fits h.first_start (used_runs h xs) p s.fits (sym (contains-set_of_runs (runs_of h xs) p) ∙ m)
 
   -- where only `first_start` changes
   pub lowered : (m : ℕ) → HasSoundRuns (record { used = h.used; first_start = h.first_start - m }) xs
@@ -247,7 +252,7 @@ module _ (h : AssemblerHead) (xs : List (ℕ × ℕ)) (s : HasSoundRuns h xs) (o
       (λ b. let start = waits b in fits-up low by h.first_start (used_runs h xs) (omega arith) s.fits)
       (λ b. subst (FitsFrom low) (sym (ap (runs_shifted_up by) (nil (omega arith)))) tt)
 
-  pub joined_sound : (m : ℕ) (ys : List (ℕ × ℕ)) → m ≤ length ys → o + k < 2 ^ 64 → take m ys ≡ runs_with_range counted lo hi →
+  pub joined_sound : (m : ℕ) (ys : List (ℕ × ℕ)) → m ≤ length ys → o + k + shortfall < 2 ^ 64 → take m ys ≡ runs_with_range counted lo hi →
       HasSoundRuns (record { used = m; first_start = low }) ys
   joined_sound m ys room fits e = record {
     room = room;

@@ -1,11 +1,12 @@
 -- Runs that are counted from where the first of them starts, and the sets that they represent.
-use Rattle.std.proofs.Common.{◌≡◌, ℕ, zero, suc, ◌+◌, ◌-◌, ◌<◌, ◌≤◌, ◌^◌, max, min, false, ◌&&◌, ◌||◌, List}
+use Rattle.std.proofs.Common.{◌≡◌, ℕ, zero, suc, ◌+◌, ◌-◌, ◌<◌, ◌≤◌, ◌^◌, max, min, true, false, ◌&&◌, ◌||◌, List}
 use Rattle.std.proofs.Common.{[], ◌∷◌, length, map, take, drop, set, get_or, nat_le, nat_lt, refl, sym}
 use Rattle.std.proofs.Common.{ap, subst, ◌∙◌, arith}
 use Rattle.std.proofs.lemmas.List.{drop-map, length-map, length-take, get_or-map}
 use Rattle.std.proofs.lemmas.List.{map-id}
-use Rattle.std.proofs.lemmas.Bool.{cases_lt, cond_both}
+use Rattle.std.proofs.lemmas.Bool.{cases_lt, cond_both, false≢true, or_cases}
 use Rattle.std.proofs.lemmas.Bool.Decides.{nat_tests}
+use Rattle.net_assembler.specs.Width.{shortfall}
 use Rattle.net_assembler.specs.Positions.{runs_shifted_up}
 use Rattle.net_assembler.specs.RunLists.{start_at, end_at, IsRising, AreRuns, StartsAtZero, FitsFrom}
 use Rattle.net_assembler.specs.RunLists.{runs_with_range, runs_shifted_down}
@@ -88,7 +89,7 @@ up-runs_with_range n (r ∷ rs) lo hi =
 
 -- their ends fit
 pub fits-at : (n : ℕ) (rs : List (ℕ × ℕ)) (k : ℕ) → FitsFrom n rs → k < length rs →
-    n + end_at rs k < 2 ^ 64
+    n + end_at rs k + shortfall < 2 ^ 64
 fits-at n [] k f l = absurd (omega arith)
 fits-at n (r ∷ rs) zero f l = f.0
 fits-at n (r ∷ rs) (suc k) f l = fits-at n rs k f.1 (omega arith)
@@ -115,7 +116,7 @@ fits-down n m c (r ∷ rs) l h f = (
   fits-down n m c rs l (rising_from m (r.1 + 1) rs (omega (arith, h.0, h.1)) h.2) f.1,
 )
 
-pub fits-runs_with_range : (n : ℕ) (rs : List (ℕ × ℕ)) (lo hi : ℕ) → FitsFrom n rs → n + hi < 2 ^ 64 →
+pub fits-runs_with_range : (n : ℕ) (rs : List (ℕ × ℕ)) (lo hi : ℕ) → FitsFrom n rs → n + hi + shortfall < 2 ^ 64 →
     FitsFrom n (runs_with_range rs lo hi)
 fits-runs_with_range n [] lo hi f l = (l, tt)
 fits-runs_with_range n (r ∷ rs) lo hi f l =
@@ -199,6 +200,15 @@ in_runs-up n (r ∷ rs) q l =
     up_test : (n a e q : ℕ) → n ≤ q →
         (nat_le (n + a) q && nat_lt q (n + e)) ≡ (nat_le a (q - n) && nat_lt (q - n) e)
     up_test n a e q l = grind (arith, nat_tests)
+
+-- and it is below the greatest number of `usize` if their ends fit
+pub in_runs-fits : (n : ℕ) (rs : List (ℕ × ℕ)) (q : ℕ) → FitsFrom n rs → in_runs (runs_shifted_up n rs) q ≡ true →
+    q + 1 + shortfall < 2 ^ 64
+in_runs-fits n [] q f m = absurd (false≢true m)
+in_runs-fits n (r ∷ rs) q f m =
+    either (or_cases (nat_le (n + r.0) q && nat_lt q (n + r.1)) (in_runs (runs_shifted_up n rs) q) m)
+    (λ e. let l : q < n + r.1 = grind (arith, nat_tests) in omega (arith, f.0))
+    (λ e. in_runs-fits n rs q f.1 e)
 
 pub top_before : (rs : List (ℕ × ℕ)) (n hi : ℕ) → 0 < n → top_of rs n hi ≡ max (end_at rs (n - 1)) hi
 top_before rs zero hi l = absurd (omega arith)

@@ -1,14 +1,17 @@
 -- Runs that are counted by numbers that wrap, and a range that joins runs, each counted higher.
 use Rattle.std.proofs.Common.{◌≡◌, ℕ, ◌+◌, ◌-◌, ◌<◌, ◌≤◌, ◌^◌, ◌%◌, List, [], ◌∷◌, ◌++◌, length, take, drop}
-use Rattle.std.proofs.Common.{set, suc, min, max, ◌*◌, refl, sym, ap, ◌∙◌, arith}
+use Rattle.std.proofs.Common.{get_or, set, zero, suc, min, max, ◌*◌, refl, sym, ap, subst, ◌∙◌, arith}
 use Rattle.std.proofs.Math.Nat.{mod-eq_of_lt}
-use Rattle.std.proofs.lemmas.List.{append_assoc, take_more_set, length-take-le, take-take, get_or-take, drop-set-lt}
+use Rattle.std.proofs.lemmas.List.{append_assoc, take_more_set, length-drop, length-take-le, take-take, get_or-drop, get_or-take}
+use Rattle.std.proofs.lemmas.List.{drop-set-lt}
 use Rattle.std.proofs.Math.Seq.{take-set-lt}
 use Rattle.std.proofs.lemmas.Nat.{mod-mul-add}
 use Rattle.std.proofs.lemmas.Bool.{cases_lt}
 use Rattle.net_assembler.specs.Positions.{runs_shifted_up}
-use Rattle.net_assembler.specs.RunLists.{AreRuns, FitsFrom, IsRising, end_at, runs_shifted_down, runs_with_range}
-use Rattle.net_assembler.specs.RunLists.{runs_wrapped, start_at}
+use Rattle.net_assembler.specs.RunLists.{AreRuns, AreUsize, FitsFrom, IsRising, end_at, runs_shifted_down}
+use Rattle.net_assembler.specs.RunLists.{runs_with_range, runs_wrapped, start_at, wrapped_run}
+use Rattle.net_assembler.specs.Width.{IsUsize}
+use Rattle.net_assembler.proofs.Moves.{rest_at}
 use Rattle.net_assembler.proofs.Positions.{either}
 use Rattle.net_assembler.proofs.Runs.{rising_from}
 use Rattle.net_assembler.proofs.RunLists.{apart_at, joined_at, length_apart, rising-drop}
@@ -19,7 +22,7 @@ pub wrapped-up : (by low : ℕ) (rs : List (ℕ × ℕ)) → IsRising low rs →
 wrapped-up by low [] h f = refl
 wrapped-up by low (r ∷ rs) h f =
     let start : (by + r.0) % 2 ^ 64 ≡ by + r.0 = mod-eq_of_lt (omega (arith, h.1, f.0)) in
-    let end : (by + r.1) % 2 ^ 64 ≡ by + r.1 = mod-eq_of_lt f.0 in
+    let end : (by + r.1) % 2 ^ 64 ≡ by + r.1 = mod-eq_of_lt (omega (arith, f.0)) in
     λ i. (start i, end i) ∷ wrapped-up by (r.1 + 1) rs h.2 f.1 i
 
 -- and down, by a number that wraps
@@ -35,6 +38,46 @@ wrapped-down n m (r ∷ rs) e h f =
     let start = wraps n m r.0 e h.0 (omega (arith, h.1, f.0)) in
     let end = wraps n m r.1 e (omega (arith, h.0, h.1)) (omega (arith, f.0)) in
     λ i. (start i, end i) ∷ wrapped-down n m rs e (rising_from m (r.1 + 1) rs (omega (arith, h.0, h.1)) h.2) f.1 i
+
+-- and are numbers of `usize`
+usize-up : (by low : ℕ) (rs : List (ℕ × ℕ)) → IsRising low rs → FitsFrom by rs → AreUsize (runs_wrapped by rs)
+usize-up by low [] h f = tt
+usize-up by low (r ∷ rs) h f =
+    let start : (by + r.0) % 2 ^ 64 ≡ by + r.0 = mod-eq_of_lt (omega (arith, h.1, f.0)) in
+    let end : (by + r.1) % 2 ^ 64 ≡ by + r.1 = mod-eq_of_lt (omega (arith, f.0)) in
+    (omega (arith, h.1, f.0), omega (arith, f.0), usize-up by (r.1 + 1) rs h.2 f.1)
+
+pub tail_usize : (by n : ℕ) (rs : List (ℕ × ℕ)) → AreRuns rs → FitsFrom by rs → AreUsize (runs_wrapped by (drop n rs))
+tail_usize by n rs h f = usize-up by 0 (drop n rs) (rising-drop 0 rs n 0 h (λ k a b. omega arith)) (fits-drop by n rs f)
+
+pub usize-down : (n m : ℕ) (rs : List (ℕ × ℕ)) → n + m ≡ 2 ^ 64 → IsRising m rs → FitsFrom 0 rs → AreUsize (runs_wrapped n rs)
+usize-down n m [] e h f = tt
+usize-down n m (r ∷ rs) e h f =
+    let start = wraps n m r.0 e h.0 (omega (arith, h.1, f.0)) in
+    let end = wraps n m r.1 e (omega (arith, h.0, h.1)) (omega (arith, f.0)) in (
+      omega (arith, h.1, f.0),
+      omega (arith, f.0),
+      usize-down n m rs e (rising_from m (r.1 + 1) rs (omega (arith, h.0, h.1)) h.2) f.1,
+    )
+
+usize-at : (by k : ℕ) (rs : List (ℕ × ℕ)) → AreUsize (runs_wrapped by rs) → k < length rs →
+    IsUsize (wrapped_run by (get_or rs k (0, 0))).0 × IsUsize (wrapped_run by (get_or rs k (0, 0))).1
+usize-at by k [] f l = absurd (omega arith)
+usize-at by zero (r ∷ rs) f l = (f.0, f.1)
+usize-at by (suc k) (r ∷ rs) f l = usize-at by k rs f.2 (omega arith)
+
+-- the entry k, which a loop that counts higher has not reached
+pub moved_usize : (by at used k : ℕ) (xs ys : List (ℕ × ℕ)) → at ≤ k → k < used → used ≤ length ys →
+    AreUsize (runs_wrapped by (drop at (take used ys))) → drop k xs ≡ drop k ys →
+    IsUsize (wrapped_run by (get_or xs k (0, 0))).0 × IsUsize (wrapped_run by (get_or xs k (0, 0))).1
+moved_usize by at used k xs ys a l room f rest =
+    let cs = take used ys in
+    let one = usize-at by (k - at) (drop at cs) f (omega (arith, length-drop at cs, length-take-le used ys room)) in
+    let place : at + (k - at) ≡ k = omega arith in
+    let same : get_or (drop at cs) (k - at) (0, 0) ≡ get_or xs k (0, 0) =
+    get_or-drop at cs (k - at) (0, 0) ∙ ap (λ n. get_or cs n (0, 0)) place ∙ get_or-take used ys k (0, 0) l
+    ∙ sym (rest_at xs ys k (0, 0) rest) in
+    subst (λ (r : ℕ × ℕ). IsUsize (wrapped_run by r).0 × IsUsize (wrapped_run by r).1) same one
 
 -- a range, and the first pairs of an array that it meets, each counted by higher: those from first up to next
 module _ (xs : List (ℕ × ℕ)) (used by start end first next : ℕ) (h : AreRuns (take used xs)) (room : used ≤ length xs)

@@ -2,6 +2,7 @@ pub mod Positions
 pub mod Ranges
 pub mod RunLists
 pub mod Turns
+pub mod Width
 pub mod Assembler
 pub mod AssemblerLaws
 pub mod Heads

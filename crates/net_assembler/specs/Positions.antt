@@ -8,7 +8,7 @@
 --     first_missing s p, front s, IsFirstMissing s p n      the first missing position, and the front
 --     shift_down s m, shift_up s n, runs_shifted_up n rs      sets and runs, counted from elsewhere
 --     are_same s t      whether two sets are one
-use Rattle.std.specs.Prelude.{◌≡◌, ℕ, zero, suc, ◌+◌, ◌-◌, ◌<◌, ◌≤◌, ◌^◌, max, Bool, cond, not}
+use Rattle.std.specs.Prelude.{◌≡◌, ℕ, zero, suc, ◌+◌, ◌-◌, ◌<◌, ◌≤◌, max, Bool, cond, not}
 use Rattle.std.specs.Prelude.{◌&&◌, ◌||◌, ◌==◌, List, [], ◌∷◌, ◌++◌, map, filter, length, nat_le}
 use Rattle.std.specs.Prelude.{nat_lt, nat_eq, IsTrue, IsFalse, All, AllPairs, count_by}
 use Rattle.std.specs.List.{range_with_len}
@@ -16,6 +16,7 @@ use Rattle.std.specs.Ordering.{nat_cmp}
 use Rattle.std.specs.Cmp.Lexicographic.{pointwise}
 use Rattle.std.specs.FinSet.{FinSet}
 use Rattle.std.specs.FinMap.{keys, contains_key, from_entries, empty}
+use Rattle.net_assembler.specs.Width.{IsUsize}
 
 -- a finite set of positions: two with the same members are equal
 abbrev pub Positions : Type 0
@@ -37,9 +38,9 @@ set_of_list ks = from_entries (map (λ k. (k, tt)) ks)
 abbrev pub nothing : Positions
 nothing = empty
 
--- the range (o, n) and its end are numbers of 64 bits
+-- the end of the range (o, n) is a number of `usize`
 abbrev pub RangeFits : ℕ → ℕ → Type 0
-RangeFits o n = o + n < 2 ^ 64
+RangeFits o n = IsUsize (o + n)
 
 -- s with the range (o, n): with the positions from o to o + n - 1
 unfoldable pub with_range : Positions → ℕ → ℕ → Positions

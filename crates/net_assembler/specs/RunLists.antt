@@ -3,6 +3,7 @@
 --     run_positions rs, set_of_runs rs      their positions, as a list and as a set
 --     runs_with_range rs lo hi, JoinsRange rs old new start end result      runs with a range
 --     runs_shifted_down m rs, StartsAtZero rs, FitsFrom n rs      how runs are counted
+--     AreUsize rs      that each start and end is a number of `usize`
 --     used_runs head rs, runs_of head rs, set_of head rs      what a head and runs represent
 --     HasSoundRuns head rs      that they are those of an assembler
 --     IsCanonical head      that a head without runs is 0 in both numbers
@@ -14,6 +15,7 @@ use Rattle.std.specs.Fmt.{decimal}
 use Rattle.std.specs.List.{range_with_len}
 use Rattle.net_assembler.specs.Assembler.{hole_text}
 use Rattle.net_assembler.specs.Positions.{Positions, set_of_list, runs_shifted_up}
+use Rattle.net_assembler.specs.Width.{IsUsize}
 use Rattle.net_assembler.specs.declared.assembler.Contig.{Contig}
 use Rattle.net_assembler.specs.declared.assembler.head.AssemblerHead.{AssemblerHead}
 use Rattle.net_assembler.specs.declared.assembler.error.TooManyHolesError.{TooManyHolesError}
@@ -74,10 +76,15 @@ abbrev pub StartsAtZero : List (ℕ × ℕ) → Type 0
 StartsAtZero [] = Unit {0}
 StartsAtZero (r ∷ rs) = r.0 ≡ 0
 
--- the end of each is a number of 64 bits also where it is counted n higher
+-- the end of each is a number of `usize` also where it is counted n higher
 abbrev pub FitsFrom : ℕ → List (ℕ × ℕ) → Type 0
 FitsFrom n [] = Unit {0}
-FitsFrom n (r ∷ rs) = (n + r.1 < 2 ^ 64) × FitsFrom n rs
+FitsFrom n (r ∷ rs) = IsUsize (n + r.1) × FitsFrom n rs
+
+-- start and end of each are numbers of `usize`
+abbrev pub AreUsize : List (ℕ × ℕ) → Type 0
+AreUsize [] = Unit {0}
+AreUsize (r ∷ rs) = IsUsize r.0 × IsUsize r.1 × AreUsize rs
 
 -- the runs of an assembler, counted from where the first of them starts: the rest of the list isn't
 -- read

@@ -16,6 +16,7 @@ pub mod laws;
 mod run;
 mod turns;
 
+use crate::width::most;
 pub use error::TooManyHolesError;
 pub use head::AssemblerHead;
 pub use run::Run;
@@ -36,8 +37,8 @@ pub use turns::Turns;
 pub struct Assembler<const N: usize> {
     // Invariant: the first `head.used` runs rise, with a hole between neighbours. They are counted from
     // where the first of them starts, so that it starts at 0; that position is `head.first_start`. Each
-    // end is a number of 64 bits also where it is counted from position 0. If there is no run, the head is 0
-    // in both numbers.
+    // end is a `usize` also where it is counted from position 0. If there is no run, the head is 0 in both
+    // numbers.
     // The head precedes the runs: so close to the value's beginning, its numbers are read by short
     // instructions.
     head: AssemblerHead,
@@ -238,7 +239,7 @@ impl<const N: usize> Assembler<N> {
     ///
     /// # Requires
     ///
-    /// The range ends within 64 bits, as `fits` tests.
+    /// The range ends at a `usize`, as `fits` tests.
     #[inline(always)]
     pub fn add(&mut self, offset: usize, size: usize) -> Result<(), TooManyHolesError>
         requires { RangeFits offset size }
@@ -268,7 +269,7 @@ impl<const N: usize> Assembler<N> {
     ///
     /// # Requires
     ///
-    /// The range ends within 64 bits, as `fits` tests.
+    /// The range ends at a `usize`, as `fits` tests.
     #[inline(always)]
     pub fn add_counted(
         &mut self,
@@ -364,7 +365,7 @@ impl<const N: usize> Assembler<N> {
     ///
     /// # Requires
     ///
-    /// The range ends within 64 bits, as `fits` tests.
+    /// The range ends at a `usize`, as `fits` tests.
     #[inline(always)]
     pub fn add_then_remove_front(
         &mut self,
@@ -600,7 +601,11 @@ impl<'a> Iterator for RunIter<'a> {
     fn next(&mut self) -> Option<(usize, usize)> {
         let (run, rest) = self.rest.split_first()?;
         self.rest = rest;
-        Some((self.first_start + run.start, self.first_start + run.end))
+        let start = self.first_start + run.start;
+        let end = self.first_start + run.end;
+        prove!(start <= most(), "in any `usize`");
+        prove!(end <= most(), "in any `usize`");
+        Some((start, end))
     }
 }
 

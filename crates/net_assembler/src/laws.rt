@@ -5,6 +5,7 @@ ghost use Rattle.std.specs.Prelude.{◌≡◌, ◌||◌, ℕ, List};
 ghost use Rattle.std.specs.List.Sorted.{IsPermutation};
 ghost use Rattle.net_assembler.specs.Positions.{Positions, contains, front, shift_down};
 ghost use Rattle.net_assembler.specs.Ranges.{with_ranges, lies_in_some};
+ghost use Rattle.net_assembler.specs.Width.{IsUsize};
 
 use crate::assembler::laws::{front as front_is_least, members};
 
@@ -31,3 +32,11 @@ pub fn ranges_in_any_order()
 {
     members();
 }
+
+/// States that a number of type `usize` is a number of the machine's `usize`, however many bits that has.
+///
+/// It is given a parameter, a field, a length or what a call returned, and no sum: a sum has to be shown to
+/// be one.
+pub fn is_usize(n: usize)
+    ensures { IsUsize n }
+{}

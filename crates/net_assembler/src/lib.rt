@@ -3,6 +3,7 @@
 
 pub mod assembler;
 pub mod laws;
+pub mod width;
 
 pub use assembler::{
     Assembler, AssemblerHead, HoleIter, IterData, Run, RunIter, TooManyHolesError, Turns,

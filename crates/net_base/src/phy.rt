@@ -239,7 +239,9 @@ impl DeviceCapabilities {
             "attempt to subtract with overflow"
         );
         let room = self.ip_mtu() - ip_header_len;
-        room / IPV4_FRAGMENT_PAYLOAD_ALIGNMENT * IPV4_FRAGMENT_PAYLOAD_ALIGNMENT
+        let size = room / IPV4_FRAGMENT_PAYLOAD_ALIGNMENT * IPV4_FRAGMENT_PAYLOAD_ALIGNMENT;
+        prove!(size <= room, "in any `usize`");
+        size
     }
 }
 

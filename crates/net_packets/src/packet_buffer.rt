@@ -250,7 +250,9 @@ impl<H, M: Storage<PacketMetadata<H>>, B: Storage<u8>> PacketsOver<H, M, B> {
         let cut = self.head.slots.contiguous_queue(self.slots.count());
         let first = self.slots.part(from, from + cut);
         let second = self.slots.part(0, self.head.slots.length - cut);
-        count_packets(first) + count_packets(second)
+        let count = count_packets(first) + count_packets(second);
+        prove!(count <= self.head.slots.length, "in any `usize`");
+        count
     }
 
     /// Empties the queue. The bytes of the storage stay as they are. When headers are dropped is

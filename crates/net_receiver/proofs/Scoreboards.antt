@@ -4,7 +4,7 @@ use Rattle.std.proofs.Common.{◌∷◌, ◌++◌, length, length-append, zero, 
 use Rattle.std.proofs.Common.{arith, nat_le, nat_lt, ◌↔◌, IsTrue, ◌⊎◌, inl, inr, Result, Ok, Err, OnOk}
 use Rattle.std.specs.List.{range_with_len}
 use Rattle.std.proofs.lemmas.List.FromFn.{length-range_with_len}
-use Rattle.std.proofs.lemmas.Bool.{both_ways, cases_Bool, cases_lt}
+use Rattle.std.proofs.lemmas.Bool.{both_ways, cases_Bool, cases_lt, false_from_ne_true}
 use Rattle.std.proofs.lemmas.Bool.Decides.{nat_tests}
 use Rattle.std.proofs.lemmas.List.Elements.{All-head, All-tail}
 use Rattle.net_assembler.specs.Assembler.{MakesTooManyRuns, makes_too_many_runs}
@@ -230,6 +230,17 @@ on_ok (Ok t) f p = f p
 on_ok (Err e) f p = tt
 
 -- ---- an acknowledgement
+-- to shift by a limit, which no position reaches, is to shift by more
+pub shifted_more : (s : Positions) (limit full count : ℕ) → ((p : ℕ) → IsTrue (contains s p) → p < limit) → count ≡ min full limit →
+    shift_down s count ≡ shift_down s full
+shifted_more s limit full count below least =
+    either (cases_lt limit full)
+    (λ l.
+    same_positions _ _ (λ q.
+    contains-shift_down s count q ∙ false_from_ne_true _ (λ m. let p = below (q + count) m in omega (arith, p, least, l))
+    ∙ sym (contains-shift_down s full q ∙ false_from_ne_true _ (λ m. let p = below (q + full) m in omega (arith, p, l)))))
+    (λ l. let same : count ≡ full = omega (arith, least, l) in ap (shift_down s) same)
+
 module _ (b : ℕ) (s : Positions) (next count n : ℕ) (one rest : Positions) (at : b + count ≡ next) (shifted : one ≡ shift_down s count)
     (size : n ≡ front one) (left : rest ≡ shift_down one (front one)) where
   -- what is left is what was beyond
@@ -376,12 +387,15 @@ sizes_within low limit (r ∷ rs) h all le =
     let rest = sizes_within r.1 limit rs (rising_from r.1 (r.1 + 1) rs (omega arith) h.2) (All-tail (λ r. r.1 ≤ limit) r rs all) here in
     omega (arith, h.0, h.1, rest)
 
--- they are as few as there are positions below the limit
-pub sizes_fit : (b : ℕ) (s : Positions) → ((p : ℕ) → IsTrue (contains s p) → b + p + 1 < 2 ^ 64) → sizes (maximal_runs s) < 2 ^ 64
-sizes_fit b s fits =
-    let all = ends_within are_maximal_runs (2 ^ 64 - 1) s (λ p has. let l = fits p has in omega (arith, l)) in
-    let few = sizes_within 0 (2 ^ 64 - 1) (maximal_runs s) (rising-maximal_runs s) all (omega arith) in
+-- they are as few as there are positions below a limit
+pub sizes_few : (limit : ℕ) (s : Positions) → ((p : ℕ) → IsTrue (contains s p) → p < limit) → sizes (maximal_runs s) ≤ limit
+sizes_few limit s below =
+    let all = ends_within are_maximal_runs limit s below in
+    let few = sizes_within 0 limit (maximal_runs s) (rising-maximal_runs s) all (omega arith) in
     omega (arith, few)
+
+pub sizes_fit : (b : ℕ) (s : Positions) → ((p : ℕ) → IsTrue (contains s p) → b + p + 1 < 2 ^ 64) → sizes (maximal_runs s) < 2 ^ 64
+sizes_fit b s fits = let few = sizes_few (2 ^ 64 - 1) s (λ p has. let l = fits p has in omega (arith, l)) in omega (arith, few)
 
 -- as many runs as are stored
 pub as_many : (h : ScoreboardHead) (rs : List (ℕ × ℕ)) → IsSoundBoard h rs → h.reported.used ≡ length (maximal_runs (beyond (reported_by h rs)))

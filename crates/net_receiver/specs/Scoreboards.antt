@@ -2,6 +2,7 @@
 --     board base offsets, reported_by h runs      the positions that a scoreboard represents
 --     offsets_of s, beyond s      those beyond the first missing one, counted from it, and as they are
 --     HasNoRoom most s o n      a range isn't stored, since there would be too many runs
+--     IsTooFar s o n      nor this one, since it ends too far above the first missing position
 --     IsSoundBoard h runs      what is true of the parts of a scoreboard
 --     IsEnd s n      n is the position after the last one
 --     IsNextHole s p limit start end      the first range of positions from p on, below the limit, that s lacks
@@ -31,6 +32,10 @@ beyond s = shift_up (offsets_of s) (front s)
 -- runs beyond that
 abbrev pub HasNoRoom : ℕ → Positions → ℕ → ℕ → Type 0
 HasNoRoom most s o n = (front s < o) × MakesTooManyRuns most (beyond s) o n
+
+-- it begins beyond the first missing position, and ends 2 ^ 32 or more above it
+abbrev pub IsTooFar : Positions → ℕ → ℕ → Type 0
+IsTooFar s o n = (front s < o) × (front s + 2 ^ 32 ≤ o + n)
 
 -- a head and runs are those of a scoreboard: the runs are sound, the base is missing, and each reported
 -- position and its end are numbers of 64 bits

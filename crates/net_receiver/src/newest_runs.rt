@@ -78,6 +78,7 @@ impl<const K: usize> Iterator for NewestRunIter<K> {
         let run = &self.runs[self.from];
         let item = (run.start, run.end);
         self.from += 1;
+        prove!(self.from <= self.count, "in any `usize`");
         Some(item)
     }
 }

@@ -24,6 +24,7 @@ use crate::held_runs::HeldRunIter;
 use crate::kept::{Kept, KeptBytes};
 use crate::newest_runs::{HeldRun, is_listed, remember};
 use net_assembler::assembler::laws;
+use net_assembler::width::most;
 use net_assembler::{AssemblerHead, Run, TooManyHolesError};
 use net_ring::RingHead;
 
@@ -145,6 +146,7 @@ impl ReceiverHead {
         }
         let last = &runs[used - 1];
         let end = self.held.first_start + last.end;
+        prove!(end <= most(), "in any `usize`");
         end as u64 <= limit
     }
 
@@ -247,9 +249,12 @@ impl ReceiverHead {
         if late >= bytes.len() as u64 || ahead >= window as u64 {
             return Ok(KeptBytes { kept: 0, queued: 0 });
         }
+        prove!(late <= bytes.len() as u64, "in any `usize`");
         let rest = &bytes[late as usize..];
+        prove!(ahead <= window as u64, "in any `usize`");
         let offset = ahead as usize;
         let kept = rest.len().min(window - offset);
+        net_assembler::laws::is_usize(window);
         let queued = self.held.add_then_remove_front(runs, offset, kept)?;
         self.place.write_unallocated(storage, offset, &rest[..kept]);
         self.place.enqueue(storage.len(), queued);
@@ -563,6 +568,7 @@ impl ReceiverHead {
         match self.run_at(storage, runs, position) {
             Some((start, end)) => {
                 into[count] = HeldRun { start, end };
+                prove!(count + 1 <= into.len(), "in any `usize`");
                 count + 1
             }
             None => count,
@@ -605,7 +611,9 @@ impl ReceiverHead {
             count += start.min(end).saturating_sub(at);
             at = at.max(past);
         }
-        (count + end.saturating_sub(at)) as usize
+        let all = count + end.saturating_sub(at);
+        prove!(all <= len as u64, "in any `usize`");
+        all as usize
     }
 
     /// Returns whether all bytes that are queued or held are below a position. The storage is for
@@ -669,6 +677,7 @@ impl ReceiverHead {
                 return false;
             }
             at += there.len();
+            prove!(at <= length, "in any `usize`");
         }
         true
     }

@@ -1,10 +1,10 @@
 //! A scoreboard: which positions a sender knows that the other end has.
-ghost use Rattle.std.specs.Prelude.{◌≡◌, ◌↔◌, ◌-◌, ◌<◌, ◌≤◌, ℕ, length, true, Ok, IsTrue, IfOk, IsErr};
+ghost use Rattle.std.specs.Prelude.{◌⊎◌, ◌≡◌, ◌↔◌, ◌-◌, ◌<◌, ◌≤◌, ℕ, length, true, Ok, IsTrue, IfOk, IsErr};
 ghost use Rattle.net_assembler.specs.Positions.{contains, first_missing, front, maximal_runs, nothing};
 ghost use Rattle.net_assembler.specs.Positions.{positions, with_range};
 ghost use Rattle.net_assembler.specs.RunLists.{IsCanonical};
 ghost use Rattle.net_receiver.specs.Losses.{IsHole, IsLossBound};
-ghost use Rattle.net_receiver.specs.Scoreboards.{HasNoRoom, IsEnd, IsSoundBoard, beyond, reported_by};
+ghost use Rattle.net_receiver.specs.Scoreboards.{HasNoRoom, IsEnd, IsSoundBoard, IsTooFar, beyond, reported_by};
 
 use crate::held_runs::HeldRuns;
 use crate::scoreboard_head::ScoreboardHead;
@@ -180,7 +180,7 @@ impl<const N: usize> Scoreboard<N> {
         ensures ok { result ≡ Ok true → self.new ≡ with_range self.old start (end - start) }
         ensures unchanged { (result ≡ Ok true → ⊥) → self.new ≡ self.old }
         ensures refused { IsErr result ↔ ((start < end) × (end ≤ sent)
-            × HasNoRoom N self.old start (end - start)) }
+            × (HasNoRoom N self.old start (end - start) ⊎ IsTooFar self.old start (end - start))) }
     {
         if !ScoreboardHead::is_block(start, end, sent) {
             return Ok(false);

@@ -1,16 +1,17 @@
 //! A scoreboard in parts: a head, and runs that are kept elsewhere.
-ghost use Rattle.std.specs.Prelude.{◌≡◌, ◌↔◌, ◌-◌, ◌<◌, ◌≤◌, List, ℕ, length, min, nat_lt, IsTrue, IsErr, OnOk, OnErr};
+ghost use Rattle.std.specs.Prelude.{◌⊎◌, ◌≡◌, ◌↔◌, ◌-◌, ◌<◌, ◌≤◌, List, ℕ, length, min, nat_lt, IsTrue, IsErr, OnOk, OnErr};
 ghost use Rattle.std.specs.Prelude.{if◌then◌else◌};
 ghost use Rattle.net_assembler.specs.Positions.{contains, first_missing, front, maximal_runs, nothing};
 ghost use Rattle.net_assembler.specs.Positions.{positions, with_range};
 ghost use Rattle.net_assembler.specs.RunLists.{HasSoundRuns, IsCanonical, set_of};
-ghost use Rattle.net_receiver.specs.Scoreboards.{HasNoRoom, IsEnd, IsNextHole, IsSoundBoard, beyond};
+ghost use Rattle.net_receiver.specs.Scoreboards.{HasNoRoom, IsEnd, IsNextHole, IsSoundBoard, IsTooFar, beyond};
 ghost use Rattle.net_receiver.specs.Scoreboards.{reported_by};
 ghost use Rattle.net_receiver.specs.NewHeads.{scoreboard_head};
 ghost use Rattle.net_receiver.specs.Losses.{IsLossBound};
 
 use crate::held_runs::HeldRunIter;
 use net_assembler::assembler::laws;
+use net_assembler::width::most;
 use net_assembler::{AssemblerHead, Run, TooManyHolesError};
 
 /// What a scoreboard has besides its runs.
@@ -101,8 +102,8 @@ impl ScoreboardHead {
     /// are known already.
     ///
     /// Returns an error, and changes nothing, exactly if the block begins beyond the base, and there
-    /// would be more runs than the slice has elements. Then the block isn't known, and its bytes are sent
-    /// again. On a processor of 32 bits it is refused too if `end` is 2^32 or more above the base.
+    /// would be more runs than the slice has elements, or `end` is 2^32 or more above the base. Then the
+    /// block isn't known, and its bytes are sent again.
     ///
     /// # Requires
     ///
@@ -120,17 +121,21 @@ impl ScoreboardHead {
             (reported_by self.new runs.new ≡ with_range (reported_by self.old runs.old) start (end - start)) }
         ensures unchanged { OnErr result ((self.new ≡ self.old) × (runs.new ≡ runs.old)) }
         ensures refused { IsErr result
-            ↔ HasNoRoom (length runs.old) (reported_by self.old runs.old) start (end - start) }
+            ↔ (HasNoRoom (length runs.old) (reported_by self.old runs.old) start (end - start)
+            ⊎ IsTooFar (reported_by self.old runs.old) start (end - start)) }
         ensures canonical { IsCanonical self.old.reported → IsCanonical self.new.reported }
     {
         if start <= self.base {
             self.acknowledge(runs, end);
             return Ok(());
         }
-        // Only a processor of 32 bits has such offsets.
-        if end - self.base > usize::MAX as u64 {
+        // Each offset is a `usize`. TCP has no such block, since its numbers have 32 bits.
+        if end - self.base > u32::MAX as u64 {
             return Err(TooManyHolesError);
         }
+        prove!(end - self.base <= most() as u64, "in any `usize`");
+        prove!(start - self.base <= most() as u64, "in any `usize`");
+        prove!(end - start <= most() as u64, "in any `usize`");
         let offset = (start - self.base) as usize;
         let size = (end - start) as usize;
         self.reported.add(runs, offset, size)
@@ -150,8 +155,8 @@ impl ScoreboardHead {
         if next <= self.base {
             return;
         }
-        // All offsets are below `usize::MAX`, on a processor of 32 bits too.
-        let count = (next - self.base).min(usize::MAX as u64) as usize;
+        // All offsets are below the greatest `usize`.
+        let count = (next - self.base).min(most() as u64) as usize;
         self.reported.shift(runs, count);
         let front = self.reported.remove_front(runs);
         self.base = next + front as u64;
@@ -182,9 +187,10 @@ impl ScoreboardHead {
             return true;
         }
         let offset = pos - self.base;
-        if offset > usize::MAX as u64 {
+        if offset > most() as u64 {
             return false;
         }
+        prove!(offset <= most() as u64, "in any `usize`");
         self.reported.contains(runs, offset as usize)
     }
 
@@ -227,6 +233,7 @@ impl ScoreboardHead {
         let mut count = 0;
         for (start, end) in self.reported.iter_data(runs) {
             count += end.saturating_sub(start);
+            prove!(count <= most(), "in any `usize`");
         }
         count
     }
@@ -262,9 +269,9 @@ impl ScoreboardHead {
         requires { IsSoundBoard self.now runs.now }
         ensures { IsLossBound duplicates segment_size (reported_by self.now runs.now) result }
     {
-        let most = duplicates.saturating_sub(1).saturating_mul(segment_size);
+        let most = (duplicates.saturating_sub(1) as u64).saturating_mul(segment_size as u64);
         let mut count = self.reported.used;
-        let mut bytes = self.count_beyond(runs);
+        let mut bytes = self.count_beyond(runs) as u64;
         let mut limit = 0;
         for (start, end) in self.reported(runs) {
             if count < duplicates.max(1) && bytes <= most {
@@ -272,7 +279,7 @@ impl ScoreboardHead {
             }
             limit = start;
             count = count.saturating_sub(1);
-            bytes = bytes.saturating_sub((end - start) as usize);
+            bytes = bytes.saturating_sub(end - start);
         }
         limit
     }

@@ -153,7 +153,7 @@ impl SenderHead {
                 contiguous: 0,
             };
         }
-        let offset = (pos - self.first_unacknowledged).min(usize::MAX as u64) as usize;
+        let offset = (pos - self.first_unacknowledged).min(self.place.length as u64) as usize;
         self.place.allocated(capacity, offset, max)
     }
 
@@ -181,6 +181,10 @@ impl SenderHead {
         if !is_acknowledgeable(self.first_unacknowledged, self.end(), next) {
             return false;
         }
+        prove!(
+            next - self.first_unacknowledged <= self.place.length as u64,
+            "in any `usize`"
+        );
         let count = (next - self.first_unacknowledged) as usize;
         self.place.dequeue(capacity, count);
         self.first_unacknowledged = next;

@@ -76,6 +76,7 @@ impl RingHead {
         // [ 4 5 6 0 1 2 3 ]
         let to_end = capacity - self.read_at;
         if offset < to_end {
+            prove!(self.read_at + offset <= capacity, "in any `usize`");
             self.read_at + offset
         } else {
             offset - to_end
@@ -102,6 +103,7 @@ impl RingHead {
         ensures within { (result.from ≤ capacity) × IsWithin capacity result }
     {
         let offset = offset.min(available);
+        prove!(start + offset <= capacity, "in any `usize`");
         let from = self.index(capacity, start + offset);
         let count = size.min(available - offset);
         let contiguous = count.min(capacity - from);
@@ -220,8 +222,8 @@ impl RingHead {
         ensures place { self.new ≡ enqueued_place count self.old }
         ensures sound { IsSound capacity self.new }
     {
-        // `capacity` is there for the contract, by which the sum doesn't wrap.
         self.length += count;
+        prove!(self.length <= capacity, "in any `usize`");
     }
 
     /// Dequeues `count` elements.
@@ -250,6 +252,7 @@ impl RingHead {
         ensures sound { IsSound capacity self.new }
     {
         let next = self.read_at + count;
+        prove!(next <= capacity, "in any `usize`");
         self.read_at = if next < capacity { next } else { 0 };
         self.length -= count;
     }
@@ -284,6 +287,7 @@ impl RingHead {
         self.rewind_if_empty();
         let span = self.unallocated(capacity, 0, size);
         self.length += span.count;
+        prove!(self.length <= capacity, "in any `usize`");
         span
     }
 
@@ -306,6 +310,7 @@ impl RingHead {
         let from = self.index(capacity, self.length);
         let count = size.min(self.contiguous_window(capacity));
         self.length += count;
+        prove!(self.length <= capacity, "in any `usize`");
         Span {
             from,
             count,

@@ -627,6 +627,7 @@ impl<T, S: Storage<T>> RingOver<T, S> {
         let capacity = self.capacity();
         let from = self.head.index(capacity, self.head.length);
         let to = from + self.head.contiguous_window(capacity);
+        prove!(to <= capacity, "in any `usize`");
         let answer = f(self.storage.part_mut(from, to));
         prove!(answer.0 <= to - from, "more elements than were lent");
         self.head.enqueue(capacity, answer.0);
@@ -729,6 +730,7 @@ impl<T, S: Storage<T>> RingOver<T, S> {
         let capacity = self.capacity();
         let from = self.head.read_at;
         let to = from + self.head.contiguous_queue(capacity);
+        prove!(to <= capacity, "in any `usize`");
         let answer = f(self.storage.part_mut(from, to));
         prove!(answer.0 <= to - from, "more elements than were lent");
         self.head.dequeue_contiguous(capacity, answer.0);

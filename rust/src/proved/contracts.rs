@@ -28,6 +28,7 @@
 //! | `MatchOption r p (λ x. q)`, `MatchResult r (λ x. p) (λ e. q)` | p if r is `None`, q if it is `Some(x)`; p if r is `Ok(x)`, q if it is `Err(e)` |
 //! | `R.remaining r`, `W.contents w` | the bytes that a reader over memory has left; that a writer over memory has taken. For a file, a pipe or a terminal both are `None` |
 //! | `«data»` | the parameter `data`, a keyword of the logic |
+//! | `IsUsize n`, `shortfall` | n is a number of the machine's `usize`; how many of the 2^64 numbers of 64 bits that lacks: 0, or 2^64 - 2^32 where it has 32 bits. No proof knows which (`net_assembler`) |
 //! | `Type 0`; `abbrev` | the type of statements, as of p above; in `specs/`, a definition that is always replaced by what it says |
 //! | `ensures*`, `sem 𝓛 p`, `T.row` | a clause on memory and loans; in it p is what holds once the loan has ended; `T.row` is the model of the type T |
 //!
@@ -586,9 +587,9 @@
 //! abbrev pub nothing : Positions
 //! nothing = empty
 //!
-//! -- the range (o, n) and its end are numbers of 64 bits
+//! -- the end of the range (o, n) is a number of `usize`
 //! abbrev pub RangeFits : ℕ → ℕ → Type 0
-//! RangeFits o n = o + n < 2 ^ 64
+//! RangeFits o n = IsUsize (o + n)
 //!
 //! -- s with the range (o, n): with the positions from o to o + n - 1
 //! unfoldable pub with_range : Positions → ℕ → ℕ → Positions
@@ -1084,6 +1085,10 @@
 //! -- runs beyond that
 //! abbrev pub HasNoRoom : ℕ → Positions → ℕ → ℕ → Type 0
 //! HasNoRoom most s o n = (front s < o) × MakesTooManyRuns most (beyond s) o n
+//!
+//! -- it begins beyond the first missing position, and ends 2 ^ 32 or more above it
+//! abbrev pub IsTooFar : Positions → ℕ → ℕ → Type 0
+//! IsTooFar s o n = (front s < o) × (front s + 2 ^ 32 ≤ o + n)
 //!
 //! -- a head and runs are those of a scoreboard: the runs are sound, the base is missing, and each reported
 //! -- position and its end are numbers of 64 bits

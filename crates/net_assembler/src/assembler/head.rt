@@ -9,14 +9,16 @@ ghost use Rattle.net_assembler.specs.Heads.{AddsInPlace};
 ghost use Rattle.net_assembler.specs.Positions.{RangeFits, are_same, contains, front, holes, holes_before};
 ghost use Rattle.net_assembler.specs.Positions.{maximal_runs, nothing, runs as run_count, runs_shifted_up};
 ghost use Rattle.net_assembler.specs.Positions.{shift_down};
-ghost use Rattle.net_assembler.specs.RunLists.{AreRuns, FitsFrom, HasSoundRuns, IsCanonical, IsRising};
+ghost use Rattle.net_assembler.specs.RunLists.{AreRuns, AreUsize, FitsFrom, HasSoundRuns, IsCanonical, IsRising};
 ghost use Rattle.net_assembler.specs.RunLists.{JoinsRange, end_at, runs_of, runs_shifted_down, runs_wrapped};
 ghost use Rattle.net_assembler.specs.RunLists.{set_of, set_of_runs, start_at, used_runs, wrapped_run};
 ghost use Rattle.net_assembler.specs.Turns.{TurnsWithin, binary_digits};
+ghost use Rattle.net_assembler.specs.Width.{IsUsize};
 
 use super::run::{Run, end_of, start_of};
 use super::turns::Turns;
 use super::{HoleIter, RunIter, TooManyHolesError};
+use crate::width::most;
 
 /// What an assembler has besides its runs: how many there are, and where the first of them starts.
 ///
@@ -29,7 +31,7 @@ use super::{HoleIter, RunIter, TooManyHolesError};
 /// A head is canonical (`IsCanonical`) if both numbers are 0 where there is no run. `new` and `clear`
 /// make it so, and each call leaves it so.
 ///
-/// A head is sound with runs if they are so, and each end is a number of 64 bits also where it is
+/// A head is sound with runs if they are so, and each end is a `usize` also where it is
 /// counted from position 0. In contracts that is `HasSoundRuns`, and `set_of` is the set of present
 /// positions. `is_sound` tests it. smoltcp has no such type: its assembler is one value.
 #[repr(C)]
@@ -67,7 +69,8 @@ impl AssemblerHead {
         let first_end = end_of(runs, 0);
         start_of(runs, 0) == 0
             && first_end > 0
-            && first_end <= usize::MAX - self.first_start
+            && self.first_start <= most()
+            && first_end <= most() - self.first_start
             && rise_after(&runs[1..self.used], first_end, self.first_start)
     }
 
@@ -122,7 +125,7 @@ impl AssemblerHead {
     pub fn fits(offset: usize, size: usize) -> bool
         ensures { IsTrue result ↔ RangeFits offset size }
     {
-        size <= usize::MAX - offset
+        offset <= most() && size <= most() - offset
     }
 
     /// Adds a range as `Assembler::add` does, with the slice's length in place of `N`.
@@ -131,7 +134,7 @@ impl AssemblerHead {
     ///
     /// # Requires
     ///
-    /// The head is sound with the runs, as `is_sound` tests, and the range ends within 64 bits, as
+    /// The head is sound with the runs, as `is_sound` tests, and the range ends at a `usize`, as
     /// `fits` tests.
     #[inline(always)]
     pub fn add(
@@ -156,7 +159,7 @@ impl AssemblerHead {
     ///
     /// # Requires
     ///
-    /// The head is sound with the runs, as `is_sound` tests, and the range ends within 64 bits, as
+    /// The head is sound with the runs, as `is_sound` tests, and the range ends at a `usize`, as
     /// `fits` tests.
     #[inline(always)]
     pub fn add_counted(
@@ -249,7 +252,7 @@ impl AssemblerHead {
     ///
     /// # Requires
     ///
-    /// The head is sound with the runs, as `is_sound` tests, and the range ends within 64 bits, as
+    /// The head is sound with the runs, as `is_sound` tests, and the range ends at a `usize`, as
     /// `fits` tests.
     #[inline(always)]
     pub fn add_then_remove_front(
@@ -279,7 +282,9 @@ impl AssemblerHead {
             if self.used <= 1 {
                 let mut end = size;
                 if self.used == 1 {
-                    end = end.max(self.first_start + end_of(runs, 0));
+                    let first_end = self.first_start + end_of(runs, 0);
+                    prove!(first_end <= most(), "in any `usize`");
+                    end = end.max(first_end);
                 }
                 *self = AssemblerHead::new();
                 return Ok(end);
@@ -318,6 +323,8 @@ impl AssemblerHead {
         if k < self.used {
             let start = self.first_start + start_of(runs, k);
             let end = self.first_start + end_of(runs, k);
+            prove!(start <= most(), "in any `usize`");
+            prove!(end <= most(), "in any `usize`");
             Some((start, end))
         } else {
             None
@@ -435,6 +442,7 @@ impl AssemblerHead {
         }
         let start = offset - self.first_start;
         let end = start + size;
+        prove!(end <= most(), "in any `usize`");
         //  |--- last ---|    |=== range ===|      it is a run of its own, the last
         if self.used == 0 || end_of(runs, self.used - 1) < start {
             if self.used == runs.len() {
@@ -442,6 +450,7 @@ impl AssemblerHead {
             }
             runs[self.used] = Run { start, end };
             self.used += 1;
+            prove!(self.used <= runs.len(), "in any `usize`");
             return Ok(());
         }
         //  |--- last ---|
@@ -493,7 +502,7 @@ impl AssemblerHead {
         requires one_way { 0 < by → start ≡ 0 }
         requires range { start < end }
         requires last { start ≤ end_at runs.old (self.old.used - 1) }
-        requires fits { self.old.first_start - by + end < 2 ^ 64 }
+        requires fits { IsUsize (self.old.first_start - by + end) }
         ensures { let offset = self.old.first_start - by + start in
             AddsInPlace self.old runs.old offset (end - start) result self.new runs.new turns.old turns.new }
     {
@@ -520,7 +529,7 @@ impl AssemblerHead {
         requires one_way { 0 < by → start ≡ 0 }
         requires range { start < end }
         requires last { start ≤ end_at runs.old (self.old.used - 1) }
-        requires fits { self.old.first_start - by + end < 2 ^ 64 }
+        requires fits { IsUsize (self.old.first_start - by + end) }
         ensures { let offset = self.old.first_start - by + start in
             AddsInPlace self.old runs.old offset (end - start) result self.new runs.new turns.old turns.new }
     {
@@ -543,7 +552,7 @@ impl AssemblerHead {
         requires one_way { 0 < by → start ≡ 0 }
         requires range { start < end }
         requires last { start ≤ end_at runs.old (self.old.used - 1) }
-        requires fits { self.old.first_start - by + end < 2 ^ 64 }
+        requires fits { IsUsize (self.old.first_start - by + end) }
         ensures { let offset = self.old.first_start - by + start in
             AddsInPlace self.old runs.old offset (end - start) result self.new runs.new turns.old turns.new }
     {
@@ -597,18 +606,23 @@ impl AssemblerHead {
         if self.used.saturating_sub(k) < 2 {
             return None;
         }
+        let next = k + 1;
+        prove!(next <= self.used, "in any `usize`");
         let start = self.first_start + end_of(runs, k);
-        let end = self.first_start + start_of(runs, k + 1);
+        let end = self.first_start + start_of(runs, next);
+        prove!(start <= most(), "in any `usize`");
+        prove!(end <= most(), "in any `usize`");
         Some((start, end))
     }
 }
 
 /// Returns whether runs rise, with a hole before each of them, the first of these after `after`, and
-/// end within 64 bits also where they are counted from `first_start`.
+/// end at a `usize` also where they are counted from `first_start`.
 fn rise_after(runs: &[Run], after: usize, first_start: usize) -> bool
+    requires { IsUsize first_start }
     ensures { IsTrue result ↔ (IsRising (after + 1) runs.now × FitsFrom first_start runs.now) }
 {
-    let most = usize::MAX - first_start;
+    let last = most() - first_start;
     let mut end = after;
     for k in 0..runs.len() {
         let start = start_of(runs, k);
@@ -616,7 +630,7 @@ fn rise_after(runs: &[Run], after: usize, first_start: usize) -> bool
             return false;
         }
         end = end_of(runs, k);
-        if end <= start || end > most {
+        if end <= start || end > last {
             return false;
         }
     }
@@ -651,18 +665,26 @@ fn join_range(
 {
     let first = runs_ending_before(&runs[..used], start, turns);
     //  |--- first - 1 ---|    |=== range ===|    |--- first ---|      it is a run of its own
-    if end < by + start_of(runs, first) {
+    let first_start = by + start_of(runs, first);
+    prove!(first_start <= most(), "in any `usize`");
+    if end < first_start {
         if used == runs.len() {
             return Err(TooManyHolesError);
         }
         insert_run(runs, used, first, Run { start, end }, by, turns);
+        prove!(used + 1 <= runs.len(), "in any `usize`");
         return Ok(used + 1);
     }
     //  |--- first ---|  ..  |--- next - 1 ---|    |--- next ---|
     //         |====== range ======|                                    they become one with it
+    prove!(first + 1 <= used, "in any `usize`");
     let next = runs_starting_by(&runs[..used], first + 1, by, end, turns);
-    let low = (by + start_of(runs, first)).min(start);
-    let high = (by + end_of(runs, next - 1)).max(end);
+    let low = by + start_of(runs, first);
+    prove!(low <= most(), "in any `usize`");
+    let low = low.min(start);
+    let high = by + end_of(runs, next - 1);
+    prove!(high <= most(), "in any `usize`");
+    let high = high.max(end);
     runs[first] = Run {
         start: low,
         end: high,
@@ -694,11 +716,13 @@ fn runs_ending_before(runs: &[Run], offset: usize, turns: &mut Turns) -> usize
     let mut high = runs.len() - 1;
     while low < high {
         let middle = low + (high - low) / 2;
+        prove!(middle < high, "in any `usize`");
         if end_of(runs, middle) < offset {
             low = middle + 1;
         } else {
             high = middle;
         }
+        prove!(low <= high, "in any `usize`");
         turns.look();
     }
     low
@@ -722,11 +746,15 @@ fn runs_starting_by(runs: &[Run], from: usize, by: usize, end: usize, turns: &mu
     let mut high = runs.len();
     while low < high {
         let middle = low + (high - low) / 2;
-        if by + start_of(runs, middle) <= end {
+        prove!(middle < high, "in any `usize`");
+        let start = by + start_of(runs, middle);
+        prove!(start <= most(), "in any `usize`");
+        if start <= end {
             low = middle + 1;
         } else {
             high = middle;
         }
+        prove!(low <= high, "in any `usize`");
         turns.look();
     }
     low
@@ -736,13 +764,16 @@ fn runs_starting_by(runs: &[Run], from: usize, by: usize, end: usize, turns: &mu
 /// if `by` is the negative of a number.
 #[inline(always)]
 fn wrapped(runs: &[Run], k: usize, by: usize) -> Run
-    requires { k < length runs.now }
+    requires run { k < length runs.now }
+    requires fits { let run = wrapped_run by (get_or runs.now k (0, 0)) in
+        IsUsize run.0 × IsUsize run.1 }
     ensures { result ≡ wrapped_run by (get_or runs.now k (0, 0)) }
 {
-    Run {
-        start: by.wrapping_add(start_of(runs, k)),
-        end: by.wrapping_add(end_of(runs, k)),
-    }
+    let start = by.wrapping_add(start_of(runs, k));
+    let end = by.wrapping_add(end_of(runs, k));
+    prove!(start <= most(), "in any `usize`");
+    prove!(end <= most(), "in any `usize`");
+    Run { start, end }
 }
 
 /// Writes `entry` at `at`, and moves the used runs from there on one index up, each counted `by`
@@ -751,6 +782,7 @@ fn wrapped(runs: &[Run], k: usize, by: usize) -> Run
 fn insert_run(runs: &mut [Run], used: usize, at: usize, entry: Run, by: usize, turns: &mut Turns)
     requires at { at ≤ used }
     requires room { used < length runs.old }
+    requires fits { AreUsize (runs_wrapped by (drop at (take used runs.old))) }
     ensures runs { let all = take used runs.old in
         take (used + 1) runs.new ≡ take at runs.old ++ entry ∷ runs_wrapped by (drop at all) }
     ensures looks { turns.new.0 ≡ turns.old.0 }
@@ -774,6 +806,7 @@ fn remove_runs(runs: &mut [Run], used: usize, at: usize, from: usize, by: usize,
     requires at { at ≤ from }
     requires from { from ≤ used }
     requires used { used ≤ length runs.old }
+    requires fits { AreUsize (runs_wrapped by (drop from (take used runs.old))) }
     ensures runs { let all = take used runs.old in
         take (used - (from - at)) runs.new ≡ take at runs.old ++ runs_wrapped by (drop from all) }
     ensures looks { turns.new.0 ≡ turns.old.0 }

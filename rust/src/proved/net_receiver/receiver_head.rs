@@ -394,7 +394,8 @@ impl ReceiverHead {
             count += start.min(end).saturating_sub(at);
             at = at.max(past);
         }
-        (count + end.saturating_sub(at)) as usize
+        let all = count + end.saturating_sub(at);
+        all as usize
     }
 
     /// Returns whether all bytes that are queued or held are below a position. The storage is for

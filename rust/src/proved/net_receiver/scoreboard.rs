@@ -212,7 +212,7 @@ impl<const N: usize> Scoreboard<N> {
     /// ensures ok { result ≡ Ok true → self.new ≡ with_range self.old start (end - start) }
     /// ensures unchanged { (result ≡ Ok true → ⊥) → self.new ≡ self.old }
     /// ensures refused { IsErr result ↔ ((start < end) × (end ≤ sent)
-    ///     × HasNoRoom N self.old start (end - start)) }
+    ///     × (HasNoRoom N self.old start (end - start) ⊎ IsTooFar self.old start (end - start))) }
     /// ```
     ///
     /// </details>

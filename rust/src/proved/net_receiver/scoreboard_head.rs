@@ -1,6 +1,7 @@
 //! A scoreboard in parts: a head, and runs that are kept elsewhere.
 
 use crate::proved::net_receiver::held_runs::HeldRunIter;
+use crate::proved::net_assembler::width::most;
 use crate::proved::net_assembler::{AssemblerHead, Run, TooManyHolesError};
 
 /// What a scoreboard has besides its runs.
@@ -65,8 +66,8 @@ impl ScoreboardHead {
     /// are known already.
     ///
     /// Returns an error, and changes nothing, exactly if the block begins beyond the base, and there
-    /// would be more runs than the slice has elements. Then the block isn't known, and its bytes are sent
-    /// again. On a processor of 32 bits it is refused too if `end` is 2^32 or more above the base.
+    /// would be more runs than the slice has elements, or `end` is 2^32 or more above the base. Then the
+    /// block isn't known, and its bytes are sent again.
     ///
     /// # Requires
     ///
@@ -81,8 +82,8 @@ impl ScoreboardHead {
             self.acknowledge(runs, end);
             return Ok(());
         }
-        // Only a processor of 32 bits has such offsets.
-        if end - self.base > usize::MAX as u64 {
+        // Each offset is a `usize`. TCP has no such block, since its numbers have 32 bits.
+        if end - self.base > u32::MAX as u64 {
             return Err(TooManyHolesError);
         }
         let offset = (start - self.base) as usize;
@@ -99,8 +100,8 @@ impl ScoreboardHead {
         if next <= self.base {
             return;
         }
-        // All offsets are below `usize::MAX`, on a processor of 32 bits too.
-        let count = (next - self.base).min(usize::MAX as u64) as usize;
+        // All offsets are below the greatest `usize`.
+        let count = (next - self.base).min(most() as u64) as usize;
         self.reported.shift(runs, count);
         let front = self.reported.remove_front(runs);
         self.base = next + front as u64;
@@ -125,7 +126,7 @@ impl ScoreboardHead {
             return true;
         }
         let offset = pos - self.base;
-        if offset > usize::MAX as u64 {
+        if offset > most() as u64 {
             return false;
         }
         self.reported.contains(runs, offset as usize)
@@ -188,9 +189,9 @@ impl ScoreboardHead {
     ///
     /// The scoreboard is sound with the runs.
     pub fn lost_below(&self, runs: &[Run], duplicates: usize, segment_size: usize) -> u64 {
-        let most = duplicates.saturating_sub(1).saturating_mul(segment_size);
+        let most = (duplicates.saturating_sub(1) as u64).saturating_mul(segment_size as u64);
         let mut count = self.reported.used;
-        let mut bytes = self.count_beyond(runs);
+        let mut bytes = self.count_beyond(runs) as u64;
         let mut limit = 0;
         for (start, end) in self.reported(runs) {
             if count < duplicates.max(1) && bytes <= most {
@@ -198,7 +199,7 @@ impl ScoreboardHead {
             }
             limit = start;
             count = count.saturating_sub(1);
-            bytes = bytes.saturating_sub((end - start) as usize);
+            bytes = bytes.saturating_sub(end - start);
         }
         limit
     }

@@ -91,7 +91,7 @@ impl SenderHead {
                 contiguous: 0,
             };
         }
-        let offset = (pos - self.first_unacknowledged).min(usize::MAX as u64) as usize;
+        let offset = (pos - self.first_unacknowledged).min(self.place.length as u64) as usize;
         self.place.allocated(capacity, offset, max)
     }
 

@@ -113,6 +113,7 @@ impl FragmentsHead {
         if offset > limit || data.len() > limit - offset {
             return Err(FragmentError::TooLong);
         }
+        net_assembler::laws::is_usize(limit);
         let Ok(()) = self.present.add(runs, offset, data.len()) else {
             return Err(FragmentError::TooManyHoles);
         };

@@ -3,7 +3,13 @@ use Rattle.std.proofs.lemmas.List.{length-set, take_more_set}
 use Rattle.net_assembler.specs.RunLists.{runs_wrapped, wrapped_run}
 use Rattle.net_assembler.proofs.Moves.{rest_more}
 use Rattle.net_assembler.proofs.Moves.{insert_changed}
+use Rattle.net_assembler.proofs.WrappedRuns.{moved_usize}
 use Rattle.net_assembler.proofs.assembler.head.insert_run.Goals as goal
+
+pub wrapped-next-requires-clause-fits : goal.wrapped-next-requires-clause-fits
+wrapped-next-requires-clause-fits c =
+    moved_usize c.args.by c.args.at c.args.used c.loop-k.k c.loop-k.runs c.args.runs.now (omega arith) (omega arith) (omega arith)
+    c.requires.fits c.loop-k.invariant.rest
 
 pub loop-k-preserved : goal.loop-k-preserved
 loop-k-preserved c =

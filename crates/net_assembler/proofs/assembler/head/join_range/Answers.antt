@@ -1,17 +1,18 @@
-use Rattle.std.proofs.Common.{◌≡◌, ◌∙◌, ◌+◌, ◌-◌, ℕ, ap, max, min, take, length, refl, sym, arith}
+use Rattle.std.proofs.Common.{◌≡◌, ◌∙◌, ◌+◌, ◌-◌, ℕ, ap, max, min, take, drop, length, refl, sym, subst, arith}
 use Rattle.std.proofs.lemmas.Bool.{cases_lt}
-use Rattle.std.proofs.lemmas.List.{length-take-le, get_or-take}
-use Rattle.net_assembler.specs.RunLists.{end_at, runs_with_range, start_at}
+use Rattle.std.proofs.lemmas.List.{length-take-le, get_or-take, drop-set-lt}
+use Rattle.std.proofs.Math.Seq.{take-set-lt}
+use Rattle.net_assembler.specs.RunLists.{AreUsize, end_at, runs_with_range, runs_wrapped, start_at}
 use Rattle.net_assembler.specs.Turns.{binary_digits}
 use Rattle.net_assembler.proofs.AssemblerLaws.{below_binary_digits}
 use Rattle.net_assembler.proofs.Positions.{either}
-use Rattle.net_assembler.proofs.RunLists.{grown_run, starts_rise}
+use Rattle.net_assembler.proofs.RunLists.{at_run, grown_run, starts_rise}
 use Rattle.net_assembler.proofs.ShiftedRuns.{fits-at, up-none}
-use Rattle.net_assembler.proofs.WrappedRuns.{inserted_run, joined_run, refused_run}
+use Rattle.net_assembler.proofs.WrappedRuns.{inserted_run, joined_run, refused_run, tail_usize}
 use Rattle.net_assembler.proofs.assembler.head.join_range.Goals as goal
 
-pub overflow_add-by-3 : goal.overflow_add-by-3
-overflow_add-by-3 c =
+pub overflow_add-high : goal.overflow_add-high
+overflow_add-high c =
     let xs = c.args.runs.now in
     let cs = take c.args.used xs in
     let len = length-take-le c.args.used xs c.requires.used in
@@ -20,6 +21,53 @@ overflow_add-by-3 c =
     let same = ap (λ (r : ℕ × ℕ). r.1) (get_or-take c.args.used xs at (0, 0) (omega (arith, search.within, search.from))) in
     let p = fits-at c.args.by cs at c.requires.fits (omega (arith, search.within, search.from)) in
     omega arith
+
+pub prove-unreachable-requires : goal.prove-unreachable-requires
+prove-unreachable-requires c =
+    let xs = c.args.runs.now in
+    let cs = take c.args.used xs in
+    let first = c.runs_ending_before-first.result in
+    let within = c.runs_ending_before-first.ensures.within in
+    let len = length-take-le c.args.used xs c.requires.used in
+    let read = ap (λ (r : ℕ × ℕ). r.0) (get_or-take c.args.used xs first (0, 0) (omega (arith, within, len))) in
+    omega (arith, c.start_of.ensures, read, fits-at c.args.by cs first c.requires.fits within, (at_run 0 cs first c.requires.runs within).1)
+
+pub prove-unreachable-requires-3 : goal.prove-unreachable-requires-3
+prove-unreachable-requires-3 c =
+    let xs = c.args.runs.now in
+    let cs = take c.args.used xs in
+    let first = c.runs_ending_before-first.result in
+    let within = c.runs_ending_before-first.ensures.within in
+    let len = length-take-le c.args.used xs c.requires.used in
+    let read = ap (λ (r : ℕ × ℕ). r.0) (get_or-take c.args.used xs first (0, 0) (omega (arith, within, len))) in
+    omega (arith, c.start_of-2.ensures, read, fits-at c.args.by cs first c.requires.fits within, (at_run 0 cs first c.requires.runs within).1)
+
+pub prove-unreachable-requires-4 : goal.prove-unreachable-requires-4
+prove-unreachable-requires-4 c =
+    let xs = c.args.runs.now in
+    let cs = take c.args.used xs in
+    let len = length-take-le c.args.used xs c.requires.used in
+    let at = c.runs_starting_by-next.result - 1 in
+    let search = c.runs_starting_by-next.ensures in
+    let same = ap (λ (r : ℕ × ℕ). r.1) (get_or-take c.args.used xs at (0, 0) (omega (arith, search.within, search.from))) in
+    let p = fits-at c.args.by cs at c.requires.fits (omega (arith, search.within, search.from)) in
+    omega arith
+
+pub insert_run-requires-clause-fits : goal.insert_run-requires-clause-fits
+insert_run-requires-clause-fits c =
+    tail_usize c.args.by c.runs_ending_before-first.result (take c.args.used c.args.runs.now) c.requires.runs c.requires.fits
+
+pub remove_runs-requires-clause-fits : goal.remove_runs-requires-clause-fits
+remove_runs-requires-clause-fits c =
+    let xs = c.args.runs.now in
+    let cs = take c.args.used xs in
+    let first = c.runs_ending_before-first.result in
+    let next = c.runs_starting_by-next.result in
+    let run : ℕ × ℕ = (c.min-low.result, c.max-high.result) in
+    let len = length-take-le c.args.used xs c.requires.used in
+    let same = ap (drop next) (take-set-lt c.args.used xs first run (omega (arith, c.runs_ending_before-first.ensures.within, len)))
+    ∙ drop-set-lt next cs first run (omega arith) in
+    subst (λ rs. AreUsize (runs_wrapped c.args.by rs)) (sym same) (tail_usize c.args.by next cs c.requires.runs c.requires.fits)
 
 pub returns-then-used-runs-clause-joined : goal.returns-then-used-runs-clause-joined
 returns-then-used-runs-clause-joined c =
@@ -33,8 +81,8 @@ returns-then-used-runs-clause-joined c =
     (λ k a b. omega (arith, starts_rise 0 cs first k c.requires.runs a b, c.start_of.ensures, read)) refl in
     (refl, omega arith)
 
-pub returns-then-end-by-clause-joined : goal.returns-then-end-by-clause-joined
-returns-then-end-by-clause-joined c =
+pub returns-then-end-first_start-clause-joined : goal.returns-then-end-first_start-clause-joined
+returns-then-end-first_start-clause-joined c =
     let xs = c.args.runs.now in
     let cs = take c.args.used xs in
     let len = length-take-le c.args.used xs c.requires.used in
@@ -105,8 +153,8 @@ returns-then-used-runs-clause-turns c =
       no_move_lost = omega (arith, first.moves);
     }
 
-pub returns-then-end-by-clause-turns : goal.returns-then-end-by-clause-turns
-returns-then-end-by-clause-turns c =
+pub returns-then-end-first_start-clause-turns : goal.returns-then-end-first_start-clause-turns
+returns-then-end-first_start-clause-turns c =
     let n = length c.args.runs.now in
     let len = length-take-le c.args.used c.args.runs.now c.requires.used in
     let d = below_binary_digits n in

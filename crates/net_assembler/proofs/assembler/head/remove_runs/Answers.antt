@@ -2,7 +2,13 @@ use Rattle.std.proofs.Common.{◌≡◌, ◌∙◌, ◌+◌, ◌-◌, ap, take, 
 use Rattle.std.proofs.lemmas.List.{length-set}
 use Rattle.net_assembler.specs.RunLists.{wrapped_run}
 use Rattle.net_assembler.proofs.Moves.{change_more, rest_more}
+use Rattle.net_assembler.proofs.WrappedRuns.{moved_usize}
 use Rattle.net_assembler.proofs.assembler.head.remove_runs.Goals as goal
+
+pub wrapped-requires-clause-fits : goal.wrapped-requires-clause-fits
+wrapped-requires-clause-fits c =
+    moved_usize c.args.by c.args.from c.args.used c.loop-k.k c.loop-k.runs c.args.runs.now (omega arith) (omega arith) (omega arith)
+    c.requires.fits c.loop-k.invariant.rest
 
 pub loop-k-preserved : goal.loop-k-preserved
 loop-k-preserved c =

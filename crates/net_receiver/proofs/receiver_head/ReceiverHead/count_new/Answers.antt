@@ -13,8 +13,15 @@ overflow_add-count c =
     let here = ap (missing_in c.min-end.result c.loop-start.at) c.in-Some.ensures.steps in
     omega (arith, few, here, c.loop-start.invariant.2, c.saturating_sub-count.ensures, c.min.ensures, c.min-end.type_inv)
 
-pub overflow_add-result : goal.overflow_add-result
-overflow_add-result c =
+pub overflow_add-all : goal.overflow_add-all
+overflow_add-all c =
+    let s = domain (receiver_of c.args.self.now c.args.storage.now c.args.runs.now).held in
+    let few = missing_few s c.min-end.result (max c.next-next.result c.args.position) (maximal_runs s) (left_of s _ (c.maximal_runs.ensures s)) in
+    let here = ap (missing_in c.min-end.result c.loop-start.at) c.in-None.ensures.steps.0 in
+    omega (arith, few, here, c.loop-start.invariant.2, c.saturating_sub.ensures, c.min-end.type_inv)
+
+pub prove-unreachable-requires : goal.prove-unreachable-requires
+prove-unreachable-requires c =
     let s = domain (receiver_of c.args.self.now c.args.storage.now c.args.runs.now).held in
     let few = missing_few s c.min-end.result (max c.next-next.result c.args.position) (maximal_runs s) (left_of s _ (c.maximal_runs.ensures s)) in
     let here = ap (missing_in c.min-end.result c.loop-start.at) c.in-None.ensures.steps.0 in

@@ -2,7 +2,8 @@ use Rattle.std.proofs.Common.{◌≡◌, ◌∙◌, ap, arith}
 use Rattle.net_assembler.specs.Positions.{maximal_runs}
 use Rattle.net_assembler.specs.RunLists.{set_of}
 use Rattle.net_receiver.specs.Scoreboards.{sizes}
-use Rattle.net_receiver.proofs.Scoreboards.{sizes_fit, number_beyond}
+use Rattle.net_assembler.proofs.Heads.{position_fits}
+use Rattle.net_receiver.proofs.Scoreboards.{sizes_few, sizes_fit, number_beyond}
 use Rattle.net_receiver.proofs.scoreboard_head.ScoreboardHead.count_beyond.Goals as goal
 
 pub overflow_add-count : goal.overflow_add-count
@@ -11,6 +12,16 @@ overflow_add-count c =
     let all = c.loop-start.invariant in
     let next = ap sizes c.in-Some.ensures.steps in
     let few = sizes_fit c.args.self.now.base s c.requires.fits in
+    let one = c.saturating_sub-count.ensures in
+    omega (arith, all, next, few, one)
+
+pub prove-unreachable-requires : goal.prove-unreachable-requires
+prove-unreachable-requires c =
+    let h = c.args.self.now.reported in
+    let all = c.loop-start.invariant in
+    let next = ap sizes c.in-Some.ensures.steps in
+    let few = sizes_few c.most.result (set_of h c.args.runs.now)
+    (λ p has. let l = position_fits h c.args.runs.now c.requires.runs p has in omega (arith, l, c.most.ensures.greatest)) in
     let one = c.saturating_sub-count.ensures in
     omega (arith, all, next, few, one)
 

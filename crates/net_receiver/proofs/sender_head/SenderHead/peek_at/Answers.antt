@@ -1,6 +1,6 @@
-use Rattle.std.proofs.Common.{◌≡◌, ◌∙◌, ◌-◌, ap, sym, subst, take, drop, length, length-take, length-drop, arith}
+use Rattle.std.proofs.Common.{◌≡◌, ◌∙◌, ◌-◌, min, ap, sym, subst, take, drop, length, length-take, length-drop, arith}
 use Rattle.net_ring.specs.RingHead.{IsSound, ring_at, queued_index}
-use Rattle.net_ring.specs.Ring.{queue, queue_index, contiguous_allocated}
+use Rattle.net_ring.specs.Ring.{index_after, queue, queue_index, contiguous_allocated}
 use Rattle.net_ring.proofs.RingFacts.{queue_part_value}
 use Rattle.net_receiver.specs.SenderHeads.{sender_of}
 use Rattle.net_receiver.proofs.Senders.{lent_says}
@@ -11,9 +11,9 @@ returns-clause-bytes c = λ xs size.
     let p = c.args.self.now.place in
     let g = ring_at xs p in
     let i = c.args.pos - c.args.self.now.first_unacknowledged in
-    let same : c.min-offset.result ≡ i = omega (arith, c.min-offset.ensures, c.well_formed) in
-    let at : c.allocated.result.from ≡ queue_index g i = c.allocated.ensures.from ∙ ap (λ o. queued_index c.args.capacity p o) same ∙ ap (λ n. queued_index n p i) (sym size) in
-    let count : c.allocated.result.contiguous ≡ contiguous_allocated g i c.args.max = omega (arith, at, same, c.allocated.ensures.count, c.allocated.ensures.contiguous) in
+    let same : min c.min-offset.result p.length ≡ min i p.length = omega (arith, c.min-offset.ensures) in
+    let at : c.allocated.result.from ≡ queue_index g i = c.allocated.ensures.from ∙ ap (index_after c.args.capacity p.read_at) same ∙ ap (λ n. queued_index n p i) (sym size) in
+    let count : c.allocated.result.contiguous ≡ contiguous_allocated g i c.args.max = omega (arith, at, same, c.min-offset.ensures, c.allocated.ensures.count, c.allocated.ensures.contiguous) in
     (λ j. take (count j) (drop (at j) xs))
     ∙ queue_part_value g (subst (λ n. IsSound n p) (sym size) c.requires.place) i c.args.max
     ∙ sym (λ j. take (count j) (drop i (queue g)))

@@ -71,11 +71,11 @@ returns g c =
       call = (after, met, (refl, long, omega (arith, le, long), same ∙ left.0));
     }
 
-pub prove-unreachable-requires : goal.prove-unreachable-requires
-prove-unreachable-requires g c =
+pub prove-unreachable-requires-2 : goal.prove-unreachable-requires-2
+prove-unreachable-requires-2 g c =
     let is = c.self.view_is in
     let lent = lent_head _ _ is c.self.invariant _ _ _ c.capacity-capacity.ensures.capacity c.contiguous_queue.ensures.count (omega arith) _
     c.part_mut.ensures.value in
     let le = c.requires.count c.f-answer.result c.f-answer.new.arg2
     (record { shown = c.part_mut.result; shows = lent.0; left = at_last c.part_mut.result c.f-answer.new.arg2; leaves = refl; met = c.f-answer.ensures }) in
-    omega (arith, le, found_head _ _ is c.self.invariant _ _ c.capacity-capacity.ensures.capacity c.contiguous_queue.ensures.count, c.if-prove.true)
+    omega (arith, le, found_head _ _ is c.self.invariant _ _ c.capacity-capacity.ensures.capacity c.contiguous_queue.ensures.count, c.if-prove-2.true)

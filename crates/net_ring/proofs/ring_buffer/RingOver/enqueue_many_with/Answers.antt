@@ -64,8 +64,8 @@ returns g c =
       call = (after, met, (long, omega (arith, le, long), same ∙ left.0));
     }
 
-pub prove-unreachable-requires : goal.prove-unreachable-requires
-prove-unreachable-requires g c =
+pub prove-unreachable-requires-2 : goal.prove-unreachable-requires-2
+prove-unreachable-requires-2 g c =
     let old = rewind_if_empty c.args.self.now in
     let is = c.self.view_is ∙ c.rewind_if_empty.ensures.ring in
     let size = c.capacity-capacity.ensures.capacity ∙ ap capacity c.rewind_if_empty.ensures.ring in
@@ -73,4 +73,4 @@ prove-unreachable-requires g c =
     c.part_mut.ensures.value in
     let le = c.requires.count c.f-answer.result c.f-answer.new.arg2
     (record { shown = c.part_mut.result; shows = lent.0; left = at_last c.part_mut.result c.f-answer.new.arg2; leaves = refl; met = c.f-answer.ensures }) in
-    omega (arith, le, found_window _ _ is c.self.invariant _ _ size c.contiguous_window.ensures.count, c.if-prove.true)
+    omega (arith, le, found_window _ _ is c.self.invariant _ _ size c.contiguous_window.ensures.count, c.if-prove-2.true)

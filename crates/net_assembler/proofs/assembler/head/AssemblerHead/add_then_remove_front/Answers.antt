@@ -7,7 +7,7 @@ use Rattle.net_assembler.proofs.Positions.{either, too_many}
 use Rattle.net_assembler.proofs.ShiftedRuns.{down-less}
 use Rattle.net_assembler.proofs.RunLists.{runs-nothing}
 use Rattle.net_assembler.proofs.assembler.head.AssemblerHead.add_then_remove_front.Goals as goal
-use Rattle.net_assembler.proofs.assembler.head.AssemblerHead.add_then_remove_front.Goals.{then-self-eq1, else-self-eq1, then-offset-eq0+else-size-self+else-self-le1, else-offset-eq0}
+use Rattle.net_assembler.proofs.assembler.head.AssemblerHead.add_then_remove_front.Goals.{then-self-eq1+else-prove, else-self-eq1, then-offset-eq0+else-size-self+else-self-le1, else-offset-eq0}
 
 pub returns-then-size-self-clause-sound : goal.returns-then-size-self-clause-sound
 returns-then-size-self-clause-sound c = lowered c.args.self.now c.args.runs.now c.requires.sound c.args.size
@@ -44,9 +44,9 @@ returns-then-self-le1-clause-both c =
     let zeroth : 0 ≡ c.args.offset = omega arith in
     let gone = c.new.ensures.empty xs in
     let all = all_front h xs c.requires.sound n end (omega arith) (omega arith)
-    (λ z. elim c.if-self-eq1.branch [ then-self-eq1 w ↦ absurd (omega (arith, w.if-self-eq1.true)) | else-self-eq1 w ↦ w.end-is ])
+    (λ z. elim c.if-self-eq1.branch [ then-self-eq1+else-prove w ↦ absurd (omega (arith, w.if-self-eq1.true)) | else-self-eq1 w ↦ w.end-is ])
     (λ some. elim c.if-self-eq1.branch [
-      | then-self-eq1 w ↦ w.end-is ∙ w.max-end.ensures ∙ ap (λ e. max n (h.first_start + e)) w.end_of.ensures
+      | then-self-eq1+else-prove w ↦ w.end-is ∙ w.max-end.ensures ∙ ap (λ e. max n (h.first_start + e)) w.end_of.ensures
       | else-self-eq1 w ↦ absurd (omega (arith, w.if-self-eq1.false))
     ]) in
     record {

@@ -5,8 +5,24 @@ use Rattle.net_assembler.specs.RunLists.{AreRuns, FitsFrom, StartsAtZero, used_r
 use Rattle.net_assembler.proofs.Runs.{rising-runs_shifted_down}
 use Rattle.net_assembler.proofs.RunLists.{rising_after}
 use Rattle.net_assembler.proofs.ShiftedRuns.{first-down, fits-down, fits-drop, fits-less, start-drop, up-down}
-use Rattle.net_assembler.proofs.WrappedRuns.{negated, wrapped-down}
+use Rattle.net_assembler.proofs.WrappedRuns.{negated, usize-down, wrapped-down}
 use Rattle.net_assembler.proofs.assembler.head.AssemblerHead.drop_front.Goals as goal
+
+pub remove_runs-requires-clause-fits : goal.remove_runs-requires-clause-fits
+remove_runs-requires-clause-fits c =
+    let h = c.args.self.now in
+    let xs = c.args.runs.now in
+    let s = c.requires in
+    let m = c.args.count in
+    let f = start_at xs m in
+    let after = drop m (used_runs h xs) in
+    let rises = rising_after xs h.used s.runs s.room m (omega arith) in
+    let above = s.after (omega arith) in
+    let turn : c.wrapping_neg.result + f ≡ 2 ^ 64 =
+    subst (λ (n : ℕ). c.wrapping_neg.result + n ≡ 2 ^ 64) c.start_of-start.ensures
+    (negated c.wrapping_neg.result c.start_of-start.result (omega arith) (omega arith) (omega arith) c.wrapping_neg.ensures) in
+    usize-down c.wrapping_neg.result f after turn rises
+    (fits-less 0 h.first_start after (omega arith) (fits-drop h.first_start m (used_runs h xs) s.fits))
 
 pub returns-clause-sound : goal.returns-clause-sound
 returns-clause-sound c =

@@ -23,6 +23,19 @@ overflow_add-end c =
     let l : c.args.k + 1 < h.used = omega (arith, c.saturating_sub.ensures) in
     omega (arith, c.start_of.ensures, pair_fits h xs c.requires (c.args.k + 1) l, pair_rises h xs c.requires (c.args.k + 1) l)
 
+pub prove-unreachable-requires-2 : goal.prove-unreachable-requires-2
+prove-unreachable-requires-2 c =
+    let h = c.args.self.now in
+    let xs = c.args.runs.now in
+    omega (arith, c.end_of.ensures, pair_fits h xs c.requires c.args.k (omega (arith, c.saturating_sub.ensures)))
+
+pub prove-unreachable-requires-3 : goal.prove-unreachable-requires-3
+prove-unreachable-requires-3 c =
+    let h = c.args.self.now in
+    let xs = c.args.runs.now in
+    let l : c.args.k + 1 < h.used = omega (arith, c.saturating_sub.ensures) in
+    omega (arith, c.start_of.ensures, pair_fits h xs c.requires (c.args.k + 1) l, pair_rises h xs c.requires (c.args.k + 1) l)
+
 pub returns-clause-hole : goal.returns-clause-hole
 returns-clause-hole c =
     let h = c.args.self.now in

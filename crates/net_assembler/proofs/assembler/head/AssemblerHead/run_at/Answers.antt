@@ -15,6 +15,15 @@ overflow_add-start c =
 pub overflow_add-end : goal.overflow_add-end
 overflow_add-end c = omega (arith, pair_fits c.args.self.now c.args.runs.now c.requires c.args.k (omega arith))
 
+pub prove-unreachable-requires : goal.prove-unreachable-requires
+prove-unreachable-requires c =
+    let h = c.args.self.now in
+    let xs = c.args.runs.now in
+    omega (arith, pair_fits h xs c.requires c.args.k (omega arith), pair_rises h xs c.requires c.args.k (omega arith))
+
+pub prove-unreachable-requires-then-k-self : goal.prove-unreachable-requires-then-k-self
+prove-unreachable-requires-then-k-self c = omega (arith, pair_fits c.args.self.now c.args.runs.now c.requires c.args.k (omega arith))
+
 pub returns-then-k-self-clause-run : goal.returns-then-k-self-clause-run
 returns-then-k-self-clause-run c =
     let h = c.args.self.now in

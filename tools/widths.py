@@ -1,0 +1,483 @@
+#!/usr/bin/env python3
+"""Finds the operations of the erased text that are right where a `usize` has 64 bits, and for which nothing proves that
+they are so where it has 32:
+
+    python3 tools/widths.py [--all] [FOLDER]
+
+The text is erased with its bounds, `prove!(sum <= bound, "in any `usize`")`, and rustc says what each operation is, by its
+types. A difference, a quotient, a rest, `min`, `max` or `saturating_sub` of numbers of a `usize` is one. Any other
+operation has a cover:
+
+    bound     on each way that runs it, a bound of its value is tested before the value is changed, and no way leaves before;
+              or such a bound of the same expression was tested, and none of its variables is assigned in between.
+              The right side is `most()`, a length, a variable or a field that was there before, and no expression
+    end       it is the end of the range of a slice, or of `part`: the index is proved to be at most a length
+    cut       a cast of the lesser of two numbers, one of which was a `usize`
+    wrapped   the negative of a number: only `wrapping_add` is given it, whose value has a bound
+    greatest  the body of `most`
+    constant  a literal that has 32 bits
+    counted   how many elements an iterator has left, as tools/parts/erase_list.py adds it: they are parts of one storage
+
+The exports for C are left out: their contracts are about a `usize` of 64 bits.
+
+The law `is_usize` is given a parameter, a field, a length, what a call returned, or a literal: of a sum it would state
+what is to be proved. No proof but those of `most` and of this law unfolds `shortfall`. With --all the operations that
+have a cover are shown too. The compiler is that of rust/kit.sh, unpacked in FOLDER, or in a temporary one. The status is
+1 if an operation is open, and 2 if there is no compiler.
+"""
+import os
+import re
+import shutil
+import subprocess
+import sys
+import tempfile
+from pathlib import Path
+
+sys.dont_write_bytecode = True
+import erase
+
+REPOSITORY = Path(__file__).resolve().parent.parent
+MARK = '"in any `usize`"'
+MOST = 2 ** 32 - 1                                # the greatest `usize` of 32 bits
+NUMBER = r'\d[\d_]*(?:usize)?'
+PATH = r'(?:[a-z_]\w*|[A-Z][A-Z_]*)(?:\.\w+)*'
+# Of numbers that a narrow `usize` has too these give such a number, and the same.
+SAFE = {'Sub', 'Div', 'Rem', 'Shr', 'BitAnd', 'BitOr', 'BitXor', 'call saturating_sub', 'call abs_diff'}
+OPERATORS = {'Add', 'Sub', 'Mul', 'Div', 'Rem', 'Shl', 'Shr', 'BitAnd', 'BitOr', 'BitXor', 'Not', 'Neg'}
+NARROW = {'u8', 'u16', 'u32', 'bool', 'char'}
+FLAGS = ['--emit=mir', '-Coverflow-checks=on', '-Zmir-opt-level=0', '-Zmir-include-spans=on', '-Awarnings']
+
+
+class File:
+    """A file's text, with spaces for comments and texts, its brackets, and where its lines begin."""
+
+    def __init__(self, text):
+        self.text = text
+        blank = lambda m: m.group() if m.group() == MARK else re.sub(r'[^\n]', ' ', m.group())
+        self.code = re.sub(r'//[^\n]*|b?"(?:\\.|[^"\\])*"|b?\'(?:\\.[^\']*|[^\\\'])\'', blank, text)
+        self.lines = [0]
+        for line in text.split('\n'):
+            self.lines.append(self.lines[-1] + len(line) + 1)
+        self.close, opened = {}, []
+        for at, sign in enumerate(self.code):
+            if sign in '([{':
+                opened.append(at)
+            elif sign in ')]}':
+                self.close[opened.pop()] = at
+
+    def place(self, line, column):
+        return self.lines[line - 1] + column - 1
+
+    def blocks(self, at):
+        """The braces around a place, the innermost first, up to the body of its function."""
+        around = sorted((o for o, c in self.close.items() if self.code[o] == '{' and o < at <= c), reverse=True)
+        for k, brace in enumerate(around):
+            if re.search(r'\bfn\s+\w+[^{};]*$', self.code[:brace]):
+                return around[:k + 1]
+        return around
+
+    def statements(self, brace):
+        """Where the statements of a block begin and end."""
+        start = k = brace + 1
+        while k < self.close[brace]:
+            sign = self.code[k]
+            if sign in '([{':
+                k = self.close[k]
+                after = self.code[k + 1:].lstrip()
+                if sign == '{' and not re.match(r'else\b|[.?;,)\]]|as\b|[-+*/<>=&|]', after) and self.begins(start):
+                    yield start, k + 1
+                    start = k + 1
+            elif sign == ';':
+                yield start, k + 1
+                start = k + 1
+            k += 1
+        if self.code[start:k].strip():
+            yield start, k
+
+    def begins(self, start):
+        """Whether a statement is a block, a branch or a loop, which ends with its brace."""
+        return re.match(r'\s*(?:if|while|for|loop|match|unsafe|\{|#\[)', self.code[start:])
+
+
+def plain(text):
+    return re.sub(r'\s+', '', text)
+
+
+class Reader:
+    """The operations of a crate's MIR, and what covers each."""
+
+    def __init__(self, root, mir, prefix='src/proved/'):
+        self.root, self.prefix, self.files = root, prefix, {}
+        self.operations, self.large = {}, {}
+        self.read(mir)
+        self.negatives = {}
+
+    def file(self, name):
+        if name not in self.files:
+            self.files[name] = File((self.root / name).read_text())
+        return self.files[name]
+
+    def read(self, mir):
+        types = {}
+        for line in mir.split('\n'):
+            if line and not line.startswith(' '):
+                types = {n: t.strip() for n, t in re.findall(r'(_\d+): ([^,()]+)', line)}
+                types['_0'] = (re.search(r'-> ([^{]*?) \{', line) or ['', ''])[1]
+                continue
+            local = re.match(r'\s+let (?:mut )?(_\d+): (.*);', line)
+            if local:
+                types[local[1]] = local[2]
+            step = re.match(r'\s+(.+?) = (.*?)(?:;| -> .*;)\s+// scope \d+ at ([^:]*):(\d+):(\d+): (\d+):(\d+)', line)
+            if not step or not step[3].startswith(self.prefix):
+                continue
+            to, value, name, *span = step.groups()
+            file = self.file(name)
+            at = name, file.place(int(span[0]), int(span[1])), file.place(int(span[2]), int(span[3]))
+            inner = re.match(r'\(?\(.*\.\d+: ([\w, ()]+)\)$', to)
+            kind = self.kind(inner[1] if inner else types.get(to, ''), value, types)
+            if kind:
+                self.operations[at, kind] = None
+            for number in re.findall(r'const (\d+)_usize', value):
+                if int(number) > MOST:
+                    self.large[at, int(number)] = None
+
+    @staticmethod
+    def kind(into, value, types):
+        """What is done to a `usize`; nothing if it is none."""
+        cast = re.match(r'(.*) as (\w+) \((?:IntToInt|FloatToInt|PointerExposeProvenance)\)', value)
+        if cast:
+            local = re.search(r'(_\d+)$', cast[1])
+            literal = re.search(r'_([iu]\w+)$', cast[1])
+            source = types.get(local[1], '?') if local else literal[1] if literal else '?'
+            if cast[2] == 'usize' and source != 'usize' and source not in NARROW:
+                return f'cast {source} to usize'
+            return f'cast usize to {cast[2]}' if source == 'usize' and cast[2] in ('isize', 'u64') else None
+        call = re.search(r'impl usize>::(\w+)|<usize as (?:std::|core::)?\w*(?:::\w+)*?(TryFrom|FromStr|Sum|Product)\b', value)
+        if call:
+            return f'call {call[1] or call[2]}'
+        if re.search(r'::(?:sum|product)::<usize>', value):
+            return 'call sum'
+        sign = re.match(r'(\w+?)(?:WithOverflow|Unchecked)?\(', value)
+        of_usize = into in ('usize', '(usize, bool)', 'isize', '(isize, bool)')
+        return sign[1] if sign and sign[1] in OPERATORS and of_usize else None
+
+    # ---- covers
+
+    def cover(self, at, kind):
+        name, start, end = at
+        file = self.file(name)
+        text = plain(file.code[start:end])
+        if kind in SAFE or kind == 'cast usize to u64':
+            return 'no growth'
+        if self.bound_at(file, start):
+            return 'in a bound'
+        if kind == 'call MAX' and name.endswith('net_assembler/width.rs') and re.search(
+                r'\bconst fn most\(\) -> usize \{\s*$', file.code[:start]):
+            return 'greatest'
+        shift = re.fullmatch(f'({NUMBER})<<({NUMBER})', text)
+        if kind == 'Shl' and shift and int(shift[1]) << int(shift[2]) <= MOST:
+            return 'constant'
+        if kind == 'call wrapping_neg':
+            return self.is_wrapped(file, start, end) and 'wrapped'
+        if kind not in ('Add', 'Mul', 'call wrapping_add') and not kind.startswith('cast u64'):
+            return None
+        if kind == 'Add' and file.code[start:end] in (count for _, _, count in erase.given.COUNTED):
+            return 'counted'
+        if kind == 'Add' and self.is_end(file, start, end):
+            return 'end'
+        if kind.startswith('cast') and self.is_cut(at, text):
+            return 'cut'
+        return self.is_bounded(file, start, end, text) and 'bound'
+
+    def bound_at(self, file, at):
+        return any(a <= at < b for a, b, _, _ in self.bounds(file))
+
+    def bounds(self, file):
+        """The bounds of a file: where, the left side, and the right one."""
+        if not hasattr(file, 'bounds'):
+            file.bounds = []
+            for m in re.finditer(r'assert!\(((?:(?!assert!)[^;])*?),\s*' + re.escape(MARK) + r',?\s*\);', file.code):
+                sides = re.fullmatch(r'(.*?[^<])<=?([^<=].*)', plain(m[1]))
+                if sides and '&&' not in m[1] and '||' not in m[1]:
+                    file.bounds.append((m.start(), m.end(), sides[1], sides[2]))
+        return file.bounds
+
+    @staticmethod
+    def is_end(file, start, end):
+        """Whether an expression is the end of the range of a slice, or of `part`."""
+        before, after = file.code[:start].rstrip(), file.code[end:].lstrip()
+        if before.endswith('..') and after.startswith(']'):
+            opened = max(o for o, c in file.close.items() if o < start <= c)
+            return file.code[opened] == '[' and bool(re.search(r'[\w)\]]$', file.code[:opened]))
+        return bool(re.search(r'\.part(?:_mut)?\(\s*[\w.]+,$', before) and re.match(r',?\s*\)', after))
+
+    def is_cut(self, at, text):
+        """Whether a cast is of the lesser of two numbers, one of which was a `usize`."""
+        name, start, end = at
+        file, lesser = self.file(name), re.fullmatch(r'\(?(.+?)\.min\((.*?)\)\)?asusize', text)
+        if not lesser:
+            return False
+        widened = [(a, b) for (there, a, b), kind in self.operations if there == name and kind == 'cast usize to u64']
+        sides = {side.strip('()') for side in lesser.groups()}
+        if any(start <= a and b <= end and plain(file.code[a:b]).strip('()') in sides for a, b in widened):
+            return True
+        for brace in file.blocks(start):
+            for a, b in file.statements(brace):
+                given = re.match(r'\s*let (\w+) = (.*) as u64;$', file.code[a:b], re.S)
+                if given and b <= start and lesser[1] == given[1] and any(a <= c and d == b - 1 for c, d in widened):
+                    return True
+        return False
+
+    def is_bounded(self, file, start, end, text):
+        blocks = file.blocks(start)
+        names = {text}
+        statement = next(((a, b) for a, b in file.statements(blocks[0]) if a <= start < b), None)
+        if statement:
+            names |= self.named(file, statement, start, end)
+        cast = re.fullmatch(r'\(?([\w.-]+)\)?asusize', text)
+        names |= {cast[1]} if cast else set()
+        place = start
+        for brace in blocks:
+            statements = list(file.statements(brace))
+            here = next(k for k, (a, b) in enumerate(statements) if a <= place < b or a <= start < b)
+            if self.bounded_after(file, statements, here, names, start, end):
+                return True
+            known = names - self.assigned(file, statement)
+            if self.bounded_before(file, statements, here, known, start, text.removesuffix('asusize')):
+                return True
+            # A way that leaves a block, or runs it again, passes no bound after it.
+            rest = file.code[max(end, statements[here][0]):file.close[brace]]
+            if self.leaves(rest) or re.search(r'\b(?:while|for|loop)\b[^{};]*$', file.code[:brace]):
+                names = {text} if not cast else {text, cast[1]}
+            if re.search(r'\|\s*$|=>\s*$', file.code[:brace]):
+                return False
+            place = brace
+        return False
+
+    @staticmethod
+    def named(file, statement, start, end):
+        """The names that have an expression's value after its statement, if it is all that is assigned."""
+        before, after = file.code[statement[0]:start], file.code[end:statement[1]]
+        if after.strip() not in (';', ''):
+            return set()
+        given = re.fullmatch(r'\s*(?:let (?:mut )?)?([\w.]+) = ', before)
+        if given:
+            return {given[1]}
+        added = re.match(r'([\w.]+)\s*\+=', file.code[start:end])
+        return {added[1]} if added and not before.strip() else set()
+
+    @staticmethod
+    def assigned(file, statement):
+        """What a statement assigns: after it a bound that was tested before says nothing of that."""
+        if not statement:
+            return set()
+        return set(re.findall(r'([\w.]+)\s*[-+*/]?=(?!=)', file.code[statement[0]:statement[1]]))
+
+    @staticmethod
+    def leaves(code):
+        return re.search(r'\b(?:return|break|continue)\b|\?', code)
+
+    def bounded_after(self, file, statements, here, names, start, end):
+        """Whether a bound of one of the names follows, with nothing that leaves or assigns it in between."""
+        between = file.code[end:statements[here][1]] if statements[here][0] <= start else ''
+        if self.leaves(between):
+            return False
+        for a, b in statements[here + 1:]:
+            bound = next((x for x in self.bounds(file) if a <= x[0] and x[1] <= b and not file.code[a:x[0]].strip()), None)
+            code = file.code[a:b]
+            if bound and bound[2] in names and self.is_there(file, bound[3], bound[2], start):
+                return True
+            if not bound and self.leaves(code):
+                return False
+            names = names if bound else {name for name in names if not self.changed(code, name)}
+        return False
+
+    def bounded_before(self, file, statements, here, names, start, text):
+        """Whether a bound of the expression precedes, with no variable of it assigned in between."""
+        a, b = statements[here]
+        if self.is_nested(file, a, start):
+            loop = re.search(r'\b(?:while|for|loop)\b', file.code[a:start])
+            if self.changed(file.code[a:b if loop else start], text):
+                return False
+        for a, b in reversed(statements[:here]):
+            bound = next((x for x in self.bounds(file) if a <= x[0] and x[1] <= b and not file.code[a:x[0]].strip()), None)
+            if bound and bound[2] in names and self.is_there(file, bound[3], bound[2], start):
+                return True
+            if not bound and self.changed(file.code[a:b], text):
+                return False
+        return False
+
+    @staticmethod
+    def is_nested(file, a, start):
+        return any(file.code[o] == '{' and a <= o < start <= c for o, c in file.close.items())
+
+    @classmethod
+    def changed(cls, code, text):
+        """Whether code changes what an expression is made of."""
+        paths = set(re.findall(PATH, text))
+        wholes = {path.split('.')[0] + '.' for path in paths if '.' in path or '(' in text}
+        return any(cls.changes(code, name) for name in paths | wholes)
+
+    @staticmethod
+    def changes(code, name):
+        """Whether code assigns a variable or a field, lends it to be changed, or hides it. Of a field, or of what a call
+        reads, that is also whether it calls a method of the whole, or passes it."""
+        whole, field, _ = name.partition('.')
+        name = re.escape(name)
+        assigned = rf'(?<![\w.]){name}(?:\.\w+)*\s*(?:[-+*/%&|^]|<<|>>)?=(?!=)'
+        if re.search(rf'{assigned}|&mut {whole}\b|\blet (?:mut )?\(?{whole}\b', code):
+            return True
+        return field and re.search(rf'(?<![\w.]){whole}(?:(?:\.\w+)*\.\w+\(|\s*[,)=]|\s*\[)', code)
+
+    def is_there(self, file, right, left, start):
+        """Whether the right side of a bound is a number that was there before the operation."""
+        if right == left:
+            return False
+        if right.removesuffix('asu64') == 'most()':
+            return True
+        right = right.removesuffix('asu64')
+        path = re.fullmatch(rf'({PATH})(?:\.len\(\))?', right)
+        if not path:
+            return False
+        # It isn't made of the value: it is no variable that a statement after the operation defines.
+        body = file.blocks(start)[-1]
+        variable = re.escape(path[1].split('.')[0])
+        made = [m.start() for m in re.finditer(rf'\blet (?:mut )?{variable}\b', file.code[body:file.close[body]])]
+        return all(body + m < start for m in made)
+
+    def is_wrapped(self, file, start, end):
+        """Whether a number that wraps is an argument whose parameter only `wrapping_add` is given."""
+        opened = max(o for o, c in file.close.items() if o < start <= c)
+        function = re.search(r'(?<![\w.:])(\w+)$', file.code[:opened])
+        arguments = self.parts(file, opened)
+        index = next((k for k, (a, b) in enumerate(arguments) if a <= start and end <= b and
+                      file.code[a:b].strip() == file.code[start:end]), None)
+        return bool(function and index is not None and self.only_adds(file, function[1], index, ()))
+
+    @staticmethod
+    def parts(file, opened):
+        """The arguments, or the parameters, in a bracket."""
+        found, start, k = [], opened + 1, opened + 1
+        while k < file.close[opened]:
+            if file.code[k] in '([{':
+                k = file.close[k]
+            elif file.code[k] == ',':
+                found.append((start, k))
+                start = k + 1
+            k += 1
+        return found + [(start, k)] * bool(file.code[start:k].strip())
+
+    def only_adds(self, file, function, index, seen):
+        """Whether a parameter of a function of the file goes to `wrapping_add` alone, or to such parameters."""
+        if (function, index) in seen:
+            return True
+        head = re.search(rf'(?m)^ *fn {function}\(', file.code)
+        if not head:
+            return False
+        opened = head.end() - 1
+        a, b = self.parts(file, opened)[index]
+        name = file.code[a:b].split(':')[0].strip()
+        body = file.code.index('{', file.close[opened])
+        for use in re.finditer(rf'(?<![\w.]){name}\b', file.code[body:file.close[body]]):
+            at = body + use.start()
+            if re.match(r'\.wrapping_add\(', file.code[at + len(name):]):
+                continue
+            around = max(o for o, c in file.close.items() if o < at <= c)
+            callee = re.search(r'(?<![\w.:])(\w+)$', file.code[:around])
+            place = next((k for k, (x, y) in enumerate(self.parts(file, around)) if file.code[x:y].strip() == name), None)
+            if file.code[around] != '(' or not callee or place is None:
+                return False
+            if not self.only_adds(file, callee[1], place, (*seen, (function, index))):
+                return False
+        return True
+
+
+def laws(paths):
+    """Where the law `is_usize` is given something else than a parameter, a field, a length, a result or a literal."""
+    for path in paths:
+        file = File(path.read_text())
+        for call in re.finditer(r'\bis_usize\(([^;]*)\);', file.code):
+            given = call[1].strip()
+            number = re.fullmatch(NUMBER, given)
+            if number and int(given.replace('_', '').removesuffix('usize')) <= MOST:
+                continue
+            body = file.blocks(call.start())[-1]
+            text, name = file.code[body:call.start()], re.escape(given.split('.')[0])
+            made = re.findall(rf'\blet (?:mut )?{name}\b(?:: \w+)? = ([^;]*);', text)
+            assigned = re.search(rf'(?<![\w.]){re.escape(given)}\s*(?:[-+*/]|<<)?=(?!=)', re.sub(r'\blet [^;]*;', '', text))
+            is_plain = re.fullmatch(rf'{PATH}(?:\.(?:len|count)\(\))?', given)
+            is_changed = assigned or re.search(rf'\blet mut {name}\b', text)
+            if not is_plain or is_changed or any(re.search(r'[-+*/]|<<|\bas\b|wrapping', value) for value in made):
+                yield f'{path}:{file.code.count(chr(10), 0, call.start()) + 1}: is_usize({given})'
+
+
+def unfolded(crates):
+    """The proofs that know how many bits a `usize` has: but for the two that say what it is, there is none."""
+    known = {'net_assembler/proofs/width/most/Answers.antt', 'net_assembler/proofs/laws/is_usize/Answers.antt'}
+    for path in sorted([*crates.glob('*/proofs/**/*.antt'), *crates.glob('*/src/**/*.rt')]):
+        if re.search(r'unfolding\b[^\n]*\bshortfall\b', path.read_text()) and str(path.relative_to(crates)) not in known:
+            yield f'{path}: a proof unfolds shortfall'
+
+
+def erased(folder):
+    """Writes the crate to a folder, its text erased with its bounds."""
+    for name in ('Cargo.toml', 'Cargo.lock'):
+        shutil.copy(REPOSITORY / 'rust' / name, folder)
+    shutil.copytree(REPOSITORY / 'rust/src', folder / 'src')
+    shutil.copy(REPOSITORY / 'rust/README.md', folder)
+    shutil.rmtree(folder / 'src/proved')
+    erase.Eraser.bounds, said = True, []
+    for path, text in erase.erased(said).items():
+        path = folder / path.relative_to(erase.OUT.parent.parent)
+        path.parent.mkdir(parents=True, exist_ok=True)
+        path.write_text(text)
+    if said:
+        raise SystemExit('\n'.join(said))
+
+
+def show(reader, everything=False):
+    """Prints what is open, and returns how many there are of each kind of cover."""
+    counts = {'open': 0}
+    for (at, kind) in sorted(reader.operations):
+        name, start, end = at
+        cover = reader.cover(at, kind) or 'open'
+        if cover == 'in a bound':
+            continue
+        counts[cover] = counts.get(cover, 0) + 1
+        if cover == 'open' or everything and cover != 'no growth':
+            file = reader.file(name)
+            line = file.code.count('\n', 0, start) + 1
+            print(f'{cover}: {name.removeprefix(reader.prefix)}:{line}: {kind}: {" ".join(file.text[start:end].split())}')
+    for (name, start, _), number in reader.large:
+        counts['open'] += 1
+        print(f'open: {name}: the constant {number}')
+    return counts
+
+
+def main(arguments):
+    everything = '--all' in arguments
+    folders = [a for a in arguments if a != '--all']
+    with tempfile.TemporaryDirectory() as temporary:
+        temporary = Path(temporary)
+        kit = Path(folders[0]).resolve() if folders else temporary / 'kit'
+        compiler = subprocess.run(['sh', REPOSITORY / 'rust/kit.sh', kit])
+        if compiler.returncode:
+            print('widths: not run: no compiler', file=sys.stderr)
+            return 2
+        crate = temporary / 'crate'
+        crate.mkdir()
+        erased(crate)
+        subprocess.run(['cargo', 'rustc', '--offline', '--quiet', '--lib', '--features', 'segmentation-offload', '--', *FLAGS],
+                       cwd=crate, check=True, env=dict(os.environ, RUSTC=str(kit / 'rustc'), RUSTC_BOOTSTRAP='1',
+                                                       CARGO_TARGET_DIR=str(temporary / 'target')))
+        mir, = (temporary / 'target/debug/deps').glob('*.mir')
+        counts = show(Reader(crate, mir.read_text()), everything)
+    for line in [*laws(sorted((REPOSITORY / 'crates').glob('*/src/**/*.rt'))), *unfolded(REPOSITORY / 'crates')]:
+        counts['open'] += 1
+        print(f'open: {line}')
+    print(', '.join(f'{count} {cover}' for cover, count in sorted(counts.items(), key=lambda pair: pair[0] != 'open')))
+    return int(counts['open'] > 0)
+
+
+if __name__ == '__main__':
+    sys.exit(main(sys.argv[1:]))

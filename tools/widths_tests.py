@@ -1,0 +1,220 @@
+#!/usr/bin/env python3
+"""What tools/widths.py says of small functions: python3 tools/widths_tests.py [FOLDER]
+
+Each text is the body of a function, or items; the status is 2 if there is no compiler, as that of tools/widths.py."""
+import os
+import subprocess
+import sys
+import tempfile
+from pathlib import Path
+
+sys.dont_write_bytecode = True
+import widths
+
+HEAD = """
+    #[inline(always)]
+    pub const fn most() -> usize {
+        usize::MAX
+    }
+    pub struct S {
+        pub n: usize,
+    }
+    impl S {
+        pub fn grow(&mut self) {}
+    }
+    pub fn take(_: usize) {}
+    pub fn grow(_: &mut S) {}
+    pub fn read(xs: &[u8]) -> usize {
+        xs[0].into()
+    }
+    pub fn change(xs: &mut [u8]) {
+        xs[0] = 0;
+    }
+"""
+BOUND = ', "in any `usize`");'
+
+# Bodies of `fn f(a: usize, b: usize, x: u64, xs: &mut [u8], s: &mut S) -> usize`, and what covers their operation.
+COVERED = [
+    (f'let c = a + b; assert!(c <= most(){BOUND} c', 'bound'),
+    (f'let c = a + b; assert!(c <= xs.len(){BOUND} c', 'bound'),
+    (f'let c = a + b; assert!(c < s.n{BOUND} c', 'bound'),
+    (f'assert!(a + b <= s.n{BOUND} a + b', 'bound'),
+    (f'assert!(a + b <= s.n{BOUND} if x > 3 {{ a + b }} else {{ 0 }}', 'bound'),
+    (f's.n += a; assert!(s.n <= b{BOUND} s.n', 'bound'),
+    (f's.n = a + b; assert!(s.n <= most(){BOUND} a', 'bound'),
+    (f'let c = a / 8 * 8; assert!(c <= a{BOUND} c', 'bound'),
+    (f'assert!(x <= a as u64{BOUND} x as usize', 'bound'),
+    (f'let c = x as usize; assert!(x <= a as u64{BOUND} c', 'bound'),
+    (f'assert!(b + read(xs) <= a{BOUND} b + read(xs)', 'bound'),
+    (f'assert!(a + b <= s.n{BOUND} while x > 3 {{ if x > 9 {{ take(a + b); }} }} 0', 'bound'),
+    (f'let mut c = a; if x > 3 {{ c = a + b; }} else {{ take(a); }} assert!(c <= most(){BOUND} c', 'bound'),
+    (f'let mut c = 0; while x > 3 {{ c = a + b; assert!(c <= most(){BOUND} }} c', 'bound'),
+    (f'let c = a.wrapping_add(b); assert!(c <= most(){BOUND} c', 'bound'),
+    ('take(xs[a..a + b].len()); 0', 'end'),
+    ('(x.min(a as u64)) as usize', 'cut'),
+    ('x.min(a as u64) as usize', 'cut'),
+    ('(a as u64).min(x) as usize', 'cut'),
+    ('let c = (a - b) as u64; c.min(x) as usize', 'cut'),
+    ('1 << 16', 'constant'),
+]
+
+# Bodies in which an operation has no cover.
+OPEN = [
+    # A sum, a product, a shift, a cast, a negation and the like without a bound.
+    'a + b',
+    'let c = a + b; c',
+    's.n += a; 0',
+    'a * b',
+    'a << 3',
+    '1 << 33',
+    '!a',
+    'x as usize',
+    'take(x as i64 as usize); 0',
+    'take(a as isize as usize); 0',
+    'a.saturating_mul(b)',
+    'a.saturating_add(b)',
+    'a.wrapping_mul(b)',
+    'a.wrapping_sub(b)',
+    'a.checked_add(b).unwrap_or(0)',
+    'a.overflowing_add(b).0',
+    'a.pow(2)',
+    'a.next_power_of_two()',
+    'a.leading_zeros() as usize',
+    'a.to_be_bytes()[0] as usize',
+    'usize::try_from(x).unwrap_or(0)',
+    '[a, b].iter().sum::<usize>()',
+    'usize::MAX',
+    'usize::BITS as usize',
+    'let c = usize::MAX - a; c',
+    # A bound on another branch, after a way that leaves, in a closure, or after the value was changed.
+    f'let c = a + b; if x > 3 {{ assert!(c <= most(){BOUND} }} c',
+    f'let mut c = a; if x > 3 {{ c = a + b; }} else {{ assert!(c <= most(){BOUND} }} c',
+    f'if x > 3 {{ assert!(a + b <= s.n{BOUND} }} a + b',
+    f'if x > 3 {{ take(a + b); }} else {{ assert!(a + b <= s.n{BOUND} }} 0',
+    f'let c = a + b; if x > 3 {{ return c; }} assert!(c <= most(){BOUND} c',
+    f'let mut c = 0; while x > 3 {{ c = a + b; if c > a {{ break; }} assert!(c <= most(){BOUND} }} c',
+    f'let mut c = 0; while c < b {{ c = a + b; }} assert!(c <= most(){BOUND} c',
+    f'let mut c = a + b; c = 3; assert!(c <= most(){BOUND} c',
+    f'let c = a + b; let c = c - b; assert!(c <= most(){BOUND} c',
+    f'assert!(s.n + b <= a{BOUND} s.n = 7; s.n + b',
+    f'let mut c = a; assert!(c + b <= s.n{BOUND} c = b; c + b',
+    f'assert!(s.n + b <= a{BOUND} grow(s); s.n + b',
+    f'assert!(s.n + b <= a{BOUND} s.grow(); s.n + b',
+    f's.n = a + b; s.grow(); assert!(s.n <= b{BOUND} 0',
+    f'assert!(b + read(xs) <= a{BOUND} change(xs); b + read(xs)',
+    f'let mut c = a; assert!(c + b <= s.n{BOUND} while x > 3 {{ take(c + b); c = b; }} 0',
+    f'let mut c = a; assert!(c + b <= s.n{BOUND} if x > 3 {{ c = b; take(c + b); }} 0',
+    f'let mut y = x; assert!(y <= a as u64{BOUND} y = x + 9; y as usize',
+    f'let f = |c: usize| a + c; assert!(a + b <= s.n{BOUND} f(b)',
+    f'match x {{ 0 => {{ assert!(a + b <= s.n{BOUND} 0 }} _ => a + b }}',
+    # A bound of the wrong variable, of a part, or by what isn't there before.
+    f'let c = a + b; assert!(a <= most(){BOUND} c',
+    f'let c = a + b; assert!(b <= c{BOUND} c',
+    f'let c = a + b; assert!(c <= c{BOUND} c',
+    f'let c = a + b; assert!(c <= a + b{BOUND} c',
+    f'let c = a + b; assert!(c >= a{BOUND} c',
+    f'let c = a + b; let d = c; assert!(c <= d{BOUND} c',
+    f'let c = (a + b) / 2; assert!(c <= a{BOUND} c',
+    f'let c = a + b; assert!(c <= most() || x > 3{BOUND} c',
+    'let c = a + b; assert!(c <= most(), "another text"); c',
+    f'let c = x as usize; assert!(x <= x{BOUND} c',
+    f'assert!(x <= a{BOUND} x as usize'.replace('x <= a', 'x <= (a as u64)'),
+    # An end of no slice, a cut of no `usize`, and a number that wraps and goes elsewhere.
+    'take((a..a + b).len()); 0',
+    'let c = [(a..a + b).len()]; c[0]',
+    'x.min(7) as usize',
+    '(x as u64).min(x) as usize',
+    'x.min(x as u64) as usize',
+    'let c = x as u64; c.min(x) as usize',
+    '(a as u64).max(x) as usize',
+    '((a as u64) + x).min(x) as usize',
+    'x.min(x + a as u64) as usize',
+    'let c = x; c.min(x) as usize',
+    'take(a.wrapping_neg()); 0',
+    'let c = a.wrapping_neg(); take(c); 0',
+    'let c = a.wrapping_add(b); c',
+]
+
+# Items, each with how many of their operations are open.
+ITEMS = [
+    ('const A: usize = 1 << 20; const B: usize = 65_536;', 0),
+    ('pub const A: usize = 4_294_967_296; pub fn g() -> usize { A }', 1),
+    (f'fn moved(by: usize, a: usize) -> usize {{ let c = by.wrapping_add(a); assert!(c <= most(){BOUND} c }}\n'
+     'pub fn g(a: usize, b: usize) { take(moved(a.wrapping_neg(), b)); }', 0),
+    (f'fn moved(by: usize, a: usize) -> usize {{ let c = by.wrapping_add(a); assert!(c <= most(){BOUND} c }}\n'
+     'fn all(by: usize, a: usize) { take(moved(by, a)); }\npub fn g(a: usize, b: usize) { all(a.wrapping_neg(), b); }', 0),
+    ('fn moved(by: usize) -> bool { by == 0 }\npub fn g(a: usize) -> bool { moved(a.wrapping_neg()) }', 1),
+]
+
+# Functions that state of a number that it is one, and whether they may.
+LAWS = [
+    ('fn f(a: usize) { is_usize(a); }', True),
+    ('fn f(a: &[u8]) { is_usize(a.len()); }', True),
+    ('fn f(&self) { is_usize(self.length); }', True),
+    ('fn f(a: &[u8]) { let n = a.len(); is_usize(n); }', True),
+    ('fn f() { is_usize(4_294_967_295); }', True),
+    ('fn f() { is_usize(4_294_967_296); }', False),
+    ('fn f(a: usize) { is_usize(a + 1); }', False),
+    ('fn f(a: usize) { let c = a + 1; is_usize(c); }', False),
+    ('fn f(a: u64) { is_usize(a as usize); }', False),
+    ('fn f(a: u64) { let c = a as usize; is_usize(c); }', False),
+    ('fn f(a: usize) { let mut c = a; c += 1; is_usize(c); }', False),
+    ('fn f(mut a: usize) { a += 1; is_usize(a); }', False),
+    ('fn f(&mut self) { self.n += 1; is_usize(self.n); }', False),
+    ('fn f(a: usize) { is_usize(a.wrapping_add(1)); }', False),
+]
+
+
+def read(folder, compiler, modules):
+    """The reader of a crate with these modules."""
+    (folder / 'src/proved').mkdir(parents=True)
+    (folder / 'src/lib.rs').write_text('#![allow(warnings)]\n' + ''.join(
+        f'#[path = "proved/{name}.rs"]\npub mod {name};\n' for name in modules))
+    for name, text in modules.items():
+        (folder / 'src/proved' / f'{name}.rs').write_text(f'//! A plant.\n{HEAD}\n{text}\n')
+    subprocess.run([compiler, '--edition', '2021', '--crate-type', 'lib', *widths.FLAGS, '-o', 'out.mir', 'src/lib.rs'],
+                   cwd=folder, check=True, env=dict(os.environ, RUSTC_BOOTSTRAP='1'))
+    return widths.Reader(folder, (folder / 'out.mir').read_text())
+
+
+def covers(reader, name):
+    """What covers the operations of a module, without those of its head."""
+    begin = len('//! A plant.\n' + HEAD)
+    found = [reader.cover(at, kind) for at, kind in reader.operations if at[0].endswith(f'/{name}.rs') and at[1] >= begin]
+    found += [None for at, _ in reader.large if at[0].endswith(f'/{name}.rs')]
+    return [cover for cover in found if cover not in ('no growth', 'in a bound')]
+
+
+def main(arguments):
+    with tempfile.TemporaryDirectory() as temporary:
+        temporary = Path(temporary)
+        kit = Path(arguments[0]).resolve() if arguments else temporary / 'kit'
+        if subprocess.run(['sh', widths.REPOSITORY / 'rust/kit.sh', kit]).returncode:
+            print('widths_tests: not run: no compiler', file=sys.stderr)
+            return 2
+        body = 'pub fn f(a: usize, b: usize, x: u64, xs: &mut [u8], s: &mut S) -> usize {{\n    {}\n}}'
+        modules = {f'covered{k}': body.format(text) for k, (text, _) in enumerate(COVERED)}
+        modules |= {f'open{k}': body.format(text) for k, text in enumerate(OPEN)}
+        modules |= {f'items{k}': text for k, (text, _) in enumerate(ITEMS)}
+        reader = read(temporary / 'plants', str(kit / 'rustc'), modules)
+        for k, (text, cover) in enumerate(COVERED):
+            assert covers(reader, f'covered{k}') == [cover], (text, covers(reader, f'covered{k}'))
+        for k, text in enumerate(OPEN):
+            assert None in covers(reader, f'open{k}') or False in covers(reader, f'open{k}'), text
+        for k, (text, count) in enumerate(ITEMS):
+            assert sum(not cover for cover in covers(reader, f'items{k}')) == count, (text, covers(reader, f'items{k}'))
+        for text, allowed in LAWS:
+            path = temporary / 'law.rt'
+            path.write_text(text)
+            assert bool(list(widths.laws([path]))) != allowed, text
+        path = temporary / 'crates/a/proofs/b/Answers.antt'
+        path.parent.mkdir(parents=True)
+        for text, count in (('returns c = omega arith', 0), ('unfolding shortfall', 1), ('unfolding front shortfall', 1)):
+            path.write_text(f'use a.{{shortfall}}\n{text}\n')
+            assert len(list(widths.unfolded(temporary / 'crates'))) == count, text
+    print(f'{len(COVERED)} covers, {len(OPEN)} plants, {len(ITEMS)} items, {len(LAWS)} calls of the law')
+    return 0
+
+
+if __name__ == '__main__':
+    sys.exit(main(sys.argv[1:]))
