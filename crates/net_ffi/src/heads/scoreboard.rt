@@ -10,9 +10,10 @@ ghost use Rattle.net_assembler.specs.Positions.{contains, nothing, positions, wi
 ghost use Rattle.net_assembler.specs.RunLists.{IsCanonical};
 ghost use Rattle.net_ffi.specs.Results.{done_or_many};
 ghost use Rattle.net_receiver.specs.Losses.{IsLossBound};
-ghost use Rattle.net_receiver.specs.Scoreboards.{HasNoRoom, IsEnd, IsNextHole, IsSoundBoard, beyond, reported_by};
+ghost use Rattle.net_receiver.specs.Scoreboards.{HasNoRoom, IsEnd, IsNextHole, IsSoundBoard, IsTooFar, beyond};
+ghost use Rattle.net_receiver.specs.Scoreboards.{reported_by};
 ghost use Rattle.std.specs.Prelude.{IsErr, IsFalse, IsTrue, List, OnErr, OnOk, if◌then◌else◌, length, ℕ, ◌-◌, ◌<◌};
-ghost use Rattle.std.specs.Prelude.{◌^◌, ◌↔◌, ◌≡◌, ◌≤◌};
+ghost use Rattle.std.specs.Prelude.{◌^◌, ◌↔◌, ◌≡◌, ◌≤◌, ◌⊎◌};
 
 use crate::refusals::{
     NET_BASE_DONE, NET_BASE_MISSING, NET_BASE_NONE, NET_BASE_PRESENT, NET_BASE_REFUSED,
@@ -48,7 +49,7 @@ pub extern "C" fn net_base_scoreboard_reset(scoreboard: &mut ScoreboardHead, fir
 ///
 /// Returns `NET_BASE_DONE`, or `NET_BASE_TOO_MANY_RUNS`, and nothing changes, if the block begins
 /// beyond the first position that wasn't reported, and there would be more runs beyond it than the
-/// slice has elements, or it ends more than `SIZE_MAX` after that position.
+/// slice has elements, or it ends 2^32 or more above that position.
 ///
 /// It is refused if `start` isn't below `end`, or `end` is above `sent`, or if `scoreboard` isn't
 /// sound with `runs`: `NET_BASE_REFUSED`, and nothing changes.
@@ -68,7 +69,8 @@ pub extern "C" fn net_base_scoreboard_report(
     ensures unchanged { ((start < end) × (end ≤ sent)) × (IsSoundBoard scoreboard.old runs.old) → OnErr
         (done_or_many result) ((scoreboard.new ≡ scoreboard.old) × (runs.new ≡ runs.old)) }
     ensures refused { ((start < end) × (end ≤ sent)) × (IsSoundBoard scoreboard.old runs.old) → (IsErr (done_or_many
-        result) ↔ HasNoRoom (length runs.old) (reported_by scoreboard.old runs.old) start (end - start)) }
+        result) ↔ (HasNoRoom (length runs.old) (reported_by scoreboard.old runs.old) start (end - start) ⊎ IsTooFar
+        (reported_by scoreboard.old runs.old) start (end - start))) }
     ensures canonical { IsCanonical scoreboard.old.reported → IsCanonical scoreboard.new.reported }
     ensures status { ((start < end) × (end ≤ sent)) × (IsSoundBoard scoreboard.old runs.old) → result < 2 }
     ensures unsound { (((start < end) × (end ≤ sent)) × (IsSoundBoard scoreboard.old runs.old) → ⊥) → (result ≡

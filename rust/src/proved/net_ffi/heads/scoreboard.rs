@@ -33,7 +33,7 @@ pub fn net_base_scoreboard_reset(scoreboard: &mut ScoreboardHead, first: u64) {
 ///
 /// Returns `NET_BASE_DONE`, or `NET_BASE_TOO_MANY_RUNS`, and nothing changes, if the block begins
 /// beyond the first position that wasn't reported, and there would be more runs beyond it than the
-/// slice has elements, or it ends more than `SIZE_MAX` after that position.
+/// slice has elements, or it ends 2^32 or more above that position.
 ///
 /// It is refused if `start` isn't below `end`, or `end` is above `sent`, or if `scoreboard` isn't
 /// sound with `runs`: `NET_BASE_REFUSED`, and nothing changes.
