@@ -531,7 +531,8 @@ SCOREBOARDS = [
      "next_lost 110 3 5: 120-130; next_lost 130 3 5: none; next_hole 130 200: 140-150; acknowledge 125: done; "
      "next_lost 0 3 5: 125-130"),
     (1, 0, "report 5 7 6: 0; report 5 5 6: 0; report 6 5 6: 0; report 5 6 6: 1|0 6 1 1"),
-    (1, 0, "report 1 18446744073709551615 18446744073709551615: 1|0 18446744073709551615 1 18446744073709551614"),
+    (1, 0, "report 1 18446744073709551615 18446744073709551615: refused|0 0 0 0; "
+     "report 1 4294967296 4294967296: refused|0 0 0 0; report 1 4294967295 4294967296: 1|0 4294967295 1 4294967294"),
 ]
 # Receivers of streams that end: bytes, runs, first position, and calls.
 ENDINGS = [

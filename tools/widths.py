@@ -423,7 +423,8 @@ def erased(folder):
     """Writes the crate to a folder, its text erased with its bounds."""
     for name in ('Cargo.toml', 'Cargo.lock'):
         shutil.copy(REPOSITORY / 'rust' / name, folder)
-    shutil.copytree(REPOSITORY / 'rust/src', folder / 'src')
+    for part in ('src', 'examples'):
+        shutil.copytree(REPOSITORY / 'rust' / part, folder / part)
     shutil.copy(REPOSITORY / 'rust/README.md', folder)
     shutil.rmtree(folder / 'src/proved')
     erase.Eraser.bounds, said = True, []

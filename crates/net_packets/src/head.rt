@@ -123,7 +123,10 @@ impl PacketsHead {
         let gap = self.placement(slot_count, capacity, size)?;
         let used = slots_for(gap);
         let gap_slot = self.slots.index(slot_count, self.slots.length);
-        prove!(self.slots.length + (used - 1) <= slot_count, "in any `usize`");
+        prove!(
+            self.slots.length + (used - 1) <= slot_count,
+            "in any `usize`"
+        );
         let slot = self.slots.index(slot_count, self.slots.length + (used - 1));
         self.slots.enqueue(slot_count, used);
         self.bytes.rewind_if_empty();
@@ -228,13 +231,19 @@ impl PacketsHead {
         if slot.size > self.bytes.length - done.offset - done.gap {
             return None;
         }
-        prove!(done.offset + done.gap <= self.bytes.length, "in any `usize`");
+        prove!(
+            done.offset + done.gap <= self.bytes.length,
+            "in any `usize`"
+        );
         let from = self.bytes.index(capacity, done.offset + done.gap);
         if slot.size > capacity - from {
             return None;
         }
         if slot.is_gap == 0 {
-            prove!(done.offset + done.gap + slot.size <= self.bytes.length, "in any `usize`");
+            prove!(
+                done.offset + done.gap + slot.size <= self.bytes.length,
+                "in any `usize`"
+            );
             return Some(Progress {
                 offset: done.offset + done.gap + slot.size,
                 gap: 0,
