@@ -166,7 +166,7 @@ class Reader:
     def cover(self, at, kind):
         name, start, end = at
         file = self.file(name)
-        text = plain(file.code[start:end])
+        text = re.sub(r'^\(([^()]*)\)$', r'\1', plain(file.code[start:end]))
         if kind in SAFE or kind == 'cast usize to u64':
             return 'no growth'
         if self.bound_at(file, start):
@@ -421,12 +421,7 @@ def unfolded(crates):
 
 def erased(folder):
     """Writes the crate to a folder, its text erased with its bounds."""
-    for name in ('Cargo.toml', 'Cargo.lock'):
-        shutil.copy(REPOSITORY / 'rust' / name, folder)
-    for part in ('src', 'examples'):
-        shutil.copytree(REPOSITORY / 'rust' / part, folder / part)
-    shutil.copy(REPOSITORY / 'rust/README.md', folder)
-    shutil.rmtree(folder / 'src/proved')
+    shutil.copytree(REPOSITORY / 'rust', folder, ignore=shutil.ignore_patterns('target', 'proved', 'rows'))
     erase.Eraser.bounds, said = True, []
     for path, text in erase.erased(said).items():
         path = folder / path.relative_to(erase.OUT.parent.parent)
@@ -466,7 +461,6 @@ def main(arguments):
             print('widths: not run: no compiler', file=sys.stderr)
             return 2
         crate = temporary / 'crate'
-        crate.mkdir()
         erased(crate)
         subprocess.run(['cargo', 'rustc', '--offline', '--quiet', '--lib', '--features', 'segmentation-offload', '--', *FLAGS],
                        cwd=crate, check=True, env=dict(os.environ, RUSTC=str(kit / 'rustc'), RUSTC_BOOTSTRAP='1',

@@ -47,6 +47,7 @@ COVERED = [
     (f'let c = x as usize; assert!(x <= a as u64{BOUND} c', 'bound'),
     (f'assert!(b + read(xs) <= a{BOUND} b + read(xs)', 'bound'),
     (f'assert!(a + b <= s.n{BOUND} while x > 3 {{ if x > 9 {{ take(a + b); }} }} 0', 'bound'),
+    (f'assert!(a + b <= s.n{BOUND} s.n - (a + b)', 'bound'),
     (f'let mut c = a; if x > 3 {{ c = a + b; }} else {{ take(a); }} assert!(c <= most(){BOUND} c', 'bound'),
     (f'let mut c = 0; while x > 3 {{ c = a + b; assert!(c <= most(){BOUND} }} c', 'bound'),
     (f'let c = a.wrapping_add(b); assert!(c <= most(){BOUND} c', 'bound'),

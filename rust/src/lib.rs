@@ -29,8 +29,7 @@
 //! # What isn't
 //!
 //! The compiler; what is printed, and the texts of errors; conversions of storage; std's clocks; the traits and devices of
-//! [`phy`]; and that a `usize` has 64 bits, as the prover takes it: on 32 bits the text is only tested. README lists what
-//! is by hand, and why.
+//! [`phy`]. README lists what is by hand, and why.
 //!
 //! # Features and targets
 //!
@@ -49,7 +48,12 @@ extern crate alloc;
 #[cfg(any(feature = "std", test))]
 extern crate std;
 
+#[cfg(not(any(target_pointer_width = "32", target_pointer_width = "64")))]
+compile_error!("a `usize` has 32 or 64 bits");
+
 pub mod config;
+#[cfg(test)]
+mod extremes;
 pub mod finite;
 pub mod managed;
 pub mod phy;

@@ -69,8 +69,8 @@ fn sent() {
     }
 }
 
-/// What is reported is counted from what was acknowledged: with a `usize` of 32 bits a block that is as far from there as
-/// it has numbers is refused, and no other is taken for it.
+/// What is reported is counted from what was acknowledged: a block that ends 2^32 or more from there is refused, and no
+/// other is taken for it.
 #[test]
 fn reported() {
     for first in begins() {
@@ -83,14 +83,18 @@ fn reported() {
         assert_eq!(it.reported().collect::<Vec<_>>(), [(first + 4, first + 8)]);
         let far = first.checked_add(WORD).filter(|far| *far < u64::MAX - 9);
         if let Some(far) = far {
-            let taken = if usize::BITS == 64 { Ok(true) } else { Err(TooManyHolesError) };
-            assert_eq!(it.report(far, far + 2, u64::MAX), taken, "{first}");
-            assert_eq!((it.contains(far + 1), it.contains(first + 7)), (taken.is_ok(), true));
+            assert_eq!(it.report(far, far + 2, u64::MAX), Err(TooManyHolesError), "{first}");
+            assert_eq!(it.report(far - 2, far, u64::MAX), Err(TooManyHolesError), "{first}");
+            assert_eq!(it.report(far - 2, far - 1, u64::MAX), Ok(true), "{first}");
+            assert_eq!(it.highest_reported(), far - 1);
+            assert_eq!(
+                (it.contains(far - 2), it.contains(far - 1), it.contains(far + 1)),
+                (true, false, false)
+            );
             it.acknowledge(far + 1);
-            let next = if taken.is_ok() { far + 2 } else { far + 1 };
             assert_eq!(
                 (it.first_unreported(), it.next_hole(0, far + 9)),
-                (next, Some((next, far + 9)))
+                (far + 1, Some((far + 1, far + 9)))
             );
         }
         it.reset_at(first);

@@ -1,7 +1,7 @@
 //! Ranges of bytes that come in any order.
-ghost use Rattle.std.specs.Prelude.{◌≡◌, ◌↔◌, ◌<◌, ◌^◌, ◌+◌, OnOk, OnErr, IfOk, IsErr};
+ghost use Rattle.std.specs.Prelude.{◌≡◌, ◌↔◌, OnOk, OnErr, IfOk, IsErr};
 ghost use Rattle.net_assembler.specs.Assembler.{MakesTooManyRuns};
-ghost use Rattle.net_assembler.specs.Positions.{front, with_range};
+ghost use Rattle.net_assembler.specs.Positions.{RangeFits, front, with_range};
 
 use net_assembler::{Assembler, TooManyHolesError};
 
@@ -12,7 +12,7 @@ pub fn came<const N: usize>(
     offset: usize,
     size: usize,
 ) -> Result<usize, TooManyHolesError>
-    requires { offset + size < 2 ^ 64 }
+    requires { RangeFits offset size }
     ensures refused { IsErr result ↔ MakesTooManyRuns N assembler.old offset size }
     ensures ok { OnOk result (assembler.new ≡ with_range assembler.old offset size) }
     ensures front { IfOk result (λ count. count ≡ front assembler.new) }
