@@ -7,6 +7,7 @@ use Rattle.std.specs.Prelude.{decimal, if◌then◌else◌, Option, Some, None, 
 use Rattle.std.specs.Prelude.{option_map}
 use Rattle.net_assembler.specs.Positions.{Positions, with_range, front, shift_down}
 use Rattle.net_assembler.specs.Assembler.{display_text, makes_too_many_runs}
+use Rattle.net_assembler.specs.Width.{shortfall}
 use Rattle.net_bench_lib.specs.Numeral.{number_of}
 use Rattle.net_bench_lib.specs.Transcript.{Rules}
 use Rattle.net_bench_lib.specs.declared.asm.AsmLine.{AsmLine}
@@ -56,10 +57,10 @@ addition_then_removal most_runs set offset size =
     if nat_lt 0 offset && makes_too_many_runs most_runs set offset size then (set, refused_text)
     else front_removal (with_range set offset size)
 
--- what a line with a range does: `next`, or the fault if the range's end does not fit 64 bits
+-- what a line with a range does: `next`, or the fault if the range's end is no `usize`
 abbrev pub within_range : ℕ → ℕ → Positions × List ℕ → Result (Positions × List ℕ) Fault
 within_range offset size next =
-    if nat_lt (offset + size) (2 ^ 64) then Ok next else Err faults.RangeTooLong
+    if nat_lt (offset + size + shortfall) (2 ^ 64) then Ok next else Err faults.RangeTooLong
 
 -- what a line does to the set, and its reply
 abbrev pub asm_does : ℕ → Positions → AsmLine → Result (Positions × List ℕ) Fault
