@@ -1,5 +1,6 @@
 //! An assembler that is taken into its parts, a head and runs, and is made of them again.
 use crate::assertions::assert_holds;
+use net_assembler::laws::is_usize;
 use net_assembler::{Assembler, AssemblerHead, Run};
 
 /// Returns whether an assembler has these two runs, and its parts show the same.
@@ -21,6 +22,7 @@ fn is_made_again(assembler: Assembler<2>) -> bool {
 #[test]
 fn an_assembler_goes_on_from_its_parts(rt: HostRuntime) {
     let mut assembler = Assembler::<2>::empty();
+    is_usize(9);
     let added = assembler.add(3, 2).is_ok() && assembler.add(8, 1).is_ok();
     assert_holds(&rt, added, ("added", 2));
     assert_holds(&rt, has_two(&assembler), ("runs", 2));
@@ -31,6 +33,7 @@ fn an_assembler_goes_on_from_its_parts(rt: HostRuntime) {
 /// where the first run starts.
 fn adds_in_parts(head: &mut AssemblerHead, runs: &mut [Run; 2]) -> bool {
     *head = AssemblerHead::new();
+    is_usize(15);
     head.add(runs, 13, 2).is_ok()
         && head.add(runs, 10, 1).is_ok()
         && head.first_start == 10

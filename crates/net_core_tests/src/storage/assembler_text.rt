@@ -1,6 +1,7 @@
 //! What no clause says of the text of an assembler: where a write fails, it ends.
 use crate::assertions::assert_holds;
 use net_assembler::Assembler;
+use net_assembler::laws::is_usize;
 use std::fmt::{self, Write};
 
 /// Takes `left` more writes, and refuses those after them.
@@ -30,6 +31,7 @@ fn refusals(assembler: &Assembler<4>, left: usize) -> (usize, bool) {
 
 /// Returns whether two runs were added, each after a hole.
 fn adds_two(assembler: &mut Assembler<4>) -> bool {
+    is_usize(8);
     assembler.add(3, 2).is_ok() && assembler.add(7, 1).is_ok()
 }
 
