@@ -50,7 +50,6 @@ ELSEWHERE = {
     "sh rust/targets.sh FOLDER": TARGET,
     "(cd c && cargo build --profile small --target thumbv7em-none-eabi)": TARGET,
     "arm-none-eabi-gcc ..": TARGET,
-    "rt lib": "the gate runs it, in crates/net_ffi",
     "cargo package": "package.sh runs it",
     "python3 overlay/overlay.py CHECKOUT [--into COPY] [--dry-run]": CHECKOUT,
     "python3 overlay/overlay.py CHECKOUT --undo": CHECKOUT,
