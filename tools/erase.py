@@ -269,8 +269,10 @@ class Eraser(Text):
         return BOUND.match(self.text, self.tokens[k][2])
 
     def is_pure(self, k, begin):
-        """Whether a call of the function at k leaves nothing but its answer, which isn't a `Result`: that is marked."""
-        return '&mut' not in self.source(k, begin) and re.search(r'->(?! Result\b)', self.source(k, begin))
+        """Whether a call of the function at k leaves nothing but its answer, which isn't a `Result`: that is marked, but
+        where smoltcp has such calls, and doesn't."""
+        signature = self.source(k, begin)
+        return self.crate in given.MARKED and re.search(r'->(?! Result\b)', signature) and not re.search(r'&(\S+ )?mut', signature)
 
     def convert(self, k, begin, body, margin, parameters):
         """Lets parameters be all that converts to their types."""

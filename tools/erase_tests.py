@@ -364,7 +364,7 @@ def main():
     # What changes nothing, and can be called from outside, must be used; a `Result` is marked by itself.
     pure = 'impl A {\n    pub const fn f(&self) -> u8 {\n        self.a\n    }\n}\n'
     assert of(pure, public={'A'}) == pure.replace('    pub', '    #[must_use]\n    pub')
-    for other in (pure.replace('&self', '&mut self'), pure.replace('u8', 'Result<u8, B>'), pure.replace(' -> u8', ''),
+    for other in (pure.replace('&self', '&mut self'), pure.replace('&self', "&'a mut self"), pure.replace('u8', 'Result<u8, B>'), pure.replace(' -> u8', ''),
                   pure.replace('impl A', 'impl B'), pure.replace('pub ', '')):
         assert of(other, public={'A'}) == other
     # A head stays inside; parameters are converted.

@@ -125,7 +125,8 @@ for name in ('struct AdvertisedWindow', 'struct PartsSum', 'struct PeerWindow', 
 for name in ('RingOver', 'PacketsOver', 'FragmentsOver', 'ReceiverOver', 'SenderOver', 'FiniteReceiverOver', 'FiniteSenderOver'):
     REPLACED.append(('', f'pub struct {name}', f'#[derive(Clone)]\npub struct {name}'))
 
-# Calls of a ring whose answers smoltcp marks so.
+# Calls of a ring whose answers smoltcp marks so; and crates of which it has nothing, where all that only answers is.
+MARKED = {'net_receiver', 'net_tcp'}
 for name in ('enqueue_many', 'enqueue_slice', 'dequeue_many', 'dequeue_slice', 'get_unallocated', 'write_unallocated',
-             'read_allocated'):
+             'get_allocated', 'read_allocated'):
     REPLACED.append(('net_ring/ring_buffer.rt', f'    pub fn {name}(', f'    #[must_use]\n    pub fn {name}('))

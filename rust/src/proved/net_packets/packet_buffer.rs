@@ -63,7 +63,6 @@ impl<'a, H> PacketBuffer<'a, H> {
     /// ```
     ///
     /// </details>
-    #[must_use]
     pub fn new<A: Into<ManagedSlice<'a, PacketMetadata<H>>>, B: Into<ManagedSlice<'a, u8>>>(slots: A, bytes: B) -> Self {
         let slots = slots.into();
         let bytes = bytes.into();
@@ -86,7 +85,6 @@ impl<H, M: Storage<PacketMetadata<H>>, B: Storage<u8>> PacketBuffer<'_, H, M, B>
     /// ```
     ///
     /// </details>
-    #[must_use]
     pub const fn over(slots: M, bytes: B) -> Self {
         PacketBuffer {
             lent: core::marker::PhantomData,
@@ -120,7 +118,6 @@ impl<H, M: Storage<PacketMetadata<H>>, B: Storage<u8>> PacketBuffer<'_, H, M, B>
     ///
     /// </details>
     #[inline]
-    #[must_use]
     pub fn is_empty(&self) -> bool {
         self.head.slots.length == 0
     }
@@ -147,7 +144,6 @@ impl<H, M: Storage<PacketMetadata<H>>, B: Storage<u8>> PacketBuffer<'_, H, M, B>
     ///
     /// </details>
     #[inline]
-    #[must_use]
     pub fn is_full(&self) -> bool {
         self.head.slots.length == self.slots.count()
     }
@@ -173,7 +169,6 @@ impl<H, M: Storage<PacketMetadata<H>>, B: Storage<u8>> PacketBuffer<'_, H, M, B>
     ///
     /// </details>
     #[inline]
-    #[must_use]
     pub fn has_room(&self, size: usize) -> bool {
         self.placement(size).is_some()
     }
@@ -197,7 +192,6 @@ impl<H, M: Storage<PacketMetadata<H>>, B: Storage<u8>> PacketBuffer<'_, H, M, B>
     ///
     /// </details>
     #[inline]
-    #[must_use]
     pub fn packet_capacity(&self) -> usize {
         self.slots.count()
     }
@@ -221,7 +215,6 @@ impl<H, M: Storage<PacketMetadata<H>>, B: Storage<u8>> PacketBuffer<'_, H, M, B>
     ///
     /// </details>
     #[inline]
-    #[must_use]
     pub fn payload_capacity(&self) -> usize {
         self.bytes.count()
     }
@@ -248,7 +241,6 @@ impl<H, M: Storage<PacketMetadata<H>>, B: Storage<u8>> PacketBuffer<'_, H, M, B>
     ///
     /// </details>
     #[inline]
-    #[must_use]
     pub fn payload_bytes_count(&self) -> usize {
         self.head.bytes.length
     }
@@ -275,7 +267,6 @@ impl<H, M: Storage<PacketMetadata<H>>, B: Storage<u8>> PacketBuffer<'_, H, M, B>
     ///
     /// </details>
     #[inline]
-    #[must_use]
     pub fn slots_used(&self) -> usize {
         self.head.slots.length
     }
@@ -302,7 +293,6 @@ impl<H, M: Storage<PacketMetadata<H>>, B: Storage<u8>> PacketBuffer<'_, H, M, B>
     /// ```
     ///
     /// </details>
-    #[must_use]
     pub fn len(&self) -> usize {
         let from = self.head.slots.read_at;
         let cut = self.head.slots.contiguous_queue(self.slots.count());
@@ -539,7 +529,6 @@ impl<H, M: Storage<PacketMetadata<H>>, B: Storage<u8>> PacketBuffer<'_, H, M, B>
     /// ```
     ///
     /// </details>
-    #[must_use]
     #[track_caller]
     pub fn enqueue_with_infallible<'b, F: FnOnce(&'b mut [u8]) -> usize>(
         &'b mut self,

@@ -68,7 +68,6 @@ impl<B: Storage<u8>, const N: usize> FragmentBuffer<'_, N, B> {
     /// ```
     ///
     /// </details>
-    #[must_use]
     pub const fn over(bytes: B, expires_at: Instant) -> Self {
         const { assert!(N >= 1, "N is at least 1") };
         FragmentBuffer {
@@ -128,7 +127,6 @@ impl<B: Storage<u8>, const N: usize> FragmentBuffer<'_, N, B> {
     /// ```
     ///
     /// </details>
-    #[must_use]
     pub fn into_storage(self) -> B {
         let FragmentBuffer {
             lent: core::marker::PhantomData,
@@ -157,7 +155,6 @@ impl<B: Storage<u8>, const N: usize> FragmentBuffer<'_, N, B> {
     /// ```
     ///
     /// </details>
-    #[must_use]
     pub fn capacity(&self) -> usize {
         self.bytes.count()
     }
@@ -183,7 +180,6 @@ impl<B: Storage<u8>, const N: usize> FragmentBuffer<'_, N, B> {
     /// ```
     ///
     /// </details>
-    #[must_use]
     pub fn is_empty(&self) -> bool {
         self.head.present.is_empty()
     }
@@ -208,7 +204,6 @@ impl<B: Storage<u8>, const N: usize> FragmentBuffer<'_, N, B> {
     /// ```
     ///
     /// </details>
-    #[must_use]
     pub fn expires_at(&self) -> Instant {
         moment_of(&self.head)
     }
@@ -303,7 +298,6 @@ impl<B: Storage<u8>, const N: usize> FragmentBuffer<'_, N, B> {
     /// ```
     ///
     /// </details>
-    #[must_use]
     pub fn total_size(&self) -> Option<usize> {
         self.head.total_size()
     }
@@ -323,7 +317,6 @@ impl<B: Storage<u8>, const N: usize> FragmentBuffer<'_, N, B> {
     /// ```
     ///
     /// </details>
-    #[must_use]
     pub fn overlaps(&self, offset: usize, len: usize) -> bool {
         self.head.overlaps(&self.runs, offset, len)
     }
@@ -354,7 +347,6 @@ impl<B: Storage<u8>, const N: usize> FragmentBuffer<'_, N, B> {
     /// ```
     ///
     /// </details>
-    #[must_use]
     pub fn assemble(&self) -> Option<&[u8]> {
         match self.head.complete(&self.runs) {
             Some(size) => Some(self.bytes.part(0, size)),
@@ -382,7 +374,6 @@ impl<B: Storage<u8>, const N: usize> FragmentBuffer<'_, N, B> {
     /// ```
     ///
     /// </details>
-    #[must_use]
     pub fn is_expired(&self, now: Instant) -> bool {
         self.head.is_expired(now.total_micros())
     }

@@ -51,7 +51,6 @@ impl Instant {
     ///
     /// </details>
     #[inline]
-    #[must_use]
     pub fn from_micros<A: Into<i64>>(micros: A) -> Instant {
         let micros = micros.into();
         Instant { micros }
@@ -75,7 +74,6 @@ impl Instant {
     ///
     /// </details>
     #[inline]
-    #[must_use]
     pub const fn from_micros_const(micros: i64) -> Instant {
         Instant { micros }
     }
@@ -92,7 +90,6 @@ impl Instant {
     ///
     /// </details>
     #[inline]
-    #[must_use]
     pub const fn fits_millis(millis: i64) -> bool {
         matches!(millis.checked_mul(1_000), Some(_))
     }
@@ -119,7 +116,6 @@ impl Instant {
     ///
     /// </details>
     #[inline]
-    #[must_use]
     #[track_caller]
     pub fn from_millis<A: Into<i64>>(millis: A) -> Instant {
         let millis = millis.into();
@@ -155,7 +151,6 @@ impl Instant {
     ///
     /// </details>
     #[inline]
-    #[must_use]
     #[track_caller]
     pub const fn from_millis_const(millis: i64) -> Instant {
         assert!(
@@ -179,7 +174,6 @@ impl Instant {
     ///
     /// </details>
     #[inline]
-    #[must_use]
     pub const fn fits_secs(secs: i64) -> bool {
         matches!(secs.checked_mul(1_000_000), Some(_))
     }
@@ -206,7 +200,6 @@ impl Instant {
     ///
     /// </details>
     #[inline]
-    #[must_use]
     #[track_caller]
     pub fn from_secs<A: Into<i64>>(secs: A) -> Instant {
         let secs = secs.into();
@@ -233,7 +226,6 @@ impl Instant {
     ///
     /// </details>
     #[inline]
-    #[must_use]
     pub const fn millis(&self) -> i64 {
         self.micros() / 1_000
     }
@@ -255,7 +247,6 @@ impl Instant {
     ///
     /// </details>
     #[inline]
-    #[must_use]
     pub const fn micros(&self) -> i64 {
         self.micros % 1_000_000
     }
@@ -277,7 +268,6 @@ impl Instant {
     ///
     /// </details>
     #[inline]
-    #[must_use]
     pub const fn secs(&self) -> i64 {
         self.micros / 1_000_000
     }
@@ -299,7 +289,6 @@ impl Instant {
     ///
     /// </details>
     #[inline]
-    #[must_use]
     pub const fn total_millis(&self) -> i64 {
         self.micros / 1_000
     }
@@ -321,7 +310,6 @@ impl Instant {
     ///
     /// </details>
     #[inline]
-    #[must_use]
     pub const fn total_micros(&self) -> i64 {
         self.micros
     }
@@ -338,7 +326,6 @@ impl Instant {
     ///
     /// </details>
     #[inline]
-    #[must_use]
     pub fn can_add(&self, duration: Duration) -> bool {
         self.checked_add(duration).is_some()
     }
@@ -355,7 +342,6 @@ impl Instant {
     ///
     /// </details>
     #[inline]
-    #[must_use]
     pub fn can_sub(&self, duration: Duration) -> bool {
         self.checked_sub(duration).is_some()
     }
@@ -378,7 +364,6 @@ impl Instant {
     ///
     /// </details>
     #[inline]
-    #[must_use]
     pub fn checked_add(&self, duration: Duration) -> Option<Instant> {
         match self.micros.checked_add_unsigned(duration.total_micros()) {
             Some(micros) => Some(Instant { micros }),
@@ -404,7 +389,6 @@ impl Instant {
     ///
     /// </details>
     #[inline]
-    #[must_use]
     pub fn checked_sub(&self, duration: Duration) -> Option<Instant> {
         match self.micros.checked_sub_unsigned(duration.total_micros()) {
             Some(micros) => Some(Instant { micros }),
@@ -431,7 +415,6 @@ impl Instant {
     ///
     /// </details>
     #[inline]
-    #[must_use]
     pub fn saturating_add(&self, duration: Duration) -> Instant {
         let micros = self.micros.wrapping_add_unsigned(duration.total_micros());
         if micros < self.micros {
@@ -459,7 +442,6 @@ impl Instant {
     ///
     /// </details>
     #[inline]
-    #[must_use]
     pub fn saturating_sub(&self, duration: Duration) -> Instant {
         let micros = self.micros.wrapping_sub_unsigned(duration.total_micros());
         if micros > self.micros {
