@@ -10,6 +10,7 @@ ghost use Rattle.net_receiver.specs.Segments.{new_count};
 ghost use Rattle.net_receiver.specs.FiniteLaws.{MatchesFinite, ReceivesFinite};
 ghost use Rattle.std.specs.Fn.{FnOnceTakesAt, FnOnceReturnsAt};
 ghost use Rattle.net_assembler.specs.Positions.{maximal_runs, runs as run_count};
+ghost use Rattle.net_assembler.specs.RunLists.{IsCanonical};
 ghost use Rattle.net_receiver.specs.Contiguous.{contiguous_count, first_part, second_part};
 ghost use Rattle.net_receiver.specs.NewestRuns.{newest_runs, with_starts};
 ghost use Rattle.net_receiver.specs.ReceiverState.{domain, limit_of, next_position, IsSound};
@@ -20,7 +21,8 @@ use crate::held_runs::HeldRuns;
 use crate::kept::KeptBytes;
 use crate::newest_runs::{HeldRun, NewestRunIter};
 use crate::receiver::whole;
-use net_assembler::Run;
+use crate::receiver_head::ReceiverHead;
+use net_assembler::{AssemblerHead, Run};
 use net_ring::{ManagedSlice, Storage};
 use std::marker::Model;
 
@@ -34,7 +36,7 @@ use std::marker::Model;
 /// Contracts see what the receiver of the bytes stores, and the end, `no_end` while it isn't known.
 pub struct FiniteReceiverOver<S: Storage<u8>, const N: usize> {
     // Invariant: the head is sound with the storage and the runs, as `FiniteReceiverHead::is_sound`
-    // tests.
+    // tests. If there is no run, the head of the runs is 0 in both numbers.
     head: FiniteReceiverHead,
     storage: S,
     runs: [Run; N],
@@ -45,6 +47,7 @@ pub type FiniteReceiver<'a, const N: usize> = FiniteReceiverOver<ManagedSlice<'a
 
 impl<S: Storage<u8>, const N: usize> Model for FiniteReceiverOver<S, N> {
     ghost use Rattle.std.specs.Prelude.{◌≡◌, length};
+    ghost use Rattle.net_assembler.specs.RunLists.{IsCanonical};
     ghost use Rattle.net_receiver.specs.Finite.{FiniteState, finite_code};
     ghost use Rattle.net_receiver.specs.FiniteHead.{finite_of, HasSoundFinite};
 
@@ -55,7 +58,8 @@ impl<S: Storage<u8>, const N: usize> Model for FiniteReceiverOver<S, N> {
     ghost view = { λ a. finite_of a.head (S.elements a.storage) a.runs };
 
     ghost invariant = { λ a.
-        HasSoundFinite a.head (S.elements a.storage) a.runs × (length a.runs ≡ N) };
+        HasSoundFinite a.head (S.elements a.storage) a.runs × (length a.runs ≡ N)
+        × IsCanonical a.head.receiver.held };
 }
 
 /// Written by hand, so that storage that isn't `Drop` can be used too.
@@ -112,6 +116,19 @@ impl<S: Storage<u8>, const N: usize> FiniteReceiverOver<S, N> {
         requires { HasSoundFinite head (S.elements storage) runs }
         ensures { result ≡ finite_of head (S.elements storage) runs.entry }
     {
+        if head.receiver.held.used == 0 {
+            return FiniteReceiverOver {
+                head: FiniteReceiverHead {
+                    receiver: ReceiverHead {
+                        held: AssemblerHead::new(),
+                        ..head.receiver
+                    },
+                    ..head
+                },
+                storage,
+                runs,
+            };
+        }
         FiniteReceiverOver {
             head,
             storage,
@@ -124,6 +141,7 @@ impl<S: Storage<u8>, const N: usize> FiniteReceiverOver<S, N> {
         ensures sound { HasSoundFinite result.0 (S.elements result.1) result.2 }
         ensures state { finite_of result.0 (S.elements result.1) result.2 ≡ self }
         ensures runs { length result.2 ≡ N }
+        ensures canonical { IsCanonical result.0.receiver.held }
     {
         let FiniteReceiverOver {
             head,

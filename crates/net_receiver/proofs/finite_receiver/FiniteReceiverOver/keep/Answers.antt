@@ -30,7 +30,7 @@ sound_end g c = subst IsSoundEnd c.self.view_is c.self.invariant.0.end
 
 pub invariant_of-self : goal.invariant_of-self
 invariant_of-self g c =
-    (subst (λ xs. HasSoundFinite c.keep.new.self xs c.keep.new.runs) (sym (stored g c)) c.keep.ensures.sound, c.keep.auto.runs ∙ c.self.invariant.1)
+    (subst (λ xs. HasSoundFinite c.keep.new.self xs c.keep.new.runs) (sym (stored g c)) c.keep.ensures.sound, c.keep.auto.runs ∙ c.self.invariant.1, c.keep.ensures.canonical c.self.invariant.2)
 
 pub returns-clause-state : goal.returns-clause-state
 returns-clause-state g c =

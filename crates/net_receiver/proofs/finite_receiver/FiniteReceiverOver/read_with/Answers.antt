@@ -1,5 +1,8 @@
 -- `f` was run on the queue's first part; what it counts is taken off, as by a read of that many bytes.
-use Rattle.std.proofs.Common.{sym, ap, length, arith}
+use Rattle.std.proofs.Common.{◌≡◌, ◌+◌, sym, ap, subst, length, take, slice_range, arith}
+use Rattle.net_assembler.specs.RunLists.{IsCanonical}
+use Rattle.net_receiver.specs.Finite.{FiniteState}
+use Rattle.net_receiver.specs.FiniteLaws.{ReceivesFinite}
 use Rattle.net_receiver.proofs.finite_receiver.FiniteReceiverOver.read_with.Goals as goal
 
 pub f-answer-requires : goal.f-answer-requires
@@ -10,7 +13,22 @@ invariant_of-self g c =
     let i = c.self.inside in (
       c.remove.ensures.sound (g.S.Storage.elements i.storage) i.runs (sym c.count.ensures) c.self.invariant.0,
       c.self.invariant.1,
+      subst (λ h. IsCanonical h.held) (sym c.remove.ensures.head) c.self.invariant.2,
     )
+
+pub returns-clause-receives : goal.returns-clause-receives
+returns-clause-receives g c = λ f x received.
+    let i = c.self.inside in
+    (c.remove.ensures.receives (g.S.Storage.elements i.storage) i.runs (sym c.count.ensures) c.self.invariant.0 f x
+    (subst (ReceivesFinite f x) (sym c.self.view_is) received)).0
+
+pub returns-clause-bytes : goal.returns-clause-bytes
+returns-clause-bytes g c = λ f x received.
+    let i = c.self.inside in
+    let n = c.f-answer.result.0 in
+    subst (λ (s : FiniteState). take n s.receiver.queue ≡ slice_range x s.receiver.read (s.receiver.read + n)) c.self.view_is
+    (c.remove.ensures.receives (g.S.Storage.elements i.storage) i.runs (sym c.count.ensures) c.self.invariant.0 f x
+    (subst (ReceivesFinite f x) (sym c.self.view_is) received)).1
 
 pub prove-unreachable-requires : goal.prove-unreachable-requires
 prove-unreachable-requires g c =

@@ -1,4 +1,5 @@
 use Rattle.std.proofs.Common.{sym, subst}
+use Rattle.net_assembler.specs.RunLists.{IsCanonical}
 use Rattle.net_receiver.specs.FiniteLaws.{ReceivesFinite}
 use Rattle.net_receiver.proofs.finite_receiver.FiniteReceiverOver.remove.Goals as goal
 
@@ -7,6 +8,7 @@ invariant_of-self g c =
     let i = c.self.inside in (
       c.remove.ensures.sound (g.S.Storage.elements i.storage) i.runs (sym c.count.ensures) c.self.invariant.0,
       c.self.invariant.1,
+      subst (λ h. IsCanonical h.held) (sym c.remove.ensures.head) c.self.invariant.2,
     )
 
 pub returns-clause-receives : goal.returns-clause-receives
