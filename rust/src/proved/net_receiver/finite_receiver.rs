@@ -6,7 +6,8 @@ use crate::proved::net_receiver::held_runs::HeldRuns;
 use crate::proved::net_receiver::kept::KeptBytes;
 use crate::proved::net_receiver::newest_runs::{HeldRun, NewestRunIter};
 use crate::proved::net_receiver::receiver::whole;
-use crate::proved::net_assembler::Run;
+use crate::proved::net_receiver::receiver_head::ReceiverHead;
+use crate::proved::net_assembler::{AssemblerHead, Run};
 use crate::proved::net_ring::{ManagedSlice, Storage};
 
 /// A receiver of one stream of bytes that ends, over storage that is lent or owned.
@@ -21,7 +22,7 @@ use crate::proved::net_ring::{ManagedSlice, Storage};
 pub struct FiniteReceiver<'a, const N: usize = { crate::rattle::ASSEMBLER_MAX_SEGMENT_COUNT }, S: Storage<u8> = ManagedSlice<'a, u8>> {
     lent: core::marker::PhantomData<&'a ()>,
     // Invariant: the head is sound with the storage and the runs, as `FiniteReceiverHead::is_sound`
-    // tests.
+    // tests. If there is no run, the head of the runs is 0 in both numbers.
     head: FiniteReceiverHead,
     storage: S,
     runs: [Run; N],
@@ -102,6 +103,20 @@ impl<S: Storage<u8>, const N: usize> FiniteReceiver<'_, N, S> {
     ///
     /// </details>
     pub(crate) fn from_parts(head: FiniteReceiverHead, storage: S, runs: [Run; N]) -> Self {
+        if head.receiver.held.used == 0 {
+            return FiniteReceiver {
+                lent: core::marker::PhantomData,
+                head: FiniteReceiverHead {
+                    receiver: ReceiverHead {
+                        held: AssemblerHead::new(),
+                        ..head.receiver
+                    },
+                    ..head
+                },
+                storage,
+                runs,
+            };
+        }
         FiniteReceiver {
             lent: core::marker::PhantomData,
             head,
@@ -120,6 +135,7 @@ impl<S: Storage<u8>, const N: usize> FiniteReceiver<'_, N, S> {
     /// ensures sound { HasSoundFinite result.0 (S.elements result.1) result.2 }
     /// ensures state { finite_of result.0 (S.elements result.1) result.2 ≡ self }
     /// ensures runs { length result.2 ≡ N }
+    /// ensures canonical { IsCanonical result.0.receiver.held }
     /// ```
     ///
     /// </details>
