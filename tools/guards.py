@@ -7,8 +7,8 @@
 
 A function with guards, as tools/erase.py reads them, has a checked call, with its parameters and without preconditions: it
 returns if what a guard tests is false, and then calls the function. So it is proved only if the guards imply the
-preconditions. They are a crate over copies of the libraries, as `rt check` or `rt lib` of a crate above them left them:
-otherwise those are proved first.
+preconditions; of a parameter of type `usize` it knows that it is one. They are a crate over copies of the libraries, as
+`rt check` or `rt lib` of a crate above them left them: otherwise those are proved first.
 """
 import re
 import shutil
@@ -24,6 +24,7 @@ from parts import erase_list as given
 TOP = '''//! Checked calls of the functions with guards.
 #![tactic(auto)]
 
+use net_assembler::laws::is_usize;
 use net_assembler::{Assembler, Turns};
 use net_base::phy::DeviceCapabilities;
 use net_base::time::{Duration, Instant};
@@ -80,11 +81,13 @@ def checked(title, header, signature, tests, is_some):
     generics = ', '.join(part if re.search('^const |Drop', part) else part + (' + ' if ':' in part else ': ') + 'Drop'
                          for part in parts(outer) + parts(inner))
     tests = ['N >= 1'] * is_some + [re.sub(r'\bself\b', 'this', re.sub(r'\bSelf\b', path, test)) for test in tests]
+    lengths = [part.split(':')[0] for part in parameters if part.endswith(': usize')]
     call = f'{called}({", ".join(passed)})'
     result, refused, last = '', 'return', f'let _ = {call};'
     if '-> Self' in signature:
         result, refused, last = f' -> Option<{owner}{arguments}>', 'return None', f'Some({call})'
     return (f'pub fn {title}{f"<{generics}>" * bool(generics)}({", ".join(parameters)}){result} {{\n'
+            + ''.join(f'    is_usize({length});\n' for length in lengths)
             + ''.join(f'    if !({test}) {{\n        {refused};\n    }}\n' for test in tests) + f'    {last}\n}}\n')
 
 
