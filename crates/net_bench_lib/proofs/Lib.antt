@@ -1,4 +1,5 @@
 pub mod Numerals
+pub mod HexText
 pub mod KnownBytes
 pub mod LineParts
 pub mod WordParts

@@ -1,39 +1,78 @@
 //! Bytes as hexadecimal digits.
-ghost use Rattle.std.specs.Prelude.{◌≡◌, [], ◌++◌, codes, Ok, IfOk, OnOk, IsTrue, option_map, string_bytes};
-ghost use Rattle.hex.specs.Hex.{decode_of};
+ghost use Rattle.std.specs.Prelude.{◌≡◌, [], ◌++◌, codes, length, IfOk, OnOk, IsTrue, MatchResult};
+ghost use Rattle.std.specs.Prelude.{option_map, string_bytes};
+ghost use Rattle.hex.specs.Hex.{decode_sized, encode_lower};
 ghost use Rattle.net_bench_lib.specs.Text.{hex_bytes, hex_text};
 
 use hex::FromHexError;
 use std::alloc::{AllocError, Allocator};
+
+/// How many bytes are compared with a word at a time.
+const PART: usize = 64;
 
 /// Returns the value of a hexadecimal digit in either case, and some number of any other byte.
 fn digit(byte: u8) -> u8 {
     (byte & 15).wrapping_add((byte >> 6).wrapping_mul(9))
 }
 
-/// Returns the bytes that a word writes if it has pairs of digits alone, and else some bytes. No
+/// Writes the bytes that a word writes if it has a pair of digits for each, and else some bytes. No
 /// branch depends on a digit.
-fn guess<A: Allocator + Copy>(alloc: A, word: &[u8]) -> Result<Vec<u8, A>, AllocError> {
-    let mut bytes = vec![in alloc; 0u8; word.len() / 2]?;
-    for (i, byte) in bytes.iter_mut().enumerate() {
-        *byte = digit(word[2 * i])
-            .wrapping_mul(16)
-            .wrapping_add(digit(word[2 * i + 1]));
+fn guess(word: &[u8], bytes: &mut [u8])
+    ensures { length bytes.new ≡ length bytes.old }
+{
+    for (byte, pair) in bytes.iter_mut().zip(word.chunks_exact(2)) {
+        *byte = digit(pair[0]).wrapping_mul(16).wrapping_add(digit(pair[1]));
     }
-    Ok(bytes)
+}
+
+/// Returns whether a word is the text of these few bytes, in lower case.
+fn is_part(bytes: &[u8], word: &[u8]) -> bool
+    ensures { IsTrue result → word.now ≡ encode_lower bytes.now }
+{
+    let mut digits = [0u8; 2 * PART];
+    let Some(text) = digits.get_mut(..word.len()) else {
+        return false;
+    };
+    hex::encode_to_slice(bytes, text).is_ok() && *text == *word
 }
 
 /// Returns whether a word is the text of these bytes, in lower case.
-fn is_text<A: Allocator + Copy>(alloc: A, bytes: &[u8], word: &[u8]) -> Result<bool, AllocError>
-    ensures { IfOk result (λ same. IsTrue same → decode_of word.now ≡ Ok bytes.now) }
+#[tactic(auto, using(crate::proofs::HexText::encode_append))]
+fn is_text(bytes: &[u8], word: &[u8]) -> bool
+    ensures { IsTrue result → word.now ≡ encode_lower bytes.now }
 {
-    Ok(hex::encode(alloc, bytes)?.as_bytes() == word)
+    let mut bytes_left = bytes;
+    let mut word_left = word;
+    while bytes_left.len() > PART && word_left.len() > 2 * PART {
+        let (part, after) = bytes_left.split_at(PART);
+        let (text, rest) = word_left.split_at(2 * PART);
+        if !is_part(part, text) {
+            return false;
+        }
+        bytes_left = after;
+        word_left = rest;
+    }
+    is_part(bytes_left, word_left)
+}
+
+/// Decodes as `hex::decode_to_slice` does. A guess that `hex` encodes to the word is right; it is
+/// `hex` that decodes digits in upper case, and what is no digit, with an unpredictable branch for
+/// each digit.
+#[tactic(auto, using(crate::proofs::HexText::decode_encoded))]
+fn decode(word: &[u8], bytes: &mut [u8]) -> Result<(), FromHexError>
+    ensures { MatchResult (decode_sized word.now (length bytes.old))
+        (λ decoded. (result ≡ Ok tt) × (bytes.new ≡ decoded))
+        (λ e. result ≡ Err e) }
+{
+    guess(word, bytes);
+    if is_text(bytes, word) {
+        return Ok(());
+    }
+    hex::decode_to_slice(word, bytes)
 }
 
 /// Returns the bytes that a word writes, if it does: `-` for none, or one or more pairs of
 /// hexadecimal digits in either case.
-// A guess that `hex` encodes to the word is right. It is `hex::decode` that says so of digits in
-// upper case, and of what is no digit: it has an unpredictable branch for each digit.
 pub fn bytes<A: Allocator + Copy>(alloc: A, word: &[u8]) -> Result<Option<Vec<u8, A>>, AllocError>
     ensures { IfOk result (λ found. option_map (λ bytes. bytes.items) found ≡ hex_bytes word.now) }
 {
@@ -43,13 +82,9 @@ pub fn bytes<A: Allocator + Copy>(alloc: A, word: &[u8]) -> Result<Option<Vec<u8
     if word.is_empty() {
         return Ok(None);
     }
-    let guess = guess(alloc, word)?;
-    if is_text(alloc, &guess, word)? {
-        return Ok(Some(guess));
-    }
-    match hex::decode(alloc, word) {
-        Ok(bytes) => Ok(Some(bytes)),
-        Err(FromHexError::OutOfMemory) => Err(AllocError),
+    let mut bytes = vec![in alloc; 0u8; word.len() / 2]?;
+    match decode(word, &mut bytes) {
+        Ok(()) => Ok(Some(bytes)),
         Err(_) => Ok(None),
     }
 }
