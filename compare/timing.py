@@ -2,13 +2,16 @@
 """SMOLTCP=path timing.py [--once] [--samples N] [--milliseconds N] [--only WORD] [--lines N] [--runs N]
 SMOLTCP=path timing.py --peers [--samples N] [--milliseconds N] [--only WORD]
 SMOLTCP=path timing.py --rust [--once] [--samples N] [--milliseconds N] [--only WORD]
+SMOLTCP=path timing.py --whole [--lines N] [--runs N]
 
 Times the workloads of `perf` over the port and over smoltcp in turns, each side linked once for each placement of
 its code, counts instructions and branches if valgrind is there, and times whole runs of net_bench beside a plain
-program over smoltcp, of which it also counts mispredicted branches. Prints tables in Markdown, which plot.py draws. Status 1 if results differ.
+program over smoltcp, of which it also counts mispredicted branches. Prints tables in Markdown, of which plot.py draws
+the first. Status 1 if results differ.
 With --once: one placement. With --peers: the workloads over the port and over types of std in turns, and the memory
 of both. With --rust: the workloads over the crate net-base in place of the port, both sides built as a user builds a
 program, in cargo's default profile without flags; without whole runs and the loopback device, and `rt` isn't needed.
+With --whole: whole runs alone.
 """
 import argparse
 import datetime
@@ -99,7 +102,7 @@ def counted(built, sides, arguments):
 
 
 def events(dump):
-    """The counts of a file of callgrind: Ir instructions, Bc and Bi branches, of which Bcm and Bim were mispredicted."""
+    """The counts of a file of callgrind: Ir instructions, Bc and Bi branches, Bcm and Bim mispredicted ones."""
     lines = dump.read_text().splitlines()
     names = next(line for line in lines if line.startswith("events:")).split()[1:]
     numbers = next(line for line in lines if line.startswith(("totals:", "summary:"))).split()[1:]
@@ -171,14 +174,17 @@ def inputs(count):
     lines = "".join(f"w {chunks[at % 8]}\nr 1000\n" for at in range(count // 8))
     yield "ring, 1,000 bytes a line", ["ring", "65536"], lines
     yield "ring, 2 bytes a line", ["ring", "4096"], "w 6162\nr 2\n" * (count // 2)
-    commands = []
-    for _ in range(count):
-        kind = some.random()
-        if kind < 0.7:
-            commands.append(f"a {some.randrange(4000)} {some.randrange(1, 90)}\n")
-        else:
-            commands.append(f"t 0 {some.randrange(1, 60)}\n" if kind < 0.95 else "p\n")
-    yield "asm 32, random", ["asm", "32"], "".join(commands)
+    for most_runs in ("4", "32"):
+        commands = []
+        for _ in range(count):
+            kind = some.random()
+            if kind < 0.7:
+                commands.append(f"a {some.randrange(4000)} {some.randrange(1, 90)}\n")
+            else:
+                commands.append(f"t 0 {some.randrange(1, 60)}\n" if kind < 0.95 else "p\n")
+        yield f"asm {most_runs}, random", ["asm", most_runs], "".join(commands)
+    lines = "".join(f"s {1000 * at} {chunks[at % 8]}\nr 1000\n" for at in range(count // 8))
+    yield "stream 4, in order, 1,000 bytes", ["stream", "65536", "4"], lines
     lines = ""
     for first in range(0, count // 8, 16):
         segments = [f"s {at * 500} {text(500)}\n" for at in range(first, first + 16)]
@@ -214,16 +220,11 @@ def counted_run(words, lines):
 def whole_runs(bench, plain, count, samples):
     """Whole runs in turns: a table, and what differs."""
     differ = []
-    print("| Whole run | Lines | Original, ms | Here, ms | Pairs | Noise "
-          "| Instructions a line, original | Here | Mispredicted branches a line, original | Here |")
-    print("|---|---:|---:|---:|---:|---:|---:|---:|---:|---:|")
+    print("| Whole run | Lines | smoltcp, ms | Here, ms | Pairs | Noise "
+          "| Instructions a line, here/smoltcp | Mispredicted branches |")
+    print("|---|---:|---:|---:|---:|---:|---:|---:|")
     for title, mode, lines in inputs(count):
-        # What the mode of streams shows is asked of the program itself.
-        _, (shown, _, status) = whole_run([bench, *mode], b"s 0 61\n")
-        if mode[0] == "stream" and status == 2:
-            continue
-        flags = ["--sack"] if b"sack" in shown else []
-        sides = [[bench, *mode], [plain, *flags, *mode], [plain, *flags, *mode]]
+        sides = [[bench, *mode], [plain, *mode], [plain, *mode]]
         data = lines.encode()
         times, results = ([], [], []), [None, None, None]
         for sample in range(samples):
@@ -235,8 +236,8 @@ def whole_runs(bench, plain, count, samples):
         pairs, noise = (statistics.median(a / b for a, b in zip(times[side], times[1])) for side in (0, 2))
         here, original = statistics.median(times[0]), statistics.median(times[1])
         some = lines.splitlines(keepends=True)
-        counts = [counted_run(side, some[:COUNTED]) or ("not counted",) * 2 for side in (sides[1], sides[0])]
-        columns = [value if isinstance(value, str) else f"{value:,.1f}" for pair in zip(*counts) for value in pair]
+        counts = [counted_run(side, some[:COUNTED]) for side in sides[:2]]
+        columns = [f"{a:,.1f}/{b:,.1f}" for a, b in zip(*counts)] if all(counts) else ["not counted"] * 2
         print(f"| {title} | {len(some):,} | {original:.0f} | {here:.0f} | {pairs:.2f} | {noise:.2f} "
               f"| {' | '.join(columns)} |")
     return differ
@@ -256,29 +257,16 @@ def rust_sides(smoltcp):
     return common.cargo("release", ["driver"], smoltcp, only=["--bin", "driver"], PORT_LIBS="", RUSTFLAGS=FLAGS)
 
 
-def main():
-    parser = argparse.ArgumentParser(description=__doc__, formatter_class=argparse.RawDescriptionHelpFormatter)
-    parser.add_argument("--once", action="store_true")
-    parser.add_argument("--samples", type=int, default=15)
-    parser.add_argument("--milliseconds", type=float, default=2)
-    parser.add_argument("--only")
-    parser.add_argument("--lines", type=int, default=200_000)
-    parser.add_argument("--runs", type=int, default=9)
-    parser.add_argument("--peers", action="store_true")
-    parser.add_argument("--rust", action="store_true")
-    arguments = parser.parse_args()
-    if arguments.peers or arguments.rust:
-        arguments.lines = 0
-    smoltcp = common.need(["cargo"] if arguments.rust else ["cargo", "rt"])
+def timed(smoltcp, arguments):
+    """Times the workloads: tables, and what differs."""
     if arguments.rust:
         side, libraries, built = "side_rust", [], rust_sides(smoltcp)
     else:
         side, libraries = "side_port", [common.static_library("net_perf"), common.allocator()]
-        packages = ["driver", "side_original", "side_port", "plain"]
+        packages = ["driver", "side_original", "side_port"]
         built = common.cargo("release", packages, smoltcp, PORT_LIBS=":".join(map(str, libraries)), RUSTFLAGS=FLAGS)
     placements = PLACEMENTS[:1] if arguments.once or arguments.peers else PLACEMENTS
     sides = [placed(built, side, libraries, placements), placed(built, "side_original", [], placements)]
-    bench = common.program("net_bench", ["ring", "1"]) if arguments.lines else None
     print(f"{datetime.date.today()}; {machine()}; {len(placements)} placements of each side, "
           f"{arguments.samples} samples of {arguments.milliseconds:g} ms a row and placement\n")
     rows, differ = workloads(built, sides, arguments)
@@ -289,9 +277,33 @@ def main():
         memory_table(built)
     else:
         workload_table(rows, counted(built, [path.split(":")[0] for path in sides], arguments))
-    if arguments.lines:
-        print(f"\n{arguments.runs} whole runs of each program, in turns\n")
-        differ += whole_runs(bench, built / "plain", arguments.lines, arguments.runs)
+    return differ
+
+
+def timed_programs(smoltcp, arguments):
+    """Times whole runs: a table, and what differs."""
+    built = common.cargo("release", ["plain"], smoltcp, PORT_LIBS="", RUSTFLAGS=FLAGS)
+    bench = common.program("net_bench", ["ring", "1"])
+    print(f"\n{datetime.date.today()}; {machine()}; {arguments.runs} whole runs of each program, in turns\n")
+    return whole_runs(bench, built / "plain", arguments.lines, arguments.runs)
+
+
+def main():
+    parser = argparse.ArgumentParser(description=__doc__, formatter_class=argparse.RawDescriptionHelpFormatter)
+    parser.add_argument("--once", action="store_true")
+    parser.add_argument("--samples", type=int, default=15)
+    parser.add_argument("--milliseconds", type=float, default=2)
+    parser.add_argument("--only")
+    parser.add_argument("--lines", type=int, default=200_000)
+    parser.add_argument("--runs", type=int, default=9)
+    parser.add_argument("--peers", action="store_true")
+    parser.add_argument("--rust", action="store_true")
+    parser.add_argument("--whole", action="store_true")
+    arguments = parser.parse_args()
+    smoltcp = common.need(["cargo"] if arguments.rust else ["cargo", "rt"])
+    differ = [] if arguments.whole else timed(smoltcp, arguments)
+    if arguments.lines and not arguments.peers and not arguments.rust:
+        differ += timed_programs(smoltcp, arguments)
     if differ:
         print(f"\nDIFFERENT RESULTS: {'; '.join(differ)}")
     return 1 if differ else 0

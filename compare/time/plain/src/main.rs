@@ -1,5 +1,5 @@
-//! The program `net_bench` over smoltcp, for whole runs on well-formed input: `plain [--sack] MODE ..`, where
-//! `--sack` has the replies to segments show the first three held runs. A bad line ends it with status 1.
+//! The program `net_bench` over smoltcp, for whole runs on well-formed input with one schedule: `plain MODE ..`. A bad
+//! line ends it with status 1.
 use original4::storage::RingBuffer;
 use std::fmt::Display;
 use std::io::{self, BufRead, BufReader, BufWriter, Write};
@@ -76,10 +76,7 @@ impl<A: Assembler + Display> Mode for Runs<A> {
 }
 
 /// Mode stream with one schedule.
-struct Stream<A> {
-    receiver: Receiver<'static, A>,
-    sack: bool,
-}
+struct Stream<A>(Receiver<'static, A>);
 
 fn runs_text(runs: &[(u64, u64)]) -> String {
     let texts: Vec<String> = runs.iter().map(|(start, end)| format!("{start}-{end}")).collect();
@@ -88,17 +85,16 @@ fn runs_text(runs: &[(u64, u64)]) -> String {
 
 impl<A: Assembler> Mode for Stream<A> {
     fn line(&mut self, words: &[&[u8]], out: &mut dyn Write) -> Option<io::Result<()>> {
-        let receiver = &mut self.receiver;
+        let receiver = &mut self.0;
         Some(match *words {
             [b"s", position, hex] => match receiver.segment(number(position)?, &bytes(hex)?) {
                 None => writeln!(out, "refused too many holes"),
-                Some(result) if self.sack => {
+                Some(result) => {
                     let mut held = receiver.held();
                     held.truncate(3);
                     let runs = runs_text(&held);
                     writeln!(out, "kept {} queued {} sack {runs}", result.kept, result.queued)
                 }
-                Some(result) => writeln!(out, "kept {} queued {}", result.kept, result.queued),
             },
             [b"r", count] => {
                 let mut some = vec![0; number(count)?.min(receiver.queued() as u64) as usize];
@@ -116,21 +112,13 @@ impl<A: Assembler> Mode for Stream<A> {
 }
 
 fn mode(words: &[&str]) -> Option<Box<dyn Mode>> {
-    let (sack, words) = match words {
-        ["--sack", rest @ ..] => (true, rest),
-        _ => (false, words),
-    };
     let storage = |capacity: &str| Some(vec![0; capacity.parse::<usize>().ok()?]);
     Some(match *words {
         ["ring", capacity] => Box::new(RingBuffer::new(storage(capacity)?)),
         ["asm", "4"] => Box::new(Runs(Assembler4::new())),
         ["asm", "32"] => Box::new(Runs(Assembler32::new())),
-        ["stream", capacity, "4"] => {
-            Box::new(Stream::<Assembler4> { receiver: Receiver::new(storage(capacity)?, 0), sack })
-        }
-        ["stream", capacity, "32"] => {
-            Box::new(Stream::<Assembler32> { receiver: Receiver::new(storage(capacity)?, 0), sack })
-        }
+        ["stream", capacity, "4"] => Box::new(Stream::<Assembler4>(Receiver::new(storage(capacity)?, 0))),
+        ["stream", capacity, "32"] => Box::new(Stream::<Assembler32>(Receiver::new(storage(capacity)?, 0))),
         _ => return None,
     })
 }
