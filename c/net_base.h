@@ -992,8 +992,7 @@ size_t net_base_scoreboard_count_beyond(
 /* Writes to `limit` the position below which all that wasn't reported is lost, by the rule of RFC
  * 6675, section 4, and returns true: from it on `duplicates` runs were reported (3 in TCP; 0 counts
  * as 1), or more bytes than `duplicates - 1` segments of `segment_size` bytes have. It is the start
- * of a stored run, the last one of which this holds, or 0 if nothing is lost. `duplicates - 1`
- * times `segment_size` counts up to `SIZE_MAX`.
+ * of a stored run, the last one of which this holds, or 0 if nothing is lost.
  *
  * It is refused if `scoreboard` isn't sound with `runs`: false, and nothing changes.
  */

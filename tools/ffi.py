@@ -8,7 +8,8 @@
 
 It reads, in the order of the modules in lib.rt, but those in FIRST before,
 - each `#[unsafe(no_mangle)] pub extern "C" fn`, with its doc comment;
-- each `pub const NET_BASE_..` of an integer type;
+- each `pub const NET_BASE_..` of an integer type, and as `NET_BASE_NONE` what the function `no_number` returns: no constant
+  knows how many bits a `usize` has;
 - each `#[repr(C)]` struct that one of these takes or returns, of this crate or of one that it uses.
 
 A slice is a pointer and then a length, with `_length` after the slice's name; `&T` and `&mut T` are pointers. In
@@ -140,6 +141,8 @@ def items_of(path):
             if requires != (REQUIRES in doc):
                 sys.exit(f"ffi: {name}: a clause `requires` and a heading `{REQUIRES}` go together")
             yield Item("fn", name, doc, members, plain_type(result[1]) if result else "", requires=requires)
+    for head in re.findall(r"((?:^///.*\n)+)(?:^#\[.*\n)*^pub\(crate\) fn no_number\(\) -> usize$", text, flags=re.M):
+        yield Item("const", "NET_BASE_NONE", doc_of(head), type="usize", text="usize::MAX")
 
 
 def first_paragraph(lines):

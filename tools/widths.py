@@ -4,9 +4,9 @@ they are so where it has 32:
 
     python3 tools/widths.py [--all] [FOLDER]
 
-The text is erased with its bounds, `prove!(sum <= bound, "in any `usize`")`, and rustc says what each operation is, by its
-types. A difference, a quotient, a rest, `min`, `max` or `saturating_sub` of numbers of a `usize` is one. Any other
-operation has a cover:
+The text, with the exports for C, is erased with its bounds, `prove!(sum <= bound, "in any `usize`")`, and rustc says what
+each operation is, by its types. A difference, a quotient, a rest, `min`, `max` or `saturating_sub` of numbers of a `usize`
+is one. Any other operation has a cover:
 
     bound     on each way that runs it, a bound of its value is tested before the value is changed, and no way leaves before;
               or such a bound of the same expression was tested, and none of its variables is assigned in between.
@@ -17,8 +17,6 @@ operation has a cover:
     greatest  the body of `most`
     constant  a literal that has 32 bits
     counted   how many elements an iterator has left, as tools/parts/erase_list.py adds it: they are parts of one storage
-
-The exports for C are left out: their contracts are about a `usize` of 64 bits.
 
 The law `is_usize` is given a parameter, a field, a length, what a call returned, or a literal: of a sum it would state
 what is to be proved. No proof but those of `most` and of this law unfolds `shortfall`. With --all the operations that
@@ -431,6 +429,15 @@ def erased(folder):
         raise SystemExit('\n'.join(said))
 
 
+def compiled(crate, kit, target):
+    """The reader of an erased crate."""
+    environment = dict(os.environ, RUSTC=str(kit / 'rustc'), RUSTC_BOOTSTRAP='1', CARGO_TARGET_DIR=str(target))
+    subprocess.run(['cargo', 'rustc', '--offline', '--quiet', '--lib', '--features', 'segmentation-offload,c', '--', *FLAGS],
+                   cwd=crate, check=True, env=environment)
+    mir, = (target / 'debug/deps').glob('*.mir')
+    return Reader(crate, mir.read_text())
+
+
 def show(reader, everything=False):
     """Prints what is open, and returns how many there are of each kind of cover."""
     counts = {'open': 0}
@@ -462,11 +469,7 @@ def main(arguments):
             return 2
         crate = temporary / 'crate'
         erased(crate)
-        subprocess.run(['cargo', 'rustc', '--offline', '--quiet', '--lib', '--features', 'segmentation-offload', '--', *FLAGS],
-                       cwd=crate, check=True, env=dict(os.environ, RUSTC=str(kit / 'rustc'), RUSTC_BOOTSTRAP='1',
-                                                       CARGO_TARGET_DIR=str(temporary / 'target')))
-        mir, = (temporary / 'target/debug/deps').glob('*.mir')
-        counts = show(Reader(crate, mir.read_text()), everything)
+        counts = show(compiled(crate, kit, temporary / 'target'), everything)
     for line in [*laws(sorted((REPOSITORY / 'crates').glob('*/src/**/*.rt'))), *unfolded(REPOSITORY / 'crates')]:
         counts['open'] += 1
         print(f'open: {line}')

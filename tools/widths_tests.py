@@ -147,6 +147,18 @@ ITEMS = [
     ('fn moved(by: usize) -> bool { by == 0 }\npub fn g(a: usize) -> bool { moved(a.wrapping_neg()) }', 1),
 ]
 
+# Plants in the erased exports for C: a file, a part of it, and what is there in its place.
+EXPORTS = [
+    ('ring.rs', 'place.index(capacity, place.length)', 'place.index(capacity, place.length + 0)'),
+    ('packets.rs', 'packets.is_sound(slots.len(), capacity)', 'packets.is_sound(slots.len() * 1, capacity)'),
+    ('receiver.rs', 'kept: accepted.kept,', 'kept: position as usize,'),
+    ('refusals.rs', 'most()', 'usize::MAX'),
+    ('refusals.rs', 'pub const NET_BASE_DONE', 'pub const ALL: usize = usize::MAX;\npub const NET_BASE_DONE'),
+    ('heads/receiver.rs', 'capacity == no_number()', 'capacity == usize::MAX'),
+    ('heads/scoreboard.rs', 'scoreboard.count_beyond(runs)', 'scoreboard.count_beyond(runs).saturating_add(1)'),
+    ('heads/sender.rs', 'sender.room(capacity)', 'sender.room(4_294_967_296)'),
+]
+
 # Functions that state of a number that it is one, and whether they may.
 LAWS = [
     ('fn f(a: usize) { is_usize(a); }', True),
@@ -204,6 +216,15 @@ def main(arguments):
             assert None in covers(reader, f'open{k}') or False in covers(reader, f'open{k}'), text
         for k, (text, count) in enumerate(ITEMS):
             assert sum(not cover for cover in covers(reader, f'items{k}')) == count, (text, covers(reader, f'items{k}'))
+        crate = temporary / 'crate'
+        widths.erased(crate)
+        for file, part, plant in EXPORTS:
+            path = crate / 'src/proved/net_ffi' / file
+            assert part in path.read_text(), (file, part)
+            path.write_text(path.read_text().replace(part, plant, 1))
+        reader = widths.compiled(crate, kit, temporary / 'target')
+        found = [at for at, kind in reader.operations if not reader.cover(at, kind)] + [at for at, _ in reader.large]
+        assert len(found) == len(EXPORTS), found
         for text, allowed in LAWS:
             path = temporary / 'law.rt'
             path.write_text(text)
@@ -213,7 +234,7 @@ def main(arguments):
         for text, count in (('returns c = omega arith', 0), ('unfolding shortfall', 1), ('unfolding front shortfall', 1)):
             path.write_text(f'use a.{{shortfall}}\n{text}\n')
             assert len(list(widths.unfolded(temporary / 'crates'))) == count, text
-    print(f'{len(COVERED)} covers, {len(OPEN)} plants, {len(ITEMS)} items, {len(LAWS)} calls of the law')
+    print(f'{len(COVERED)} covers, {len(OPEN) + len(EXPORTS)} plants, {len(ITEMS)} items, {len(LAWS)} calls of the law')
     return 0
 
 

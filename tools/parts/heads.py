@@ -90,8 +90,8 @@ DONE = Result("bool", "{call};\n    true", "false", "IsFalse result", "false")
 STATUS = "NET_BASE_REFUSED", "result ≡ NET_BASE_REFUSED", "`NET_BASE_REFUSED`"
 RESULTS = {
     "bool": Result("bool", "{call}", "false", "IsFalse result", "false"),
-    "usize": Result("usize", "{call}", NONE, "result ≡ 2 ^ 64 - 1", f"`{NONE}`"),
-    "Span": Result("Span", "{call}", "NO_SPAN", "result ≡ nowhere",
+    "usize": Result("usize", "{call}", "no_number()", "result ≡ no_number", f"`{NONE}`"),
+    "Span": Result("Span", "{call}", "no_span()", "result ≡ nowhere",
                    f"`from` is `{NONE}`, `count` and `contiguous` are 0"),
     "Result<(), TooManyHolesError>": Result(
         "u32", "status_of({call})", *STATUS, "(done_or_many result)", (("status", "result < 2"),)),
@@ -104,7 +104,7 @@ RESULTS = {
         (("status", "result.status < 2"), ("none", "result.status ≡ 1 → result.length ≡ 0"))),
     "Arrival": Result("u32", "number_of({call})", "", "", ""),
     "Option<(usize, usize)>": Result(
-        "Run", "run_of({call})", "NO_RUN", "result ≡ (2 ^ 64 - 1, 2 ^ 64 - 1)", f"both are `{NONE}`",
+        "Run", "run_of({call})", "no_run()", "result ≡ (no_number, no_number)", f"both are `{NONE}`",
         "unwrap_or"),
 }
 
@@ -402,8 +402,8 @@ def comment_after(lines, at):
 
 # Names of clauses that no head's file cites.
 OWN = {
-    "Rattle.std.specs.Prelude": "◌≡◌ ◌↔◌ ◌≤◌ ◌<◌ ◌-◌ ◌+◌ ◌^◌ ◌++◌ ◌⊎◌ IsTrue IsFalse length unwrap_or if◌then◌else◌",
-    "Rattle.net_ffi.specs.Refusals": "nowhere",
+    "Rattle.std.specs.Prelude": "◌≡◌ ◌≢◌ ◌↔◌ ◌≤◌ ◌<◌ ◌-◌ ◌+◌ ◌^◌ ◌++◌ ◌⊎◌ IsTrue IsFalse length unwrap_or if◌then◌else◌",
+    "Rattle.net_ffi.specs.Refusals": "no_number nowhere",
     "Rattle.net_base.specs.declared.storage.fragments.FragmentError.TheVariants": "TooLong OtherSize",
     "Rattle.net_ffi.specs.Results": "done_or_many length_or_many done_or_error IsStatus",
 }
@@ -448,7 +448,7 @@ def file_of(head, exports):
     code = "\n".join(line for line in body if not line.startswith("///"))
     imports = {}
     for name, module in (CODE | {"is_plausible": f"crate::{head.section.removeprefix('finite_')}"}).items():
-        if re.search(rf"\b{name}\b", code):
+        if re.search(rf"\b{name}\b{'[(]' * name.islower()}", code):
             imports.setdefault(module, []).append(name)
     lines += [""] * bool(imports)
     for module, names in sorted(imports.items()):
@@ -457,7 +457,7 @@ def file_of(head, exports):
 
 
 CODE = {name: module for module, names in {
-    "crate::refusals": "NET_BASE_ACKNOWLEDGEMENT_ONLY NET_BASE_ANSWER NET_BASE_IGNORE NET_BASE_RESET NET_BASE_TAKE NET_BASE_DONE NET_BASE_MISSING NET_BASE_NONE NET_BASE_PRESENT NET_BASE_REFUSED NO_FRONT NO_RUN NO_SPAN",
+    "crate::refusals": "NET_BASE_ACKNOWLEDGEMENT_ONLY NET_BASE_ANSWER NET_BASE_IGNORE NET_BASE_RESET NET_BASE_TAKE NET_BASE_DONE NET_BASE_MISSING NET_BASE_PRESENT NET_BASE_REFUSED NO_FRONT no_number no_run no_span",
     "crate::results": "FrontLength Hole front_length number_of presence_of run_of status_of status_of_fragment",
     "crate::receiver": "has_next", "crate::finite_receiver": "has_number",
     "net_assembler": "AssemblerHead Run", "net_ring": "RingHead Span", "net_base::storage": "FragmentsHead",

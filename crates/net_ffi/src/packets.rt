@@ -1,5 +1,5 @@
 //! Packets that are placed, taken and looked at.
-ghost use Rattle.std.specs.Prelude.{◌≡◌, ◌≤◌, ◌⊎◌, ◌-◌, ◌^◌, ℕ, List, length, slice_get};
+ghost use Rattle.std.specs.Prelude.{◌≡◌, ◌≤◌, ◌⊎◌, ℕ, List, length, slice_get};
 ghost use Rattle.std.specs.declared.option.Option.TheVariants.{Some, None};
 ghost use Rattle.net_ring.specs.RingHead.{place};
 ghost use Rattle.net_packets.specs.Packets.{with_packet_if_room, without_first_and_gap};
@@ -8,42 +8,63 @@ ghost use Rattle.net_packets.specs.PacketsHead.{with_slot_taken};
 ghost use Rattle.net_packets.specs.HeadQueue.{HasSoundSlots, queue_of, slots_written, HasFirst, first_packet};
 ghost use Rattle.net_packets.specs.HeadQueue.{head_after_first, IsFirstAt, CanTake, after_slot};
 ghost use Rattle.net_packets.specs.declared.packet_slot.PacketSlot.{PacketSlot};
+ghost use Rattle.net_ffi.specs.Refusals.{no_number};
 ghost use Rattle.net_ffi.specs.PacketPlaces.{no_place, nonsense_place, no_first, nonsense_first};
 
-use crate::refusals::NET_BASE_NONE;
+use crate::refusals::no_number;
 use net_packets::{FirstPacket, PacketPlace, PacketSlot, PacketsHead};
 
 /// What is returned if there is no room.
-const NO_PLACE: PacketPlace = PacketPlace {
-    gap: 0,
-    gap_slot: NET_BASE_NONE,
-    slot: NET_BASE_NONE,
-    from: NET_BASE_NONE,
-};
+#[inline(always)]
+fn no_place() -> PacketPlace
+    ensures { result ≡ no_place }
+{
+    PacketPlace {
+        gap: 0,
+        gap_slot: no_number(),
+        slot: no_number(),
+        from: no_number(),
+    }
+}
 
 /// What is returned in place of a place that is refused.
-const NONSENSE: PacketPlace = PacketPlace {
-    gap: NET_BASE_NONE,
-    gap_slot: NET_BASE_NONE,
-    slot: NET_BASE_NONE,
-    from: NET_BASE_NONE,
-};
+#[inline(always)]
+fn nonsense_place() -> PacketPlace
+    ensures { result ≡ nonsense_place }
+{
+    PacketPlace {
+        gap: no_number(),
+        gap_slot: no_number(),
+        slot: no_number(),
+        from: no_number(),
+    }
+}
 
 /// What is returned if there is no packet.
-const NO_FIRST: FirstPacket = FirstPacket {
-    gap: 0,
-    slot: NET_BASE_NONE,
-    from: NET_BASE_NONE,
-    size: 0,
-};
+#[inline(always)]
+fn no_first() -> FirstPacket
+    ensures { result ≡ no_first }
+{
+    FirstPacket {
+        gap: 0,
+        slot: no_number(),
+        from: no_number(),
+        size: 0,
+    }
+}
 
 /// What is returned in place of a first packet that is refused.
-const NONSENSE_FIRST: FirstPacket = FirstPacket {
-    gap: NET_BASE_NONE,
-    slot: NET_BASE_NONE,
-    from: NET_BASE_NONE,
-    size: 0,
-};
+#[inline(always)]
+fn nonsense_first() -> FirstPacket
+    ensures { result ≡ nonsense_first }
+{
+    FirstPacket {
+        gap: no_number(),
+        slot: no_number(),
+        from: no_number(),
+        size: 0,
+    }
+}
 
 /// Appends a packet of `size` bytes, writes its slot and that of its gap, whose `is_gap` is 1, and returns where they
 /// and the packet's bytes are. If no byte is in use, which is so too where all packets have 0 bytes, the packet begins
@@ -71,11 +92,11 @@ pub extern "C" fn net_base_packets_enqueue(
     ensures sound { HasSoundSlots capacity packets.old slots.old → HasSoundSlots capacity packets.new slots.new }
 {
     if !packets.is_sound(slots.len(), capacity) {
-        return NONSENSE;
+        return nonsense_place();
     }
     match packets.enqueue(slots, capacity, size) {
         Some(place) => place,
-        None => NO_PLACE,
+        None => no_place(),
     }
 }
 
@@ -106,14 +127,14 @@ pub extern "C" fn net_base_packets_dequeue(
     ensures sound { HasSoundSlots capacity packets.old slots.now → HasSoundSlots capacity packets.new slots.now }
 {
     if !packets.is_sound(slots.len(), capacity) {
-        return NONSENSE_FIRST;
+        return nonsense_first();
     }
     if packets.slots.length == 0 {
-        return NO_FIRST;
+        return no_first();
     }
     match packets.dequeue(slots, capacity) {
         Some(first) => first,
-        None => NONSENSE_FIRST,
+        None => nonsense_first(),
     }
 }
 
@@ -138,14 +159,14 @@ pub extern "C" fn net_base_packets_peek(
         packets.now.slots.length → IsFirstAt (queue_of packets.now slots.now xs) result }
 {
     if !packets.is_sound(slots.len(), capacity) {
-        return NONSENSE_FIRST;
+        return nonsense_first();
     }
     if packets.slots.length == 0 {
-        return NO_FIRST;
+        return no_first();
     }
     match packets.peek(slots, capacity) {
         Some(first) => first,
-        None => NONSENSE_FIRST,
+        None => nonsense_first(),
     }
 }
 
@@ -166,7 +187,7 @@ pub extern "C" fn net_base_packets_take_slot(
     ensures taken { IsSoundHead slot_count capacity packets.old → CanTake capacity packets.old first.now → (result ≡
         packets.old.bytes.read_at) × (packets.new ≡ with_slot_taken slot_count capacity first.now.size packets.old) }
     ensures refused { (IsSoundHead slot_count capacity packets.old × CanTake capacity packets.old first.now → ⊥) →
-        (result ≡ 2 ^ 64 - 1) × (packets.new ≡ packets.old) }
+        (result ≡ no_number) × (packets.new ≡ packets.old) }
     ensures first { (slots : List PacketSlot) → length slots ≡ slot_count → HasSoundSlots capacity packets.old slots →
         1 ≤ packets.old.slots.length → slice_get slots packets.old.slots.read_at ≡ Some first.now → CanTake capacity
         packets.old first.now }
@@ -179,7 +200,7 @@ pub extern "C" fn net_base_packets_take_slot(
         capacity packets.new slots }
 {
     if !packets.is_sound(slot_count, capacity) || !packets.can_take(slot_count, capacity, first) {
-        return NET_BASE_NONE;
+        return no_number();
     }
     packets.take_slot(slot_count, capacity, first)
 }

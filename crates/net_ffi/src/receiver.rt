@@ -12,7 +12,7 @@ ghost use Rattle.net_receiver.specs.OneStream.{ReceivesFrom, MatchesStream};
 ghost use Rattle.net_receiver.specs.Head.{receiver_of, HasSoundParts, storage_after};
 ghost use Rattle.net_ffi.specs.ReceiverParts.{IsReadable, IsPlausible};
 
-use crate::refusals::{NET_BASE_DONE, NET_BASE_NONE, NET_BASE_REFUSED, NET_BASE_TOO_MANY_RUNS};
+use crate::refusals::{NET_BASE_DONE, NET_BASE_REFUSED, NET_BASE_TOO_MANY_RUNS};
 use net_assembler::Run;
 use net_receiver::{HeldRun, ReceiverHead, laws};
 

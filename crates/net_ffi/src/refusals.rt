@@ -1,9 +1,10 @@
 //! What a refused call returns, and the statuses of those that are done.
-ghost use Rattle.std.specs.Prelude.{◌≡◌, ◌-◌, ◌^◌};
-ghost use Rattle.net_ffi.specs.Refusals.{nowhere};
+ghost use Rattle.std.specs.Prelude.{◌≡◌};
+ghost use Rattle.net_ffi.specs.Refusals.{no_number, nowhere};
 
 use crate::results::FrontLength;
 use net_assembler::Run;
+use net_assembler::width::most;
 use net_ring::Span;
 
 /// The call was done.
@@ -46,22 +47,6 @@ pub const NET_BASE_IGNORE: u32 = 11;
 /// The peer has reset the connection.
 pub const NET_BASE_RESET: u32 = 12;
 
-/// In place of a length, an index or a count: what was passed is nonsense, or there is none.
-pub const NET_BASE_NONE: usize = usize::MAX;
-
-/// The span of a refused call.
-pub(crate) const NO_SPAN: Span = Span {
-    from: NET_BASE_NONE,
-    count: 0,
-    contiguous: 0,
-};
-
-/// The run of a refused call.
-pub(crate) const NO_RUN: Run = Run {
-    start: NET_BASE_NONE,
-    end: NET_BASE_NONE,
-};
-
 /// The front of a refused call.
 pub(crate) const NO_FRONT: FrontLength = FrontLength {
     status: NET_BASE_REFUSED,
@@ -83,6 +68,35 @@ pub fn numbers()
     ensures answer { NET_BASE_ANSWER ≡ 10 }
     ensures ignore { NET_BASE_IGNORE ≡ 11 }
     ensures reset { NET_BASE_RESET ≡ 12 }
-    ensures none { NET_BASE_NONE ≡ 2 ^ 64 - 1 }
-    ensures span { NO_SPAN ≡ nowhere }
 {}
+
+/// In place of a length, an index or a count: what was passed is nonsense, or there is none.
+#[inline(always)]
+pub(crate) fn no_number() -> usize
+    ensures { result ≡ no_number }
+{
+    most()
+}
+
+/// The span of a refused call.
+#[inline(always)]
+pub(crate) fn no_span() -> Span
+    ensures { result ≡ nowhere }
+{
+    Span {
+        from: no_number(),
+        count: 0,
+        contiguous: 0,
+    }
+}
+
+/// The run of a refused call.
+#[inline(always)]
+pub(crate) fn no_run() -> Run
+    ensures { result ≡ (no_number, no_number) }
+{
+    Run {
+        start: no_number(),
+        end: no_number(),
+    }
+}

@@ -6,13 +6,14 @@ ghost use Rattle.net_assembler.specs.AssemblerLaws.{Adds, AddsThenRemovesFront, 
 ghost use Rattle.net_assembler.specs.Positions.{RangeFits, contains, front, holes, maximal_runs, nothing};
 ghost use Rattle.net_assembler.specs.Positions.{runs as run_count, shift_down};
 ghost use Rattle.net_assembler.specs.RunLists.{HasSoundRuns, IsCanonical, set_of};
+ghost use Rattle.net_ffi.specs.Refusals.{no_number};
 ghost use Rattle.net_ffi.specs.Results.{done_or_many, length_or_many};
 ghost use Rattle.std.specs.List.{slice_get};
-ghost use Rattle.std.specs.Prelude.{IsFalse, IsTrue, List, OnErr, if◌then◌else◌, length, unwrap_or, ℕ, ◌+◌, ◌-◌};
-ghost use Rattle.std.specs.Prelude.{◌<◌, ◌^◌, ◌↔◌, ◌≡◌, ◌≤◌};
+ghost use Rattle.std.specs.Prelude.{IsFalse, IsTrue, List, OnErr, if◌then◌else◌, length, unwrap_or, ℕ, ◌+◌, ◌<◌};
+ghost use Rattle.std.specs.Prelude.{◌↔◌, ◌≡◌, ◌≤◌};
 
 use crate::refusals::{
-    NET_BASE_DONE, NET_BASE_MISSING, NET_BASE_PRESENT, NET_BASE_REFUSED, NO_FRONT, NO_RUN,
+    NET_BASE_DONE, NET_BASE_MISSING, NET_BASE_PRESENT, NET_BASE_REFUSED, NO_FRONT, no_run,
 };
 use crate::results::{FrontLength, front_length, presence_of, run_of, status_of};
 use net_assembler::{AssemblerHead, Run};
@@ -264,10 +265,10 @@ pub extern "C" fn net_base_assembler_run_at(
     requires sound { assembler.now.used ≤ length runs.now → HasSoundRuns assembler.now runs.now }
     ensures run { assembler.now.used ≤ length runs.now → result ≡ unwrap_or (slice_get (maximal_runs (set_of
         assembler.now runs.now)) index) (0, 0) }
-    ensures refused { (assembler.now.used ≤ length runs.now → ⊥) → result ≡ (2 ^ 64 - 1, 2 ^ 64 - 1) }
+    ensures refused { (assembler.now.used ≤ length runs.now → ⊥) → result ≡ (no_number, no_number) }
 {
     if assembler.used > runs.len() {
-        return NO_RUN;
+        return no_run();
     }
     run_of(assembler.run_at(runs, index))
 }
@@ -290,10 +291,10 @@ pub extern "C" fn net_base_assembler_hole_at(
     requires sound { assembler.now.used ≤ length runs.now → HasSoundRuns assembler.now runs.now }
     ensures hole { assembler.now.used ≤ length runs.now → result ≡ unwrap_or (slice_get (holes (set_of assembler.now
         runs.now)) index) (0, 0) }
-    ensures refused { (assembler.now.used ≤ length runs.now → ⊥) → result ≡ (2 ^ 64 - 1, 2 ^ 64 - 1) }
+    ensures refused { (assembler.now.used ≤ length runs.now → ⊥) → result ≡ (no_number, no_number) }
 {
     if assembler.used > runs.len() {
-        return NO_RUN;
+        return no_run();
     }
     run_of(assembler.hole_at(runs, index))
 }

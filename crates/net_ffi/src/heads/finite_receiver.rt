@@ -6,6 +6,7 @@
 //! is below that. `receiver` is a receiver, whose calls that only look may be made on it.
 // Written by tools/ffi.py.
 ghost use Rattle.net_ffi.specs.ReceiverParts.{IsPlausible};
+ghost use Rattle.net_ffi.specs.Refusals.{no_number};
 ghost use Rattle.net_receiver.specs.Finite.{acknowledged, can_end, finite_after_read, has_read_all, is_complete};
 ghost use Rattle.net_receiver.specs.Finite.{no_end};
 ghost use Rattle.net_receiver.specs.FiniteHead.{HasSoundFinite, finite_of, next_of};
@@ -19,7 +20,7 @@ ghost use Rattle.std.specs.Prelude.{take, ℕ, ◌&&◌, ◌++◌, ◌+◌, ◌-
 
 use crate::finite_receiver::has_number;
 use crate::receiver::{has_next, is_plausible};
-use crate::refusals::{NET_BASE_MISSING, NET_BASE_NONE, NET_BASE_PRESENT, NET_BASE_REFUSED};
+use crate::refusals::{NET_BASE_MISSING, NET_BASE_PRESENT, NET_BASE_REFUSED, no_number};
 use crate::results::presence_of;
 use net_assembler::Run;
 use net_receiver::FiniteReceiverHead;
@@ -160,10 +161,10 @@ pub extern "C" fn net_base_finite_receiver_read(
         storage.now runs) × (take result into.new ≡ slice_range x receiver.old.receiver.count_read
         (receiver.old.receiver.count_read + result)) }
     ensures refused { ((IsSoundPlace (length storage.now) receiver.old.receiver.place) × (next_of receiver.old < 2 ^
-        64) → ⊥) → (result ≡ 2 ^ 64 - 1) × (receiver.new ≡ receiver.old) × («into».new ≡ «into».old) }
+        64) → ⊥) → (result ≡ no_number) × (receiver.new ≡ receiver.old) × («into».new ≡ «into».old) }
 {
     if !receiver.receiver.place.is_sound(storage.len()) || !has_next(&receiver.receiver) {
-        return NET_BASE_NONE;
+        return no_number();
     }
     receiver.read(storage, into)
 }
@@ -231,12 +232,12 @@ pub extern "C" fn net_base_finite_receiver_count_new(
         no_end) → result ≡ new_count (receiver_of receiver.now.receiver storage.now runs.now) position (min len
         (receiver.now.end - position)) }
     ensures refused { ((IsPlausible (length storage.now) (length runs.now) receiver.now.receiver) × (position + len
-        < no_end) → ⊥) → result ≡ 2 ^ 64 - 1 }
+        < no_end) → ⊥) → result ≡ no_number }
 {
     if !is_plausible(&receiver.receiver, storage.len(), runs.len())
         || !FiniteReceiverHead::fits(position, len)
     {
-        return NET_BASE_NONE;
+        return no_number();
     }
     receiver.count_new(storage, runs, position, len)
 }

@@ -5,15 +5,16 @@
 //! below 2^64 - 1, is new. A number is kept for the end. Where bytes are tells
 //! `net_base_sender_peek_at` of `sender`.
 // Written by tools/ffi.py.
+ghost use Rattle.net_ffi.specs.Refusals.{no_number};
 ghost use Rattle.net_receiver.specs.FiniteSender.{IsSoundFiniteSender, acknowledged_below, closed_sender};
 ghost use Rattle.net_receiver.specs.FiniteSender.{finite_room, finite_sender_of, has_end_at, with_bytes};
 ghost use Rattle.net_receiver.specs.SenderState.{Sends};
 ghost use Rattle.net_ring.specs.Ring.{rewind_if_empty, with_elements_wrapping, with_enqueued, write_at};
 ghost use Rattle.net_ring.specs.RingHead.{ring_at};
 ghost use Rattle.std.specs.Prelude.{IsFalse, IsTrue, List, if◌then◌else◌, length, max, min, take, ℕ, ◌++◌, ◌+◌};
-ghost use Rattle.std.specs.Prelude.{◌-◌, ◌<◌, ◌==◌, ◌^◌, ◌↔◌, ◌≡◌, ◌≤◌};
+ghost use Rattle.std.specs.Prelude.{◌<◌, ◌==◌, ◌↔◌, ◌≡◌, ◌≢◌, ◌≤◌};
 
-use crate::refusals::{NET_BASE_MISSING, NET_BASE_NONE, NET_BASE_PRESENT, NET_BASE_REFUSED};
+use crate::refusals::{NET_BASE_MISSING, NET_BASE_PRESENT, NET_BASE_REFUSED, no_number};
 use crate::results::presence_of;
 use net_receiver::FiniteSenderHead;
 
@@ -82,13 +83,12 @@ pub extern "C" fn net_base_finite_sender_numbers_end(
 /// `capacity` bytes: `NET_BASE_NONE`.
 #[unsafe(no_mangle)]
 pub extern "C" fn net_base_finite_sender_room(sender: &FiniteSenderHead, capacity: usize) -> usize
-    ensures value { (capacity < 2 ^ 64 - 1) × (IsSoundFiniteSender capacity sender.now) → (storage : List ℕ) →
-        length storage ≡ capacity → result ≡ finite_room (finite_sender_of sender.now storage) }
-    ensures refused { ((capacity < 2 ^ 64 - 1) × (IsSoundFiniteSender capacity sender.now) → ⊥) → result ≡ 2 ^ 64 -
-        1 }
+    ensures value { (capacity ≢ no_number) × (IsSoundFiniteSender capacity sender.now) → (storage : List ℕ) → length
+        storage ≡ capacity → result ≡ finite_room (finite_sender_of sender.now storage) }
+    ensures refused { ((capacity ≢ no_number) × (IsSoundFiniteSender capacity sender.now) → ⊥) → result ≡ no_number }
 {
-    if capacity == usize::MAX || !sender.is_sound(capacity) {
-        return NET_BASE_NONE;
+    if capacity == no_number() || !sender.is_sound(capacity) {
+        return no_number();
     }
     sender.room(capacity)
 }
@@ -118,11 +118,11 @@ pub extern "C" fn net_base_finite_sender_write(
     ensures sends { IsSoundFiniteSender (length storage.old) sender.old → (f : ℕ) (w : List ℕ) → Sends f w
         (finite_sender_of sender.old storage.old).sender → Sends f (w ++ take result bytes.now) (finite_sender_of
         sender.new storage.new).sender }
-    ensures refused { (IsSoundFiniteSender (length storage.old) sender.old → ⊥) → (result ≡ 2 ^ 64 - 1) ×
-        (sender.new ≡ sender.old) × (storage.new ≡ storage.old) }
+    ensures refused { (IsSoundFiniteSender (length storage.old) sender.old → ⊥) → (result ≡ no_number) × (sender.new
+        ≡ sender.old) × (storage.new ≡ storage.old) }
 {
     if !sender.is_sound(storage.len()) {
-        return NET_BASE_NONE;
+        return no_number();
     }
     sender.write(storage, bytes)
 }

@@ -6,6 +6,7 @@
 //! `held`, whose position 0 is `next`: the first of them starts `held.first_start` after it.
 // Written by tools/ffi.py.
 ghost use Rattle.net_ffi.specs.ReceiverParts.{IsPlausible};
+ghost use Rattle.net_ffi.specs.Refusals.{no_number};
 ghost use Rattle.net_receiver.specs.Head.{HasSoundParts, head_after_read, receiver_of};
 ghost use Rattle.net_receiver.specs.NewestRuns.{newest_runs, with_starts};
 ghost use Rattle.net_receiver.specs.OneStream.{ReceivesFrom};
@@ -15,10 +16,10 @@ ghost use Rattle.net_receiver.specs.Segments.{new_count};
 ghost use Rattle.net_ring.specs.Ring.{queue};
 ghost use Rattle.net_ring.specs.RingHead.{IsSound as IsSoundPlace, ring_at};
 ghost use Rattle.std.specs.Prelude.{IsFalse, IsTrue, List, drop, length, min, slice_range, take, ℕ, ◌++◌, ◌+◌, ◌-◌};
-ghost use Rattle.std.specs.Prelude.{◌<◌, ◌^◌, ◌↔◌, ◌∷◌, ◌≡◌, ◌≤◌};
+ghost use Rattle.std.specs.Prelude.{◌<◌, ◌^◌, ◌↔◌, ◌∷◌, ◌≡◌, ◌≢◌, ◌≤◌};
 
 use crate::receiver::{has_next, is_plausible};
-use crate::refusals::NET_BASE_NONE;
+use crate::refusals::no_number;
 use net_assembler::Run;
 use net_receiver::{HeldRun, ReceiverHead};
 
@@ -63,12 +64,12 @@ pub extern "C" fn net_base_receiver_next(receiver: &ReceiverHead, next: &mut u64
 /// `NET_BASE_NONE`.
 #[unsafe(no_mangle)]
 pub extern "C" fn net_base_receiver_window(receiver: &ReceiverHead, capacity: usize) -> usize
-    ensures value { (capacity < 2 ^ 64 - 1) × (receiver.now.place.length ≤ capacity) → result ≡ capacity -
+    ensures value { (capacity ≢ no_number) × (receiver.now.place.length ≤ capacity) → result ≡ capacity -
         receiver.now.place.length }
-    ensures refused { ((capacity < 2 ^ 64 - 1) × (receiver.now.place.length ≤ capacity) → ⊥) → result ≡ 2 ^ 64 - 1 }
+    ensures refused { ((capacity ≢ no_number) × (receiver.now.place.length ≤ capacity) → ⊥) → result ≡ no_number }
 {
-    if capacity == usize::MAX || receiver.place.length > capacity {
-        return NET_BASE_NONE;
+    if capacity == no_number() || receiver.place.length > capacity {
+        return no_number();
     }
     receiver.window(capacity)
 }
@@ -110,11 +111,11 @@ pub extern "C" fn net_base_receiver_read(
         storage.now runs) → ReceivesFrom f x (receiver_of receiver.new storage.now runs) × (take result into.new ≡
         slice_range x receiver.old.count_read (receiver.old.count_read + result)) }
     ensures refused { ((IsSoundPlace (length storage.now) receiver.old.place) × (receiver.old.first +
-        receiver.old.count_read + receiver.old.place.length < 2 ^ 64) → ⊥) → (result ≡ 2 ^ 64 - 1) × (receiver.new ≡
+        receiver.old.count_read + receiver.old.place.length < 2 ^ 64) → ⊥) → (result ≡ no_number) × (receiver.new ≡
         receiver.old) × («into».new ≡ «into».old) }
 {
     if !receiver.place.is_sound(storage.len()) || !has_next(receiver) {
-        return NET_BASE_NONE;
+        return no_number();
     }
     receiver.read(storage, into)
 }
@@ -135,11 +136,11 @@ pub extern "C" fn net_base_receiver_peek_slice(
         receiver.now.place.length }
     ensures into { let queued = queue (ring_at storage.now receiver.now.place) in IsSoundPlace (length storage.now)
         receiver.now.place → into.new ≡ take (length into.old) queued ++ drop (length queued) into.old }
-    ensures refused { (IsSoundPlace (length storage.now) receiver.now.place → ⊥) → (result ≡ 2 ^ 64 - 1) ×
+    ensures refused { (IsSoundPlace (length storage.now) receiver.now.place → ⊥) → (result ≡ no_number) ×
         («into».new ≡ «into».old) }
 {
     if !receiver.place.is_sound(storage.len()) {
-        return NET_BASE_NONE;
+        return no_number();
     }
     receiver.peek_slice(storage, into)
 }
@@ -217,11 +218,11 @@ pub extern "C" fn net_base_receiver_newest_runs(
         result into.old }
     ensures recent { IsPlausible (length storage.now) (length runs.now) receiver.now → recent.new ≡ with_starts
         recent.old (take result into.new) }
-    ensures refused { (IsPlausible (length storage.now) (length runs.now) receiver.now → ⊥) → (result ≡ 2 ^ 64 - 1)
-        × (recent.new ≡ recent.old) × («into».new ≡ «into».old) }
+    ensures refused { (IsPlausible (length storage.now) (length runs.now) receiver.now → ⊥) → (result ≡ no_number) ×
+        (recent.new ≡ recent.old) × («into».new ≡ «into».old) }
 {
     if !is_plausible(receiver, storage.len(), runs.len()) {
-        return NET_BASE_NONE;
+        return no_number();
     }
     receiver.newest_runs(storage, runs, position, recent, into)
 }
@@ -252,10 +253,10 @@ pub extern "C" fn net_base_receiver_count_new(
     ensures value { (IsPlausible (length storage.now) (length runs.now) receiver.now) × (position + len < 2 ^ 64) →
         result ≡ new_count (receiver_of receiver.now storage.now runs.now) position len }
     ensures refused { ((IsPlausible (length storage.now) (length runs.now) receiver.now) × (position + len < 2 ^ 64)
-        → ⊥) → result ≡ 2 ^ 64 - 1 }
+        → ⊥) → result ≡ no_number }
 {
     if !is_plausible(receiver, storage.len(), runs.len()) || len as u64 > u64::MAX - position {
-        return NET_BASE_NONE;
+        return no_number();
     }
     receiver.count_new(storage, runs, position, len)
 }

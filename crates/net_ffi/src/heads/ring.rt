@@ -6,14 +6,14 @@
 //! `read_at` after it, and doesn't rewind. In a span of no elements `from` is where the first would
 //! be.
 // Written by tools/ffi.py.
-ghost use Rattle.net_ffi.specs.Refusals.{nowhere};
+ghost use Rattle.net_ffi.specs.Refusals.{no_number, nowhere};
 ghost use Rattle.net_ring.specs.Ring.{Dequeues, Enqueues, WritesSpare, queue, rewind_if_empty, spare_index, window};
 ghost use Rattle.net_ring.specs.Ring.{with_dequeued, with_elements_wrapping, with_enqueued, write_at};
 ghost use Rattle.net_ring.specs.RingHead.{IsSound, IsWithin, dequeued_place, enqueued_place, free_index};
 ghost use Rattle.net_ring.specs.RingHead.{place as place_of, queued_index, rewound, ring_at};
-ghost use Rattle.std.specs.Prelude.{IsFalse, IsTrue, drop, length, min, take, ℕ, ◌++◌, ◌+◌, ◌-◌, ◌^◌, ◌↔◌, ◌≡◌, ◌≤◌};
+ghost use Rattle.std.specs.Prelude.{IsFalse, IsTrue, drop, length, min, take, ℕ, ◌++◌, ◌+◌, ◌-◌, ◌↔◌, ◌≡◌, ◌≤◌};
 
-use crate::refusals::{NET_BASE_NONE, NO_SPAN};
+use crate::refusals::{no_number, no_span};
 use net_ring::{RingHead, Span};
 
 /// Returns whether `place` is that of a ring of `capacity` elements: its read index is an index of
@@ -44,7 +44,7 @@ pub extern "C" fn net_base_ring_unallocated(
     ensures refused { (IsSound capacity place.now → ⊥) → result ≡ nowhere }
 {
     if !place.is_sound(capacity) {
-        return NO_SPAN;
+        return no_span();
     }
     place.unallocated(capacity, offset, size)
 }
@@ -68,7 +68,7 @@ pub extern "C" fn net_base_ring_allocated(
     ensures refused { (IsSound capacity place.now → ⊥) → result ≡ nowhere }
 {
     if !place.is_sound(capacity) {
-        return NO_SPAN;
+        return no_span();
     }
     place.allocated(capacity, offset, size)
 }
@@ -166,7 +166,7 @@ pub extern "C" fn net_base_ring_enqueue_span(
     ensures refused { (IsSound capacity place.old → ⊥) → (result ≡ nowhere) × (place.new ≡ place.old) }
 {
     if !place.is_sound(capacity) {
-        return NO_SPAN;
+        return no_span();
     }
     place.enqueue_span(capacity, size)
 }
@@ -194,7 +194,7 @@ pub extern "C" fn net_base_ring_enqueue_many(
     ensures refused { (IsSound capacity place.old → ⊥) → (result ≡ nowhere) × (place.new ≡ place.old) }
 {
     if !place.is_sound(capacity) {
-        return NO_SPAN;
+        return no_span();
     }
     place.enqueue_many(capacity, size)
 }
@@ -218,7 +218,7 @@ pub extern "C" fn net_base_ring_dequeue_span(
     ensures refused { (IsSound capacity place.old → ⊥) → (result ≡ nowhere) × (place.new ≡ place.old) }
 {
     if !place.is_sound(capacity) {
-        return NO_SPAN;
+        return no_span();
     }
     place.dequeue_span(capacity, size)
 }
@@ -244,7 +244,7 @@ pub extern "C" fn net_base_ring_dequeue_many(
     ensures refused { (IsSound capacity place.old → ⊥) → (result ≡ nowhere) × (place.new ≡ place.old) }
 {
     if !place.is_sound(capacity) {
-        return NO_SPAN;
+        return no_span();
     }
     place.dequeue_many(capacity, size)
 }
@@ -268,11 +268,11 @@ pub extern "C" fn net_base_ring_write_unallocated(
     ensures written { IsSound (length storage.old) place.now → WritesSpare (ring_at storage.old place.now) offset
         (take result «data».now) (ring_at storage.new place.now) }
     ensures size { IsSound (length storage.old) place.now → length storage.new ≡ length storage.old }
-    ensures refused { (IsSound (length storage.old) place.now → ⊥) → (result ≡ 2 ^ 64 - 1) × (storage.new ≡
+    ensures refused { (IsSound (length storage.old) place.now → ⊥) → (result ≡ no_number) × (storage.new ≡
         storage.old) }
 {
     if !place.is_sound(storage.len()) {
-        return NET_BASE_NONE;
+        return no_number();
     }
     place.write_unallocated(storage, offset, data)
 }
@@ -294,11 +294,11 @@ pub extern "C" fn net_base_ring_read_allocated(
         offset) }
     ensures given { IsSound (length storage.now) place.now → «into».new ≡ take result (drop offset (queue (ring_at
         storage.now place.now))) ++ drop result «into».old }
-    ensures refused { (IsSound (length storage.now) place.now → ⊥) → (result ≡ 2 ^ 64 - 1) × («into».new ≡
+    ensures refused { (IsSound (length storage.now) place.now → ⊥) → (result ≡ no_number) × («into».new ≡
         «into».old) }
 {
     if !place.is_sound(storage.len()) {
-        return NET_BASE_NONE;
+        return no_number();
     }
     place.read_allocated(storage, offset, into)
 }
@@ -328,11 +328,11 @@ pub extern "C" fn net_base_ring_enqueue_slice(
     ensures same { IsSound (length storage.old) place.old → (place.new.length ≡ place.old.length + result) × (length
         storage.new ≡ length storage.old) }
     ensures sound { IsSound (length storage.old) place.old → IsSound (length storage.new) place.new }
-    ensures refused { (IsSound (length storage.old) place.old → ⊥) → (result ≡ 2 ^ 64 - 1) × (place.new ≡ place.old)
+    ensures refused { (IsSound (length storage.old) place.old → ⊥) → (result ≡ no_number) × (place.new ≡ place.old)
         × (storage.new ≡ storage.old) }
 {
     if !place.is_sound(storage.len()) {
-        return NET_BASE_NONE;
+        return no_number();
     }
     place.enqueue_slice(storage, data)
 }
@@ -358,11 +358,11 @@ pub extern "C" fn net_base_ring_dequeue_slice(
     ensures queue { IsSound (length storage.now) place.old → queue (ring_at storage.now place.new) ≡ drop result
         (queue (ring_at storage.now place.old)) }
     ensures sound { IsSound (length storage.now) place.old → IsSound (length storage.now) place.new }
-    ensures refused { (IsSound (length storage.now) place.old → ⊥) → (result ≡ 2 ^ 64 - 1) × (place.new ≡ place.old)
+    ensures refused { (IsSound (length storage.now) place.old → ⊥) → (result ≡ no_number) × (place.new ≡ place.old)
         × («into».new ≡ «into».old) }
 {
     if !place.is_sound(storage.len()) {
-        return NET_BASE_NONE;
+        return no_number();
     }
     place.dequeue_slice(storage, into)
 }

@@ -8,15 +8,16 @@
 // Written by tools/ffi.py.
 ghost use Rattle.net_assembler.specs.Positions.{contains, nothing, positions, with_range};
 ghost use Rattle.net_assembler.specs.RunLists.{IsCanonical};
+ghost use Rattle.net_ffi.specs.Refusals.{no_number};
 ghost use Rattle.net_ffi.specs.Results.{done_or_many};
 ghost use Rattle.net_receiver.specs.Losses.{IsLossBound};
 ghost use Rattle.net_receiver.specs.Scoreboards.{HasNoRoom, IsEnd, IsNextHole, IsSoundBoard, IsTooFar, beyond};
 ghost use Rattle.net_receiver.specs.Scoreboards.{reported_by};
 ghost use Rattle.std.specs.Prelude.{IsErr, IsFalse, IsTrue, List, OnErr, OnOk, if◌then◌else◌, length, ℕ, ◌-◌, ◌<◌};
-ghost use Rattle.std.specs.Prelude.{◌^◌, ◌↔◌, ◌≡◌, ◌≤◌, ◌⊎◌};
+ghost use Rattle.std.specs.Prelude.{◌↔◌, ◌≡◌, ◌≤◌, ◌⊎◌};
 
 use crate::refusals::{
-    NET_BASE_DONE, NET_BASE_MISSING, NET_BASE_NONE, NET_BASE_PRESENT, NET_BASE_REFUSED,
+    NET_BASE_DONE, NET_BASE_MISSING, NET_BASE_PRESENT, NET_BASE_REFUSED, no_number,
 };
 use crate::results::{Hole, presence_of, status_of};
 use net_assembler::Run;
@@ -190,10 +191,10 @@ pub extern "C" fn net_base_scoreboard_count_beyond(
 ) -> usize
     ensures value { IsSoundBoard scoreboard.now runs.now → result ≡ length (positions (beyond (reported_by
         scoreboard.now runs.now))) }
-    ensures refused { (IsSoundBoard scoreboard.now runs.now → ⊥) → result ≡ 2 ^ 64 - 1 }
+    ensures refused { (IsSoundBoard scoreboard.now runs.now → ⊥) → result ≡ no_number }
 {
     if !scoreboard.is_sound(runs) {
-        return NET_BASE_NONE;
+        return no_number();
     }
     scoreboard.count_beyond(runs)
 }
@@ -202,7 +203,6 @@ pub extern "C" fn net_base_scoreboard_count_beyond(
 /// 6675, section 4, and returns true: from it on `duplicates` runs were reported (3 in TCP; 0
 /// counts as 1), or more bytes than `duplicates - 1` segments of `segment_size` bytes have. It is
 /// the start of a stored run, the last one of which this holds, or 0 if nothing is lost.
-/// `duplicates - 1` times `segment_size` counts up to `SIZE_MAX`.
 ///
 /// It is refused if `scoreboard` isn't sound with `runs`: false, and nothing changes.
 #[unsafe(no_mangle)]

@@ -4,16 +4,16 @@
 //! there, to which nothing was written. The queue, of bytes that are not acknowledged, is the ring
 //! of `place`. What SACK blocks report is kept in a scoreboard.
 // Written by tools/ffi.py.
-ghost use Rattle.net_ffi.specs.Refusals.{nowhere};
+ghost use Rattle.net_ffi.specs.Refusals.{no_number, nowhere};
 ghost use Rattle.net_receiver.specs.OneStream.{MatchesStream};
 ghost use Rattle.net_receiver.specs.SenderHeads.{IsSoundHead, sender_of};
 ghost use Rattle.net_receiver.specs.SenderState.{Sends, contiguous_end, room_of, sender_from, with_written};
 ghost use Rattle.net_ring.specs.Ring.{queue, rewind_if_empty, with_elements_wrapping, with_enqueued, write_at};
 ghost use Rattle.net_ring.specs.RingHead.{dequeued_place, queued_index, ring_at};
 ghost use Rattle.std.specs.Prelude.{IsFalse, IsTrue, List, drop, length, max, min, take, ℕ, ◌++◌, ◌+◌, ◌-◌, ◌<◌};
-ghost use Rattle.std.specs.Prelude.{◌^◌, ◌↔◌, ◌≡◌, ◌≤◌};
+ghost use Rattle.std.specs.Prelude.{◌^◌, ◌↔◌, ◌≡◌, ◌≢◌, ◌≤◌};
 
-use crate::refusals::{NET_BASE_NONE, NO_SPAN};
+use crate::refusals::{no_number, no_span};
 use net_receiver::SenderHead;
 use net_ring::Span;
 
@@ -49,12 +49,12 @@ pub extern "C" fn net_base_sender_end(sender: &SenderHead, end: &mut u64) -> boo
 /// `capacity` bytes: `NET_BASE_NONE`.
 #[unsafe(no_mangle)]
 pub extern "C" fn net_base_sender_room(sender: &SenderHead, capacity: usize) -> usize
-    ensures value { (capacity < 2 ^ 64 - 1) × (IsSoundHead capacity sender.now) → result ≡ min (capacity -
+    ensures value { (capacity ≢ no_number) × (IsSoundHead capacity sender.now) → result ≡ min (capacity -
         sender.now.place.length) (2 ^ 64 - 1 - (sender.now.first_unacknowledged + sender.now.place.length)) }
-    ensures refused { ((capacity < 2 ^ 64 - 1) × (IsSoundHead capacity sender.now) → ⊥) → result ≡ 2 ^ 64 - 1 }
+    ensures refused { ((capacity ≢ no_number) × (IsSoundHead capacity sender.now) → ⊥) → result ≡ no_number }
 {
-    if capacity == usize::MAX || !sender.is_sound(capacity) {
-        return NET_BASE_NONE;
+    if capacity == no_number() || !sender.is_sound(capacity) {
+        return no_number();
     }
     sender.room(capacity)
 }
@@ -80,11 +80,11 @@ pub extern "C" fn net_base_sender_write(
         (with_elements_wrapping g (write_at g) (take result bytes.now)) }
     ensures sends { IsSoundHead (length storage.old) sender.old → (f : ℕ) (w : List ℕ) → Sends f w (sender_of
         sender.old storage.old) → Sends f (w ++ take result bytes.now) (sender_of sender.new storage.new) }
-    ensures refused { (IsSoundHead (length storage.old) sender.old → ⊥) → (result ≡ 2 ^ 64 - 1) × (sender.new ≡
+    ensures refused { (IsSoundHead (length storage.old) sender.old → ⊥) → (result ≡ no_number) × (sender.new ≡
         sender.old) × (storage.new ≡ storage.old) }
 {
     if !sender.is_sound(storage.len()) {
-        return NET_BASE_NONE;
+        return no_number();
     }
     sender.write(storage, bytes)
 }
@@ -123,7 +123,7 @@ pub extern "C" fn net_base_sender_peek_at(
     ensures refused { (IsSoundHead capacity sender.now → ⊥) → result ≡ nowhere }
 {
     if !sender.is_sound(capacity) {
-        return NO_SPAN;
+        return no_span();
     }
     sender.peek_at(capacity, position, max)
 }

@@ -1,39 +1,51 @@
 //! Packets that are placed, taken and looked at.
 
-use crate::proved::net_ffi::refusals::NET_BASE_NONE;
+use crate::proved::net_ffi::refusals::no_number;
 use crate::proved::net_packets::{FirstPacket, PacketPlace, PacketSlot, PacketsHead};
 
 /// What is returned if there is no room.
-const NO_PLACE: PacketPlace = PacketPlace {
-    gap: 0,
-    gap_slot: NET_BASE_NONE,
-    slot: NET_BASE_NONE,
-    from: NET_BASE_NONE,
-};
+#[inline(always)]
+fn no_place() -> PacketPlace {
+    PacketPlace {
+        gap: 0,
+        gap_slot: no_number(),
+        slot: no_number(),
+        from: no_number(),
+    }
+}
 
 /// What is returned in place of a place that is refused.
-const NONSENSE: PacketPlace = PacketPlace {
-    gap: NET_BASE_NONE,
-    gap_slot: NET_BASE_NONE,
-    slot: NET_BASE_NONE,
-    from: NET_BASE_NONE,
-};
+#[inline(always)]
+fn nonsense_place() -> PacketPlace {
+    PacketPlace {
+        gap: no_number(),
+        gap_slot: no_number(),
+        slot: no_number(),
+        from: no_number(),
+    }
+}
 
 /// What is returned if there is no packet.
-const NO_FIRST: FirstPacket = FirstPacket {
-    gap: 0,
-    slot: NET_BASE_NONE,
-    from: NET_BASE_NONE,
-    size: 0,
-};
+#[inline(always)]
+fn no_first() -> FirstPacket {
+    FirstPacket {
+        gap: 0,
+        slot: no_number(),
+        from: no_number(),
+        size: 0,
+    }
+}
 
 /// What is returned in place of a first packet that is refused.
-const NONSENSE_FIRST: FirstPacket = FirstPacket {
-    gap: NET_BASE_NONE,
-    slot: NET_BASE_NONE,
-    from: NET_BASE_NONE,
-    size: 0,
-};
+#[inline(always)]
+fn nonsense_first() -> FirstPacket {
+    FirstPacket {
+        gap: no_number(),
+        slot: no_number(),
+        from: no_number(),
+        size: 0,
+    }
+}
 
 /// Appends a packet of `size` bytes, writes its slot and that of its gap, whose `is_gap` is 1, and returns where they
 /// and the packet's bytes are. If no byte is in use, which is so too where all packets have 0 bytes, the packet begins
@@ -50,11 +62,11 @@ pub fn net_base_packets_enqueue(
     size: usize,
 ) -> PacketPlace {
     if !packets.is_sound(slots.len(), capacity) {
-        return NONSENSE;
+        return nonsense_place();
     }
     match packets.enqueue(slots, capacity, size) {
         Some(place) => place,
-        None => NO_PLACE,
+        None => no_place(),
     }
 }
 
@@ -71,14 +83,14 @@ pub fn net_base_packets_dequeue(
     capacity: usize,
 ) -> FirstPacket {
     if !packets.is_sound(slots.len(), capacity) {
-        return NONSENSE_FIRST;
+        return nonsense_first();
     }
     if packets.slots.length == 0 {
-        return NO_FIRST;
+        return no_first();
     }
     match packets.dequeue(slots, capacity) {
         Some(first) => first,
-        None => NONSENSE_FIRST,
+        None => nonsense_first(),
     }
 }
 
@@ -94,14 +106,14 @@ pub fn net_base_packets_peek(
     capacity: usize,
 ) -> FirstPacket {
     if !packets.is_sound(slots.len(), capacity) {
-        return NONSENSE_FIRST;
+        return nonsense_first();
     }
     if packets.slots.length == 0 {
-        return NO_FIRST;
+        return no_first();
     }
     match packets.peek(slots, capacity) {
         Some(first) => first,
-        None => NONSENSE_FIRST,
+        None => nonsense_first(),
     }
 }
 
@@ -120,7 +132,7 @@ pub fn net_base_packets_take_slot(
     first: &PacketSlot,
 ) -> usize {
     if !packets.is_sound(slot_count, capacity) || !packets.can_take(slot_count, capacity, first) {
-        return NET_BASE_NONE;
+        return no_number();
     }
     packets.take_slot(slot_count, capacity, first)
 }

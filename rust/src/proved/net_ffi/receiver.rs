@@ -1,6 +1,6 @@
 //! Segments, held runs and the end of the window.
 
-use crate::proved::net_ffi::refusals::{NET_BASE_DONE, NET_BASE_NONE, NET_BASE_REFUSED, NET_BASE_TOO_MANY_RUNS};
+use crate::proved::net_ffi::refusals::{NET_BASE_DONE, NET_BASE_REFUSED, NET_BASE_TOO_MANY_RUNS};
 use crate::proved::net_assembler::Run;
 use crate::proved::net_receiver::HeldRun;
 use crate::proved::net_receiver::ReceiverHead;

@@ -2,6 +2,7 @@
 
 use crate::proved::net_ffi::results::FrontLength;
 use crate::proved::net_assembler::Run;
+use crate::proved::net_assembler::width::most;
 use crate::proved::net_ring::Span;
 
 /// The call was done.
@@ -44,25 +45,33 @@ pub const NET_BASE_IGNORE: u32 = 11;
 /// The peer has reset the connection.
 pub const NET_BASE_RESET: u32 = 12;
 
-/// In place of a length, an index or a count: what was passed is nonsense, or there is none.
-pub const NET_BASE_NONE: usize = usize::MAX;
-
-/// The span of a refused call.
-pub(crate) const NO_SPAN: Span = Span {
-    from: NET_BASE_NONE,
-    count: 0,
-    contiguous: 0,
-};
-
-/// The run of a refused call.
-pub(crate) const NO_RUN: Run = Run {
-    start: NET_BASE_NONE,
-    end: NET_BASE_NONE,
-};
-
 /// The front of a refused call.
 pub(crate) const NO_FRONT: FrontLength = FrontLength {
     status: NET_BASE_REFUSED,
     length: 0,
 };
 
+/// In place of a length, an index or a count: what was passed is nonsense, or there is none.
+#[inline(always)]
+pub(crate) fn no_number() -> usize {
+    most()
+}
+
+/// The span of a refused call.
+#[inline(always)]
+pub(crate) fn no_span() -> Span {
+    Span {
+        from: no_number(),
+        count: 0,
+        contiguous: 0,
+    }
+}
+
+/// The run of a refused call.
+#[inline(always)]
+pub(crate) fn no_run() -> Run {
+    Run {
+        start: no_number(),
+        end: no_number(),
+    }
+}

@@ -1,6 +1,6 @@
 //! Single elements of rings.
 
-use crate::proved::net_ffi::refusals::NET_BASE_NONE;
+use crate::proved::net_ffi::refusals::no_number;
 use crate::proved::net_ring::RingHead;
 
 /// Enqueues one element, and returns its index in the storage.
@@ -9,7 +9,7 @@ use crate::proved::net_ring::RingHead;
 #[inline(always)]
 pub fn net_base_ring_enqueue_one(place: &mut RingHead, capacity: usize) -> usize {
     if place.read_at >= capacity || place.length >= capacity {
-        return NET_BASE_NONE;
+        return no_number();
     }
     let index = place.index(capacity, place.length);
     place.enqueue(capacity, 1);
@@ -22,7 +22,7 @@ pub fn net_base_ring_enqueue_one(place: &mut RingHead, capacity: usize) -> usize
 #[inline(always)]
 pub fn net_base_ring_dequeue_one(place: &mut RingHead, capacity: usize) -> usize {
     if place.read_at >= capacity || place.length == 0 || place.length > capacity {
-        return NET_BASE_NONE;
+        return no_number();
     }
     let index = place.read_at;
     place.dequeue(capacity, 1);

@@ -4,7 +4,7 @@
 // Written by tools/ffi.py.
 
 use crate::proved::net_ffi::refusals::{
-    NET_BASE_DONE, NET_BASE_MISSING, NET_BASE_PRESENT, NET_BASE_REFUSED, NO_FRONT, NO_RUN,
+    NET_BASE_DONE, NET_BASE_MISSING, NET_BASE_PRESENT, NET_BASE_REFUSED, NO_FRONT, no_run,
 };
 use crate::proved::net_ffi::results::{FrontLength, front_length, presence_of, run_of, status_of};
 use crate::proved::net_assembler::{AssemblerHead, Run};
@@ -185,7 +185,7 @@ pub fn net_base_assembler_run_at(
     index: usize,
 ) -> Run {
     if assembler.used > runs.len() {
-        return NO_RUN;
+        return no_run();
     }
     run_of(assembler.run_at(runs, index))
 }
@@ -206,7 +206,7 @@ pub fn net_base_assembler_hole_at(
     index: usize,
 ) -> Run {
     if assembler.used > runs.len() {
-        return NO_RUN;
+        return no_run();
     }
     run_of(assembler.hole_at(runs, index))
 }

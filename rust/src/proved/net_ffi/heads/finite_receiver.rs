@@ -8,7 +8,7 @@
 
 use crate::proved::net_ffi::finite_receiver::has_number;
 use crate::proved::net_ffi::receiver::{has_next, is_plausible};
-use crate::proved::net_ffi::refusals::{NET_BASE_MISSING, NET_BASE_NONE, NET_BASE_PRESENT, NET_BASE_REFUSED};
+use crate::proved::net_ffi::refusals::{NET_BASE_MISSING, NET_BASE_PRESENT, NET_BASE_REFUSED, no_number};
 use crate::proved::net_ffi::results::presence_of;
 use crate::proved::net_assembler::Run;
 use crate::proved::net_receiver::FiniteReceiverHead;
@@ -98,7 +98,7 @@ pub fn net_base_finite_receiver_read(
     into: &mut [u8],
 ) -> usize {
     if !receiver.receiver.place.is_sound(storage.len()) || !has_next(&receiver.receiver) {
-        return NET_BASE_NONE;
+        return no_number();
     }
     receiver.read(storage, into)
 }
@@ -147,7 +147,7 @@ pub fn net_base_finite_receiver_count_new(
     if !is_plausible(&receiver.receiver, storage.len(), runs.len())
         || !FiniteReceiverHead::fits(position, len)
     {
-        return NET_BASE_NONE;
+        return no_number();
     }
     receiver.count_new(storage, runs, position, len)
 }

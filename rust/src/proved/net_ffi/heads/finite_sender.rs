@@ -6,7 +6,7 @@
 //! `net_base_sender_peek_at` of `sender`.
 // Written by tools/ffi.py.
 
-use crate::proved::net_ffi::refusals::{NET_BASE_MISSING, NET_BASE_NONE, NET_BASE_PRESENT, NET_BASE_REFUSED};
+use crate::proved::net_ffi::refusals::{NET_BASE_MISSING, NET_BASE_PRESENT, NET_BASE_REFUSED, no_number};
 use crate::proved::net_ffi::results::presence_of;
 use crate::proved::net_receiver::FiniteSenderHead;
 
@@ -64,8 +64,8 @@ pub fn net_base_finite_sender_numbers_end(
 /// `capacity` bytes: `NET_BASE_NONE`.
 #[inline(always)]
 pub fn net_base_finite_sender_room(sender: &FiniteSenderHead, capacity: usize) -> usize {
-    if capacity == usize::MAX || !sender.is_sound(capacity) {
-        return NET_BASE_NONE;
+    if capacity == no_number() || !sender.is_sound(capacity) {
+        return no_number();
     }
     sender.room(capacity)
 }
@@ -82,7 +82,7 @@ pub fn net_base_finite_sender_write(
     bytes: &[u8],
 ) -> usize {
     if !sender.is_sound(storage.len()) {
-        return NET_BASE_NONE;
+        return no_number();
     }
     sender.write(storage, bytes)
 }

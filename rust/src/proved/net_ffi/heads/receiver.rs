@@ -7,7 +7,7 @@
 // Written by tools/ffi.py.
 
 use crate::proved::net_ffi::receiver::{has_next, is_plausible};
-use crate::proved::net_ffi::refusals::NET_BASE_NONE;
+use crate::proved::net_ffi::refusals::no_number;
 use crate::proved::net_assembler::Run;
 use crate::proved::net_receiver::{HeldRun, ReceiverHead};
 
@@ -44,8 +44,8 @@ pub fn net_base_receiver_next(receiver: &ReceiverHead, next: &mut u64) -> bool {
 /// `NET_BASE_NONE`.
 #[inline(always)]
 pub fn net_base_receiver_window(receiver: &ReceiverHead, capacity: usize) -> usize {
-    if capacity == usize::MAX || receiver.place.length > capacity {
-        return NET_BASE_NONE;
+    if capacity == no_number() || receiver.place.length > capacity {
+        return no_number();
     }
     receiver.window(capacity)
 }
@@ -62,7 +62,7 @@ pub fn net_base_receiver_read(
     into: &mut [u8],
 ) -> usize {
     if !receiver.place.is_sound(storage.len()) || !has_next(receiver) {
-        return NET_BASE_NONE;
+        return no_number();
     }
     receiver.read(storage, into)
 }
@@ -80,7 +80,7 @@ pub fn net_base_receiver_peek_slice(
     into: &mut [u8],
 ) -> usize {
     if !receiver.place.is_sound(storage.len()) {
-        return NET_BASE_NONE;
+        return no_number();
     }
     receiver.peek_slice(storage, into)
 }
@@ -131,7 +131,7 @@ pub fn net_base_receiver_newest_runs(
     into: &mut [HeldRun],
 ) -> usize {
     if !is_plausible(receiver, storage.len(), runs.len()) {
-        return NET_BASE_NONE;
+        return no_number();
     }
     receiver.newest_runs(storage, runs, position, recent, into)
 }
@@ -158,7 +158,7 @@ pub fn net_base_receiver_count_new(
     len: usize,
 ) -> usize {
     if !is_plausible(receiver, storage.len(), runs.len()) || len as u64 > u64::MAX - position {
-        return NET_BASE_NONE;
+        return no_number();
     }
     receiver.count_new(storage, runs, position, len)
 }

@@ -7,7 +7,7 @@
 //! be.
 // Written by tools/ffi.py.
 
-use crate::proved::net_ffi::refusals::{NET_BASE_NONE, NO_SPAN};
+use crate::proved::net_ffi::refusals::{no_number, no_span};
 use crate::proved::net_ring::{RingHead, Span};
 
 /// Returns whether `place` is that of a ring of `capacity` elements: its read index is an index of
@@ -30,7 +30,7 @@ pub fn net_base_ring_unallocated(
     size: usize,
 ) -> Span {
     if !place.is_sound(capacity) {
-        return NO_SPAN;
+        return no_span();
     }
     place.unallocated(capacity, offset, size)
 }
@@ -48,7 +48,7 @@ pub fn net_base_ring_allocated(
     size: usize,
 ) -> Span {
     if !place.is_sound(capacity) {
-        return NO_SPAN;
+        return no_span();
     }
     place.allocated(capacity, offset, size)
 }
@@ -118,7 +118,7 @@ pub fn net_base_ring_enqueue_span(
     size: usize,
 ) -> Span {
     if !place.is_sound(capacity) {
-        return NO_SPAN;
+        return no_span();
     }
     place.enqueue_span(capacity, size)
 }
@@ -137,7 +137,7 @@ pub fn net_base_ring_enqueue_many(
     size: usize,
 ) -> Span {
     if !place.is_sound(capacity) {
-        return NO_SPAN;
+        return no_span();
     }
     place.enqueue_many(capacity, size)
 }
@@ -153,7 +153,7 @@ pub fn net_base_ring_dequeue_span(
     size: usize,
 ) -> Span {
     if !place.is_sound(capacity) {
-        return NO_SPAN;
+        return no_span();
     }
     place.dequeue_span(capacity, size)
 }
@@ -170,7 +170,7 @@ pub fn net_base_ring_dequeue_many(
     size: usize,
 ) -> Span {
     if !place.is_sound(capacity) {
-        return NO_SPAN;
+        return no_span();
     }
     place.dequeue_many(capacity, size)
 }
@@ -188,7 +188,7 @@ pub fn net_base_ring_write_unallocated(
     data: &[u8],
 ) -> usize {
     if !place.is_sound(storage.len()) {
-        return NET_BASE_NONE;
+        return no_number();
     }
     place.write_unallocated(storage, offset, data)
 }
@@ -207,7 +207,7 @@ pub fn net_base_ring_read_allocated(
     into: &mut [u8],
 ) -> usize {
     if !place.is_sound(storage.len()) {
-        return NET_BASE_NONE;
+        return no_number();
     }
     place.read_allocated(storage, offset, into)
 }
@@ -226,7 +226,7 @@ pub fn net_base_ring_enqueue_slice(
     data: &[u8],
 ) -> usize {
     if !place.is_sound(storage.len()) {
-        return NET_BASE_NONE;
+        return no_number();
     }
     place.enqueue_slice(storage, data)
 }
@@ -243,7 +243,7 @@ pub fn net_base_ring_dequeue_slice(
     into: &mut [u8],
 ) -> usize {
     if !place.is_sound(storage.len()) {
-        return NET_BASE_NONE;
+        return no_number();
     }
     place.dequeue_slice(storage, into)
 }

@@ -8,7 +8,7 @@
 // Written by tools/ffi.py.
 
 use crate::proved::net_ffi::refusals::{
-    NET_BASE_DONE, NET_BASE_MISSING, NET_BASE_NONE, NET_BASE_PRESENT, NET_BASE_REFUSED,
+    NET_BASE_DONE, NET_BASE_MISSING, NET_BASE_PRESENT, NET_BASE_REFUSED, no_number,
 };
 use crate::proved::net_ffi::results::{Hole, presence_of, status_of};
 use crate::proved::net_assembler::Run;
@@ -137,7 +137,7 @@ pub fn net_base_scoreboard_count_beyond(
     runs: &[Run],
 ) -> usize {
     if !scoreboard.is_sound(runs) {
-        return NET_BASE_NONE;
+        return no_number();
     }
     scoreboard.count_beyond(runs)
 }
@@ -146,7 +146,6 @@ pub fn net_base_scoreboard_count_beyond(
 /// 6675, section 4, and returns true: from it on `duplicates` runs were reported (3 in TCP; 0
 /// counts as 1), or more bytes than `duplicates - 1` segments of `segment_size` bytes have. It is
 /// the start of a stored run, the last one of which this holds, or 0 if nothing is lost.
-/// `duplicates - 1` times `segment_size` counts up to `SIZE_MAX`.
 ///
 /// It is refused if `scoreboard` isn't sound with `runs`: false, and nothing changes.
 #[inline(always)]

@@ -5,7 +5,7 @@
 //! of `place`. What SACK blocks report is kept in a scoreboard.
 // Written by tools/ffi.py.
 
-use crate::proved::net_ffi::refusals::{NET_BASE_NONE, NO_SPAN};
+use crate::proved::net_ffi::refusals::{no_number, no_span};
 use crate::proved::net_receiver::SenderHead;
 use crate::proved::net_ring::Span;
 
@@ -35,8 +35,8 @@ pub fn net_base_sender_end(sender: &SenderHead, end: &mut u64) -> bool {
 /// `capacity` bytes: `NET_BASE_NONE`.
 #[inline(always)]
 pub fn net_base_sender_room(sender: &SenderHead, capacity: usize) -> usize {
-    if capacity == usize::MAX || !sender.is_sound(capacity) {
-        return NET_BASE_NONE;
+    if capacity == no_number() || !sender.is_sound(capacity) {
+        return no_number();
     }
     sender.room(capacity)
 }
@@ -53,7 +53,7 @@ pub fn net_base_sender_write(
     bytes: &[u8],
 ) -> usize {
     if !sender.is_sound(storage.len()) {
-        return NET_BASE_NONE;
+        return no_number();
     }
     sender.write(storage, bytes)
 }
@@ -72,7 +72,7 @@ pub fn net_base_sender_peek_at(
     max: usize,
 ) -> Span {
     if !sender.is_sound(capacity) {
-        return NO_SPAN;
+        return no_span();
     }
     sender.peek_at(capacity, position, max)
 }
