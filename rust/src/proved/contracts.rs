@@ -1,7 +1,15 @@
-//! What the words of a contract mean, which is folded at the end of each function's documentation.
+//! What the words of guarantees mean, and those of contracts, folded at the end of each function's documentation.
 //!
 //! A clause is proved of the function's text in Rattle, for all arguments. Here its text is compiled by rustc, without the
 //! contract; what `requires` asks is tested, and if it isn't met the call panics.
+//!
+//! # Guarantees
+//!
+//! **Guarantees**, on pages of the Cargo crate, are clauses in Rust's words. `old(x)` is x before the call, `x` what it is
+//! after it. `self.queue`, without parentheses, is a public field, or what contracts see of `self` by that name: a
+//! definition, or a part of a `State`. So is a function that Rust doesn't have, as `with_range(..)`. `==` compares what
+//! contracts see. `xs ++ ys` is one list after the other; `xs[..n]` and `xs[n..]` end where xs does, and don't panic. `2^n`
+//! is a power, and sums don't wrap.
 //!
 //! # Signs
 //!
@@ -55,6 +63,13 @@
 //! # net_ring, Ring
 //!
 //! ```text
+//! -- what a contract sees of a ring: its storage, the index where it is read, and how many elements
+//! -- are queued
+//! pub record RingState (T : Type 0) : Type 0 where
+//!   pub storage : List T
+//!   pub read_at : ℕ
+//!   pub count : ℕ
+//!
 //! module _ {T : Type 0} where
 //!   -- the ring of a storage b, a read index r and n queued elements
 //!   abbrev pub ring : List T → ℕ → ℕ → RingState T
@@ -454,6 +469,14 @@
 //! # net_packets, Packets
 //!
 //! ```text
+//! -- a queue of packets: how many slots it has, its storage, the index where that is read, and its
+//! -- packets in order
+//! pub record PacketsState (H : Type 0) : Type 0 where
+//!   pub slot_count : ℕ
+//!   pub storage : List ℕ
+//!   pub read_at : ℕ
+//!   pub packets : List (Packet H)
+//!
 //! -- the bytes of the storage that packets take, their gaps counted
 //! abbrev pub bytes_used : List (Packet H) → ℕ
 //! bytes_used [] = 0
@@ -697,6 +720,11 @@
 //! abbrev pub no_end : ℕ
 //! no_end = 2 ^ 64 - 1
 //!
+//! -- what a receiver stores, and the position after the stream's last byte, or `no_end`
+//! pub record FiniteState : Type 0 where
+//!   pub receiver : ReceiverState
+//!   pub end : ℕ
+//!
 //! -- nothing has arrived
 //! abbrev pub fresh_finite : ℕ → ℕ → FiniteState
 //! fresh_finite first capacity = record { receiver = fresh_receiver first capacity; end = no_end }
@@ -768,6 +796,13 @@
 //! # net_receiver, FiniteSender
 //!
 //! ```text
+//! -- a sender; 1 once it is closed; 1 once the end is acknowledged; and the number after the last one that was sent
+//! pub record FiniteSenderState : Type 0 where
+//!   pub sender : SenderState
+//!   pub closed : ℕ
+//!   pub finished : ℕ
+//!   pub sent : ℕ
+//!
 //! -- nothing was written
 //! abbrev pub fresh_finite_sender : ℕ → ℕ → FiniteSenderState
 //! fresh_finite_sender capacity first =
@@ -918,6 +953,14 @@
 //! # net_receiver, ReceiverState
 //!
 //! ```text
+//! -- what a receiver stores, as contracts see it
+//! pub record ReceiverState : Type 0 where
+//!   pub first : ℕ
+//!   pub capacity : ℕ
+//!   pub read : ℕ
+//!   pub queue : List ℕ
+//!   pub held : HeldBytes
+//!
 //! -- the positions that are held
 //! abbrev pub domain : HeldBytes → Positions
 //! domain held = set_of_list (fin.keys held)
@@ -1149,6 +1192,14 @@
 //! # net_receiver, SenderState
 //!
 //! ```text
+//! -- the model of a sender: a byte of position `wraps_at` is at the storage's beginning, and one before it is at an index
+//! -- less by `wraps_at` minus its position than the storage's length
+//! pub record SenderState : Type 0 where
+//!   pub capacity : ℕ
+//!   pub first_unacknowledged : ℕ
+//!   pub queue : List ℕ
+//!   pub wraps_at : ℕ
+//!
 //! -- a sender of this capacity, with this queue from position `head` on, and whose storage begins again at `wraps_at`
 //! abbrev pub sender_state : ℕ → ℕ → List ℕ → ℕ → SenderState
 //! sender_state capacity head queue wraps_at =
@@ -1265,6 +1316,14 @@
 //! # net_base, Fragments
 //!
 //! ```text
+//! -- the bytes of the buffer, the positions that arrived, how many bytes the packet has, once that is
+//! -- known, and the last moment at which it is waited for
+//! pub record FragmentsState : Type 0 where
+//!   pub bytes : List ℕ
+//!   pub present : Positions
+//!   pub total : Option ℕ
+//!   pub expires_at : ℤ
+//!
 //! -- a fragment arrived: its bytes are at the offset, and its positions are present
 //! abbrev pub with_fragment : FragmentsState → ℕ → List ℕ → FragmentsState
 //! with_fragment b offset data' = record b {
