@@ -66,7 +66,7 @@ def branches(tree):
 
 
 class Eraser(Text):
-    """One file of a crate; contracts of the types `public` are on the page of contracts.
+    """One file of a crate; answers of calls of the types `public` must be used. `contracts` are those that are shown.
 
     `new` has the text that is written for a token, where that is another one; `before` and `after` what is added."""
 
@@ -236,7 +236,6 @@ class Eraser(Text):
                     first = next(j for j in range(head, k + 1) if self.tokens[j][1] in ('pub', 'const', 'fn'))
                     self.before[first] = f'{self.before.get(first, "")}#[track_caller]\n{margin}'
         if pub is not None and name.split('::')[0] in self.public:
-            self.contracts += contract
             if pub not in self.new and self.is_pure(k, begin):
                 self.before[pub] = f'#[must_use]\n{margin}{self.before.get(pub, "")}'
         if name in self.into:
@@ -251,6 +250,7 @@ class Eraser(Text):
             signature, calls = self.source(k, begin).replace(MARK, ''), self.calls.setdefault(owner.name, [])
             calls += erase_says.answers(owner.name, signature, contract)
             self.pages.append((k, head, margin, contract, marked, signature, calls))
+            self.contracts += contract
         return k + 1
 
     def guard(self, name, k, body, count):
