@@ -27,12 +27,15 @@
 //! | `overwrite xs i ys` | xs with ys written over it from index i on, as far as xs goes (`net_ring`) |
 //! | `slice_range xs a b`; `option_or a b` | the elements of xs from index a on and before b; `a` if that is `Some`, else b |
 //! | `Unit`, `tt`; `module _ (n : ℕ) where` | the type of one value, and that value; what follows is for every n |
-//! | `All P xs` | P is true of each element of xs |
+//! | `All P xs`; `AllZip P xs ys` | P is true of each element of xs; of each two of xs and ys at one index, of which both have as many |
 //! | `x.0`, `record s { a = e }` | the first of a tuple; s with its field `a` changed to e |
 //! | `λ x. e` | the function that takes x to e |
 //! | `not b`, `nat_lt a b`; `IsTrue b`, `IsFalse b` | Rust's `!b` and `a < b`, on values; the `bool` b is true; false |
 //! | `IfSome r (λ x. p)`, `IfOk`, `IfErr`; `IfNone r p` | if r is `Some(x)`, `Ok(x)`, `Err(x)`, then p; if r is `None`, then p |
-//! | `OnOk r p`, `OnErr r p`; `IsOk r`, `IsErr r` | if r is `Ok`, `Err`, then p; r is `Ok`, `Err` |
+//! | `OnOk r p`, `OnErr r p`; `IsOk r`, `IsErr r`, `IsSome r`, `IsNone r` | if r is `Ok`, `Err`, then p; r is `Ok`, `Err`, `Some`, `None` |
+//! | `SomeIff r p x`; `option_copied r` | r is `Some(x)` if p, else `None`; Rust's `r.copied()` |
+//! | `pos n`, `negsuc n`; `from_bool b`; `run_count s` | the integers n and -1 - n; 1 if b, else 0; `runs s` |
+//! | `FnOnceTakesAt F.FnOnce f x`, `FnOnceReturnsAt F.FnOnce f x r` | f, of type F, may be called on a reference to x; r can be what it then returns |
 //! | `MatchOption r p (λ x. q)`, `MatchResult r (λ x. p) (λ e. q)` | p if r is `None`, q if it is `Some(x)`; p if r is `Ok(x)`, q if it is `Err(e)` |
 //! | `R.remaining r`, `W.contents w` | the bytes that a reader over memory has left; that a writer over memory has taken. For a file, a pipe or a terminal both are `None` |
 //! | `«data»` | the parameter `data`, a keyword of the logic |
@@ -48,6 +51,16 @@
 //!   abbrev pub elements : ManagedSlice T → List T
 //!   elements (Borrowed s) = s.now
 //!   elements (Owned v) = v.items
+//!
+//! -- the storage with ws written over its elements from the index i on
+//! abbrev pub with_part : ManagedSlice T → ℕ → List T → ManagedSlice T
+//! with_part (Borrowed s) i ws = Borrowed (at_last s (overwrite s.now i ws))
+//! with_part (Owned v) i ws = Owned (with_items_from v i ws)
+//!
+//! -- the storage with one element replaced
+//! abbrev pub with_element : ManagedSlice T → ℕ → T → ManagedSlice T
+//! with_element (Borrowed s) i x = Borrowed (at_last s (slice_set s.now i x))
+//! with_element (Owned v) i x = Owned (vec_with_item v i x)
 //! ```
 //!
 //! # net_ring, ManagedLends
@@ -641,6 +654,10 @@
 //! -- p - m for each p in s with p >= m
 //! unfoldable pub shift_down : Positions → ℕ → Positions
 //! shift_down s m = set_of_list (map (λ p. p - m) (filter (nat_le m) (positions s)))
+//!
+//! -- whether two sets have the same positions
+//! abbrev pub are_same : Positions → Positions → Bool
+//! are_same s t = pointwise nat_eq (positions s) (positions t)
 //! ```
 //!
 //! # net_assembler, RunLists
@@ -674,6 +691,15 @@
 //! -- how many binary digits n has, and 0 for 0
 //! unfoldable pub binary_digits : ℕ → ℕ
 //! binary_digits n = length (digits_of 2 n)
+//! ```
+//!
+//! # net_assembler, Width
+//!
+//! ```text
+//! -- 0 where it has 64 bits, and so where these proofs are checked; 2 ^ 64 - 2 ^ 32 where it has 32. No
+//! -- proof unfolds it but those of `most` and of the law `is_usize`, so each other holds for all of these
+//! unfoldable pub shortfall : ℕ
+//! shortfall = 0
 //! ```
 //!
 //! # net_receiver, Contiguous
@@ -1297,6 +1323,20 @@
 //! fragment_size_of c n = (ip_mtu_of c - n) - (ip_mtu_of c - n) % 8
 //! ```
 //!
+//! # net_base, Earliest
+//!
+//! ```text
+//! -- the earlier of two moments; a missing one is later than any that is there
+//! abbrev pub earlier_of : Option ℤ → Option ℤ → Option ℤ
+//! earlier_of None second = second
+//! earlier_of (Some x) None = Some x
+//! earlier_of (Some x) (Some y) = Some (int_min x y)
+//!
+//! -- t is at or before the moment of each of xs, and is one of these moments, or none is there
+//! abbrev pub IsEarliest : List X → Option ℤ → Type 0
+//! IsEarliest xs t = All (λ x. IsNoLater t (f x)) xs × ((t ≡ None) ⊎ Any (λ x. f x ≡ t) xs)
+//! ```
+//!
 //! # net_base, FragmentParts
 //!
 //! ```text
@@ -1311,6 +1351,19 @@
 //! -- and the runs are sound
 //! abbrev pub HasSoundParts : FragmentsHead → List ℕ → List (ℕ × ℕ) → Type 0
 //! HasSoundParts h bytes runs = HasSoundRuns h.present runs × ((h.has_total ≡ 0) ⊎ (h.total ≤ length bytes))
+//! ```
+//!
+//! # net_base, FragmentTable
+//!
+//! ```text
+//! -- whether the slot whose key is `own` is for the packet of `key`, by `==`
+//! abbrev pub is_for : {K : Type 0} → (K → K → Bool) → K → Option K → Bool
+//! is_for eq key None = false
+//! is_for eq key (Some own) = eq own key
+//!
+//! -- a buffer that was begun again, with nothing in it
+//! abbrev pub begun : FragmentsState → ℤ → FragmentsState
+//! begun b e = record { bytes = b.bytes; present = nothing; total = None; expires_at = e }
 //! ```
 //!
 //! # net_base, Fragments
