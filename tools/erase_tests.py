@@ -173,7 +173,7 @@ SAID = [
     ('place n (f self.new) ≡ place n m', '`place(n, self.f) == A::at(n, m)`'),
     ('length self.new.rest ≡ self.new.odd + length other.old', '`self.rest.len() == self.odd + old(other).len()`'),
     ('«data».new ≡ drop self.old.rooms data.old', '`data == old(data)[old(self).rooms..]`'),
-    ('replace n m ≡ self.new', '`replace(n, m) == self`'),
+    ('replace n m ≡ f b', '`replace(n, m) == f(b)`'),
     ('self.old.edge + a + g b b self.old ≢ 2 ^ (n + 1)', '`old(self).edge + a + g(b, b, old(self)) != 2^(n + 1)`'),
     ('a - b - (c - d * (e + f)) ≤ x', '`a.saturating_sub(b).saturating_sub(c.saturating_sub(d * (e + f))) <= x`'),
     ('(a + b - c) * (d / (e / 1_000) * f) ≤ max a (b + c)', '`(a + b).saturating_sub(c) * (d / (e / 1_000) * f) <= max(a, b + c)`'),
