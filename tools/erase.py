@@ -5,8 +5,9 @@
     python3 tools/erase.py --check     writes nothing, and names each file that isn't so
 
 A file becomes itself without its *ghost forms*, those of the tables below. A form that isn't known is refused, with its
-file and line. The contract of a public function is folded at the end of its documentation. tools/parts/erase_list.py says
-what else differs, and tools/parts/erase_names.py which types have other names.
+file and line. The contract of a public function is folded at the end of its documentation, after the clauses with a
+comment `// Guarantee.`, of which there are at most three, in Rust's words. tools/parts/erase_list.py says what else
+differs, and tools/parts/erase_names.py which types have other names.
 
 A function with preconditions that can be called from outside begins with as many guards, `prove!(..)`, which become
 `assert!(..)`; another number is refused, and so is a guard elsewhere, but for what the list names. tools/guards.py proves
@@ -20,7 +21,7 @@ from pathlib import Path
 
 sys.dont_write_bytecode = True
 from parts import erase_list as given
-from parts import erase_names, erase_words
+from parts import erase_names, erase_says, erase_words
 from parts.erase_tokens import SPACE, Refused, Text, words
 
 REPOSITORY = Path(__file__).resolve().parent.parent
@@ -48,6 +49,7 @@ SOME_RUNS = re.compile(r'requires(?: \w+)? { 1 ≤ N }')                        
 HAS_RUNS = 'const { assert!(N >= 1, "N is at least 1") };'
 ANGLES = r'<(?:[^<>]|<(?:[^<>]|<[^<>]*>)*>)*>'
 GONE, NO_CLAUSE = '\0', '\1'                      # where a form, and where a clause, was
+MARK = '// Guarantee.'                            # before a clause that a user of Rust wants
 LINK = re.compile(r'(?<=\()\w+(?:::\w+)+(?=\))')
 CALLABLE = re.compile(r'(?<=`f`) may be called on [^,]*(?:, and|(?:, if there is one)?\.$)')  # Rust knows it of a closure
 
@@ -64,7 +66,7 @@ def branches(tree):
 
 
 class Eraser(Text):
-    """One file of a crate; contracts of the types `public` are on the page of contracts.
+    """One file of a crate; answers of calls of the types `public` must be used. `contracts` are those that are shown.
 
     `new` has the text that is written for a token, where that is another one; `before` and `after` what is added."""
 
@@ -76,6 +78,7 @@ class Eraser(Text):
         self.new, self.before, self.after = {}, {}, {}
         self.owner, self.used, self.contracts = Owner(), set(), []
         self.guards, self.guarded = set(), []            # tokens where guards begin; functions that have some
+        self.pages, self.calls = [], {}                  # functions whose contract is shown; of each type what calls return
 
     def put(self, start, end, text):
         """Writes a text for the tokens from start to end."""
@@ -106,7 +109,7 @@ class Eraser(Text):
                 head = k if begins and word.startswith('///') else head
                 k = self.documentation(k, word)
             elif kind in SPACE:
-                k += 1
+                k = k + 1 if word != MARK or k in self.new else self.refuse(at, 'a mark of no clause that is shown')
             elif word == '#':
                 head = k if begins and self.tokens[k + 1][1] != '!' else head
                 k = self.attribute(k)
@@ -233,7 +236,6 @@ class Eraser(Text):
                     first = next(j for j in range(head, k + 1) if self.tokens[j][1] in ('pub', 'const', 'fn'))
                     self.before[first] = f'{self.before.get(first, "")}#[track_caller]\n{margin}'
         if pub is not None and name.split('::')[0] in self.public:
-            self.contracts += contract
             if pub not in self.new and self.is_pure(k, begin):
                 self.before[pub] = f'#[must_use]\n{margin}{self.before.get(pub, "")}'
         if name in self.into:
@@ -243,7 +245,12 @@ class Eraser(Text):
         is_of_trait = owner.is_trait or re.search(r'\bfor\b', owner.header)
         seen = (pub is not None or is_of_trait) and not owner.name.endswith('Head')
         if contract and seen and self.crate != given.EXPORTS:                 # what isn't seen has no page
-            self.document(k, head, margin, contract)
+            marks = [self.put(j, j + 1, NO_CLAUSE) for j in range(k, body) if self.tokens[j][1] == MARK]
+            marked = [self.tokens[self.next(j)][1] for j in marks]
+            signature, calls = self.source(k, begin).replace(MARK, ''), self.calls.setdefault(owner.name, [])
+            calls += erase_says.answers(owner.name, signature, contract)
+            self.pages.append((k, head, margin, contract, marked, signature, calls))
+            self.contracts += contract
         return k + 1
 
     def guard(self, name, k, body, count):
@@ -284,13 +291,17 @@ class Eraser(Text):
             self.after[body] = self.after.get(body, '') + f'\n{margin}    let {name} = {name}.into();'
         self.put(k, begin, signature.replace('(', f'<{", ".join(generics)}>(', 1))
 
-    def document(self, k, head, margin, contract):
-        """Writes a contract to the documentation of the function at k."""
+    def document(self, k, head, margin, contract, marked, signature, calls):
+        """Writes a contract to the documentation of the function at k, and before it the marked clauses in Rust's words."""
         docs = [d for d in range(head, k) if self.tokens[d][0] == 'doc']
         rows = [re.sub(f'^{margin}    ', '', row) for clause in contract for row in clause.split('\n')]
-        lines = ['///'] * bool(docs) + ['/// <details><summary>Contract</summary>', '///',
-                                        f'/// In the words of [`contracts`]({PAGE}):', '///', '/// ```text',
-                                        *(f'/// {row}' for row in rows), '/// ```', '///', '/// </details>']
+        try:
+            said = erase_says.section(marked, signature, calls) if marked else []
+        except Refused as refused:
+            self.refuse(self.tokens[k][2], refused)
+        lines = [*said, '<details><summary>Contract</summary>', '', f'In the words of [`contracts`]({PAGE}):', '',
+                 '```text', *rows, '```', '', '</details>']
+        lines = ['///'] * bool(docs) + [f'/// {line}'.rstrip() for line in lines]
         if docs:
             self.after[docs[-1]] = ''.join(f'\n{margin}{line}' for line in lines)
         else:
@@ -327,6 +338,8 @@ class Eraser(Text):
 
     def finish(self):
         """The text, laid out; it has the tokens that are kept, and no word of contracts."""
+        for page in self.pages:
+            self.document(*page)
         kept = [self.before.get(k, '') + self.new.get(k, token[1]) + self.after.get(k, '')
                 for k, token in enumerate(self.tokens)]
         out = re.sub(rf'\s*(?:{NO_CLAUSE}\s*)+(?={{)', ' ', ''.join(kept))

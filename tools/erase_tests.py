@@ -156,6 +156,48 @@ REFUSED = [
     ('fn f<const N: usize>()\n    requires { 1 ≤ N }\n{\n    prove!(N >= 1);\n    g()\n}\n', 'a guard that'),
 ]
 
+# Calls of a type, and what each returns; `more`, `of`, `take_one`, `asked` and `odd` are not said as calls.
+RETURNS = ''.join(f'    pub fn {head} ensures {{ result ≡ {value} }}\n    {{\n        g()\n    }}\n' for head, value in (
+    ('longer(&self) -> usize', 'length (queue self.now)'), ('len(&self) -> usize', 'length (queue self.now)'),
+    ('room(&self) -> usize', 'self.now.room'), ('at(x: u8, y: u8) -> A', 'place x y'),
+    ('more(&self, x: u8) -> u8', 'self.now.edge + x'), ('of(&self, x: u8) -> u8', 'g x x self.now'),
+    ('take_one(&mut self) -> usize', 'length self.new.rest'), ('asked<const N: u8>(&self) -> u8', 'self.now.odd'),
+    ('odd(&self) -> u8 requires { 1 ≤ N }', 'self.now.odd'),
+))
+
+# A clause that is marked, and what is said of it; and clauses that can't be said.
+SAID = [
+    ('queue self.new ≡ drop result (queue self.old) ++ take n «data».now', '`self.queue == old(self).queue[result..] ++ data[..n]`'),
+    ('result ≡ min (length data.old) self.old.room', '`result == min(data.len(), old(self).room())`'),
+    ('length (queue self.new) + 1 ≡ length (queue self.old)', '`self.len() + 1 == old(self).len()`'),
+    ('place n (f self.new) ≡ place n m', '`place(n, self.f) == A::at(n, m)`'),
+    ('length self.new.rest ≡ self.new.odd + length other.old', '`self.rest.len() == self.odd + old(other).len()`'),
+    ('«data».new ≡ drop self.old.rooms data.old', '`data == old(data)[old(self).rooms..]`'),
+    ('replace n m ≡ f b', '`replace(n, m) == f(b)`'),
+    ('self.old.edge + a + g b b self.old ≢ 2 ^ (n + 1)', '`old(self).edge + a + g(b, b, old(self)) != 2^(n + 1)`'),
+    ('a - b - (c - d * (e + f)) ≤ x', '`a.saturating_sub(b).saturating_sub(c.saturating_sub(d * (e + f))) <= x`'),
+    ('(a + b - c) * (d / (e / 1_000) * f) ≤ max a (b + c)', '`(a + b).saturating_sub(c) * (d / (e / 1_000) * f) <= max(a, b + c)`'),
+    ('x ∷ y ∷ [] ≡ x ∷ xs', '`[x] ++ [y] == [x] ++ xs`'),
+    ('take n (drop m (xs ++ ys)) ≡ []', '`(xs ++ ys)[m..][..n] == []`'),
+    ('OnErr result (self.new ≡ self.old)', 'on `Err`: `self == old(self)`'),
+    ('OnOk result ((f self.new ≡ 1) × (g 2 3 ≡ self.new.receiver.end))', 'on `Ok`: `self.f == 1` and `g(2, 3) == self.end`'),
+    ('IfOk result (λ r. a ≡ (r.0, r.1.now) ∷ [])', 'on `Ok(r)`: `a == [(r.0, r.1)]`'),
+    ('IfSome result (λ r. r < 3 → IsOk x)', 'on `Some(r)`: if `r < 3`, then `x.is_ok()`'),
+    ('IsTrue result ↔ ((a < b) × (b ≤ c) × (P a b))', '`result` exactly if `a < b` and `b <= c` and `P(a, b)`'),
+    ('IsErr result ↔ ((a < b) ⊎ (b ≡ c))', '`result.is_err()` exactly if `a < b` or `b == c`'),
+    ('a < b → (b < c) × (c < d) → IsFalse result', 'if `a < b` and `b < c` and `c < d`, then `!result`'),
+    ('a < b → b < c ⊎ c < d', 'if `a < b`, then `b < c` or `c < d`'),
+    ('(f g : ℕ) (x : List ℕ) → f ≤ g → result ≡ Some x', 'for each `f`, `g`, `x`: if `f <= g`, then `result == Some(x)`'),
+]
+UNSAID = [
+    'if a then b else c', 'let x = y in x', '(a → ⊥) → b', 'a → b ↔ c', '(a ⊎ b) → c', 'a ≡ (b × c)', 'x ↔ (y → z)', 'x × (y → z)',
+    '((a ≡ b) × (b ≡ c)) ⊎ (c ≡ d)', '(a ≡ b) ⊎ ((b ≡ c) × (c ≡ d))', 'a ≡ b ≡ c', 'S.elements x ≡ y', 'x ≡ E.First', 'a <ℤ b',
+    'IfOk x (λ r. a)', 'All (λ r. r) xs', 'a ≡', 'a b ,', 'take n', 'x.0.old ≡ y', '(k : ℕ) × (k ≡ 1)', 'OnErr result (a) ≡ b', '[a] ≡ b',
+    'b ≡ record a',
+]
+RUST = set('self old result len min max saturating_sub is_ok is_err Ok Err Some true N'.split())
+SECTION = re.compile(r' */// # \[Guarantees\].*\n *///\n((?: */// - .*\n)+) *///\n')
+
 # What can be called from outside: a header, a signature with its contract, a body, and a part of what is said of it.
 ONE, TWO = 'requires { x < 3 }', 'requires a { x < 3 } requires b { y < 3 }'
 CALLED = [
@@ -285,19 +327,64 @@ def statuses():
     erase.OUT, erase.erased = kept
 
 
+def guarantees():
+    """Marked clauses, at most three a call, are said, and nothing else changes."""
+    mark, one = erase.MARK, 'ensures { a ≡ b }'
+
+    def asked(*clauses, function='pub fn put(&mut self, data: &mut [u8]) -> u8'):
+        contract = ''.join(f'        {clause}\n' for clause in clauses)
+        return f'impl A {{\n{RETURNS}    {function}\n{contract}    {{\n        g()\n    }}\n}}\n'
+
+    for clause, wanted in SAID:
+        text = asked('ensures a { ⊤ }', mark, f'ensures b {{ {clause} }}')
+        section = f'    /// # [Guarantees](crate::contracts#guarantees)\n    ///\n    /// - {wanted}\n    ///\n'
+        assert section in of(text), (clause, of(text))
+        assert of(text).replace(section, '') == of(text.replace(f'        {mark}\n', '')) and of(of(text)) == of(text)
+    assert of(asked(mark, one, one, mark, one, mark, one)).count('/// - `a == b`') == 3
+    assert '/// - `result == self.own`' in of(asked(mark, 'ensures { result ≡ self.now.own }', function='pub fn own(&self) -> u8'))
+    for clause in (*(f'ensures {{ {clause} }}' for clause in UNSAID), 'ensures* { a ≡ b }', 'requires { 1 ≤ N }'):
+        assert "can't be said" in (said(asked(mark, clause)) or ''), (clause, said(asked(mark, clause)))
+    assert "can't be said" in said(asked(one, mark))
+    assert 'more than 3' in said(asked(*[mark, one] * 4))
+    for text in (asked(mark, one, function='fn put()'), f'impl AHead {{\n    pub fn f()\n    {mark}\n    {one}\n    {{\n        g()\n    }}\n}}\n',
+                 f'{mark}\nfn f() {{}}\n', f'fn f() {{\n    {mark}\n}}\n'):
+        assert 'a mark of no clause' in (said(text) or ''), (text, said(text))
+
+
+def explained():
+    """Of the sources' guarantees each name is Rust's or on the page of contracts; their marks change no more. Returns how many
+    there are."""
+    page, count = re.sub('(?m)^//! ?', '', (erase.OUT / 'contracts.rs').read_text()), 0
+    known = set(erase.erase_words.DEFINED.findall(page)) | RUST
+    for crate, _, text in erase.sources():
+        texts = re.sub(f' *{erase.MARK}\n', '', text), text
+        plain, marked = (erase.Eraser(one, crate, unguarded=erase.given.UNGUARDED).run() for one in texts)
+        assert SECTION.sub('', marked) == plain
+        items = re.findall(r'\bpub (?:const |fn |struct )*(\w+)', marked)
+        for section in SECTION.finditer(marked):
+            signature = re.search(r'\n *(?:pub|fn) [^{]*', marked[section.end():])[0]
+            taken = ' '.join(re.findall('on `[^`]*`|for each [^:]*', section[1]))
+            names = {name for one in re.findall('`([^`]*)`', section[1]) for name in re.findall(r'[A-Za-z_]\w*', one)}
+            assert names <= {*known, *items, *re.findall(r'\w+', signature + taken)}, names
+            count += section[1].count('/// - ')
+    return count
+
+
 def page():
     """The page of contracts has each definition that contracts name, whole, and no other."""
     with tempfile.TemporaryDirectory() as folder:
         root = pathlib.Path(folder)
         (root / 'docs').mkdir()
-        (root / 'docs/NOTATION.md').write_text('A.\n\n| Written | Read |\n|---|---|\n| `result` | it |\n\nB.\n')
+        (root / 'docs/NOTATION.md').write_text('A.\n\n| Written | Read |\n|---|---|\n| `result` | it |\n\n**Guarantees** are\nB.\n\nC.\n')
         (root / 'crates/c/specs').mkdir(parents=True)
         (root / 'crates/c/specs/S.antt').write_text(
-            '-- One.\npub one : ℕ\none = 1\n\n-- Two.\nabbrev pub two : ℕ\ntwo = 2\n\npub record Three : Type 0\n    field x : ℕ\n')
+            'pub record OneState : Type 0\n\n'
+            '-- One.\npub one : OneState → ℕ\none = 1\n\n-- Two.\nabbrev pub two : ℕ\ntwo = 2\n\npub record Three : Type 0\n    field x : ℕ\n')
         text = erase.erase_words.page(root, ['c'], "ensures { result ≡ one } requires { Three }")
         rows = [row.removeprefix('//!').strip() for row in text.split('\n')]
-        assert all(row in rows for row in ('| `result` | it |', '# c, S', '-- One.', 'one = 1', 'field x : ℕ')), rows
-        assert not any('two' in row for row in rows), rows
+        wanted = '| `result` | it |', 'B.', '# c, S', 'pub record OneState : Type 0', '-- One.', 'one = 1', 'field x : ℕ'
+        assert all(row in rows for row in wanted), rows
+        assert not any('two' in row or row == 'C.' for row in rows), rows
 
 
 # A struct over any storage with its alias, as Rattle has them, and as Rust has them.
@@ -376,8 +463,9 @@ def main():
     statuses()
     page()
     names()
-    print(f'{len(GIVEN)} texts erased, {len(REFUSED)} refused, {len(CALLED)} asked for guards, {len(USED)} renamed; '
-          f'{guards()} guards of the sources')
+    guarantees()
+    print(f'{len(GIVEN)} texts erased, {len(REFUSED)} refused, {len(CALLED)} asked for guards, {len(USED)} renamed, '
+          f'{len(SAID)} clauses said, {len(UNSAID)} not; {guards()} guards and {explained()} guarantees of the sources')
 
 
 if __name__ == '__main__':

@@ -23,8 +23,9 @@
 //!
 //! All but what is by hand is written in Rattle, Rust in which functions have contracts: a prover shows for all arguments
 //! that a body meets its contract. Then the contracts are taken out, and left in the documentation of public functions,
-//! folded; [`contracts`] explains their words. What a contract requires of a caller is tested: a call that breaks it
-//! panics, and says where. In Rattle such a test is shown never to fail if the contract is kept.
+//! folded, with some clauses above in Rust's words, "Guarantees"; [`contracts`] explains both. What a contract requires
+//! of a caller is tested: a call that breaks it panics, and says where. In Rattle such a test is shown never to fail if
+//! the contract is kept.
 //!
 //! # What isn't
 //!

@@ -3,7 +3,7 @@ import re
 
 NAME = re.compile(r"[A-Za-z_][\w'-]*")
 DEFINED = re.compile(r'^ *(?:abbrev |unfoldable )*pub (?:abbrev |unfoldable |record |data )*([^\s:]+)', re.M)
-TOP = '''What the words of a contract mean, which is folded at the end of each function's documentation.
+TOP = '''What the words of guarantees mean, and those of contracts, folded at the end of each function's documentation.
 
 A clause is proved of the function's text in Rattle, for all arguments. Here its text is compiled by rustc, without the
 contract; what `requires` asks is tested, and if it isn't met the call panics.
@@ -28,10 +28,14 @@ def page(repository, crates, contracts):
     """The page, of the words of these contracts that are defined in the specs of these crates."""
     notation = (repository / 'docs/NOTATION.md').read_text()
     signs = re.search(r'\n\| Written \|.*?(?=\n\n)', notation, re.S)[0]
-    used, text = set(NAME.findall(contracts)), f'{TOP}# Signs\n{signs}\n'
-    for crate in crates:
-        for specs in sorted((repository / 'crates' / crate / 'specs').glob('*.antt')):
-            found = [block for name, block in definitions(specs).items() if name in used]
-            if found:
-                text += f'\n# {crate}, {specs.stem}\n\n```text\n' + '\n\n'.join(found) + '\n```\n'
+    guarantees = re.search(r'\n\*\*Guarantees\*\*.*?(?=\n\n)', notation, re.S)[0]
+    files = [(crate, specs.stem, definitions(specs)) for crate in crates
+             for specs in sorted((repository / 'crates' / crate / 'specs').glob('*.antt'))]
+    used, text = set(NAME.findall(contracts)), f'{TOP}# Guarantees\n{guarantees}\n\n# Signs\n{signs}\n'
+    for _, _, defined in files:                                               # what contracts see of a type, too
+        used.update(*(re.findall(r'\w+State\b', block) for name, block in defined.items() if name in used))
+    for crate, stem, defined in files:
+        found = [block for name, block in defined.items() if name in used]
+        if found:
+            text += f'\n# {crate}, {stem}\n\n```text\n' + '\n\n'.join(found) + '\n```\n'
     return ''.join(f'//! {line}'.rstrip() + '\n' for line in text.rstrip('\n').split('\n'))

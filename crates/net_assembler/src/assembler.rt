@@ -243,10 +243,13 @@ impl<const N: usize> Assembler<N> {
     #[inline(always)]
     pub fn add(&mut self, offset: usize, size: usize) -> Result<(), TooManyHolesError>
         requires { RangeFits offset size }
+        // Guarantee.
         ensures ok { OnOk result (self.new ≡ with_range self.old offset size) }
         ensures unchanged { OnErr result (self.new ≡ self.old) }
         ensures refused { IsErr result ↔ MakesTooManyRuns N self.old offset size }
+        // Guarantee.
         ensures accepted { runs self.old < N → IsOk result }
+        // Guarantee.
         ensures more { runs self.new ≤ runs self.old + 1 }
         ensures bound { runs self.new ≤ N }
     {
@@ -312,10 +315,13 @@ impl<const N: usize> Assembler<N> {
     /// ```
     #[inline(always)]
     pub fn remove_front(&mut self) -> usize
+        // Guarantee.
         ensures length { result ≡ front self.old }
         ensures rest { self.new ≡ shift_down self.old (front self.old) }
         ensures unchanged { result ≡ 0 → self.new ≡ self.old }
+        // Guarantee.
         ensures fewer { 0 < result → runs self.new + 1 ≡ runs self.old }
+        // Guarantee.
         ensures room { 0 < result → runs self.new < N }
         ensures bound { runs self.new ≤ N }
     {
@@ -337,6 +343,7 @@ impl<const N: usize> Assembler<N> {
     /// ```
     pub fn shift(&mut self, count: usize)
         ensures set { self.new ≡ shift_down self.old count }
+        // Guarantee.
         ensures fewer { runs self.new ≤ runs self.old }
         ensures bound { runs self.new ≤ N }
     {
@@ -378,7 +385,9 @@ impl<const N: usize> Assembler<N> {
             (λ _. self.new ≡ self.old) }
         ensures refused { let too_many = MakesTooManyRuns N self.old offset size in
             IsErr result ↔ ((0 < offset) × too_many) }
+        // Guarantee.
         ensures accepted { runs self.old < N → IsOk result }
+        // Guarantee.
         ensures more { runs self.new ≤ runs self.old + 1 }
         ensures bound { runs self.new ≤ N }
     {
@@ -403,6 +412,7 @@ impl<const N: usize> Assembler<N> {
     /// ```
     pub fn iter_data(&self) -> IterData<'_, N>
         ensures runs { result ≡ maximal_runs self.now }
+        // Guarantee.
         ensures bound { length result ≤ N }
     {
         self.head.iter_data(&self.runs)

@@ -107,6 +107,7 @@ impl Rand {
     /// ```
     pub fn below(&mut self, bound: u32) -> u32
         ensures state { self.new ≡ successor self.old }
+        // Guarantee.
         ensures value { result ≡ random_word self.new * bound / 2 ^ 32 }
         ensures below { 0 < bound → result < bound }
         ensures none { bound ≡ 0 → result ≡ 0 }

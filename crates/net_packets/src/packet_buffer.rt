@@ -309,6 +309,7 @@ impl<H: Drop, M: Storage<PacketMetadata<H>>, B: Storage<u8>> PacketsOver<H, M, B
         ensures full { IsErr result ↔ (placement self.old size ≡ None) }
         ensures value { IfOk result
             (λ r. r.now ≡ last_bytes (with_packet_if_room self.old size header)) }
+        // Guarantee.
         ensures size { IfOk result (λ r. length r.now ≡ size) }
         ensures call { IfOk result (λ r. (ws : List ℕ) → length ws ≡ size → Makes (Enqueue header ws)
             self.old (with_last_bytes (with_packet_if_room self.old size header) ws)) }
@@ -339,8 +340,10 @@ impl<H: Drop, M: Storage<PacketMetadata<H>>, B: Storage<u8>> PacketsOver<H, M, B
     pub fn place(&mut self, size: usize, header: H) -> Result<(), Full>
         ensures accepted { OnOk result ((ws : List ℕ) → length ws ≡ size
             → contents (with_last_bytes self.new ws) ≡ contents self.old ++ (header, ws) ∷ []) }
+        // Guarantee.
         ensures stands { OnOk result
             (contents self.new ≡ contents self.old ++ (header, last_bytes self.new) ∷ []) }
+        // Guarantee.
         ensures unchanged { OnErr result (self.new ≡ self.old) }
         ensures full { IsErr result ↔ (placement self.old size ≡ None) }
         ensures placed { self.new ≡ with_packet_if_room self.old size header }
@@ -387,9 +390,11 @@ impl<H: Drop, M: Storage<PacketMetadata<H>>, B: Storage<u8>> PacketsOver<H, M, B
     /// `Full` if [`PacketsOver::enqueue`] returns it. Then the header is dropped, and nothing
     /// changes.
     pub fn push_slice(&mut self, header: H, data: &[u8]) -> Result<(), Full>
+        // Guarantee.
         ensures pushed { OnOk result
             (contents self.new ≡ contents self.old ++ (header, «data».now) ∷ []) }
         ensures full { IsErr result ↔ (placement self.old (length «data».now) ≡ None) }
+        // Guarantee.
         ensures unchanged { OnErr result (self.new ≡ self.old) }
         ensures made { OnOk result (self.new ≡ with_packet_of self.old header «data».now) }
         ensures capacity { (self.new.slot_count ≡ self.old.slot_count)
@@ -538,6 +543,7 @@ impl<H: Drop, M: Storage<PacketMetadata<H>>, B: Storage<u8>> PacketsOver<H, M, B
         ensures* writes_back { sem 𝓛 (lends_packet_if H.row M.row B.row M.Storage B.Storage
             self.entry result (with_bytes (without_first_and_gap self.old) (without_gap self.old).read_at)) }
         ensures empty { IsErr result ↔ (contents self.old ≡ []) }
+        // Guarantee.
         ensures shown { IfOk result
             (λ r. contents self.old ≡ (r.0, r.1.now) ∷ drop 1 (contents self.old)) }
         ensures left { IfOk result (λ r. (ws : List ℕ) → length ws ≡ length r.1.now
@@ -574,8 +580,10 @@ impl<H: Drop, M: Storage<PacketMetadata<H>>, B: Storage<u8>> PacketsOver<H, M, B
     /// `Empty` if the queue has no packets. Then nothing changes.
     pub fn take(&mut self) -> Result<(H, usize), Empty>
         ensures empty { IsErr result ↔ (contents self.old ≡ []) }
+        // Guarantee.
         ensures taken { IfOk result
             (λ r. contents self.old ≡ (r.0, last_dequeued_bytes self.new r.1) ∷ contents self.new) }
+        // Guarantee.
         ensures left { OnOk result (contents self.new ≡ drop 1 (contents self.old)) }
         ensures no_packet { IsErr result ↔ (length self.old.packets ≡ 0) }
         ensures unchanged { OnErr result (self.new ≡ self.old) }
@@ -647,12 +655,15 @@ impl<H: Drop, M: Storage<PacketMetadata<H>>, B: Storage<u8>> PacketsOver<H, M, B
         ensures empty { IsErr result ↔ (contents self.old ≡ []) }
         ensures popped { IfOk result
             (λ r. CopiesOut (contents self.old) r.0 into.old r.1 (contents self.new) into.new) }
+        // Guarantee.
         ensures count { IfOk result
             (λ r. r.1 ≡ min (length (head_bytes (contents self.old))) (length into.old)) }
+        // Guarantee.
         ensures bytes { IfOk result
             (λ r. into.new ≡ take r.1 (head_bytes (contents self.old)) ++ drop r.1 into.old) }
         ensures whole { length (head_bytes (contents self.old)) ≡ length into.old
             → OnOk result (into.new ≡ head_bytes (contents self.old)) }
+        // Guarantee.
         ensures left { OnOk result (contents self.new ≡ drop 1 (contents self.old)) }
         ensures no_packet { IsErr result ↔ (length self.old.packets ≡ 0) }
         ensures unchanged { OnErr result ((self.new ≡ self.old) × (into.new ≡ into.old)) }
@@ -687,6 +698,7 @@ impl<H: Drop, M: Storage<PacketMetadata<H>>, B: Storage<u8>> PacketsOver<H, M, B
         ensures* skips { sem 𝓛 (ends_as H.row M.row B.row M.Storage B.Storage
             self.entry (without_gap self.old)) }
         ensures empty { IsErr result ↔ (contents self.old ≡ []) }
+        // Guarantee.
         ensures shown { IfOk result
             (λ r. contents self.old ≡ (r.0.now, r.1.now) ∷ drop 1 (contents self.old)) }
         ensures same { contents (without_gap self.old) ≡ contents self.old }

@@ -213,6 +213,7 @@ impl<S: Storage<u8>, const N: usize> FiniteReceiverOver<S, N> {
         ensures receives { (f : ℕ) (x : List ℕ) → ReceivesFinite f x self.old →
             MatchesFinite f x pos bytes.now is_last → ReceivesFinite f x self.new }
         ensures read { self.new.receiver.read ≡ self.old.receiver.read }
+        // Guarantee.
         ensures grows { acknowledged self.old ≤ acknowledged self.new }
     {
         prove!(Self::fits(pos, bytes.len()), "the segment ends too high");
@@ -225,7 +226,9 @@ impl<S: Storage<u8>, const N: usize> FiniteReceiverOver<S, N> {
     /// many as are queued and as `into` has room for. The rest of `into` stays as it is.
     pub fn read(&mut self, into: &mut [u8]) -> usize
         ensures state { self.new ≡ finite_after_read self.old (length into.old) }
+        // Guarantee.
         ensures count { result ≡ min (length into.old) (length self.old.receiver.queue) }
+        // Guarantee.
         ensures into { into.new ≡ take (length into.old) self.old.receiver.queue
             ++ drop (length self.old.receiver.queue) into.old }
         ensures receives { (f : ℕ) (x : List ℕ) → ReceivesFinite f x self.old →
@@ -239,6 +242,7 @@ impl<S: Storage<u8>, const N: usize> FiniteReceiverOver<S, N> {
     /// Shows the queue, in order, in two parts: the bytes up to the storage's end, and those from its
     /// beginning on. The second part is empty unless the queue wraps.
     pub fn as_slices(&self) -> (&[u8], &[u8])
+        // Guarantee.
         ensures queue { result.0.now ++ result.1.now ≡ self.now.receiver.queue }
         ensures value { (result.0.now ≡ first_part self.now.receiver)
             × (result.1.now ≡ second_part self.now.receiver) }

@@ -180,6 +180,7 @@ impl<S: Storage<u8>> FiniteSenderOver<S> {
     /// Enqueues the first of these bytes, as many as `window` says, and returns how many.
     #[must_use]
     pub fn write(&mut self, bytes: &[u8]) -> usize
+        // Guarantee.
         ensures count { result ≡ min (length bytes.now) (finite_room self.old) }
         ensures state { self.new ≡ with_bytes self.old (take result bytes.now) }
         ensures sends { (f : ℕ) (w : List ℕ) → Sends f w self.old.sender
@@ -252,11 +253,13 @@ impl<S: Storage<u8>> FiniteSenderOver<S> {
     /// `sent`.
     #[must_use]
     pub fn acknowledge(&mut self, next: u64) -> bool
+        // Guarantee.
         ensures accepted { IsTrue result
             ↔ ((first_number self.old ≤ next) × (next ≤ self.old.sent)) }
         ensures state { IsTrue result → self.new ≡ acknowledged_below self.old next }
         ensures sends { (f : ℕ) (w : List ℕ) → Sends f w self.old.sender →
             Sends f w self.new.sender }
+        // Guarantee.
         ensures number { IsTrue result → first_number self.new ≡ next }
         ensures refused { IsFalse result → self.new ≡ self.old }
     {

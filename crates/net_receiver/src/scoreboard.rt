@@ -176,7 +176,9 @@ impl<const N: usize> Scoreboard<N> {
     /// known, and its bytes are sent again. On a processor of 32 bits it is refused too if `end` is
     /// 2^32 or more above the first position that wasn't reported.
     pub fn report(&mut self, start: u64, end: u64, sent: u64) -> Result<bool, TooManyHolesError>
+        // Guarantee.
         ensures block { IfOk result (λ taken. IsTrue taken ↔ ((start < end) × (end ≤ sent))) }
+        // Guarantee.
         ensures ok { result ≡ Ok true → self.new ≡ with_range self.old start (end - start) }
         ensures unchanged { (result ≡ Ok true → ⊥) → self.new ≡ self.old }
         ensures refused { IsErr result ↔ ((start < end) × (end ≤ sent)

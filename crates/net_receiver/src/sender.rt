@@ -225,6 +225,7 @@ impl<S: Storage<u8>> SenderOver<S> {
     /// ```
     #[must_use]
     pub fn write(&mut self, bytes: &[u8]) -> usize
+        // Guarantee.
         ensures count { result ≡ min (length bytes.now) (room_of self.old) }
         ensures state { self.new ≡ with_written self.old (take result bytes.now) }
         ensures sends { (f : ℕ) (w : List ℕ) → Sends f w self.old
@@ -245,17 +246,20 @@ impl<S: Storage<u8>> SenderOver<S> {
     /// assert_eq!((sender.peek_at(101, 9), sender.peek_at(103, 9)), (&b"bc"[..], &b""[..]));
     /// ```
     pub fn peek_at(&self, pos: u64, max: usize) -> &[u8]
+        // Guarantee.
         ensures value { result.now
             ≡ take (length result.now) (drop (pos - self.now.first_unacknowledged) self.now.queue) }
         ensures count { self.now.first_unacknowledged ≤ pos
             → length result.now ≡ min max (contiguous_end self.now pos - pos) }
         ensures max { length result.now ≤ max }
         ensures before { pos < self.now.first_unacknowledged → result.now ≡ [] }
+        // Guarantee.
         ensures some { self.now.first_unacknowledged ≤ pos → pos < end_of self.now → 0 < max
             → 0 < length result.now }
         ensures each { (q d : ℕ) → pos ≤ q → q < pos + length result.now
             → slice_index_or self.now.queue (q - self.now.first_unacknowledged) d
             ≡ slice_index_or result.now (q - pos) d }
+        // Guarantee.
         ensures within { 0 < length result.now → pos + length result.now ≤ end_of self.now }
         ensures says { (f : ℕ) (w : List ℕ) → Sends f w self.now → self.now.first_unacknowledged ≤ pos
             → MatchesStream f w pos result.now }
@@ -280,10 +284,12 @@ impl<S: Storage<u8>> SenderOver<S> {
     /// ```
     #[must_use]
     pub fn acknowledge(&mut self, next: u64) -> bool
+        // Guarantee.
         ensures accepted { IsTrue result
             ↔ ((self.old.first_unacknowledged ≤ next) × (next ≤ end_of self.old)) }
         ensures state { IsTrue result → self.new ≡ sender_from self.old next }
         ensures sends { (f : ℕ) (w : List ℕ) → Sends f w self.old → Sends f w self.new }
+        // Guarantee.
         ensures refused { IsFalse result → self.new ≡ self.old }
     {
         self.head.acknowledge(self.storage.count(), next)
@@ -306,8 +312,10 @@ impl<S: Storage<u8>> SenderOver<S> {
     /// ```
     #[must_use]
     pub fn mark_sent(&self, sent: &mut u64, pos: u64) -> bool
+        // Guarantee.
         ensures accepted { IsTrue result
             ↔ ((sent.old ≤ end_of self.now) × (pos ≤ end_of self.now)) }
+        // Guarantee.
         ensures mark { IsTrue result → sent.new ≡ max sent.old pos }
         ensures refused { IsFalse result → sent.new ≡ sent.old }
     {
@@ -331,10 +339,12 @@ impl<S: Storage<u8>> SenderOver<S> {
     /// ```
     #[must_use]
     pub fn acknowledge_sent(&mut self, next: u64, sent: u64) -> bool
+        // Guarantee.
         ensures accepted { IsTrue result ↔ ((self.old.first_unacknowledged ≤ next) × (next ≤ sent)
             × (sent ≤ end_of self.old)) }
         ensures state { IsTrue result → self.new ≡ sender_from self.old next }
         ensures sends { (f : ℕ) (w : List ℕ) → Sends f w self.old → Sends f w self.new }
+        // Guarantee.
         ensures refused { IsFalse result → self.new ≡ self.old }
     {
         self.head.acknowledge_sent(self.storage.count(), next, sent)

@@ -103,8 +103,11 @@ impl SequenceNumber {
     /// ```
     #[inline]
     pub fn position(self, initial: SequenceNumber, next: u64) -> Option<u64>
+        // Guarantee.
         ensures number { IfSome result (λ pos. number_at initial pos ≡ self) }
+        // Guarantee.
         ensures near { IfSome result (λ pos. IsNear next pos) }
+        // Guarantee.
         ensures found { (pos : ℕ) → pos < 2 ^ 64 → number_at initial pos ≡ self → IsNear next pos →
             result ≡ Some pos }
     {

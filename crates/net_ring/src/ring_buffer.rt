@@ -505,6 +505,7 @@ impl<T, S: Storage<T>> RingOver<T, S> {
         ensures* writes_back { sem 𝓛 (lends_one_if T.row S.row S.Storage self.entry
             (with_dequeued 1 self.old) self.old.read_at result) }
         ensures empty { IsErr result ↔ (self.old.count ≡ 0) }
+        // Guarantee.
         ensures value { IfOk result (λ r. queue self.old ≡ r.now ∷ drop 1 (queue self.old)) }
         ensures dequeued { self.old.count ≢ 0 → (w : T) → Dequeues self.old 1 (w ∷ []) (with_one_dequeued self.old w) }
         ensures call { IfOk result (λ r. (w : T) → Makes (DequeueOne r.now w) self.old (with_one_dequeued self.old w)) }
@@ -549,6 +550,7 @@ impl<T, S: Storage<T>> RingOver<T, S> {
     where
         T: Copy,
         ensures empty { IsNone result ↔ (self.old.count ≡ 0) }
+        // Guarantee.
         ensures queue { IfSome result (λ x. queue self.old ≡ queue self.new ++ x ∷ []) }
         ensures spare { IfSome result (λ x. spare self.new ≡ x ∷ spare self.old) }
         ensures room { IfSome result (λ x. window self.new ≡ window self.old + 1) }
@@ -579,8 +581,11 @@ impl<T: Drop, S: Storage<T>> RingOver<T, S> {
     /// `Full` if the ring is full. Then it stays as it is, and the element is dropped.
     #[tactic(auto, unfolding(crate::specs::RingHistory::Makes))]
     pub fn push_one(&mut self, element: T) -> Result<(), Full>
+        // Guarantee.
         ensures full { IsErr result ↔ (window self.old ≡ 0) }
+        // Guarantee.
         ensures unchanged { OnErr result (self.new ≡ self.old) }
+        // Guarantee.
         ensures queue { OnOk result (queue self.new ≡ queue self.old ++ element ∷ []) }
         ensures room { OnOk result (window self.new + 1 ≡ window self.old) }
         ensures capacity { capacity self.new ≡ capacity self.old }
@@ -650,6 +655,7 @@ impl<T, S: Storage<T>> RingOver<T, S> {
             (with_enqueued (min size (contiguous_window (rewind_if_empty self.old))) (rewind_if_empty self.old))
             (write_at (rewind_if_empty self.old)) result) }
         ensures count { length result.now ≡ min size (contiguous_window (rewind_if_empty self.old)) }
+        // Guarantee.
         ensures not_empty { window self.old ≢ 0 → 0 < size → 0 < length result.now }
         ensures value { result.now ≡ take (length result.now) (spare (rewind_if_empty self.old)) }
         ensures stored { let g = rewind_if_empty self.old in
@@ -686,11 +692,13 @@ impl<T, S: Storage<T>> RingOver<T, S> {
     pub fn enqueue_slice(&mut self, data: &[T]) -> usize
     where
         T: Copy,
+        // Guarantee.
         ensures count { result ≡ min (length «data».now) (window self.old) }
         ensures ring { let g = rewind_if_empty self.old in self.new
             ≡ with_enqueued result (with_elements_wrapping g (write_at g) (take result «data».now)) }
         ensures enqueued { Enqueues (rewind_if_empty self.old)
             (take result «data».now) self.new }
+        // Guarantee.
         ensures queue { queue self.new ≡ queue self.old ++ take result «data».now }
         ensures call { Makes (EnqueueSlice (take result «data».now)) self.old self.new }
         ensures same { (self.new.count ≡ self.old.count + result)
@@ -752,7 +760,9 @@ impl<T, S: Storage<T>> RingOver<T, S> {
             (with_dequeued (min size (contiguous_queued self.old)) self.old)
             self.old.read_at result) }
         ensures count { length result.now ≡ min size (contiguous_queued self.old) }
+        // Guarantee.
         ensures not_empty { self.old.count ≢ 0 → 0 < size → 0 < length result.now }
+        // Guarantee.
         ensures value { result.now ≡ take (length result.now) (queue self.old) }
         ensures stored { result.now
             ≡ take (length result.now) (drop self.old.read_at self.old.storage) }
@@ -788,11 +798,14 @@ impl<T, S: Storage<T>> RingOver<T, S> {
     pub fn dequeue_slice(&mut self, data: &mut [T]) -> usize
     where
         T: Copy,
+        // Guarantee.
         ensures count { result ≡ min (length «data».old) self.old.count }
         ensures of_queue { result ≡ min (length «data».old) (length (queue self.old)) }
+        // Guarantee.
         ensures given { «data».new ≡ take result (queue self.old) ++ drop result «data».old }
         ensures ring { self.new ≡ with_dequeued result self.old }
         ensures dequeued { Dequeues self.old result (take result (queue self.old)) self.new }
+        // Guarantee.
         ensures queue { queue self.new ≡ drop result (queue self.old) }
         ensures call { Makes (Dequeue (take result (queue self.old))) self.old self.new }
         ensures same { (self.new.count ≡ self.old.count - result)
@@ -836,7 +849,9 @@ impl<T, S: Storage<T>> RingOver<T, S> {
         ensures* writes_back { sem 𝓛 (lends_many T.row S.row S.Storage self.entry
             self.old (spare_index self.old offset) result) }
         ensures count { length result.now ≡ contiguous_unallocated self.old offset size }
+        // Guarantee.
         ensures not_empty { offset < window self.old → 0 < size → 0 < length result.now }
+        // Guarantee.
         ensures value { result.now ≡ take (length result.now) (drop offset (spare self.old)) }
         ensures each { (k : ℕ) (d : T) → offset ≤ k → k < offset + length result.now →
             slice_index_or (spare self.old) k d ≡ slice_index_or result.now (k - offset) d }
@@ -872,6 +887,7 @@ impl<T, S: Storage<T>> RingOver<T, S> {
     pub fn write_unallocated(&mut self, offset: usize, data: &[T]) -> usize
     where
         T: Copy,
+        // Guarantee.
         ensures count { result ≡ min (length «data».now) (window self.old - offset) }
         ensures ring { self.new
             ≡ with_elements_wrapping self.old (spare_index self.old offset) (take result «data».now) }
@@ -933,7 +949,9 @@ impl<T, S: Storage<T>> RingOver<T, S> {
     /// ```
     pub fn get_allocated(&self, offset: usize, size: usize) -> &[T]
         ensures count { length result.now ≡ contiguous_allocated self.now offset size }
+        // Guarantee.
         ensures not_empty { offset < self.now.count → 0 < size → 0 < length result.now }
+        // Guarantee.
         ensures value { result.now ≡ take (length result.now) (drop offset (queue self.now)) }
         ensures first { 0 < size → slice_get result.now 0 ≡ slice_get (queue self.now) offset }
         ensures each { (k : ℕ) (d : T) → offset ≤ k → k < offset + length result.now →
@@ -962,7 +980,9 @@ impl<T, S: Storage<T>> RingOver<T, S> {
         ensures* writes_back { sem 𝓛 (lends_many T.row S.row S.Storage self.entry
             self.old (queue_index self.old offset) result) }
         ensures count { length result.now ≡ contiguous_allocated self.old offset size }
+        // Guarantee.
         ensures not_empty { offset < self.old.count → 0 < size → 0 < length result.now }
+        // Guarantee.
         ensures value { result.now ≡ take (length result.now) (drop offset (queue self.old)) }
         ensures first { 0 < size → slice_get result.now 0 ≡ slice_get (queue self.old) offset }
         ensures each { (k : ℕ) (d : T) → offset ≤ k → k < offset + length result.now →
@@ -998,7 +1018,9 @@ impl<T, S: Storage<T>> RingOver<T, S> {
     pub fn read_allocated(&mut self, offset: usize, data: &mut [T]) -> usize
     where
         T: Copy,
+        // Guarantee.
         ensures count { result ≡ min (length «data».old) (self.old.count - offset) }
+        // Guarantee.
         ensures given { «data».new
             ≡ take result (drop offset (queue self.old)) ++ drop result «data».old }
         ensures unchanged { self.new ≡ self.old }
@@ -1027,6 +1049,7 @@ impl<T, S: Storage<T>> RingOver<T, S> {
         requires len { count ≤ self.old.count }
         ensures ring { self.new ≡ with_dequeued count self.old }
         ensures dequeued { Dequeues self.old count (take count (queue self.old)) self.new }
+        // Guarantee.
         ensures room { window self.new ≡ window self.old + count }
         ensures call { Makes (Dequeue (take count (queue self.old))) self.old self.new }
     {
@@ -1050,9 +1073,11 @@ impl<T, S: Storage<T>> RingOver<T, S> {
     /// assert_eq!(ring.as_slices(), (&b"cd"[..], &b"ef"[..]));
     /// ```
     pub fn as_slices(&self) -> (&[T], &[T])
+        // Guarantee.
         ensures queue { result.0.now ++ result.1.now ≡ queue self.now }
         ensures cut { length result.0.now ≡ contiguous_queued self.now }
         ensures count { length result.0.now + length result.1.now ≡ self.now.count }
+        // Guarantee.
         ensures not_empty { self.now.count ≢ 0 → 0 < length result.0.now }
         ensures value { (result.0.now ≡ contiguous_queue self.now)
             × (result.1.now ≡ drop (length result.0.now) (queue self.now)) }

@@ -51,9 +51,12 @@ impl AdvertisedWindow {
         requires room { next ≤ window_end }
         ensures field { result ≡ field_for scale (window_end - next) }
         ensures edge { self.new.edge ≡ max self.old.edge (announced next scale result) }
+        // Guarantee.
         ensures never_back { self.old.edge ≤ self.new.edge }
+        // Guarantee.
         ensures within { announced next scale result ≤ window_end }
         ensures room { self.old.edge ≤ window_end → self.new.edge ≤ window_end }
+        // Guarantee.
         ensures most { (f : ℕ) → f ≤ 65535 → announced next scale f ≤ window_end → f ≤ result }
         ensures lost { self.old.edge ≤ window_end → self.old.edge ≤ announced next scale 65535 →
             self.old.edge < announced next scale result + 2 ^ scale }
@@ -92,8 +95,11 @@ impl AdvertisedWindow {
         ensures held { gain self.old.edge scale next window_end < worth capacity mss →
             result ≡ field_for scale (min self.old.edge window_end - next) }
         ensures edge { self.new.edge ≡ max self.old.edge (announced next scale result) }
+        // Guarantee.
         ensures within { announced next scale result ≤ window_end }
+        // Guarantee.
         ensures room { self.old.edge ≤ window_end → self.new.edge ≤ window_end }
+        // Guarantee.
         ensures steps { self.old.edge + worth capacity mss ≤ self.new.edge
             ⊎ (self.new.edge ≡ max self.old.edge next) }
     {
@@ -126,6 +132,7 @@ impl AdvertisedWindow {
     ) -> bool
         requires scale { scale ≤ 14 }
         requires room { next ≤ window_end }
+        // Guarantee.
         ensures { IsTrue result
             ↔ (worth capacity mss ≤ gain self.now.edge scale next window_end) }
     {

@@ -100,6 +100,7 @@ pub fn is_acknowledgement(
     greatest_window: u64,
     ack: u64,
 ) -> bool
+    // Guarantee.
     ensures { IsTrue result ↔ ((first_unacknowledged ≤ ack + greatest_window) × (ack ≤ sent)) }
 {
     first_unacknowledged.saturating_sub(ack) <= greatest_window && ack <= sent

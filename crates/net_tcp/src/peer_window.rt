@@ -26,7 +26,9 @@ pub struct PeerWindow {
 /// The scale is at most 14.
 pub fn scaled(field: u16, scale: u8) -> u64
     requires { scale ≤ 14 }
+    // Guarantee.
     ensures value { result ≡ field * 2 ^ scale }
+    // Guarantee.
     ensures few { result < 2 ^ 30 }
 {
     prove!(scale <= MAX_SCALE, "a greater scale than 14");
@@ -60,9 +62,12 @@ impl PeerWindow {
         ack: u64,
         window: u64,
     ) -> bool
+        // Guarantee.
         ensures accepted { IsTrue result ↔ ((first_unacknowledged ≤ ack) × (ack ≤ sent)
             × (Replaces self.old seq ack)) }
+        // Guarantee.
         ensures window { IsTrue result → self.new ≡ window_from seq ack window }
+        // Guarantee.
         ensures refused { IsFalse result → self.new ≡ self.old }
         ensures state { self.new
             ≡ after_update self.old first_unacknowledged sent seq ack window }
@@ -87,6 +92,7 @@ impl PeerWindow {
     /// Returns how many bytes from `pos` on may be sent: none if the edge is at or below it, as it
     /// may be after the window shrank.
     pub fn usable(&self, pos: u64) -> u64
+        // Guarantee.
         ensures { result ≡ self.now.edge - pos }
     {
         self.edge.saturating_sub(pos)
@@ -94,6 +100,7 @@ impl PeerWindow {
 
     /// Returns the end of what may be sent of the bytes below `end`.
     pub fn send_limit(&self, end: u64) -> u64
+        // Guarantee.
         ensures { result ≡ min self.now.edge end }
     {
         self.edge.min(end)
@@ -102,8 +109,10 @@ impl PeerWindow {
     /// Returns whether a probe may be sent, the one byte at `first_unacknowledged`: the window has
     /// closed, and there are bytes below `end` that wait.
     pub fn is_probe_allowed(&self, first_unacknowledged: u64, end: u64) -> bool
+        // Guarantee.
         ensures value { IsTrue result
             ↔ ((self.now.edge ≤ first_unacknowledged) × (first_unacknowledged < end)) }
+        // Guarantee.
         ensures progress { first_unacknowledged < end → IsFalse result →
             first_unacknowledged < min self.now.edge end }
     {
@@ -116,8 +125,11 @@ impl PeerWindow {
     /// such a segment acknowledges.
     pub fn acknowledgement_number(&self, first_unacknowledged: u64, sent: u64) -> u64
         ensures value { result ≡ acknowledgement_number self.now first_unacknowledged sent }
+        // Guarantee.
         ensures sent { result ≤ sent }
+        // Guarantee.
         ensures promised { result ≤ max self.now.edge first_unacknowledged }
+        // Guarantee.
         ensures first { first_unacknowledged ≤ sent → first_unacknowledged ≤ result }
     {
         sent.min(self.edge.max(first_unacknowledged))

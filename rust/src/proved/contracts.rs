@@ -1,7 +1,15 @@
-//! What the words of a contract mean, which is folded at the end of each function's documentation.
+//! What the words of guarantees mean, and those of contracts, folded at the end of each function's documentation.
 //!
 //! A clause is proved of the function's text in Rattle, for all arguments. Here its text is compiled by rustc, without the
 //! contract; what `requires` asks is tested, and if it isn't met the call panics.
+//!
+//! # Guarantees
+//!
+//! **Guarantees**, on pages of the Cargo crate, are clauses in Rust's words. `old(x)` is x before the call, `x` what it is
+//! after it. `self.queue`, without parentheses, is a public field, or what contracts see of `self` by that name: a
+//! definition, or a part of a `State`. So is a function that Rust doesn't have, as `with_range(..)`. `==` compares what
+//! contracts see. `xs ++ ys` is one list after the other; `xs[..n]` and `xs[n..]` end where xs does, and don't panic. `2^n`
+//! is a power, and sums don't wrap.
 //!
 //! # Signs
 //!
@@ -19,12 +27,15 @@
 //! | `overwrite xs i ys` | xs with ys written over it from index i on, as far as xs goes (`net_ring`) |
 //! | `slice_range xs a b`; `option_or a b` | the elements of xs from index a on and before b; `a` if that is `Some`, else b |
 //! | `Unit`, `tt`; `module _ (n : ℕ) where` | the type of one value, and that value; what follows is for every n |
-//! | `All P xs` | P is true of each element of xs |
+//! | `All P xs`; `AllZip P xs ys` | P is true of each element of xs; of each two of xs and ys at one index, of which both have as many |
 //! | `x.0`, `record s { a = e }` | the first of a tuple; s with its field `a` changed to e |
 //! | `λ x. e` | the function that takes x to e |
 //! | `not b`, `nat_lt a b`; `IsTrue b`, `IsFalse b` | Rust's `!b` and `a < b`, on values; the `bool` b is true; false |
 //! | `IfSome r (λ x. p)`, `IfOk`, `IfErr`; `IfNone r p` | if r is `Some(x)`, `Ok(x)`, `Err(x)`, then p; if r is `None`, then p |
-//! | `OnOk r p`, `OnErr r p`; `IsOk r`, `IsErr r` | if r is `Ok`, `Err`, then p; r is `Ok`, `Err` |
+//! | `OnOk r p`, `OnErr r p`; `IsOk r`, `IsErr r`, `IsSome r`, `IsNone r` | if r is `Ok`, `Err`, then p; r is `Ok`, `Err`, `Some`, `None` |
+//! | `SomeIff r p x`; `option_copied r` | r is `Some(x)` if p, else `None`; Rust's `r.copied()` |
+//! | `pos n`, `negsuc n`; `from_bool b`; `run_count s` | the integers n and -1 - n; 1 if b, else 0; `runs s` |
+//! | `FnOnceTakesAt F.FnOnce f x`, `FnOnceReturnsAt F.FnOnce f x r` | f, of type F, may be called on a reference to x; r can be what it then returns |
 //! | `MatchOption r p (λ x. q)`, `MatchResult r (λ x. p) (λ e. q)` | p if r is `None`, q if it is `Some(x)`; p if r is `Ok(x)`, q if it is `Err(e)` |
 //! | `R.remaining r`, `W.contents w` | the bytes that a reader over memory has left; that a writer over memory has taken. For a file, a pipe or a terminal both are `None` |
 //! | `«data»` | the parameter `data`, a keyword of the logic |
@@ -40,6 +51,16 @@
 //!   abbrev pub elements : ManagedSlice T → List T
 //!   elements (Borrowed s) = s.now
 //!   elements (Owned v) = v.items
+//!
+//! -- the storage with ws written over its elements from the index i on
+//! abbrev pub with_part : ManagedSlice T → ℕ → List T → ManagedSlice T
+//! with_part (Borrowed s) i ws = Borrowed (at_last s (overwrite s.now i ws))
+//! with_part (Owned v) i ws = Owned (with_items_from v i ws)
+//!
+//! -- the storage with one element replaced
+//! abbrev pub with_element : ManagedSlice T → ℕ → T → ManagedSlice T
+//! with_element (Borrowed s) i x = Borrowed (at_last s (slice_set s.now i x))
+//! with_element (Owned v) i x = Owned (vec_with_item v i x)
 //! ```
 //!
 //! # net_ring, ManagedLends
@@ -55,6 +76,13 @@
 //! # net_ring, Ring
 //!
 //! ```text
+//! -- what a contract sees of a ring: its storage, the index where it is read, and how many elements
+//! -- are queued
+//! pub record RingState (T : Type 0) : Type 0 where
+//!   pub storage : List T
+//!   pub read_at : ℕ
+//!   pub count : ℕ
+//!
 //! module _ {T : Type 0} where
 //!   -- the ring of a storage b, a read index r and n queued elements
 //!   abbrev pub ring : List T → ℕ → ℕ → RingState T
@@ -454,6 +482,14 @@
 //! # net_packets, Packets
 //!
 //! ```text
+//! -- a queue of packets: how many slots it has, its storage, the index where that is read, and its
+//! -- packets in order
+//! pub record PacketsState (H : Type 0) : Type 0 where
+//!   pub slot_count : ℕ
+//!   pub storage : List ℕ
+//!   pub read_at : ℕ
+//!   pub packets : List (Packet H)
+//!
 //! -- the bytes of the storage that packets take, their gaps counted
 //! abbrev pub bytes_used : List (Packet H) → ℕ
 //! bytes_used [] = 0
@@ -618,6 +654,10 @@
 //! -- p - m for each p in s with p >= m
 //! unfoldable pub shift_down : Positions → ℕ → Positions
 //! shift_down s m = set_of_list (map (λ p. p - m) (filter (nat_le m) (positions s)))
+//!
+//! -- whether two sets have the same positions
+//! abbrev pub are_same : Positions → Positions → Bool
+//! are_same s t = pointwise nat_eq (positions s) (positions t)
 //! ```
 //!
 //! # net_assembler, RunLists
@@ -651,6 +691,15 @@
 //! -- how many binary digits n has, and 0 for 0
 //! unfoldable pub binary_digits : ℕ → ℕ
 //! binary_digits n = length (digits_of 2 n)
+//! ```
+//!
+//! # net_assembler, Width
+//!
+//! ```text
+//! -- 0 where it has 64 bits, and so where these proofs are checked; 2 ^ 64 - 2 ^ 32 where it has 32. No
+//! -- proof unfolds it but those of `most` and of the law `is_usize`, so each other holds for all of these
+//! unfoldable pub shortfall : ℕ
+//! shortfall = 0
 //! ```
 //!
 //! # net_receiver, Contiguous
@@ -696,6 +745,11 @@
 //! -- the greatest number of 64 bits: it is no end's position, since the end has a number after it
 //! abbrev pub no_end : ℕ
 //! no_end = 2 ^ 64 - 1
+//!
+//! -- what a receiver stores, and the position after the stream's last byte, or `no_end`
+//! pub record FiniteState : Type 0 where
+//!   pub receiver : ReceiverState
+//!   pub end : ℕ
 //!
 //! -- nothing has arrived
 //! abbrev pub fresh_finite : ℕ → ℕ → FiniteState
@@ -768,6 +822,13 @@
 //! # net_receiver, FiniteSender
 //!
 //! ```text
+//! -- a sender; 1 once it is closed; 1 once the end is acknowledged; and the number after the last one that was sent
+//! pub record FiniteSenderState : Type 0 where
+//!   pub sender : SenderState
+//!   pub closed : ℕ
+//!   pub finished : ℕ
+//!   pub sent : ℕ
+//!
 //! -- nothing was written
 //! abbrev pub fresh_finite_sender : ℕ → ℕ → FiniteSenderState
 //! fresh_finite_sender capacity first =
@@ -918,6 +979,14 @@
 //! # net_receiver, ReceiverState
 //!
 //! ```text
+//! -- what a receiver stores, as contracts see it
+//! pub record ReceiverState : Type 0 where
+//!   pub first : ℕ
+//!   pub capacity : ℕ
+//!   pub read : ℕ
+//!   pub queue : List ℕ
+//!   pub held : HeldBytes
+//!
 //! -- the positions that are held
 //! abbrev pub domain : HeldBytes → Positions
 //! domain held = set_of_list (fin.keys held)
@@ -1149,6 +1218,14 @@
 //! # net_receiver, SenderState
 //!
 //! ```text
+//! -- the model of a sender: a byte of position `wraps_at` is at the storage's beginning, and one before it is at an index
+//! -- less by `wraps_at` minus its position than the storage's length
+//! pub record SenderState : Type 0 where
+//!   pub capacity : ℕ
+//!   pub first_unacknowledged : ℕ
+//!   pub queue : List ℕ
+//!   pub wraps_at : ℕ
+//!
 //! -- a sender of this capacity, with this queue from position `head` on, and whose storage begins again at `wraps_at`
 //! abbrev pub sender_state : ℕ → ℕ → List ℕ → ℕ → SenderState
 //! sender_state capacity head queue wraps_at =
@@ -1246,6 +1323,20 @@
 //! fragment_size_of c n = (ip_mtu_of c - n) - (ip_mtu_of c - n) % 8
 //! ```
 //!
+//! # net_base, Earliest
+//!
+//! ```text
+//! -- the earlier of two moments; a missing one is later than any that is there
+//! abbrev pub earlier_of : Option ℤ → Option ℤ → Option ℤ
+//! earlier_of None second = second
+//! earlier_of (Some x) None = Some x
+//! earlier_of (Some x) (Some y) = Some (int_min x y)
+//!
+//! -- t is at or before the moment of each of xs, and is one of these moments, or none is there
+//! abbrev pub IsEarliest : List X → Option ℤ → Type 0
+//! IsEarliest xs t = All (λ x. IsNoLater t (f x)) xs × ((t ≡ None) ⊎ Any (λ x. f x ≡ t) xs)
+//! ```
+//!
 //! # net_base, FragmentParts
 //!
 //! ```text
@@ -1262,9 +1353,30 @@
 //! HasSoundParts h bytes runs = HasSoundRuns h.present runs × ((h.has_total ≡ 0) ⊎ (h.total ≤ length bytes))
 //! ```
 //!
+//! # net_base, FragmentTable
+//!
+//! ```text
+//! -- whether the slot whose key is `own` is for the packet of `key`, by `==`
+//! abbrev pub is_for : {K : Type 0} → (K → K → Bool) → K → Option K → Bool
+//! is_for eq key None = false
+//! is_for eq key (Some own) = eq own key
+//!
+//! -- a buffer that was begun again, with nothing in it
+//! abbrev pub begun : FragmentsState → ℤ → FragmentsState
+//! begun b e = record { bytes = b.bytes; present = nothing; total = None; expires_at = e }
+//! ```
+//!
 //! # net_base, Fragments
 //!
 //! ```text
+//! -- the bytes of the buffer, the positions that arrived, how many bytes the packet has, once that is
+//! -- known, and the last moment at which it is waited for
+//! pub record FragmentsState : Type 0 where
+//!   pub bytes : List ℕ
+//!   pub present : Positions
+//!   pub total : Option ℕ
+//!   pub expires_at : ℤ
+//!
 //! -- a fragment arrived: its bytes are at the offset, and its positions are present
 //! abbrev pub with_fragment : FragmentsState → ℕ → List ℕ → FragmentsState
 //! with_fragment b offset data' = record b {

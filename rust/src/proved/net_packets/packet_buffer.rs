@@ -354,6 +354,10 @@ impl<H, M: Storage<PacketMetadata<H>>, B: Storage<u8>> PacketBuffer<'_, H, M, B>
     /// Then the header is dropped, and nothing changes. If smoltcp refuses, it can leave a gap with
     /// no packet.
     ///
+    /// # [Guarantees](crate::contracts#guarantees)
+    ///
+    /// - on `Ok(r)`: `r.len() == size`
+    ///
     /// <details><summary>Contract</summary>
     ///
     /// In the words of [`contracts`](crate::contracts):
@@ -397,6 +401,11 @@ impl<H, M: Storage<PacketMetadata<H>>, B: Storage<u8>> PacketBuffer<'_, H, M, B>
     ///
     /// `Full` if [`PacketBuffer::enqueue`] returns it. Then the header is dropped, and nothing
     /// changes.
+    ///
+    /// # [Guarantees](crate::contracts#guarantees)
+    ///
+    /// - on `Ok`: `self.contents == old(self).contents ++ [(header, self.last_bytes)]`
+    /// - on `Err`: `self == old(self)`
     ///
     /// <details><summary>Contract</summary>
     ///
@@ -463,6 +472,11 @@ impl<H, M: Storage<PacketMetadata<H>>, B: Storage<u8>> PacketBuffer<'_, H, M, B>
     ///
     /// `Full` if [`PacketBuffer::enqueue`] returns it. Then the header is dropped, and nothing
     /// changes.
+    ///
+    /// # [Guarantees](crate::contracts#guarantees)
+    ///
+    /// - on `Ok`: `self.contents == old(self).contents ++ [(header, data)]`
+    /// - on `Err`: `self == old(self)`
     ///
     /// <details><summary>Contract</summary>
     ///
@@ -631,6 +645,10 @@ impl<H, M: Storage<PacketMetadata<H>>, B: Storage<u8>> PacketBuffer<'_, H, M, B>
     ///
     /// `Empty` if the queue has no packets. Then nothing changes.
     ///
+    /// # [Guarantees](crate::contracts#guarantees)
+    ///
+    /// - on `Ok(r)`: `old(self).contents == [(r.0, r.1)] ++ old(self).contents[1..]`
+    ///
     /// <details><summary>Contract</summary>
     ///
     /// In the words of [`contracts`](crate::contracts):
@@ -676,6 +694,11 @@ impl<H, M: Storage<PacketMetadata<H>>, B: Storage<u8>> PacketBuffer<'_, H, M, B>
     /// # Errors
     ///
     /// `Empty` if the queue has no packets. Then nothing changes.
+    ///
+    /// # [Guarantees](crate::contracts#guarantees)
+    ///
+    /// - on `Ok(r)`: `old(self).contents == [(r.0, last_dequeued_bytes(self, r.1))] ++ self.contents`
+    /// - on `Ok`: `self.contents == old(self).contents[1..]`
     ///
     /// <details><summary>Contract</summary>
     ///
@@ -765,6 +788,12 @@ impl<H, M: Storage<PacketMetadata<H>>, B: Storage<u8>> PacketBuffer<'_, H, M, B>
     ///
     /// `Empty` if the queue has no packets. Then nothing changes.
     ///
+    /// # [Guarantees](crate::contracts#guarantees)
+    ///
+    /// - on `Ok(r)`: `r.1 == min(head_bytes(old(self).contents).len(), into.len())`
+    /// - on `Ok(r)`: `into == head_bytes(old(self).contents)[..r.1] ++ old(into)[r.1..]`
+    /// - on `Ok`: `self.contents == old(self).contents[1..]`
+    ///
     /// <details><summary>Contract</summary>
     ///
     /// In the words of [`contracts`](crate::contracts):
@@ -812,6 +841,10 @@ impl<H, M: Storage<PacketMetadata<H>>, B: Storage<u8>> PacketBuffer<'_, H, M, B>
     /// # Errors
     ///
     /// `Empty` if the queue has no packets. Then nothing changes.
+    ///
+    /// # [Guarantees](crate::contracts#guarantees)
+    ///
+    /// - on `Ok(r)`: `old(self).contents == [(r.0, r.1)] ++ old(self).contents[1..]`
     ///
     /// <details><summary>Contract</summary>
     ///

@@ -241,6 +241,10 @@ impl<S: Storage<u8>, const N: usize> FiniteReceiver<'_, N, S> {
     ///
     /// Unless the segment fits, as `fits` tests.
     ///
+    /// # [Guarantees](crate::contracts#guarantees)
+    ///
+    /// - `old(self).acknowledged() <= self.acknowledged()`
+    ///
     /// <details><summary>Contract</summary>
     ///
     /// In the words of [`contracts`](crate::contracts):
@@ -267,6 +271,11 @@ impl<S: Storage<u8>, const N: usize> FiniteReceiver<'_, N, S> {
     /// Moves bytes from the head of the queue to the beginning of `into`, and returns how many: as
     /// many as are queued and as `into` has room for. The rest of `into` stays as it is.
     ///
+    /// # [Guarantees](crate::contracts#guarantees)
+    ///
+    /// - `result == min(into.len(), old(self).len())`
+    /// - `into == old(self).queue[..into.len()] ++ old(into)[old(self).len()..]`
+    ///
     /// <details><summary>Contract</summary>
     ///
     /// In the words of [`contracts`](crate::contracts):
@@ -289,6 +298,10 @@ impl<S: Storage<u8>, const N: usize> FiniteReceiver<'_, N, S> {
 
     /// Shows the queue, in order, in two parts: the bytes up to the storage's end, and those from its
     /// beginning on. The second part is empty unless the queue wraps.
+    ///
+    /// # [Guarantees](crate::contracts#guarantees)
+    ///
+    /// - `result.0 ++ result.1 == self.queue`
     ///
     /// <details><summary>Contract</summary>
     ///

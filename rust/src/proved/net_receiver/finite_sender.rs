@@ -266,6 +266,10 @@ impl<S: Storage<u8>> FiniteSender<'_, S> {
 
     /// Enqueues the first of these bytes, as many as `window` says, and returns how many.
     ///
+    /// # [Guarantees](crate::contracts#guarantees)
+    ///
+    /// - `result == min(bytes.len(), old(self).window())`
+    ///
     /// <details><summary>Contract</summary>
     ///
     /// In the words of [`contracts`](crate::contracts):
@@ -369,6 +373,11 @@ impl<S: Storage<u8>> FiniteSender<'_, S> {
     /// Dequeues the bytes below `next`, notes that the end is acknowledged if `next` is past it, and
     /// returns true. Returns false, and changes nothing, if `next` is below `first_number` or above
     /// `sent`.
+    ///
+    /// # [Guarantees](crate::contracts#guarantees)
+    ///
+    /// - `result` exactly if `old(self).first_number() <= next` and `next <= old(self).sent()`
+    /// - if `result`, then `self.first_number() == next`
     ///
     /// <details><summary>Contract</summary>
     ///

@@ -264,6 +264,12 @@ impl<S: Storage<u8>, const N: usize> Receiver<'_, N, S> {
     ///
     /// Unless the segment ends within 64 bits, as `fits` tests.
     ///
+    /// # [Guarantees](crate::contracts#guarantees)
+    ///
+    /// - on `Err`: `self == old(self)`
+    /// - on `Ok(it)`: `self.next() == old(self).next() + it.queued`
+    /// - if `pos <= old(self).next()`, then `result.is_ok()`
+    ///
     /// <details><summary>Contract</summary>
     ///
     /// In the words of [`contracts`](crate::contracts):
@@ -279,6 +285,9 @@ impl<S: Storage<u8>, const N: usize> Receiver<'_, N, S> {
     ///     self.new result }
     /// ensures in_order { pos ≤ next_position self.old →
     ///     JoinsQueue self.old (window_part self.old pos bytes.now) self.new result }
+    /// ensures unchanged { OnErr result (self.new ≡ self.old) }
+    /// ensures queued { IfOk result (λ it. next_position self.new ≡ next_position self.old + it.queued) }
+    /// ensures accepted { pos ≤ next_position self.old → IsOk result }
     /// ensures receives { (f : ℕ) (x : List ℕ) → ReceivesFrom f x self.old →
     ///     MatchesStream f x pos bytes.now → ReceivesFrom f x self.new }
     /// ```
@@ -316,6 +325,12 @@ impl<S: Storage<u8>, const N: usize> Receiver<'_, N, S> {
     /// # Panics
     ///
     /// Unless the segment ends within 64 bits, as `fits` tests.
+    ///
+    /// # [Guarantees](crate::contracts#guarantees)
+    ///
+    /// - on `Err`: `self == old(self)`
+    /// - on `Ok(it)`: `self.next() == old(self).next() + it.queued`
+    /// - if `pos <= old(self).next()`, then `result.is_ok()`
     ///
     /// <details><summary>Contract</summary>
     ///
@@ -363,6 +378,12 @@ impl<S: Storage<u8>, const N: usize> Receiver<'_, N, S> {
     /// assert_eq!((receiver.read(&mut into), &into, receiver.len()), (2, b"ab", 1));
     /// ```
     ///
+    /// # [Guarantees](crate::contracts#guarantees)
+    ///
+    /// - `result == min(into.len(), old(self).len())`
+    /// - `into == old(self).queue[..into.len()] ++ old(into)[old(self).len()..]`
+    /// - `self.next() == old(self).next()`
+    ///
     /// <details><summary>Contract</summary>
     ///
     /// In the words of [`contracts`](crate::contracts):
@@ -400,6 +421,11 @@ impl<S: Storage<u8>, const N: usize> Receiver<'_, N, S> {
     /// assert_eq!((receiver.peek_slice(&mut into), &into, receiver.len()), (2, b"ab", 3));
     /// ```
     ///
+    /// # [Guarantees](crate::contracts#guarantees)
+    ///
+    /// - `result == min(into.len(), self.len())`
+    /// - `into == self.queue[..into.len()] ++ old(into)[self.len()..]`
+    ///
     /// <details><summary>Contract</summary>
     ///
     /// In the words of [`contracts`](crate::contracts):
@@ -435,6 +461,11 @@ impl<S: Storage<u8>, const N: usize> Receiver<'_, N, S> {
     /// assert_eq!(receiver.peek(1, 9), b"bc");
     /// ```
     ///
+    /// # [Guarantees](crate::contracts#guarantees)
+    ///
+    /// - if `offset < self.len()` and `0 < size`, then `0 < result.len()`
+    /// - `result == self.queue[offset..][..result.len()]`
+    ///
     /// <details><summary>Contract</summary>
     ///
     /// In the words of [`contracts`](crate::contracts):
@@ -465,6 +496,10 @@ impl<S: Storage<u8>, const N: usize> Receiver<'_, N, S> {
     ///
     /// `peek` shows the first of them alone. smoltcp has no such call.
     ///
+    /// # [Guarantees](crate::contracts#guarantees)
+    ///
+    /// - `result.0 ++ result.1 == self.queue[offset..][..size]`
+    ///
     /// <details><summary>Contract</summary>
     ///
     /// In the words of [`contracts`](crate::contracts):
@@ -494,6 +529,10 @@ impl<S: Storage<u8>, const N: usize> Receiver<'_, N, S> {
     /// assert!(receiver.segment(3, b"def").is_ok());
     /// assert_eq!(receiver.as_slices(), (&b"cd"[..], &b"ef"[..]));
     /// ```
+    ///
+    /// # [Guarantees](crate::contracts#guarantees)
+    ///
+    /// - `result.0 ++ result.1 == self.queue`
     ///
     /// <details><summary>Contract</summary>
     ///
@@ -579,6 +618,10 @@ impl<S: Storage<u8>, const N: usize> Receiver<'_, N, S> {
     /// # Panics
     ///
     /// Unless at least `count` bytes are queued.
+    ///
+    /// # [Guarantees](crate::contracts#guarantees)
+    ///
+    /// - `self.next() == old(self).next()`
     ///
     /// <details><summary>Contract</summary>
     ///

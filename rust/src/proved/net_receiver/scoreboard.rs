@@ -203,6 +203,11 @@ impl<const N: usize> Scoreboard<N> {
     /// known, and its bytes are sent again. On a processor of 32 bits it is refused too if `end` is
     /// 2^32 or more above the first position that wasn't reported.
     ///
+    /// # [Guarantees](crate::contracts#guarantees)
+    ///
+    /// - on `Ok(taken)`: `taken` exactly if `start < end` and `end <= sent`
+    /// - if `result == Ok(true)`, then `self == with_range(old(self), start, end.saturating_sub(start))`
+    ///
     /// <details><summary>Contract</summary>
     ///
     /// In the words of [`contracts`](crate::contracts):

@@ -63,6 +63,12 @@ impl AdvertisedWindow {
     ///
     /// Unless the scale is at most 14, and the window doesn't end before `next`.
     ///
+    /// # [Guarantees](crate::contracts#guarantees)
+    ///
+    /// - `old(self).edge <= self.edge`
+    /// - `announced(next, scale, result) <= window_end`
+    /// - for each `f`: if `f <= 65535` and `announced(next, scale, f) <= window_end`, then `f <= result`
+    ///
     /// <details><summary>Contract</summary>
     ///
     /// In the words of [`contracts`](crate::contracts):
@@ -102,6 +108,12 @@ impl AdvertisedWindow {
     /// # Panics
     ///
     /// Unless the scale is at most 14, and the window doesn't end before `next`.
+    ///
+    /// # [Guarantees](crate::contracts#guarantees)
+    ///
+    /// - `announced(next, scale, result) <= window_end`
+    /// - if `old(self).edge <= window_end`, then `self.edge <= window_end`
+    /// - `old(self).edge + worth(capacity, mss) <= self.edge` or `self.edge == max(old(self).edge, next)`
     ///
     /// <details><summary>Contract</summary>
     ///
@@ -150,6 +162,10 @@ impl AdvertisedWindow {
     /// # Panics
     ///
     /// Unless the scale is at most 14, and the window doesn't end before `next`.
+    ///
+    /// # [Guarantees](crate::contracts#guarantees)
+    ///
+    /// - `result` exactly if `worth(capacity, mss) <= gain(self.edge, scale, next, window_end)`
     ///
     /// <details><summary>Contract</summary>
     ///

@@ -111,6 +111,10 @@ pub fn classify(next: u64, window: u64, segment: Segment) -> Arrival {
 /// `first_unacknowledged` by more than the greatest window that the peer ever announced (RFC 5961,
 /// section 5). If it may not, nothing of the segment is taken, and it is answered.
 ///
+/// # [Guarantees](crate::contracts#guarantees)
+///
+/// - `result` exactly if `first_unacknowledged <= ack + greatest_window` and `ack <= sent`
+///
 /// <details><summary>Contract</summary>
 ///
 /// In the words of [`contracts`](crate::contracts):

@@ -21,6 +21,11 @@ pub struct PeerWindow {
 ///
 /// Unless the scale is at most 14.
 ///
+/// # [Guarantees](crate::contracts#guarantees)
+///
+/// - `result == field * 2^scale`
+/// - `result < 2^30`
+///
 /// <details><summary>Contract</summary>
 ///
 /// In the words of [`contracts`](crate::contracts):
@@ -68,6 +73,12 @@ impl PeerWindow {
     /// each later one. It makes no difference whether the sender takes what the segment acknowledges
     /// before this call or after it.
     ///
+    /// # [Guarantees](crate::contracts#guarantees)
+    ///
+    /// - `result` exactly if `first_unacknowledged <= ack` and `ack <= sent` and `Replaces(old(self), seq, ack)`
+    /// - if `result`, then `self == PeerWindow::new(seq, ack, window)`
+    /// - if `!result`, then `self == old(self)`
+    ///
     /// <details><summary>Contract</summary>
     ///
     /// In the words of [`contracts`](crate::contracts):
@@ -107,6 +118,10 @@ impl PeerWindow {
     /// Returns how many bytes from `pos` on may be sent: none if the edge is at or below it, as it
     /// may be after the window shrank.
     ///
+    /// # [Guarantees](crate::contracts#guarantees)
+    ///
+    /// - `result == self.edge.saturating_sub(pos)`
+    ///
     /// <details><summary>Contract</summary>
     ///
     /// In the words of [`contracts`](crate::contracts):
@@ -122,6 +137,10 @@ impl PeerWindow {
     }
 
     /// Returns the end of what may be sent of the bytes below `end`.
+    ///
+    /// # [Guarantees](crate::contracts#guarantees)
+    ///
+    /// - `result == min(self.edge, end)`
     ///
     /// <details><summary>Contract</summary>
     ///
@@ -139,6 +158,11 @@ impl PeerWindow {
 
     /// Returns whether a probe may be sent, the one byte at `first_unacknowledged`: the window has
     /// closed, and there are bytes below `end` that wait.
+    ///
+    /// # [Guarantees](crate::contracts#guarantees)
+    ///
+    /// - `result` exactly if `self.edge <= first_unacknowledged` and `first_unacknowledged < end`
+    /// - if `first_unacknowledged < end` and `!result`, then `first_unacknowledged < self.send_limit(end)`
     ///
     /// <details><summary>Contract</summary>
     ///
@@ -161,6 +185,12 @@ impl PeerWindow {
     ///
     /// A peer whose window is shut takes no number beyond it, though a probe was sent there, nor what
     /// such a segment acknowledges.
+    ///
+    /// # [Guarantees](crate::contracts#guarantees)
+    ///
+    /// - `result <= sent`
+    /// - `result <= max(self.edge, first_unacknowledged)`
+    /// - if `first_unacknowledged <= sent`, then `first_unacknowledged <= result`
     ///
     /// <details><summary>Contract</summary>
     ///

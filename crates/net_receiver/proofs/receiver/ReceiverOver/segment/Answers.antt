@@ -70,6 +70,15 @@ pub returns-clause-in_order : goal.returns-clause-in_order
 returns-clause-in_order g c =
     in_order g.row.N c.args.self.now _ c.args.pos c.args.bytes.now c.segment.result (state_is g c) (result_is g c)
 
+pub returns-clause-unchanged : goal.returns-clause-unchanged
+returns-clause-unchanged g c = (returns-clause-keeps g c).refused
+
+pub returns-clause-queued : goal.returns-clause-queued
+returns-clause-queued g c = (returns-clause-keeps g c).queued
+
+pub returns-clause-accepted : goal.returns-clause-accepted
+returns-clause-accepted g c = λ at_most. (returns-clause-in_order g c at_most).accepted
+
 pub returns-clause-receives : goal.returns-clause-receives
 returns-clause-receives g c = λ f x r h.
     segment_receives g.row.N f x c.args.self.now _ c.args.pos c.args.bytes.now (state_is g c) r h
