@@ -104,6 +104,15 @@ apart_at low (r ∷ rs) (suc i) lo hi h l m before after =
     ∙ ap (λ ts. r ∷ ts) (apart_at (r.1 + 1) rs i lo hi h.2 (omega arith) m (λ k b. before (suc k) (omega arith))
     (λ k b d. after (suc k) (omega arith) (omega arith)))
 
+-- runs that end before a range stay
+pub passed_at : (rs : List (ℕ × ℕ)) (i lo hi : ℕ) → i ≤ length rs → ((k : ℕ) → k < i → end_at rs k < lo) →
+    take i rs ++ runs_with_range (drop i rs) lo hi ≡ runs_with_range rs lo hi
+passed_at rs zero lo hi l before = refl
+passed_at [] (suc i) lo hi l before = absurd (omega arith)
+passed_at (r ∷ rs) (suc i) lo hi l before =
+    ap (λ ts. r ∷ ts) (passed_at rs i lo hi (omega arith) (λ k b. before (suc k) (omega arith)))
+    ∙ sym (step_before r rs lo hi (before 0 (omega arith)))
+
 pub rising-drop : (low : ℕ) (rs : List (ℕ × ℕ)) (n m : ℕ) → IsRising low rs → ((k : ℕ) → n ≤ k → k < length rs → m ≤ start_at rs k) → IsRising m (drop n rs)
 rising-drop low [] zero m h above = tt
 rising-drop low [] (suc n) m h above = tt

@@ -468,7 +468,6 @@ impl AssemblerHead {
     }
 
     /// Adds a range as `add_counted` does, by a call.
-    #[inline(never)]
     fn add_apart(
         &mut self,
         runs: &mut [Run],
@@ -514,7 +513,6 @@ impl AssemblerHead {
     }
 
     /// Does what `join` does, as a call.
-    #[inline(never)]
     fn join_apart(
         &mut self,
         runs: &mut [Run],
@@ -563,7 +561,6 @@ impl AssemblerHead {
 
     /// Removes the first `count` runs and all positions below `end`, and counts the others from
     /// there. `end` is counted as the runs are.
-    #[inline(never)]
     fn drop_front(&mut self, runs: &mut [Run], count: usize, end: usize)
         requires room { self.old.used ≤ length runs.old }
         requires runs { AreRuns (used_runs self.old runs.old) }
@@ -664,36 +661,54 @@ fn join_range(
         TurnsWithin (2 * binary_digits n) n turns.old turns.new }
 {
     let first = runs_ending_before(&runs[..used], start, turns);
-    //  |--- first - 1 ---|    |=== range ===|    |--- first ---|      it is a run of its own
     let first_start = by + start_of(runs, first);
     prove!(first_start <= most(), "in any `usize`");
+    let mut low = start;
+    let mut high = end;
+    let mut next = first;
     if end < first_start {
+        //  |--- first - 1 ---|    |=== range ===|    |--- first ---|      it is a run of its own
         if used == runs.len() {
             return Err(TooManyHolesError);
         }
-        insert_run(runs, used, first, Run { start, end }, by, turns);
-        prove!(used + 1 <= runs.len(), "in any `usize`");
-        return Ok(used + 1);
+    } else {
+        //  |--- first ---|        |--- next ---|
+        //         |=== range ===|                      it joins that run, and the others stay
+        let first_end = by + end_of(runs, first);
+        prove!(first_end <= most(), "in any `usize`");
+        low = low.min(first_start);
+        high = high.max(first_end);
+        next = first + 1;
+        prove!(next <= used, "in any `usize`");
+        if by == 0 && next < used && high < start_of(runs, next) {
+            runs[first] = Run {
+                start: low,
+                end: high,
+            };
+            return Ok(used);
+        }
     }
-    //  |--- first ---|  ..  |--- next - 1 ---|    |--- next ---|
-    //         |====== range ======|                                    they become one with it
-    prove!(first + 1 <= used, "in any `usize`");
-    let next = runs_starting_by(&runs[..used], first + 1, by, end, turns);
-    let low = by + start_of(runs, first);
-    prove!(low <= most(), "in any `usize`");
-    let low = low.min(start);
-    let high = by + end_of(runs, next - 1);
-    prove!(high <= most(), "in any `usize`");
-    let high = high.max(end);
-    runs[first] = Run {
+    let mut at = first;
+    for k in next..used.min(runs.len()) {
+        let run = wrapped(runs, k, by);
+        if high < run.start {
+            runs[at] = Run {
+                start: low,
+                end: high,
+            };
+            at += 1;
+            prove!(at <= used, "in any `usize`");
+            low = run.start;
+        }
+        high = high.max(run.end);
+        turns.step();
+    }
+    runs[at] = Run {
         start: low,
         end: high,
     };
-    if by == 0 && next == first + 1 {
-        return Ok(used);
-    }
-    remove_runs(runs, used, first + 1, next, by, turns);
-    Ok(used - (next - (first + 1)))
+    prove!(at + 1 <= runs.len(), "in any `usize`");
+    Ok(at + 1)
 }
 
 /// Returns how many runs end before `offset`, which the last doesn't. The first is tested by itself.
@@ -774,29 +789,6 @@ fn wrapped(runs: &[Run], k: usize, by: usize) -> Run
     prove!(start <= most(), "in any `usize`");
     prove!(end <= most(), "in any `usize`");
     Run { start, end }
-}
-
-/// Writes `entry` at `at`, and moves the used runs from there on one index up, each counted `by`
-/// higher.
-#[inline(always)]
-fn insert_run(runs: &mut [Run], used: usize, at: usize, entry: Run, by: usize, turns: &mut Turns)
-    requires at { at ≤ used }
-    requires room { used < length runs.old }
-    requires fits { AreUsize (runs_wrapped by (drop at (take used runs.old))) }
-    ensures runs { let all = take used runs.old in
-        take (used + 1) runs.new ≡ take at runs.old ++ entry ∷ runs_wrapped by (drop at all) }
-    ensures looks { turns.new.0 ≡ turns.old.0 }
-    ensures moves { turns.new.1 + at ≡ turns.old.1 + used + 1 }
-{
-    let mut carried = entry;
-    for k in at..used.min(runs.len()) {
-        let next = wrapped(runs, k, by);
-        runs[k] = carried;
-        carried = next;
-        turns.step();
-    }
-    runs[used] = carried;
-    turns.step();
 }
 
 /// Takes out the runs from `at` up to `from`, and moves the later ones down, each counted `by`
