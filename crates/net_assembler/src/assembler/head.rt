@@ -680,7 +680,7 @@ fn join_range(
         high = high.max(first_end);
         next = first + 1;
         prove!(next <= used, "in any `usize`");
-        if by == 0 && next < used && high < start_of(runs, next) {
+        if by == 0 && (next == used || high < start_of(runs, next)) {
             runs[first] = Run {
                 start: low,
                 end: high,

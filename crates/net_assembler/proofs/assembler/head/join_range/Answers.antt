@@ -1,4 +1,5 @@
 use Rattle.std.proofs.Common.{◌≡◌, ◌∙◌, ◌+◌, ◌<◌, ◌≤◌, ◌++◌, ℕ, ap, max, min, take, drop, length, refl, subst, sym, arith}
+use Rattle.std.proofs.lemmas.Bool.Decides.{nat_tests}
 use Rattle.std.proofs.lemmas.List.{length-set, length-take-le, get_or-take}
 use Rattle.net_assembler.specs.Positions.{runs_shifted_up}
 use Rattle.net_assembler.specs.RunLists.{IsRising, end_at, runs_with_range, start_at, wrapped_run}
@@ -12,7 +13,7 @@ use Rattle.net_assembler.proofs.WrappedRuns.{alone_rises, counted_length, ends, 
 use Rattle.net_assembler.proofs.WrappedRuns.{refused_run, starts, tail_usize, wrapped_is, written}
 use Rattle.net_assembler.proofs.assembler.head.join_range.Goals.{then-end-first_start+else-used-runs}
 use Rattle.net_assembler.proofs.assembler.head.join_range.Goals.{else-end-first_start+else-prove-2+else-prove-3+else-by-eq0}
-use Rattle.net_assembler.proofs.assembler.head.join_range.Goals.{then-high-run+else-prove-4, else-high-run}
+use Rattle.net_assembler.proofs.assembler.head.join_range.Goals.{then-next-used, else-next-used, then-high-run+else-prove-4, else-high-run}
 use Rattle.net_assembler.proofs.assembler.head.join_range.Goals as goal
 
 pub prove-unreachable-requires : goal.prove-unreachable-requires
@@ -53,14 +54,20 @@ returns-then-high-start_of-clause-joined c =
     let within = first.ensures.within in
     let at : first.result < c.args.used = omega (arith, few) in
     let read = ap (λ (r : ℕ × ℕ). r.0) (get_or-take c.args.used xs first.result (0, 0) at) in
-    let next = ap (λ (r : ℕ × ℕ). r.0) (get_or-take c.args.used xs (first.result + 1) (0, 0) (omega arith)) in
+    let after : (k : ℕ) → first.result + 1 ≤ k → k < c.args.used → c.args.end < start_at cs k = λ k a b. elim c.if-next-used.branch [
+      | then-next-used w ↦ absurd (omega (arith, w.if-next-used.true))
+      | else-next-used w ↦
+          let next = ap (λ (r : ℕ × ℕ). r.0) (get_or-take c.args.used xs (first.result + 1) (0, 0) (omega arith)) in
+          let is = sym w.value-is ∙ c.if-high-start_of.true in
+          let p : c.max-high.result < w.start_of-else-next-used.result = grind (arith, nat_tests, is) in
+          omega (arith, starts_rise 0 cs (first.result + 1) k c.requires.runs a (omega (arith, few)), next,
+          w.start_of-else-next-used.ensures, c.max-high.ensures)
+    ] in
     let zeroth = c.if-by-eq0.true in
     let none : c.args.by ≡ 0 = omega arith in (
       grown_run xs c.args.used c.requires.runs c.requires.used first.result c.args.start c.args.end c.min-low.result c.max-high.result
           at first.ensures.before (first.ensures.after first.result (omega arith) within) (omega (arith, c.start_of.ensures, read))
-          (λ k a b. omega (arith, starts_rise 0 cs (first.result + 1) k c.requires.runs a (omega (arith, few)), next,
-          c.start_of-then-next-used.ensures, c.max-high.ensures))
-          (omega (arith, c.min-low.ensures, c.start_of.ensures)) (omega (arith, c.max-high.ensures, c.end_of.ensures))
+          after (omega (arith, c.min-low.ensures, c.start_of.ensures)) (omega (arith, c.max-high.ensures, c.end_of.ensures))
           ∙ ap (λ rs. runs_with_range rs c.args.start c.args.end) (sym (up-none c.args.by cs none)),
       c.requires.used,
     )
