@@ -234,7 +234,7 @@ impl AssemblerHead {
         }
         // The last run that starts by then is cut, or ends by then; those before it end by then.
         let by = count - self.first_start;
-        let met = runs_starting_by(&runs[..self.used], 1, 0, by, &mut Turns::new());
+        let met = runs_starting_by(&runs[..self.used], 1, by, &mut Turns::new());
         let last = met - 1;
         let end = end_of(runs, last);
         if end <= by {
@@ -582,14 +582,7 @@ impl AssemblerHead {
         // A sum that wraps lowers their numbers.
         let start = start_of(runs, count);
         self.first_start = start - end;
-        remove_runs(
-            runs,
-            used,
-            0,
-            count,
-            start.wrapping_neg(),
-            &mut Turns::new(),
-        );
+        remove_runs(runs, used, count, start.wrapping_neg(), &mut Turns::new());
     }
 
     /// Returns the hole after the run `k`, if there is a run after it.
@@ -743,16 +736,15 @@ fn runs_ending_before(runs: &[Run], offset: usize, turns: &mut Turns) -> usize
     low
 }
 
-/// Returns how many runs start at or before `end`, each counted `by` higher, but at least `from`.
+/// Returns how many runs start at or before `end`, but at least `from`.
 #[inline(always)]
-fn runs_starting_by(runs: &[Run], from: usize, by: usize, end: usize, turns: &mut Turns) -> usize
+fn runs_starting_by(runs: &[Run], from: usize, end: usize, turns: &mut Turns) -> usize
     requires runs { AreRuns runs.now }
-    requires fits { FitsFrom by runs.now }
     requires from { from ≤ length runs.now }
     ensures from { from ≤ result }
     ensures within { result ≤ length runs.now }
-    ensures before { (k : ℕ) → from ≤ k → k < result → by + start_at runs.now k ≤ end }
-    ensures after { (k : ℕ) → result ≤ k → k < length runs.now → end < by + start_at runs.now k }
+    ensures before { (k : ℕ) → from ≤ k → k < result → start_at runs.now k ≤ end }
+    ensures after { (k : ℕ) → result ≤ k → k < length runs.now → end < start_at runs.now k }
     ensures looks { (b : ℕ) → length runs.now < 2 ^ b → turns.new.0 ≤ turns.old.0 + b }
     ensures no_look_lost { turns.old.0 ≤ turns.new.0 }
     ensures moves { turns.new.1 ≡ turns.old.1 }
@@ -762,9 +754,7 @@ fn runs_starting_by(runs: &[Run], from: usize, by: usize, end: usize, turns: &mu
     while low < high {
         let middle = low + (high - low) / 2;
         prove!(middle < high, "in any `usize`");
-        let start = by + start_of(runs, middle);
-        prove!(start <= most(), "in any `usize`");
-        if start <= end {
+        if start_of(runs, middle) <= end {
             low = middle + 1;
         } else {
             high = middle;
@@ -791,21 +781,18 @@ fn wrapped(runs: &[Run], k: usize, by: usize) -> Run
     Run { start, end }
 }
 
-/// Takes out the runs from `at` up to `from`, and moves the later ones down, each counted `by`
-/// higher.
+/// Takes out the first `count` runs, and moves the later ones down, each counted `by` higher.
 #[inline(always)]
-fn remove_runs(runs: &mut [Run], used: usize, at: usize, from: usize, by: usize, turns: &mut Turns)
-    requires at { at ≤ from }
-    requires from { from ≤ used }
+fn remove_runs(runs: &mut [Run], used: usize, count: usize, by: usize, turns: &mut Turns)
+    requires count { count ≤ used }
     requires used { used ≤ length runs.old }
-    requires fits { AreUsize (runs_wrapped by (drop from (take used runs.old))) }
+    requires fits { AreUsize (runs_wrapped by (drop count (take used runs.old))) }
     ensures runs { let all = take used runs.old in
-        take (used - (from - at)) runs.new ≡ take at runs.old ++ runs_wrapped by (drop from all) }
+        take (used - count) runs.new ≡ runs_wrapped by (drop count all) }
     ensures looks { turns.new.0 ≡ turns.old.0 }
-    ensures moves { turns.new.1 + from ≡ turns.old.1 + used }
+    ensures moves { turns.new.1 + count ≡ turns.old.1 + used }
 {
-    let count = from - at;
-    for k in from..used.min(runs.len()) {
+    for k in count..used.min(runs.len()) {
         runs[k - count] = wrapped(runs, k, by);
         turns.step();
     }
@@ -818,6 +805,6 @@ fn holds(runs: &[Run], position: usize) -> bool
     requires fits { FitsFrom 0 runs.now }
     ensures { result ≡ contains (set_of_runs runs.now) position }
 {
-    let count = runs_starting_by(runs, 0, 0, position, &mut Turns::new());
+    let count = runs_starting_by(runs, 0, position, &mut Turns::new());
     count > 0 && position < end_of(runs, count - 1)
 }
