@@ -1,9 +1,9 @@
-use Rattle.std.proofs.Common.{◌≡◌, ◌∙◌, ◌+◌, ◌<◌, ◌≤◌, ◌++◌, ℕ, ap, max, min, take, drop, length, refl, subst, sym, arith}
+use Rattle.std.proofs.Common.{◌≡◌, ◌∙◌, ◌+◌, ◌*◌, ◌<◌, ◌≤◌, ◌^◌, ◌++◌, ℕ, ap, max, min, take, drop, length, refl, subst, sym, arith}
 use Rattle.std.proofs.lemmas.Bool.Decides.{nat_tests}
 use Rattle.std.proofs.lemmas.List.{length-set, length-take-le, get_or-take}
 use Rattle.net_assembler.specs.Positions.{runs_shifted_up}
 use Rattle.net_assembler.specs.RunLists.{IsRising, end_at, runs_with_range, start_at, wrapped_run}
-use Rattle.net_assembler.specs.Turns.{binary_digits}
+use Rattle.net_assembler.specs.Turns.{TurnsWithin, binary_digits}
 use Rattle.net_assembler.proofs.AssemblerLaws.{below_binary_digits}
 use Rattle.net_assembler.proofs.Moves.{rest_at, rest_more, rest_on}
 use Rattle.net_assembler.proofs.RunLists.{grown_run, starts_rise}
@@ -72,33 +72,25 @@ returns-then-high-start_of-clause-joined c =
       c.requires.used,
     )
 
+-- the search alone
+searched : (n used : ℕ) (old new : ℕ × ℕ) → used ≤ n → ((b : ℕ) → used < 2 ^ b → new.0 ≤ old.0 + b) → old.0 ≤ new.0 →
+    new.1 ≡ old.1 → TurnsWithin (2 * binary_digits n) n old new
+searched n used old new few looks less moves =
+    let d = below_binary_digits n in
+    let one = looks (binary_digits n) (omega arith) in
+    record { looks_few = omega arith; moves_few = omega arith; no_look_lost = omega arith; no_move_lost = omega arith }
+
 pub returns-then-used-runs-clause-turns : goal.returns-then-used-runs-clause-turns
 returns-then-used-runs-clause-turns c =
     let first = c.runs_ending_before-first.ensures in
-    let n = length c.args.runs.now in
-    let few = length-take-le c.args.used c.args.runs.now c.requires.used in
-    let d = below_binary_digits n in
-    let one = first.looks (binary_digits n) (omega (arith, c.requires.used)) in
-    record {
-      looks_few = omega arith;
-      moves_few = omega (arith, first.moves);
-      no_look_lost = omega (arith, first.no_look_lost);
-      no_move_lost = omega (arith, first.moves);
-    }
+    searched (length c.args.runs.now) (length (take c.args.used c.args.runs.now)) _ _
+    (omega (arith, length-take-le c.args.used c.args.runs.now c.requires.used, c.requires.used)) first.looks first.no_look_lost first.moves
 
 pub returns-then-high-start_of-clause-turns : goal.returns-then-high-start_of-clause-turns
 returns-then-high-start_of-clause-turns c =
     let first = c.runs_ending_before-first.ensures in
-    let n = length c.args.runs.now in
-    let few = length-take-le c.args.used c.args.runs.now c.requires.used in
-    let d = below_binary_digits n in
-    let one = first.looks (binary_digits n) (omega (arith, c.requires.used)) in
-    record {
-      looks_few = omega arith;
-      moves_few = omega (arith, first.moves);
-      no_look_lost = omega (arith, first.no_look_lost);
-      no_move_lost = omega (arith, first.moves);
-    }
+    searched (length c.args.runs.now) (length (take c.args.used c.args.runs.now)) _ _
+    (omega (arith, length-take-le c.args.used c.args.runs.now c.requires.used, c.requires.used)) first.looks first.no_look_lost first.moves
 
 pub loop-k-init : goal.loop-k-init
 loop-k-init c =
