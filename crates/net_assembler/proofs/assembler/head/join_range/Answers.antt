@@ -23,8 +23,14 @@ prove-unreachable-requires c =
     let within : first.result < c.args.used = omega (arith, few, first.ensures.within) in
     let p = fit c.args.runs.now c.args.used c.args.by c.args.start c.args.end first.result c.requires.runs c.requires.used
     c.requires.fits c.requires.one_way within c.requires.some first.ensures.before first.result within in
-    omega (arith, c.start_of.ensures, p.0, p.1, starts c.args.runs.now c.args.used c.args.by c.args.start c.args.end first.result
-    c.requires.runs c.requires.used c.requires.fits c.requires.one_way within c.requires.some first.ensures.before first.result within)
+    omega (
+      arith,
+      c.start_of.ensures,
+      p.0,
+      p.1,
+      starts c.args.runs.now c.args.used c.args.by c.args.start c.args.end first.result
+          c.requires.runs c.requires.used c.requires.fits c.requires.one_way within c.requires.some first.ensures.before first.result within,
+    )
 
 pub prove-unreachable-requires-else-end-first_start : goal.prove-unreachable-requires-else-end-first_start
 prove-unreachable-requires-else-end-first_start c =
@@ -33,8 +39,13 @@ prove-unreachable-requires-else-end-first_start c =
     let within : first.result < c.args.used = omega (arith, few, first.ensures.within) in
     let p = fit c.args.runs.now c.args.used c.args.by c.args.start c.args.end first.result c.requires.runs c.requires.used
     c.requires.fits c.requires.one_way within c.requires.some first.ensures.before first.result within in
-    omega (arith, c.end_of.ensures, p.0, ends c.args.runs.now c.args.used c.args.by c.args.start c.args.end first.result
-    c.requires.runs c.requires.used c.requires.fits c.requires.one_way within c.requires.some first.ensures.before first.result within)
+    omega (
+      arith,
+      c.end_of.ensures,
+      p.0,
+      ends c.args.runs.now c.args.used c.args.by c.args.start c.args.end first.result
+          c.requires.runs c.requires.used c.requires.fits c.requires.one_way within c.requires.some first.ensures.before first.result within,
+    )
 
 pub returns-then-used-runs-clause-joined : goal.returns-then-used-runs-clause-joined
 returns-then-used-runs-clause-joined c =
@@ -60,8 +71,13 @@ returns-then-high-start_of-clause-joined c =
           let next = ap (λ (r : ℕ × ℕ). r.0) (get_or-take c.args.used xs (first.result + 1) (0, 0) (omega arith)) in
           let is = sym w.value-is ∙ c.if-high-start_of.true in
           let p : c.max-high.result < w.start_of-else-next-used.result = grind (arith, nat_tests, is) in
-          omega (arith, starts_rise 0 cs (first.result + 1) k c.requires.runs a (omega (arith, few)), next,
-          w.start_of-else-next-used.ensures, c.max-high.ensures)
+          omega (
+            arith,
+            starts_rise 0 cs (first.result + 1) k c.requires.runs a (omega (arith, few)),
+            next,
+            w.start_of-else-next-used.ensures,
+            c.max-high.ensures,
+          )
     ] in
     let zeroth = c.if-by-eq0.true in
     let none : c.args.by ≡ 0 = omega arith in (
@@ -184,9 +200,17 @@ loop-k-preserved c =
             rest = ap (drop (k + 1)) w.runs-is ∙ rest_more zs xs k c.loop-k.at _ inv.before inv.rest;
             rises = subst (λ lo. IsRising lo (drop (k + 1) ups)) (sym low)
                 (apart_rises ups k c.loop-k.low c.loop-k.high c.max-high-in-loop-k.result inside inv.rises top);
-            some = omega (arith, low, c.max-high-in-loop-k.ensures, apart, is.0, is.1, fit xs c.args.used c.args.by c.args.start
-            c.args.end first.result c.requires.runs c.requires.used c.requires.fits c.requires.one_way within c.requires.some
-            first.ensures.before k below);
+            some = omega (
+              arith,
+              low,
+              c.max-high-in-loop-k.ensures,
+              apart,
+              is.0,
+              is.1,
+              fit xs c.args.used c.args.by c.args.start
+                  c.args.end first.result c.requires.runs c.requires.used c.requires.fits c.requires.one_way within c.requires.some
+                  first.ensures.before k below,
+            );
             before = omega (arith, w.at-is, inv.before);
             room = omega (arith, w.at-is, inv.room);
             looks = omega (arith, c.step.ensures.looks, inv.looks);
