@@ -467,7 +467,8 @@ impl AssemblerHead {
         self.join(runs, 0, start, end, apart, turns)
     }
 
-    /// Adds a range as `add_counted` does, by a call.
+    /// Adds a range as `add_counted` does. It isn't marked inline: where several places call it, it is a
+    /// call.
     fn add_apart(
         &mut self,
         runs: &mut [Run],
@@ -512,7 +513,7 @@ impl AssemblerHead {
         }
     }
 
-    /// Does what `join` does, as a call.
+    /// Does what `join` does. It isn't marked inline: where several places call it, it is a call.
     fn join_apart(
         &mut self,
         runs: &mut [Run],
@@ -630,8 +631,9 @@ fn rise_after(runs: &[Run], after: usize, first_start: usize) -> bool
 /// Joins a range that isn't empty, and isn't after the last run, with the runs, each counted `by`
 /// higher, that it meets or touches. Returns how many runs there are then.
 ///
-/// One rule: the runs from `first` up to `next` become one with the range, and those after them move
-/// up or down, or stay. `by` isn't 0 only for a range that starts at 0, before the first run.
+/// One rule: of the runs from `first` on, those that the range meets or touches become one with it,
+/// and the later ones move up or down, or stay. `by` isn't 0 only for a range that starts at 0, before
+/// the first run.
 #[inline(always)]
 fn join_range(
     runs: &mut [Run],
