@@ -44,6 +44,10 @@ PROVED += ["contracts.rs"]
 MANAGED = (MODULES / "proved/managed.rs").read_text()
 DEFMT = '#[cfg_attr(feature = "defmt", derive(defmt::Format))]\n'
 
+CALL = '''    #[cfg_attr(target_pointer_width = "32", inline(never))]
+    #[cfg_attr(not(target_pointer_width = "32"), inline)]
+'''
+
 # A file of src/proved, a pattern in it, what replaces it, and how often it is found there.
 CHANGES = [
     # Storage is that of the crate `managed`, and nothing else becomes a ring by `into`.
@@ -55,6 +59,8 @@ CHANGES = [
     # What smoltcp derives.
     ("net_ring/error.rs", r"^(?=pub struct (?:Full|Empty);)", DEFMT, 2),
     ("net_packets/packet_metadata.rs", r"^(?=pub struct PacketMetadata<H>)", DEFMT, 1),
+    # Where numbers of 64 bits take two registers, a call is less code than such a sum.
+    ("net_base/time/instant.rs", r"^    #\[inline\]\n(?=    pub fn saturating_|    fn sub\(self, rhs: Instant\))", CALL, 3),
 ]
 
 # In smoltcp's test modules, what names a private field, or what the module around them imports.
@@ -66,8 +72,8 @@ TESTS = [
     ("src/storage/assembler.rs", r"^    impl From<Vec<.*?^    }\n", (MODULES / "storage/assembler_tests.rs").read_text()),
 ]
 
-# Functions whose body is shorter than a call.
-ACCESSORS = "start_of|end_of|wrapped"
+# What stays always inline: accessors, whose body is shorter than a call, and what a Cortex-M4 has less code with.
+INLINE = "start_of|end_of|wrapped|add_range"
 # What of smoltcp's own `time` stays: std's clocks, its texts for defmt, and core's lengths.
 TIME = r"""^(?:#\[cfg\(feature = "(?:std|defmt)"\)\]\nimpl |impl From<::core::time::Duration> for Duration ).*?^}\n"""
 
@@ -122,7 +128,7 @@ def check(root):
 
 def proved_files():
     """The files of src/proved. What is always inline there, or never, may be here, which is less code for firmware; but
-    accessors stay always inline, since a call of one is more code than its body.
+    INLINE stays so.
     """
     source, new = NET_BASE / "src/proved", {}
     for part in PROVED:
@@ -135,7 +141,7 @@ def proved_files():
         text = re.sub(r"\bcrate::(rattle|contracts)\b", r"crate::proved::\1", text)
         # Examples are net-base's, which runs them.
         text = re.sub(r"```(.*)\n((?:.*\n)*?.*```)", lambda fence: f"```{fence[1] or 'ignore'}\n{fence[2]}", text)
-        new[name] = re.sub(rf"#\[inline\((?:always|never)\)\](?!\n(?:pub\(crate\) )?fn (?:{ACCESSORS})\b)", "#[inline]", text)
+        new[name] = re.sub(rf"#\[inline\((?:always|never)\)\](?!\n *(?:pub\(crate\) )?fn (?:{INLINE})\b)", "#[inline]", text)
     new["mod.rs"] = (MODULES / "proved/mod.rs").read_text()
     return {f"src/proved/{name}": text for name, text in new.items()}
 

@@ -234,7 +234,7 @@ impl AssemblerHead {
         }
         // The last run that starts by then is cut, or ends by then; those before it end by then.
         let by = count - self.first_start;
-        let met = runs_starting_by(&runs[..self.used], 1, 0, by, &mut Turns::new());
+        let met = runs_starting_by(&runs[..self.used], 1, by, &mut Turns::new());
         let last = met - 1;
         let end = end_of(runs, last);
         if end <= by {
@@ -467,8 +467,8 @@ impl AssemblerHead {
         self.join(runs, 0, start, end, apart, turns)
     }
 
-    /// Adds a range as `add_counted` does, by a call.
-    #[inline(never)]
+    /// Adds a range as `add_counted` does. It isn't marked inline: where several places call it, it is a
+    /// call.
     fn add_apart(
         &mut self,
         runs: &mut [Run],
@@ -513,8 +513,7 @@ impl AssemblerHead {
         }
     }
 
-    /// Does what `join` does, as a call.
-    #[inline(never)]
+    /// Does what `join` does. It isn't marked inline: where several places call it, it is a call.
     fn join_apart(
         &mut self,
         runs: &mut [Run],
@@ -563,7 +562,6 @@ impl AssemblerHead {
 
     /// Removes the first `count` runs and all positions below `end`, and counts the others from
     /// there. `end` is counted as the runs are.
-    #[inline(never)]
     fn drop_front(&mut self, runs: &mut [Run], count: usize, end: usize)
         requires room { self.old.used ≤ length runs.old }
         requires runs { AreRuns (used_runs self.old runs.old) }
@@ -585,14 +583,7 @@ impl AssemblerHead {
         // A sum that wraps lowers their numbers.
         let start = start_of(runs, count);
         self.first_start = start - end;
-        remove_runs(
-            runs,
-            used,
-            0,
-            count,
-            start.wrapping_neg(),
-            &mut Turns::new(),
-        );
+        remove_runs(runs, used, count, start.wrapping_neg(), &mut Turns::new());
     }
 
     /// Returns the hole after the run `k`, if there is a run after it.
@@ -640,8 +631,9 @@ fn rise_after(runs: &[Run], after: usize, first_start: usize) -> bool
 /// Joins a range that isn't empty, and isn't after the last run, with the runs, each counted `by`
 /// higher, that it meets or touches. Returns how many runs there are then.
 ///
-/// One rule: the runs from `first` up to `next` become one with the range, and those after them move
-/// up or down, or stay. `by` isn't 0 only for a range that starts at 0, before the first run.
+/// One rule: of the runs from `first` on, those that the range meets or touches become one with it,
+/// and the later ones move up or down, or stay. `by` isn't 0 only for a range that starts at 0, before
+/// the first run.
 #[inline(always)]
 fn join_range(
     runs: &mut [Run],
@@ -664,36 +656,54 @@ fn join_range(
         TurnsWithin (2 * binary_digits n) n turns.old turns.new }
 {
     let first = runs_ending_before(&runs[..used], start, turns);
-    //  |--- first - 1 ---|    |=== range ===|    |--- first ---|      it is a run of its own
     let first_start = by + start_of(runs, first);
     prove!(first_start <= most(), "in any `usize`");
+    let mut low = start;
+    let mut high = end;
+    let mut next = first;
     if end < first_start {
+        //  |--- first - 1 ---|    |=== range ===|    |--- first ---|      it is a run of its own
         if used == runs.len() {
             return Err(TooManyHolesError);
         }
-        insert_run(runs, used, first, Run { start, end }, by, turns);
-        prove!(used + 1 <= runs.len(), "in any `usize`");
-        return Ok(used + 1);
+    } else {
+        //  |--- first ---|        |--- next ---|
+        //         |=== range ===|                      it joins that run, and the others stay
+        let first_end = by + end_of(runs, first);
+        prove!(first_end <= most(), "in any `usize`");
+        low = low.min(first_start);
+        high = high.max(first_end);
+        next = first + 1;
+        prove!(next <= used, "in any `usize`");
+        if by == 0 && (next == used || high < start_of(runs, next)) {
+            runs[first] = Run {
+                start: low,
+                end: high,
+            };
+            return Ok(used);
+        }
     }
-    //  |--- first ---|  ..  |--- next - 1 ---|    |--- next ---|
-    //         |====== range ======|                                    they become one with it
-    prove!(first + 1 <= used, "in any `usize`");
-    let next = runs_starting_by(&runs[..used], first + 1, by, end, turns);
-    let low = by + start_of(runs, first);
-    prove!(low <= most(), "in any `usize`");
-    let low = low.min(start);
-    let high = by + end_of(runs, next - 1);
-    prove!(high <= most(), "in any `usize`");
-    let high = high.max(end);
-    runs[first] = Run {
+    let mut at = first;
+    for k in next..used.min(runs.len()) {
+        let run = wrapped(runs, k, by);
+        if high < run.start {
+            runs[at] = Run {
+                start: low,
+                end: high,
+            };
+            at += 1;
+            prove!(at <= used, "in any `usize`");
+            low = run.start;
+        }
+        high = high.max(run.end);
+        turns.step();
+    }
+    runs[at] = Run {
         start: low,
         end: high,
     };
-    if by == 0 && next == first + 1 {
-        return Ok(used);
-    }
-    remove_runs(runs, used, first + 1, next, by, turns);
-    Ok(used - (next - (first + 1)))
+    prove!(at + 1 <= runs.len(), "in any `usize`");
+    Ok(at + 1)
 }
 
 /// Returns how many runs end before `offset`, which the last doesn't. The first is tested by itself.
@@ -728,16 +738,15 @@ fn runs_ending_before(runs: &[Run], offset: usize, turns: &mut Turns) -> usize
     low
 }
 
-/// Returns how many runs start at or before `end`, each counted `by` higher, but at least `from`.
+/// Returns how many runs start at or before `end`, but at least `from`.
 #[inline(always)]
-fn runs_starting_by(runs: &[Run], from: usize, by: usize, end: usize, turns: &mut Turns) -> usize
+fn runs_starting_by(runs: &[Run], from: usize, end: usize, turns: &mut Turns) -> usize
     requires runs { AreRuns runs.now }
-    requires fits { FitsFrom by runs.now }
     requires from { from ≤ length runs.now }
     ensures from { from ≤ result }
     ensures within { result ≤ length runs.now }
-    ensures before { (k : ℕ) → from ≤ k → k < result → by + start_at runs.now k ≤ end }
-    ensures after { (k : ℕ) → result ≤ k → k < length runs.now → end < by + start_at runs.now k }
+    ensures before { (k : ℕ) → from ≤ k → k < result → start_at runs.now k ≤ end }
+    ensures after { (k : ℕ) → result ≤ k → k < length runs.now → end < start_at runs.now k }
     ensures looks { (b : ℕ) → length runs.now < 2 ^ b → turns.new.0 ≤ turns.old.0 + b }
     ensures no_look_lost { turns.old.0 ≤ turns.new.0 }
     ensures moves { turns.new.1 ≡ turns.old.1 }
@@ -747,9 +756,7 @@ fn runs_starting_by(runs: &[Run], from: usize, by: usize, end: usize, turns: &mu
     while low < high {
         let middle = low + (high - low) / 2;
         prove!(middle < high, "in any `usize`");
-        let start = by + start_of(runs, middle);
-        prove!(start <= most(), "in any `usize`");
-        if start <= end {
+        if start_of(runs, middle) <= end {
             low = middle + 1;
         } else {
             high = middle;
@@ -776,44 +783,18 @@ fn wrapped(runs: &[Run], k: usize, by: usize) -> Run
     Run { start, end }
 }
 
-/// Writes `entry` at `at`, and moves the used runs from there on one index up, each counted `by`
-/// higher.
+/// Takes out the first `count` runs, and moves the later ones down, each counted `by` higher.
 #[inline(always)]
-fn insert_run(runs: &mut [Run], used: usize, at: usize, entry: Run, by: usize, turns: &mut Turns)
-    requires at { at ≤ used }
-    requires room { used < length runs.old }
-    requires fits { AreUsize (runs_wrapped by (drop at (take used runs.old))) }
-    ensures runs { let all = take used runs.old in
-        take (used + 1) runs.new ≡ take at runs.old ++ entry ∷ runs_wrapped by (drop at all) }
-    ensures looks { turns.new.0 ≡ turns.old.0 }
-    ensures moves { turns.new.1 + at ≡ turns.old.1 + used + 1 }
-{
-    let mut carried = entry;
-    for k in at..used.min(runs.len()) {
-        let next = wrapped(runs, k, by);
-        runs[k] = carried;
-        carried = next;
-        turns.step();
-    }
-    runs[used] = carried;
-    turns.step();
-}
-
-/// Takes out the runs from `at` up to `from`, and moves the later ones down, each counted `by`
-/// higher.
-#[inline(always)]
-fn remove_runs(runs: &mut [Run], used: usize, at: usize, from: usize, by: usize, turns: &mut Turns)
-    requires at { at ≤ from }
-    requires from { from ≤ used }
+fn remove_runs(runs: &mut [Run], used: usize, count: usize, by: usize, turns: &mut Turns)
+    requires count { count ≤ used }
     requires used { used ≤ length runs.old }
-    requires fits { AreUsize (runs_wrapped by (drop from (take used runs.old))) }
+    requires fits { AreUsize (runs_wrapped by (drop count (take used runs.old))) }
     ensures runs { let all = take used runs.old in
-        take (used - (from - at)) runs.new ≡ take at runs.old ++ runs_wrapped by (drop from all) }
+        take (used - count) runs.new ≡ runs_wrapped by (drop count all) }
     ensures looks { turns.new.0 ≡ turns.old.0 }
-    ensures moves { turns.new.1 + from ≡ turns.old.1 + used }
+    ensures moves { turns.new.1 + count ≡ turns.old.1 + used }
 {
-    let count = from - at;
-    for k in from..used.min(runs.len()) {
+    for k in count..used.min(runs.len()) {
         runs[k - count] = wrapped(runs, k, by);
         turns.step();
     }
@@ -826,6 +807,6 @@ fn holds(runs: &[Run], position: usize) -> bool
     requires fits { FitsFrom 0 runs.now }
     ensures { result ≡ contains (set_of_runs runs.now) position }
 {
-    let count = runs_starting_by(runs, 0, 0, position, &mut Turns::new());
+    let count = runs_starting_by(runs, 0, position, &mut Turns::new());
     count > 0 && position < end_of(runs, count - 1)
 }

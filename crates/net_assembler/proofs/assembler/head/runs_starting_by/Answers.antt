@@ -1,47 +1,30 @@
 use Rattle.std.proofs.Common.{◌+◌, ◌-◌, ◌*◌, ◌/◌, ◌≤◌, arith}
-use Rattle.net_assembler.proofs.RunLists.{at_run, halved, starts_rise}
-use Rattle.net_assembler.proofs.ShiftedRuns.{fits-at}
+use Rattle.net_assembler.proofs.RunLists.{halved, starts_rise}
 use Rattle.net_assembler.proofs.assembler.head.runs_starting_by.Goals as goal
-use Rattle.net_assembler.proofs.assembler.head.runs_starting_by.Goals.{then-start-end, else-start-end}
-
-pub overflow_add-start : goal.overflow_add-start
-overflow_add-start c =
-    let rs = c.args.runs.now in
-    let m = c.loop-low.low + (c.loop-low.high - c.loop-low.low) / 2 in
-    let p = at_run 0 rs m c.requires.runs (omega (arith, c.loop-low.invariant.within)) in
-    let q = fits-at c.args.by rs m c.requires.fits (omega (arith, c.loop-low.invariant.within)) in
-    omega (arith, p.1)
-
-pub prove-unreachable-requires-in-loop-low : goal.prove-unreachable-requires-in-loop-low
-prove-unreachable-requires-in-loop-low c =
-    let rs = c.args.runs.now in
-    let m = c.loop-low.low + (c.loop-low.high - c.loop-low.low) / 2 in
-    let p = at_run 0 rs m c.requires.runs (omega (arith, c.loop-low.invariant.within)) in
-    let q = fits-at c.args.by rs m c.requires.fits (omega (arith, c.loop-low.invariant.within)) in
-    omega (arith, p.1)
+use Rattle.net_assembler.proofs.assembler.head.runs_starting_by.Goals.{then-start_of-end, else-start_of-end}
 
 pub loop-low-preserved : goal.loop-low-preserved
 loop-low-preserved c =
     let inv = c.loop-low.invariant in
     let rs = c.args.runs.now in
     let m = c.loop-low.low + (c.loop-low.high - c.loop-low.low) / 2 in
-    let v = c.if-start-end.high - c.if-start-end.low in
-    let half : 2 * v ≤ c.loop-low.high - c.loop-low.low = elim c.if-start-end.branch [
-      | then-start-end w ↦
+    let v = c.if-start_of-end.high - c.if-start_of-end.low in
+    let half : 2 * v ≤ c.loop-low.high - c.loop-low.low = elim c.if-start_of-end.branch [
+      | then-start_of-end w ↦
           omega arith
-      | else-start-end w ↦ omega arith
+      | else-start_of-end w ↦ omega arith
     ] in
     record {
-      from = elim c.if-start-end.branch [ then-start-end w ↦ omega arith | else-start-end w ↦ omega arith ];
-      order = elim c.if-start-end.branch [ then-start-end w ↦ omega arith | else-start-end w ↦ omega arith ];
-      within = elim c.if-start-end.branch [ then-start-end w ↦ omega arith | else-start-end w ↦ omega arith ];
-      before = λ j a l. elim c.if-start-end.branch [
-        | then-start-end w ↦ (let r = starts_rise 0 rs j m c.requires.runs (omega arith) (omega arith) in omega arith)
-        | else-start-end w ↦ inv.before j a (omega arith)
+      from = elim c.if-start_of-end.branch [ then-start_of-end w ↦ omega arith | else-start_of-end w ↦ omega arith ];
+      order = elim c.if-start_of-end.branch [ then-start_of-end w ↦ omega arith | else-start_of-end w ↦ omega arith ];
+      within = elim c.if-start_of-end.branch [ then-start_of-end w ↦ omega arith | else-start_of-end w ↦ omega arith ];
+      before = λ j a l. elim c.if-start_of-end.branch [
+        | then-start_of-end w ↦ (let r = starts_rise 0 rs j m c.requires.runs (omega arith) (omega arith) in omega arith)
+        | else-start_of-end w ↦ inv.before j a (omega arith)
       ];
-      after = λ j l n. elim c.if-start-end.branch [
-        | then-start-end w ↦ inv.after j (omega arith) n
-        | else-start-end w ↦ (let r = starts_rise 0 rs m j c.requires.runs (omega arith) n in omega arith)
+      after = λ j l n. elim c.if-start_of-end.branch [
+        | then-start_of-end w ↦ inv.after j (omega arith) n
+        | else-start_of-end w ↦ (let r = starts_rise 0 rs m j c.requires.runs (omega arith) n in omega arith)
       ];
       width = λ b l.
           let s = inv.width b l in

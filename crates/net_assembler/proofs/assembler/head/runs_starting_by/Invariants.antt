@@ -7,8 +7,8 @@ invariant-loop-low l = record {
   from : l.from ≤ l.low;
   order : l.low ≤ l.high;
   within : l.high ≤ length l.runs;
-  before : (k : ℕ) → l.from ≤ k → k < l.low → l.by + start_at l.runs k ≤ l.end;
-  after : (k : ℕ) → l.high ≤ k → k < length l.runs → l.end < l.by + start_at l.runs k;
+  before : (k : ℕ) → l.from ≤ k → k < l.low → start_at l.runs k ≤ l.end;
+  after : (k : ℕ) → l.high ≤ k → k < length l.runs → l.end < start_at l.runs k;
   width : (b : ℕ) → length l.runs < 2 ^ b → (c : ℕ) × (l.turns.0 + c ≡ l.fn.turns.0 + b) × (l.high - l.low < 2 ^ c);
   more : l.fn.turns.0 ≤ l.turns.0;
   moves : l.turns.1 ≡ l.fn.turns.1;

@@ -38,7 +38,7 @@ returns-clause-sound c =
     subst (λ (n : ℕ). c.wrapping_neg.result + n ≡ 2 ^ 64) c.start_of-start.ensures
     (negated c.wrapping_neg.result c.start_of-start.result (omega arith) (omega arith) (omega arith) c.wrapping_neg.ensures) in
     let is : take (h.used - m) c.remove_runs.new.runs ≡ runs_shifted_down f after =
-    ap (λ n. take (h.used - n) c.remove_runs.new.runs) (omega arith) ∙ c.remove_runs.ensures.runs
+    c.remove_runs.ensures.runs
     ∙ wrapped-down c.wrapping_neg.result f after turn rises
     (fits-less 0 h.first_start after (omega arith) (fits-drop h.first_start m (used_runs h xs) s.fits)) in
     let first = start-drop (used_runs h xs) m ∙ ap (λ (r : ℕ × ℕ). r.0) (get_or-take h.used xs m (0, 0) (omega arith)) in
@@ -65,7 +65,7 @@ returns-clause-runs c =
     subst (λ (n : ℕ). c.wrapping_neg.result + n ≡ 2 ^ 64) c.start_of-start.ensures
     (negated c.wrapping_neg.result c.start_of-start.result (omega arith) (omega arith) (omega arith) c.wrapping_neg.ensures) in
     let is : take (h.used - m) c.remove_runs.new.runs ≡ runs_shifted_down f after =
-    ap (λ n. take (h.used - n) c.remove_runs.new.runs) (omega arith) ∙ c.remove_runs.ensures.runs
+    c.remove_runs.ensures.runs
     ∙ wrapped-down c.wrapping_neg.result f after turn rises
     (fits-less 0 h.first_start after (omega arith) (fits-drop h.first_start m (used_runs h xs) s.fits)) in
     (λ i. runs_shifted_up (c.start_of-start.ensures i - c.args.end) (take (h.used - m) c.remove_runs.new.runs))

@@ -2,7 +2,7 @@ use Rattle.std.proofs.Common.{◌∙◌, ◌-◌, ap, sym, arith}
 use Rattle.net_assembler.specs.Positions.{shift_down}
 use Rattle.net_assembler.specs.RunLists.{runs_of, set_of, set_of_runs, used_runs}
 use Rattle.net_assembler.proofs.Runs.{set-shifted_down}
-use Rattle.net_assembler.proofs.ShiftedRuns.{down-less, down-none, fits-less}
+use Rattle.net_assembler.proofs.ShiftedRuns.{down-less, down-none}
 use Rattle.net_assembler.proofs.Heads.{cut_fits, cut_left, cut_rises, dropped_number, ends_rise, left_set}
 use Rattle.net_assembler.proofs.Heads.{length-runs_of, length-used_runs, lowered, pairs_apart, runs-set_of}
 use Rattle.net_assembler.proofs.Heads.{starts_by}
@@ -30,11 +30,6 @@ returns-then-self-eq0-clause-set c =
     let xs = c.args.runs.now in
     ap set_of_runs (sym (down-none c.args.count (runs_of h xs) (length-runs_of h xs c.requires ∙ omega arith)))
     ∙ set-shifted_down (runs_of h xs) 0 c.args.count (λ k l. absurd (omega arith))
-
-pub runs_starting_by-met-requires-clause-fits : goal.runs_starting_by-met-requires-clause-fits
-runs_starting_by-met-requires-clause-fits c =
-    let h = c.args.self.now in
-    fits-less 0 h.first_start (used_runs h c.args.runs.now) (omega arith) c.requires.fits
 
 pub returns-then-end-by-clause-set : goal.returns-then-end-by-clause-set
 returns-then-end-by-clause-set c =
