@@ -29,7 +29,7 @@
 pub use crate::proved::net_tcp::{
     checksum, classify, is_acceptable, is_acknowledgement, is_valid, scale_for, scaled,
     updated_checksum, AdvertisedWindow, Arrival, PartsSum, PeerWindow, RetransmissionTimeout,
-    RttEstimate, Segment, TimeoutBounds, Transmission, MAX_SCALE,
+    RetransmissionTimer, RttEstimate, Segment, TimeoutBounds, Transmission, MAX_SCALE,
 };
 
 /// Of a stream whose first number is 0.
@@ -43,6 +43,13 @@ impl Default for AdvertisedWindow {
 impl Default for RetransmissionTimeout {
     fn default() -> Self {
         RetransmissionTimeout::new(1_000_000)
+    }
+}
+
+/// One that doesn't run, with a timeout of one second (RFC 6298, 2.1).
+impl Default for RetransmissionTimer {
+    fn default() -> Self {
+        RetransmissionTimer::new(1_000_000)
     }
 }
 

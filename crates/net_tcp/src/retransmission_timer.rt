@@ -1,5 +1,5 @@
 //! The timer of retransmissions, in whole microseconds.
-ghost use Rattle.std.specs.Prelude.{◌≡◌, ◌↔◌, IsTrue};
+ghost use Rattle.std.specs.Prelude.{◌≡◌};
 ghost use Rattle.net_tcp.specs.RetransmissionTimeout.{IsSmallIfAny, estimate_of};
 ghost use Rattle.net_tcp.specs.RetransmissionTimer.{new_timer, expiry_of, timed_of};
 ghost use Rattle.net_tcp.specs.RetransmissionTimer.{restarted, started, stopped, times, untimed};
@@ -43,14 +43,6 @@ impl RetransmissionTimer {
             timed_since: 0,
             is_timing: 0,
         }
-    }
-
-    /// Returns whether the estimate of the timeout, if there is one, has room for a sample, as any has
-    /// that was made by samples.
-    pub fn is_small(&self) -> bool
-        ensures { IsTrue result ↔ IsSmallIfAny (estimate_of self.now.timeout) }
-    {
-        self.timeout.is_small()
     }
 
     /// Returns when it expires, if it runs.
@@ -124,13 +116,13 @@ impl RetransmissionTimer {
     ///
     /// # Requires
     ///
-    /// The estimate, if there is one, was made by samples, as `is_small` tests.
+    /// The estimate, if there is one, was made by samples, as `timeout.is_small` tests.
     pub fn take_sample(&mut self, bounds: TimeoutBounds, now: u64)
         requires { IsSmallIfAny (estimate_of self.old.timeout) }
         ensures state { self.new ≡ with_sample bounds now self.old }
         ensures small { IsSmallIfAny (estimate_of self.new.timeout) }
     {
-        prove!(self.is_small(), "an estimate that was not made by samples");
+        prove!(self.timeout.is_small(), "an estimate that was not made by samples");
         if self.is_timing == 0 {
             return;
         }
@@ -147,7 +139,7 @@ impl RetransmissionTimer {
     ///
     /// # Requires
     ///
-    /// The estimate, if there is one, was made by samples, as `is_small` tests.
+    /// The estimate, if there is one, was made by samples, as `timeout.is_small` tests.
     pub fn acknowledged(
         &mut self,
         bounds: TimeoutBounds,
@@ -161,7 +153,7 @@ impl RetransmissionTimer {
             ≡ after_acknowledged bounds first_unacknowledged sent next now self.old }
         ensures small { IsSmallIfAny (estimate_of self.new.timeout) }
     {
-        prove!(self.is_small(), "an estimate that was not made by samples");
+        prove!(self.timeout.is_small(), "an estimate that was not made by samples");
         if self.times(0, next) {
             self.take_sample(bounds, now);
         }
