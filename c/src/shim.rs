@@ -751,6 +751,45 @@ pub extern "C" fn net_base_retransmission_timeout_expired(timer: Option<&mut Ret
 }
 
 #[unsafe(no_mangle)]
+pub extern "C" fn net_base_retransmission_timer_start(timer: Option<&mut RetransmissionTimer>, now: u64) {
+    let Some(timer) = timer else { return };
+    heads::retransmission_timer::net_base_retransmission_timer_start(timer, now)
+}
+
+#[unsafe(no_mangle)]
+pub extern "C" fn net_base_retransmission_timer_stop(timer: Option<&mut RetransmissionTimer>) {
+    let Some(timer) = timer else { return };
+    heads::retransmission_timer::net_base_retransmission_timer_stop(timer)
+}
+
+#[unsafe(no_mangle)]
+pub extern "C" fn net_base_retransmission_timer_sent(timer: Option<&mut RetransmissionTimer>, position: u64, end: u64, sent: u64, now: u64) {
+    let Some(timer) = timer else { return };
+    heads::retransmission_timer::net_base_retransmission_timer_sent(timer, position, end, sent, now)
+}
+
+#[unsafe(no_mangle)]
+pub extern "C" fn net_base_retransmission_timer_take_sample(timer: Option<&mut RetransmissionTimer>, bounds: Option<&TimeoutBounds>, now: u64) -> bool {
+    let Some(timer) = timer else { return false };
+    let Some(bounds) = bounds else { return false };
+    heads::retransmission_timer::net_base_retransmission_timer_take_sample(timer, bounds, now)
+}
+
+#[unsafe(no_mangle)]
+pub extern "C" fn net_base_retransmission_timer_acknowledged(timer: Option<&mut RetransmissionTimer>, bounds: Option<&TimeoutBounds>, first_unacknowledged: u64, sent: u64, next: u64, now: u64) -> bool {
+    let Some(timer) = timer else { return false };
+    let Some(bounds) = bounds else { return false };
+    heads::retransmission_timer::net_base_retransmission_timer_acknowledged(timer, bounds, first_unacknowledged, sent, next, now)
+}
+
+#[unsafe(no_mangle)]
+pub extern "C" fn net_base_retransmission_timer_expire(timer: Option<&mut RetransmissionTimer>, bounds: Option<&TimeoutBounds>, now: u64) -> bool {
+    let Some(timer) = timer else { return false };
+    let Some(bounds) = bounds else { return false };
+    heads::retransmission_timer::net_base_retransmission_timer_expire(timer, bounds, now)
+}
+
+#[unsafe(no_mangle)]
 pub extern "C" fn net_base_rtt_estimate_timeout(estimate: Option<&RttEstimate>, bounds: Option<&TimeoutBounds>) -> u64 {
     let Some(estimate) = estimate else { return u64::MAX };
     let Some(bounds) = bounds else { return u64::MAX };

@@ -1513,3 +1513,58 @@
 //! after_acknowledgement b (Once at) now t = after_sample b (now - at) t
 //! after_acknowledgement b Repeated now t = t
 //! ```
+//!
+//! # net_tcp, RetransmissionTimer
+//!
+//! ```text
+//! -- a moment, so at most the last one
+//! abbrev pub later : ℕ → ℕ → ℕ
+//! later now t = min (now + t) (2 ^ 64 - 1)
+//!
+//! -- it doesn't run, and no segment is timed
+//! abbrev pub new_timer : ℕ → RetransmissionTimer
+//! new_timer t = record {
+//!   timeout = before_samples t;
+//!   expiry = 0; is_running = 0; timed = 0; timed_since = 0; is_timing = 0;
+//! }
+//!
+//! abbrev pub expiry_of : RetransmissionTimer → Option ℕ
+//! expiry_of t = if nat_eq t.is_running 0 then None else Some t.expiry
+//!
+//! abbrev pub timed_of : RetransmissionTimer → Option ℕ
+//! timed_of t = if nat_eq t.is_timing 0 then None else Some t.timed
+//!
+//! abbrev pub started : ℕ → RetransmissionTimer → RetransmissionTimer
+//! started now t = if nat_eq t.is_running 0 then restarted now t else t
+//!
+//! abbrev pub stopped : RetransmissionTimer → RetransmissionTimer
+//! stopped t = record t { expiry = 0; is_running = 0 }
+//!
+//! -- (5.1): where something is sent, the timer is started
+//! abbrev pub after_sending : ℕ → ℕ → ℕ → ℕ → RetransmissionTimer → RetransmissionTimer
+//! after_sending pos end sent now t = if nat_lt pos end then timed_after pos end sent now (started now t) else t
+//!
+//! -- the timed segment has arrived
+//! abbrev pub with_sample : TimeoutBounds → ℕ → RetransmissionTimer → RetransmissionTimer
+//! with_sample b now t =
+//!     if nat_eq t.is_timing 0 then t
+//!     else untimed (record t { timeout = after_sample b (now - t.timed_since) t.timeout })
+//!
+//! -- (5.2): where all that was sent is acknowledged, the timer is stopped; (5.3): else, where anything new is, it is
+//! -- started again
+//! abbrev pub after_acknowledged : TimeoutBounds → ℕ → ℕ → ℕ → ℕ → RetransmissionTimer → RetransmissionTimer
+//! after_acknowledged b first sent next now t =
+//!     let s = if times t 0 next then with_sample b now t else t in
+//!     if nat_le sent next then stopped s else (if nat_lt first next then restarted now s else s)
+//!
+//! abbrev pub has_expired : RetransmissionTimer → ℕ → Bool
+//! has_expired t now = not (nat_eq t.is_running 0) && nat_le t.expiry now
+//!
+//! -- (5.5), (5.6): where it has expired, the timeout is doubled, and it is started again. What was on the way is sent
+//! -- again, so no segment is timed
+//! abbrev pub after_expiry : TimeoutBounds → ℕ → RetransmissionTimer → RetransmissionTimer
+//! after_expiry b now t =
+//!     if has_expired t now
+//!     then restarted now (untimed (record t { timeout = record t.timeout { timeout = doubled b t.timeout.timeout } }))
+//!     else t
+//! ```

@@ -7,9 +7,11 @@ pub mod arriving;
 pub mod internet_sum;
 pub mod peer_window;
 pub mod retransmission;
+pub mod retransmission_timer;
 
 pub use advertised_window::{AdvertisedWindow, MAX_SCALE, scale_for};
 pub use arriving::{Arrival, Segment, classify, is_acceptable, is_acknowledgement};
 pub use internet_sum::{PartsSum, checksum, is_valid, updated_checksum};
 pub use peer_window::{PeerWindow, scaled};
 pub use retransmission::{RetransmissionTimeout, RttEstimate, TimeoutBounds, Transmission};
+pub use retransmission_timer::RetransmissionTimer;
