@@ -3,7 +3,8 @@
 //!
 //! ```
 //! use net_base::tcp::{checksum, classify, is_valid, Arrival, PeerWindow, Segment};
-//! use net_base::tcp::{RetransmissionTimeout, TimeoutBounds, Transmission};
+//! use net_base::tcp::{RetransmissionTimeout, RetransmissionTimer, TimeoutBounds, Transmission};
+//! use net_base::time::{Duration, Instant};
 //!
 //! // RFC 1071's example: the words 0001, f203, f4f5 and f6f7.
 //! let mut bytes = [0x00, 0x01, 0xf2, 0x03, 0xf4, 0xf5, 0xf6, 0xf7, 0, 0];
@@ -25,12 +26,46 @@
 //! assert_eq!(timer.timeout, 300_000);
 //! timer.expired(bounds);
 //! assert_eq!(timer.timeout, 600_000);
+//! // Ten bytes are sent at 0, all but one are acknowledged after 100 ms, and that one isn't in time.
+//! let mut timer = RetransmissionTimer::default();
+//! timer.sent(0, 10, 0, Instant::ZERO.into());
+//! timer.acknowledged(bounds, 0, 10, 9, Instant::from_millis(100).into());
+//! assert_eq!(timer.timeout.duration(), Duration::from_millis(300));
+//! assert_eq!(timer.expires(), Some(Instant::from_millis(400)));
+//! assert!(timer.expire(bounds, Instant::from_millis(400).into()));
+//! assert_eq!(timer.expires(), Some(Instant::from_millis(1_000)));
 //! ```
 pub use crate::proved::net_tcp::{
     checksum, classify, is_acceptable, is_acknowledgement, is_valid, scale_for, scaled,
     updated_checksum, AdvertisedWindow, Arrival, PartsSum, PeerWindow, RetransmissionTimeout,
     RetransmissionTimer, RttEstimate, Segment, TimeoutBounds, Transmission, MAX_SCALE,
 };
+
+use crate::time::{Duration, Instant};
+
+/// A moment as the calls of a [`RetransmissionTimer`] take it: its whole microseconds; 0 for one before moment 0.
+impl From<Instant> for u64 {
+    fn from(moment: Instant) -> u64 {
+        u64::try_from(moment.total_micros()).unwrap_or(0)
+    }
+}
+
+impl RetransmissionTimer {
+    /// Returns when it expires, if it runs: `expires_at` as a moment, at most the last one.
+    #[must_use]
+    pub fn expires(&self) -> Option<Instant> {
+        let moment = |at| Instant::from_micros(i64::try_from(at).unwrap_or(i64::MAX));
+        self.expires_at().map(moment)
+    }
+}
+
+impl RetransmissionTimeout {
+    /// Returns the timeout.
+    #[must_use]
+    pub const fn duration(&self) -> Duration {
+        Duration::from_micros(self.timeout)
+    }
+}
 
 /// Of a stream whose first number is 0.
 impl Default for AdvertisedWindow {
