@@ -2,7 +2,7 @@
 //! segment, the windows of both sides, and the time until a retransmission. (Not in smoltcp's lowest layer.)
 //!
 //! ```
-//! use net_base::tcp::{checksum, classify, is_valid, Arrival, PeerWindow, Segment};
+//! use net_base::tcp::{checksum, classify, is_valid, AdvertisedWindow, Arrival, PeerWindow, Segment};
 //! use net_base::tcp::{RetransmissionTimeout, RetransmissionTimer, TimeoutBounds, Transmission};
 //! use net_base::time::{Duration, Instant};
 //!
@@ -12,10 +12,15 @@
 //! bytes[8..].copy_from_slice(&sum.to_be_bytes());
 //! assert_eq!((sum, is_valid(&bytes)), (0x220d, true));
 //! // A segment has a part of a window of 10 from 100 on, or it is answered; a probe of a shut window acknowledges.
-//! let text = |seq, len| Segment { seq, len, syn: false, ack: true, rst: false };
+//! let text = |seq, bytes| Segment::new(seq, bytes, 0x10);
 //! assert_eq!(classify(100, 10, text(95, 6)), Arrival::Take);
 //! assert_eq!(classify(100, 10, text(95, 5)), Arrival::Answer);
 //! assert_eq!(classify(100, 0, text(100, 1)), Arrival::AcknowledgementOnly);
+//! let advertised = AdvertisedWindow { edge: 110 };
+//! assert_eq!(advertised.classify(100, text(110, 1)), Arrival::Answer);
+//! // A SYN and a FIN count; with ACK and PSH.
+//! let opening = Segment { seq: 95, len: 7, syn: true, ack: true, rst: false };
+//! assert_eq!(Segment::new(95, 5, 0x1b), opening);
 //! // The peer's window ends at 150, and a probe was sent there: an acknowledgement isn't beyond the window.
 //! let peer_window = PeerWindow::new(0, 150, 0);
 //! assert_eq!(peer_window.acknowledgement_number(150, 151), 150);

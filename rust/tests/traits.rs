@@ -109,8 +109,11 @@ fn machines() {
     assert_ne!(PeerWindow::new(1, 2, 3), PeerWindow::new(1, 2, 4));
     assert_ne!(Transmission::Once(5), Transmission::Repeated);
     assert_eq!(RetransmissionTimeout::default(), RetransmissionTimeout::new(1_000_000));
-    let TimeoutBounds { least, most, tick } = TimeoutBounds::default();
-    assert_eq!((least, most, tick), (1_000_000, 60_000_000, 1_000));
+    let bounds = TimeoutBounds::default();
+    assert_eq!((bounds.least, bounds.most, bounds.tick), (1_000_000, 60_000_000, 1_000));
+    let mut timeout = RetransmissionTimeout::default();
+    timeout.acknowledged(bounds, Transmission::Repeated, 5);
+    assert_eq!(timeout, RetransmissionTimeout::default());
     assert_eq!(RetransmissionTimer::default(), RetransmissionTimer::new(1_000_000));
 }
 

@@ -24,8 +24,7 @@ use net_base::storage::{
 };
 use net_base::tcp::{
     AdvertisedWindow, Arrival, PartsSum, PeerWindow, RetransmissionTimeout, RetransmissionTimer,
-    RttEstimate, Segment,
-    TimeoutBounds, Transmission, MAX_SCALE,
+    RttEstimate, Segment, TimeoutBounds, Transmission, MAX_SCALE,
 };
 use net_base::time::{Duration, Instant};
 

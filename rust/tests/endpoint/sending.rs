@@ -228,7 +228,10 @@ fn the_own_end() {
     talk.say(&peer(0, 1001));
     assert!(!talk.endpoint.sender.is_closed_and_acknowledged());
     talk.say(&peer(0, 1002));
-    assert!(talk.endpoint.sender.is_closed_and_acknowledged() && talk.endpoint.timer.expires().is_none());
+    assert!(
+        talk.endpoint.sender.is_closed_and_acknowledged()
+            && talk.endpoint.timer.expires().is_none()
+    );
     // It is sent again like text, and with the last bytes where the segment has room.
     let mut talk = self::talk(999);
     talk.endpoint.close();
