@@ -1,5 +1,5 @@
 //! Small machines that a TCP needs beside its two queues: the Internet checksum, what to do with an arriving
-//! segment, the windows of both sides, and the time until a retransmission. (Not in smoltcp's lowest layer.)
+//! segment, the windows of both sides, the time until a retransmission, and its timer. (Not in smoltcp's lowest layer.)
 //!
 //! ```
 //! use net_base::tcp::{checksum, classify, is_valid, AdvertisedWindow, Arrival, PeerWindow, Segment};

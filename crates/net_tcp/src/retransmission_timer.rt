@@ -100,7 +100,7 @@ impl RetransmissionTimer {
 
     /// Times a range that is sent now, or no longer times one that is in it.
     fn time(&mut self, pos: u64, end: u64, sent: u64, now: u64)
-        ensures { self.new ≡ timed_after pos end sent now self.old }
+        ensures state { self.new ≡ timed_after pos end sent now self.old }
     {
         if self.times(pos, end) {
             self.untime();
