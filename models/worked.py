@@ -518,6 +518,11 @@ SCOREBOARDS = [
      "next_hole 100 120: 102-103; next_hole 103 120: 104-120; next_hole 119 110: none; acknowledge 103: done|4 4 0 0; "
      "report 90 101 200: 1|4 4 0 0; report 9 8 200: 0; report 108 109 108: 0|4 4 0 0; contains 99: 1; contains 104: 0; "
      "first_missing 7: 104; lost_below 3 1: 0"),
+    # Position 0 has the number 2^32 - 3: 5 has 2, 9 has 6 and 2 has 2^32 - 1. None near has 2^31 + 2.
+    (1, 3, "report_block 4294967293 2 6 20: 1|0 6 1 4; report_block 4294967293 2 6 8: 0; report_block 4294967293 6 2 20: 0; "
+     "report_block 4294967293 0 6 20: 0|0 6 1 4; report_block 4294967293 4294967295 2 20: 0|0 6 1 4; "
+     "report_block 4294967293 1 7 20: 1|0 7 1 6; report_block 4294967293 10 12 20: refused|0 7 1 6; "
+     "report_block 4294967293 2 2147483648 20: 0|0 7 1 6"),
     # Segments of 10 bytes, of which those at 0, 20 and 40 didn't come: three runs tell that of 0, 21 bytes that of 20.
     (4, 0, "report 10 20 100: 1; report 30 40 100: 1; lost_below 3 10: 0; next_lost 0 3 10: none; report 50 60 100: 1; "
      "lost_below 3 10: 10; next_lost 0 3 10: 0-10; next_lost 10 3 10: none; report 40 41 100: 1|0 60 3 31; "

@@ -85,6 +85,7 @@ struct kind KINDS[] = {
     MADE("fragments", "is_expired", "fragments_is_expired"),
     MADE("fragments", "reset", "fragments_reset"),
     MADE("scoreboard", "report", "scoreboard_report"),
+    MADE("scoreboard", "report_block", "sequence_number_position, scoreboard_report"),
     MADE("scoreboard", "acknowledge", "scoreboard_acknowledge"),
     MADE("scoreboard", "contains", "scoreboard_contains"),
     MADE("scoreboard", "first_missing", "scoreboard_next_hole"),
