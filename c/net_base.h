@@ -1313,6 +1313,13 @@ struct net_base_advertised_window {
     uint64_t edge;
 };
 
+/* Returns what to do with a segment, as `net_base_tcp_classify` does, in the window that was
+ * announced: from `next`, the first missing position, up to `edge`, whatever is free now.
+ */
+uint32_t net_base_advertised_window_classify(
+    const struct net_base_advertised_window *advertised, uint64_t next,
+    const struct net_base_segment *segment);
+
 /* Writes the number to announce to `number`, in units of 2^`scale`, and returns true; `next` is the
  * first missing position, and `window_end` the end of the free room. It is the greatest that
  * doesn't promise more than there is. In a segment with a SYN the scale is 0.

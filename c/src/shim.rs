@@ -681,6 +681,13 @@ pub extern "C" fn net_base_tcp_updated_checksum(checksum: u16, old: u16, value: 
 }
 
 #[unsafe(no_mangle)]
+pub extern "C" fn net_base_advertised_window_classify(advertised: Option<&AdvertisedWindow>, next: u64, segment: Option<&Segment>) -> u32 {
+    let Some(advertised) = advertised else { return 0 };
+    let Some(segment) = segment else { return 0 };
+    heads::advertised_window::net_base_advertised_window_classify(advertised, next, segment)
+}
+
+#[unsafe(no_mangle)]
 pub extern "C" fn net_base_advertised_window_announce(advertised: Option<&mut AdvertisedWindow>, scale: u8, next: u64, window_end: u64, number: Option<&mut u16>) -> bool {
     let Some(advertised) = advertised else { return false };
     let Some(number) = number else { return false };

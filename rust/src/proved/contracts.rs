@@ -1090,6 +1090,12 @@
 //! abbrev pub IsTooFar : Positions → ℕ → ℕ → Type 0
 //! IsTooFar s o n = (front s < o) × (front s + 2 ^ 32 ≤ o + n)
 //!
+//! -- position 0 has the number i
+//! pub record IsBlock (i : ℕ) (s : Positions) (start end p q : ℕ) : Type 0 where
+//!   pub begins : IsNamed i (front s) start p
+//!   pub ends : IsNamed i (front s) end q
+//!   pub beyond : front s < p
+//!
 //! -- a head and runs are those of a scoreboard: the runs are sound, the base is missing, and each reported
 //! -- position and its end are numbers of 64 bits
 //! pub record IsSoundBoard (h : ScoreboardHead) (rs : List (ℕ × ℕ)) : Type 0 where
@@ -1353,6 +1359,9 @@
 //! IsAcceptable next zero seq zero = seq ≡ next
 //! IsAcceptable next (suc w) seq zero = IsWithin next (suc w) seq
 //! IsAcceptable next window seq (suc n) = Meets next window seq (suc n)
+//!
+//! abbrev pub flag_at : ℕ → ℕ → ℕ
+//! flag_at k flags = flags / 2 ^ k % 2
 //!
 //! -- the RFC's special allowance for a window of no positions, in which no segment with any is acceptable
 //! abbrev pub IsProbe : ℕ → ℕ → ℕ → ℕ → Type 0

@@ -1,6 +1,6 @@
 //! Small machines that a TCP needs beside its two queues: the Internet checksum, the test of an
-//! arriving segment, the windows of both sides and the time until a retransmission. They are plain
-//! whole numbers, and store no bytes.
+//! arriving segment, the windows of both sides, the time until a retransmission and its timer. They
+//! are plain whole numbers, and store no bytes.
 
 pub mod advertised_window;
 pub mod arriving;
