@@ -75,10 +75,12 @@ impl Subject for Timer {
     /// Shows the timeout, when it expires and the timed position, or a dash where there is none.
     fn show(&mut self, _: Global) -> Result<Reply, AllocError> {
         let timer = &self.timer;
-        Ok(Reply::new()
-            .number(timer.timeout.timeout)
-            .and(number_or_dash(timer.expires_at()))
-            .and(number_or_dash(timer.timed_position())))
+        Ok(
+            Reply::new()
+                .number(timer.timeout.timeout)
+                .and(number_or_dash(timer.expires_at()))
+                .and(number_or_dash(timer.timed_position())),
+        )
     }
 }
 

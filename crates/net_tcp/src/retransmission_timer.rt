@@ -122,7 +122,10 @@ impl RetransmissionTimer {
         ensures state { self.new ≡ with_sample bounds now self.old }
         ensures small { IsSmallIfAny (estimate_of self.new.timeout) }
     {
-        prove!(self.timeout.is_small(), "an estimate that was not made by samples");
+        prove!(
+            self.timeout.is_small(),
+            "an estimate that was not made by samples"
+        );
         if self.is_timing == 0 {
             return;
         }
@@ -153,7 +156,10 @@ impl RetransmissionTimer {
             ≡ after_acknowledged bounds first_unacknowledged sent next now self.old }
         ensures small { IsSmallIfAny (estimate_of self.new.timeout) }
     {
-        prove!(self.timeout.is_small(), "an estimate that was not made by samples");
+        prove!(
+            self.timeout.is_small(),
+            "an estimate that was not made by samples"
+        );
         if self.times(0, next) {
             self.take_sample(bounds, now);
         }
