@@ -1534,7 +1534,11 @@
 //! abbrev pub new_timer : ℕ → RetransmissionTimer
 //! new_timer t = record {
 //!   timeout = before_samples t;
-//!   expiry = 0; is_running = 0; timed = 0; timed_since = 0; is_timing = 0;
+//!   expiry = 0;
+//!   is_running = 0;
+//!   timed = 0;
+//!   timed_since = 0;
+//!   is_timing = 0;
 //! }
 //!
 //! abbrev pub expiry_of : RetransmissionTimer → Option ℕ

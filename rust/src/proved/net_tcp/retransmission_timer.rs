@@ -174,7 +174,10 @@ impl RetransmissionTimer {
     /// </details>
     #[track_caller]
     pub fn take_sample(&mut self, bounds: TimeoutBounds, now: u64) {
-        assert!(self.timeout.is_small(), "an estimate that was not made by samples");
+        assert!(
+            self.timeout.is_small(),
+            "an estimate that was not made by samples"
+        );
         if self.is_timing == 0 {
             return;
         }
@@ -214,7 +217,10 @@ impl RetransmissionTimer {
         next: u64,
         now: u64,
     ) {
-        assert!(self.timeout.is_small(), "an estimate that was not made by samples");
+        assert!(
+            self.timeout.is_small(),
+            "an estimate that was not made by samples"
+        );
         if self.times(0, next) {
             self.take_sample(bounds, now);
         }
