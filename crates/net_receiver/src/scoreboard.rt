@@ -4,7 +4,8 @@ ghost use Rattle.net_assembler.specs.Positions.{contains, first_missing, front, 
 ghost use Rattle.net_assembler.specs.Positions.{positions, with_range};
 ghost use Rattle.net_assembler.specs.RunLists.{IsCanonical};
 ghost use Rattle.net_receiver.specs.Losses.{IsHole, IsLossBound};
-ghost use Rattle.net_receiver.specs.Scoreboards.{HasNoRoom, IsBlock, IsEnd, IsSoundBoard, IsTooFar, beyond, reported_by};
+ghost use Rattle.net_receiver.specs.Scoreboards.{HasNoRoom, IsBlock, IsEnd, IsSoundBoard, IsTooFar, beyond};
+ghost use Rattle.net_receiver.specs.Scoreboards.{reported_by};
 
 use crate::held_runs::HeldRuns;
 use crate::scoreboard_head::ScoreboardHead;
@@ -218,7 +219,8 @@ impl<const N: usize> Scoreboard<N> {
         end: SequenceNumber,
         sent: u64,
     ) -> Result<bool, TooManyHolesError>
-        ensures none { ((p q : ℕ) → IsBlock initial self.old start end p q → ⊥) → result ≡ Ok false }
+        ensures none { ((p q : ℕ) → IsBlock initial self.old start end p q → ⊥) →
+            result ≡ Ok false }
         ensures block { (p q : ℕ) → IsBlock initial self.old start end p q →
             IfOk result (λ taken. IsTrue taken ↔ ((p < q) × (q ≤ sent))) }
         ensures ok { (p q : ℕ) → IsBlock initial self.old start end p q → result ≡ Ok true →

@@ -48,11 +48,12 @@ times t from to = not (nat_eq t.is_timing 0) && (nat_le from t.timed && nat_lt t
 abbrev pub untimed : RetransmissionTimer → RetransmissionTimer
 untimed t = record t { timed = 0; timed_since = 0; is_timing = 0 }
 
--- Karn's rule: no segment is timed any longer if it is among what is sent; nor is one that was sent before
+-- Karn's rule: a segment is no longer timed once it is sent again, and none is timed that was sent before
 abbrev pub timed_after : ℕ → ℕ → ℕ → ℕ → RetransmissionTimer → RetransmissionTimer
 timed_after pos end sent now t =
     if times t pos end then untimed t
-    else (if nat_eq t.is_timing 0 && nat_le sent pos then record t { timed = pos; timed_since = now; is_timing = 1 } else t)
+    else (if nat_eq t.is_timing 0 && nat_le sent pos
+    then record t { timed = pos; timed_since = now; is_timing = 1 } else t)
 
 -- (5.1): where something is sent, the timer is started
 abbrev pub after_sending : ℕ → ℕ → ℕ → ℕ → RetransmissionTimer → RetransmissionTimer
