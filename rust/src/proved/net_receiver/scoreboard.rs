@@ -252,7 +252,8 @@ impl<const N: usize> Scoreboard<N> {
     /// In the words of [`contracts`](crate::contracts):
     ///
     /// ```text
-    /// ensures none { ((p q : ℕ) → IsBlock initial self.old start end p q → ⊥) → result ≡ Ok false }
+    /// ensures none { ((p q : ℕ) → IsBlock initial self.old start end p q → ⊥) →
+    ///     result ≡ Ok false }
     /// ensures block { (p q : ℕ) → IsBlock initial self.old start end p q →
     ///     IfOk result (λ taken. IsTrue taken ↔ ((p < q) × (q ≤ sent))) }
     /// ensures ok { (p q : ℕ) → IsBlock initial self.old start end p q → result ≡ Ok true →

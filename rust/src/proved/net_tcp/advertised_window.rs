@@ -67,9 +67,11 @@ impl AdvertisedWindow {
     /// ensures only { (result ≡ Arrival.AcknowledgementOnly) ↔ (IsFalse segment.rst
     ///     × IsFalse segment.syn × IsTrue segment.ack
     ///     × IsProbe next (self.now.edge - next) segment.seq segment.len) }
-    /// ensures answer { (result ≡ Arrival.Answer) ↔ IsAnswered next (self.now.edge - next) segment }
+    /// ensures answer { (result ≡ Arrival.Answer)
+    ///     ↔ IsAnswered next (self.now.edge - next) segment }
     /// ensures reset { (result ≡ Arrival.Reset) ↔ (IsTrue segment.rst × (segment.seq ≡ next)) }
-    /// ensures ignored { (result ≡ Arrival.Ignore) ↔ IsIgnored next (self.now.edge - next) segment }
+    /// ensures ignored { (result ≡ Arrival.Ignore)
+    ///     ↔ IsIgnored next (self.now.edge - next) segment }
     /// ```
     ///
     /// </details>
