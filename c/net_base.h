@@ -1312,6 +1312,13 @@ struct net_base_advertised_window {
     uint64_t edge;
 };
 
+/* Returns what to do with a segment, as `net_base_tcp_classify` does, in the window that was
+ * announced: from `next`, the first missing position, up to `edge`, whatever is free now.
+ */
+uint32_t net_base_advertised_window_classify(
+    const struct net_base_advertised_window *advertised, uint64_t next,
+    const struct net_base_segment *segment);
+
 /* Writes the number to announce to `number`, in units of 2^`scale`, and returns true; `next` is the
  * first missing position, and `window_end` the end of the free room. It is the greatest that
  * doesn't promise more than there is. In a segment with a SYN the scale is 0.
@@ -1455,6 +1462,83 @@ bool net_base_retransmission_timeout_take_sample(
 /* Doubles the timeout within the bounds, after it passed. */
 void net_base_retransmission_timeout_expired(
     struct net_base_retransmission_timeout *timer, const struct net_base_timeout_bounds *bounds);
+
+/* The timer of retransmissions (RFC 6298, section 5), and the one segment that is timed for a
+ * sample. Moments are in microseconds of one clock.
+ *
+ * A head of zeros, but for `timeout.timeout`, is new: it doesn't run, and no segment is timed.
+ */
+
+/* The timer of retransmissions, by the rules of RFC 6298, section 5, and the one segment that is
+ * timed for a sample. Its numbers but `timeout` are 0 at first. Moments are in microseconds of one
+ * clock.
+ */
+struct net_base_retransmission_timer {
+    /* The timeout. */
+    struct net_base_retransmission_timeout timeout;
+    /* When it expires, while it runs. */
+    uint64_t expiry;
+    /* Not 0 while it runs; this library writes 1 then. */
+    uint64_t is_running;
+    /* The position of the timed segment, if there is one. */
+    uint64_t timed;
+    /* When that was sent. */
+    uint64_t timed_since;
+    /* Not 0 while a segment is timed; this library writes 1 then. */
+    uint64_t is_timing;
+};
+
+/* Starts the timer, unless it runs: it expires the timeout from `now` on, at `UINT64_MAX` if that
+ * is above it.
+ */
+void net_base_retransmission_timer_start(struct net_base_retransmission_timer *timer, uint64_t now);
+
+/* Stops the timer. A segment that is timed stays so. */
+void net_base_retransmission_timer_stop(struct net_base_retransmission_timer *timer);
+
+/* Takes notice that the positions from `position` on and below `end` are sent `now`, and starts the
+ * timer, unless it runs. `sent` is the position after the last that was sent before. Nothing
+ * changes if there are no positions.
+ *
+ * If no segment is timed, one that begins at `sent` or above is then. One that was timed is no
+ * longer if it is sent again: which of the copies an acknowledgement is for is not known (Karn).
+ */
+void net_base_retransmission_timer_sent(
+    struct net_base_retransmission_timer *timer, uint64_t position, uint64_t end, uint64_t sent,
+    uint64_t now);
+
+/* Takes the sample of the timed segment, if there is one, since it has arrived, and returns true:
+ * `net_base_retransmission_timer_acknowledged` does so of what is acknowledged; a SACK block may
+ * say so before.
+ *
+ * It is refused if the estimate of `timer.timeout` has no room for a sample: false, and nothing
+ * changes.
+ */
+bool net_base_retransmission_timer_take_sample(
+    struct net_base_retransmission_timer *timer, const struct net_base_timeout_bounds *bounds,
+    uint64_t now);
+
+/* Takes an acknowledgement of all positions below `next`, and returns true. It takes the sample of
+ * the timed segment, if that is below; then, if `next` is `sent` or above, it stops the timer, and
+ * otherwise, if it is above `first_unacknowledged`, starts it again. A repeated acknowledgement
+ * does neither.
+ *
+ * `first_unacknowledged` and `sent` are the sender's before it takes the acknowledgement.
+ *
+ * It is refused if the estimate of `timer.timeout` has no room for a sample: false, and nothing
+ * changes.
+ */
+bool net_base_retransmission_timer_acknowledged(
+    struct net_base_retransmission_timer *timer, const struct net_base_timeout_bounds *bounds,
+    uint64_t first_unacknowledged, uint64_t sent, uint64_t next, uint64_t now);
+
+/* If the timer has expired, doubles the timeout within the bounds, starts it again, and times no
+ * segment any longer. Returns whether it had: then the first segment that isn't acknowledged is to
+ * be sent again. Otherwise nothing changes.
+ */
+bool net_base_retransmission_timer_expire(
+    struct net_base_retransmission_timer *timer, const struct net_base_timeout_bounds *bounds,
+    uint64_t now);
 
 /* Estimates of the time of a round trip: `estimate` of a timeout, once it `has_estimate`; zeros are
  * none.

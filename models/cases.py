@@ -18,6 +18,7 @@ import sender
 import small
 import tcp
 import texts
+import timer
 import worked
 
 SEED = 54
@@ -41,6 +42,7 @@ PARTS = [
     (scoreboard.draw, 1800),
     (ending.draw, 1800),
     (tcp.draw, 1800),
+    (timer.draw, 1200),
 ]
 
 

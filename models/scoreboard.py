@@ -10,6 +10,8 @@ ORDER = Order("scoreboard: start and end of a block")
 START_OF = Order("scoreboard: start of a block and first position that wasn't reported")
 RUNS = {most: Count(f"scoreboard of {most}: runs", min(most, 8)) for most in SIZES}
 REFUSED = {most: Test(f"scoreboard of {most}: a block would make too many runs") for most in SIZES}
+NEAR = Test("scoreboard: both numbers of a block have positions")
+BLOCK = Order("scoreboard: position of a block's number and first one that wasn't reported")
 FAR = Test("scoreboard: a block ends 2^32 or more above the first position that wasn't reported")
 MOVES = Test("scoreboard: a block moves the first position that wasn't reported")
 NEXT = Order("scoreboard: acknowledge, position and first one that wasn't reported")
@@ -61,6 +63,16 @@ class Scoreboard:
         MOVES(self.front(runs) > front)
         self.runs = runs
         return truth(True)
+
+    def report_block(self, initial, start, end, sent):
+        """The block of the positions near to the first one that wasn't reported which have these numbers."""
+        front = self.front(self.runs)
+        ahead = [(number - initial - front) % 2 ** 32 for number in (start, end)]
+        start, end = [front + it if it < 2 ** 31 else front + it - 2 ** 32 for it in ahead]
+        if not NEAR(0 <= min(start, end) and max(start, end) <= TOP):
+            return truth(False)
+        BLOCK.least(start, front)
+        return self.report(start, end, sent) if start > front else truth(False)
 
     def acknowledge(self, pos):
         NEXT.least(pos, self.front(self.runs))
@@ -129,13 +141,16 @@ def numbers_of(random, board, name):
         if random.one_in(2):
             end = min(TOP, start + random.below(4))
         return [start, end, TOP if random.one_in(2) else position(random, board)]
+    if name == "report_block":
+        initial, (start, end, sent) = random.of_digits(32), numbers_of(random, board, "report")
+        return [initial, (initial + start) % 2 ** 32, (initial + end) % 2 ** 32, sent]
     if name in ("lost_below", "next_lost"):
         threshold = [random.below(5), random.below(9)]
         return threshold if name == "lost_below" else [position(random, board), *threshold]
     return [position(random, board) for _ in range(2 if name == "next_hole" else 1)]
 
 
-CALLS = ["report"] * 10 + ["next_hole"] * 4 + ["contains"] * 2 + ["first_missing"] * 2 + ["acknowledge"] * 2
+CALLS = ["report"] * 10 + ["report_block"] * 4 + ["next_hole"] * 4 + ["contains"] * 2 + ["first_missing"] * 2 + ["acknowledge"] * 2
 CALLS += ["lost_below"] * 3 + ["next_lost"] * 3
 
 

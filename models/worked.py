@@ -18,6 +18,7 @@ import scoreboard
 import sender
 import small
 import tcp
+import timer
 
 # The test of smoltcp, if there is one; how many bytes a ring has; and its calls, each with how its reply begins: counts,
 # and what is lent or refused. After a call's name are its sizes and offsets, and then the seed of its bytes, as the
@@ -517,6 +518,11 @@ SCOREBOARDS = [
      "next_hole 100 120: 102-103; next_hole 103 120: 104-120; next_hole 119 110: none; acknowledge 103: done|4 4 0 0; "
      "report 90 101 200: 1|4 4 0 0; report 9 8 200: 0; report 108 109 108: 0|4 4 0 0; contains 99: 1; contains 104: 0; "
      "first_missing 7: 104; lost_below 3 1: 0"),
+    # Position 0 has the number 2^32 - 3: 5 has 2, 9 has 6 and 2 has 2^32 - 1. None near has 2^31 + 2.
+    (1, 3, "report_block 4294967293 2 6 20: 1|0 6 1 4; report_block 4294967293 2 6 8: 0; report_block 4294967293 6 2 20: 0; "
+     "report_block 4294967293 0 6 20: 0|0 6 1 4; report_block 4294967293 4294967295 2 20: 0|0 6 1 4; "
+     "report_block 4294967293 1 7 20: 1|0 7 1 6; report_block 4294967293 10 12 20: refused|0 7 1 6; "
+     "report_block 4294967293 2 2147483648 20: 0|0 7 1 6"),
     # Segments of 10 bytes, of which those at 0, 20 and 40 didn't come: three runs tell that of 0, 21 bytes that of 20.
     (4, 0, "report 10 20 100: 1; report 30 40 100: 1; lost_below 3 10: 0; next_lost 0 3 10: none; report 50 60 100: 1; "
      "lost_below 3 10: 10; next_lost 0 3 10: 0-10; next_lost 10 3 10: none; report 40 41 100: 1|0 60 3 31; "
@@ -629,6 +635,26 @@ TCP = [
     ("expired", [1_000_000, 1_000_000, 60_000_000], "2000000"), ("expired", [40_000_000, 0, 60_000_000], "60000000"),
     ("expired", [2 ** 64 - 1, 1_000_000, 60_000_000], "60000000"),
 ]
+# Timers, by RFC 6298, section 5, with a timeout of 1 s, of at least 1 s and at most 60 s.
+TIMERS = [
+    # A round trip of 0.5 s gives 0.5 + 4 * 0.25 = 1.5 s. What is sent after an expiry was sent before: it is no sample.
+    "sent 100 150 100 0: done|1000000 1000000 100; sent 150 200 150 10000: done|1000000 1000000 100; "
+    "acknowledged 100 200 100 20000: done|1000000 1000000 100; acknowledged 100 200 150 500000: done|1500000 2000000 -; "
+    "expire 1999999: 0; expire 2000000: 1|3000000 5000000 -; sent 150 200 200 2000000: done|3000000 5000000 -; "
+    "acknowledged 150 200 200 2100000: done|3000000 - -; expire 5000000: 0|3000000 - -",
+    # Sent again while it is timed, in a range that has it; and one that ends before it, one after it.
+    "sent 0 10 0 0: done|1000000 1000000 0; sent 0 10 10 100000: done|1000000 1000000 -; "
+    "acknowledged 0 10 10 150000: done|1000000 - -; sent 10 20 10 200000: done|1000000 1200000 10; "
+    "sent 5 10 20 300000: done|1000000 1200000 10; sent 11 20 20 300000: done|1000000 1200000 10; "
+    "sent 5 11 20 300000: done|1000000 1200000 -",
+    # A SACK block reports what is timed: the next one is timed; nothing is sent while a window is shut.
+    "sent 1 2 1 7: done|1000000 1000007 1; take_sample 500007: done|1500000 1000007 -; take_sample 600007: done|1500000 1000007 -; "
+    "sent 2 3 2 600000: done|1500000 1000007 2; stop: done|1500000 - 2; sent 9 9 3 0: done|1500000 - 2; start 5: done|1500000 1500005 2; "
+    "start 6: done|1500000 1500005 2; acknowledged 1 3 2 9: done|1500000 1500009 2",
+    # The last moment.
+    "start 18446744073708551615: done|1000000 18446744073709551615 -; stop: done; start 18446744073708551616: done|1000000 "
+    "18446744073709551615 -; expire 18446744073709551614: 0; expire 18446744073709551615: 1|2000000 18446744073709551615 -",
+]
 
 
 def tests_of_smoltcp():
@@ -711,6 +737,9 @@ def add_ends(cases):
         subject = closing.Closing(capacity, first)
         play(cases, f"closing {capacity} {first}", subject, text,
              lambda name, numbers: getattr(subject, name)(*numbers))
+    for text in TIMERS:
+        subject = timer.Timer(1_000_000, 1_000_000, 60_000_000)
+        play(cases, "timer 1000000 1000000 60000000", subject, text, lambda name, numbers: getattr(subject, name)(*numbers))
     cases.begin("tcp")
     for name, numbers, reply in TCP:
         agree(f"{name} {numbers}", tcp.CALLS[name](*numbers), reply)

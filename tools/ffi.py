@@ -31,7 +31,7 @@ CONFIG = ROOT / "c/net_base.pc"
 # Modules whose sections come first: what the others refer to.
 FIRST = ["refusals", "ring", "results", "packets", "assembler", "fragments", "receiver", "sender", "scoreboard"]
 FIRST += ["finite_receiver", "finite_sender", "tcp", "advertised_window", "peer_window",
-          "retransmission_timeout", "rtt_estimate", "parts_sum"]
+          "retransmission_timeout", "retransmission_timer", "rtt_estimate", "parts_sum"]
 PAGE = ROOT / "docs/FFI.md"
 PAGE_BEGIN = "<!-- Written by tools/ffi.py from crates/net_ffi/src/lib.rt, up to the line END. -->"
 PAGE_END = "<!-- END -->"

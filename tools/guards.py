@@ -30,8 +30,8 @@ use net_base::phy::DeviceCapabilities;
 use net_base::time::{Duration, Instant};
 use net_receiver::{FiniteReceiverOver, FiniteSenderOver, ReceiverOver};
 use net_ring::{RingOver, Storage};
-use net_tcp::{AdvertisedWindow, MAX_SCALE, PartsSum, RetransmissionTimeout, RttEstimate, TimeoutBounds};
-use net_tcp::{Transmission, scaled};
+use net_tcp::{AdvertisedWindow, MAX_SCALE, PartsSum, RetransmissionTimeout, RetransmissionTimer, RttEstimate};
+use net_tcp::{TimeoutBounds, Transmission, scaled};
 use std::ops::{Add, AddAssign, Div, DivAssign, Mul, MulAssign, Shl, ShlAssign, Shr, ShrAssign, Sub, SubAssign};
 
 '''

@@ -10,7 +10,7 @@
 
 static const struct subject *const SUBJECTS[] = {
     &RING, &CELLS, &PACKETS, &ASSEMBLER, &RECEIVER, &SENDER, &FRAGMENTS, &SCOREBOARD, &ENDING, &CLOSING, &TCP,
-    &RAND, &TIMES};
+    &TIMER, &RAND, &TIMES};
 enum { SUBJECT_COUNT = sizeof SUBJECTS / sizeof SUBJECTS[0], MOST_BLOCKS = 8192 };
 
 static char line[MOST_TEXT], wanted[MOST_TEXT], reply[MOST_TEXT], first[MOST_TEXT];

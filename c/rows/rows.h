@@ -25,7 +25,7 @@ struct subject {
     void (*show)(void);
 };
 
-extern const struct subject RING, CELLS, PACKETS, ASSEMBLER, RECEIVER, SENDER, FRAGMENTS, SCOREBOARD, ENDING, CLOSING, TCP, RAND, TIMES;
+extern const struct subject RING, CELLS, PACKETS, ASSEMBLER, RECEIVER, SENDER, FRAGMENTS, SCOREBOARD, ENDING, CLOSING, TCP, TIMER, RAND, TIMES;
 
 /* How a kind of rows is made here: by which exports, or why it can't be. */
 struct kind {

@@ -51,12 +51,32 @@ static void show(void) {
     say_digest(sum);
 }
 
+static void report(uint64_t start, uint64_t end, uint64_t sent) {
+    length_of(end - head.base);
+    uint32_t status = net_base_scoreboard_report(&head, runs, run_count, start, end, sent);
+    say(status == NET_BASE_DONE ? "1" : status == NET_BASE_TOO_MANY_RUNS ? "refused" : "0");
+}
+
+/* Reports a block of numbers, if position 0 has a number, unless it begins at or below the first position that wasn't
+ * reported.
+ */
+static void report_block(const uint64_t *it) {
+    uint64_t start, end;
+    uint32_t initial = (uint32_t)it[0];
+    if (net_base_sequence_number_position((uint32_t)it[1], initial, head.base, &start) && start > head.base
+        && net_base_sequence_number_position((uint32_t)it[2], initial, head.base, &end)) {
+        report(start, end, it[3]);
+    } else {
+        say("0");
+    }
+}
+
 static bool make(const struct call *call) {
     uint64_t one = call->numbers[0], two = call->numbers[1];
     if (is(call, "report")) {
-        length_of(two - head.base);
-        uint32_t status = net_base_scoreboard_report(&head, runs, run_count, one, two, call->numbers[2]);
-        say(status == NET_BASE_DONE ? "1" : status == NET_BASE_TOO_MANY_RUNS ? "refused" : "0");
+        report(one, two, call->numbers[2]);
+    } else if (is(call, "report_block")) {
+        report_block(call->numbers);
     } else if (is(call, "acknowledge")) {
         if (!net_base_scoreboard_acknowledge(&head, runs, run_count, one)) return false;
         say("done");

@@ -681,6 +681,13 @@ pub extern "C" fn net_base_tcp_updated_checksum(checksum: u16, old: u16, value: 
 }
 
 #[unsafe(no_mangle)]
+pub extern "C" fn net_base_advertised_window_classify(advertised: Option<&AdvertisedWindow>, next: u64, segment: Option<&Segment>) -> u32 {
+    let Some(advertised) = advertised else { return 0 };
+    let Some(segment) = segment else { return 0 };
+    heads::advertised_window::net_base_advertised_window_classify(advertised, next, segment)
+}
+
+#[unsafe(no_mangle)]
 pub extern "C" fn net_base_advertised_window_announce(advertised: Option<&mut AdvertisedWindow>, scale: u8, next: u64, window_end: u64, number: Option<&mut u16>) -> bool {
     let Some(advertised) = advertised else { return false };
     let Some(number) = number else { return false };
@@ -748,6 +755,45 @@ pub extern "C" fn net_base_retransmission_timeout_expired(timer: Option<&mut Ret
     let Some(timer) = timer else { return };
     let Some(bounds) = bounds else { return };
     heads::retransmission_timeout::net_base_retransmission_timeout_expired(timer, bounds)
+}
+
+#[unsafe(no_mangle)]
+pub extern "C" fn net_base_retransmission_timer_start(timer: Option<&mut RetransmissionTimer>, now: u64) {
+    let Some(timer) = timer else { return };
+    heads::retransmission_timer::net_base_retransmission_timer_start(timer, now)
+}
+
+#[unsafe(no_mangle)]
+pub extern "C" fn net_base_retransmission_timer_stop(timer: Option<&mut RetransmissionTimer>) {
+    let Some(timer) = timer else { return };
+    heads::retransmission_timer::net_base_retransmission_timer_stop(timer)
+}
+
+#[unsafe(no_mangle)]
+pub extern "C" fn net_base_retransmission_timer_sent(timer: Option<&mut RetransmissionTimer>, position: u64, end: u64, sent: u64, now: u64) {
+    let Some(timer) = timer else { return };
+    heads::retransmission_timer::net_base_retransmission_timer_sent(timer, position, end, sent, now)
+}
+
+#[unsafe(no_mangle)]
+pub extern "C" fn net_base_retransmission_timer_take_sample(timer: Option<&mut RetransmissionTimer>, bounds: Option<&TimeoutBounds>, now: u64) -> bool {
+    let Some(timer) = timer else { return false };
+    let Some(bounds) = bounds else { return false };
+    heads::retransmission_timer::net_base_retransmission_timer_take_sample(timer, bounds, now)
+}
+
+#[unsafe(no_mangle)]
+pub extern "C" fn net_base_retransmission_timer_acknowledged(timer: Option<&mut RetransmissionTimer>, bounds: Option<&TimeoutBounds>, first_unacknowledged: u64, sent: u64, next: u64, now: u64) -> bool {
+    let Some(timer) = timer else { return false };
+    let Some(bounds) = bounds else { return false };
+    heads::retransmission_timer::net_base_retransmission_timer_acknowledged(timer, bounds, first_unacknowledged, sent, next, now)
+}
+
+#[unsafe(no_mangle)]
+pub extern "C" fn net_base_retransmission_timer_expire(timer: Option<&mut RetransmissionTimer>, bounds: Option<&TimeoutBounds>, now: u64) -> bool {
+    let Some(timer) = timer else { return false };
+    let Some(bounds) = bounds else { return false };
+    heads::retransmission_timer::net_base_retransmission_timer_expire(timer, bounds, now)
 }
 
 #[unsafe(no_mangle)]

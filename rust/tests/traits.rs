@@ -16,7 +16,8 @@ use net_base::storage::{
     RingBuffer, RingOver, TooManyHolesError,
 };
 use net_base::tcp::{
-    AdvertisedWindow, PartsSum, PeerWindow, RetransmissionTimeout, TimeoutBounds, Transmission,
+    AdvertisedWindow, PartsSum, PeerWindow, RetransmissionTimeout, RetransmissionTimer,
+    TimeoutBounds, Transmission,
 };
 use net_base::time::{Duration, Instant};
 
@@ -52,7 +53,9 @@ fn sequence_numbers() {
         ("4294967295".into(), " 4294967295".into())
     );
     number += 3;
-    assert_eq!((u32::from(number), number - 3), (2, SequenceNumber::new(u32::MAX)));
+    let last = number - 3;
+    assert_eq!((u32::from(number), last), (2, SequenceNumber::new(u32::MAX)));
+    assert_eq!((number - last, last - number), (3, u32::MAX - 2));
     number -= 2;
     assert_eq!((number, number - 0), (SequenceNumber::default(), SequenceNumber::new(0)));
 }
@@ -106,8 +109,24 @@ fn machines() {
     assert_ne!(PeerWindow::new(1, 2, 3), PeerWindow::new(1, 2, 4));
     assert_ne!(Transmission::Once(5), Transmission::Repeated);
     assert_eq!(RetransmissionTimeout::default(), RetransmissionTimeout::new(1_000_000));
-    let TimeoutBounds { least, most, tick } = TimeoutBounds::default();
-    assert_eq!((least, most, tick), (1_000_000, 60_000_000, 1_000));
+    let bounds = TimeoutBounds::default();
+    assert_eq!((bounds.least, bounds.most, bounds.tick), (1_000_000, 60_000_000, 1_000));
+    let mut timeout = RetransmissionTimeout::default();
+    timeout.acknowledged(bounds, Transmission::Repeated, 5);
+    assert_eq!(timeout, RetransmissionTimeout::default());
+    assert_eq!(RetransmissionTimer::default(), RetransmissionTimer::new(1_000_000));
+}
+
+/// What a timer takes and gives, in moments: none is before 0, or after the last one.
+#[test]
+fn moments_of_timers() {
+    assert_eq!([-1, 0, 5].map(|at| u64::from(Instant::from_micros(at))), [0, 0, 5]);
+    let mut timer = RetransmissionTimer::new(7);
+    assert_eq!((timer.expires(), timer.timeout.duration()), (None, Duration::from_micros(7)));
+    timer.start(Instant::from_micros(5).into());
+    assert_eq!(timer.expires(), Some(Instant::from_micros(12)));
+    timer.expiry = u64::MAX;
+    assert_eq!(timer.expires(), Some(Instant::from_micros(i64::MAX)));
 }
 
 #[test]

@@ -23,8 +23,8 @@ use net_base::storage::{
     PacketMetadata, PacketsOver, RingBuffer, RingOver, Storage, TooManyHolesError,
 };
 use net_base::tcp::{
-    AdvertisedWindow, Arrival, PartsSum, PeerWindow, RetransmissionTimeout, RttEstimate, Segment,
-    TimeoutBounds, Transmission, MAX_SCALE,
+    AdvertisedWindow, Arrival, PartsSum, PeerWindow, RetransmissionTimeout, RetransmissionTimer,
+    RttEstimate, Segment, TimeoutBounds, Transmission, MAX_SCALE,
 };
 use net_base::time::{Duration, Instant};
 
@@ -244,6 +244,7 @@ fn threads() {
     both::<Scoreboard<4>>();
     both::<(Rand, SequenceNumber, Instant, Duration, DeviceCapabilities, PacketMeta)>();
     both::<(PartsSum, PeerWindow, AdvertisedWindow, RetransmissionTimeout, Segment, Arrival)>();
+    both::<RetransmissionTimer>();
     both::<PacketLoopback<'_>>();
     fn sent<T: Send>() {}
     sent::<RingBuffer<'_, std::cell::Cell<u8>>>();

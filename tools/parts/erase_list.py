@@ -118,7 +118,7 @@ impl{generics} core::iter::FusedIterator for {name} {{}}
 
 # The machines of a TCP, which a program may compare.
 for name in ('struct AdvertisedWindow', 'struct PartsSum', 'struct PeerWindow', 'struct RttEstimate', 'struct TimeoutBounds',
-             'enum Transmission', 'struct RetransmissionTimeout'):
+             'struct Segment {', 'enum Transmission', 'struct RetransmissionTimeout', 'struct RetransmissionTimer'):
     REPLACED.append(('', f'Debug)]\npub {name}', f'Debug, PartialEq, Eq, Hash)]\npub {name}'))
 
 # Rattle's clone can be refused. Over storage that can be cloned, such as an array, these can be too.

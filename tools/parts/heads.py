@@ -462,7 +462,7 @@ CODE = {name: module for module, names in {
     "crate::receiver": "has_next", "crate::finite_receiver": "has_number",
     "net_assembler": "AssemblerHead Run", "net_ring": "RingHead Span", "net_base::storage": "FragmentsHead",
     "net_packets": "PacketSlot PacketsHead", "net_receiver": "FiniteReceiverHead FiniteSenderHead HeldRun ReceiverHead ScoreboardHead SenderHead",
-    "net_tcp": "AdvertisedWindow MAX_SCALE PartsSum PeerWindow RetransmissionTimeout RttEstimate Segment TimeoutBounds",
+    "net_tcp": "AdvertisedWindow MAX_SCALE PartsSum PeerWindow RetransmissionTimeout RetransmissionTimer RttEstimate Segment TimeoutBounds",
 }.items() for name in names.split()}
 
 

@@ -16,6 +16,7 @@ use crate::subject::Subject;
 use crate::tcp::Tcp;
 use crate::text::Texts;
 use crate::time::Times;
+use crate::timer::Timer;
 use crate::words;
 use net_base::rand::Rand;
 use std::alloc::{AllocError, Global};
@@ -87,6 +88,7 @@ fn answer_named(
         "times" => play(alloc, &mut Times, lines, replies),
         "texts" => play(alloc, &mut Texts, lines, replies),
         "tcp" => play(alloc, &mut Tcp, lines, replies),
+        "timer" => play(alloc, &mut Timer::new(one, two, three), lines, replies),
         "rand" => play(alloc, &mut Rand::new(one), lines, replies),
         "storage" => play_storage(alloc, (one, two), lines, replies),
         "ring" => play_ring(alloc, (one, two), lines, replies),

@@ -27,6 +27,7 @@ mod subject;
 mod tcp;
 mod text;
 mod time;
+mod timer;
 mod words;
 
 use blocks::answer_blocks;

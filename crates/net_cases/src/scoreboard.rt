@@ -1,11 +1,12 @@
 //! The calls of a scoreboard.
 ghost use Rattle.std.specs.Prelude.{◌≤◌};
 
-use crate::bytes::{START, mix};
+use crate::bytes::{START, low_word, mix};
 use crate::call::{Call, Entry, find};
 use crate::reply::{Part, Reply, allowed};
 use crate::subject::Subject;
-use net_receiver::Scoreboard;
+use net_assembler::TooManyHolesError;
+use net_receiver::{Scoreboard, SequenceNumber};
 use std::alloc::{AllocError, Global};
 
 /// A scoreboard, and its stream's first position.
@@ -19,6 +20,8 @@ pub struct Board<const N: usize> {
 #[derive(Clone, Copy)]
 enum Kind {
     Report,
+    /// The number of position 0, those of a block, and what was sent.
+    ReportBlock,
     Acknowledge,
     Contains,
     FirstMissing,
@@ -29,8 +32,9 @@ enum Kind {
 }
 
 /// The calls.
-static CALLS: [Entry<Kind>; 7] = [
+static CALLS: [Entry<Kind>; 8] = [
     ("report", 3, Kind::Report),
+    ("report_block", 4, Kind::ReportBlock),
     ("acknowledge", 1, Kind::Acknowledge),
     ("contains", 1, Kind::Contains),
     ("first_missing", 1, Kind::FirstMissing),
@@ -52,9 +56,13 @@ impl<const N: usize> Board<N> {
     }
 
     /// Makes a call.
-    fn make(&mut self, kind: Kind, (one, two, three): (u64, u64, u64)) -> Reply {
+    fn make(&mut self, kind: Kind, [one, two, three, four]: [u64; 4]) -> Reply {
         match kind {
-            Kind::Report => report(&mut self.board, (one, two), three),
+            Kind::Report => show_known(self.board.report(one, two, three)),
+            Kind::ReportBlock => {
+                let [initial, start, end] = [number(one), number(two), number(three)];
+                show_known(self.board.report_block(initial, start, end, four))
+            }
             Kind::Acknowledge => {
                 self.board.acknowledge(one);
                 allowed(true)
@@ -72,9 +80,8 @@ impl<const N: usize> Board<N> {
 
 impl<const N: usize> Subject for Board<N> {
     fn answer(&mut self, _: Global, call: &Call<'_>) -> Result<Option<Reply>, AllocError> {
-        let [one, two, three, _] = call.four();
         match find(&CALLS, call) {
-            Some(kind) => Ok(Some(self.make(kind, (one, two, three)))),
+            Some(kind) => Ok(Some(self.make(kind, call.four()))),
             None => Ok(None),
         }
     }
@@ -98,9 +105,14 @@ impl<const N: usize> Subject for Board<N> {
     }
 }
 
-/// Reports a block, and returns a reply of whether it can be right, or is refused.
-fn report<const N: usize>(board: &mut Scoreboard<N>, (start, end): (u64, u64), sent: u64) -> Reply {
-    match board.report(start, end, sent) {
+/// Returns the number of the lowest 32 bits.
+fn number(number: u64) -> SequenceNumber {
+    SequenceNumber::new(low_word(number))
+}
+
+/// Returns a reply of whether a block can be right, or is refused.
+fn show_known(reported: Result<bool, TooManyHolesError>) -> Reply {
+    match reported {
         Ok(is_block) => Reply::new().truth(is_block),
         Err(_) => Reply::word("refused"),
     }

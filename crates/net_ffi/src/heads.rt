@@ -9,6 +9,7 @@ mod parts_sum;
 mod peer_window;
 mod receiver;
 mod retransmission_timeout;
+mod retransmission_timer;
 mod ring;
 mod rtt_estimate;
 mod scoreboard;

@@ -3,6 +3,7 @@
 --     offsets_of s, beyond s      those beyond the first missing one, counted from it, and as they are
 --     HasNoRoom most s o n      a range isn't stored, since there would be too many runs
 --     IsTooFar s o n      nor this one, since it ends too far above the first missing position
+--     IsBlock i s start end p q      p and q are the positions of a block's numbers, above the first missing one
 --     IsSoundBoard h runs      what is true of the parts of a scoreboard
 --     IsEnd s n      n is the position after the last one
 --     IsNextHole s p limit start end      the first range of positions from p on, below the limit, that s lacks
@@ -10,6 +11,7 @@ use Rattle.std.specs.Prelude.{◌≡◌, ℕ, ◌+◌, ◌-◌, ◌<◌, ◌≤�
 use Rattle.net_assembler.specs.Assembler.{MakesTooManyRuns}
 use Rattle.net_assembler.specs.Positions.{Positions, contains, first_missing, front, with_range, shift_up, shift_down}
 use Rattle.net_assembler.specs.RunLists.{set_of, HasSoundRuns}
+use Rattle.net_receiver.specs.SequenceNumbers.{IsNamed}
 use Rattle.net_receiver.specs.declared.scoreboard_head.ScoreboardHead.{ScoreboardHead}
 
 -- all positions below a base, and those at offsets that are counted from it
@@ -36,6 +38,12 @@ HasNoRoom most s o n = (front s < o) × MakesTooManyRuns most (beyond s) o n
 -- it begins beyond the first missing position, and ends 2 ^ 32 or more above it
 abbrev pub IsTooFar : Positions → ℕ → ℕ → Type 0
 IsTooFar s o n = (front s < o) × (front s + 2 ^ 32 ≤ o + n)
+
+-- position 0 has the number i
+pub record IsBlock (i : ℕ) (s : Positions) (start end p q : ℕ) : Type 0 where
+  pub begins : IsNamed i (front s) start p
+  pub ends : IsNamed i (front s) end q
+  pub beyond : front s < p
 
 -- a head and runs are those of a scoreboard: the runs are sound, the base is missing, and each reported
 -- position and its end are numbers of 64 bits

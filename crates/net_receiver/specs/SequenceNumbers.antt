@@ -3,6 +3,7 @@
 --     ahead_of a b      how far the number b is ahead of a, going round at 2^32
 --     ComesBefore a b      b is ahead of a by 1 to 2^31 - 1
 --     IsNear next pos      pos is at most 2^31 before next, or less than 2^31 after it
+--     IsNamed i next number pos      pos is the position near next that has this number
 -- The others are laws.
 use Rattle.std.specs.Prelude.{◌≡◌, ◌≢◌, ◌↔◌, ◌⊎◌, ℕ, ◌+◌, ◌-◌, ◌<◌, ◌≤◌, ◌%◌, ◌^◌}
 
@@ -21,6 +22,11 @@ ComesBefore a b = (0 < ahead_of a b) × (ahead_of a b < 2 ^ 31)
 -- at most 2^31 positions before next, or less than 2^31 after it
 abbrev pub IsNear : ℕ → ℕ → Type 0
 IsNear next pos = (pos < next + 2 ^ 31) × (next ≤ pos + 2 ^ 31)
+
+pub record IsNamed (i next number pos : ℕ) : Type 0 where
+  pub named : number_at i pos ≡ number
+  pub near : IsNear next pos
+  pub fits : pos < 2 ^ 64
 
 -- to add to a number is to add to the position
 abbrev pub NumbersAdd : Type 0

@@ -1,13 +1,15 @@
 //! A scoreboard: which positions a sender knows that the other end has.
-ghost use Rattle.std.specs.Prelude.{◌⊎◌, ◌≡◌, ◌↔◌, ◌-◌, ◌<◌, ◌≤◌, ℕ, length, true, Ok, IsTrue, IfOk, IsErr};
+ghost use Rattle.std.specs.Prelude.{◌⊎◌, ◌≡◌, ◌↔◌, ◌-◌, ◌<◌, ◌≤◌, ℕ, length, true, false, Ok, IsTrue, IfOk, IsErr};
 ghost use Rattle.net_assembler.specs.Positions.{contains, first_missing, front, maximal_runs, nothing};
 ghost use Rattle.net_assembler.specs.Positions.{positions, with_range};
 ghost use Rattle.net_assembler.specs.RunLists.{IsCanonical};
 ghost use Rattle.net_receiver.specs.Losses.{IsHole, IsLossBound};
-ghost use Rattle.net_receiver.specs.Scoreboards.{HasNoRoom, IsEnd, IsSoundBoard, IsTooFar, beyond, reported_by};
+ghost use Rattle.net_receiver.specs.Scoreboards.{HasNoRoom, IsBlock, IsEnd, IsSoundBoard, IsTooFar, beyond};
+ghost use Rattle.net_receiver.specs.Scoreboards.{reported_by};
 
 use crate::held_runs::HeldRuns;
 use crate::scoreboard_head::ScoreboardHead;
+use crate::sequence_number::SequenceNumber;
 use net_assembler::{Run, TooManyHolesError};
 use std::marker::Model;
 
@@ -189,6 +191,57 @@ impl<const N: usize> Scoreboard<N> {
         }
         self.head.report(&mut self.runs, start, end)?;
         Ok(true)
+    }
+
+    /// Reports a SACK block as `report` does, from its numbers: of each it takes the position nearest to
+    /// the first one that wasn't reported, if position 0 has the number `initial`. Call it after
+    /// `acknowledge`.
+    ///
+    /// Returns false, and changes nothing, also if a number has no position there, or if `start` isn't
+    /// above that first one: a block of what came twice (RFC 2883).
+    ///
+    /// ```
+    /// # use net_base::scoreboard::Scoreboard;
+    /// # use net_base::sequence_number::SequenceNumber;
+    /// let [initial, start, end] = [7, 12, 16].map(SequenceNumber::new);
+    /// let mut scoreboard = Scoreboard::<4>::empty();
+    /// assert_eq!(scoreboard.report_block(initial, start, end, 20), Ok(true));
+    /// assert_eq!(scoreboard.next_hole(0, 20), Some((0, 5)));
+    /// assert_eq!(scoreboard.report_block(initial, initial, start, 20), Ok(false));
+    /// ```
+    ///
+    /// # Errors
+    ///
+    /// The block is refused, and nothing changes, exactly if there would be more than `N` runs beyond
+    /// the first position that wasn't reported.
+    pub fn report_block(
+        &mut self,
+        initial: SequenceNumber,
+        start: SequenceNumber,
+        end: SequenceNumber,
+        sent: u64,
+    ) -> Result<bool, TooManyHolesError>
+        ensures none { ((p q : ℕ) → IsBlock initial self.old start end p q → ⊥) →
+            result ≡ Ok false }
+        ensures block { (p q : ℕ) → IsBlock initial self.old start end p q →
+            IfOk result (λ taken. IsTrue taken ↔ ((p < q) × (q ≤ sent))) }
+        ensures ok { (p q : ℕ) → IsBlock initial self.old start end p q → result ≡ Ok true →
+            self.new ≡ with_range self.old p (q - p) }
+        ensures unchanged { (result ≡ Ok true → ⊥) → self.new ≡ self.old }
+        ensures refused { (p q : ℕ) → IsBlock initial self.old start end p q →
+            IsErr result ↔ ((p < q) × (q ≤ sent) × HasNoRoom N self.old p (q - p)) }
+    {
+        let first = self.first_unreported();
+        let Some(start) = start.position(initial, first) else {
+            return Ok(false);
+        };
+        let Some(end) = end.position(initial, first) else {
+            return Ok(false);
+        };
+        if start <= first {
+            return Ok(false);
+        }
+        self.report(start, end, sent)
     }
 
     /// Reports all positions below `next`. It is never refused.

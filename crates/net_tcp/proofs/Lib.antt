@@ -1,4 +1,5 @@
 pub mod WordSums
 pub mod Scales
 pub mod Timeouts
+pub mod Timers
 pub mod Windows

@@ -3,9 +3,10 @@
 --     IsInTable      the four cases of the RFC's table
 --     Meets a m b n      the m positions from a on and the n positions from b on have one in common
 --     IsAcceptable      the segment's positions meet the window
+--     flag_at k flags      the bit k of TCP's flags, in which FIN is 0, SYN 1, RST 2 and ACK 4
 --     IsProbe      its first position is the one at which the window is shut
 --     IsAnswered, IsIgnored      nothing of it is taken, and it is answered by an acknowledgement, or by nothing
-use Rattle.std.specs.Prelude.{◌≡◌, ◌≢◌, ℕ, zero, suc, ◌+◌, ◌<◌, ◌≤◌, ◌⊎◌, IsTrue, IsFalse}
+use Rattle.std.specs.Prelude.{◌≡◌, ◌≢◌, ℕ, zero, suc, ◌+◌, ◌/◌, ◌%◌, ◌^◌, ◌<◌, ◌≤◌, ◌⊎◌, IsTrue, IsFalse}
 use Rattle.net_tcp.specs.declared.arriving.Segment.{Segment}
 
 abbrev pub IsWithin : ℕ → ℕ → ℕ → Type 0
@@ -27,6 +28,9 @@ abbrev pub IsAcceptable : ℕ → ℕ → ℕ → ℕ → Type 0
 IsAcceptable next zero seq zero = seq ≡ next
 IsAcceptable next (suc w) seq zero = IsWithin next (suc w) seq
 IsAcceptable next window seq (suc n) = Meets next window seq (suc n)
+
+abbrev pub flag_at : ℕ → ℕ → ℕ
+flag_at k flags = flags / 2 ^ k % 2
 
 -- the RFC's special allowance for a window of no positions, in which no segment with any is acceptable
 abbrev pub IsProbe : ℕ → ℕ → ℕ → ℕ → Type 0

@@ -3,4 +3,5 @@ pub mod Acceptability
 pub mod AdvertisedWindow
 pub mod PeerWindow
 pub mod RetransmissionTimeout
+pub mod RetransmissionTimer
 pub mod Agreement

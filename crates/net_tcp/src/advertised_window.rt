@@ -1,6 +1,9 @@
 //! The window that a receiver announces.
-ghost use Rattle.std.specs.Prelude.{◌≡◌, ◌↔◌, ℕ, ◌+◌, ◌-◌, ◌*◌, ◌^◌, ◌<◌, ◌≤◌, ◌⊎◌, IsTrue, min, max};
+ghost use Rattle.std.specs.Prelude.{◌≡◌, ◌↔◌, ℕ, ◌+◌, ◌-◌, ◌*◌, ◌^◌, ◌<◌, ◌≤◌, ◌⊎◌, IsTrue, IsFalse, min, max};
+ghost use Rattle.net_tcp.specs.Acceptability.{IsAcceptable, IsProbe, IsAnswered, IsIgnored};
 ghost use Rattle.net_tcp.specs.AdvertisedWindow.{field_for, announced, IsScaleFor, worth, gain};
+
+use crate::arriving::{Arrival, Segment, classify};
 
 /// The greatest window scale (RFC 7323, section 2.3).
 pub const MAX_SCALE: u8 = 14;
@@ -33,6 +36,24 @@ impl AdvertisedWindow {
         ensures { result.edge ≡ first }
     {
         AdvertisedWindow { edge: first }
+    }
+
+    /// Returns what to do with a segment, as the function `classify` says, in the window that was announced: from
+    /// `next`, the first missing position, up to the edge, whatever is free now.
+    pub fn classify(&self, next: u64, segment: Segment) -> Arrival
+        ensures take { (result ≡ Arrival.Take) ↔ (IsFalse segment.rst × IsFalse segment.syn
+            × IsTrue segment.ack
+            × IsAcceptable next (self.now.edge - next) segment.seq segment.len) }
+        ensures only { (result ≡ Arrival.AcknowledgementOnly) ↔ (IsFalse segment.rst
+            × IsFalse segment.syn × IsTrue segment.ack
+            × IsProbe next (self.now.edge - next) segment.seq segment.len) }
+        ensures answer { (result ≡ Arrival.Answer)
+            ↔ IsAnswered next (self.now.edge - next) segment }
+        ensures reset { (result ≡ Arrival.Reset) ↔ (IsTrue segment.rst × (segment.seq ≡ next)) }
+        ensures ignored { (result ≡ Arrival.Ignore)
+            ↔ IsIgnored next (self.now.edge - next) segment }
+    {
+        classify(next, self.edge.saturating_sub(next), segment)
     }
 
     /// Returns the number to announce, in units of 2^`scale`, if `next` is the first missing position

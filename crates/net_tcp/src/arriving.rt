@@ -1,6 +1,6 @@
 //! What to do with an arriving segment.
-ghost use Rattle.std.specs.Prelude.{◌≡◌, ◌↔◌, ◌+◌, ◌≤◌, IsTrue, IsFalse};
-ghost use Rattle.net_tcp.specs.Acceptability.{IsAcceptable, IsProbe, IsAnswered, IsIgnored};
+ghost use Rattle.std.specs.Prelude.{◌≡◌, ◌↔◌, ◌+◌, ◌-◌, ◌^◌, ◌≤◌, min, IsTrue, IsFalse};
+ghost use Rattle.net_tcp.specs.Acceptability.{IsAcceptable, IsProbe, IsAnswered, IsIgnored, flag_at};
 
 /// The positions and the flags of an arriving segment.
 #[repr(C)]
@@ -16,6 +16,26 @@ pub struct Segment {
     pub ack: bool,
     /// Whether its flag RST is set.
     pub rst: bool,
+}
+
+impl Segment {
+    /// Returns the segment of so many bytes, with the flags of a TCP header: bit 0 is FIN, bit 1 SYN, bit 2
+    /// RST and bit 4 ACK, and others don't count. A SYN and a FIN have a position each.
+    pub const fn new(seq: u64, bytes: usize, flags: u8) -> Self
+        ensures seq { result.seq ≡ seq }
+        ensures len { result.len ≡ min (bytes + flag_at 1 flags + flag_at 0 flags) (2 ^ 64 - 1) }
+        ensures syn { IsTrue result.syn ↔ (flag_at 1 flags ≡ 1) }
+        ensures ack { IsTrue result.ack ↔ (flag_at 4 flags ≡ 1) }
+        ensures rst { IsTrue result.rst ↔ (flag_at 2 flags ≡ 1) }
+    {
+        Segment {
+            seq,
+            len: (bytes as u64).saturating_add((flags / 2 % 2 + flags % 2) as u64),
+            syn: flags / 2 % 2 == 1,
+            ack: flags / 16 % 2 == 1,
+            rst: flags / 4 % 2 == 1,
+        }
+    }
 }
 
 /// What to do with a segment that arrives on a connection that both ends have opened.

@@ -12,6 +12,7 @@ ghost use Rattle.net_tcp.specs.PeerWindow.{CallsCommute, OrderIsFree, LatestDeci
 ghost use Rattle.net_tcp.specs.PeerWindow.{NoWindowIsReplaced};
 ghost use Rattle.net_tcp.specs.RetransmissionTimeout.{FollowsFormulas, EqualSamplesSettle};
 ghost use Rattle.net_tcp.specs.RetransmissionTimeout.{DoublesToTheMost};
+ghost use Rattle.net_tcp.specs.RetransmissionTimer.{TimedIsSentOnce, RunsWhileUnacknowledged};
 
 /// States what the folded sum is: that of RFC 1071, which adds each carry at the low end; and that
 /// neither cuts at even offsets nor where a part is folded changes it.
@@ -77,6 +78,15 @@ pub fn timeouts()
     ensures formulas { FollowsFormulas }
     ensures settle { EqualSamplesSettle }
     ensures doubles { DoublesToTheMost }
+{}
+
+/// States of a new timer, and of every list of sends, acknowledgements, reports and looks at it: a timed
+/// position was sent once, at the moment that its sample is counted from; and the timer runs exactly
+/// while something that was sent isn't acknowledged.
+#[tactic(auto, using(crate::proofs::Timers::timed_is_sent_once, crate::proofs::Timers::runs_while_unacknowledged))]
+pub fn timers()
+    ensures once { TimedIsSentOnce }
+    ensures runs { RunsWhileUnacknowledged }
 {}
 
 /// States that the edge of what a sender was told is not beyond what the receiver promised, now or

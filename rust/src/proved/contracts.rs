@@ -1159,6 +1159,12 @@
 //! abbrev pub IsTooFar : Positions → ℕ → ℕ → Type 0
 //! IsTooFar s o n = (front s < o) × (front s + 2 ^ 32 ≤ o + n)
 //!
+//! -- position 0 has the number i
+//! pub record IsBlock (i : ℕ) (s : Positions) (start end p q : ℕ) : Type 0 where
+//!   pub begins : IsNamed i (front s) start p
+//!   pub ends : IsNamed i (front s) end q
+//!   pub beyond : front s < p
+//!
 //! -- a head and runs are those of a scoreboard: the runs are sound, the base is missing, and each reported
 //! -- position and its end are numbers of 64 bits
 //! pub record IsSoundBoard (h : ScoreboardHead) (rs : List (ℕ × ℕ)) : Type 0 where
@@ -1466,6 +1472,9 @@
 //! IsAcceptable next (suc w) seq zero = IsWithin next (suc w) seq
 //! IsAcceptable next window seq (suc n) = Meets next window seq (suc n)
 //!
+//! abbrev pub flag_at : ℕ → ℕ → ℕ
+//! flag_at k flags = flags / 2 ^ k % 2
+//!
 //! -- the RFC's special allowance for a window of no positions, in which no segment with any is acceptable
 //! abbrev pub IsProbe : ℕ → ℕ → ℕ → ℕ → Type 0
 //! IsProbe next window seq len = (window ≡ 0) × (seq ≡ next) × (0 < len)
@@ -1624,4 +1633,63 @@
 //! abbrev pub after_acknowledgement : TimeoutBounds → Transmission → ℕ → RetransmissionTimeout → RetransmissionTimeout
 //! after_acknowledgement b (Once at) now t = after_sample b (now - at) t
 //! after_acknowledgement b Repeated now t = t
+//! ```
+//!
+//! # net_tcp, RetransmissionTimer
+//!
+//! ```text
+//! -- a moment, so at most the last one
+//! abbrev pub later : ℕ → ℕ → ℕ
+//! later now t = min (now + t) (2 ^ 64 - 1)
+//!
+//! -- it doesn't run, and no segment is timed
+//! abbrev pub new_timer : ℕ → RetransmissionTimer
+//! new_timer t = record {
+//!   timeout = before_samples t;
+//!   expiry = 0;
+//!   is_running = 0;
+//!   timed = 0;
+//!   timed_since = 0;
+//!   is_timing = 0;
+//! }
+//!
+//! abbrev pub expiry_of : RetransmissionTimer → Option ℕ
+//! expiry_of t = if nat_eq t.is_running 0 then None else Some t.expiry
+//!
+//! abbrev pub timed_of : RetransmissionTimer → Option ℕ
+//! timed_of t = if nat_eq t.is_timing 0 then None else Some t.timed
+//!
+//! abbrev pub started : ℕ → RetransmissionTimer → RetransmissionTimer
+//! started now t = if nat_eq t.is_running 0 then restarted now t else t
+//!
+//! abbrev pub stopped : RetransmissionTimer → RetransmissionTimer
+//! stopped t = record t { expiry = 0; is_running = 0 }
+//!
+//! -- (5.1): where something is sent, the timer is started
+//! abbrev pub after_sending : ℕ → ℕ → ℕ → ℕ → RetransmissionTimer → RetransmissionTimer
+//! after_sending pos end sent now t = if nat_lt pos end then timed_after pos end sent now (started now t) else t
+//!
+//! -- the timed segment has arrived
+//! abbrev pub with_sample : TimeoutBounds → ℕ → RetransmissionTimer → RetransmissionTimer
+//! with_sample b now t =
+//!     if nat_eq t.is_timing 0 then t
+//!     else untimed (record t { timeout = after_sample b (now - t.timed_since) t.timeout })
+//!
+//! -- (5.2): where all that was sent is acknowledged, the timer is stopped; (5.3): else, where anything new is, it is
+//! -- started again
+//! abbrev pub after_acknowledged : TimeoutBounds → ℕ → ℕ → ℕ → ℕ → RetransmissionTimer → RetransmissionTimer
+//! after_acknowledged b first sent next now t =
+//!     let s = if times t 0 next then with_sample b now t else t in
+//!     if nat_le sent next then stopped s else (if nat_lt first next then restarted now s else s)
+//!
+//! abbrev pub has_expired : RetransmissionTimer → ℕ → Bool
+//! has_expired t now = not (nat_eq t.is_running 0) && nat_le t.expiry now
+//!
+//! -- (5.5), (5.6): where it has expired, the timeout is doubled, and it is started again. What was on the way is sent
+//! -- again, so no segment is timed
+//! abbrev pub after_expiry : TimeoutBounds → ℕ → RetransmissionTimer → RetransmissionTimer
+//! after_expiry b now t =
+//!     if has_expired t now
+//!     then restarted now (untimed (record t { timeout = record t.timeout { timeout = doubled b t.timeout.timeout } }))
+//!     else t
 //! ```

@@ -2,6 +2,7 @@
 use crate::show::{digest, mix, truth, START};
 use crate::{Call, Subject};
 use net_base::scoreboard::Scoreboard;
+use net_base::sequence_number::SequenceNumber;
 
 /// A scoreboard, and its stream's first position.
 struct Board<const N: usize> {
@@ -26,6 +27,12 @@ impl<const N: usize> Subject for Board<N> {
         let (board, one, two) = (&mut self.board, call.at(0), call.at(1));
         match call.name {
             "report" => board.report(one, two, call.at(2)).map_or("refused", truth).to_string(),
+            "report_block" => {
+                let [initial, start, end] =
+                    [0, 1, 2].map(|index| SequenceNumber::new(call.at(index) as u32));
+                let known = board.report_block(initial, start, end, call.at(3));
+                known.map_or("refused", truth).to_string()
+            }
             "acknowledge" => {
                 board.acknowledge(one);
                 "done".to_string()

@@ -3,12 +3,32 @@
 //! A head of zeros, but for `edge`, is new: nothing was announced, before the stream's byte at
 //! position `edge`.
 // Written by tools/ffi.py.
+ghost use Rattle.net_tcp.specs.Acceptability.{IsAcceptable, IsAnswered, IsIgnored, IsProbe};
 ghost use Rattle.net_tcp.specs.AdvertisedWindow.{announced, field_for, gain, worth};
 ghost use Rattle.std.specs.Prelude.{IsFalse, IsTrue, max, min, ℕ, ◌+◌, ◌-◌, ◌<◌, ◌^◌, ◌↔◌, ◌≡◌, ◌≤◌, ◌⊎◌};
 
-use crate::refusals::{NET_BASE_MISSING, NET_BASE_PRESENT, NET_BASE_REFUSED};
-use crate::results::presence_of;
-use net_tcp::{AdvertisedWindow, MAX_SCALE};
+use crate::refusals::{NET_BASE_ACKNOWLEDGEMENT_ONLY, NET_BASE_ANSWER, NET_BASE_IGNORE, NET_BASE_MISSING, NET_BASE_PRESENT, NET_BASE_REFUSED, NET_BASE_RESET, NET_BASE_TAKE};
+use crate::results::{number_of, presence_of};
+use net_tcp::{AdvertisedWindow, MAX_SCALE, Segment};
+
+/// Returns what to do with a segment, as `net_base_tcp_classify` does, in the window that was
+/// announced: from `next`, the first missing position, up to `edge`, whatever is free now.
+#[unsafe(no_mangle)]
+pub extern "C" fn net_base_advertised_window_classify(
+    advertised: &AdvertisedWindow,
+    next: u64,
+    segment: &Segment,
+) -> u32
+    ensures take { (result ≡ NET_BASE_TAKE) ↔ (IsFalse segment.now.rst × IsFalse segment.now.syn × IsTrue
+        segment.now.ack × IsAcceptable next (advertised.now.edge - next) segment.now.seq segment.now.len) }
+    ensures only { (result ≡ NET_BASE_ACKNOWLEDGEMENT_ONLY) ↔ (IsFalse segment.now.rst × IsFalse segment.now.syn ×
+        IsTrue segment.now.ack × IsProbe next (advertised.now.edge - next) segment.now.seq segment.now.len) }
+    ensures answer { (result ≡ NET_BASE_ANSWER) ↔ IsAnswered next (advertised.now.edge - next) segment.now }
+    ensures reset { (result ≡ NET_BASE_RESET) ↔ (IsTrue segment.now.rst × (segment.now.seq ≡ next)) }
+    ensures ignored { (result ≡ NET_BASE_IGNORE) ↔ IsIgnored next (advertised.now.edge - next) segment.now }
+{
+    number_of(advertised.classify(next, *segment))
+}
 
 /// Writes the number to announce to `number`, in units of 2^`scale`, and returns true; `next` is
 /// the first missing position, and `window_end` the end of the free room. It is the greatest that

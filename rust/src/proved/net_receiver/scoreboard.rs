@@ -2,6 +2,7 @@
 
 use crate::proved::net_receiver::held_runs::HeldRuns;
 use crate::proved::net_receiver::scoreboard_head::ScoreboardHead;
+use crate::proved::net_receiver::sequence_number::SequenceNumber;
 use crate::proved::net_assembler::{Run, TooManyHolesError};
 
 /// What a sender knows of the positions that the other end has, as acknowledgements and their SACK
@@ -227,6 +228,65 @@ impl<const N: usize> Scoreboard<N> {
         }
         self.head.report(&mut self.runs, start, end)?;
         Ok(true)
+    }
+
+    /// Reports a SACK block as `report` does, from its numbers: of each it takes the position nearest to
+    /// the first one that wasn't reported, if position 0 has the number `initial`. Call it after
+    /// `acknowledge`.
+    ///
+    /// Returns false, and changes nothing, also if a number has no position there, or if `start` isn't
+    /// above that first one: a block of what came twice (RFC 2883).
+    ///
+    /// ```
+    /// # use net_base::scoreboard::Scoreboard;
+    /// # use net_base::sequence_number::SequenceNumber;
+    /// let [initial, start, end] = [7, 12, 16].map(SequenceNumber::new);
+    /// let mut scoreboard = Scoreboard::<4>::empty();
+    /// assert_eq!(scoreboard.report_block(initial, start, end, 20), Ok(true));
+    /// assert_eq!(scoreboard.next_hole(0, 20), Some((0, 5)));
+    /// assert_eq!(scoreboard.report_block(initial, initial, start, 20), Ok(false));
+    /// ```
+    ///
+    /// # Errors
+    ///
+    /// The block is refused, and nothing changes, exactly if there would be more than `N` runs beyond
+    /// the first position that wasn't reported.
+    ///
+    /// <details><summary>Contract</summary>
+    ///
+    /// In the words of [`contracts`](crate::contracts):
+    ///
+    /// ```text
+    /// ensures none { ((p q : ℕ) → IsBlock initial self.old start end p q → ⊥) →
+    ///     result ≡ Ok false }
+    /// ensures block { (p q : ℕ) → IsBlock initial self.old start end p q →
+    ///     IfOk result (λ taken. IsTrue taken ↔ ((p < q) × (q ≤ sent))) }
+    /// ensures ok { (p q : ℕ) → IsBlock initial self.old start end p q → result ≡ Ok true →
+    ///     self.new ≡ with_range self.old p (q - p) }
+    /// ensures unchanged { (result ≡ Ok true → ⊥) → self.new ≡ self.old }
+    /// ensures refused { (p q : ℕ) → IsBlock initial self.old start end p q →
+    ///     IsErr result ↔ ((p < q) × (q ≤ sent) × HasNoRoom N self.old p (q - p)) }
+    /// ```
+    ///
+    /// </details>
+    pub fn report_block(
+        &mut self,
+        initial: SequenceNumber,
+        start: SequenceNumber,
+        end: SequenceNumber,
+        sent: u64,
+    ) -> Result<bool, TooManyHolesError> {
+        let first = self.first_unreported();
+        let Some(start) = start.position(initial, first) else {
+            return Ok(false);
+        };
+        let Some(end) = end.position(initial, first) else {
+            return Ok(false);
+        };
+        if start <= first {
+            return Ok(false);
+        }
+        self.report(start, end, sent)
     }
 
     /// Reports all positions below `next`. It is never refused.

@@ -1,5 +1,7 @@
 //! The window that a receiver announces.
 
+use crate::proved::net_tcp::arriving::{Arrival, Segment, classify};
+
 /// The greatest window scale (RFC 7323, section 2.3).
 pub const MAX_SCALE: u8 = 14;
 
@@ -49,6 +51,33 @@ impl AdvertisedWindow {
     #[must_use]
     pub const fn new(first: u64) -> Self {
         AdvertisedWindow { edge: first }
+    }
+
+    /// Returns what to do with a segment, as the function `classify` says, in the window that was announced: from
+    /// `next`, the first missing position, up to the edge, whatever is free now.
+    ///
+    /// <details><summary>Contract</summary>
+    ///
+    /// In the words of [`contracts`](crate::contracts):
+    ///
+    /// ```text
+    /// ensures take { (result ≡ Arrival.Take) ↔ (IsFalse segment.rst × IsFalse segment.syn
+    ///     × IsTrue segment.ack
+    ///     × IsAcceptable next (self.now.edge - next) segment.seq segment.len) }
+    /// ensures only { (result ≡ Arrival.AcknowledgementOnly) ↔ (IsFalse segment.rst
+    ///     × IsFalse segment.syn × IsTrue segment.ack
+    ///     × IsProbe next (self.now.edge - next) segment.seq segment.len) }
+    /// ensures answer { (result ≡ Arrival.Answer)
+    ///     ↔ IsAnswered next (self.now.edge - next) segment }
+    /// ensures reset { (result ≡ Arrival.Reset) ↔ (IsTrue segment.rst × (segment.seq ≡ next)) }
+    /// ensures ignored { (result ≡ Arrival.Ignore)
+    ///     ↔ IsIgnored next (self.now.edge - next) segment }
+    /// ```
+    ///
+    /// </details>
+    #[must_use]
+    pub fn classify(&self, next: u64, segment: Segment) -> Arrival {
+        classify(next, self.edge.saturating_sub(next), segment)
     }
 
     /// Returns the number to announce, in units of 2^`scale`, if `next` is the first missing position

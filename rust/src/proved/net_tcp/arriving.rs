@@ -2,7 +2,7 @@
 
 /// The positions and the flags of an arriving segment.
 #[repr(C)]
-#[derive(Copy, Clone, Debug)]
+#[derive(Copy, Clone, Debug, PartialEq, Eq, Hash)]
 pub struct Segment {
     /// The position of its first byte, or of its SYN.
     pub seq: u64,
@@ -14,6 +14,35 @@ pub struct Segment {
     pub ack: bool,
     /// Whether its flag RST is set.
     pub rst: bool,
+}
+
+impl Segment {
+    /// Returns the segment of so many bytes, with the flags of a TCP header: bit 0 is FIN, bit 1 SYN, bit 2
+    /// RST and bit 4 ACK, and others don't count. A SYN and a FIN have a position each.
+    ///
+    /// <details><summary>Contract</summary>
+    ///
+    /// In the words of [`contracts`](crate::contracts):
+    ///
+    /// ```text
+    /// ensures seq { result.seq ≡ seq }
+    /// ensures len { result.len ≡ min (bytes + flag_at 1 flags + flag_at 0 flags) (2 ^ 64 - 1) }
+    /// ensures syn { IsTrue result.syn ↔ (flag_at 1 flags ≡ 1) }
+    /// ensures ack { IsTrue result.ack ↔ (flag_at 4 flags ≡ 1) }
+    /// ensures rst { IsTrue result.rst ↔ (flag_at 2 flags ≡ 1) }
+    /// ```
+    ///
+    /// </details>
+    #[must_use]
+    pub const fn new(seq: u64, bytes: usize, flags: u8) -> Self {
+        Segment {
+            seq,
+            len: (bytes as u64).saturating_add((flags / 2 % 2 + flags % 2) as u64),
+            syn: flags / 2 % 2 == 1,
+            ack: flags / 16 % 2 == 1,
+            rst: flags / 4 % 2 == 1,
+        }
+    }
 }
 
 /// What to do with a segment that arrives on a connection that both ends have opened.

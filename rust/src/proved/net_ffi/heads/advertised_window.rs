@@ -4,9 +4,20 @@
 //! position `edge`.
 // Written by tools/ffi.py.
 
-use crate::proved::net_ffi::refusals::{NET_BASE_MISSING, NET_BASE_PRESENT, NET_BASE_REFUSED};
-use crate::proved::net_ffi::results::presence_of;
-use crate::proved::net_tcp::{AdvertisedWindow, MAX_SCALE};
+use crate::proved::net_ffi::refusals::{NET_BASE_ACKNOWLEDGEMENT_ONLY, NET_BASE_ANSWER, NET_BASE_IGNORE, NET_BASE_MISSING, NET_BASE_PRESENT, NET_BASE_REFUSED, NET_BASE_RESET, NET_BASE_TAKE};
+use crate::proved::net_ffi::results::{number_of, presence_of};
+use crate::proved::net_tcp::{AdvertisedWindow, MAX_SCALE, Segment};
+
+/// Returns what to do with a segment, as `net_base_tcp_classify` does, in the window that was
+/// announced: from `next`, the first missing position, up to `edge`, whatever is free now.
+#[inline(always)]
+pub fn net_base_advertised_window_classify(
+    advertised: &AdvertisedWindow,
+    next: u64,
+    segment: &Segment,
+) -> u32 {
+    number_of(advertised.classify(next, *segment))
+}
 
 /// Writes the number to announce to `number`, in units of 2^`scale`, and returns true; `next` is
 /// the first missing position, and `window_end` the end of the free room. It is the greatest that
