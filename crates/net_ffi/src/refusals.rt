@@ -2,7 +2,7 @@
 ghost use Rattle.std.specs.Prelude.{◌≡◌, ◌-◌, ◌^◌};
 ghost use Rattle.net_ffi.specs.Refusals.{nowhere};
 
-use crate::results::FrontLength;
+use crate::results::{FrontLength, SegmentSpan};
 use net_assembler::Run;
 use net_ring::Span;
 
@@ -66,6 +66,14 @@ pub(crate) const NO_RUN: Run = Run {
 pub(crate) const NO_FRONT: FrontLength = FrontLength {
     status: NET_BASE_REFUSED,
     length: 0,
+};
+
+/// The segment of a refused call.
+pub(crate) const NO_SEGMENT: SegmentSpan = SegmentSpan {
+    from: NET_BASE_NONE,
+    count: 0,
+    contiguous: 0,
+    is_last: false,
 };
 
 /// States each number of this module: callers may be compiled with it.
