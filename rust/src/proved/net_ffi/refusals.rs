@@ -1,6 +1,6 @@
 //! What a refused call returns, and the statuses of those that are done.
 
-use crate::proved::net_ffi::results::FrontLength;
+use crate::proved::net_ffi::results::{FrontLength, SegmentSpan};
 use crate::proved::net_assembler::Run;
 use crate::proved::net_ring::Span;
 
@@ -64,5 +64,13 @@ pub(crate) const NO_RUN: Run = Run {
 pub(crate) const NO_FRONT: FrontLength = FrontLength {
     status: NET_BASE_REFUSED,
     length: 0,
+};
+
+/// The segment of a refused call.
+pub(crate) const NO_SEGMENT: SegmentSpan = SegmentSpan {
+    from: NET_BASE_NONE,
+    count: 0,
+    contiguous: 0,
+    is_last: false,
 };
 
