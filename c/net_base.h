@@ -14,8 +14,8 @@
  * or slots. A head of zeros is new, but for what the comment of its kind says. Storage, runs and
  * slots need no particular values. Lengths are in elements; a length of 0 is allowed, of runs too:
  * then no run is held. A length, an index or a count is a `size_t`, a position or a time a
- * `uint64_t` or an `int64_t` on every processor. A flag is as wide as the number beside it, so that
- * heads and slots have no padding.
+ * `uint64_t` or an `int64_t` on every processor. A flag of a head or a slot is as wide as the
+ * number beside it, so that they have no padding.
  *
  * Fields of a head may be read: `length` is how many elements are queued, `used` how many runs are
  * stored. `start` and `end` of a stored run are offsets from `first_start` of the head, so the
@@ -1122,8 +1122,7 @@ bool net_base_finite_receiver_window_end(
  * number after the last byte's: it is sent and acknowledged as a byte is, and takes no room.
  *
  * A head of zeros, but for `sender.first_unacknowledged` and `sent`, which are equal then and below
- * 2^64 - 1, is new. A number is kept for the end. Where bytes are tells `net_base_sender_peek_at`
- * of `sender`.
+ * 2^64 - 1, is new. A number is kept for the end.
  */
 
 /* What a sender of a stream that ends has besides its storage: numbers. */
@@ -1136,6 +1135,18 @@ struct net_base_finite_sender {
     uint64_t finished;
     /* The number after the last one that was ever sent. */
     uint64_t sent;
+};
+
+/* Where the bytes of a segment are, and whether it ends the stream. */
+struct net_base_segment_span {
+    /* The index of the first byte; `NET_BASE_NONE` if the call was refused. */
+    size_t from;
+    /* How many bytes are queued from the segment's position on, below its limit. */
+    size_t count;
+    /* How many of these are contiguous in the storage: the bytes of the segment. */
+    size_t contiguous;
+    /* Whether the segment ends the stream. */
+    bool is_last;
 };
 
 /* Returns whether this is the head of a sender of a stream that ends over a storage of `capacity`
@@ -1187,13 +1198,28 @@ size_t net_base_finite_sender_write(
  */
 bool net_base_finite_sender_close(struct net_base_finite_sender *sender, size_t capacity);
 
-/* Returns `NET_BASE_PRESENT` if a segment whose bytes end at `position` ends the stream, since the
- * sender is closed and that is the position after the last byte. Otherwise `NET_BASE_MISSING`.
+/* Returns where the bytes of a segment from `position` on are, as `net_base_sender_peek_at` does,
+ * and whether the segment ends the stream: the sender is closed, and the bytes end where it does.
+ * Its numbers, the end's among them, are below `limit`: the end of the window is one, and
+ * `position` plus the segment size another. A segment without bytes that ends the stream is the end
+ * alone.
  *
- * It is refused if `sender` isn't that of a sender over `capacity` bytes: `NET_BASE_REFUSED`.
+ * It is refused if `sender` isn't that of a sender over `capacity` bytes: `from` is
+ * `NET_BASE_NONE`, `count` and `contiguous` are 0, `is_last` is false.
  */
-uint32_t net_base_finite_sender_has_end_at(
-    const struct net_base_finite_sender *sender, size_t capacity, uint64_t position);
+struct net_base_segment_span net_base_finite_sender_peek_at(
+    const struct net_base_finite_sender *sender, size_t capacity, uint64_t position,
+    uint64_t limit);
+
+/* Returns what `net_base_finite_sender_peek_at` does, and notes that the segment was sent: `sent`
+ * becomes the number after its last one, the end's counted, unless `sent` is above that. A segment
+ * without numbers changes nothing.
+ *
+ * It is refused if `sender` isn't that of a sender over `capacity` bytes: `from` is
+ * `NET_BASE_NONE`, `count` and `contiguous` are 0, `is_last` is false, and nothing changes.
+ */
+struct net_base_segment_span net_base_finite_sender_send_at(
+    struct net_base_finite_sender *sender, size_t capacity, uint64_t position, uint64_t limit);
 
 /* Notes that all numbers below `position` were sent, the end's among them if `position` is past it,
  * and returns true; false, and nothing changes, if `position` is above the number after the last

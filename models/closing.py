@@ -13,6 +13,9 @@ LOW = Order("closing: acknowledge, number and first one that isn't acknowledged"
 HIGH = Order("closing: acknowledge, number and mark")
 FINISHED = Test("closing: an acknowledgement is past the end")
 LAST = Test("closing: a segment ends the stream")
+LIMIT = Order("closing: position after a last byte, and limit")
+SHUT_OUT = Order("closing: position and limit")
+NOTHING = Test("closing: a segment without numbers is sent")
 ALONE = Test("closing: the end is sent alone")
 BLOCK = Order("closing: end of a block and mark")
 NO_BLOCK = Test("closing: a block has no number")
@@ -63,14 +66,29 @@ class Closing:
         self.bytes.acknowledge_up_to(min(pos, end), end)
         return truth(True)
 
-    def peek_at(self, pos, most):
-        """Bytes of a segment, and whether the stream ends after it."""
-        shown = self.bytes.peek_at(pos, most)
+    def peek_at(self, pos, limit):
+        """Bytes of a segment, and whether the stream ends after it: all its numbers are below the limit."""
+        return self.segment(pos, limit)[0]
+
+    def send_at(self, pos, limit):
+        """The same of a segment that is sent."""
+        shown, numbers = self.segment(pos, limit)
+        if not NOTHING(numbers == 0):
+            self.sent = max(self.sent, pos + numbers)
+        return shown
+
+    def segment(self, pos, limit):
+        """What it shows, and how many numbers it has."""
+        SHUT_OUT.least(pos, limit)
+        shown = self.bytes.peek_at(pos, max(0, limit - pos))
         count = int(shown.replace("#", ":").split(":")[0])
-        is_last = LAST(self.closed and pos + count == self.bytes.end)
+        ends = self.closed and pos + count == self.bytes.end
+        if ends:
+            LIMIT.least(self.bytes.end, limit)
+        is_last = LAST(ends and self.bytes.end < limit)
         if is_last:
             ALONE(count == 0)
-        return f"{shown} {truth(is_last)}"
+        return f"{shown} {truth(is_last)}", count + is_last
 
     def is_block(self, start, end):
         BLOCK.least(end, self.sent)
@@ -85,14 +103,15 @@ def position(random, closing):
     return min(TOP, max(0, random.of(near) - 1 + random.below(3)))
 
 
-CALLS = (["write"] * 4 + ["mark_sent"] * 4 + ["acknowledge"] * 4 + ["peek_at"] * 4 + ["is_block"] * 2 + ["close"])
+CALLS = (["write"] * 4 + ["mark_sent"] * 4 + ["acknowledge"] * 4 + ["peek_at"] * 2 + ["send_at"] * 2 + ["is_block"] * 2 + ["close"])
 
 
 def numbers_of(random, closing, name):
     if name == "write":
         return [random.below(closing.bytes.capacity + 2), random.below(1000)]
-    if name == "peek_at":
-        return [position(random, closing), random.below(closing.bytes.capacity + 2)]
+    if name in ("peek_at", "send_at"):
+        pos = position(random, closing)
+        return [pos, min(TOP, pos + random.below(closing.bytes.capacity + 3)) if random.one_in(2) else position(random, closing)]
     if name == "close":
         return []
     return [position(random, closing) for _ in range(2 if name == "is_block" else 1)]

@@ -575,7 +575,15 @@ CLOSINGS = [
      "acknowledge 14: 1|4 4 4 0 2; acknowledge 13: 0; acknowledge 15: 0|4 4 4 0 2"),
     # Of the last three numbers two are bytes', and the last one is kept for the end.
     (8, 2 ** 64 - 4, "write 6 1: 2|0 2 0 2 0; write 1 2: 0; close: done|0 3 0 2 1; mark_sent 18446744073709551615: 1|0 3 3 2 1; "
-     "peek_at 18446744073709551612 9: 2:"),
+     "peek_at 18446744073709551612 18446744073709551615: 2:; peek_at 18446744073709551614 18446744073709551614: 0:0 0; "
+     "peek_at 18446744073709551614 18446744073709551615: 0:0 1"),
+    # Three bytes and the end: a limit at the end of the bytes shuts the end out, and one more lets it in.
+    (4, 10, "write 3 1: 3|0 3 0 3 0; send_at 10 12: 2:; close: done|0 4 2 3 1; send_at 10 11: 1:; mark_sent 10: 1|0 4 2 3 1; "
+     "send_at 12 10: 0:0 0|0 4 2 3 1; peek_at 13 13: 0:0 0; send_at 10 13: 3:; mark_sent 10: 1|0 4 3 3 1; "
+     "peek_at 13 14: 0:0 1|0 4 3 3 1; send_at 10 14: 3:; mark_sent 10: 1|0 4 4 3 1; acknowledge 14: 1|4 4 4 0 2; "
+     "send_at 13 99: 0:0 1|4 4 4 0 2; send_at 14 99: 0:0 0|4 4 4 0 2; send_at 10 99: 0:0 0|4 4 4 0 2"),
+    # The end alone is sent; a position past all numbers is not.
+    (4, 0, "close: done|0 1 0 0 1; send_at 2 9: 0:0 0|0 1 0 0 1; send_at 0 9: 0:0 1|0 1 1 0 1"),
 ]
 # RFC 9293's table of acceptable segments; the window, the estimate and the sum of the RFCs that tcp.py names. The update
 # of a checksum is RFC 1624's example.

@@ -297,10 +297,29 @@ static void fuzz_numbers(void) {
     EXPECT(net_base_finite_sender_is_closed_and_acknowledged(sender) == (was.finished == 1));
     uint64_t start = draw_number(), end = once_in(4) ? start + below(3) - 1 : draw_number();
     EXPECT(net_base_finite_sender_is_block(sender, start, end) == (start < end && end <= was.sent));
-    uint64_t position = once_in(2) ? end_position() : draw_number();
-    is_nonsense = !right;
-    EXPECT(net_base_finite_sender_has_end_at(sender, capacity, position)
-           == answer(was.closed == 1 && position == end_position()));
+    EXPECT(sender_is_unchanged());
+}
+
+/* A segment, that is sent or only looked at. */
+static void fuzz_send_at(void) {
+    uint64_t position = draw_number(), limit = once_in(2) ? position + below(MOST_BYTES) - 1 : draw_number();
+    bool sends = once_in(2);
+    struct net_base_segment_span span = sends ? net_base_finite_sender_send_at(sender, capacity, position, limit)
+                                              : net_base_finite_sender_peek_at(sender, capacity, position, limit);
+    uint64_t first = was.sender.first_unacknowledged, count = 0;
+    if (!is_sound()) {
+        EXPECT(span.from == NET_BASE_NONE && span.count == 0 && span.contiguous == 0 && !span.is_last);
+    } else if (position < first || position > end_position() || position >= limit) {
+        EXPECT(span.count == 0 && span.contiguous == 0 && !span.is_last);
+    } else {
+        struct list list = list_of(was.sender.place, capacity);
+        struct net_base_span wanted = span_of(&list, position - first, list.queued, (size_t)least(limit - position, MOST_BYTES));
+        EXPECT(span.from == wanted.from && span.contiguous == wanted.contiguous && span.count == wanted.count);
+        bool ends = position + wanted.contiguous == end_position() && end_position() < limit;
+        EXPECT(span.is_last == (was.closed && ends));
+        count = span.contiguous + span.is_last;
+    }
+    if (sends && count > 0 && position + count > was.sent) was.sent = position + count;
     EXPECT(sender_is_unchanged());
 }
 
@@ -358,7 +377,8 @@ static void fuzz_acknowledge(void) {
 void fuzz_ending(void) {
     static void (*const of_receiver[])(void) = {fuzz_segment, fuzz_segment, fuzz_segment, fuzz_can_end, fuzz_arrived,
         fuzz_read, fuzz_remove, fuzz_window_end, fuzz_count_new, fuzz_receiver_is_sound};
-    static void (*const of_sender[])(void) = {fuzz_numbers, fuzz_write, fuzz_close, fuzz_mark_sent, fuzz_acknowledge};
+    static void (*const of_sender[])(void) = {fuzz_numbers, fuzz_write, fuzz_close, fuzz_send_at, fuzz_mark_sent,
+        fuzz_acknowledge};
     if (once_in(3)) {
         draw_sender();
         of_sender[below(sizeof of_sender / sizeof of_sender[0])]();

@@ -12,8 +12,10 @@ static void begin(const struct call *first) {
     head = (struct net_base_finite_sender){{first_position, {0, 0}}, 0, 0, first_position};
 }
 
-static struct net_base_span queued_at(uint64_t position, uint64_t most) {
-    return net_base_sender_peek_at(&head.sender, capacity, position, most);
+static void say_segment(struct net_base_segment_span span) {
+    say_bytes(storage + span.from, span.contiguous);
+    say(" ");
+    say_truth(span.is_last);
 }
 
 /* The first number that isn't acknowledged, the one after the last, and the one after the last that was sent, counted from
@@ -23,7 +25,8 @@ static void show(void) {
     uint64_t first = 0, end = 0;
     if (!net_base_finite_sender_first_number(&head, capacity, &first)) say("no number ");
     if (!net_base_finite_sender_numbers_end(&head, capacity, &end)) say("no end ");
-    struct net_base_span queue = queued_at(head.sender.first_unacknowledged, SIZE_MAX);
+    struct net_base_span queue =
+        net_base_sender_peek_at(&head.sender, capacity, head.sender.first_unacknowledged, SIZE_MAX);
     uint64_t counts[] = {first - first_position, end - first_position, head.sent - first_position, queue.count,
         net_base_finite_sender_is_closed(&head) + net_base_finite_sender_is_closed_and_acknowledged(&head)};
     for (int i = 0; i < 5; i++) {
@@ -45,11 +48,9 @@ static bool make(const struct call *call) {
     } else if (is(call, "acknowledge")) {
         say_truth(net_base_finite_sender_acknowledge(&head, capacity, one));
     } else if (is(call, "peek_at")) {
-        struct net_base_span span = queued_at(one, length_of(two));
-        say_bytes(storage + span.from, span.contiguous);
-        say(" ");
-        uint64_t end = one + span.contiguous;
-        say_truth(net_base_finite_sender_has_end_at(&head, capacity, end) == NET_BASE_PRESENT);
+        say_segment(net_base_finite_sender_peek_at(&head, capacity, one, two));
+    } else if (is(call, "send_at")) {
+        say_segment(net_base_finite_sender_send_at(&head, capacity, one, two));
     } else if (is(call, "is_block")) {
         say_truth(net_base_finite_sender_is_block(&head, one, two));
     } else {

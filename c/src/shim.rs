@@ -601,9 +601,15 @@ pub extern "C" fn net_base_finite_sender_close(sender: Option<&mut FiniteSenderH
 }
 
 #[unsafe(no_mangle)]
-pub extern "C" fn net_base_finite_sender_has_end_at(sender: Option<&FiniteSenderHead>, capacity: usize, position: u64) -> u32 {
-    let Some(sender) = sender else { return refusals::NET_BASE_REFUSED };
-    heads::finite_sender::net_base_finite_sender_has_end_at(sender, capacity, position)
+pub extern "C" fn net_base_finite_sender_peek_at(sender: Option<&FiniteSenderHead>, capacity: usize, position: u64, limit: u64) -> results::SegmentSpan {
+    let Some(sender) = sender else { return results::SegmentSpan { from: usize::MAX, count: 0, contiguous: 0, is_last: false } };
+    heads::finite_sender::net_base_finite_sender_peek_at(sender, capacity, position, limit)
+}
+
+#[unsafe(no_mangle)]
+pub extern "C" fn net_base_finite_sender_send_at(sender: Option<&mut FiniteSenderHead>, capacity: usize, position: u64, limit: u64) -> results::SegmentSpan {
+    let Some(sender) = sender else { return results::SegmentSpan { from: usize::MAX, count: 0, contiguous: 0, is_last: false } };
+    heads::finite_sender::net_base_finite_sender_send_at(sender, capacity, position, limit)
 }
 
 #[unsafe(no_mangle)]

@@ -17,15 +17,15 @@
 //! let peer = PeerWindow::new(0, 1, window.into());
 //! assert_eq!(sender.write(b"hello"), 5);
 //! sender.close();
-//! assert_eq!(peer.send_limit(sender.numbers_end()), 7); // five bytes, and the end
-//! assert!(sender.mark_sent(7));
+//! let limit = peer.send_limit(sender.numbers_end());
+//! assert_eq!((sender.send_at(1, 4), limit), ((&b"hel"[..], false), 7)); // five bytes, and the end
 //! // The segment of the last bytes, with the end, overtakes the one before it.
-//! let (bytes, is_last) = sender.peek_at(4, 9);
+//! let (bytes, is_last) = sender.send_at(4, limit);
 //! let number = SequenceNumber::at(syn, 4);
 //! assert_eq!((bytes, is_last, number.get()), (&b"lo"[..], true, 1));
 //! let pos = number.position(syn, receiver.acknowledged()).expect("a position nearby");
 //! assert!(receiver.keep(pos, bytes, is_last).is_ok() && !receiver.is_complete());
-//! let (bytes, is_last) = sender.peek_at(1, 3);
+//! let (bytes, is_last) = sender.peek_at(1, 4);
 //! assert!(receiver.keep(1, bytes, is_last).is_ok() && receiver.is_complete());
 //! // What is acknowledged is all five bytes and the end.
 //! assert!(sender.acknowledge(receiver.acknowledged()) && sender.is_closed_and_acknowledged());

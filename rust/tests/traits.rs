@@ -222,7 +222,7 @@ mod streams {
             assert_eq!(writer.write(b"de").unwrap(), 1);
         }
         assert_eq!(
-            (sender.peek_at(0, 9), finite.peek_at(1, 9)),
+            (sender.peek_at(0, 9), finite.peek_at(1, 10)),
             (&b"abcd"[..], (&b"bcd"[..], false))
         );
     }

@@ -93,6 +93,10 @@ RESULTS = {
     "usize": Result("usize", "{call}", "no_number()", "result ≡ no_number", f"`{NONE}`"),
     "Span": Result("Span", "{call}", "no_span()", "result ≡ nowhere",
                    f"`from` is `{NONE}`, `count` and `contiguous` are 0"),
+    "(Span, bool)": Result(
+        "SegmentSpan", "segment_span({call})", "no_segment()",
+        "(result.from ≡ no_number) × (result.count ≡ 0) × (result.contiguous ≡ 0) × IsFalse result.is_last",
+        f"`from` is `{NONE}`, `count` and `contiguous` are 0, `is_last` is false", ["", "is_last"]),
     "Result<(), TooManyHolesError>": Result(
         "u32", "status_of({call})", *STATUS, "(done_or_many result)", (("status", "result < 2"),)),
     "Result<(), FragmentError>": Result(
@@ -370,10 +374,10 @@ def present(name, clause, guard):
 
 
 def with_fields(clause, fields):
-    """A clause of a number or of a pair, about the fields of a struct."""
+    """A clause of a number or of a pair, about the fields of a struct; one without a name is the struct."""
     if len(fields) == 1:
         return re.sub(r"\bresult\b", f"result.{fields[0]}", clause)
-    return re.sub(r"\bresult\.([01])\b", lambda it: f"result.{fields[int(it[1])]}", clause)
+    return re.sub(r"\bresult\.([01])\b", lambda it: f"result.{fields[int(it[1])]}".rstrip("."), clause)
 
 
 def heads_of(text):
@@ -457,8 +461,8 @@ def file_of(head, exports):
 
 
 CODE = {name: module for module, names in {
-    "crate::refusals": "NET_BASE_ACKNOWLEDGEMENT_ONLY NET_BASE_ANSWER NET_BASE_IGNORE NET_BASE_RESET NET_BASE_TAKE NET_BASE_DONE NET_BASE_MISSING NET_BASE_PRESENT NET_BASE_REFUSED NO_FRONT no_number no_run no_span",
-    "crate::results": "FrontLength Hole front_length number_of presence_of run_of status_of status_of_fragment",
+    "crate::refusals": "NET_BASE_ACKNOWLEDGEMENT_ONLY NET_BASE_ANSWER NET_BASE_IGNORE NET_BASE_RESET NET_BASE_TAKE NET_BASE_DONE NET_BASE_MISSING NET_BASE_PRESENT NET_BASE_REFUSED NO_FRONT no_number no_run no_segment no_span",
+    "crate::results": "FrontLength Hole SegmentSpan front_length number_of presence_of run_of segment_span status_of status_of_fragment",
     "crate::receiver": "has_next", "crate::finite_receiver": "has_number",
     "net_assembler": "AssemblerHead Run", "net_ring": "RingHead Span", "net_base::storage": "FragmentsHead",
     "net_packets": "PacketSlot PacketsHead", "net_receiver": "FiniteReceiverHead FiniteSenderHead HeldRun ReceiverHead ScoreboardHead SenderHead",

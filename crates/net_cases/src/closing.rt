@@ -23,16 +23,18 @@ enum Kind {
     MarkSent,
     Acknowledge,
     PeekAt,
+    SendAt,
     IsBlock,
 }
 
 /// The calls.
-static CALLS: [Entry<Kind>; 6] = [
+static CALLS: [Entry<Kind>; 7] = [
     ("write", 2, Kind::Write),
     ("close", 0, Kind::Close),
     ("mark_sent", 1, Kind::MarkSent),
     ("acknowledge", 1, Kind::Acknowledge),
     ("peek_at", 2, Kind::PeekAt),
+    ("send_at", 2, Kind::SendAt),
     ("is_block", 2, Kind::IsBlock),
 ];
 
@@ -69,7 +71,8 @@ impl Subject for Closing {
             }
             Kind::MarkSent => Reply::new().truth(sender.mark_sent(one)),
             Kind::Acknowledge => Reply::new().truth(sender.acknowledge(one)),
-            Kind::PeekAt => peek_at(sender, one, two as usize),
+            Kind::PeekAt => peek_at(sender, one, two),
+            Kind::SendAt => send_at(sender, one, two),
             Kind::IsBlock => Reply::new().truth(sender.is_block(one, two)),
         };
         Ok(Some(reply))
@@ -92,15 +95,21 @@ impl Subject for Closing {
 }
 
 /// Returns a reply of the bytes of a segment, and of whether the stream ends after it.
-fn peek_at(sender: &FiniteSender<'_>, pos: u64, most: usize) -> Reply {
-    let (part, is_last) = sender.peek_at(pos, most);
+fn peek_at(sender: &FiniteSender<'_>, pos: u64, limit: u64) -> Reply {
+    let (part, is_last) = sender.peek_at(pos, limit);
+    Reply::new().bytes(part).truth(is_last)
+}
+
+/// Returns the same of a segment that is sent.
+fn send_at(sender: &mut FiniteSender<'_>, pos: u64, limit: u64) -> Reply {
+    let (part, is_last) = sender.send_at(pos, limit);
     Reply::new().bytes(part).truth(is_last)
 }
 
 /// Returns the digest of the queue.
 fn digest_of(sender: &FiniteSender<'_>) -> u64 {
     let begin = sender.first_number();
-    let (part, _) = sender.peek_at(begin, usize::MAX);
-    let (rest, _) = sender.peek_at(begin.saturating_add(part.len() as u64), usize::MAX);
+    let (part, _) = sender.peek_at(begin, u64::MAX);
+    let (rest, _) = sender.peek_at(begin.saturating_add(part.len() as u64), u64::MAX);
     mix_bytes(mix_bytes(START, part), rest)
 }

@@ -22,8 +22,8 @@ use std::alloc::{AllocError, Allocator};
 pub enum Event {
     /// As much of the text is written as there is room for, and after its last byte the end.
     Write,
-    /// The path takes a segment: at most `max` bytes from position `pos` on, as the sender lends them.
-    Send { pos: u64, max: usize },
+    /// The path takes a segment: numbers from `pos` on, below `limit`, as the sender lends them.
+    Send { pos: u64, limit: u64 },
     /// Segment number `index` that the path took arrives, perhaps not for the first time.
     Arrive { index: usize },
     /// An acknowledgement arrives: of what the receiver has by now, or of less.
@@ -90,7 +90,7 @@ pub fn happen<A: Allocator + Copy>(
 {
     match event {
         Event::Write => it.written = write_more(&mut it.sender, text, it.written),
-        Event::Send { pos, max } => send(alloc, &mut it.sender, *pos, *max, &mut it.path)?,
+        Event::Send { pos, limit } => send(alloc, &mut it.sender, *pos, *limit, &mut it.path)?,
         Event::Arrive { index } => arrive(&it.path, *index, &mut it.receiver),
         Event::Acknowledge { next } => acknowledge(*next, &it.receiver, &mut it.sender),
         Event::Read => it.read = read_more(&mut it.receiver, into, it.read),
@@ -117,7 +117,7 @@ fn send<A: Allocator + Copy>(
     alloc: A,
     sender: &mut FiniteSender<'_>,
     pos: u64,
-    max: usize,
+    limit: u64,
     path: &mut Vec<Segment<A>, A>,
 ) -> Result<(), AllocError>
     ensures sending { (text : List ℕ) (n : ℕ) → IsSending text n sender.old → IsSending text n sender.new }
@@ -127,7 +127,7 @@ fn send<A: Allocator + Copy>(
 {
     if sender.first_number() <= pos {
         path.reserve(1)?;
-        let (lent, is_last) = sender.peek_at(pos, max);
+        let (lent, is_last) = sender.peek_at(pos, limit);
         let bytes = Vec::from_slice(alloc, lent)?;
         let end = pos + bytes.len() as u64 + u64::from(is_last);
         path.push_reserved(Segment {
@@ -195,5 +195,5 @@ pub fn first_missing<'s>(sender: &'s FiniteSender<'_>, receiver: &FiniteReceiver
     ensures not_empty { (text : List ℕ) (n : ℕ) → IsSending text n sender.now →
         next_position receiver.now.receiver < n → 0 < length result.now }
 {
-    sender.peek_at(receiver.next(), usize::MAX).0
+    sender.peek_at(receiver.next(), u64::MAX).0
 }

@@ -1,8 +1,8 @@
 //! What a refused call returns, and the statuses of those that are done.
-ghost use Rattle.std.specs.Prelude.{◌≡◌};
+ghost use Rattle.std.specs.Prelude.{◌≡◌, IsFalse};
 ghost use Rattle.net_ffi.specs.Refusals.{no_number, nowhere};
 
-use crate::results::FrontLength;
+use crate::results::{FrontLength, SegmentSpan};
 use net_assembler::Run;
 use net_assembler::width::most;
 use net_ring::Span;
@@ -98,5 +98,19 @@ pub(crate) fn no_run() -> Run
     Run {
         start: no_number(),
         end: no_number(),
+    }
+}
+
+/// The segment of a refused call.
+#[inline(always)]
+pub(crate) fn no_segment() -> SegmentSpan
+    ensures span { (result.from ≡ no_number) × (result.count ≡ 0) × (result.contiguous ≡ 0) }
+    ensures end { IsFalse result.is_last }
+{
+    SegmentSpan {
+        from: no_number(),
+        count: 0,
+        contiguous: 0,
+        is_last: false,
     }
 }

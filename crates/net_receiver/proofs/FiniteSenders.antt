@@ -2,19 +2,26 @@
 use Rattle.std.proofs.Common.{◌≡◌, ℕ, ◌+◌, ◌-◌, ◌≤◌, max, min, Bool, true, false, cond, List, [], ◌∷◌, ◌++◌, length, take}
 use Rattle.std.proofs.Common.{drop, nat_eq, nat_le, refl, sym, ap, subst, ◌∙◌, arith, length-drop}
 use Rattle.std.proofs.Common.{length-append, append_assoc, append-nil}
-use Rattle.std.specs.Prelude.{◌<◌, IsTrue, IsFalse}
+use Rattle.std.specs.Prelude.{◌<◌, ◌↔◌, IsTrue, IsFalse}
 use Rattle.std.specs.Int.{from_bool}
-use Rattle.std.proofs.lemmas.Bool.{cond_both, and_parts, leb-true, eqb-true}
-use Rattle.net_receiver.specs.SenderState.{end_of, with_written, Sends}
+use Rattle.std.proofs.lemmas.Bool.{cond_both, and_parts, leb-true, eqb-true, cases_lt}
+use Rattle.std.proofs.lemmas.List.{nil_from_length}
+use Rattle.net_ring.specs.Ring.{queue}
+use Rattle.net_ring.specs.RingHead.{IsSound, ring_at}
+use Rattle.net_ring.proofs.Rotations.{length-queue}
+use Rattle.net_assembler.proofs.Positions.{either}
+use Rattle.net_receiver.specs.declared.finite_sender_head.FiniteSenderHead.{FiniteSenderHead}
+use Rattle.net_receiver.specs.SenderHeads.{sender_of}
+use Rattle.net_receiver.specs.SenderState.{contiguous_end, end_of, with_written, Sends}
 use Rattle.net_receiver.specs.OneStream.{MatchesStream, MatchesLonger}
 use Rattle.net_receiver.specs.FiniteSender.{FiniteSenderState, first_number, numbers_end, finite_room}
-use Rattle.net_receiver.specs.FiniteSender.{with_bytes, open_room, has_end_at, accepts, acknowledged_below}
+use Rattle.net_receiver.specs.FiniteSender.{finite_sender_of, with_bytes, open_room, has_end_at, accepts, acknowledged_below}
 use Rattle.net_receiver.specs.FiniteSenderLaws.{SenderCommand, Writes, Closes, Marks, Acknowledges}
 use Rattle.net_receiver.specs.FiniteSenderLaws.{written_of, sender_after_command, sender_after_commands}
 use Rattle.net_receiver.specs.FiniteSenderLaws.{bytes_written, IsSoundSent, FreshSentIsSound, SoundSentStays}
 use Rattle.net_receiver.specs.FiniteSenderLaws.{ClosedStays, LentIsOfStream}
 use Rattle.net_receiver.specs.FiniteLaws.{MatchesFinite}
-use Rattle.net_receiver.proofs.Senders.{sends_written, sends_from, lent_says}
+use Rattle.net_receiver.proofs.Senders.{sends_written, sends_from, lent_says, lent_within}
 use Rattle.net_receiver.proofs.OneStream.{longer_at}
 use Rattle.net_receiver.proofs.Called.{matches_what_is_there}
 
@@ -147,17 +154,61 @@ closed_stays s (c ∷ cs) f w sound sends =
     )
 
 -- ---- what is lent
--- no number above the last is lent
-pub lent_numbers : (s : FiniteSenderState) (pos n : ℕ) (last : Bool) → pos + n ≤ max pos (end_of s.sender) →
-    (IsTrue last → (s.closed ≡ 1) × (pos + n ≡ end_of s.sender)) → pos ≤ numbers_end s → pos + n + from_bool last ≤ numbers_end s
-lent_numbers s pos n false within ends low = omega (arith, within)
-lent_numbers s pos n true within ends low = (let at = ends refl in omega (arith, at.0, at.1))
+-- a segment from pos on, of numbers below limit
+pub record IsLent (s : FiniteSenderState) (pos limit : ℕ) (xs : List ℕ) (last : Bool) : Type 0 where
+  pub value : xs ≡ take (length xs) (drop (pos - s.sender.first_unacknowledged) s.sender.queue)
+  pub count : s.sender.first_unacknowledged ≤ pos → length xs ≡ min (limit - pos) (contiguous_end s.sender pos - pos)
+  pub before : pos < s.sender.first_unacknowledged → xs ≡ []
+  pub end : IsTrue last ↔ ((s.closed ≡ 1) × (pos + length xs ≡ end_of s.sender) × (pos + length xs < limit))
+  pub says : (f : ℕ) (w : List ℕ) → Sends f w s.sender → s.sender.first_unacknowledged ≤ pos → MatchesFinite f w pos xs last
 
--- and nothing from there on
-pub lent_beyond : (s : FiniteSenderState) (pos n : ℕ) (last : Bool) → pos + n ≤ max pos (end_of s.sender) →
-    (IsTrue last → (s.closed ≡ 1) × (pos + n ≡ end_of s.sender)) → numbers_end s < pos → (n ≡ 0) × IsFalse last
-lent_beyond s pos n false within ends above = (omega (arith, within), refl)
-lent_beyond s pos n true within ends above = (let at = ends refl in absurd (omega (arith, at.0, at.1)))
+-- it is one if the head says so of the storage
+pub lent_of : (h : FiniteSenderHead) (storage : List ℕ) (v : FiniteSenderState) (pos limit from n : ℕ) (last : Bool) (now : List ℕ) →
+    finite_sender_of h storage ≡ v → IsSound (length storage) h.sender.place → length now ≡ n → now ≡ take n (drop from storage) →
+    take n (drop from storage) ≡ take n (drop (pos - h.sender.first_unacknowledged) (queue (ring_at storage h.sender.place))) →
+    (h.sender.first_unacknowledged ≤ pos → n ≡ min (limit - pos) (contiguous_end (sender_of h.sender storage) pos - pos)) →
+    (pos < h.sender.first_unacknowledged → n ≡ 0) →
+    (IsTrue last ↔ ((h.closed ≡ 1) × (pos + n ≡ h.sender.first_unacknowledged + h.sender.place.length) × (pos + n < limit))) →
+    (h.sender.first_unacknowledged ≤ pos → (f : ℕ) (w : List ℕ) → Sends f w (sender_of h.sender storage) →
+    MatchesFinite f w pos (take n (drop from storage)) last) → IsLent v pos limit now last
+lent_of h storage v pos limit from n last now is place long shown bytes count before end says =
+    let queued = length-queue (ring_at storage h.sender.place) place in
+    subst (λ o. IsLent o pos limit now last) is (record {
+      value = shown ∙ bytes ∙ ap (λ k. take k (drop (pos - h.sender.first_unacknowledged) (queue (ring_at storage h.sender.place)))) (sym long);
+      count = λ low. long ∙ count low;
+      before = λ below. nil_from_length now (long ∙ before below);
+      end = (
+        λ on. (let at = end.0 on in (at.0, omega (arith, at.1, long, queued), omega (arith, at.2, long))),
+        λ at. end.1 (at.0, omega (arith, at.1, long, queued), omega (arith, at.2, long)),
+      );
+      says = λ f w s low. subst (λ ys. MatchesFinite f w pos ys last) (sym shown) (says low f w s);
+    })
+
+module _ (s : FiniteSenderState) (pos limit : ℕ) (xs : List ℕ) where
+  -- no byte above the limit is lent, or above the last one
+  lent_below : (last : Bool) → IsLent s pos limit xs last → pos + length xs ≤ max pos (min limit (end_of s.sender))
+  lent_below last lent =
+      let none = λ (low : pos < s.sender.first_unacknowledged). ap length (lent.before low) in
+      let written = lent_within s.sender pos (limit - pos) (length xs) lent.count none in
+      let limited : pos + length xs ≤ max pos limit = either (cases_lt pos s.sender.first_unacknowledged) (λ low. omega (arith, none low)) (λ high. omega (arith, lent.count high)) in
+      omega (arith, written, limited)
+
+  -- nor is the end
+  pub lent_room : (last : Bool) → IsLent s pos limit xs last → pos ≤ limit → pos + length xs + from_bool last ≤ limit
+  lent_room false lent low = omega (arith, lent_below false lent)
+  lent_room true lent low = (let at = lent.end.0 refl in omega (arith, at.2))
+
+  pub lent_none : (last : Bool) → IsLent s pos limit xs last → limit ≤ pos → (xs ≡ []) × IsFalse last
+  lent_none false lent above = (nil_from_length xs (omega (arith, lent_below false lent)), refl)
+  lent_none true lent above = (let at = lent.end.0 refl in absurd (omega (arith, at.2)))
+
+  pub lent_numbers : (last : Bool) → IsLent s pos limit xs last → pos ≤ numbers_end s → pos + length xs + from_bool last ≤ numbers_end s
+  lent_numbers false lent low = omega (arith, lent_below false lent)
+  lent_numbers true lent low = (let at = lent.end.0 refl in omega (arith, at.0, at.1))
+
+  pub lent_beyond : (last : Bool) → IsLent s pos limit xs last → numbers_end s < pos → (xs ≡ []) × IsFalse last
+  lent_beyond false lent above = (nil_from_length xs (omega (arith, lent_below false lent)), refl)
+  lent_beyond true lent above = (let at = lent.end.0 refl in absurd (omega (arith, at.0, at.1)))
 
 -- a segment of what was written is one of what is written in all: only the last one ends it
 pub matches_later : MatchesLonger → (f : ℕ) (w more : List ℕ) (pos : ℕ) (xs : List ℕ) (last : Bool) → (IsTrue last → more ≡ []) →
@@ -166,6 +217,13 @@ matches_later says f w more pos xs last none m = record {
   bytes = says f pos w more xs m.bytes;
   end = λ on. m.end on ∙ ap (λ l. f + length l) (sym (ap (λ l. w ++ l) (none on) ∙ append-nil w));
 }
+
+-- so what is lent is a segment of what is written in all
+pub lent_later : MatchesLonger → (s : FiniteSenderState) (pos limit : ℕ) (xs : List ℕ) (last : Bool) → IsLent s pos limit xs last →
+    (f : ℕ) (w more : List ℕ) → Sends f w s.sender → s.sender.first_unacknowledged ≤ pos → (s.closed ≡ 1 → more ≡ []) →
+    MatchesFinite f (w ++ more) pos xs last
+lent_later longer s pos limit xs last lent f w more sends from ended =
+    matches_later longer f w more pos xs last (λ on. ended (lent.end.0 on).0) (lent.says f w sends from)
 
 longer : MatchesLonger
 unfolding MatchesStream

@@ -6,9 +6,11 @@
 --     closed_sender s      the sender once it was closed
 --     has_end_at s pos      a segment that ends at pos ends the stream
 --     accepts s n, acknowledged_below s n      an acknowledgement of all numbers below n
+--     sent_after m pos n      the number after the last one that was sent, once n numbers from pos on were sent
 --     finite_sender_of h xs      what is stored
+--     head_after_sending h pos n      the head once n numbers from pos on were sent
 --     IsSoundFiniteSender c h      the head is that of a sender whose storage has c bytes
-use Rattle.std.specs.Prelude.{◌≡◌, ℕ, ◌+◌, ◌-◌, ◌<◌, ◌≤◌, ◌&&◌, min, Bool, if◌then◌else◌, List, []}
+use Rattle.std.specs.Prelude.{◌≡◌, ℕ, ◌+◌, ◌-◌, ◌<◌, ◌≤◌, ◌&&◌, min, max, Bool, if◌then◌else◌, List, []}
 use Rattle.std.specs.Prelude.{nat_eq, nat_le}
 use Rattle.net_receiver.specs.SenderState.{SenderState, sender_state, end_of, room_of, with_written, sender_from}
 use Rattle.net_receiver.specs.SenderHeads.{sender_of, IsSoundHead}
@@ -73,10 +75,18 @@ acknowledged_below s n = record {
   sent = s.sent;
 }
 
+-- n numbers from pos on were sent, after those below m
+abbrev pub sent_after : ℕ → ℕ → ℕ → ℕ
+sent_after m pos n = if nat_eq n 0 then m else max m (pos + n)
+
 -- ---- in parts
 abbrev pub finite_sender_of : FiniteSenderHead → List ℕ → FiniteSenderState
 finite_sender_of h xs =
     record { sender = sender_of h.sender xs; closed = h.closed; finished = h.finished; sent = h.sent }
+
+-- n numbers from pos on were sent
+abbrev pub head_after_sending : FiniteSenderHead → ℕ → ℕ → FiniteSenderHead
+head_after_sending h pos n = record h { sent = sent_after h.sent pos n }
 
 -- the sender is sound; an end is acknowledged only after all bytes; what was sent is between what is
 -- acknowledged and what there is; and the end has a number, also before the sender is closed

@@ -2,13 +2,14 @@
 ghost use Rattle.std.specs.Prelude.{◌≡◌, ◌↔◌, ◌+◌, ◌-◌, ◌<◌, ◌≤◌, ◌==◌, ◌++◌, ℕ, List, []};
 ghost use Rattle.std.specs.Prelude.{length, take, drop, min, max, IsTrue, IsFalse};
 ghost use Rattle.std.specs.Int.{from_bool};
+ghost use Rattle.std.specs.Borrow.{sem};
 ghost use Rattle.net_receiver.specs.SenderState.{contiguous_end, end_of, Sends};
 ghost use Rattle.net_receiver.specs.Finite.{no_end};
 ghost use Rattle.net_receiver.specs.FiniteLaws.{MatchesFinite};
 ghost use Rattle.net_receiver.specs.FiniteSender.{finite_sender_of, IsSoundFiniteSender};
 ghost use Rattle.net_receiver.specs.FiniteSender.{fresh_finite_sender, first_number, numbers_end};
 ghost use Rattle.net_receiver.specs.FiniteSender.{finite_room, with_bytes, closed_sender};
-ghost use Rattle.net_receiver.specs.FiniteSender.{acknowledged_below};
+ghost use Rattle.net_receiver.specs.FiniteSender.{acknowledged_below, sent_after};
 
 use crate::finite_sender_head::FiniteSenderHead;
 use crate::laws;
@@ -57,6 +58,8 @@ impl<S: Storage<u8> + Drop> Drop for FiniteSenderOver<S> {
 }
 
 impl<S: Storage<u8>> FiniteSenderOver<S> {
+    ghost use Rattle.net_receiver.specs.SenderLends.{ends_as};
+
     /// Returns a sender of a stream that begins at position 0: `over_at` with 0.
     pub const fn over(storage: S) -> Self
         ensures state { result ≡ fresh_finite_sender (length (S.elements storage)) 0 }
@@ -201,21 +204,27 @@ impl<S: Storage<u8>> FiniteSenderOver<S> {
         self.head.close(self.storage.count());
     }
 
-    /// Lends the bytes of a segment from `pos` on, at most `max`, as `Sender::peek_at` does, and returns
-    /// whether the segment ends the stream (TCP's FIN): the sender is closed, and the bytes end where it
-    /// does. A segment without bytes that ends the stream is the end alone.
+    /// Lends the bytes of a segment from `pos` on, as `Sender::peek_at` does, and returns whether the
+    /// segment ends the stream (TCP's FIN): the sender is closed, and the bytes end where it does. A
+    /// segment without bytes that ends the stream is the end alone.
+    ///
+    /// All its numbers, the end's among them, are below `limit`: the end of the window is one, as
+    /// `PeerWindow::send_limit` gives it, and `(pos + mss).min(send_limit)` keeps a segment size too.
     ///
     /// Clause `later` says that the segment is one of the stream whatever is written later.
-    pub fn peek_at(&self, pos: u64, max: usize) -> (&[u8], bool)
+    pub fn peek_at(&self, pos: u64, limit: u64) -> (&[u8], bool)
         ensures value { result.0.now ≡ take (length result.0.now)
             (drop (pos - self.now.sender.first_unacknowledged) self.now.sender.queue) }
-        ensures count { self.now.sender.first_unacknowledged ≤ pos
-            → length result.0.now ≡ min max (contiguous_end self.now.sender pos - pos) }
+        ensures count { self.now.sender.first_unacknowledged ≤ pos → length result.0.now
+            ≡ min (limit - pos) (contiguous_end self.now.sender pos - pos) }
         ensures some { self.now.sender.first_unacknowledged ≤ pos → pos < end_of self.now.sender →
-            0 < max → 0 < length result.0.now }
+            pos < limit → 0 < length result.0.now }
         ensures before { pos < self.now.sender.first_unacknowledged → result.0.now ≡ [] }
         ensures end { IsTrue result.1 ↔ ((self.now.closed ≡ 1)
-            × (pos + length result.0.now ≡ end_of self.now.sender)) }
+            × (pos + length result.0.now ≡ end_of self.now.sender)
+            × (pos + length result.0.now < limit)) }
+        ensures room { pos ≤ limit → pos + length result.0.now + from_bool result.1 ≤ limit }
+        ensures none { limit ≤ pos → (result.0.now ≡ []) × IsFalse result.1 }
         ensures numbers { pos ≤ numbers_end self.now →
             pos + length result.0.now + from_bool result.1 ≤ numbers_end self.now }
         ensures beyond { numbers_end self.now < pos → (result.0.now ≡ []) × IsFalse result.1 }
@@ -229,7 +238,43 @@ impl<S: Storage<u8>> FiniteSenderOver<S> {
             MatchesFinite f (w ++ more) pos result.0.now result.1 }
     {
         laws::matches_stream();
-        let lent = self.head.peek_at(self.storage.count(), pos, max);
+        let lent = self.head.peek_at(self.storage.count(), pos, limit);
+        let from = lent.0.from;
+        (self.storage.part(from, from + lent.0.contiguous), lent.1)
+    }
+
+    /// Lends and returns what `peek_at` does, and notes that the segment was sent: `sent` becomes the
+    /// number after its last one, the end's counted, unless `sent` is above that. A segment without
+    /// numbers changes nothing.
+    ///
+    /// ```
+    /// # use net_base::finite::FiniteSender;
+    /// # let mut storage = [0u8; 8];
+    /// # let mut sender = FiniteSender::new_at(&mut storage[..], 100);
+    /// assert_eq!(sender.write(b"hello"), 5);
+    /// sender.close();
+    /// assert_eq!(sender.send_at(100, 105), (&b"hello"[..], false)); // the end's number is 105
+    /// assert_eq!(sender.send_at(105, 106), (&b""[..], true));
+    /// assert_eq!(sender.sent(), 106);
+    /// ```
+    pub fn send_at(&mut self, pos: u64, limit: u64) -> (&[u8], bool)
+        ensures* marks { sem 𝓛 (ends_as S.row S.Storage self.entry (record self.old {
+          sent = sent_after self.old.sent pos (length result.0.now + from_bool result.1);
+        })) }
+        ensures value { result.0.now ≡ take (length result.0.now)
+            (drop (pos - self.old.sender.first_unacknowledged) self.old.sender.queue) }
+        ensures count { self.old.sender.first_unacknowledged ≤ pos → length result.0.now
+            ≡ min (limit - pos) (contiguous_end self.old.sender pos - pos) }
+        ensures before { pos < self.old.sender.first_unacknowledged → result.0.now ≡ [] }
+        ensures end { IsTrue result.1 ↔ ((self.old.closed ≡ 1)
+            × (pos + length result.0.now ≡ end_of self.old.sender)
+            × (pos + length result.0.now < limit)) }
+        ensures later { (f : ℕ) (w more : List ℕ) → Sends f w self.old.sender →
+            self.old.sender.first_unacknowledged ≤ pos → (self.old.closed ≡ 1 → more ≡ []) →
+            MatchesFinite f (w ++ more) pos result.0.now result.1 }
+    {
+        laws::matches_stream();
+        let lent = self.head.send_at(self.storage.count(), pos, limit);
         let from = lent.0.from;
         (self.storage.part(from, from + lent.0.contiguous), lent.1)
     }

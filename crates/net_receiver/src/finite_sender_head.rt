@@ -1,6 +1,7 @@
 //! A sender of a stream that ends, in parts.
 ghost use Rattle.std.specs.Prelude.{◌≡◌, ◌↔◌, ◌+◌, ◌-◌, ◌<◌, ◌≤◌, ◌==◌, ◌++◌, ℕ, List};
 ghost use Rattle.std.specs.Prelude.{length, take, drop, min, max, IsTrue, IsFalse};
+ghost use Rattle.std.specs.Int.{from_bool};
 ghost use Rattle.net_ring.specs.Ring.{queue, rewind_if_empty, with_elements_wrapping, with_enqueued, write_at};
 ghost use Rattle.net_ring.specs.RingHead.{ring_at, queued_index};
 ghost use Rattle.net_receiver.specs.SenderState.{contiguous_end, Sends};
@@ -9,8 +10,8 @@ ghost use Rattle.net_receiver.specs.Finite.{no_end};
 ghost use Rattle.net_receiver.specs.NewHeads.{finite_sender_head};
 ghost use Rattle.net_receiver.specs.FiniteSender.{finite_sender_of, IsSoundFiniteSender};
 ghost use Rattle.net_receiver.specs.FiniteSender.{fresh_finite_sender};
-ghost use Rattle.net_receiver.specs.FiniteSender.{finite_room, with_bytes, closed_sender, has_end_at};
-ghost use Rattle.net_receiver.specs.FiniteSender.{acknowledged_below};
+ghost use Rattle.net_receiver.specs.FiniteSender.{finite_room, with_bytes, closed_sender};
+ghost use Rattle.net_receiver.specs.FiniteSender.{acknowledged_below, head_after_sending};
 
 use crate::sender_head::SenderHead;
 use net_ring::Span;
@@ -147,36 +148,33 @@ impl FiniteSenderHead {
         self.closed = 1;
     }
 
-    /// Returns whether a segment whose bytes end at `pos` ends the stream: the sender is closed, and
-    /// `pos` is the position after the last byte.
+    /// Returns where the bytes of a segment from `pos` on are, as `SenderHead::peek_at` does, and
+    /// whether the segment ends the stream. Its numbers, the end's among them, are below `limit`. A
+    /// segment at `pos` without bytes that ends the stream is the end alone.
     #[inline]
-    pub fn has_end_at(&self, _capacity: usize, pos: u64) -> bool
-        requires { IsSoundFiniteSender _capacity self.now }
-        ensures state { (storage : List ℕ) → length storage ≡ _capacity →
-            result ≡ has_end_at (finite_sender_of self.now storage) pos }
-    {
-        self.closed == 1 && pos == self.sender.end()
-    }
-
-    /// Returns where the bytes of a segment from `pos` on are, at most `max`, as
-    /// `SenderHead::peek_at` does, and whether the segment ends the stream. A segment at `pos` without
-    /// bytes that ends it is the end alone.
-    #[inline]
-    pub fn peek_at(&self, capacity: usize, pos: u64, max: usize) -> (Span, bool)
+    pub fn peek_at(&self, capacity: usize, pos: u64, limit: u64) -> (Span, bool)
         requires { IsSoundFiniteSender capacity self.now }
         ensures within { result.0.from + result.0.contiguous ≤ capacity }
         ensures count { (storage : List ℕ) → length storage ≡ capacity →
-            self.now.sender.first_unacknowledged ≤ pos → result.0.contiguous ≡ min max
+            self.now.sender.first_unacknowledged ≤ pos → result.0.contiguous ≡ min (limit - pos)
             (contiguous_end (finite_sender_of self.now storage).sender pos - pos) }
         ensures before { pos < self.now.sender.first_unacknowledged →
             (result.0.contiguous ≡ 0) × (result.0.from ≡ 0) × (result.0.count ≡ 0) }
         ensures from { self.now.sender.first_unacknowledged ≤ pos →
             result.0.from ≡ queued_index capacity self.now.sender.place
             (pos - self.now.sender.first_unacknowledged) }
-        ensures whole { self.now.sender.first_unacknowledged ≤ pos → result.0.count ≡ min max
+        ensures whole { self.now.sender.first_unacknowledged ≤ pos →
+            result.0.count ≡ min (limit - pos)
             (self.now.sender.place.length - (pos - self.now.sender.first_unacknowledged)) }
         ensures end { IsTrue result.1 ↔ ((self.now.closed ≡ 1) × (pos + result.0.contiguous
-            ≡ self.now.sender.first_unacknowledged + self.now.sender.place.length)) }
+            ≡ self.now.sender.first_unacknowledged + self.now.sender.place.length)
+            × (pos + result.0.contiguous < limit)) }
+        ensures room { pos ≤ limit → pos + result.0.contiguous + from_bool result.1 ≤ limit }
+        ensures none { limit ≤ pos → (result.0.contiguous ≡ 0) × IsFalse result.1 }
+        ensures numbers { 0 < result.0.contiguous + from_bool result.1 →
+            pos + (result.0.contiguous + from_bool result.1)
+            ≤ self.now.sender.first_unacknowledged + self.now.sender.place.length
+            + self.now.closed }
         ensures fits { pos ≤ self.now.sender.first_unacknowledged + self.now.sender.place.length →
             pos + result.0.contiguous < no_end }
         ensures bytes { (storage : List ℕ) → length storage ≡ capacity →
@@ -189,20 +187,65 @@ impl FiniteSenderHead {
             MatchesFinite f w pos (take result.0.contiguous (drop result.0.from storage))
             result.1 }
     {
-        let span = self.sender.peek_at(capacity, pos, max);
-        let is_last = self.ends_after(capacity, pos, span.contiguous);
+        let room = limit
+            .saturating_sub(pos)
+            .min(self.sender.place.length as u64) as usize;
+        let span = self.sender.peek_at(capacity, pos, room);
+        let is_last = self.ends_below(capacity, pos + span.contiguous as u64, limit);
         (span, is_last)
     }
 
-    /// Returns whether `len` bytes at `pos` end the stream.
+    /// Returns whether a segment whose bytes end at `pos` ends the stream, with an end below `limit`.
     #[inline]
-    fn ends_after(&self, _capacity: usize, pos: u64, len: usize) -> bool
+    fn ends_below(&self, _capacity: usize, pos: u64, limit: u64) -> bool
         requires { IsSoundFiniteSender _capacity self.now }
-        ensures { IsTrue result ↔ ((self.now.closed ≡ 1) × (pos + len
-            ≡ self.now.sender.first_unacknowledged + self.now.sender.place.length)) }
+        ensures { IsTrue result ↔ ((self.now.closed ≡ 1) × (pos
+            ≡ self.now.sender.first_unacknowledged + self.now.sender.place.length)
+            × (pos < limit)) }
     {
-        let end = self.sender.end();
-        self.closed == 1 && pos <= end && end - pos == len as u64
+        self.closed == 1 && pos == self.sender.end() && pos < limit
+    }
+
+    /// Returns what `peek_at` does, and notes that the segment was sent: `sent` is the number after
+    /// its last one, the end's counted, unless that is below. It changes nothing if the segment has
+    /// no number.
+    #[inline]
+    pub fn send_at(&mut self, capacity: usize, pos: u64, limit: u64) -> (Span, bool)
+        requires { IsSoundFiniteSender capacity self.old }
+        ensures sound { IsSoundFiniteSender capacity self.new }
+        ensures mark { self.new ≡ head_after_sending self.old pos
+            (result.0.contiguous + from_bool result.1) }
+        ensures within { result.0.from + result.0.contiguous ≤ capacity }
+        ensures count { (storage : List ℕ) → length storage ≡ capacity →
+            self.old.sender.first_unacknowledged ≤ pos → result.0.contiguous ≡ min (limit - pos)
+            (contiguous_end (finite_sender_of self.old storage).sender pos - pos) }
+        ensures before { pos < self.old.sender.first_unacknowledged →
+            (result.0.contiguous ≡ 0) × (result.0.from ≡ 0) × (result.0.count ≡ 0) }
+        ensures from { self.old.sender.first_unacknowledged ≤ pos →
+            result.0.from ≡ queued_index capacity self.old.sender.place
+            (pos - self.old.sender.first_unacknowledged) }
+        ensures whole { self.old.sender.first_unacknowledged ≤ pos →
+            result.0.count ≡ min (limit - pos)
+            (self.old.sender.place.length - (pos - self.old.sender.first_unacknowledged)) }
+        ensures end { IsTrue result.1 ↔ ((self.old.closed ≡ 1) × (pos + result.0.contiguous
+            ≡ self.old.sender.first_unacknowledged + self.old.sender.place.length)
+            × (pos + result.0.contiguous < limit)) }
+        ensures bytes { (storage : List ℕ) → length storage ≡ capacity →
+            take result.0.contiguous (drop result.0.from storage)
+            ≡ take result.0.contiguous (drop (pos - self.old.sender.first_unacknowledged)
+            (queue (ring_at storage self.old.sender.place))) }
+        ensures says { (storage : List ℕ) → length storage ≡ capacity →
+            self.old.sender.first_unacknowledged ≤ pos → (f : ℕ) (w : List ℕ) →
+            Sends f w (finite_sender_of self.old storage).sender →
+            MatchesFinite f w pos (take result.0.contiguous (drop result.0.from storage))
+            result.1 }
+    {
+        let (span, is_last) = self.peek_at(capacity, pos, limit);
+        let count = span.contiguous as u64 + u64::from(is_last);
+        if count > 0 {
+            self.sent = self.sent.max(pos + count);
+        }
+        (span, is_last)
     }
 
     /// Notes that all numbers below `pos` were sent, the end's among them if `pos` is past it.

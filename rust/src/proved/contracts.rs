@@ -868,6 +868,10 @@
 //!   sent = s.sent;
 //! }
 //!
+//! -- n numbers from pos on were sent, after those below m
+//! abbrev pub sent_after : ℕ → ℕ → ℕ → ℕ
+//! sent_after m pos n = if nat_eq n 0 then m else max m (pos + n)
+//!
 //! abbrev pub finite_sender_of : FiniteSenderHead → List ℕ → FiniteSenderState
 //! finite_sender_of h xs =
 //!     record { sender = sender_of h.sender xs; closed = h.closed; finished = h.finished; sent = h.sent }
@@ -1219,6 +1223,14 @@
 //! pub record IsSoundHead (capacity : ℕ) (h : SenderHead) : Type 0 where
 //!   pub place : IsSound capacity h.place
 //!   pub fits : h.first_unacknowledged + h.place.length < 2 ^ 64
+//! ```
+//!
+//! # net_receiver, SenderLends
+//!
+//! ```text
+//! -- it is `after`
+//! abbrev pub ends_as : (S : RattleType) (g : Ghosts S.Denot ℕ) → MutBor FiniteSenderState → FiniteSenderState → Fml
+//! ends_as S g s after = follows_so (the_row S g) (the_row S g) s.ghost_name none (λ _ _. ⊤) (λ n. n ≡ after)
 //! ```
 //!
 //! # net_receiver, SenderState

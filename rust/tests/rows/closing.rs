@@ -38,7 +38,11 @@ impl<S: Storage<u8>> Subject for Closing<S> {
             "mark_sent" => truth(sender.mark_sent(one)).to_string(),
             "acknowledge" => truth(sender.acknowledge(one)).to_string(),
             "peek_at" => {
-                let (part, is_last) = sender.peek_at(one, call.size(1));
+                let (part, is_last) = sender.peek_at(one, call.at(1));
+                format!("{} {}", bytes(part), truth(is_last))
+            }
+            "send_at" => {
+                let (part, is_last) = sender.send_at(one, call.at(1));
                 format!("{} {}", bytes(part), truth(is_last))
             }
             "is_block" => truth(sender.is_block(one, call.at(1))).to_string(),
@@ -56,8 +60,8 @@ impl<S: Storage<u8>> Subject for Closing<S> {
     fn show(&mut self) -> String {
         let sender = &self.sender;
         let begin = sender.first_number();
-        let (part, _) = sender.peek_at(begin, usize::MAX);
-        let (rest, _) = sender.peek_at(begin.saturating_add(part.len() as u64), usize::MAX);
+        let (part, _) = sender.peek_at(begin, u64::MAX);
+        let (rest, _) = sender.peek_at(begin.saturating_add(part.len() as u64), u64::MAX);
         format!(
             "{} {} {} {} {} {}",
             begin - self.first,

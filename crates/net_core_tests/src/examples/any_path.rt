@@ -6,8 +6,8 @@ use std::alloc::{AllocError, Global};
 /// Segments arrive out of order, twice, and once more after they were acknowledged.
 static ALL_ARRIVE: [Event; 17] = [
     Event::Write,
-    Event::Send { pos: 0, max: 2 },
-    Event::Send { pos: 2, max: 9 },
+    Event::Send { pos: 0, limit: 2 },
+    Event::Send { pos: 2, limit: 11 },
     Event::Arrive { index: 1 },
     Event::Arrive { index: 0 },
     Event::Arrive { index: 0 },
@@ -15,8 +15,8 @@ static ALL_ARRIVE: [Event; 17] = [
     Event::Write,
     Event::Arrive { index: 1 },
     Event::Read,
-    Event::Send { pos: 3, max: 1 },
-    Event::Send { pos: 4, max: 9 },
+    Event::Send { pos: 3, limit: 4 },
+    Event::Send { pos: 4, limit: 13 },
     Event::Arrive { index: 3 },
     Event::Read,
     Event::Arrive { index: 2 },
@@ -27,11 +27,11 @@ static ALL_ARRIVE: [Event; 17] = [
 /// The byte at 3 never arrives.
 static ONE_IS_LOST: [Event; 8] = [
     Event::Write,
-    Event::Send { pos: 0, max: 3 },
+    Event::Send { pos: 0, limit: 3 },
     Event::Arrive { index: 0 },
     Event::Acknowledge { next: 3 },
     Event::Write,
-    Event::Send { pos: 4, max: 9 },
+    Event::Send { pos: 4, limit: 13 },
     Event::Arrive { index: 1 },
     Event::Read,
 ];

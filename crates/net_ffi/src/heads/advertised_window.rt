@@ -7,7 +7,10 @@ ghost use Rattle.net_tcp.specs.Acceptability.{IsAcceptable, IsAnswered, IsIgnore
 ghost use Rattle.net_tcp.specs.AdvertisedWindow.{announced, field_for, gain, worth};
 ghost use Rattle.std.specs.Prelude.{IsFalse, IsTrue, max, min, ℕ, ◌+◌, ◌-◌, ◌<◌, ◌^◌, ◌↔◌, ◌≡◌, ◌≤◌, ◌⊎◌};
 
-use crate::refusals::{NET_BASE_ACKNOWLEDGEMENT_ONLY, NET_BASE_ANSWER, NET_BASE_IGNORE, NET_BASE_MISSING, NET_BASE_PRESENT, NET_BASE_REFUSED, NET_BASE_RESET, NET_BASE_TAKE};
+use crate::refusals::{
+    NET_BASE_ACKNOWLEDGEMENT_ONLY, NET_BASE_ANSWER, NET_BASE_IGNORE, NET_BASE_MISSING,
+    NET_BASE_PRESENT, NET_BASE_REFUSED, NET_BASE_RESET, NET_BASE_TAKE,
+};
 use crate::results::{number_of, presence_of};
 use net_tcp::{AdvertisedWindow, MAX_SCALE, Segment};
 

@@ -2,20 +2,22 @@
 //! number after the last byte's: it is sent and acknowledged as a byte is, and takes no room.
 //!
 //! A head of zeros, but for `sender.first_unacknowledged` and `sent`, which are equal then and
-//! below 2^64 - 1, is new. A number is kept for the end. Where bytes are tells
-//! `net_base_sender_peek_at` of `sender`.
+//! below 2^64 - 1, is new. A number is kept for the end.
 // Written by tools/ffi.py.
 ghost use Rattle.net_ffi.specs.Refusals.{no_number};
+ghost use Rattle.net_receiver.specs.Finite.{no_end};
+ghost use Rattle.net_receiver.specs.FiniteLaws.{MatchesFinite};
 ghost use Rattle.net_receiver.specs.FiniteSender.{IsSoundFiniteSender, acknowledged_below, closed_sender};
-ghost use Rattle.net_receiver.specs.FiniteSender.{finite_room, finite_sender_of, has_end_at, with_bytes};
-ghost use Rattle.net_receiver.specs.SenderState.{Sends};
-ghost use Rattle.net_ring.specs.Ring.{rewind_if_empty, with_elements_wrapping, with_enqueued, write_at};
-ghost use Rattle.net_ring.specs.RingHead.{ring_at};
-ghost use Rattle.std.specs.Prelude.{IsFalse, IsTrue, List, if◌then◌else◌, length, max, min, take, ℕ, ◌++◌, ◌+◌};
-ghost use Rattle.std.specs.Prelude.{◌<◌, ◌==◌, ◌↔◌, ◌≡◌, ◌≢◌, ◌≤◌};
+ghost use Rattle.net_receiver.specs.FiniteSender.{finite_room, finite_sender_of, head_after_sending, with_bytes};
+ghost use Rattle.net_receiver.specs.SenderState.{Sends, contiguous_end};
+ghost use Rattle.net_ring.specs.Ring.{queue, rewind_if_empty, with_elements_wrapping, with_enqueued, write_at};
+ghost use Rattle.net_ring.specs.RingHead.{queued_index, ring_at};
+ghost use Rattle.std.specs.Int.{from_bool};
+ghost use Rattle.std.specs.Prelude.{IsFalse, IsTrue, List, drop, length, max, min, take, ℕ, ◌++◌, ◌+◌, ◌-◌, ◌<◌};
+ghost use Rattle.std.specs.Prelude.{◌==◌, ◌↔◌, ◌≡◌, ◌≢◌, ◌≤◌};
 
-use crate::refusals::{NET_BASE_MISSING, NET_BASE_PRESENT, NET_BASE_REFUSED, no_number};
-use crate::results::presence_of;
+use crate::refusals::{no_number, no_segment};
+use crate::results::{SegmentSpan, segment_span};
 use net_receiver::FiniteSenderHead;
 
 /// Returns whether this is the head of a sender of a stream that ends over a storage of `capacity`
@@ -149,25 +151,106 @@ pub extern "C" fn net_base_finite_sender_close(
     true
 }
 
-/// Returns `NET_BASE_PRESENT` if a segment whose bytes end at `position` ends the stream, since the
-/// sender is closed and that is the position after the last byte. Otherwise `NET_BASE_MISSING`.
+/// Returns where the bytes of a segment from `position` on are, as `net_base_sender_peek_at` does,
+/// and whether the segment ends the stream: the sender is closed, and the bytes end where it does.
+/// Its numbers, the end's among them, are below `limit`: the end of the window is one, and
+/// `position` plus the segment size another. A segment without bytes that ends the stream is the
+/// end alone.
 ///
-/// It is refused if `sender` isn't that of a sender over `capacity` bytes: `NET_BASE_REFUSED`.
+/// It is refused if `sender` isn't that of a sender over `capacity` bytes: `from` is
+/// `NET_BASE_NONE`, `count` and `contiguous` are 0, `is_last` is false.
 #[unsafe(no_mangle)]
-pub extern "C" fn net_base_finite_sender_has_end_at(
+pub extern "C" fn net_base_finite_sender_peek_at(
     sender: &FiniteSenderHead,
     capacity: usize,
     position: u64,
-) -> u32
-    ensures state { IsSoundFiniteSender capacity sender.now → (storage : List ℕ) → length storage ≡ capacity →
-        result ≡ (if has_end_at (finite_sender_of sender.now storage) position then NET_BASE_PRESENT else
-        NET_BASE_MISSING) }
-    ensures refused { (IsSoundFiniteSender capacity sender.now → ⊥) → result ≡ NET_BASE_REFUSED }
+    limit: u64,
+) -> SegmentSpan
+    ensures within { IsSoundFiniteSender capacity sender.now → result.from + result.contiguous ≤ capacity }
+    ensures count { IsSoundFiniteSender capacity sender.now → (storage : List ℕ) → length storage ≡ capacity →
+        sender.now.sender.first_unacknowledged ≤ position → result.contiguous ≡ min (limit - position)
+        (contiguous_end (finite_sender_of sender.now storage).sender position - position) }
+    ensures before { IsSoundFiniteSender capacity sender.now → position < sender.now.sender.first_unacknowledged →
+        (result.contiguous ≡ 0) × (result.from ≡ 0) × (result.count ≡ 0) }
+    ensures from { IsSoundFiniteSender capacity sender.now → sender.now.sender.first_unacknowledged ≤ position →
+        result.from ≡ queued_index capacity sender.now.sender.place (position -
+        sender.now.sender.first_unacknowledged) }
+    ensures whole { IsSoundFiniteSender capacity sender.now → sender.now.sender.first_unacknowledged ≤ position →
+        result.count ≡ min (limit - position) (sender.now.sender.place.length - (position -
+        sender.now.sender.first_unacknowledged)) }
+    ensures end { IsSoundFiniteSender capacity sender.now → (IsTrue result.is_last ↔ ((sender.now.closed ≡ 1) ×
+        (position + result.contiguous ≡ sender.now.sender.first_unacknowledged + sender.now.sender.place.length) ×
+        (position + result.contiguous < limit))) }
+    ensures room { IsSoundFiniteSender capacity sender.now → position ≤ limit → position + result.contiguous +
+        from_bool result.is_last ≤ limit }
+    ensures none { IsSoundFiniteSender capacity sender.now → limit ≤ position → (result.contiguous ≡ 0) × IsFalse
+        result.is_last }
+    ensures numbers { IsSoundFiniteSender capacity sender.now → 0 < result.contiguous + from_bool result.is_last →
+        position + (result.contiguous + from_bool result.is_last) ≤ sender.now.sender.first_unacknowledged +
+        sender.now.sender.place.length + sender.now.closed }
+    ensures fits { IsSoundFiniteSender capacity sender.now → position ≤ sender.now.sender.first_unacknowledged +
+        sender.now.sender.place.length → position + result.contiguous < no_end }
+    ensures bytes { IsSoundFiniteSender capacity sender.now → (storage : List ℕ) → length storage ≡ capacity → take
+        result.contiguous (drop result.from storage) ≡ take result.contiguous (drop (position -
+        sender.now.sender.first_unacknowledged) (queue (ring_at storage sender.now.sender.place))) }
+    ensures says { IsSoundFiniteSender capacity sender.now → (storage : List ℕ) → length storage ≡ capacity →
+        sender.now.sender.first_unacknowledged ≤ position → (f : ℕ) (w : List ℕ) → Sends f w (finite_sender_of
+        sender.now storage).sender → MatchesFinite f w position (take result.contiguous (drop result.from storage))
+        result.is_last }
+    ensures refused { (IsSoundFiniteSender capacity sender.now → ⊥) → (result.from ≡ no_number) × (result.count ≡ 0)
+        × (result.contiguous ≡ 0) × IsFalse result.is_last }
 {
     if !sender.is_sound(capacity) {
-        return NET_BASE_REFUSED;
+        return no_segment();
     }
-    presence_of(sender.has_end_at(capacity, position))
+    segment_span(sender.peek_at(capacity, position, limit))
+}
+
+/// Returns what `net_base_finite_sender_peek_at` does, and notes that the segment was sent: `sent`
+/// becomes the number after its last one, the end's counted, unless `sent` is above that. A segment
+/// without numbers changes nothing.
+///
+/// It is refused if `sender` isn't that of a sender over `capacity` bytes: `from` is
+/// `NET_BASE_NONE`, `count` and `contiguous` are 0, `is_last` is false, and nothing changes.
+#[unsafe(no_mangle)]
+pub extern "C" fn net_base_finite_sender_send_at(
+    sender: &mut FiniteSenderHead,
+    capacity: usize,
+    position: u64,
+    limit: u64,
+) -> SegmentSpan
+    ensures sound { IsSoundFiniteSender capacity sender.old → IsSoundFiniteSender capacity sender.new }
+    ensures mark { IsSoundFiniteSender capacity sender.old → sender.new ≡ head_after_sending sender.old position
+        (result.contiguous + from_bool result.is_last) }
+    ensures within { IsSoundFiniteSender capacity sender.old → result.from + result.contiguous ≤ capacity }
+    ensures count { IsSoundFiniteSender capacity sender.old → (storage : List ℕ) → length storage ≡ capacity →
+        sender.old.sender.first_unacknowledged ≤ position → result.contiguous ≡ min (limit - position)
+        (contiguous_end (finite_sender_of sender.old storage).sender position - position) }
+    ensures before { IsSoundFiniteSender capacity sender.old → position < sender.old.sender.first_unacknowledged →
+        (result.contiguous ≡ 0) × (result.from ≡ 0) × (result.count ≡ 0) }
+    ensures from { IsSoundFiniteSender capacity sender.old → sender.old.sender.first_unacknowledged ≤ position →
+        result.from ≡ queued_index capacity sender.old.sender.place (position -
+        sender.old.sender.first_unacknowledged) }
+    ensures whole { IsSoundFiniteSender capacity sender.old → sender.old.sender.first_unacknowledged ≤ position →
+        result.count ≡ min (limit - position) (sender.old.sender.place.length - (position -
+        sender.old.sender.first_unacknowledged)) }
+    ensures end { IsSoundFiniteSender capacity sender.old → (IsTrue result.is_last ↔ ((sender.old.closed ≡ 1) ×
+        (position + result.contiguous ≡ sender.old.sender.first_unacknowledged + sender.old.sender.place.length) ×
+        (position + result.contiguous < limit))) }
+    ensures bytes { IsSoundFiniteSender capacity sender.old → (storage : List ℕ) → length storage ≡ capacity → take
+        result.contiguous (drop result.from storage) ≡ take result.contiguous (drop (position -
+        sender.old.sender.first_unacknowledged) (queue (ring_at storage sender.old.sender.place))) }
+    ensures says { IsSoundFiniteSender capacity sender.old → (storage : List ℕ) → length storage ≡ capacity →
+        sender.old.sender.first_unacknowledged ≤ position → (f : ℕ) (w : List ℕ) → Sends f w (finite_sender_of
+        sender.old storage).sender → MatchesFinite f w position (take result.contiguous (drop result.from storage))
+        result.is_last }
+    ensures refused { (IsSoundFiniteSender capacity sender.old → ⊥) → (result.from ≡ no_number) × (result.count ≡ 0)
+        × (result.contiguous ≡ 0) × IsFalse result.is_last × (sender.new ≡ sender.old) }
+{
+    if !sender.is_sound(capacity) {
+        return no_segment();
+    }
+    segment_span(sender.send_at(capacity, position, limit))
 }
 
 /// Notes that all numbers below `position` were sent, the end's among them if `position` is past

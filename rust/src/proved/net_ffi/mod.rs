@@ -10,8 +10,8 @@
 //! A head is a struct of numbers, which the caller keeps beside a storage and, for some heads, runs or slots. A head of
 //! zeros is new, but for what the comment of its kind says. Storage, runs and slots need no particular values. Lengths
 //! are in elements; a length of 0 is allowed, of runs too: then no run is held. A length, an index or a count is a
-//! `size_t`, a position or a time a `uint64_t` or an `int64_t` on every processor. A flag is as wide as the number
-//! beside it, so that heads and slots have no padding.
+//! `size_t`, a position or a time a `uint64_t` or an `int64_t` on every processor. A flag of a head or a slot is as
+//! wide as the number beside it, so that they have no padding.
 //!
 //! Fields of a head may be read: `length` is how many elements are queued, `used` how many runs are stored. `start`
 //! and `end` of a stored run are offsets from `first_start` of the head, so the first one starts at 0. A run that a

@@ -1,6 +1,6 @@
 //! What a refused call returns, and the statuses of those that are done.
 
-use crate::proved::net_ffi::results::FrontLength;
+use crate::proved::net_ffi::results::{FrontLength, SegmentSpan};
 use crate::proved::net_assembler::Run;
 use crate::proved::net_assembler::width::most;
 use crate::proved::net_ring::Span;
@@ -73,5 +73,16 @@ pub(crate) fn no_run() -> Run {
     Run {
         start: no_number(),
         end: no_number(),
+    }
+}
+
+/// The segment of a refused call.
+#[inline(always)]
+pub(crate) fn no_segment() -> SegmentSpan {
+    SegmentSpan {
+        from: no_number(),
+        count: 0,
+        contiguous: 0,
+        is_last: false,
     }
 }

@@ -7,6 +7,7 @@ use crate::proved::net_ffi::refusals::{
 };
 use crate::proved::net_assembler::{Run, TooManyHolesError};
 use crate::proved::net_base::storage::FragmentError;
+use crate::proved::net_ring::Span;
 use crate::proved::net_tcp::Arrival;
 
 /// The length of the run at position 0, and whether the call was done.
@@ -31,6 +32,20 @@ pub struct Hole {
     pub start: u64,
     /// The position after the last one; 0 if the call was refused.
     pub end: u64,
+}
+
+/// Where the bytes of a segment are, and whether it ends the stream.
+#[repr(C)]
+#[derive(Debug, Clone, Copy)]
+pub struct SegmentSpan {
+    /// The index of the first byte; `NET_BASE_NONE` if the call was refused.
+    pub from: usize,
+    /// How many bytes are queued from the segment's position on, below its limit.
+    pub count: usize,
+    /// How many of these are contiguous in the storage: the bytes of the segment.
+    pub contiguous: usize,
+    /// Whether the segment ends the stream.
+    pub is_last: bool,
 }
 
 /// Returns the status of a call that adds positions.
@@ -77,6 +92,18 @@ pub(crate) fn number_of(arrival: Arrival) -> u32 {
         Arrival::Answer => NET_BASE_ANSWER,
         Arrival::Ignore => NET_BASE_IGNORE,
         Arrival::Reset => NET_BASE_RESET,
+    }
+}
+
+/// Returns the bytes of a segment, and whether it is the last one, as one struct.
+#[inline(always)]
+pub(crate) fn segment_span(segment: (Span, bool)) -> SegmentSpan {
+    let (span, is_last) = segment;
+    SegmentSpan {
+        from: span.from,
+        count: span.count,
+        contiguous: span.contiguous,
+        is_last,
     }
 }
 

@@ -96,28 +96,36 @@ impl FiniteSenderHead {
         self.closed = 1;
     }
 
-    /// Returns whether a segment whose bytes end at `pos` ends the stream: the sender is closed, and
-    /// `pos` is the position after the last byte.
+    /// Returns where the bytes of a segment from `pos` on are, as `SenderHead::peek_at` does, and
+    /// whether the segment ends the stream. Its numbers, the end's among them, are below `limit`. A
+    /// segment at `pos` without bytes that ends the stream is the end alone.
     #[inline]
-    pub fn has_end_at(&self, _capacity: usize, pos: u64) -> bool {
-        self.closed == 1 && pos == self.sender.end()
-    }
-
-    /// Returns where the bytes of a segment from `pos` on are, at most `max`, as
-    /// `SenderHead::peek_at` does, and whether the segment ends the stream. A segment at `pos` without
-    /// bytes that ends it is the end alone.
-    #[inline]
-    pub fn peek_at(&self, capacity: usize, pos: u64, max: usize) -> (Span, bool) {
-        let span = self.sender.peek_at(capacity, pos, max);
-        let is_last = self.ends_after(capacity, pos, span.contiguous);
+    pub fn peek_at(&self, capacity: usize, pos: u64, limit: u64) -> (Span, bool) {
+        let room = limit
+            .saturating_sub(pos)
+            .min(self.sender.place.length as u64) as usize;
+        let span = self.sender.peek_at(capacity, pos, room);
+        let is_last = self.ends_below(capacity, pos + span.contiguous as u64, limit);
         (span, is_last)
     }
 
-    /// Returns whether `len` bytes at `pos` end the stream.
+    /// Returns whether a segment whose bytes end at `pos` ends the stream, with an end below `limit`.
     #[inline]
-    fn ends_after(&self, _capacity: usize, pos: u64, len: usize) -> bool {
-        let end = self.sender.end();
-        self.closed == 1 && pos <= end && end - pos == len as u64
+    fn ends_below(&self, _capacity: usize, pos: u64, limit: u64) -> bool {
+        self.closed == 1 && pos == self.sender.end() && pos < limit
+    }
+
+    /// Returns what `peek_at` does, and notes that the segment was sent: `sent` is the number after
+    /// its last one, the end's counted, unless that is below. It changes nothing if the segment has
+    /// no number.
+    #[inline]
+    pub fn send_at(&mut self, capacity: usize, pos: u64, limit: u64) -> (Span, bool) {
+        let (span, is_last) = self.peek_at(capacity, pos, limit);
+        let count = span.contiguous as u64 + u64::from(is_last);
+        if count > 0 {
+            self.sent = self.sent.max(pos + count);
+        }
+        (span, is_last)
     }
 
     /// Notes that all numbers below `pos` were sent, the end's among them if `pos` is past it.

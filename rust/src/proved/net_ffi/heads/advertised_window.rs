@@ -4,7 +4,10 @@
 //! position `edge`.
 // Written by tools/ffi.py.
 
-use crate::proved::net_ffi::refusals::{NET_BASE_ACKNOWLEDGEMENT_ONLY, NET_BASE_ANSWER, NET_BASE_IGNORE, NET_BASE_MISSING, NET_BASE_PRESENT, NET_BASE_REFUSED, NET_BASE_RESET, NET_BASE_TAKE};
+use crate::proved::net_ffi::refusals::{
+    NET_BASE_ACKNOWLEDGEMENT_ONLY, NET_BASE_ANSWER, NET_BASE_IGNORE, NET_BASE_MISSING,
+    NET_BASE_PRESENT, NET_BASE_REFUSED, NET_BASE_RESET, NET_BASE_TAKE,
+};
 use crate::proved::net_ffi::results::{number_of, presence_of};
 use crate::proved::net_tcp::{AdvertisedWindow, MAX_SCALE, Segment};
 

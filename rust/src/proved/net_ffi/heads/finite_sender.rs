@@ -2,12 +2,11 @@
 //! number after the last byte's: it is sent and acknowledged as a byte is, and takes no room.
 //!
 //! A head of zeros, but for `sender.first_unacknowledged` and `sent`, which are equal then and
-//! below 2^64 - 1, is new. A number is kept for the end. Where bytes are tells
-//! `net_base_sender_peek_at` of `sender`.
+//! below 2^64 - 1, is new. A number is kept for the end.
 // Written by tools/ffi.py.
 
-use crate::proved::net_ffi::refusals::{NET_BASE_MISSING, NET_BASE_PRESENT, NET_BASE_REFUSED, no_number};
-use crate::proved::net_ffi::results::presence_of;
+use crate::proved::net_ffi::refusals::{no_number, no_segment};
+use crate::proved::net_ffi::results::{SegmentSpan, segment_span};
 use crate::proved::net_receiver::FiniteSenderHead;
 
 /// Returns whether this is the head of a sender of a stream that ends over a storage of `capacity`
@@ -103,20 +102,44 @@ pub fn net_base_finite_sender_close(
     true
 }
 
-/// Returns `NET_BASE_PRESENT` if a segment whose bytes end at `position` ends the stream, since the
-/// sender is closed and that is the position after the last byte. Otherwise `NET_BASE_MISSING`.
+/// Returns where the bytes of a segment from `position` on are, as `net_base_sender_peek_at` does,
+/// and whether the segment ends the stream: the sender is closed, and the bytes end where it does.
+/// Its numbers, the end's among them, are below `limit`: the end of the window is one, and
+/// `position` plus the segment size another. A segment without bytes that ends the stream is the
+/// end alone.
 ///
-/// It is refused if `sender` isn't that of a sender over `capacity` bytes: `NET_BASE_REFUSED`.
+/// It is refused if `sender` isn't that of a sender over `capacity` bytes: `from` is
+/// `NET_BASE_NONE`, `count` and `contiguous` are 0, `is_last` is false.
 #[inline(always)]
-pub fn net_base_finite_sender_has_end_at(
+pub fn net_base_finite_sender_peek_at(
     sender: &FiniteSenderHead,
     capacity: usize,
     position: u64,
-) -> u32 {
+    limit: u64,
+) -> SegmentSpan {
     if !sender.is_sound(capacity) {
-        return NET_BASE_REFUSED;
+        return no_segment();
     }
-    presence_of(sender.has_end_at(capacity, position))
+    segment_span(sender.peek_at(capacity, position, limit))
+}
+
+/// Returns what `net_base_finite_sender_peek_at` does, and notes that the segment was sent: `sent`
+/// becomes the number after its last one, the end's counted, unless `sent` is above that. A segment
+/// without numbers changes nothing.
+///
+/// It is refused if `sender` isn't that of a sender over `capacity` bytes: `from` is
+/// `NET_BASE_NONE`, `count` and `contiguous` are 0, `is_last` is false, and nothing changes.
+#[inline(always)]
+pub fn net_base_finite_sender_send_at(
+    sender: &mut FiniteSenderHead,
+    capacity: usize,
+    position: u64,
+    limit: u64,
+) -> SegmentSpan {
+    if !sender.is_sound(capacity) {
+        return no_segment();
+    }
+    segment_span(sender.send_at(capacity, position, limit))
 }
 
 /// Notes that all numbers below `position` were sent, the end's among them if `position` is past
