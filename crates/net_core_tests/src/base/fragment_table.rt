@@ -1,7 +1,7 @@
 //! Packets of three sources in two slots.
 use crate::assertions::assert_holds;
 use net_base::storage::fragments::table::{
-    FragmentSlot, claim, claim_or_evict, find, remove_expired, take_complete,
+    FragmentSlot, claim, find, remove_expired, take_complete,
 };
 use net_base::time::Instant;
 
@@ -50,17 +50,6 @@ fn expires(slots: &mut [Slot<'_>]) -> bool {
     kept && find(slots, 8).is_none() && claim(slots, 9, Instant::ZERO) == Ok(0)
 }
 
-/// Claims slots for more packets than there are. Returns whether each is given a free one, or else that of the packet
-/// that expires first.
-fn evicts(slots: &mut [Slot<'_>]) -> bool {
-    claim_or_evict(slots, 8, Instant::from_micros(5)) == Ok(1)
-        && claim_or_evict(slots, 7, Instant::from_micros(9)) == Ok(0)
-        && claim_or_evict(slots, 6, Instant::from_micros(9)) == Ok(1)
-        && claim_or_evict(slots, 5, Instant::from_micros(9)) == Ok(0)
-        && claim_or_evict(slots, 6, Instant::ZERO) == Ok(1)
-        && find(slots, 7).is_none()
-}
-
 #[test]
 fn packets_of_three_sources(rt: HostRuntime) {
     let mut first = [0u8; 4];
@@ -69,5 +58,4 @@ fn packets_of_three_sources(rt: HostRuntime) {
     assert_holds(&rt, claims(&mut slots), ("claims", 0));
     assert_holds(&rt, hands_out_once(&mut slots), ("handed out", 0));
     assert_holds(&rt, expires(&mut slots), ("expires", 0));
-    assert_holds(&rt, evicts(&mut slots), ("evicts", 0));
 }
