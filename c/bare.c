@@ -1,4 +1,4 @@
-/* A program with no C library and no heap: its own _start, and the four functions that the library
+/* A program with no C library and no heap: its own _start, and the five functions that the library
  * may want. It runs on a stack of 4 KB, exits with the number of the first step that fails, or 0,
  * and prints how much stack it took.
  */
@@ -47,6 +47,10 @@ int memcmp(const void *one, const void *other, uint64_t size) {
         STAYS_A_LOOP();
     }
     return 0;
+}
+
+int bcmp(const void *one, const void *other, uint64_t size) {
+    return memcmp(one, other, size);
 }
 
 static bool are_equal(const uint8_t *bytes, const char *text, uint64_t size) {

@@ -94,7 +94,9 @@ extern "C" {
 /* The fragment or the size reaches past the end of the buffer. Nothing changes. */
 #define NET_BASE_TOO_LONG UINT32_C(5)
 
-/* Another size of the packet is known. Nothing changes. */
+/* It contradicts the packet's size: another size is known, or a byte at that size or above has
+ * arrived, or the fragment reaches past a known size. Nothing changes.
+ */
 #define NET_BASE_OTHER_SIZE UINT32_C(6)
 
 /* The stream can't end there. Nothing changes. */
@@ -575,8 +577,9 @@ struct net_base_fragments {
     int64_t expires_at;
 };
 
-/* Returns whether `present` and the runs are those of an assembler, and a known size is at most
- * `capacity`. It looks at each run.
+/* Returns whether `present` and the runs are those of an assembler, whose last run ends at
+ * `capacity` or below, and at a known size or below, which is at most `capacity`. It looks at each
+ * run.
  */
 bool net_base_fragments_is_sound(
     const struct net_base_fragments *fragments, size_t capacity, const struct net_base_run *runs,
@@ -590,12 +593,48 @@ void net_base_fragments_reset(struct net_base_fragments *fragments, int64_t expi
 /* Sets the packet's size to `size` bytes, in a storage of `capacity` bytes: `has_total` is 1 then,
  * whatever it was.
  *
- * Returns `NET_BASE_DONE`, also if bytes past that size have arrived; or, and nothing changes,
- * `NET_BASE_TOO_LONG` if the storage has fewer bytes, or else `NET_BASE_OTHER_SIZE` if another size
- * is known.
+ * Returns `NET_BASE_DONE`; or, and nothing changes, `NET_BASE_TOO_LONG` if the storage has fewer
+ * bytes, or else `NET_BASE_OTHER_SIZE` if another size is known, or a byte at `size` or above has
+ * arrived.
+ *
+ * It is refused if `present.used` is above `runs_length`: `NET_BASE_REFUSED`, and nothing changes.
+ *
+ * Requires: head and runs are sound, as `net_base_fragments_is_sound` tests.
  */
 uint32_t net_base_fragments_set_total_size(
-    struct net_base_fragments *fragments, size_t capacity, size_t size);
+    struct net_base_fragments *fragments, size_t capacity, const struct net_base_run *runs,
+    size_t runs_length, size_t size);
+
+/* Adds a fragment, whose first byte is that of the packet at `offset`.
+ *
+ * Returns `NET_BASE_DONE`; or, and nothing changes, `NET_BASE_TOO_LONG` if the fragment reaches
+ * past the storage's end, or else `NET_BASE_OTHER_SIZE` if it reaches past a known size, or else
+ * `NET_BASE_TOO_MANY_RUNS` if there would be more runs than the slice has elements. A fragment
+ * without bytes changes nothing, and has its end at `offset`.
+ *
+ * It is refused if `present.used` is above `runs_length`, or a known size above `storage_length`:
+ * `NET_BASE_REFUSED`, and nothing changes.
+ *
+ * Requires: head and runs are sound, as `net_base_fragments_is_sound` tests.
+ */
+uint32_t net_base_fragments_add(
+    struct net_base_fragments *fragments, uint8_t *storage, size_t storage_length,
+    struct net_base_run *runs, size_t runs_length, size_t offset, const uint8_t *data,
+    size_t data_length);
+
+/* Returns `NET_BASE_PRESENT` if a byte that arrived differs from that of the fragment whose first
+ * byte is that of the packet at `offset`, and `NET_BASE_MISSING` if none does. The fragment need
+ * not be within the storage.
+ *
+ * It is refused if `present.used` is above `runs_length`, or a known size above `storage_length`:
+ * `NET_BASE_REFUSED`.
+ *
+ * Requires: head and runs are sound, as `net_base_fragments_is_sound` tests.
+ */
+uint32_t net_base_fragments_differs(
+    const struct net_base_fragments *fragments, const uint8_t *storage, size_t storage_length,
+    const struct net_base_run *runs, size_t runs_length, size_t offset, const uint8_t *data,
+    size_t data_length);
 
 /* Returns `NET_BASE_PRESENT` if one of the `count` positions from `offset` on has arrived, so that
  * a fragment there overlaps bytes that are present, and `NET_BASE_MISSING` if none has. If `offset
@@ -611,23 +650,6 @@ uint32_t net_base_fragments_overlaps(
 
 /* Returns whether `now` is after the last moment at which the packet is waited for. */
 bool net_base_fragments_is_expired(const struct net_base_fragments *fragments, int64_t now);
-
-/* Adds a fragment, whose first byte is that of the packet at `offset`.
- *
- * Returns `NET_BASE_DONE`; or, and nothing changes, `NET_BASE_TOO_LONG` if the fragment reaches
- * past the storage's end, or else `NET_BASE_TOO_MANY_RUNS` if there would be more runs than the
- * slice has elements. A fragment past a known size is kept; one without bytes changes nothing, and
- * is too long as well if `offset` is above the storage's length.
- *
- * It is refused if `present.used` is above `runs_length`, or a known size above `storage_length`:
- * `NET_BASE_REFUSED`, and nothing changes.
- *
- * Requires: head and runs are sound, as `net_base_fragments_is_sound` tests.
- */
-uint32_t net_base_fragments_add(
-    struct net_base_fragments *fragments, uint8_t *storage, size_t storage_length,
-    struct net_base_run *runs, size_t runs_length, size_t offset, const uint8_t *data,
-    size_t data_length);
 
 /* Returns the packet's size, if it is known and all its bytes have arrived: they are the first ones
  * of the storage, which has `capacity` bytes.

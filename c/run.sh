@@ -33,10 +33,10 @@ target=${CARGO_TARGET_DIR:-$out/target}
 library=$target/release/libnet_base.a
 shared=$target/release/libnet_base.so
 
-# The library's own objects, without those that come with each compiler, want four functions at most from elsewhere.
+# The library's own objects, without those that come with each compiler, want five functions at most from elsewhere.
 (cd "$out" && ar t "$library" | grep '^net_base' | xargs ar x "$library" && mv net_base*.o library.o)
 nm -u "$out/library.o" | awk 'NF == 2 { print $2 }' | sort -u > "$out/wanted"
-if grep -vxE 'memcpy|memmove|memset|memcmp|_GLOBAL_OFFSET_TABLE_' "$out/wanted"; then
+if grep -vxE 'memcpy|memmove|memset|memcmp|bcmp|_GLOBAL_OFFSET_TABLE_' "$out/wanted"; then
     fail "the library wants these too"
 fi
 echo "library: wants only $(tr '\n' ' ' < "$out/wanted")"

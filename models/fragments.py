@@ -7,6 +7,7 @@ from showing import pattern, show_bytes, truth
 SIZES = (1, 4)
 CAPACITY = Size("fragments: capacity", 6)
 END = Order("fragments: end of a fragment and capacity")
+PAST = Order("fragments: end of a fragment and a size that is known")
 NOTHING = Test("fragments: a fragment has no bytes")
 BEGINS = Test("fragments: a fragment of no bytes comes to an empty buffer")
 RUNS = {most: Count(f"fragments of {most}: runs", most) for most in SIZES}
@@ -15,7 +16,8 @@ OVER = Test("fragments: a fragment writes over bytes that came")
 TOTAL = Order("fragments: size and capacity")
 OTHER = Test("fragments: another size is known")
 AGAIN = Test("fragments: the same size is set again")
-BELOW = Test("fragments: a byte came beyond a size that is set")
+LAST = Order("fragments: end of the last run and a size that is set")
+DIFFERS = Test("fragments: a fragment that meets what came differs from it")
 MEETS = Test("fragments: a range meets what came")
 TOUCHES = Test("fragments: a range that meets nothing touches a run")
 UNKNOWN = Test("fragments: assemble finds a size")
@@ -29,6 +31,7 @@ class Buffer:
     def __init__(self, capacity, most, expires_at):
         self.bytes, self.most = pattern(CAPACITY(capacity), 0), most
         self.runs, self.total, self.expires_at = [], None, expires_at
+        self.last = (0, 0, 0)
 
     def show(self):
         """How many runs there are, and where the first one starts, or 0; whether there is none; the size, or 0, and
@@ -45,6 +48,8 @@ class Buffer:
         END.least(offset + size, len(self.bytes))
         if offset + size > len(self.bytes):
             return "too_long"
+        if self.total is not None and PAST.least(offset + size, self.total) < offset + size:
+            return "other_size"
         if NOTHING(size == 0):
             BEGINS(not self.runs)
         runs = with_range(self.runs, offset, offset + size)
@@ -52,7 +57,7 @@ class Buffer:
             return "refused"
         OVER(self.meets(offset, size))
         self.bytes[offset:offset + size] = pattern(size, seed)
-        self.runs = runs
+        self.runs, self.last = runs, (offset, size, seed)
         return "ok"
 
     def set_total_size(self, size):
@@ -62,7 +67,8 @@ class Buffer:
         if OTHER(self.total is not None and self.total != size):
             return "other_size"
         AGAIN(self.total == size)
-        BELOW(self.meets(size, len(self.bytes) - size))
+        if self.total is None and self.runs and LAST.least(self.runs[-1][1], size) < self.runs[-1][1]:
+            return "other_size"
         self.total = size
         return "ok"
 
@@ -71,6 +77,11 @@ class Buffer:
             TOUCHES(size > 0 and any(offset == end or start == offset + size for start, end in self.runs))
             return truth(False)
         return truth(True)
+
+    def differs(self, offset, size, seed):
+        new = pattern(size, seed)
+        came = [at for start, end in self.runs for at in range(max(start, offset), min(end, offset + size))]
+        return truth(bool(came) and DIFFERS(any(self.bytes[at] != new[at - offset] for at in came)))
 
     def assemble(self):
         if not UNKNOWN(self.total is not None):
@@ -120,16 +131,20 @@ def numbers_of(random, buffer, name):
     if name == "overlaps":
         offset, size, _ = fragment(random, buffer)
         return [offset, random.wide() if random.one_in(12) else size]
+    if name == "differs":
+        offset, size, seed = buffer.last if random.one_in(2) else fragment(random, buffer)
+        return [offset, size + random.below(3), seed]
     if name == "set_total_size":
         known = [buffer.total] if buffer.total is not None else []
-        return [random.of([capacity, capacity + 1, 0, *known, random.below(capacity + 1)])]
+        last = buffer.runs[-1][1] if buffer.runs else 0
+        return [random.of([capacity, capacity + 1, last, last, last + 1, max(0, last - 1), *known, random.below(capacity + 1)])]
     if name == "is_expired":
         near = min(2 ** 63 - 1, max(-2 ** 63, buffer.expires_at + random.of([-1, 0, 1])))
         return [near if random.one_in(2) else moment(random)]
     return [moment(random)] if name == "reset" else []
 
 
-CALLS = ["add"] * 9 + ["overlaps"] * 4 + ["assemble"] * 4 + ["set_total_size"] * 3 + ["is_expired"] * 2 + ["reset"]
+CALLS = ["add"] * 9 + ["overlaps"] * 3 + ["differs"] * 3 + ["assemble"] * 4 + ["set_total_size"] * 2 + ["is_expired"] * 2 + ["reset"]
 
 
 def draw(random, cases, lines):

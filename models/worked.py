@@ -511,6 +511,16 @@ FRAGMENTS = [
      "overlaps 0 3: 0; overlaps 0 4: 1; overlaps 5 1: 0; assemble: none; add 3 3 4: ok|1; add 0 3 5: ok|1; assemble: 8:; "
      "reset 60: done|0; set_total_size 9: too_long; set_total_size 2: ok; add 0 1 6: ok|1; is_expired 60: 0; "
      "is_expired 61: 1; assemble: none"),
+    # A packet that contradicts its own end: a size below a byte that came, and bytes past a size, one after its end too.
+    (16, 4, 0, "add 4 4 1: ok|1 4 0 0 0; set_total_size 7: other_size|1 4 0 0 0; set_total_size 17: too_long; "
+     "set_total_size 8: ok|1 4 0 8 1; add 8 1 2: other_size|1 4 0 8 1; add 7 2 2: other_size|1 4 0 8 1; add 8 0 2: ok|1 4 0 8 1; "
+     "add 9 0 2: other_size; add 16 1 2: too_long; add 7 1 2: ok|1 4 0 8 1; add 0 4 3: ok|1 0 0 8 1; assemble: 8:"),
+    # Which refusal comes first. A fragment of no bytes doesn't count as one that came.
+    (16, 1, 0, "add 9 0 1: ok|0 0 1 0 0; set_total_size 8: ok|0 0 1 8 1; add 0 1 1: ok|1 0 0 8 1; add 9 1 2: other_size; "
+     "add 16 1 2: too_long; add 7 1 2: refused|1 0 0 8 1; add 1 7 2: ok|1 0 0 8 1; assemble: 8:"),
+    # A fragment that comes twice, longer, with other bytes, and beside what came.
+    (8, 4, 0, "add 2 3 1: ok|1 2; differs 2 3 1: 0; differs 2 4 1: 0; differs 2 1 2: 1; differs 2 3 2: 1; differs 1 1 2: 0; "
+     "differs 5 3 2: 0; differs 2 0 2: 0; differs 9 2 2: 0|1 2 0 0 0"),
 ]
 # Scoreboards: runs, first position, and calls.
 SCOREBOARDS = [

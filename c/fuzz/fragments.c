@@ -8,8 +8,10 @@ static uint8_t *storage, storage_before[MOST_BYTES];
 static struct net_base_run *runs, runs_before[MOST_RUNS];
 static size_t capacity, most;
 static set present;
-/* Whether the head can be one of a buffer of these lengths. */
-static bool has_runs, has_size;
+/* Whether the head can be one of a buffer of these lengths; and whether its runs end at its size or below. */
+static bool has_runs, has_size, is_below;
+/* Where the last run ends, or 0. */
+static size_t top;
 
 /* Draws a buffer of `capacity` bytes and at most `most` runs, now and then one that can't be. */
 static void draw_fragments(void) {
@@ -21,13 +23,17 @@ static void draw_fragments(void) {
     present = once_in(4) ? 0 : draw_set(capacity, most);
     if (most > 0 && once_in(4)) present = range_set(0, below(capacity + 1));
     write_runs(present, 0, &head->present, runs);
+    top = 0;
+    for (size_t at = 0; at < POSITIONS; at++) top = present >> at & 1 ? at + 1 : top;
     head->has_total = below(2);
-    head->total = head->has_total ? below(capacity + 1) : 0;
+    head->total = head->has_total ? top + below(capacity + 1 - top) : 0;
     if (head->has_total && once_in(4)) head->has_total = any_number() | 1;
     has_runs = !once_in(12);
     if (!has_runs) head->present.used = most + 1 + below(3);
     has_size = !(head->has_total && once_in(12));
     if (!has_size) head->total = once_in(2) ? capacity + 1 + below(3) : SIZE_MAX - below(3);
+    is_below = !(head->has_total && has_size && top > 0 && once_in(12));
+    if (!is_below) head->total = below(top);
     head_before = *head;
     memcpy(storage_before, storage, capacity);
     memcpy(runs_before, runs, most * sizeof *runs);
@@ -43,7 +49,7 @@ static bool is_unchanged(void) {
 }
 
 static void fuzz_is_sound(void) {
-    EXPECT(net_base_fragments_is_sound(head, capacity, runs, most) == (has_runs && has_size));
+    EXPECT(net_base_fragments_is_sound(head, capacity, runs, most) == (has_runs && has_size && is_below));
     EXPECT(is_unchanged());
 }
 
@@ -68,6 +74,10 @@ static void fuzz_add(void) {
         EXPECT(status == NET_BASE_TOO_LONG && is_unchanged());
         return;
     }
+    if (head_before.has_total && offset + size > head_before.total) {
+        EXPECT(status == NET_BASE_OTHER_SIZE && is_unchanged());
+        return;
+    }
     set all = present | range_set(offset, size);
     if (size > 0 && run_count(all) > most) {
         EXPECT(status == NET_BASE_TOO_MANY_RUNS && is_unchanged());
@@ -81,9 +91,13 @@ static void fuzz_add(void) {
 }
 
 static void fuzz_set_total_size(void) {
-    size_t size = once_in(2) && has_size ? head->total : mostly_within(capacity);
-    uint32_t status = net_base_fragments_set_total_size(head, capacity, size);
-    if (size > capacity || (head_before.has_total && head_before.total != size)) {
+    size_t size = once_in(2) && has_size ? head->total : once_in(2) ? top + below(2) : mostly_within(capacity);
+    uint32_t status = net_base_fragments_set_total_size(head, capacity, runs, most, size);
+    if (!has_runs) {
+        EXPECT(status == NET_BASE_REFUSED && is_unchanged());
+        return;
+    }
+    if (size > capacity || (head_before.has_total ? head_before.total != size : size < top)) {
         EXPECT(status == (size > capacity ? NET_BASE_TOO_LONG : NET_BASE_OTHER_SIZE) && is_unchanged());
         return;
     }
@@ -102,6 +116,20 @@ static void fuzz_overlaps(void) {
     EXPECT(is_unchanged());
 }
 
+static void fuzz_differs(void) {
+    size_t offset = mostly_within(capacity), size = below(MOST_BYTES + 1);
+    uint8_t *data = take_room(&data_room, size);
+    bool differs = false, is_other = once_in(2);
+    for (size_t at = 0; at < size && offset < capacity && at < capacity - offset; at++) {
+        if (!is_other || !once_in(8)) data[at] = storage[offset + at];
+        differs |= (present >> (offset + at) & 1) && data[at] != storage[offset + at];
+    }
+    uint32_t status = net_base_fragments_differs(head, storage, capacity, runs, most, offset, data, size);
+    bool is_refused = !has_runs || !has_size;
+    EXPECT(status == (is_refused ? NET_BASE_REFUSED : differs ? NET_BASE_PRESENT : NET_BASE_MISSING));
+    EXPECT(is_unchanged() && room_is_whole(&data_room));
+}
+
 static void fuzz_complete(void) {
     struct net_base_front_length whole = net_base_fragments_complete(head, capacity, runs, most);
     bool is_whole = head->has_total && front_of(present) >= head->total;
@@ -117,9 +145,9 @@ static void fuzz_is_expired(void) {
 
 void fuzz_fragments(void) {
     static void (*const calls[])(void) = {
-        fuzz_is_sound, fuzz_reset,    fuzz_add,       fuzz_set_total_size,
-        fuzz_overlaps, fuzz_complete, fuzz_is_expired};
+        fuzz_is_sound, fuzz_reset,   fuzz_add,      fuzz_set_total_size,
+        fuzz_overlaps, fuzz_differs, fuzz_complete, fuzz_is_expired};
     draw_fragments();
-    calls[below(sizeof calls / sizeof calls[0])]();
+    calls[is_below ? below(sizeof calls / sizeof calls[0]) : 0]();
     EXPECT(room_is_whole(&head_room) && room_is_whole(&storage_room) && room_is_whole(&runs_room));
 }

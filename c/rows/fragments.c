@@ -37,13 +37,18 @@ static void say_taken(uint32_t status) {
 
 static bool make(const struct call *call) {
     uint64_t one = call->numbers[0], two = call->numbers[1];
-    bool has_lengths = is(call, "add") || is(call, "set_total_size") || is(call, "overlaps");
+    bool has_lengths = is(call, "add") || is(call, "set_total_size") || is(call, "overlaps") || is(call, "differs");
     if (has_lengths) one = length_of(one), two = length_of(two);
     if (is(call, "add")) {
         const uint8_t *bytes = pattern(two, call->numbers[2]);
         say_taken(net_base_fragments_add(&head, storage, capacity, runs, run_count, one, bytes, two));
     } else if (is(call, "set_total_size")) {
-        say_taken(net_base_fragments_set_total_size(&head, capacity, one));
+        say_taken(net_base_fragments_set_total_size(&head, capacity, runs, run_count, one));
+    } else if (is(call, "differs")) {
+        const uint8_t *bytes = pattern(two, call->numbers[2]);
+        uint32_t status = net_base_fragments_differs(&head, storage, capacity, runs, run_count, one, bytes, two);
+        if (status == NET_BASE_REFUSED) return false;
+        say_truth(status == NET_BASE_PRESENT);
     } else if (is(call, "overlaps")) {
         uint32_t status = net_base_fragments_overlaps(&head, runs, run_count, one, two);
         if (status == NET_BASE_REFUSED) return false;

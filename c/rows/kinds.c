@@ -81,6 +81,7 @@ struct kind KINDS[] = {
     MADE("fragments", "add", "fragments_add"),
     MADE("fragments", "set_total_size", "fragments_set_total_size"),
     MADE("fragments", "overlaps", "fragments_overlaps"),
+    MADE("fragments", "differs", "fragments_differs"),
     MADE("fragments", "assemble", "fragments_complete"),
     MADE("fragments", "is_expired", "fragments_is_expired"),
     MADE("fragments", "reset", "fragments_reset"),

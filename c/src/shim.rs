@@ -250,9 +250,28 @@ pub extern "C" fn net_base_fragments_reset(fragments: Option<&mut FragmentsHead>
 }
 
 #[unsafe(no_mangle)]
-pub extern "C" fn net_base_fragments_set_total_size(fragments: Option<&mut FragmentsHead>, capacity: usize, size: usize) -> u32 {
+pub unsafe extern "C" fn net_base_fragments_set_total_size(fragments: Option<&mut FragmentsHead>, capacity: usize, runs: *const Run, runs_length: usize, size: usize) -> u32 {
     let Some(fragments) = fragments else { return refusals::NET_BASE_REFUSED };
-    heads::fragments::net_base_fragments_set_total_size(fragments, capacity, size)
+    let Some(runs) = slice(runs, runs_length) else { return refusals::NET_BASE_REFUSED };
+    heads::fragments::net_base_fragments_set_total_size(fragments, capacity, runs, size)
+}
+
+#[unsafe(no_mangle)]
+pub unsafe extern "C" fn net_base_fragments_add(fragments: Option<&mut FragmentsHead>, storage: *mut u8, storage_length: usize, runs: *mut Run, runs_length: usize, offset: usize, data: *const u8, data_length: usize) -> u32 {
+    let Some(fragments) = fragments else { return refusals::NET_BASE_REFUSED };
+    let Some(storage) = slice_mut(storage, storage_length) else { return refusals::NET_BASE_REFUSED };
+    let Some(runs) = slice_mut(runs, runs_length) else { return refusals::NET_BASE_REFUSED };
+    let Some(data) = slice(data, data_length) else { return refusals::NET_BASE_REFUSED };
+    heads::fragments::net_base_fragments_add(fragments, storage, runs, offset, data)
+}
+
+#[unsafe(no_mangle)]
+pub unsafe extern "C" fn net_base_fragments_differs(fragments: Option<&FragmentsHead>, storage: *const u8, storage_length: usize, runs: *const Run, runs_length: usize, offset: usize, data: *const u8, data_length: usize) -> u32 {
+    let Some(fragments) = fragments else { return refusals::NET_BASE_REFUSED };
+    let Some(storage) = slice(storage, storage_length) else { return refusals::NET_BASE_REFUSED };
+    let Some(runs) = slice(runs, runs_length) else { return refusals::NET_BASE_REFUSED };
+    let Some(data) = slice(data, data_length) else { return refusals::NET_BASE_REFUSED };
+    heads::fragments::net_base_fragments_differs(fragments, storage, runs, offset, data)
 }
 
 #[unsafe(no_mangle)]
@@ -266,15 +285,6 @@ pub unsafe extern "C" fn net_base_fragments_overlaps(fragments: Option<&Fragment
 pub extern "C" fn net_base_fragments_is_expired(fragments: Option<&FragmentsHead>, now: i64) -> bool {
     let Some(fragments) = fragments else { return false };
     heads::fragments::net_base_fragments_is_expired(fragments, now)
-}
-
-#[unsafe(no_mangle)]
-pub unsafe extern "C" fn net_base_fragments_add(fragments: Option<&mut FragmentsHead>, storage: *mut u8, storage_length: usize, runs: *mut Run, runs_length: usize, offset: usize, data: *const u8, data_length: usize) -> u32 {
-    let Some(fragments) = fragments else { return refusals::NET_BASE_REFUSED };
-    let Some(storage) = slice_mut(storage, storage_length) else { return refusals::NET_BASE_REFUSED };
-    let Some(runs) = slice_mut(runs, runs_length) else { return refusals::NET_BASE_REFUSED };
-    let Some(data) = slice(data, data_length) else { return refusals::NET_BASE_REFUSED };
-    fragments::net_base_fragments_add(fragments, storage, runs, offset, data)
 }
 
 #[unsafe(no_mangle)]

@@ -82,7 +82,7 @@ static void fragment(void) {
     net_base_fragments_reset(&fragments, 0);
     net_base_fragments_add(&fragments, storage, CAPACITY, runs, RUNS, 16, bytes, 16);
     net_base_fragments_add(&fragments, storage, CAPACITY, runs, RUNS, 0, bytes, 16);
-    net_base_fragments_set_total_size(&fragments, CAPACITY, 32);
+    net_base_fragments_set_total_size(&fragments, CAPACITY, runs, RUNS, 32);
     net_base_fragments_complete(&fragments, CAPACITY, runs, RUNS);
 }
 

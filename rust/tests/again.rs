@@ -4,8 +4,8 @@ use net_base::managed::ManagedSlice;
 use net_base::receiver::{Receiver, ReceiverOver};
 use net_base::scoreboard::Scoreboard;
 use net_base::sender::{Sender, SenderOver};
-use net_base::storage::fragment_table::{find, find_free, FragmentSlot};
-use net_base::storage::FragmentBuffer;
+use net_base::storage::fragment_table::{claim, claim_or_evict, find, find_free, FragmentSlot};
+use net_base::storage::{FragmentBuffer, Full};
 use net_base::tcp::{RetransmissionTimeout, TimeoutBounds};
 use net_base::time::Instant;
 
@@ -113,6 +113,11 @@ fn a_slot_of_a_table_of_fragments() {
     assert!(slots[0].is_for(7));
     slots[0].expire(Instant::from_micros(21));
     assert_eq!(find_free(&slots), Some(0));
+    let at = Instant::from_micros(9);
+    assert_eq!([8, 9, 8].map(|key| claim(&mut slots, key, at)), [Ok(0), Ok(1), Ok(0)]);
+    assert_eq!((claim(&mut slots, 7, at), claim_or_evict(&mut slots, 7, at)), (Err(Full), Ok(0)));
+    assert_eq!((find(&slots, 8), find(&slots, 9)), (None, Some(1)));
+    assert_eq!(claim_or_evict(&mut slots[..0], 7, at), Err(Full));
 }
 
 #[test]

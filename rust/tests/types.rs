@@ -116,7 +116,7 @@ fn errors() {
     all(TooManyHolesError, "too many holes", "TooManyHolesError");
     all(FragmentError::TooLong, "past the end of the buffer", "TooLong");
     all(FragmentError::TooManyHoles, "too many holes", "TooManyHoles");
-    all(FragmentError::OtherSize, "another size is known", "OtherSize");
+    all(FragmentError::OtherSize, "contradicts the packet's size", "OtherSize");
     all(FiniteError::TooManyHoles, "too many holes", "TooManyHoles");
     all(FiniteError::OtherEnd, "the stream ends elsewhere", "OtherEnd");
 }

@@ -20,7 +20,7 @@ WRITTEN = ffi.EXPORTS / "src/heads"
 # A value in a clause: a name, perhaps of a field, or what is in brackets.
 TERM = r"(\([^()]*\)|\S+)"
 # What a method requires: what is tested of it as a clause and as code, the words where it isn't so, and whether that is
-# all of it; else the whole is a duty, or what is said there. The parts of the pattern are {0}, {1} ..; as code {c0}, {c1} ...
+# all of it; else the whole is a duty. The parts of the pattern are {0}, {1} ..; as code {c0}, {c1} ...
 TESTS = [
     (rf"IsSound(?:Place)? {TERM} {TERM}", "{all}", "!{c1}.is_sound({c0})",
      "`{c1}` isn't that of a ring of `{c0}` elements", True),
@@ -53,7 +53,7 @@ TESTS = [
      False),
     (rf"HasSoundParts (fragments\S+) {TERM} {TERM}", "IsPlausible (length {1}) (length {2}) {0}",
      "!is_plausible({c0}, {c1}.len(), {c2}.len())",
-     "`present.used` is above `{c2}.len()`, or a known size above `{c1}.len()`", "HasSoundRuns {0}.present {2}"),
+     "`present.used` is above `{c2}.len()`, or a known size above `{c1}.len()`", False),
     (rf"HasSoundFinite {TERM} {TERM} {TERM}", "IsPlausible (length {1}) (length {2}) {0}.receiver",
      "!is_plausible(&{c0}.receiver, {c1}.len(), {c2}.len())",
      "`place` isn't that of a ring of `{c1}.len()` bytes, `next` doesn't fit 64 bits, or `held.used` is above `{c2}.len()`",
@@ -222,9 +222,9 @@ class Export:
                 parts = match.groups()
                 given = {f"c{at}": code_of(it) for at, it in enumerate(parts)}
                 given |= {f"f{at}": it.split(".", 2)[2] + "." if it.count(".") > 1 else "" for at, it in enumerate(parts)}
-                self.tests.append([it.format(*parts, all=clause, **given) for it in (tested, code, words)] + [is_all is True])
-                if is_all is not True:
-                    self.duties.append((self.tests[-1][0], is_all.format(*parts) if is_all else clause))
+                self.tests.append([it.format(*parts, all=clause, **given) for it in (tested, code, words)] + [is_all])
+                if not is_all:
+                    self.duties.append((self.tests[-1][0], clause))
                 return
         stop(f"{self.name}: no test of {clause}")
 
@@ -408,7 +408,7 @@ def comment_after(lines, at):
 OWN = {
     "Rattle.std.specs.Prelude": "◌≡◌ ◌≢◌ ◌↔◌ ◌≤◌ ◌<◌ ◌-◌ ◌+◌ ◌^◌ ◌++◌ ◌⊎◌ IsTrue IsFalse length unwrap_or if◌then◌else◌",
     "Rattle.net_ffi.specs.Refusals": "no_number nowhere",
-    "Rattle.net_base.specs.declared.storage.fragments.FragmentError.TheVariants": "TooLong OtherSize",
+    "Rattle.net_base.specs.declared.storage.fragments.FragmentError.TheVariants": "TooLong OtherSize TooManyHoles",
     "Rattle.net_ffi.specs.Results": "done_or_many length_or_many done_or_error IsStatus",
 }
 SYMBOL = re.compile(r"◌?([^\w◌\s(){},;]+)◌?")

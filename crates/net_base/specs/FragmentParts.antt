@@ -9,7 +9,7 @@ use Rattle.std.specs.Prelude.{ℕ, ℤ, ◌≡◌, ◌≤◌, ◌-◌, ◌⊎◌
 use Rattle.std.specs.Prelude.{nat_eq, nat_lt, if◌then◌else◌}
 use Rattle.std.specs.declared.option.Option.TheVariants.{Some, None}
 use Rattle.net_assembler.specs.RunLists.{set_of, HasSoundRuns, IsCanonical, zero_head}
-use Rattle.net_base.specs.Fragments.{FragmentsState}
+use Rattle.net_base.specs.Fragments.{FragmentsState, limit_of, IsBelow}
 use Rattle.net_base.specs.declared.storage.fragments.head.FragmentsHead.{FragmentsHead}
 
 -- the packet's size, once it is known
@@ -28,9 +28,10 @@ fragments_of h bytes runs = record {
 abbrev pub IsPlausible : ℕ → ℕ → FragmentsHead → Type 0
 IsPlausible c n h = (h.present.used ≤ n) × ((h.has_total ≡ 0) ⊎ (h.total ≤ c))
 
--- and the runs are sound
+-- the runs are sound, and end at the limit or below, which is within the bytes
 abbrev pub HasSoundParts : FragmentsHead → List ℕ → List (ℕ × ℕ) → Type 0
-HasSoundParts h bytes runs = HasSoundRuns h.present runs × ((h.has_total ≡ 0) ⊎ (h.total ≤ length bytes))
+HasSoundParts h bytes runs = let b = fragments_of h bytes runs in
+    HasSoundRuns h.present runs × (limit_of b ≤ length bytes) × IsBelow b.present (limit_of b)
 
 -- where no run is used, both numbers of `present` are 0; `has_total` is 0 or 1, and `total` is 0 where
 -- it is 0: two exact heads of one buffer that have the same runs are equal

@@ -1,10 +1,14 @@
 -- A packet that arrives in fragments.
 --     FragmentsState, state_code      the state of a buffer, and its code
---     Fits bytes total      a known size is at most that of the buffer
+--     limit_of b      where its fragments must end
 --     with_fragment b offset data', IsComplete b n      a fragment arrived, and all bytes have
---     DiffersFrom total n      another size than n is known
+--     IsBelow s n      a set has no position from n on
+--     Contradicts s total n      the packet can't have n bytes
 --     Meets s o n      a set has one of the n positions from o on
-use Rattle.std.specs.Prelude.{◌≡◌, ◌≢◌, ◌+◌, ◌<◌, ◌≤◌, ⊤, ℕ, ℤ, List, Option, length, IsTrue, refl}
+--     HasOther bytes offset data' p, Differs b offset data'      a fragment has another byte at p than some bytes; than
+--         one that arrived
+use Rattle.std.specs.Prelude.{◌≡◌, ◌≢◌, ◌+◌, ◌-◌, ◌<◌, ◌≤◌, ℕ, ℤ, List, Option, length, slice_index_or, unwrap_or}
+use Rattle.std.specs.Prelude.{IsTrue, refl}
 use Rattle.std.specs.Coded.{Coded, code_by, coded×, coded_ℕ, coded_ℤ, coded_list, coded_option}
 use Rattle.std.specs.FinSet as set
 use Rattle.std.specs.declared.option.Option.TheVariants.{Some, None}
@@ -29,10 +33,9 @@ state_code =
     (λ p. record { bytes = p.0; present = p.1.0; total = p.1.1.0; expires_at = p.1.1.1 })
     (λ _. refl)
 
--- a known size is at most that of the buffer
-abbrev pub Fits : List ℕ → Option ℕ → Type 0
-Fits bytes None = ⊤
-Fits bytes (Some n) = n ≤ length bytes
+-- no fragment reaches past the packet's end, once it is known, nor past that of the buffer
+abbrev pub limit_of : FragmentsState → ℕ
+limit_of b = unwrap_or b.total (length b.bytes)
 
 -- a fragment arrived: its bytes are at the offset, and its positions are present
 abbrev pub with_fragment : FragmentsState → ℕ → List ℕ → FragmentsState
@@ -45,11 +48,25 @@ with_fragment b offset data' = record b {
 abbrev pub IsComplete : FragmentsState → ℕ → Type 0
 IsComplete b n = (b.total ≡ Some n) × ((p : ℕ) → p < n → IsTrue (contains b.present p))
 
--- the packet's size is known, and isn't n
-abbrev pub DiffersFrom : Option ℕ → ℕ → Type 0
-DiffersFrom None n = ⊥
-DiffersFrom (Some m) n = m ≢ n
+-- each position of the set is below n
+abbrev pub IsBelow : Positions → ℕ → Type 0
+IsBelow s n = (p : ℕ) → IsTrue (contains s p) → p < n
+
+-- the packet can't have n bytes: it has another size, or a byte from n on arrived before a size was known
+abbrev pub Contradicts : Positions → Option ℕ → ℕ → Type 0
+Contradicts s None n = IsBelow s n → ⊥
+Contradicts s (Some m) n = m ≢ n
 
 -- one of the n positions from o on is in the set
 abbrev pub Meets : Positions → ℕ → ℕ → Type 0
 Meets s o n = (p : ℕ) × (o ≤ p) × (p < o + n) × IsTrue (contains s p)
+
+-- a fragment has a byte at p, and not that of some bytes
+pub record HasOther (bytes : List ℕ) (offset : ℕ) (data' : List ℕ) (p : ℕ) : Type 0 where
+  pub from : offset ≤ p
+  pub before : p < offset + length data'
+  pub other : slice_index_or bytes p 0 ≢ slice_index_or data' (p - offset) 0
+
+-- a fragment has another byte than one that arrived
+abbrev pub Differs : FragmentsState → ℕ → List ℕ → Type 0
+Differs b offset data' = (p : ℕ) × IsTrue (contains b.present p) × HasOther b.bytes offset data' p

@@ -72,9 +72,13 @@ impl<const N: usize> Subject for Buffer<N> {
     /// A fragment has an offset, a size, and what its bytes represent.
     fn answer(&mut self, alloc: Global, call: &Call<'_>) -> Result<Option<Reply>, AllocError> {
         let [one, two, three, _] = call.four();
-        if call.name == "add" {
+        if call.name == "add" || call.name == "differs" {
             let bytes = pattern(alloc, two, three)?;
-            return Ok(Some(answer(self.buffer.add(one as usize, &bytes))));
+            return Ok(Some(if call.name == "add" {
+                answer(self.buffer.add(one as usize, &bytes))
+            } else {
+                Reply::new().truth(self.buffer.differs(one as usize, &bytes))
+            }));
         }
         match find(&CALLS, call) {
             Some(kind) => Ok(Some(self.make(kind, one, two))),

@@ -25,7 +25,8 @@ pub const NET_BASE_PRESENT: u32 = 4;
 /// The fragment or the size reaches past the end of the buffer. Nothing changes.
 pub const NET_BASE_TOO_LONG: u32 = 5;
 
-/// Another size of the packet is known. Nothing changes.
+/// It contradicts the packet's size: another size is known, or a byte at that size or above has arrived, or the fragment
+/// reaches past a known size. Nothing changes.
 pub const NET_BASE_OTHER_SIZE: u32 = 6;
 
 /// The stream can't end there. Nothing changes.

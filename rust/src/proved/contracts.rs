@@ -1366,9 +1366,17 @@
 //!   expires_at = h.expires_at;
 //! }
 //!
-//! -- and the runs are sound
+//! -- the runs are sound, and end at the limit or below, which is within the bytes
 //! abbrev pub HasSoundParts : FragmentsHead → List ℕ → List (ℕ × ℕ) → Type 0
-//! HasSoundParts h bytes runs = HasSoundRuns h.present runs × ((h.has_total ≡ 0) ⊎ (h.total ≤ length bytes))
+//! HasSoundParts h bytes runs = let b = fragments_of h bytes runs in
+//!     HasSoundRuns h.present runs × (limit_of b ≤ length bytes) × IsBelow b.present (limit_of b)
+//!
+//! -- where no run is used, both numbers of `present` are 0; `has_total` is 0 or 1, and `total` is 0 where
+//! -- it is 0: two exact heads of one buffer that have the same runs are equal
+//! pub record IsExact (h : FragmentsHead) : Type 0 where
+//!   pub present : IsCanonical h.present
+//!   pub flag : h.has_total ≤ 1
+//!   pub no_total : h.has_total ≡ 0 → h.total ≡ 0
 //! ```
 //!
 //! # net_base, FragmentTable
@@ -1382,6 +1390,12 @@
 //! -- a buffer that was begun again, with nothing in it
 //! abbrev pub begun : FragmentsState → ℤ → FragmentsState
 //! begun b e = record { bytes = b.bytes; present = nothing; total = None; expires_at = e }
+//!
+//! -- none expires earlier than the one at an index, and each one before it later
+//! pub record ExpiresFirst {X : Type 0} (expires : X → ℤ) (xs : List X) (at : ℕ) : Type 0 where
+//!   pub within : at < length xs
+//!   pub earliest : (k : ℕ) (d : X) → k < length xs → expires (slice_index_or xs at d) ≤ℤ expires (slice_index_or xs k d)
+//!   pub first : (k : ℕ) (d : X) → k < at → expires (slice_index_or xs at d) <ℤ expires (slice_index_or xs k d)
 //! ```
 //!
 //! # net_base, Fragments
@@ -1395,6 +1409,10 @@
 //!   pub total : Option ℕ
 //!   pub expires_at : ℤ
 //!
+//! -- no fragment reaches past the packet's end, once it is known, nor past that of the buffer
+//! abbrev pub limit_of : FragmentsState → ℕ
+//! limit_of b = unwrap_or b.total (length b.bytes)
+//!
 //! -- a fragment arrived: its bytes are at the offset, and its positions are present
 //! abbrev pub with_fragment : FragmentsState → ℕ → List ℕ → FragmentsState
 //! with_fragment b offset data' = record b {
@@ -1406,14 +1424,22 @@
 //! abbrev pub IsComplete : FragmentsState → ℕ → Type 0
 //! IsComplete b n = (b.total ≡ Some n) × ((p : ℕ) → p < n → IsTrue (contains b.present p))
 //!
-//! -- the packet's size is known, and isn't n
-//! abbrev pub DiffersFrom : Option ℕ → ℕ → Type 0
-//! DiffersFrom None n = ⊥
-//! DiffersFrom (Some m) n = m ≢ n
+//! -- each position of the set is below n
+//! abbrev pub IsBelow : Positions → ℕ → Type 0
+//! IsBelow s n = (p : ℕ) → IsTrue (contains s p) → p < n
+//!
+//! -- the packet can't have n bytes: it has another size, or a byte from n on arrived before a size was known
+//! abbrev pub Contradicts : Positions → Option ℕ → ℕ → Type 0
+//! Contradicts s None n = IsBelow s n → ⊥
+//! Contradicts s (Some m) n = m ≢ n
 //!
 //! -- one of the n positions from o on is in the set
 //! abbrev pub Meets : Positions → ℕ → ℕ → Type 0
 //! Meets s o n = (p : ℕ) × (o ≤ p) × (p < o + n) × IsTrue (contains s p)
+//!
+//! -- a fragment has another byte than one that arrived
+//! abbrev pub Differs : FragmentsState → ℕ → List ℕ → Type 0
+//! Differs b offset data' = (p : ℕ) × IsTrue (contains b.present p) × HasOther b.bytes offset data' p
 //! ```
 //!
 //! # net_base, Generator

@@ -43,7 +43,7 @@ error_text! {
     FragmentError, error => match error {
         FragmentError::TooLong => "past the end of the buffer",
         FragmentError::TooManyHoles => "too many holes",
-        FragmentError::OtherSize => "another size is known",
+        FragmentError::OtherSize => "contradicts the packet's size",
     };
 }
 

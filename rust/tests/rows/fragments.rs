@@ -44,6 +44,9 @@ impl<S: Storage<u8>, const N: usize> Subject for Buffer<S, N> {
             "add" => taken(buffer.add(call.size(0), &pattern(call.size(1), call.at(2)))),
             "set_total_size" => taken(buffer.set_total_size(call.size(0))),
             "overlaps" => truth(buffer.overlaps(call.size(0), call.size(1))).to_string(),
+            "differs" => {
+                truth(buffer.differs(call.size(0), &pattern(call.size(1), call.at(2)))).to_string()
+            }
             "assemble" => buffer.assemble().map_or("none".to_string(), bytes),
             "is_expired" => truth(buffer.is_expired(moment(call.at(0)))).to_string(),
             "reset" => {

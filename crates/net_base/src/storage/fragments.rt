@@ -4,8 +4,9 @@ ghost use Rattle.std.specs.Prelude.{OnOk, OnErr, ◌<ℤ◌, Err, length, take};
 ghost use Rattle.std.specs.declared.option.Option.TheVariants.{Some, None};
 ghost use Rattle.net_assembler.specs.Positions.{nothing};
 ghost use Rattle.net_assembler.specs.Assembler.{MakesTooManyRuns};
-ghost use Rattle.net_base.specs.FragmentParts.{fragments_of, HasSoundParts};
-ghost use Rattle.net_base.specs.Fragments.{with_fragment, IsComplete, DiffersFrom, Meets};
+ghost use Rattle.net_base.specs.FragmentParts.{fragments_of, HasSoundParts, IsExact};
+ghost use Rattle.net_base.specs.Fragments.{with_fragment, limit_of, IsBelow, IsComplete, Contradicts};
+ghost use Rattle.net_base.specs.Fragments.{Differs, Meets};
 
 use crate::time::Instant;
 use net_assembler::Run;
@@ -25,7 +26,8 @@ pub enum FragmentError {
     TooLong,
     /// It would leave more maximal runs of bytes, with holes between them, than there is room for.
     TooManyHoles,
-    /// Another size of the packet is known.
+    /// It contradicts the packet's size: another size is known, or a byte at that size or above has arrived; or the
+    /// fragment reaches past a known size.
     OtherSize,
 }
 
@@ -44,8 +46,9 @@ pub enum FragmentError {
 /// size, once it is known, and the moment up to which the packet is waited for.
 #[derive(Drop)]
 pub struct FragmentsOver<B: Storage<u8>, const N: usize> {
-    // Invariant: the runs are those of an assembler, the positions of the bytes that arrived. If the
-    // total is known, the storage has room for it.
+    // Invariant: the runs are those of an assembler, the positions of the bytes that arrived. They end
+    // within the storage and, if the total is known, within that, for which the storage has room. The
+    // head is exact.
     head: FragmentsHead,
     bytes: B,
     runs: [Run; N],
@@ -57,7 +60,7 @@ pub type FragmentBuffer<'a, const N: usize> = FragmentsOver<ManagedSlice<'a, u8>
 impl<B: Storage<u8>, const N: usize> Model for FragmentsOver<B, N> {
     ghost use Rattle.std.specs.Prelude.{◌≡◌, length};
     ghost use Rattle.net_base.specs.Fragments.{FragmentsState, state_code};
-    ghost use Rattle.net_base.specs.FragmentParts.{fragments_of, HasSoundParts};
+    ghost use Rattle.net_base.specs.FragmentParts.{fragments_of, HasSoundParts, IsExact};
 
     ghost Value = { FragmentsState };
 
@@ -65,7 +68,8 @@ impl<B: Storage<u8>, const N: usize> Model for FragmentsOver<B, N> {
 
     ghost view = { λ b. fragments_of b.head (B.elements b.bytes) b.runs };
 
-    ghost invariant = { λ b. HasSoundParts b.head (B.elements b.bytes) b.runs × (length b.runs ≡ N) };
+    ghost invariant = { λ b.
+        HasSoundParts b.head (B.elements b.bytes) b.runs × (length b.runs ≡ N) × IsExact b.head };
 }
 
 impl<'a, const N: usize> FragmentBuffer<'a, N> {
@@ -109,12 +113,16 @@ impl<B: Storage<u8>, const N: usize> FragmentsOver<B, N> {
     ///
     /// # Requires
     ///
-    /// They are sound: the runs are those of an assembler, and a known size is at most that of `bytes`.
+    /// They are sound, as `FragmentsHead::is_sound` tests.
     pub fn from_parts(head: FragmentsHead, bytes: B, runs: [Run; N]) -> Self
         requires { HasSoundParts head (B.elements bytes) runs }
         ensures { result ≡ fragments_of head (B.elements bytes) runs.entry }
     {
-        FragmentsOver { head, bytes, runs }
+        FragmentsOver {
+            head: head.exact(),
+            bytes,
+            runs,
+        }
     }
 
     /// Returns the head, the bytes and the runs, which represent the buffer. smoltcp has no such call.
@@ -122,6 +130,7 @@ impl<B: Storage<u8>, const N: usize> FragmentsOver<B, N> {
         ensures sound { HasSoundParts result.0 (B.elements result.1) result.2 }
         ensures state { fragments_of result.0 (B.elements result.1) result.2 ≡ self }
         ensures runs { length result.2 ≡ N }
+        ensures exact { IsExact result.0 }
     {
         let FragmentsOver { head, bytes, runs } = self;
         (head, bytes, runs)
@@ -203,17 +212,21 @@ impl<B: Storage<u8>, const N: usize> FragmentsOver<B, N> {
     /// # Errors
     ///
     /// It is refused, and nothing changes, exactly if it reaches past the buffer's end, which is
-    /// `TooLong`, or else would leave more than `N` maximal runs, which is `TooManyHoles`.
+    /// `TooLong`, or else past the packet's, which is `OtherSize`, or else would leave more than `N`
+    /// maximal runs, which is `TooManyHoles`. A fragment without bytes has its end at `offset`.
     pub fn add(&mut self, offset: usize, data: &[u8]) -> Result<(), FragmentError>
         ensures ok { OnOk result (self.new ≡ with_fragment self.old offset «data».now) }
         ensures unchanged { OnErr result (self.new ≡ self.old) }
         ensures fits { OnOk result (offset + length «data».now < 2 ^ 64) }
         ensures too_long { (result ≡ Err FragmentError.TooLong)
             ↔ (length self.old.bytes < offset + length «data».now) }
-        ensures too_many { (result ≡ Err FragmentError.TooManyHoles)
+        ensures other_size { (result ≡ Err FragmentError.OtherSize)
             ↔ ((offset + length «data».now ≤ length self.old.bytes)
+            × (limit_of self.old < offset + length «data».now)) }
+        ensures too_many { (result ≡ Err FragmentError.TooManyHoles)
+            ↔ ((offset + length «data».now ≤ limit_of self.old)
             × MakesTooManyRuns N self.old.present offset (length «data».now)) }
-        ensures refused { IsErr result ↔ ((length self.old.bytes < offset + length «data».now)
+        ensures refused { IsErr result ↔ ((limit_of self.old < offset + length «data».now)
             ⊎ MakesTooManyRuns N self.old.present offset (length «data».now)) }
     {
         let count = self.bytes.count();
@@ -228,30 +241,38 @@ impl<B: Storage<u8>, const N: usize> FragmentsOver<B, N> {
     /// # use net_base::time::Instant;
     /// # let mut bytes = [0u8; 8];
     /// # let mut buffer = FragmentBuffer::new(&mut bytes[..], Instant::ZERO);
+    /// buffer.add(0, b"abc")?;
     /// assert_eq!(buffer.set_total_size(9), Err(FragmentError::TooLong));
-    /// assert_eq!(buffer.set_total_size(0), Ok(()));
-    /// assert_eq!(buffer.assemble(), Some(&b""[..]));
+    /// assert_eq!(buffer.set_total_size(2), Err(FragmentError::OtherSize));
+    /// assert_eq!(buffer.set_total_size(3), Ok(()));
+    /// assert_eq!(buffer.add(3, b"d"), Err(FragmentError::OtherSize));
+    /// assert_eq!(buffer.assemble(), Some(&b"abc"[..]));
+    /// # Ok::<(), FragmentError>(())
     /// ```
     ///
     /// # Errors
     ///
     /// It is refused, and nothing changes, exactly if the buffer has fewer bytes, which is
-    /// `TooLong`, or else if another size is known, which is `OtherSize`.
+    /// `TooLong`, or else if another size is known, or a byte at `size` or above has arrived, which is
+    /// `OtherSize`.
     pub fn set_total_size(&mut self, size: usize) -> Result<(), FragmentError>
         ensures ok { OnOk result (self.new ≡ record self.old { total = Some size }) }
         ensures unchanged { OnErr result (self.new ≡ self.old) }
         ensures too_long { (result ≡ Err FragmentError.TooLong) ↔ (length self.old.bytes < size) }
         ensures other_size { (result ≡ Err FragmentError.OtherSize)
-            ↔ ((size ≤ length self.old.bytes) × DiffersFrom self.old.total size) }
-        ensures refused { IsErr result
-            ↔ ((length self.old.bytes < size) ⊎ DiffersFrom self.old.total size) }
+            ↔ ((size ≤ length self.old.bytes) × Contradicts self.old.present self.old.total size) }
+        ensures refused { IsErr result ↔ ((length self.old.bytes < size)
+            ⊎ Contradicts self.old.present self.old.total size) }
     {
-        self.head.set_total_size(self.bytes.count(), size)
+        self.head
+            .set_total_size(self.bytes.count(), &self.runs, size)
     }
 
     /// Returns the packet's size, once it is known. smoltcp has no such call.
     pub fn total_size(&self) -> Option<usize>
-        ensures { result ≡ self.now.total }
+        ensures size { result ≡ self.now.total }
+        ensures room { limit_of self.now ≤ length self.now.bytes }
+        ensures below { IsBelow self.now.present (limit_of self.now) }
     {
         self.head.total_size()
     }
@@ -260,11 +281,34 @@ impl<B: Storage<u8>, const N: usize> FragmentsOver<B, N> {
     /// overlaps bytes that are present. They need not be within the buffer.
     ///
     /// It is asked before `add`, by callers who refuse a packet whose fragments overlap (RFC 5722). A
-    /// fragment that arrives twice overlaps too. smoltcp has no such call.
+    /// fragment that arrives twice overlaps too: to allow that, ask `differs`. smoltcp has no such call.
     pub fn overlaps(&self, offset: usize, len: usize) -> bool
         ensures { IsTrue result ↔ Meets self.now.present offset len }
     {
         self.head.overlaps(&self.runs, offset, len)
+    }
+
+    /// Returns whether a byte that arrived differs from that of the fragment whose first byte is that of the packet at
+    /// `offset`. The fragment need not be within the buffer.
+    ///
+    /// It is asked before `add`, by callers who refuse a packet whose fragments disagree, and take one that
+    /// arrives twice. smoltcp has no such call.
+    ///
+    /// ```
+    /// # use net_base::storage::{FragmentBuffer, FragmentError};
+    /// # use net_base::time::Instant;
+    /// # let mut bytes = [0u8; 8];
+    /// # let mut buffer = FragmentBuffer::new(&mut bytes[..], Instant::ZERO);
+    /// buffer.add(2, b"cd")?;
+    /// assert!(!buffer.differs(2, b"cd") && !buffer.differs(0, b"abcdef"));
+    /// assert!(buffer.differs(3, b"De") && !buffer.differs(4, b"De"));
+    /// # Ok::<(), FragmentError>(())
+    /// ```
+    pub fn differs(&self, offset: usize, data: &[u8]) -> bool
+        ensures { IsTrue result ↔ Differs self.now offset «data».now }
+    {
+        let bytes = self.bytes.part(0, self.bytes.count());
+        self.head.differs(bytes, &self.runs, offset, data)
     }
 
     /// Shows the bytes of the packet. `None` exactly if its size is not known or one of its bytes
@@ -277,8 +321,8 @@ impl<B: Storage<u8>, const N: usize> FragmentsOver<B, N> {
     /// # let mut buffer = FragmentBuffer::new(&mut bytes[..], Instant::ZERO);
     /// buffer.add(0, b"abc")?;
     /// assert_eq!(buffer.assemble(), None);
-    /// buffer.set_total_size(2)?;
-    /// assert_eq!(buffer.assemble(), Some(&b"ab"[..]));
+    /// buffer.set_total_size(3)?;
+    /// assert_eq!(buffer.assemble(), Some(&b"abc"[..]));
     /// # Ok::<(), FragmentError>(())
     /// ```
     pub fn assemble(&self) -> Option<&[u8]>
@@ -316,7 +360,7 @@ impl<B: Storage<u8>, const N: usize> FragmentsOver<B, N> {
     /// # let mut bytes = [0u8; 8];
     /// # let mut buffer = FragmentBuffer::new(&mut bytes[..], Instant::ZERO);
     /// buffer.add(0, b"abc")?;
-    /// buffer.set_total_size(0)?;
+    /// buffer.set_total_size(3)?;
     /// buffer.reset(Instant::from_millis(5));
     /// assert!(buffer.is_empty() && buffer.assemble().is_none());
     /// # Ok::<(), FragmentError>(())

@@ -5,22 +5,27 @@
 //! many bytes as the storage. Fragments may overlap: at each position the byte is that of the last
 //! fragment there. `present` is an assembler.
 // Written by tools/ffi.py.
+ghost use Rattle.net_assembler.specs.Assembler.{MakesTooManyRuns};
 ghost use Rattle.net_assembler.specs.Positions.{nothing};
 ghost use Rattle.net_assembler.specs.RunLists.{HasSoundRuns, set_of};
-ghost use Rattle.net_base.specs.FragmentParts.{HasSoundParts, IsExact, total_of};
-ghost use Rattle.net_base.specs.Fragments.{DiffersFrom, Meets};
+ghost use Rattle.net_base.specs.FragmentParts.{HasSoundParts, IsExact, IsPlausible, fragments_of, total_of};
+ghost use Rattle.net_base.specs.Fragments.{Contradicts, Differs, Meets, limit_of, with_fragment};
 ghost use Rattle.net_base.specs.declared.storage.fragments.FragmentError.TheVariants.{OtherSize, TooLong};
+ghost use Rattle.net_base.specs.declared.storage.fragments.FragmentError.TheVariants.{TooManyHoles};
 ghost use Rattle.net_ffi.specs.Results.{IsStatus, done_or_error};
-ghost use Rattle.std.specs.Prelude.{Err, IsErr, IsTrue, List, OnErr, OnOk, length, ℕ, ◌<ℤ◌, ◌<◌, ◌↔◌, ◌≡◌, ◌≤◌, ◌⊎◌};
+ghost use Rattle.std.specs.Prelude.{Err, IsErr, IsTrue, List, OnErr, OnOk, length, ℕ, ◌+◌, ◌<ℤ◌, ◌<◌, ◌↔◌, ◌≡◌};
+ghost use Rattle.std.specs.Prelude.{◌≤◌, ◌⊎◌};
 ghost use Rattle.std.specs.declared.option.Option.TheVariants.{None, Some};
 
+use crate::fragments::is_plausible;
 use crate::refusals::{NET_BASE_MISSING, NET_BASE_PRESENT, NET_BASE_REFUSED};
 use crate::results::{presence_of, status_of_fragment};
 use net_assembler::Run;
 use net_base::storage::FragmentsHead;
 
-/// Returns whether `present` and the runs are those of an assembler, and a known size is at most
-/// `capacity`. It looks at each run.
+/// Returns whether `present` and the runs are those of an assembler, whose last run ends at
+/// `capacity` or below, and at a known size or below, which is at most `capacity`. It looks at each
+/// run.
 #[unsafe(no_mangle)]
 pub extern "C" fn net_base_fragments_is_sound(
     fragments: &FragmentsHead,
@@ -51,29 +56,136 @@ pub extern "C" fn net_base_fragments_reset(fragments: &mut FragmentsHead, expire
 /// Sets the packet's size to `size` bytes, in a storage of `capacity` bytes: `has_total` is 1 then,
 /// whatever it was.
 ///
-/// Returns `NET_BASE_DONE`, also if bytes past that size have arrived; or, and nothing changes,
-/// `NET_BASE_TOO_LONG` if the storage has fewer bytes, or else `NET_BASE_OTHER_SIZE` if another
-/// size is known.
+/// Returns `NET_BASE_DONE`; or, and nothing changes, `NET_BASE_TOO_LONG` if the storage has fewer
+/// bytes, or else `NET_BASE_OTHER_SIZE` if another size is known, or a byte at `size` or above has
+/// arrived.
+///
+/// It is refused if `present.used` is above `runs.len()`: `NET_BASE_REFUSED`, and nothing changes.
+///
+/// # Requires
+///
+/// Head and runs are sound, as `net_base_fragments_is_sound` tests.
 #[unsafe(no_mangle)]
 pub extern "C" fn net_base_fragments_set_total_size(
     fragments: &mut FragmentsHead,
     capacity: usize,
+    runs: &[Run],
     size: usize,
 ) -> u32
-    ensures ok { OnOk (done_or_error result) ((fragments.new.has_total ≡ 1) × (fragments.new.total ≡ size) ×
-        (fragments.new.present ≡ fragments.old.present) × (fragments.new.expires_at ≡ fragments.old.expires_at)) }
-    ensures total { OnOk (done_or_error result) (total_of fragments.new ≡ Some size) }
-    ensures sound { OnOk (done_or_error result) ((storage : List ℕ) (runs : List (ℕ × ℕ)) → length storage ≡
-        capacity → HasSoundParts fragments.old storage runs → HasSoundParts fragments.new storage runs) }
-    ensures unchanged { OnErr (done_or_error result) (fragments.new ≡ fragments.old) }
-    ensures too_long { ((done_or_error result) ≡ Err TooLong) ↔ (capacity < size) }
-    ensures other_size { ((done_or_error result) ≡ Err OtherSize) ↔ ((size ≤ capacity) × DiffersFrom (total_of
-        fragments.old) size) }
-    ensures refused { IsErr (done_or_error result) ↔ ((capacity < size) ⊎ DiffersFrom (total_of fragments.old) size) }
+    requires sound { fragments.old.present.used ≤ length runs.now → HasSoundRuns fragments.old.present runs.now }
+    ensures ok { fragments.old.present.used ≤ length runs.now → OnOk (done_or_error result)
+        ((fragments.new.has_total ≡ 1) × (fragments.new.total ≡ size) × (fragments.new.present ≡
+        fragments.old.present) × (fragments.new.expires_at ≡ fragments.old.expires_at)) }
+    ensures total { fragments.old.present.used ≤ length runs.now → OnOk (done_or_error result) (total_of
+        fragments.new ≡ Some size) }
+    ensures sound { fragments.old.present.used ≤ length runs.now → OnOk (done_or_error result) ((storage : List ℕ) →
+        length storage ≡ capacity → HasSoundParts fragments.old storage runs.now → HasSoundParts fragments.new
+        storage runs.now) }
+    ensures unchanged { fragments.old.present.used ≤ length runs.now → OnErr (done_or_error result) (fragments.new ≡
+        fragments.old) }
+    ensures too_long { fragments.old.present.used ≤ length runs.now → (((done_or_error result) ≡ Err TooLong) ↔
+        (capacity < size)) }
+    ensures other_size { fragments.old.present.used ≤ length runs.now → (((done_or_error result) ≡ Err OtherSize) ↔
+        ((size ≤ capacity) × Contradicts (set_of fragments.old.present runs.now) (total_of fragments.old) size)) }
+    ensures refused { fragments.old.present.used ≤ length runs.now → (IsErr (done_or_error result) ↔ ((capacity <
+        size) ⊎ Contradicts (set_of fragments.old.present runs.now) (total_of fragments.old) size)) }
     ensures exact { IsExact fragments.old → IsExact fragments.new }
-    ensures status { IsStatus result }
+    ensures status { fragments.old.present.used ≤ length runs.now → IsStatus result }
+    ensures unsound { (fragments.old.present.used ≤ length runs.now → ⊥) → (result ≡ NET_BASE_REFUSED) ×
+        (fragments.new ≡ fragments.old) }
 {
-    status_of_fragment(fragments.set_total_size(capacity, size))
+    if fragments.present.used > runs.len() {
+        return NET_BASE_REFUSED;
+    }
+    status_of_fragment(fragments.set_total_size(capacity, runs, size))
+}
+
+/// Adds a fragment, whose first byte is that of the packet at `offset`.
+///
+/// Returns `NET_BASE_DONE`; or, and nothing changes, `NET_BASE_TOO_LONG` if the fragment reaches
+/// past the storage's end, or else `NET_BASE_OTHER_SIZE` if it reaches past a known size, or else
+/// `NET_BASE_TOO_MANY_RUNS` if there would be more runs than the slice has elements. A fragment
+/// without bytes changes nothing, and has its end at `offset`.
+///
+/// It is refused if `present.used` is above `runs.len()`, or a known size above `storage.len()`:
+/// `NET_BASE_REFUSED`, and nothing changes.
+///
+/// # Requires
+///
+/// Head and runs are sound, as `net_base_fragments_is_sound` tests.
+#[unsafe(no_mangle)]
+pub extern "C" fn net_base_fragments_add(
+    fragments: &mut FragmentsHead,
+    storage: &mut [u8],
+    runs: &mut [Run],
+    offset: usize,
+    data: &[u8],
+) -> u32
+    requires sound { IsPlausible (length storage.old) (length runs.old) fragments.old → HasSoundParts fragments.old
+        storage.old runs.old }
+    ensures sound { IsPlausible (length storage.old) (length runs.old) fragments.old → HasSoundParts fragments.new
+        storage.new runs.new }
+    ensures ok { IsPlausible (length storage.old) (length runs.old) fragments.old → OnOk (done_or_error result)
+        (fragments_of fragments.new storage.new runs.new ≡ with_fragment (fragments_of fragments.old storage.old
+        runs.old) offset «data».now) }
+    ensures unchanged { IsPlausible (length storage.old) (length runs.old) fragments.old → OnErr (done_or_error
+        result) ((fragments.new ≡ fragments.old) × (storage.new ≡ storage.old) × (runs.new ≡ runs.old)) }
+    ensures too_long { IsPlausible (length storage.old) (length runs.old) fragments.old → (((done_or_error result) ≡
+        Err TooLong) ↔ (length storage.old < offset + length «data».now)) }
+    ensures other_size { IsPlausible (length storage.old) (length runs.old) fragments.old → (((done_or_error result)
+        ≡ Err OtherSize) ↔ ((offset + length «data».now ≤ length storage.old) × (limit_of (fragments_of
+        fragments.old storage.old runs.old) < offset + length «data».now))) }
+    ensures too_many { IsPlausible (length storage.old) (length runs.old) fragments.old → (((done_or_error result) ≡
+        Err TooManyHoles) ↔ ((offset + length «data».now ≤ limit_of (fragments_of fragments.old storage.old
+        runs.old)) × MakesTooManyRuns (length runs.old) (set_of fragments.old.present runs.old) offset (length
+        «data».now))) }
+    ensures refused { IsPlausible (length storage.old) (length runs.old) fragments.old → (IsErr (done_or_error
+        result) ↔ ((limit_of (fragments_of fragments.old storage.old runs.old) < offset + length «data».now) ⊎
+        MakesTooManyRuns (length runs.old) (set_of fragments.old.present runs.old) offset (length «data».now))) }
+    ensures others { (fragments.new.has_total ≡ fragments.old.has_total) × (fragments.new.total ≡
+        fragments.old.total) × (fragments.new.expires_at ≡ fragments.old.expires_at) }
+    ensures exact { IsExact fragments.old → IsExact fragments.new }
+    ensures status { IsPlausible (length storage.old) (length runs.old) fragments.old → IsStatus result }
+    ensures unsound { (IsPlausible (length storage.old) (length runs.old) fragments.old → ⊥) → (result ≡
+        NET_BASE_REFUSED) × (fragments.new ≡ fragments.old) × (storage.new ≡ storage.old) × (runs.new ≡ runs.old) }
+{
+    if !is_plausible(fragments, storage.len(), runs.len()) {
+        return NET_BASE_REFUSED;
+    }
+    status_of_fragment(fragments.add(storage, runs, offset, data))
+}
+
+/// Returns `NET_BASE_PRESENT` if a byte that arrived differs from that of the fragment whose first
+/// byte is that of the packet at `offset`, and `NET_BASE_MISSING` if none does. The fragment need
+/// not be within the storage.
+///
+/// It is refused if `present.used` is above `runs.len()`, or a known size above `storage.len()`:
+/// `NET_BASE_REFUSED`.
+///
+/// # Requires
+///
+/// Head and runs are sound, as `net_base_fragments_is_sound` tests.
+#[unsafe(no_mangle)]
+pub extern "C" fn net_base_fragments_differs(
+    fragments: &FragmentsHead,
+    storage: &[u8],
+    runs: &[Run],
+    offset: usize,
+    data: &[u8],
+) -> u32
+    requires sound { IsPlausible (length storage.now) (length runs.now) fragments.now → HasSoundParts fragments.now
+        storage.now runs.now }
+    ensures present { IsPlausible (length storage.now) (length runs.now) fragments.now → Differs (fragments_of
+        fragments.now storage.now runs.now) offset «data».now → result ≡ NET_BASE_PRESENT }
+    ensures missing { IsPlausible (length storage.now) (length runs.now) fragments.now → (Differs (fragments_of
+        fragments.now storage.now runs.now) offset «data».now → ⊥) → result ≡ NET_BASE_MISSING }
+    ensures refused { (IsPlausible (length storage.now) (length runs.now) fragments.now → ⊥) → result ≡
+        NET_BASE_REFUSED }
+{
+    if !is_plausible(fragments, storage.len(), runs.len()) {
+        return NET_BASE_REFUSED;
+    }
+    presence_of(fragments.differs(storage, runs, offset, data))
 }
 
 /// Returns `NET_BASE_PRESENT` if one of the `count` positions from `offset` on has arrived, so that

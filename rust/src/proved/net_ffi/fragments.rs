@@ -1,47 +1,14 @@
 //! What is tested of a buffer of fragments, and whether a packet is complete.
 
-use crate::proved::net_ffi::refusals::{
-    NET_BASE_DONE, NET_BASE_MISSING, NET_BASE_REFUSED, NET_BASE_TOO_LONG, NET_BASE_TOO_MANY_RUNS,
-    NO_FRONT,
-};
+use crate::proved::net_ffi::refusals::{NET_BASE_DONE, NET_BASE_MISSING, NO_FRONT};
 use crate::proved::net_ffi::results::FrontLength;
 use crate::proved::net_assembler::Run;
-use crate::proved::net_base::storage::{FragmentError, FragmentsHead};
+use crate::proved::net_base::storage::FragmentsHead;
 
 /// Returns whether there are as many runs as are used, and a known size is at most `capacity`.
 #[inline(always)]
 pub(crate) fn is_plausible(fragments: &FragmentsHead, capacity: usize, run_count: usize) -> bool {
     fragments.present.used <= run_count && (fragments.has_total == 0 || fragments.total <= capacity)
-}
-
-/// Adds a fragment, whose first byte is that of the packet at `offset`.
-///
-/// Returns `NET_BASE_DONE`; or, and nothing changes, `NET_BASE_TOO_LONG` if the fragment reaches past the storage's end,
-/// or else `NET_BASE_TOO_MANY_RUNS` if there would be more runs than the slice has elements. A fragment past a known size
-/// is kept; one without bytes changes nothing, and is too long as well if `offset` is above the storage's length.
-///
-/// It is refused if `present.used` is above `runs.len()`, or a known size above `storage.len()`: `NET_BASE_REFUSED`, and
-/// nothing changes.
-///
-/// # Requires
-///
-/// Head and runs are sound, as `net_base_fragments_is_sound` tests.
-#[inline(always)]
-pub fn net_base_fragments_add(
-    fragments: &mut FragmentsHead,
-    storage: &mut [u8],
-    runs: &mut [Run],
-    offset: usize,
-    data: &[u8],
-) -> u32 {
-    if !is_plausible(fragments, storage.len(), runs.len()) {
-        return NET_BASE_REFUSED;
-    }
-    match fragments.add(storage, runs, offset, data) {
-        Ok(()) => NET_BASE_DONE,
-        Err(FragmentError::TooLong) => NET_BASE_TOO_LONG,
-        Err(_) => NET_BASE_TOO_MANY_RUNS,
-    }
 }
 
 /// Returns the packet's size, if it is known and all its bytes have arrived: they are the first ones of the storage,

@@ -1,11 +1,12 @@
 //! The head of a buffer of fragments: what it has besides its bytes and runs, which each call takes as slices.
 ghost use Rattle.std.specs.Prelude.{◌≡◌, ◌↔◌, ◌+◌, ◌<◌, ◌≤◌, ◌⊎◌, ◌<ℤ◌, ℕ, List, Err, length};
-ghost use Rattle.std.specs.Prelude.{IsTrue, IsSome, IsErr, IfSome, OnOk, OnErr};
+ghost use Rattle.std.specs.Prelude.{IsTrue, IsSome, IsErr, IfSome, OnOk, OnErr, unwrap_or};
 ghost use Rattle.std.specs.declared.option.Option.TheVariants.{Some, None};
 ghost use Rattle.net_assembler.specs.Assembler.{MakesTooManyRuns};
 ghost use Rattle.net_assembler.specs.Positions.{nothing};
 ghost use Rattle.net_assembler.specs.RunLists.{set_of, HasSoundRuns};
-ghost use Rattle.net_base.specs.Fragments.{with_fragment, IsComplete, DiffersFrom, Meets};
+ghost use Rattle.net_base.specs.Fragments.{with_fragment, limit_of, IsComplete, IsBelow, Contradicts};
+ghost use Rattle.net_base.specs.Fragments.{Differs, HasOther, Meets};
 ghost use Rattle.net_base.specs.FragmentParts.{total_of, fragments_of, HasSoundParts, IsExact};
 
 use super::FragmentError;
@@ -21,6 +22,9 @@ use net_assembler::{AssemblerHead, Run, assembler};
 /// A head is exact (`IsExact`) if no number says nothing: both of `present` are 0 where there is no
 /// run, `has_total` is 0 or 1, and `total` is 0 while the size isn't known. `new` and `reset` make it
 /// so, and each call leaves it so.
+///
+/// Head, bytes and runs are those of a buffer if the runs are those of an assembler and end within the bytes, and
+/// within a known size, which is at most that of the bytes: `HasSoundParts` in contracts. `is_sound` tests it.
 #[repr(C)]
 #[derive(Debug, Clone, Copy)]
 pub struct FragmentsHead {
@@ -67,19 +71,68 @@ impl FragmentsHead {
         *self = FragmentsHead::new(expires_at);
     }
 
-    /// Returns whether `present` and these runs are those of an assembler, and a known size is at most `capacity`, for
-    /// any numbers. It looks at each used run.
+    /// Returns whether head and runs are those of a buffer of `capacity` bytes, for any numbers: `present` and the runs
+    /// are those of an assembler, which end at `capacity` or below, and at a known size or below, which is at most
+    /// `capacity`. It looks at each used run.
     pub fn is_sound(&self, capacity: usize, runs: &[Run]) -> bool
         ensures { (bytes : List ℕ) → length bytes ≡ capacity →
             (IsTrue result ↔ HasSoundParts self.now bytes runs.now) }
     {
-        self.present.is_sound(runs) && (self.has_total == 0 || self.total <= capacity)
+        let limit = self.limit(capacity);
+        if limit > capacity || !self.present.is_sound(runs) {
+            return false;
+        }
+        self.is_below(runs, limit)
+    }
+
+    /// Returns where fragments must end: at a known size, or else at `capacity`.
+    fn limit(&self, capacity: usize) -> usize
+        ensures { result ≡ unwrap_or (total_of self.now) capacity }
+    {
+        if self.has_total == 0 {
+            capacity
+        } else {
+            self.total
+        }
+    }
+
+    /// Returns whether all bytes that arrived are below `limit`.
+    fn is_below(&self, runs: &[Run], limit: usize) -> bool
+        requires { HasSoundRuns self.now.present runs.now }
+        ensures { IsTrue result ↔ IsBelow (set_of self.now.present runs.now) limit }
+    {
+        assembler::laws::maximal_runs();
+        let last = self.present.run_count().saturating_sub(1);
+        match self.present.run_at(runs, last) {
+            Some((_, end)) => end <= limit,
+            None => true,
+        }
+    }
+
+    /// Returns the exact head of the same buffer.
+    pub(crate) fn exact(self) -> Self
+        ensures exact { IsExact result }
+        ensures state { (bytes : List ℕ) (runs : List (ℕ × ℕ)) →
+            fragments_of result bytes runs ≡ fragments_of self bytes runs }
+        ensures sound { (bytes : List ℕ) (runs : List (ℕ × ℕ)) → HasSoundParts self bytes runs →
+            HasSoundParts result bytes runs }
+    {
+        let mut head = FragmentsHead::new(self.expires_at);
+        if !self.present.is_empty() {
+            head.present = self.present;
+        }
+        if self.has_total != 0 {
+            head.has_total = 1;
+            head.total = self.total;
+        }
+        head
     }
 
     /// Adds a fragment, whose first byte is that of the packet at `offset`.
     ///
     /// It is refused, and nothing changes, exactly if it reaches past the buffer's end, which is
-    /// `TooLong`, or else would leave more maximal runs than there is room for, which is `TooManyHoles`.
+    /// `TooLong`, or else past the packet's, which is `OtherSize`, or else would leave more maximal runs
+    /// than there is room for, which is `TooManyHoles`.
     ///
     /// # Requires
     ///
@@ -99,21 +152,30 @@ impl FragmentsHead {
             ((self.new ≡ self.old) × (bytes.new ≡ bytes.old) × (runs.new ≡ runs.old)) }
         ensures too_long { (result ≡ Err FragmentError.TooLong)
             ↔ (length bytes.old < offset + length «data».now) }
-        ensures too_many { (result ≡ Err FragmentError.TooManyHoles)
-            ↔ ((offset + length «data».now ≤ length bytes.old) × MakesTooManyRuns (length runs.old)
-            (set_of self.old.present runs.old) offset (length «data».now)) }
-        ensures refused { IsErr result ↔ ((length bytes.old < offset + length «data».now)
+        ensures other_size { (result ≡ Err FragmentError.OtherSize)
+            ↔ ((offset + length «data».now ≤ length bytes.old)
+            × (limit_of (fragments_of self.old bytes.old runs.old) < offset + length «data».now)) }
+        ensures too_many { (result ≡ Err FragmentError.TooManyHoles) ↔ ((offset + length «data».now
+            ≤ limit_of (fragments_of self.old bytes.old runs.old))
+            × MakesTooManyRuns (length runs.old) (set_of self.old.present runs.old)
+            offset (length «data».now)) }
+        ensures refused { IsErr result
+            ↔ ((limit_of (fragments_of self.old bytes.old runs.old) < offset + length «data».now)
             ⊎ MakesTooManyRuns (length runs.old) (set_of self.old.present runs.old)
             offset (length «data».now)) }
         ensures others { (self.new.has_total ≡ self.old.has_total)
             × (self.new.total ≡ self.old.total) × (self.new.expires_at ≡ self.old.expires_at) }
         ensures exact { IsExact self.old → IsExact self.new }
     {
-        let limit = bytes.len();
-        if offset > limit || data.len() > limit - offset {
+        assembler::laws::members();
+        let capacity = bytes.len();
+        if ends_above(capacity, offset, data.len()) {
             return Err(FragmentError::TooLong);
         }
-        net_assembler::laws::is_usize(limit);
+        if ends_above(self.limit(capacity), offset, data.len()) {
+            return Err(FragmentError::OtherSize);
+        }
+        net_assembler::laws::is_usize(capacity);
         let Ok(()) = self.present.add(runs, offset, data.len()) else {
             return Err(FragmentError::TooManyHoles);
         };
@@ -124,26 +186,41 @@ impl FragmentsHead {
     /// Sets the packet's size to `size` bytes, of a buffer of `capacity` bytes.
     ///
     /// It is refused, and nothing changes, exactly if the buffer has fewer bytes, which is `TooLong`, or
-    /// else if another size is known, which is `OtherSize`.
-    pub fn set_total_size(&mut self, capacity: usize, size: usize) -> Result<(), FragmentError>
+    /// else if another size is known, or a byte at `size` or above has arrived, which is `OtherSize`.
+    ///
+    /// # Requires
+    ///
+    /// The runs are sound.
+    pub fn set_total_size(
+        &mut self,
+        capacity: usize,
+        runs: &[Run],
+        size: usize,
+    ) -> Result<(), FragmentError>
+        requires sound { HasSoundRuns self.old.present runs.now }
         ensures ok { OnOk result ((self.new.has_total ≡ 1) × (self.new.total ≡ size)
             × (self.new.present ≡ self.old.present) × (self.new.expires_at ≡ self.old.expires_at)) }
         ensures total { OnOk result (total_of self.new ≡ Some size) }
-        ensures sound { OnOk result ((bytes : List ℕ) (runs : List (ℕ × ℕ)) →
-            length bytes ≡ capacity → HasSoundParts self.old bytes runs →
-            HasSoundParts self.new bytes runs) }
+        ensures sound { OnOk result ((bytes : List ℕ) → length bytes ≡ capacity →
+            HasSoundParts self.old bytes runs.now → HasSoundParts self.new bytes runs.now) }
         ensures unchanged { OnErr result (self.new ≡ self.old) }
         ensures too_long { (result ≡ Err FragmentError.TooLong) ↔ (capacity < size) }
         ensures other_size { (result ≡ Err FragmentError.OtherSize)
-            ↔ ((size ≤ capacity) × DiffersFrom (total_of self.old) size) }
-        ensures refused { IsErr result
-            ↔ ((capacity < size) ⊎ DiffersFrom (total_of self.old) size) }
+            ↔ ((size ≤ capacity)
+            × Contradicts (set_of self.old.present runs.now) (total_of self.old) size) }
+        ensures refused { IsErr result ↔ ((capacity < size)
+            ⊎ Contradicts (set_of self.old.present runs.now) (total_of self.old) size) }
         ensures exact { IsExact self.old → IsExact self.new }
     {
         if size > capacity {
             return Err(FragmentError::TooLong);
         }
-        if self.has_total != 0 && self.total != size {
+        let can_be = if self.has_total == 0 {
+            self.is_below(runs, size)
+        } else {
+            self.total == size
+        };
+        if !can_be {
             return Err(FragmentError::OtherSize);
         }
         self.has_total = 1;
@@ -185,6 +262,26 @@ impl FragmentsHead {
         false
     }
 
+    /// Returns whether a byte that arrived differs from that of the fragment whose first byte is that of the packet at
+    /// `offset`. The fragment need not be within the buffer.
+    ///
+    /// # Requires
+    ///
+    /// Head, bytes and runs are those of a buffer.
+    pub fn differs(&self, bytes: &[u8], runs: &[Run], offset: usize, data: &[u8]) -> bool
+        requires sound { HasSoundParts self.now bytes.now runs.now }
+        ensures { IsTrue result
+            ↔ Differs (fragments_of self.now bytes.now runs.now) offset «data».now }
+    {
+        assembler::laws::maximal_runs();
+        for (start, end) in self.present.iter_data(runs) {
+            if run_differs(bytes, start, end, offset, data) {
+                return true;
+            }
+        }
+        false
+    }
+
     /// Returns the packet's size, if it is known and all its bytes have arrived: they are the first
     /// ones of the buffer.
     ///
@@ -213,4 +310,23 @@ impl FragmentsHead {
     {
         self.expires_at < now
     }
+}
+
+/// Returns whether a fragment of `len` bytes at `offset` reaches past `limit`.
+fn ends_above(limit: usize, offset: usize, len: usize) -> bool
+    ensures { IsTrue result ↔ (limit < offset + len) }
+{
+    offset > limit || len > limit - offset
+}
+
+/// Returns whether the fragment at `offset` has another byte than one of a run from `start` to `end`, which is within
+/// the bytes.
+fn run_differs(bytes: &[u8], start: usize, end: usize, offset: usize, data: &[u8]) -> bool
+    requires { end ≤ length bytes.now }
+    ensures { IsTrue result
+        ↔ ((p : ℕ) × (start ≤ p) × (p < end) × HasOther bytes.now offset «data».now p) }
+{
+    let first = start.saturating_sub(offset);
+    let last = end.saturating_sub(offset).min(data.len());
+    first < last && bytes[start.max(offset)..offset + last] != data[first..last]
 }

@@ -16,7 +16,8 @@ pub enum FragmentError {
     TooLong,
     /// It would leave more maximal runs of bytes, with holes between them, than there is room for.
     TooManyHoles,
-    /// Another size of the packet is known.
+    /// It contradicts the packet's size: another size is known, or a byte at that size or above has arrived; or the
+    /// fragment reaches past a known size.
     OtherSize,
 }
 
@@ -36,8 +37,9 @@ pub enum FragmentError {
 #[derive(Clone)]
 pub struct FragmentBuffer<'a, const N: usize = { crate::rattle::ASSEMBLER_MAX_SEGMENT_COUNT }, B: Storage<u8> = ManagedSlice<'a, u8>> {
     lent: core::marker::PhantomData<&'a ()>,
-    // Invariant: the runs are those of an assembler, the positions of the bytes that arrived. If the
-    // total is known, the storage has room for it.
+    // Invariant: the runs are those of an assembler, the positions of the bytes that arrived. They end
+    // within the storage and, if the total is known, within that, for which the storage has room. The
+    // head is exact.
     head: FragmentsHead,
     bytes: B,
     runs: [Run; N],
@@ -82,7 +84,7 @@ impl<B: Storage<u8>, const N: usize> FragmentBuffer<'_, N, B> {
     ///
     /// # Panics
     ///
-    /// Unless they are sound: the runs are those of an assembler, and a known size is at most that of `bytes`.
+    /// Unless they are sound, as `FragmentsHead::is_sound` tests.
     ///
     /// <details><summary>Contract</summary>
     ///
@@ -95,7 +97,12 @@ impl<B: Storage<u8>, const N: usize> FragmentBuffer<'_, N, B> {
     ///
     /// </details>
     pub(crate) fn from_parts(head: FragmentsHead, bytes: B, runs: [Run; N]) -> Self {
-        FragmentBuffer { lent: core::marker::PhantomData, head, bytes, runs }
+        FragmentBuffer {
+            lent: core::marker::PhantomData,
+            head: head.exact(),
+            bytes,
+            runs,
+        }
     }
 
     /// Returns the head, the bytes and the runs, which represent the buffer. smoltcp has no such call.
@@ -108,6 +115,7 @@ impl<B: Storage<u8>, const N: usize> FragmentBuffer<'_, N, B> {
     /// ensures sound { HasSoundParts result.0 (B.elements result.1) result.2 }
     /// ensures state { fragments_of result.0 (B.elements result.1) result.2 ≡ self }
     /// ensures runs { length result.2 ≡ N }
+    /// ensures exact { IsExact result.0 }
     /// ```
     ///
     /// </details>
@@ -225,7 +233,8 @@ impl<B: Storage<u8>, const N: usize> FragmentBuffer<'_, N, B> {
     /// # Errors
     ///
     /// It is refused, and nothing changes, exactly if it reaches past the buffer's end, which is
-    /// `TooLong`, or else would leave more than `N` maximal runs, which is `TooManyHoles`.
+    /// `TooLong`, or else past the packet's, which is `OtherSize`, or else would leave more than `N`
+    /// maximal runs, which is `TooManyHoles`. A fragment without bytes has its end at `offset`.
     ///
     /// <details><summary>Contract</summary>
     ///
@@ -237,10 +246,13 @@ impl<B: Storage<u8>, const N: usize> FragmentBuffer<'_, N, B> {
     /// ensures fits { OnOk result (offset + length «data».now < 2 ^ 64) }
     /// ensures too_long { (result ≡ Err FragmentError.TooLong)
     ///     ↔ (length self.old.bytes < offset + length «data».now) }
-    /// ensures too_many { (result ≡ Err FragmentError.TooManyHoles)
+    /// ensures other_size { (result ≡ Err FragmentError.OtherSize)
     ///     ↔ ((offset + length «data».now ≤ length self.old.bytes)
+    ///     × (limit_of self.old < offset + length «data».now)) }
+    /// ensures too_many { (result ≡ Err FragmentError.TooManyHoles)
+    ///     ↔ ((offset + length «data».now ≤ limit_of self.old)
     ///     × MakesTooManyRuns N self.old.present offset (length «data».now)) }
-    /// ensures refused { IsErr result ↔ ((length self.old.bytes < offset + length «data».now)
+    /// ensures refused { IsErr result ↔ ((limit_of self.old < offset + length «data».now)
     ///     ⊎ MakesTooManyRuns N self.old.present offset (length «data».now)) }
     /// ```
     ///
@@ -258,15 +270,20 @@ impl<B: Storage<u8>, const N: usize> FragmentBuffer<'_, N, B> {
     /// # use net_base::time::Instant;
     /// # let mut bytes = [0u8; 8];
     /// # let mut buffer = FragmentBuffer::new(&mut bytes[..], Instant::ZERO);
+    /// buffer.add(0, b"abc")?;
     /// assert_eq!(buffer.set_total_size(9), Err(FragmentError::TooLong));
-    /// assert_eq!(buffer.set_total_size(0), Ok(()));
-    /// assert_eq!(buffer.assemble(), Some(&b""[..]));
+    /// assert_eq!(buffer.set_total_size(2), Err(FragmentError::OtherSize));
+    /// assert_eq!(buffer.set_total_size(3), Ok(()));
+    /// assert_eq!(buffer.add(3, b"d"), Err(FragmentError::OtherSize));
+    /// assert_eq!(buffer.assemble(), Some(&b"abc"[..]));
+    /// # Ok::<(), FragmentError>(())
     /// ```
     ///
     /// # Errors
     ///
     /// It is refused, and nothing changes, exactly if the buffer has fewer bytes, which is
-    /// `TooLong`, or else if another size is known, which is `OtherSize`.
+    /// `TooLong`, or else if another size is known, or a byte at `size` or above has arrived, which is
+    /// `OtherSize`.
     ///
     /// <details><summary>Contract</summary>
     ///
@@ -277,14 +294,15 @@ impl<B: Storage<u8>, const N: usize> FragmentBuffer<'_, N, B> {
     /// ensures unchanged { OnErr result (self.new ≡ self.old) }
     /// ensures too_long { (result ≡ Err FragmentError.TooLong) ↔ (length self.old.bytes < size) }
     /// ensures other_size { (result ≡ Err FragmentError.OtherSize)
-    ///     ↔ ((size ≤ length self.old.bytes) × DiffersFrom self.old.total size) }
-    /// ensures refused { IsErr result
-    ///     ↔ ((length self.old.bytes < size) ⊎ DiffersFrom self.old.total size) }
+    ///     ↔ ((size ≤ length self.old.bytes) × Contradicts self.old.present self.old.total size) }
+    /// ensures refused { IsErr result ↔ ((length self.old.bytes < size)
+    ///     ⊎ Contradicts self.old.present self.old.total size) }
     /// ```
     ///
     /// </details>
     pub fn set_total_size(&mut self, size: usize) -> Result<(), FragmentError> {
-        self.head.set_total_size(self.bytes.count(), size)
+        self.head
+            .set_total_size(self.bytes.count(), &self.runs, size)
     }
 
     /// Returns the packet's size, once it is known. smoltcp has no such call.
@@ -294,7 +312,9 @@ impl<B: Storage<u8>, const N: usize> FragmentBuffer<'_, N, B> {
     /// In the words of [`contracts`](crate::contracts):
     ///
     /// ```text
-    /// ensures { result ≡ self.now.total }
+    /// ensures size { result ≡ self.now.total }
+    /// ensures room { limit_of self.now ≤ length self.now.bytes }
+    /// ensures below { IsBelow self.now.present (limit_of self.now) }
     /// ```
     ///
     /// </details>
@@ -306,7 +326,7 @@ impl<B: Storage<u8>, const N: usize> FragmentBuffer<'_, N, B> {
     /// overlaps bytes that are present. They need not be within the buffer.
     ///
     /// It is asked before `add`, by callers who refuse a packet whose fragments overlap (RFC 5722). A
-    /// fragment that arrives twice overlaps too. smoltcp has no such call.
+    /// fragment that arrives twice overlaps too: to allow that, ask `differs`. smoltcp has no such call.
     ///
     /// <details><summary>Contract</summary>
     ///
@@ -321,6 +341,37 @@ impl<B: Storage<u8>, const N: usize> FragmentBuffer<'_, N, B> {
         self.head.overlaps(&self.runs, offset, len)
     }
 
+    /// Returns whether a byte that arrived differs from that of the fragment whose first byte is that of the packet at
+    /// `offset`. The fragment need not be within the buffer.
+    ///
+    /// It is asked before `add`, by callers who refuse a packet whose fragments disagree, and take one that
+    /// arrives twice. smoltcp has no such call.
+    ///
+    /// ```
+    /// # use net_base::storage::{FragmentBuffer, FragmentError};
+    /// # use net_base::time::Instant;
+    /// # let mut bytes = [0u8; 8];
+    /// # let mut buffer = FragmentBuffer::new(&mut bytes[..], Instant::ZERO);
+    /// buffer.add(2, b"cd")?;
+    /// assert!(!buffer.differs(2, b"cd") && !buffer.differs(0, b"abcdef"));
+    /// assert!(buffer.differs(3, b"De") && !buffer.differs(4, b"De"));
+    /// # Ok::<(), FragmentError>(())
+    /// ```
+    ///
+    /// <details><summary>Contract</summary>
+    ///
+    /// In the words of [`contracts`](crate::contracts):
+    ///
+    /// ```text
+    /// ensures { IsTrue result ↔ Differs self.now offset «data».now }
+    /// ```
+    ///
+    /// </details>
+    pub fn differs(&self, offset: usize, data: &[u8]) -> bool {
+        let bytes = self.bytes.part(0, self.bytes.count());
+        self.head.differs(bytes, &self.runs, offset, data)
+    }
+
     /// Shows the bytes of the packet. `None` exactly if its size is not known or one of its bytes
     /// is missing.
     ///
@@ -331,8 +382,8 @@ impl<B: Storage<u8>, const N: usize> FragmentBuffer<'_, N, B> {
     /// # let mut buffer = FragmentBuffer::new(&mut bytes[..], Instant::ZERO);
     /// buffer.add(0, b"abc")?;
     /// assert_eq!(buffer.assemble(), None);
-    /// buffer.set_total_size(2)?;
-    /// assert_eq!(buffer.assemble(), Some(&b"ab"[..]));
+    /// buffer.set_total_size(3)?;
+    /// assert_eq!(buffer.assemble(), Some(&b"abc"[..]));
     /// # Ok::<(), FragmentError>(())
     /// ```
     ///
@@ -386,7 +437,7 @@ impl<B: Storage<u8>, const N: usize> FragmentBuffer<'_, N, B> {
     /// # let mut bytes = [0u8; 8];
     /// # let mut buffer = FragmentBuffer::new(&mut bytes[..], Instant::ZERO);
     /// buffer.add(0, b"abc")?;
-    /// buffer.set_total_size(0)?;
+    /// buffer.set_total_size(3)?;
     /// buffer.reset(Instant::from_millis(5));
     /// assert!(buffer.is_empty() && buffer.assemble().is_none());
     /// # Ok::<(), FragmentError>(())

@@ -13,6 +13,9 @@ use crate::proved::net_assembler::{AssemblerHead, Run, assembler};
 /// A head is exact (`IsExact`) if no number says nothing: both of `present` are 0 where there is no
 /// run, `has_total` is 0 or 1, and `total` is 0 while the size isn't known. `new` and `reset` make it
 /// so, and each call leaves it so.
+///
+/// Head, bytes and runs are those of a buffer if the runs are those of an assembler and end within the bytes, and
+/// within a known size, which is at most that of the bytes: `HasSoundParts` in contracts. `is_sound` tests it.
 #[repr(C)]
 #[derive(Debug, Clone, Copy)]
 pub struct FragmentsHead {
@@ -42,16 +45,53 @@ impl FragmentsHead {
         *self = FragmentsHead::new(expires_at);
     }
 
-    /// Returns whether `present` and these runs are those of an assembler, and a known size is at most `capacity`, for
-    /// any numbers. It looks at each used run.
+    /// Returns whether head and runs are those of a buffer of `capacity` bytes, for any numbers: `present` and the runs
+    /// are those of an assembler, which end at `capacity` or below, and at a known size or below, which is at most
+    /// `capacity`. It looks at each used run.
     pub fn is_sound(&self, capacity: usize, runs: &[Run]) -> bool {
-        self.present.is_sound(runs) && (self.has_total == 0 || self.total <= capacity)
+        let limit = self.limit(capacity);
+        if limit > capacity || !self.present.is_sound(runs) {
+            return false;
+        }
+        self.is_below(runs, limit)
+    }
+
+    /// Returns where fragments must end: at a known size, or else at `capacity`.
+    fn limit(&self, capacity: usize) -> usize {
+        if self.has_total == 0 {
+            capacity
+        } else {
+            self.total
+        }
+    }
+
+    /// Returns whether all bytes that arrived are below `limit`.
+    fn is_below(&self, runs: &[Run], limit: usize) -> bool {
+        let last = self.present.run_count().saturating_sub(1);
+        match self.present.run_at(runs, last) {
+            Some((_, end)) => end <= limit,
+            None => true,
+        }
+    }
+
+    /// Returns the exact head of the same buffer.
+    pub(crate) fn exact(self) -> Self {
+        let mut head = FragmentsHead::new(self.expires_at);
+        if !self.present.is_empty() {
+            head.present = self.present;
+        }
+        if self.has_total != 0 {
+            head.has_total = 1;
+            head.total = self.total;
+        }
+        head
     }
 
     /// Adds a fragment, whose first byte is that of the packet at `offset`.
     ///
     /// It is refused, and nothing changes, exactly if it reaches past the buffer's end, which is
-    /// `TooLong`, or else would leave more maximal runs than there is room for, which is `TooManyHoles`.
+    /// `TooLong`, or else past the packet's, which is `OtherSize`, or else would leave more maximal runs
+    /// than there is room for, which is `TooManyHoles`.
     ///
     /// # Requires
     ///
@@ -63,9 +103,12 @@ impl FragmentsHead {
         offset: usize,
         data: &[u8],
     ) -> Result<(), FragmentError> {
-        let limit = bytes.len();
-        if offset > limit || data.len() > limit - offset {
+        let capacity = bytes.len();
+        if ends_above(capacity, offset, data.len()) {
             return Err(FragmentError::TooLong);
+        }
+        if ends_above(self.limit(capacity), offset, data.len()) {
+            return Err(FragmentError::OtherSize);
         }
         let Ok(()) = self.present.add(runs, offset, data.len()) else {
             return Err(FragmentError::TooManyHoles);
@@ -77,12 +120,26 @@ impl FragmentsHead {
     /// Sets the packet's size to `size` bytes, of a buffer of `capacity` bytes.
     ///
     /// It is refused, and nothing changes, exactly if the buffer has fewer bytes, which is `TooLong`, or
-    /// else if another size is known, which is `OtherSize`.
-    pub fn set_total_size(&mut self, capacity: usize, size: usize) -> Result<(), FragmentError> {
+    /// else if another size is known, or a byte at `size` or above has arrived, which is `OtherSize`.
+    ///
+    /// # Requires
+    ///
+    /// The runs are sound.
+    pub fn set_total_size(
+        &mut self,
+        capacity: usize,
+        runs: &[Run],
+        size: usize,
+    ) -> Result<(), FragmentError> {
         if size > capacity {
             return Err(FragmentError::TooLong);
         }
-        if self.has_total != 0 && self.total != size {
+        let can_be = if self.has_total == 0 {
+            self.is_below(runs, size)
+        } else {
+            self.total == size
+        };
+        if !can_be {
             return Err(FragmentError::OtherSize);
         }
         self.has_total = 1;
@@ -117,6 +174,21 @@ impl FragmentsHead {
         false
     }
 
+    /// Returns whether a byte that arrived differs from that of the fragment whose first byte is that of the packet at
+    /// `offset`. The fragment need not be within the buffer.
+    ///
+    /// # Requires
+    ///
+    /// Head, bytes and runs are those of a buffer.
+    pub fn differs(&self, bytes: &[u8], runs: &[Run], offset: usize, data: &[u8]) -> bool {
+        for (start, end) in self.present.iter_data(runs) {
+            if run_differs(bytes, start, end, offset, data) {
+                return true;
+            }
+        }
+        false
+    }
+
     /// Returns the packet's size, if it is known and all its bytes have arrived: they are the first
     /// ones of the buffer.
     ///
@@ -134,4 +206,17 @@ impl FragmentsHead {
     pub fn is_expired(&self, now: i64) -> bool {
         self.expires_at < now
     }
+}
+
+/// Returns whether a fragment of `len` bytes at `offset` reaches past `limit`.
+fn ends_above(limit: usize, offset: usize, len: usize) -> bool {
+    offset > limit || len > limit - offset
+}
+
+/// Returns whether the fragment at `offset` has another byte than one of a run from `start` to `end`, which is within
+/// the bytes.
+fn run_differs(bytes: &[u8], start: usize, end: usize, offset: usize, data: &[u8]) -> bool {
+    let first = start.saturating_sub(offset);
+    let last = end.saturating_sub(offset).min(data.len());
+    first < last && bytes[start.max(offset)..offset + last] != data[first..last]
 }

@@ -146,7 +146,7 @@ pub fn find_free<K: Copy + Eq, B: Storage<u8>, const N: usize>(
 }
 
 /// Returns the slot for the packet of this key: the one that is for it, or else the first free one, which
-/// then begins with it, and waits for it up to `expires_at`.
+/// then begins with it, and waits for it up to `expires_at`. Who can't wait until one is free calls `claim_or_evict`.
 ///
 /// # Errors
 ///
@@ -184,6 +184,67 @@ pub fn claim<K: Copy + Eq, B: Storage<u8>, const N: usize>(
     };
     slots[at].begin(key, expires_at);
     Ok(at)
+}
+
+/// Returns the slot for the packet of this key, as `claim` does, but where none is for it and none is free, the first
+/// of those that expire before all others is taken from its packet, which is given up. So new packets never wait for
+/// old ones, however many came.
+///
+/// # Errors
+///
+/// `Full` exactly if there are no slots.
+///
+/// <details><summary>Contract</summary>
+///
+/// In the words of [`contracts`](crate::contracts):
+///
+/// ```text
+/// ensures full { IsErr result ↔ (slots.old ≡ []) }
+/// ensures unchanged { OnErr result (slots.new ≡ slots.old) }
+/// ensures found { IfOk result (λ at. (k : ℕ) →
+///     position (λ s. is_for K.PartialEq.eq key s.key) slots.old ≡ Some k →
+///     (at ≡ k) × (slots.new ≡ slots.old)) }
+/// ensures free { IfOk result (λ at. (k : ℕ) →
+///     position (λ s. is_for K.PartialEq.eq key s.key) slots.old ≡ None →
+///     position (λ s. is_none s.key) slots.old ≡ Some k → at ≡ k) }
+/// ensures first { IfOk result (λ at.
+///     position (λ s. is_for K.PartialEq.eq key s.key) slots.old ≡ None →
+///     position (λ s. is_none s.key) slots.old ≡ None →
+///     ExpiresFirst (λ s. s.buffer.expires_at) slots.old at) }
+/// ensures begun { IfOk result (λ at.
+///     position (λ s. is_for K.PartialEq.eq key s.key) slots.old ≡ None →
+///     (s : _) → slice_get slots.old at ≡ Some s → slots.new
+///     ≡ set slots.old at (record { key = Some key; buffer = begun s.buffer expires_at })) }
+/// ```
+///
+/// </details>
+pub fn claim_or_evict<K: Copy + Eq, B: Storage<u8>, const N: usize>(
+    slots: &mut [FragmentSlot<K, B, N>],
+    key: K,
+    expires_at: Instant,
+) -> Result<usize, Full> {
+    if slots.is_empty() {
+        return Err(Full);
+    }
+    if let Ok(at) = claim(slots, key, expires_at) {
+        return Ok(at);
+    }
+    let at = first_to_expire(slots);
+    slots[at].begin(key, expires_at);
+    Ok(at)
+}
+
+/// Returns the first of the slots that expire before all others.
+fn first_to_expire<K: Copy + Eq, B: Storage<u8>, const N: usize>(
+    slots: &[FragmentSlot<K, B, N>],
+) -> usize {
+    let mut first = 0;
+    for at in 1..slots.len() {
+        if slots[at].buffer.expires_at() < slots[first].buffer.expires_at() {
+            first = at;
+        }
+    }
+    first
 }
 
 /// Frees the slots of packets that are waited for up to a moment before `now`.

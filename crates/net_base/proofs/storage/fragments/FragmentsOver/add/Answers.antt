@@ -24,6 +24,7 @@ pub invariant_of-self : goal.invariant_of-self
 invariant_of-self g c = (
   subst (λ xs. HasSoundParts c.add.new.self xs c.add.new.runs) (sym (stored g c)) c.add.ensures.sound,
   c.add.auto.runs ∙ c.self.invariant.1,
+  c.add.ensures.exact c.self.invariant.2,
 )
 
 pub returns-clause-unchanged : goal.returns-clause-unchanged
