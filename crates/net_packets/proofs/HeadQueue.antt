@@ -652,10 +652,6 @@ next_slot n c h ss sound en k i lt at d =
 pub from_start : (c : ℕ) (h : PacketsHead) (ss : List PacketSlot) → HasSoundSlots c h ss → AreSlotsAfter c h.bytes 0 0 (queue (slot_ring h ss))
 from_start c h ss hs = (hs.1, omega (arith, hs.2), hs.3)
 
-pub to_end : (c : ℕ) (h : PacketsHead) (ss : List PacketSlot) → IsSoundHead (length ss) c h → AreSlotsAfter c h.bytes 0 0 (queue (slot_ring h ss))
-    → HasSoundSlots c h ss
-to_end c h ss sound a = (sound, a.0, omega (arith, a.1), a.2)
-
 -- the last slot in use
 pub last_at : (c : ℕ) (h : PacketsHead) (ss : List PacketSlot) → IsSoundHead (length ss) c h → 1 ≤ h.slots.length
     → slice_get ss (last_slot_index h ss) ≡ Some (last_slot h ss)
