@@ -1,12 +1,12 @@
 //! Packets that are placed, taken and looked at.
-ghost use Rattle.std.specs.Prelude.{◌≡◌, ◌≤◌, ◌⊎◌, ℕ, List, length, slice_get};
+ghost use Rattle.std.specs.Prelude.{◌≡◌, ◌≤◌, ◌⊎◌, ℕ, List, length};
 ghost use Rattle.std.specs.declared.option.Option.TheVariants.{Some, None};
 ghost use Rattle.net_ring.specs.RingHead.{place};
 ghost use Rattle.net_packets.specs.Packets.{with_packet_if_room, without_first_and_gap};
 ghost use Rattle.net_packets.specs.PacketsHead.{IsSoundHead, placement_in, place_after_gap, with_packet_placed};
 ghost use Rattle.net_packets.specs.PacketsHead.{with_slot_taken};
 ghost use Rattle.net_packets.specs.HeadQueue.{HasSoundSlots, queue_of, slots_written, HasFirst, first_packet};
-ghost use Rattle.net_packets.specs.HeadQueue.{head_after_first, IsFirstAt, CanTake, after_slot};
+ghost use Rattle.net_packets.specs.HeadQueue.{head_after_first, IsFirstAt, CanTake, after_slot, IsFirstSlot};
 ghost use Rattle.net_packets.specs.declared.packet_slot.PacketSlot.{PacketSlot};
 ghost use Rattle.net_ffi.specs.Refusals.{no_number};
 ghost use Rattle.net_ffi.specs.PacketPlaces.{no_place, nonsense_place, no_first, nonsense_first};
@@ -189,15 +189,12 @@ pub extern "C" fn net_base_packets_take_slot(
     ensures refused { (IsSoundHead slot_count capacity packets.old × CanTake capacity packets.old first.now → ⊥) →
         (result ≡ no_number) × (packets.new ≡ packets.old) }
     ensures first { (slots : List PacketSlot) → length slots ≡ slot_count → HasSoundSlots capacity packets.old slots →
-        1 ≤ packets.old.slots.length → slice_get slots packets.old.slots.read_at ≡ Some first.now → CanTake capacity
-        packets.old first.now }
+        IsFirstSlot packets.old slots first.now → CanTake capacity packets.old first.now }
     ensures state { (slots : List PacketSlot) (xs : List ℕ) → length slots ≡ slot_count → length xs ≡ capacity →
-        HasSoundSlots capacity packets.old slots → 1 ≤ packets.old.slots.length → slice_get slots
-        packets.old.slots.read_at ≡ Some first.now → queue_of packets.new slots xs ≡ after_slot first.now (queue_of
-        packets.old slots xs) }
+        HasSoundSlots capacity packets.old slots → IsFirstSlot packets.old slots first.now → queue_of packets.new slots
+        xs ≡ after_slot first.now (queue_of packets.old slots xs) }
     ensures sound { (slots : List PacketSlot) → length slots ≡ slot_count → HasSoundSlots capacity packets.old slots →
-        1 ≤ packets.old.slots.length → slice_get slots packets.old.slots.read_at ≡ Some first.now → HasSoundSlots
-        capacity packets.new slots }
+        IsFirstSlot packets.old slots first.now → HasSoundSlots capacity packets.new slots }
 {
     if !packets.is_sound(slot_count, capacity) || !packets.can_take(slot_count, capacity, first) {
         return no_number();

@@ -20,7 +20,7 @@ use Rattle.net_packets.specs.Packets.{with_last_size, IsRoom, with_first_bytes, 
 use Rattle.net_packets.specs.Packets.{AreLastDequeued, last_dequeued_bytes_index, last_dequeued_bytes}
 use Rattle.net_packets.specs.PacketSlots.{slot, gap_slot, packet_slots, packets_in, Represents, packets_at}
 use Rattle.net_packets.specs.PacketSlots.{AreSoundParts, slots_with}
-use Rattle.net_packets.specs.PacketsHead.{IsSoundHead, with_slot_taken, placement_in, place_after_gap}
+use Rattle.net_packets.specs.PacketsHead.{with_slot_taken, placement_in, place_after_gap}
 use Rattle.net_packets.specs.PacketsHead.{with_packet_placed}
 use Rattle.net_ring.specs.declared.head.RingHead.{RingHead}
 use Rattle.net_packets.specs.declared.head.PacketsHead.{PacketsHead}

@@ -9,7 +9,7 @@ use Rattle.std.proofs.lemmas.Option.{slice_get-get_or, slice_get-map, get_or_fro
 use Rattle.std.proofs.lemmas.Option.{none-some, slice_get_within}
 use Rattle.std.proofs.Math.Seq.{drop-cons}
 use Rattle.std.specs.Option.{option_map}
-use Rattle.std.specs.Prelude.{◌↔◌, IfSome, IsNone, ⊤, Option, Bool, true, false, replicate, set}
+use Rattle.std.specs.Prelude.{IfSome, IsNone, ⊤, Option, Bool, true, false, replicate, set}
 use Rattle.std.specs.List.{slice_get}
 use Rattle.net_ring.specs.Overwrite.{overwrite}
 use Rattle.std.specs.declared.option.Option.TheVariants.{Some, None}
@@ -27,7 +27,7 @@ use Rattle.net_packets.specs.PacketsHead.{with_packet_placed}
 use Rattle.net_packets.specs.HeadQueue.{AreSlotsAfter, metadata, slot_ring, queue_of, HasSoundSlots, CanTake}
 use Rattle.net_packets.specs.HeadQueue.{after_slot, first_slot, head_after_gap, HasFirst, first_packet}
 use Rattle.net_packets.specs.HeadQueue.{head_after_first, IsFirstAt, CanShorten, last_slot, last_slot_index}
-use Rattle.net_packets.specs.HeadQueue.{packet_slot, slots_written}
+use Rattle.net_packets.specs.HeadQueue.{packet_slot, slots_written, IsFirstSlot}
 use Rattle.net_ring.specs.declared.head.RingHead.{RingHead}
 use Rattle.net_packets.specs.declared.head.PacketsHead.{PacketsHead}
 use Rattle.net_packets.specs.declared.head.FirstPacket.{FirstPacket}
@@ -38,7 +38,7 @@ use Rattle.net_ring.proofs.Rotations.{with_dequeued_parts, length-queue, overwri
 use Rattle.net_ring.proofs.RingFacts.{rewound_ring, enqueued_one, queue_head, queue_law, written_wf}
 use Rattle.net_packets.proofs.PacketFacts.{placed_alike}
 use Rattle.net_packets.proofs.PacketFacts.{count_is, ends_in, pushed_slot, slots_some, slots_for_pos}
-use Rattle.net_packets.proofs.PacketFacts.{place_cases, gap_slot_one, place_zero, off_wf, bytes_append}
+use Rattle.net_packets.proofs.PacketFacts.{place_cases, place_zero, off_wf, bytes_append}
 use Rattle.net_packets.proofs.PacketFacts.{slots_of_append, slots_append}
 use Rattle.net_packets.proofs.PacketSteps.{head_or, close_gap, push_left, pushed_is, mk, held, before_append}
 use Rattle.net_packets.proofs.PacketSteps.{last_append, well_placed, slice_get_end, skip_left, take_left}
@@ -131,9 +131,9 @@ module _ (c : ℕ) (h : PacketsHead) (ss : List PacketSlot) (hs : HasSoundSlots 
           ]
 
 -- as clauses say it
-pub first_can : (n c : ℕ) (h : PacketsHead) (s : PacketSlot) (ss : List PacketSlot) → length ss ≡ n → HasSoundSlots c h ss → 1 ≤ h.slots.length
-    → slice_get ss h.slots.read_at ≡ Some s → CanTake c h s
-first_can n c h s ss e hs some at = can c h ss hs s some at
+pub first_can : (n c : ℕ) (h : PacketsHead) (s : PacketSlot) (ss : List PacketSlot) → length ss ≡ n → HasSoundSlots c h ss
+    → IsFirstSlot h ss s → CanTake c h s
+first_can n c h s ss e sound is = can c h ss sound s is.0 is.1
 
 module _ (n c : ℕ) (h : PacketsHead) (s : PacketSlot) (can : CanTake c h s) (h2 : PacketsHead) (is : h2 ≡ with_slot_taken n c s.size h)
     (ss : List PacketSlot) where
@@ -651,10 +651,6 @@ next_slot n c h ss sound en k i lt at d =
 
 pub from_start : (c : ℕ) (h : PacketsHead) (ss : List PacketSlot) → HasSoundSlots c h ss → AreSlotsAfter c h.bytes 0 0 (queue (slot_ring h ss))
 from_start c h ss hs = (hs.1, omega (arith, hs.2), hs.3)
-
-pub to_end : (c : ℕ) (h : PacketsHead) (ss : List PacketSlot) → IsSoundHead (length ss) c h → AreSlotsAfter c h.bytes 0 0 (queue (slot_ring h ss))
-    → HasSoundSlots c h ss
-to_end c h ss sound a = (sound, a.0, omega (arith, a.1), a.2)
 
 -- the last slot in use
 pub last_at : (c : ℕ) (h : PacketsHead) (ss : List PacketSlot) → IsSoundHead (length ss) c h → 1 ≤ h.slots.length

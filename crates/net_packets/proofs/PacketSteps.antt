@@ -1,30 +1,28 @@
 -- What a queue of packets is after a step on its two rings.
-use Rattle.std.proofs.Common.{◌≢◌, ◌≡◌, ℕ, suc, zero, ◌+◌, ◌-◌, ◌<◌, ◌≤◌, List, [], ◌∷◌, ◌++◌, length, take}
+use Rattle.std.proofs.Common.{◌≢◌, ◌≡◌, ℕ, suc, ◌+◌, ◌-◌, ◌<◌, ◌≤◌, List, [], ◌∷◌, ◌++◌, length}
 use Rattle.std.proofs.Common.{drop, min, refl, sym, ap, ap₂, ◌∙◌, subst, inl, inr, arith, ◌⊎◌, length-append}
-use Rattle.std.proofs.Common.{append_assoc, get_or, set}
-use Rattle.std.proofs.lemmas.List.{take_at, drop_at, take_all}
+use Rattle.std.proofs.lemmas.List.{take_at, drop_at}
 use Rattle.std.proofs.lemmas.Bool.{cases_lt}
 use Rattle.std.proofs.lemmas.Option.{none-some, cond_some}
-use Rattle.std.specs.Prelude.{true, Option}
+use Rattle.std.specs.Prelude.{true}
 use Rattle.std.specs.List.{slice_get}
 use Rattle.std.specs.declared.option.Option.TheVariants.{Some, None}
 use Rattle.net_ring.specs.Overwrite.{overwrite}
 use Rattle.net_ring.specs.Ring.{RingState, ring, index_after, storage_index, capacity, window, queue}
 use Rattle.net_ring.specs.Ring.{IsWellFormed, rewind_if_empty, with_enqueued, with_dequeued, with_elements}
-use Rattle.net_ring.specs.Ring.{contiguous_window, queue_index, contiguous_allocated, spare_index}
-use Rattle.net_ring.specs.Ring.{contiguous_unallocated}
+use Rattle.net_ring.specs.Ring.{contiguous_window, queue_index}
 use Rattle.net_packets.specs.Packets.{Packet, PacketsState, packet, bytes_used, slots_used, slots_for}
 use Rattle.net_packets.specs.Packets.{byte_ring, IsPlaced, ArePlaced, gap_for, placement, with_packet}
 use Rattle.net_packets.specs.Packets.{with_packet_if_room, with_packet_if, only_last, before_last, last_index}
-use Rattle.net_packets.specs.Packets.{last_bytes, with_last_bytes, with_last_size, with_first_size, IsRoom}
+use Rattle.net_packets.specs.Packets.{with_last_bytes, with_last_size, with_first_size}
 use Rattle.net_packets.specs.Packets.{first_gap, first_size, without_first_gap, without_gap, IsFirstSized}
-use Rattle.net_packets.specs.Packets.{first_bytes, with_first_header, with_first_bytes, without_first}
+use Rattle.net_packets.specs.Packets.{with_first_header, with_first_bytes, without_first}
 use Rattle.net_packets.specs.Packets.{IsWellPlaced, with_bytes}
 use Rattle.net_packets.specs.PacketSlots.{slot, gap_slot, packet_slots, packets_in, Represents, packets_state}
 use Rattle.net_packets.specs.declared.packet_metadata.PacketMetadata.{PacketMetadata}
 use Rattle.net_ring.proofs.Rotations.{length-overwrite, length-queue, with_dequeued_parts}
-use Rattle.net_ring.proofs.RingFacts.{rewind_cases, rewind_wf, rewound_is, first_in_queue}
-use Rattle.net_packets.proofs.PacketFacts.{round, length-slots, slots_append, slots_of_append, bytes_append}
+use Rattle.net_ring.proofs.RingFacts.{rewind_cases, rewind_wf, rewound_is}
+use Rattle.net_packets.proofs.PacketFacts.{round, slots_append, slots_of_append, bytes_append}
 use Rattle.net_packets.proofs.PacketFacts.{placed_append, placed_anew, placed_here, placed_skip, placed_pop}
 use Rattle.net_packets.proofs.PacketFacts.{slots_some, slots_for_pos, count_is, place_zero, place_le_in}
 use Rattle.net_packets.proofs.PacketFacts.{place_wf, gap_slot_one, gap_slot_none, off_wf}
@@ -153,46 +151,20 @@ module _ {H : Type 0} where
           ∙ ap (λ o. with_last_size k (with_last_bytes o ws)) (sym pushed_is)
 
     module _ (m : RingState (PacketMetadata H)) (b : RingState ℕ) (h : Represents m b (packets_in 0 (queue m))) (is : packets_state m b ≡ q) where
-      pub free_room : slots_for gap ≤ window m
-      free_room =
-          let n = count_is m b (packets_in 0 (queue m)) h in
-          let used = ap (λ o. slots_used o.packets) is in
-          let all = ap (λ o. o.slot_count) is in
-          omega (arith, parts.1, n, used, all)
-
       module _ (b1 : RingState ℕ) (anew : b1 ≡ rewind_if_empty b) where
         begun : b1 ≡ g
         begun = anew ∙ ap rewind_if_empty (bytes_are m b h q is)
 
-        fill_at : spare_index b1 gap ≡ index_after (capacity g) g.read_at (g.count + gap)
-        fill_at =
-            let z : g.count + min gap (window g) ≡ g.count + gap = omega (arith, byte_room) in
-            ap (λ o. spare_index o gap) begun ∙ ap (index_after (capacity g) g.read_at) z
+        module _ (hd : H) (k : ℕ) (le : k ≤ s) (m2 : RingState (PacketMetadata H)) (em : queue m2 ≡ queue m ++ (gap_slot gap ++ (slot k (Some hd) ∷ [])))
+            (wfm : IsWellFormed m2) (b2 : RingState ℕ) where
+          slots_more : queue m2 ≡ packet_slots (q.packets ++ (packet hd k gap ∷ []))
+          slots_more = em ∙ ap (λ (l : List (PacketMetadata H)). l ++ (gap_slot gap ++ (slot k (Some hd) ∷ []))) (slots_are m b h q is)
+              ∙ sym (slots_append q.packets (packet hd k gap))
 
-        module _ (hd : H) where
-          -- the bytes that are lent for it
-          pub fill_room : (now : List ℕ) → now ≡ take (length now) (drop (spare_index b1 gap) b1.storage)
-              → length now ≡ contiguous_unallocated b1 gap s → IsRoom q s hd now
-          fill_room now stored count =
-              let from = fill_at in
-              let w = ap window begun in
-              let c = ap capacity begun in
-              let long : length now ≡ s = omega (arith, count, from, w, c, byte_room, here.0) in
-              let st : b1.storage ≡ q.storage = ap (λ o. o.storage) begun ∙ (rewound_is (byte_ring q)).2 in
-              let all : now ≡ last_bytes (with_packet q gap s hd) = stored ∙ ap₂ (λ (n : ℕ) (l : List ℕ). take n l) (long ∙ sym (end_size hd))
-              (ap₂ (λ (p : ℕ) (l : List ℕ). drop p l) (fill_at ∙ push_place hd) st) in
-              ((λ n. none-some gap (sym n ∙ e)), all ∙ sym (ap last_bytes (pushed_is hd)), long)
-
-          module _ (k : ℕ) (le : k ≤ s) (m2 : RingState (PacketMetadata H)) (em : queue m2 ≡ queue m ++ (gap_slot gap ++ (slot k (Some hd) ∷ [])))
-              (wfm : IsWellFormed m2) (b2 : RingState ℕ) where
-            slots_more : queue m2 ≡ packet_slots (q.packets ++ (packet hd k gap ∷ []))
-            slots_more = em ∙ ap (λ (l : List (PacketMetadata H)). l ++ (gap_slot gap ++ (slot k (Some hd) ∷ []))) (slots_are m b h q is)
-                ∙ sym (slots_append q.packets (packet hd k gap))
-
-            pub push_left : b2 ≡ with_enqueued (gap + k) b1
-                → Represents m2 b2 (packets_in 0 (queue m2)) × (capacity m2 ≡ q.slot_count → packets_state m2 b2 ≡ with_packet q gap k hd)
-            push_left after =
-                held (with_packet q gap k hd) (push_well hd k le) m2 wfm slots_more b2 (after ∙ ap (with_enqueued (gap + k)) begun ∙ enqueued_is hd k)
+          pub push_left : b2 ≡ with_enqueued (gap + k) b1
+              → Represents m2 b2 (packets_in 0 (queue m2)) × (capacity m2 ≡ q.slot_count → packets_state m2 b2 ≡ with_packet q gap k hd)
+          push_left after =
+              held (with_packet q gap k hd) (push_well hd k le) m2 wfm slots_more b2 (after ∙ ap (with_enqueued (gap + k)) begun ∙ enqueued_is hd k)
 
   -- ---- the last packet
   last_one : (p : Packet H) → only_last (p ∷ []) ≡ p ∷ []
@@ -226,19 +198,6 @@ module _ {H : Type 0} where
       let is = ap (index_after c r) z in
       (omega (arith, s, rest.0), omega (arith, is, s, rest.1))
 
-  -- the slots of packets end in that of the last one
-  pub slots_end : (p : Packet H) (ps : List (Packet H)) → (ms : List (PacketMetadata H)) × (x : PacketMetadata H)
-      × (packet_slots (p ∷ ps) ≡ ms ++ (x ∷ [])) × (x.size ≡ first_size (only_last (p ∷ ps)))
-  slots_end p [] = (gap_slot p.gap, slot p.size (Some p.header), refl, sym (ap first_size (last_one p)))
-  slots_end p (q ∷ ps) =
-      let rest = slots_end q ps in
-      let x = slot p.size (Some p.header) in (
-        gap_slot p.gap ++ (x ∷ rest.0),
-        rest.1,
-        ap (λ (l : List (PacketMetadata H)). gap_slot p.gap ++ (x ∷ l)) rest.2 ∙ sym (append_assoc (gap_slot p.gap) (x ∷ rest.0) (rest.1 ∷ [])),
-        rest.3 ∙ sym (ap first_size (last_cons p q ps)),
-      )
-
   module _ (q : PacketsState H) (ok : IsWellPlaced q) where
     abbrev end : ℕ
     end = first_size (only_last q.packets)
@@ -249,12 +208,6 @@ module _ {H : Type 0} where
         let z : 0 + bytes_used q.packets - end ≡ bytes_used q.packets - end = omega arith in
         let at = ap (index_after (length q.storage) q.read_at) z in
         (all.0, omega (arith, at, all.1))
-
-    module _ (b : RingState ℕ) (bytes : b ≡ byte_ring q) where
-      pub end_place : queue_index b (b.count - end) ≡ last_index q
-      end_place =
-          let z : min (bytes_used q.packets - end) (bytes_used q.packets) ≡ bytes_used q.packets - end = omega arith in
-          ap (λ o. queue_index o (o.count - end)) bytes ∙ ap (index_after (length q.storage) q.read_at) z
 
   -- ---- the gap before the first packet goes
   pub skipped_well : (q : PacketsState H) → IsWellPlaced q → IsWellPlaced (without_gap q)
@@ -404,19 +357,6 @@ module _ {H : Type 0} where
         let n : min 0 b.count ≡ 0 = omega arith in
         ap (storage_index b) n ∙ ap (λ o. storage_index o 0) bytes ∙ place_zero (length q.storage) q.read_at ok.0.0
 
-    -- its bytes are lent
-    pub first_shown : (now : List ℕ) → length now ≡ contiguous_allocated b 0 s → now ≡ take (length now) (drop (queue_index b 0) b.storage)
-        → IsFirstSized q.packets hd (length now) × (now ≡ first_bytes q)
-    first_shown now count stored =
-        let fits = head_fits (length q.storage) q.read_at q.packets ok.0.0 ok.0.1 ok.1 z in
-        let n = ap (λ o. o.count) bytes in
-        let c = ap capacity bytes in
-        let from = head_at in
-        let long : length now ≡ s = omega (arith, count, size, n, c, from, fits) in (
-          subst (IsFirstSized q.packets hd) (sym long) is_first.0,
-          stored ∙ ap₂ (λ (k : ℕ) (l : List ℕ). take k l) (long ∙ sym size) (ap₂ (λ (p : ℕ) (o : RingState ℕ). drop p o.storage) head_at bytes),
-        )
-
     module _ (m2 : RingState (PacketMetadata H)) (wfm : IsWellFormed m2) (b2 : RingState ℕ) where
       pub take_left : queue m2 ≡ drop 1 (queue m) → b2 ≡ with_dequeued s b
           → Represents m2 b2 (packets_in 0 (queue m2)) × (capacity m2 ≡ q.slot_count → packets_state m2 b2 ≡ without_first q)
@@ -439,59 +379,9 @@ module _ {H : Type 0} where
             let slots = ap (λ l. packet_slots (with_first_header new l)) is_first.0 ∙ head_slots (drop 1 q.packets) (packet new s (first_gap q.packets)) z in
             held (with_first_bytes q new ws) (headed_well q ok new ws) m2 wfm (em ∙ ap (λ l. slot s (Some new) ∷ l) is_first.1 ∙ sym slots) b2 (after ∙ over_is)
 
--- ---- the first element of a list that was read
+-- ---- the last element of a list
 module _ {X : Type 0} where
-  -- the first of the first n elements is the first of all
-  pub first_read : (q l : List X) (n : ℕ) (x : X) → l ≡ take n q → Some x ≡ slice_get l 0 → q ≡ x ∷ drop 1 q
-  first_read [] l zero x e i = absurd (none-some x (sym (i ∙ ap (λ o. slice_get o 0) e)))
-  first_read [] l (suc n) x e i = absurd (none-some x (sym (i ∙ ap (λ o. slice_get o 0) e)))
-  first_read (y ∷ q) l zero x e i = absurd (none-some x (sym (i ∙ ap (λ o. slice_get o 0) e)))
-  first_read (y ∷ q) l (suc n) x e i = ap (λ z. z ∷ q) (sym (cond_some true x y (i ∙ ap (λ o. slice_get o 0) e)).1)
-
-  -- the first element is written over
-  pub first_put : (q l n : List X) (x y z : X) → l ≡ take (length l) q → length l ≤ 1 → 0 < length l → x ≡ get_or l 0 x
-      → q ≡ z ∷ drop 1 q → n ≡ overwrite q 0 (set l 0 y) → (x ≡ z) × (n ≡ y ∷ drop 1 q)
-  first_put q [] n x y z e one some i f en = absurd (omega (arith, some))
-  first_put q (w ∷ (v ∷ l)) n x y z e one some i f en = absurd (omega (arith, one))
-  first_put q (w ∷ []) n x y z e one some i f en =
-      let whole : w ∷ [] ≡ take 1 (z ∷ drop 1 q) = e ∙ ap (take 1) f in
-      let all : overwrite (z ∷ drop 1 q) 0 (y ∷ []) ≡ y ∷ drop 1 q = ap (λ l. y ∷ l) (take_all (length (drop 1 q)) (drop 1 q) (omega arith)) in
-      (i ∙ ap (head_or w) whole, en ∙ ap (λ l. overwrite l 0 (y ∷ [])) f ∙ all)
-
   -- the element at the end
   pub slice_get_end : (ms : List X) (y : X) → slice_get (ms ++ (y ∷ [])) (length ms) ≡ Some y
   slice_get_end [] y = refl
   slice_get_end (x ∷ ms) y = slice_get_end ms y
-
-module _ {H : Type 0} where
-  -- the first slot's header is written over
-  pub put_keeps : (q l n : List (PacketMetadata H)) (x : PacketMetadata H) (s : ℕ) (h : Option H) (hd : H)
-      → l ≡ take (length l) q → length l ≤ 1 → 0 < length l → x ≡ get_or l 0 x → q ≡ slot s h ∷ drop 1 q
-      → n ≡ overwrite q 0 (set l 0 (slot x.size (Some hd))) → n ≡ slot s (Some hd) ∷ drop 1 q
-  put_keeps q l n x s h hd e one some i f en =
-      let put = first_put q l n x (slot x.size (Some hd)) (slot s h) e one some i f en in
-      put.1 ∙ ap (λ m. slot m.size (Some hd) ∷ drop 1 q) put.0
-
-  -- the last slot's size is that of the last packet
-  last_slot : (ps : List (Packet H)) (o : Option (PacketMetadata H)) → o ≡ slice_get (packet_slots ps) (slots_used ps - 1)
-      → ((x : PacketMetadata H) → Some x ≡ o → x.size ≡ first_size (only_last ps)) × (None ≡ o → 0 ≡ first_size (only_last ps))
-  last_slot [] o e = (λ x i. absurd (none-some x (sym (i ∙ e))), λ i. refl)
-  last_slot (p ∷ ps) o e =
-      let s = slots_end p ps in
-      let n = length-slots (p ∷ ps) in
-      let long = ap length s.2 in
-      let many = length-append s.0 (s.1 ∷ []) in
-      let at : slots_used (p ∷ ps) - 1 ≡ length s.0 = omega (arith, n, long, many) in
-      let is : o ≡ Some s.1 = e ∙ ap₂ slice_get s.2 at ∙ slice_get_end s.0 s.1 in
-      (λ x i. ap (λ y. y.size) (cond_some true x s.1 (i ∙ is)).1 ∙ s.3, λ i. absurd (none-some s.1 (i ∙ is)))
-
-  module _ (m : RingState (PacketMetadata H)) (b : RingState ℕ) (h : Represents m b (packets_in 0 (queue m))) (q : PacketsState H)
-      (is : packets_state m b ≡ q) where
-    pub end_is : (k : ℕ) → k ≡ m.count - 1 → (l : List (PacketMetadata H)) → length l ≡ contiguous_allocated m k 1
-        → l ≡ take (length l) (drop k (queue m)) → ((x : PacketMetadata H) → Some x ≡ slice_get l 0 → x.size ≡ first_size (only_last q.packets))
-        × (None ≡ slice_get l 0 → 0 ≡ first_size (only_last q.packets))
-    end_is k ek l en el =
-        let n = count_is m b (packets_in 0 (queue m)) h in
-        let used = ap (λ o. slots_used o.packets) is in
-        let at : k ≡ slots_used q.packets - 1 = omega (arith, ek, n, used) in
-        last_slot q.packets (slice_get l 0) ((first_in_queue m h.0 k 1 l en el).1 (omega arith) ∙ ap₂ slice_get (slots_are m b h q is) at)

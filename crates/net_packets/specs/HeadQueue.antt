@@ -4,13 +4,14 @@
 --     slot_ring h ss, queue_of h ss xs      the ring of the slots, and the queue
 --     HasSoundSlots c h ss      the head and the slots are those of a queue, with each storage of c bytes
 --     AreSlotsAfter c b o g ms      slots are those of the rest of such a queue
+--     IsFirstSlot h ss s      the slot is the first one in use
 --     CanTake c h s, CanShorten h s k      the slot can be the first one; the last packet's, and k bytes of it go
 --     after_slot s q      the queue once its first slot is taken off
 --     HasFirst c h ss, first_packet c h ss, head_after_gap c h ss, head_after_first c h ss,
 --         IsFirstAt q p      the first packet
 --     packet_slot s, slots_written p s ss      the slots of a packet of s bytes
 use Rattle.std.specs.Prelude.{◌≡◌, ◌≢◌, ◌<◌, ◌≤◌, ◌+◌, ◌-◌, ℕ, nat_eq, if◌then◌else◌, List, ◌++◌, ⊤, length, map, set}
-use Rattle.std.specs.Prelude.{get_or}
+use Rattle.std.specs.Prelude.{get_or, slice_get}
 use Rattle.std.specs.declared.option.Option.TheVariants.{Some, None}
 use Rattle.net_ring.specs.Ring.{RingState, index_after, queue}
 use Rattle.net_ring.specs.RingHead.{ring_at}
@@ -58,6 +59,10 @@ AreSlotsAfter c b o g ms =
     (gap_slot g ++ ms ≡ packet_slots ps) × (b.length ≡ o + bytes_used ps) × ArePlaced c b.read_at o ps
 
 -- ---- the first slot
+-- the slot s is the first one in use
+abbrev pub IsFirstSlot : PacketsHead → List PacketSlot → PacketSlot → Type 0
+IsFirstSlot h ss s = (1 ≤ h.slots.length) × (slice_get ss h.slots.read_at ≡ Some s)
+
 -- the slot s can be the first one in use: its bytes are used and contiguous, and a gap has some and
 -- ends at the storage's end
 abbrev pub CanTake : ℕ → PacketsHead → PacketSlot → Type 0

@@ -12,7 +12,7 @@ ghost use Rattle.net_ring.specs.RingHead.{place, IsSound, rewound, contiguous_fr
 ghost use Rattle.net_packets.specs.HeadQueue.{HasSoundSlots, AreSlotsAfter, metadata, queue_of, CanTake, CanShorten};
 ghost use Rattle.net_packets.specs.HeadQueue.{after_slot, packet_slot, slots_written, last_slot_index, last_slot};
 ghost use Rattle.net_packets.specs.HeadQueue.{HasFirst, IsFirstAt, first_packet, first_slot, head_after_gap};
-ghost use Rattle.net_packets.specs.HeadQueue.{head_after_first};
+ghost use Rattle.net_packets.specs.HeadQueue.{head_after_first, IsFirstSlot};
 ghost use Rattle.net_packets.specs.Packets.{gap_for, slots_for, if_slots, with_last_size, with_packet_if_room};
 ghost use Rattle.net_packets.specs.Packets.{without_first_and_gap};
 ghost use Rattle.net_packets.specs.PacketsHead.{packets_head, IsSoundHead, placement_in, with_packet_placed};
@@ -265,8 +265,7 @@ impl PacketsHead {
         requires sound { IsSoundHead slot_count capacity self }
         ensures can { IsTrue result ↔ CanTake capacity self first.now }
         ensures first { (ss : List PacketSlot) → length ss ≡ slot_count →
-            HasSoundSlots capacity self ss → 1 ≤ self.slots.length →
-            slice_get ss self.slots.read_at ≡ Some first.now → CanTake capacity self first.now }
+            HasSoundSlots capacity self ss → IsFirstSlot self ss first.now → CanTake capacity self first.now }
     {
         let to_end = capacity - self.bytes.read_at;
         let fits = self.slots.length > 0 && first.size <= self.bytes.length && first.size <= to_end;

@@ -63,9 +63,6 @@ module _ {h : ReceiverHead} {xs : List ℕ} {rs : List (ℕ × ℕ)} (s : HasSou
   pub sound_for : (n : ℕ) → length rs ≡ n → IsSound n v
   sound_for n e = subst (λ k. IsSound k v) e s.state
 
-  pub next_fits : h.first + h.count_read + h.place.length < 2 ^ 64
-  next_fits = omega (arith, s.fits.next, queue_size)
-
   whole : IsReceiver (length rs) h.first h.count_read (queue g) (spare g) (set_of h.held rs)
   whole = record { sound = s.state; fits = s.fits }
 

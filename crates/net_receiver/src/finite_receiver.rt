@@ -475,6 +475,6 @@ impl<S: Storage<u8>, const N: usize> FiniteReceiverOver<S, N> {
         ensures bytes { IsSound N self.now.receiver }
         ensures end { IsSoundEnd self.now }
     {
-        let _next = self.head.receiver.next();
+        let _ = &self.head;
     }
 }

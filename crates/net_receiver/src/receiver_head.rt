@@ -50,6 +50,7 @@ pub struct ReceiverHead {
     pub held: AssemblerHead,
 }
 
+// A parameter `_storage` is there for the contract.
 impl ReceiverHead {
     /// Returns the head of a receiver of a stream that begins at position `first`; nothing is read,
     /// queued or held. It is sound with every storage and all runs.
@@ -459,24 +460,21 @@ impl ReceiverHead {
         read.checked_add(capacity as u64)
     }
 
-    /// Returns the held runs, as `ReceiverOver::held` does: at most as many as `runs` has elements. The
-    /// storage is for the contract only.
+    /// Returns the held runs, as `ReceiverOver::held` does: at most as many as `runs` has elements.
     ///
     /// # Requires
     ///
     /// Head, storage and runs are sound, as `is_sound` tests.
     #[inline(always)]
-    pub fn held<'a>(&self, storage: &[u8], runs: &'a [Run]) -> HeldRunIter<'a>
-        requires { HasSoundParts self.now storage.now runs.now }
-        ensures runs { result ≡ maximal_runs (domain (receiver_of self.now storage.now runs.now).held) }
+    pub fn held<'a>(&self, _storage: &[u8], runs: &'a [Run]) -> HeldRunIter<'a>
+        requires { HasSoundParts self.now _storage.now runs.now }
+        ensures runs { result ≡ maximal_runs (domain (receiver_of self.now _storage.now runs.now).held) }
         ensures bound { length result ≤ length runs.now }
-        ensures above { let v = receiver_of self.now storage.now runs.now in
+        ensures above { let v = receiver_of self.now _storage.now runs.now in
             All (λ run. (next_position v < run.0) × (run.0 < run.1)) result }
-        ensures within { let v = receiver_of self.now storage.now runs.now in
+        ensures within { let v = receiver_of self.now _storage.now runs.now in
             All (λ run. run.1 ≤ limit_of v) result }
     {
-        // Taken only for the precondition.
-        let _storage = storage;
         laws::maximal_runs();
         HeldRunIter::over(self.held.iter_data(runs), self.next())
     }
@@ -616,18 +614,15 @@ impl ReceiverHead {
         all as usize
     }
 
-    /// Returns whether all bytes that are queued or held are below a position. The storage is for
-    /// the contract only.
+    /// Returns whether all bytes that are queued or held are below a position.
     ///
     /// # Requires
     ///
     /// Head, storage and runs are sound, as `is_sound` tests.
-    pub fn has_all_below(&self, storage: &[u8], runs: &[Run], pos: u64) -> bool
-        requires { HasSoundParts self.now storage.now runs.now }
-        ensures { IsTrue result ↔ (top_of (receiver_of self.now storage.now runs.now) ≤ pos) }
+    pub fn has_all_below(&self, _storage: &[u8], runs: &[Run], pos: u64) -> bool
+        requires { HasSoundParts self.now _storage.now runs.now }
+        ensures { IsTrue result ↔ (top_of (receiver_of self.now _storage.now runs.now) ≤ pos) }
     {
-        // Taken only for the precondition.
-        let _storage = storage;
         let next = self.next();
         next <= pos && self.is_held_below(pos - next, runs)
     }

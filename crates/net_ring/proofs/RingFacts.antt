@@ -10,7 +10,7 @@ use Rattle.std.specs.Prelude.{Result, IsOk, IsErr, is_ok, slice_get}
 use Rattle.std.proofs.lemmas.Option.{gets}
 use Rattle.std.specs.declared.result.Result.TheVariants.{Ok, Err}
 use Rattle.net_ring.specs.Overwrite.{overwrite}
-use Rattle.net_ring.specs.Ring.{RingState, last_dequeued_index, rotation, ring, capacity, window, queue}
+use Rattle.net_ring.specs.Ring.{RingState, rotation, ring, capacity, window, queue}
 use Rattle.net_ring.specs.Ring.{index_after, spare, storage_index, write_at, IsWellFormed, with_elements}
 use Rattle.net_ring.specs.Ring.{with_elements_wrapping, with_enqueued, with_dequeued, rewind_if_empty}
 use Rattle.net_ring.specs.Ring.{contiguous_window, contiguous_queued, spare_index, contiguous_unallocated}

@@ -1077,6 +1077,7 @@ impl<T, S: Storage<T>> RingOver<T, S> {
         ensures queue { result.0.now ++ result.1.now ≡ queue self.now }
         ensures cut { length result.0.now ≡ contiguous_queued self.now }
         ensures count { length result.0.now + length result.1.now ≡ self.now.count }
+        ensures fits { self.now.count < 2 ^ 64 }
         // Guarantee.
         ensures not_empty { self.now.count ≢ 0 → 0 < length result.0.now }
         ensures value { (result.0.now ≡ contiguous_queue self.now)
@@ -1114,8 +1115,6 @@ impl<T, S: Storage<T>> RingOver<T, S> {
         ensures queue { result ≡ queue self.now }
         ensures count { length result ≡ self.now.count }
     {
-        // Called only for its clause, by which the number of elements is below 2^64.
-        let _capacity = self.capacity();
         let (first, second) = self.as_slices();
         Iter { first, second }
     }

@@ -26,6 +26,7 @@ pub struct FiniteReceiverHead {
     pub end: u64,
 }
 
+// A parameter `_runs` is there for the contract.
 impl FiniteReceiverHead {
     /// Returns the head of a receiver of a stream that begins at position `first`; nothing has
     /// arrived. It is sound with every storage and all runs.
@@ -99,9 +100,7 @@ impl FiniteReceiverHead {
     /// Returns the end that is known after a segment that ends at `pos`, where the storage has
     /// `capacity` bytes.
     #[inline]
-    fn end_after(&self, storage: &[u8], runs: &[Run], pos: u64, is_last: bool) -> u64 {
-        // Taken only for the precondition.
-        let _runs = runs;
+    fn end_after(&self, storage: &[u8], _runs: &[Run], pos: u64, is_last: bool) -> u64 {
         let ahead = pos.saturating_sub(self.receiver.next());
         if is_last && ahead <= self.receiver.window(storage.len()) as u64 {
             pos

@@ -28,6 +28,7 @@ pub struct ReceiverHead {
     pub held: AssemblerHead,
 }
 
+// A parameter `_storage` is there for the contract.
 impl ReceiverHead {
     /// Returns the head of a receiver of a stream that begins at position `first`; nothing is read,
     /// queued or held. It is sound with every storage and all runs.
@@ -286,16 +287,13 @@ impl ReceiverHead {
         read.checked_add(capacity as u64)
     }
 
-    /// Returns the held runs, as `Receiver::held` does: at most as many as `runs` has elements. The
-    /// storage is for the contract only.
+    /// Returns the held runs, as `Receiver::held` does: at most as many as `runs` has elements.
     ///
     /// # Requires
     ///
     /// Head, storage and runs are sound, as `is_sound` tests.
     #[inline(always)]
-    pub fn held<'a>(&self, storage: &[u8], runs: &'a [Run]) -> HeldRunIter<'a> {
-        // Taken only for the precondition.
-        let _storage = storage;
+    pub fn held<'a>(&self, _storage: &[u8], runs: &'a [Run]) -> HeldRunIter<'a> {
         HeldRunIter::over(self.held.iter_data(runs), self.next())
     }
 
@@ -398,15 +396,12 @@ impl ReceiverHead {
         all as usize
     }
 
-    /// Returns whether all bytes that are queued or held are below a position. The storage is for
-    /// the contract only.
+    /// Returns whether all bytes that are queued or held are below a position.
     ///
     /// # Requires
     ///
     /// Head, storage and runs are sound, as `is_sound` tests.
-    pub fn has_all_below(&self, storage: &[u8], runs: &[Run], pos: u64) -> bool {
-        // Taken only for the precondition.
-        let _storage = storage;
+    pub fn has_all_below(&self, _storage: &[u8], runs: &[Run], pos: u64) -> bool {
         let next = self.next();
         next <= pos && self.is_held_below(pos - next, runs)
     }

@@ -17,6 +17,7 @@ returns g c =
       queue = parts.queue;
       cut = parts.cut;
       count = parts.count;
+      fits = omega (arith, counts);
       not_empty = parts.some;
       value = (parts.first, parts.second);
       first = each_head _ _ _ parts.queue;
