@@ -28,7 +28,3 @@ module _ (all : Transcript) (before old mid new : Option (List ℕ)) (k : Keeps 
 
   pub Erred-kept : (left : Option (List ℕ)) (e : BenchError) → Erred all before left old mid e → Erred all before left old new e
   Erred-kept left e h = IfSome_then before h (λ input h. error_kept all input left old mid new e h k)
-
-  -- all of the output is a prefix of it
-  pub Erred-flush : (left : Option (List ℕ)) → Ran all before old mid → Erred all before left old new WriteFailed
-  Erred-flush left h = IfSome_then before h (λ input h. AppendsPrefix-kept old mid new _ (AppendsPrefix-all old mid _ h.1) k)

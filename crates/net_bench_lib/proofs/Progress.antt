@@ -148,15 +148,6 @@ module _ {S : Type 0} (rules : Rules S) where
     error-after lines more n m s t text old mid new ReadFailed g w h = h
     error-after lines more n m s t text old mid new e g w h = (g.faults more ∙ h.0, Appends-two old mid new text _ _ w h.1 (sym (g.texts closing more)))
 
-    -- a line that has no reply
-    pub refused : (n : ℕ) (s : S) (line : List ℕ) (more : List (List ℕ)) (old : Option (List ℕ)) (r : Refusal) →
-        IsRefusalOf r (line_step rules s line) → ErrorOfLines (all n s) (line ∷ more) old old (refusal_at n r)
-    refused n s line more old refusals.OutOfMemory h = (0, Appends-nil old)
-    refused n s line more old (refusals.Fault faults.BadCommand) h = rw h (refl, Appends-nil old)
-    refused n s line more old (refusals.Fault faults.RangeTooLong) h = rw h (refl, Appends-nil old)
-    refused n s line more old (refusals.Fault faults.LineTooLong) h = rw h (refl, Appends-nil old)
-    refused n s line more old (refusals.Fault faults.TooManySchedules) h = rw h (refl, Appends-nil old)
-
     -- the beginning of a line that is too long, whatever comes after it
     too_long : (n : ℕ) (s : S) (line rest : List ℕ) (old : Option (List ℕ)) → HasNoFeed line → MAX_LINE < length line →
         ErrorOfLines (all n s) (lines_of (line ++ rest)) old old (LineTooLong n)

@@ -28,13 +28,14 @@ use Rattle.net_receiver.specs.ReceiverState.{limit_of}
 use Rattle.net_receiver.specs.Finite.{with_error, bytes_result, has_other_end}
 use Rattle.net_receiver.proofs.Retransmission.{has_all_reaches}
 use Rattle.net_receiver.proofs.Converge.{converge}
-use Rattle.net_receiver.proofs.Called.{segment_receives, read_receives, fresh_receives_from, queue_of, held_of_stream}
+use Rattle.net_receiver.proofs.CallClauses.{segment_receives, read_receives, fresh_receives_from, queue_of}
+use Rattle.net_receiver.proofs.CallClauses.{held_of_stream}
 use Rattle.net_receiver.proofs.Covering.{cond_some, slice_get-take}
 use Rattle.net_receiver.proofs.OneStream.{first_stays, next_position_grows, segment_reads_nothing}
 use Rattle.net_receiver.proofs.ReadLaws.{read_leaves_next}
 use Rattle.net_receiver.proofs.Stream.{some_of}
-use Rattle.net_receiver.proofs.Ends.{after_by, ended_at, top_le, sound_after, sound_read, fresh_sound_end}
-use Rattle.net_receiver.proofs.Ends.{no_other, cut_is, eq_tests}
+use Rattle.net_receiver.proofs.EndInvariant.{after_by, ended_at, top_le, sound_after, sound_read, fresh_sound_end}
+use Rattle.net_receiver.proofs.EndInvariant.{no_other, cut_is, eq_tests}
 
 pub sound_end_stays : SoundEndStays
 sound_end_stays N s (Arrives pos xs last) sound fits = sound_after N s pos xs last sound fits

@@ -32,9 +32,9 @@ use Rattle.net_receiver.proofs.Schedules.{schedule}
 use Rattle.net_receiver.proofs.OneStream.{limit_grows}
 use Rattle.net_receiver.proofs.ReadLaws.{read_leaves_next}
 use Rattle.net_receiver.proofs.Retransmission.{completes}
-use Rattle.net_receiver.proofs.Called.{in_order_reaches, kept_in_order}
+use Rattle.net_receiver.proofs.CallClauses.{in_order_reaches, kept_in_order}
 use Rattle.net_receiver.proofs.NewestFirst.{there}
-use Rattle.net_receiver.proofs.Ends.{after_by, ended_at, eq_tests, fresh_sound_end, sound_read}
+use Rattle.net_receiver.proofs.EndInvariant.{after_by, ended_at, eq_tests, fresh_sound_end, sound_read}
 use Rattle.net_receiver.proofs.FiniteReceivers.{all_sound, end_is_taken, end_stays, known, next_grows, ok_of}
 use Rattle.net_receiver.proofs.FiniteReceivers.{one_of_stream, reads_the_stream, same_end, segment_of_stream}
 use Rattle.net_receiver.proofs.FiniteReceivers.{sound_end_stays}

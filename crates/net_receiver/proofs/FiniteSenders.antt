@@ -23,7 +23,7 @@ use Rattle.net_receiver.specs.FiniteSenderLaws.{ClosedStays, LentIsOfStream}
 use Rattle.net_receiver.specs.FiniteLaws.{MatchesFinite}
 use Rattle.net_receiver.proofs.Senders.{sends_written, sends_from, lent_says, lent_within}
 use Rattle.net_receiver.proofs.OneStream.{longer_at}
-use Rattle.net_receiver.proofs.Called.{matches_what_is_there}
+use Rattle.net_receiver.proofs.CallClauses.{matches_what_is_there}
 
 pub fresh_sent_is_sound : FreshSentIsSound
 fresh_sent_is_sound capacity first = record { closed = omega arith; finished = omega arith; none_left = λ some. refl; low = omega arith; high = omega arith }

@@ -3,7 +3,7 @@ pub mod Search
 pub mod Covering
 pub mod Maps
 pub mod Ranges
-pub mod Runs
+pub mod ShiftedRuns
 pub mod Step
 pub mod Schedules
 pub mod Stream
@@ -13,11 +13,11 @@ pub mod ReceiverInvariant
 pub mod RingPlaces
 pub mod Segment
 pub mod Theorems
-pub mod Soundness
+pub mod InvariantLaws
 pub mod SameBytes
 pub mod KeptLists
 pub mod OneStream
-pub mod Called
+pub mod CallClauses
 pub mod Retransmission
 pub mod ReadLaws
 pub mod Contiguous
@@ -32,7 +32,7 @@ pub mod Holes
 pub mod NewestRuns
 pub mod NewestFirst
 pub mod NewBytes
-pub mod Ends
+pub mod EndInvariant
 pub mod FiniteReceivers
 pub mod FiniteSchedules
 pub mod FiniteSenders

@@ -21,7 +21,7 @@ use Rattle.net_receiver.specs.NewestFirst.{NewestAreFirst, HeldStayTogether}
 use Rattle.net_receiver.proofs.Covering.{slice_get-take}
 use Rattle.net_receiver.proofs.Maps.{contains-domain}
 use Rattle.net_receiver.proofs.Retransmission.{has_byte_stays}
-use Rattle.net_receiver.proofs.Soundness.{sound_stays}
+use Rattle.net_receiver.proofs.InvariantLaws.{sound_stays}
 use Rattle.net_receiver.proofs.NewestRuns.{lies, lies_from, at-left, newest_runs_are_listed}
 
 -- ---- elements of lists

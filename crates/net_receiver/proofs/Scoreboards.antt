@@ -26,7 +26,7 @@ use Rattle.net_assembler.proofs.ShiftedRuns.{length-up}
 use Rattle.net_receiver.specs.declared.scoreboard_head.ScoreboardHead.{ScoreboardHead}
 use Rattle.net_receiver.specs.Scoreboards.{board, reported_by, sizes, offsets_of, beyond, IsEnd, IsNextHole}
 use Rattle.net_receiver.specs.Scoreboards.{HasNoRoom, IsSoundBoard}
-use Rattle.net_receiver.proofs.Runs.{IsShiftedUp, runs_shifted, ends_within}
+use Rattle.net_receiver.proofs.ShiftedRuns.{IsShiftedUp, runs_shifted, ends_within}
 use Rattle.net_receiver.proofs.Holes.{greatest_end, is_in_run, in_run}
 
 -- which positions a scoreboard has

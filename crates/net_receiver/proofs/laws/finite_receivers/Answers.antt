@@ -1,4 +1,4 @@
-use Rattle.net_receiver.proofs.Ends.{fresh_sound_end}
+use Rattle.net_receiver.proofs.EndInvariant.{fresh_sound_end}
 use Rattle.net_receiver.proofs.FiniteReceivers.{sound_end_stays, end_stays, segment_of_stream, reads_the_stream}
 use Rattle.net_receiver.proofs.FiniteReceivers.{acknowledged_grows, end_is_taken, all_bytes_complete}
 use Rattle.net_receiver.proofs.FiniteReceivers.{same_end_converges}

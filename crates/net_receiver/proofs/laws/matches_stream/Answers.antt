@@ -1,6 +1,6 @@
 use Rattle.net_receiver.specs.OneStream.{MatchesStream}
 use Rattle.net_receiver.proofs.OneStream.{longer_at}
-use Rattle.net_receiver.proofs.Called.{matches_what_is_there}
+use Rattle.net_receiver.proofs.CallClauses.{matches_what_is_there}
 use Rattle.net_receiver.proofs.laws.matches_stream.Goals as goal
 
 pub returns : goal.returns

@@ -3,7 +3,7 @@ use Rattle.net_receiver.specs.Finite.{FiniteState, IsSoundEnd}
 use Rattle.net_receiver.specs.FiniteHead.{finite_of}
 use Rattle.net_receiver.specs.FiniteLaws.{ReceivesFinite}
 use Rattle.net_receiver.proofs.FiniteReceivers.{segment_of_stream}
-use Rattle.net_receiver.proofs.Ends.{no_other, left_state, left_result, left_storage, sound_after, cut_is}
+use Rattle.net_receiver.proofs.EndInvariant.{no_other, left_state, left_result, left_storage, sound_after, cut_is}
 use Rattle.net_receiver.proofs.finite_receiver_head.FiniteReceiverHead.keep.Goals as goal
 use Rattle.net_receiver.proofs.finite_receiver_head.FiniteReceiverHead.keep.Goals.{else-is_last-via-then-is_last+else-not-can_end}
 use Rattle.net_receiver.proofs.finite_receiver_head.FiniteReceiverHead.keep.Goals.{else-is_last-via-else-is_last}

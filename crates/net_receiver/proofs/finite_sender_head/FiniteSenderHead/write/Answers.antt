@@ -6,7 +6,7 @@ use Rattle.net_ring.proofs.Rotations.{length-queue}
 use Rattle.net_receiver.specs.SenderState.{with_written, Sends}
 use Rattle.net_receiver.specs.SenderHeads.{sender_of}
 use Rattle.net_receiver.specs.FiniteSender.{open_room}
-use Rattle.net_receiver.proofs.Ends.{eq_tests}
+use Rattle.net_receiver.proofs.EndInvariant.{eq_tests}
 use Rattle.net_receiver.proofs.finite_sender_head.FiniteSenderHead.write.Goals as goal
 
 pub returns-clause-count : goal.returns-clause-count

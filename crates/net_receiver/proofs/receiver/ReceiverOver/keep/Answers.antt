@@ -3,7 +3,7 @@ use Rattle.net_receiver.specs.KeptList.{piece}
 use Rattle.net_receiver.specs.Rules.{Segment, verdict, numbers}
 use Rattle.net_receiver.specs.ReceiverState.{receiver_ops, receiver_after_command}
 use Rattle.net_receiver.specs.Head.{receiver_of, HasSoundParts}
-use Rattle.net_receiver.proofs.Called.{segment_receives, kept_any, kept_in_order, stays}
+use Rattle.net_receiver.proofs.CallClauses.{segment_receives, kept_any, kept_in_order, stays}
 use Rattle.net_receiver.proofs.Heads.{lent_view, lent_sound, part_is, whole_written, sound_for}
 use Rattle.net_receiver.proofs.receiver.ReceiverOver.keep.Given as given
 use Rattle.net_receiver.proofs.receiver.ReceiverOver.keep.Goals as goal

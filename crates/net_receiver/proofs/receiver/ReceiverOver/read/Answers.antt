@@ -2,7 +2,7 @@ use Rattle.std.proofs.Common.{◌∙◌, ◌++◌, min, ap, sym, subst, length, 
 use Rattle.net_assembler.specs.RunLists.{IsCanonical}
 use Rattle.net_receiver.specs.Rules.{Read, ReadReply}
 use Rattle.net_receiver.specs.ReceiverState.{ReceiverState, receiver_after_read}
-use Rattle.net_receiver.proofs.Called.{stays}
+use Rattle.net_receiver.proofs.CallClauses.{stays}
 use Rattle.net_receiver.proofs.Heads.{lent_view, lent_sound, back_view, back_sound, queue_size, sound_for}
 use Rattle.net_receiver.proofs.Schedules.{steps, read_prefix}
 use Rattle.net_receiver.proofs.receiver.ReceiverOver.read.Goals as goal

@@ -3,7 +3,7 @@ use Rattle.std.proofs.Common.{refl, sym, ap, subst, ◌∙◌, length, take, ari
 use Rattle.net_assembler.specs.RunLists.{IsCanonical}
 use Rattle.net_receiver.specs.Rules.{Read, ReadReply}
 use Rattle.net_receiver.specs.ReceiverState.{receiver_after_read}
-use Rattle.net_receiver.proofs.Called.{stays}
+use Rattle.net_receiver.proofs.CallClauses.{stays}
 use Rattle.net_receiver.proofs.Heads.{sound_for}
 use Rattle.net_receiver.proofs.Schedules.{steps}
 use Rattle.net_receiver.proofs.receiver.ReceiverOver.read_with.Goals as goal

@@ -10,7 +10,7 @@ use Rattle.net_receiver.specs.KeptList.{piece}
 use Rattle.net_receiver.specs.Rules.{verdict, state_after, numbers}
 use Rattle.net_receiver.specs.ReceiverState.{receiver_ops}
 use Rattle.net_receiver.specs.Head.{receiver_of, HasSoundParts}
-use Rattle.net_receiver.proofs.Called.{segment_receives}
+use Rattle.net_receiver.proofs.CallClauses.{segment_receives}
 use Rattle.net_receiver.proofs.Heads.{cut_of, refused, refused_stores, joined_fits, kept_is, kept_stores}
 use Rattle.net_receiver.proofs.RingPlaces.{front_removed}
 use Rattle.net_receiver.proofs.Segment.{only_err, accepted_cases}

@@ -5,7 +5,7 @@ use Rattle.net_ring.specs.declared.head.RingHead.{RingHead}
 use Rattle.net_ring.proofs.Rotations.{length-queue}
 use Rattle.net_receiver.specs.Head.{receiver_of, HasSoundParts}
 use Rattle.net_receiver.specs.Rules.{Read, ReadReply}
-use Rattle.net_receiver.proofs.Called.{read_receives, read_bytes}
+use Rattle.net_receiver.proofs.CallClauses.{read_receives, read_bytes}
 use Rattle.net_receiver.proofs.Heads.{after_read}
 use Rattle.net_receiver.proofs.Schedules.{steps, read_prefix}
 use Rattle.net_receiver.proofs.Segment.{given_is}

@@ -3,7 +3,7 @@ use Rattle.net_ring.specs.Ring.{queue}
 use Rattle.net_ring.specs.RingHead.{IsSound as IsSoundPlace, ring_at, dequeued_place}
 use Rattle.net_receiver.specs.Rules.{Read, ReadReply}
 use Rattle.net_receiver.specs.Head.{receiver_of, HasSoundParts, head_after_read}
-use Rattle.net_receiver.proofs.Called.{read_receives, head_bytes}
+use Rattle.net_receiver.proofs.CallClauses.{read_receives, head_bytes}
 use Rattle.net_receiver.proofs.Heads.{after_read, queue_size}
 use Rattle.net_receiver.proofs.Schedules.{steps}
 use Rattle.net_receiver.proofs.receiver_head.ReceiverHead.remove.Goals as goal

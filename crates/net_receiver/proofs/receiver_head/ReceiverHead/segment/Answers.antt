@@ -3,7 +3,7 @@ use Rattle.net_receiver.specs.KeptList.{piece}
 use Rattle.net_receiver.specs.Rules.{Segment, SegmentReply, verdict, numbers, with_sack}
 use Rattle.net_receiver.specs.ReceiverState.{ReceiverState, domain, receiver_ops}
 use Rattle.net_receiver.specs.Head.{receiver_of}
-use Rattle.net_receiver.proofs.Called.{segment_receives}
+use Rattle.net_receiver.proofs.CallClauses.{segment_receives}
 use Rattle.net_receiver.proofs.Schedules.{steps}
 use Rattle.net_receiver.proofs.Segment.{only_err}
 use Rattle.net_receiver.proofs.receiver_head.ReceiverHead.segment.Goals as goal

@@ -4,7 +4,7 @@ use Rattle.net_assembler.specs.RunLists.{set_of}
 use Rattle.net_assembler.proofs.Positions.{maximal_runs-shift_up}
 use Rattle.net_receiver.specs.Parts.{EndBelow}
 use Rattle.net_receiver.proofs.Scoreboards.{beyond_board, beyond_fits}
-use Rattle.net_receiver.proofs.Runs.{ends_below}
+use Rattle.net_receiver.proofs.ShiftedRuns.{ends_below}
 use Rattle.net_receiver.proofs.scoreboard_head.ScoreboardHead.reported.Goals as goal
 
 pub over-requires : goal.over-requires
