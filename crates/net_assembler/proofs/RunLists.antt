@@ -73,19 +73,24 @@ absorbed low (r ∷ rs) (suc n) lo hi h l m upto after =
     (λ k b d. let q = after (suc k) (omega arith) (omega arith) in let s = at_run (r.1 + 1) rs k h.2 d in omega (arith, q, s.0))
     ∙ ap (λ t. (lo, t) ∷ drop n rs) (top_more r rs n low hi h (omega arith))
 
--- a run that meets the run i alone
-met_at : (low : ℕ) (rs : List (ℕ × ℕ)) (i lo hi : ℕ) → IsRising low rs → i < length rs → ((k : ℕ) → k < i → end_at rs k < lo) →
-    lo ≤ end_at rs i → start_at rs i ≤ hi → ((k : ℕ) → i < k → k < length rs → hi < start_at rs k) →
-    runs_with_range rs lo hi ≡ take i rs ++ (min (start_at rs i) lo, max (end_at rs i) hi) ∷ drop (suc i) rs
-met_at low [] i lo hi h l before from upto after = absurd (omega arith)
-met_at low (r ∷ rs) zero lo hi h l before from upto after =
-    step_meets r rs lo hi from upto
-    ∙ absorbed (r.1 + 1) rs 0 (min r.0 lo) (max r.1 hi) h.2 (omega (arith, h.1)) (omega arith) (λ k b. absurd (omega arith))
-    (λ k a d. let q = after (suc k) (omega arith) (omega arith) in let s = at_run (r.1 + 1) rs k h.2 d in omega (arith, q, s.0))
-met_at low (r ∷ rs) (suc i) lo hi h l before from upto after =
+-- a run that meets those from i to m
+pub joined_at : (low : ℕ) (rs : List (ℕ × ℕ)) (i m lo hi : ℕ) → IsRising low rs → i ≤ m → m < length rs →
+    ((k : ℕ) → k < i → end_at rs k < lo) → lo ≤ end_at rs i →
+    ((k : ℕ) → i ≤ k → k ≤ m → start_at rs k ≤ hi) → ((k : ℕ) → m < k → k < length rs → hi < start_at rs k) →
+    runs_with_range rs lo hi ≡ take i rs ++ (min (start_at rs i) lo, max (end_at rs m) hi) ∷ drop (suc m) rs
+joined_at low [] i m lo hi h l n before from upto after = absurd (omega arith)
+joined_at low (r ∷ rs) zero m lo hi h l n before from upto after =
+    let p = upto 0 (omega arith) (omega arith) in
+    step_meets r rs lo hi from p
+    ∙ absorbed (r.1 + 1) rs m (min r.0 lo) (max r.1 hi) h.2 (omega (arith, h.1)) (omega arith)
+    (λ k b. let q = upto (suc k) (omega arith) (omega arith) in omega (arith, q))
+    (λ k b d. let q = after (suc k) (omega arith) (omega arith) in let s = at_run (r.1 + 1) rs k h.2 d in omega (arith, q, s.0))
+    ∙ ap (λ t. (min r.0 lo, t) ∷ drop m rs) (top_more r rs m low hi h (omega arith))
+joined_at low (r ∷ rs) (suc i) zero lo hi h l n before from upto after = absurd (omega arith)
+joined_at low (r ∷ rs) (suc i) (suc m) lo hi h l n before from upto after =
     step_before r rs lo hi (before 0 (omega arith))
-    ∙ ap (λ ts. r ∷ ts) (met_at (r.1 + 1) rs i lo hi h.2 (omega arith) (λ k b. before (suc k) (omega arith)) from upto
-    (λ k b d. after (suc k) (omega arith) (omega arith)))
+    ∙ ap (λ ts. r ∷ ts) (joined_at (r.1 + 1) rs i m lo hi h.2 (omega arith) (omega arith)
+    (λ k b. before (suc k) (omega arith)) from (λ k b d. upto (suc k) (omega arith) (omega arith)) (λ k b d. after (suc k) (omega arith) (omega arith)))
 
 -- a run that meets none
 pub apart_at : (low : ℕ) (rs : List (ℕ × ℕ)) (i lo hi : ℕ) → IsRising low rs → i ≤ length rs → lo < hi →
@@ -98,15 +103,6 @@ apart_at low (r ∷ rs) (suc i) lo hi h l m before after =
     step_before r rs lo hi (before 0 (omega arith))
     ∙ ap (λ ts. r ∷ ts) (apart_at (r.1 + 1) rs i lo hi h.2 (omega arith) m (λ k b. before (suc k) (omega arith))
     (λ k b d. after (suc k) (omega arith) (omega arith)))
-
--- runs that end before a range stay
-pub passed_at : (rs : List (ℕ × ℕ)) (i lo hi : ℕ) → i ≤ length rs → ((k : ℕ) → k < i → end_at rs k < lo) →
-    take i rs ++ runs_with_range (drop i rs) lo hi ≡ runs_with_range rs lo hi
-passed_at rs zero lo hi l before = refl
-passed_at [] (suc i) lo hi l before = absurd (omega arith)
-passed_at (r ∷ rs) (suc i) lo hi l before =
-    ap (λ ts. r ∷ ts) (passed_at rs i lo hi (omega arith) (λ k b. before (suc k) (omega arith)))
-    ∙ sym (step_before r rs lo hi (before 0 (omega arith)))
 
 pub rising-drop : (low : ℕ) (rs : List (ℕ × ℕ)) (n m : ℕ) → IsRising low rs → ((k : ℕ) → n ≤ k → k < length rs → m ≤ start_at rs k) → IsRising m (drop n rs)
 rising-drop low [] zero m h above = tt
@@ -214,6 +210,20 @@ module _ (xs : List (ℕ × ℕ)) (used : ℕ) (h : AreRuns (take used xs)) (roo
       ∙ append_assoc (take i xs) (v ∷ []) (drop j cs)
       ∙ ap (λ zs. zs ++ v ∷ drop j cs) (sym (take-take i used xs (omega arith)))
 
+  -- one entry in the place of those from i up to j
+  pub replaced_run : (i j start end lo hi : ℕ) → i < j → j ≤ used → ((k : ℕ) → k < i → end_at cs k < start) → start ≤ end_at cs i →
+      ((k : ℕ) → i ≤ k → k < j → start_at cs k ≤ end) → ((k : ℕ) → j ≤ k → k < used → end < start_at cs k) →
+      lo ≡ min (start_at xs i) start → hi ≡ max (end_at xs (j - 1)) end →
+      take (i + 1) (set xs i (lo, hi)) ++ drop j (take used (set xs i (lo, hi))) ≡ runs_with_range cs start end
+  replaced_run i j start end lo hi l m before from upto after low high =
+      let last : suc (j - 1) ≡ j = omega arith in
+      let lo_is : lo ≡ min (start_at cs i) start = omega (arith, low, pair_is i (omega arith)) in
+      let hi_is : hi ≡ max (end_at cs (j - 1)) end = omega (arith, high, pair_is (j - 1) (omega arith)) in
+      replaced i j (lo, hi) l m
+      ∙ (λ k. take i cs ++ (lo_is k, hi_is k) ∷ drop (sym last k) cs)
+      ∙ sym (joined_at 0 cs i (j - 1) start end h (omega arith) (omega (arith, len)) before from
+      (λ k a b. upto k a (omega arith)) (λ k a b. after k (omega arith) (omega (arith, len))))
+
   -- one entry more
   pub inserted_run : (i start end : ℕ) → i ≤ used → start < end → ((k : ℕ) → k < i → end_at cs k < start) →
       ((k : ℕ) → i ≤ k → k < used → end < start_at cs k) → take i xs ++ (start, end) ∷ drop i cs ≡ runs_with_range cs start end
@@ -249,13 +259,11 @@ module _ (xs : List (ℕ × ℕ)) (used : ℕ) (h : AreRuns (take used xs)) (roo
       take used (set xs i (lo, hi)) ≡ runs_with_range cs start end
   grown_run i start end lo hi l before from upto after low high =
       let ys = set xs i (lo, hi) in
-      let last : suc i ≡ i + 1 = omega arith in
-      let lo_is : lo ≡ min (start_at cs i) start = omega (arith, low, pair_is i l) in
-      let hi_is : hi ≡ max (end_at cs i) end = omega (arith, high, pair_is i l) in
+      let at : i + 1 - 1 ≡ i = omega arith in
       sym (take-append-drop (i + 1) (take used ys)) ∙ ap (λ zs. zs ++ drop (i + 1) (take used ys)) (take-take (i + 1) used ys (omega arith))
-      ∙ replaced i (i + 1) (lo, hi) (omega arith) (omega arith)
-      ∙ (λ k. take i cs ++ (lo_is k, hi_is k) ∷ drop (sym last k) cs)
-      ∙ sym (met_at 0 cs i start end h (omega (arith, len)) before from upto (λ k a b. after k (omega arith) (omega (arith, len))))
+      ∙ replaced_run i (i + 1) start end lo hi (omega arith) (omega arith) before from
+      (λ k a b. let p = starts_rise 0 cs k i h (omega arith) (omega (arith, len)) in omega arith)
+      after low (high ∙ ap (λ k. max (end_at xs k) end) (sym at))
 
   -- a range that meets the last run alone
   pub extended_run : (start end hi : ℕ) → 0 < used → start < end → start_at xs (used - 1) ≤ start → start ≤ end_at xs (used - 1) →

@@ -5,7 +5,6 @@ use Rattle.std.proofs.Common.{nat_eq, refl, sym, ap, subst, ◌∙◌, arith}
 use Rattle.std.proofs.Math.Bool.{or_assoc, or_comm, or-false}
 use Rattle.std.proofs.lemmas.Bool.{false≢true, eq-eqb, cases_lt, cases_eq, lt-ltb, le-ltb, ne_eqb, or_cases}
 use Rattle.std.proofs.lemmas.Bool.{cond-true, cond-false, false_from_ne_true}
-use Rattle.std.proofs.lemmas.List.{drop_more}
 use Rattle.std.specs.List.{range_with_len}
 use Rattle.std.proofs.lemmas.Bool.Decides.{nat_tests}
 use Rattle.net_assembler.specs.Positions.{Positions, contains, positions, with_range, begins_run, run_starts}
@@ -125,42 +124,6 @@ step_after r rs lo hi l m = cond-false _ _ _ (le-ltb r.1 lo l) ∙ cond-true _ _
 pub step_meets : (r : ℕ × ℕ) (rs : List (ℕ × ℕ)) (lo hi : ℕ) → lo ≤ r.1 → r.0 ≤ hi →
     runs_with_range (r ∷ rs) lo hi ≡ runs_with_range rs (min r.0 lo) (max r.1 hi)
 step_meets r rs lo hi l m = cond-false _ _ _ (le-ltb r.1 lo l) ∙ cond-false _ _ _ (le-ltb hi r.0 m)
-
--- a run before the others, as a range
-run_alone : (r : ℕ × ℕ) (rs : List (ℕ × ℕ)) (hi : ℕ) → r.0 < r.1 → IsRising (r.1 + 1) rs → hi ≡ r.1 → runs_with_range rs r.0 hi ≡ r ∷ rs
-run_alone r [] hi l h e = λ i. (r.0, e i) ∷ []
-run_alone r (s ∷ ss) hi l h e = step_after s ss r.0 hi (omega (arith, h.0, h.1)) (omega (arith, h.0)) ∙ (λ i. (r.0, e i) ∷ s ∷ ss)
-
--- a run that begins what is left of runs, and a range that begins at or before it
-module _ (rs : List (ℕ × ℕ)) (k lo hi top : ℕ) (l : k < length rs) (h : IsRising lo (drop k rs)) (is : top ≡ max (get_or rs k (0, 0)).1 hi) where
-  abbrev run : ℕ × ℕ
-  run = get_or rs k (0, 0)
-
-  abbrev later : List (ℕ × ℕ)
-  later = drop (k + 1) rs
-
-  left : drop k rs ≡ run ∷ later
-  left = drop_more rs k (0, 0) l
-
-  rises : IsRising lo (run ∷ later)
-  rises = subst (IsRising lo) left h
-
-  pub rest_meets : run.0 ≤ hi → runs_with_range (drop k rs) lo hi ≡ runs_with_range later lo top
-  rest_meets m =
-      let least : min run.0 lo ≡ lo = omega (arith, rises.0) in
-      ap (λ ts. runs_with_range ts lo hi) left ∙ step_meets run later lo hi (omega (arith, rises.0, rises.1)) m
-      ∙ (λ i. runs_with_range later (least i) (sym is i))
-
-  pub rest_rises : IsRising lo later
-  rest_rises = rising_from lo (run.1 + 1) later (omega (arith, rises.0, rises.1)) rises.2
-
-  pub rest_apart : hi < run.0 → runs_with_range (drop k rs) lo hi ≡ (lo, hi) ∷ runs_with_range later run.0 top
-  rest_apart m =
-      ap (λ ts. runs_with_range ts lo hi) left ∙ step_after run later lo hi (omega (arith, rises.0, rises.1)) m
-      ∙ ap (λ ts. (lo, hi) ∷ ts) (sym (run_alone run later top rises.1 rises.2 (omega (arith, rises.1))))
-
-  pub apart_rises : IsRising run.0 later
-  apart_rises = rising_from run.0 (run.1 + 1) later (omega (arith, rises.1)) rises.2
 
 pub rising-runs_with_range : (low : ℕ) (rs : List (ℕ × ℕ)) (lo hi : ℕ) → IsRising low rs → low ≤ lo → lo < hi → IsRising low (runs_with_range rs lo hi)
 rising-runs_with_range low [] lo hi h l m = (l, m, tt)

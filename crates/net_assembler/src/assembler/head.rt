@@ -631,9 +631,8 @@ fn rise_after(runs: &[Run], after: usize, first_start: usize) -> bool
 /// Joins a range that isn't empty, and isn't after the last run, with the runs, each counted `by`
 /// higher, that it meets or touches. Returns how many runs there are then.
 ///
-/// One rule: of the runs from `first` on, those that the range meets or touches become one with it,
-/// and the later ones move up or down, or stay. `by` isn't 0 only for a range that starts at 0, before
-/// the first run.
+/// One rule: the runs from `first` up to `next` become one with the range, and those after them move
+/// up or down, or stay. `by` isn't 0 only for a range that starts at 0, before the first run.
 #[inline(always)]
 fn join_range(
     runs: &mut [Run],
@@ -667,15 +666,15 @@ fn join_range(
             return Err(TooManyHolesError);
         }
     } else {
-        //  |--- first ---|        |--- next ---|
-        //         |=== range ===|                      it joins that run, and the others stay
-        let first_end = by + end_of(runs, first);
-        prove!(first_end <= most(), "in any `usize`");
+        //  |--- first ---|  ..  |--- next - 1 ---|    |--- next ---|
+        //         |====== range ======|                                    they become one with it
+        prove!(first + 1 <= used, "in any `usize`");
+        next = runs_starting_by(&runs[..used], first + 1, end - by, turns);
+        let last_end = by + end_of(runs, next - 1);
+        prove!(last_end <= most(), "in any `usize`");
         low = low.min(first_start);
-        high = high.max(first_end);
-        next = first + 1;
-        prove!(next <= used, "in any `usize`");
-        if by == 0 && (next == used || high < start_of(runs, next)) {
+        high = high.max(last_end);
+        if by == 0 && next == first + 1 {
             runs[first] = Run {
                 start: low,
                 end: high,
@@ -683,27 +682,11 @@ fn join_range(
             return Ok(used);
         }
     }
-    let mut at = first;
-    for k in next..used.min(runs.len()) {
-        let run = wrapped(runs, k, by);
-        if high < run.start {
-            runs[at] = Run {
-                start: low,
-                end: high,
-            };
-            at += 1;
-            prove!(at <= used, "in any `usize`");
-            low = run.start;
-        }
-        high = high.max(run.end);
-        turns.step();
-    }
-    runs[at] = Run {
+    let entry = Run {
         start: low,
         end: high,
     };
-    prove!(at + 1 <= runs.len(), "in any `usize`");
-    Ok(at + 1)
+    Ok(move_runs(runs, used, first, next, entry, by, turns))
 }
 
 /// Returns how many runs end before `offset`, which the last doesn't. The first is tested by itself.
@@ -738,7 +721,8 @@ fn runs_ending_before(runs: &[Run], offset: usize, turns: &mut Turns) -> usize
     low
 }
 
-/// Returns how many runs start at or before `end`, but at least `from`.
+/// Returns how many runs start at or before `end`, but at least `from`. The run with number `from` is
+/// tested by itself.
 #[inline(always)]
 fn runs_starting_by(runs: &[Run], from: usize, end: usize, turns: &mut Turns) -> usize
     requires runs { AreRuns runs.now }
@@ -751,7 +735,11 @@ fn runs_starting_by(runs: &[Run], from: usize, end: usize, turns: &mut Turns) ->
     ensures no_look_lost { turns.old.0 ≤ turns.new.0 }
     ensures moves { turns.new.1 ≡ turns.old.1 }
 {
-    let mut low = from;
+    if from >= runs.len() || end < start_of(runs, from) {
+        return from;
+    }
+    let mut low = from + 1;
+    prove!(low <= runs.len(), "in any `usize`");
     let mut high = runs.len();
     while low < high {
         let middle = low + (high - low) / 2;
@@ -781,6 +769,44 @@ fn wrapped(runs: &[Run], k: usize, by: usize) -> Run
     prove!(start <= most(), "in any `usize`");
     prove!(end <= most(), "in any `usize`");
     Run { start, end }
+}
+
+/// Writes `entry` at `at`, and moves the used runs from `from` on to the indices after it, each
+/// counted `by` higher. Returns how many runs there are then.
+#[inline(always)]
+fn move_runs(
+    runs: &mut [Run],
+    used: usize,
+    at: usize,
+    from: usize,
+    entry: Run,
+    by: usize,
+    turns: &mut Turns,
+) -> usize
+    requires at { at ≤ from }
+    requires from { from ≤ used }
+    requires used { used ≤ length runs.old }
+    requires room { at + used < length runs.old + from }
+    requires fits { AreUsize (runs_wrapped by (drop from (take used runs.old))) }
+    ensures count { result + from ≡ at + used + 1 }
+    ensures runs { let all = take used runs.old in
+        take result runs.new ≡ take at runs.old ++ entry ∷ runs_wrapped by (drop from all) }
+    ensures looks { turns.new.0 ≡ turns.old.0 }
+    ensures moves { turns.new.1 + from ≡ turns.old.1 + used }
+{
+    let mut to = at;
+    let mut carried = entry;
+    for k in from..used.min(runs.len()) {
+        let run = wrapped(runs, k, by);
+        runs[to] = carried;
+        carried = run;
+        to += 1;
+        prove!(to <= used, "in any `usize`");
+        turns.step();
+    }
+    runs[to] = carried;
+    prove!(to + 1 <= runs.len(), "in any `usize`");
+    to + 1
 }
 
 /// Takes out the first `count` runs, and moves the later ones down, each counted `by` higher.

@@ -12,7 +12,7 @@ enum Count {
     Next(Snapshot<Count>),
 }
 
-/// How often loops looked at a run, and how often they moved one or joined it with a range.
+/// How often loops looked at a run, and how often they moved one.
 ///
 /// Contracts see the two counts as whole numbers with no greatest value, looks first. The type
 /// takes no bytes when the program runs, and no code can read the counts.
@@ -53,7 +53,7 @@ impl Turns {
         self.looks = Snapshot::of(&Count::Next(before));
     }
 
-    /// Counts an iteration that moves a run, or joins it with a range.
+    /// Counts an iteration that moves a run.
     #[inline]
     pub fn step(&mut self)
         ensures looks { self.new.0 ≡ self.old.0 }

@@ -2,6 +2,8 @@ use Rattle.std.proofs.Common.{◌+◌, ◌-◌, ◌*◌, ◌/◌, ◌≤◌, ari
 use Rattle.net_assembler.proofs.RunLists.{halved, starts_rise}
 use Rattle.net_assembler.proofs.assembler.head.runs_starting_by.Goals as goal
 use Rattle.net_assembler.proofs.assembler.head.runs_starting_by.Goals.{then-start_of-end, else-start_of-end}
+use Rattle.net_assembler.proofs.assembler.head.runs_starting_by.Goals.{then-from-runs-via-then-from-runs}
+use Rattle.net_assembler.proofs.assembler.head.runs_starting_by.Goals.{then-from-runs-via-else-from-runs+then-end-start_of}
 
 pub loop-low-preserved : goal.loop-low-preserved
 loop-low-preserved c =
@@ -33,3 +35,11 @@ loop-low-preserved c =
       more = omega arith;
       moves = omega arith;
     }
+
+pub returns-then-from-runs-clause-after : goal.returns-then-from-runs-clause-after
+returns-then-from-runs-clause-after c = λ k a b. elim c.then-from-runs.branch [
+  | then-from-runs-via-then-from-runs w ↦ absurd (omega (arith, w.if-from-runs.true))
+  | then-from-runs-via-else-from-runs+then-end-start_of w ↦
+      let p = starts_rise 0 c.args.runs.now c.args.from k c.requires.runs a b in
+      omega (arith, w.start_of.ensures, w.if-end-start_of.true)
+]
