@@ -1,11 +1,11 @@
 -- Where a range joins a list of runs.
 use Rattle.std.proofs.Common.{◌≡◌, ℕ, zero, suc, ◌+◌, ◌-◌, ◌*◌, ◌<◌, ◌≤◌, ◌^◌, max, min, true, false, cond}
-use Rattle.std.proofs.Common.{◌&&◌, ◌||◌, ◌==◌, List, [], ◌∷◌, ◌++◌, length, take, drop, set, get_or, nat_le}
+use Rattle.std.proofs.Common.{◌&&◌, ◌||◌, ◌==◌, List, [], ◌∷◌, ◌++◌, length, take, drop, set, nat_le}
 use Rattle.std.proofs.Common.{nat_lt, refl, sym, ap, subst, ◌∙◌, arith, ◌≢◌}
 use Rattle.std.proofs.Math.Bool.{or-false}
 use Rattle.std.proofs.Math.Nat.{pow-suc}
 use Rattle.std.proofs.Math.Seq.{take-set-lt}
-use Rattle.std.proofs.lemmas.List.{get_or_read_under, drop_all, append_assoc, length-append}
+use Rattle.std.proofs.lemmas.List.{drop_all, append_assoc, length-append}
 use Rattle.std.proofs.lemmas.List.{length-take-le, length-drop, take_more_set, drop-set-lt, take-append-drop}
 use Rattle.std.proofs.lemmas.List.{take-take, get_or-take}
 use Rattle.std.proofs.lemmas.Bool.{cases_lt, cases_eq, eq-eqb, ne_eqb, lt-ltb, le-ltb, cond-true, cond-false}
@@ -19,10 +19,6 @@ use Rattle.net_assembler.proofs.Runs.{in_runs, in_first, past_first, not_in_runs
 use Rattle.net_assembler.proofs.Runs.{step_after, step_meets, rising-runs_with_range, front-set_of_runs}
 use Rattle.net_assembler.proofs.Runs.{set_of_runs_injective, set-without_front, runs-set_of_runs}
 use Rattle.net_assembler.proofs.Runs.{set-runs_with_range}
-
--- what is read at an index, where no default is given
-pub read : (xs : List (ℕ × ℕ)) (k : ℕ) (r : ℕ × ℕ) → k < length xs → r ≡ get_or xs k r → r ≡ get_or xs k (0, 0)
-read xs k r l is = get_or_read_under xs k (length xs) r (0, 0) is l refl
 
 -- what rising runs say of the run k
 pub at_run : (low : ℕ) (rs : List (ℕ × ℕ)) (k : ℕ) → IsRising low rs → k < length rs → (low ≤ start_at rs k) × (start_at rs k < end_at rs k)

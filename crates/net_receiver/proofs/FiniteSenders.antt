@@ -46,10 +46,6 @@ written_by P s xs on off =
 pub written_number : (s : FiniteSenderState) (xs : List ℕ) → first_number (with_bytes s xs) ≡ first_number s
 written_number s xs = written_by (λ t. first_number t ≡ first_number s) s xs (λ _. refl) refl
 
--- what was written of the stream is all below its end
-after_all : (s : FiniteSenderState) (n : ℕ) → end_of s.sender ≤ n → s.sender.first_unacknowledged ≤ n → length (drop (min n (end_of s.sender) - s.sender.first_unacknowledged) s.sender.queue) ≡ 0
-after_all s n past low = omega (arith, length-drop (min n (end_of s.sender) - s.sender.first_unacknowledged) s.sender.queue)
-
 pub sound_sent_stays : SoundSentStays
 sound_sent_stays s (Writes xs) sound =
     let ys = take (min (length xs) (finite_room s)) xs in
