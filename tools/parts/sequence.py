@@ -266,6 +266,8 @@ class Call:
             size = USUAL.get(member.name, OTHER_SLICE)
             if named:
                 words.append(self.given[named[0].name])
+            elif member.name == "capacity" and "storage" in self.given:
+                words.append(self.given["storage"].split(", ")[1])
             else:
                 words.append(f"{self.subject}_{member.name}, {size}" if "[" in member.type else str(size))
         variable = head.split(".")[0]
