@@ -133,9 +133,9 @@ def show_fields(proved):
             assert text.count(old) == 1, (path, old)
             text = text.replace(old, new)
         (proved / path).write_text(text)
-    for path in (proved / "net_packets").rglob("*.rs"):
+    for path in [*(proved / "net_packets").rglob("*.rs"), proved.parent / "extremes.rs"]:
         text = re.sub(r"\bhead(\s*)\.slots\b", r"head\1.metadata_ring", path.read_text())
-        if path.parent.name == "head" or path.name == "head.rs":
+        if path.name in ("head.rs", "extremes.rs"):
             text = re.sub(r"\bself\.slots\b", "self.metadata_ring", text)
             text = re.sub(r"\bslots: RingHead\b", "metadata_ring: RingHead", text)
         path.write_text(text)
