@@ -1,5 +1,5 @@
 -- A head and runs that are those of an assembler: its runs as a list, and their set.
-use Rattle.std.proofs.Common.{◌≡◌, ℕ, ◌+◌, ◌-◌, ◌<◌, ◌≤◌, ◌^◌, List, [], ◌∷◌, length, take, drop, set, get_or}
+use Rattle.std.proofs.Common.{◌≡◌, ℕ, ◌+◌, ◌-◌, ◌*◌, ◌<◌, ◌≤◌, ◌^◌, List, [], ◌∷◌, length, take, drop, set, get_or}
 use Rattle.std.proofs.Common.{max, min, refl, sym, ap, subst, ◌∙◌, arith}
 use Rattle.std.specs.Prelude.{Result, Ok, Err, IsOk, IsErr, IsTrue, OnErr}
 use Rattle.std.proofs.lemmas.List.{nil_from_length, length-map, length-take-le, length-drop, get_or-take}
@@ -7,6 +7,8 @@ use Rattle.net_assembler.specs.Width.{shortfall}
 use Rattle.net_assembler.specs.declared.assembler.error.TooManyHolesError.{TooManyHolesError}
 use Rattle.net_assembler.specs.declared.assembler.head.AssemblerHead.{AssemblerHead}
 use Rattle.net_assembler.specs.AssemblerLaws.{Adds, AddsThenRemovesFront}
+use Rattle.net_assembler.specs.Heads.{AddsInPlace}
+use Rattle.net_assembler.specs.Turns.{TurnsWithin, binary_digits}
 use Rattle.net_assembler.specs.Positions.{Positions, front, holes, holes_before, nothing, runs, runs_shifted_up}
 use Rattle.net_assembler.specs.Positions.{contains, with_range, maximal_runs, shift_down}
 use Rattle.net_assembler.specs.RunLists.{start_at, end_at, AreRuns, HasSoundRuns, StartsAtZero, FitsFrom}
@@ -20,7 +22,7 @@ use Rattle.net_assembler.proofs.Runs.{rising-runs_with_range, set-shifted_down, 
 use Rattle.net_assembler.proofs.Runs.{contains-set_of_runs, front-set_of_runs, runs-set_of_runs, maximal_runs-set_of_runs}
 use Rattle.net_assembler.proofs.Runs.{set_of_runs_injective, set-runs_with_range, runs-runs_with_range}
 use Rattle.net_assembler.proofs.RunLists.{front_none, shift_down-zero, Completed, completed_at, at_run, apart}
-use Rattle.net_assembler.proofs.RunLists.{front_of_first, front_some, no_runs, shifted_down_set, with_range-none, top_of}
+use Rattle.net_assembler.proofs.RunLists.{front_some, no_runs, shifted_down_set, with_range-none, top_of}
 use Rattle.net_assembler.proofs.ShiftedRuns.{end_at-up, top_before, down-zero, start_at-up}
 use Rattle.net_assembler.proofs.ShiftedRuns.{first-runs_with_range, up-none}
 use Rattle.net_assembler.proofs.ShiftedRuns.{fits-runs_with_range, fits-up, up-runs_with_range, up-up}
@@ -92,16 +94,18 @@ module _ (h : AssemblerHead) (xs : List (ℕ × ℕ)) (s : HasSoundRuns h xs) wh
   pub run_start : 0 < h.used → start_at (runs_of h xs) 0 ≡ h.first_start
   run_start l = start-up h.first_start (used_runs h xs) (omega (arith, length-used_runs)) s.first
 
+  -- no run at 0
+  pub no_front : (0 < h.used → 0 < h.first_start) → 0 ≡ front (set_of h xs)
+  no_front later =
+      front_none (runs_of h xs) (λ l e. let some = length-runs_of in absurd (omega (arith, run_start (omega arith), later (omega arith))))
+      ∙ sym front-set_of
+
   -- a run at 0
-  pub front_held : 0 < front (set_of h xs) →
-      (0 < h.used) × (h.first_start ≡ 0) × (end_at xs 0 ≡ front (set_of h xs))
-  front_held l =
-      let f = front_of_first (runs_of h xs) (omega (arith, front-set_of)) in
-      let some : 0 < h.used = omega (arith, f.0, length-runs_of) in
-      let begins = run_start some in
+  pub first_front : 0 < h.used → h.first_start ≡ 0 → end_at xs 0 ≡ front (set_of h xs)
+  first_front some zeroth =
       let ends = end_at-up h.first_start (used_runs h xs) 0 (omega (arith, length-used_runs)) in
-      let last = end_of 0 some in
-      (some, omega (arith, f.1), omega (arith, f.1, f.2, front-set_of))
+      let is = front_some (runs_of h xs) (omega (arith, length-runs_of)) (omega (arith, run_start some)) in
+      omega (arith, is, front-set_of, ends, end_of 0 some)
 
   -- what is left of the pairs, counted lower
   pub dropped : (k m top : ℕ) → top ≡ h.first_start + m →
@@ -111,10 +115,9 @@ module _ (h : AssemblerHead) (xs : List (ℕ × ℕ)) (s : HasSoundRuns h xs) wh
       ∙ (λ i. runs_shifted_down (sym e i) (sym (drop-up h.first_start k (used_runs h xs)) i))
 
   -- the last of n runs, of which all but the first start by m
-  pub starts_by : (n m : ℕ) → 0 < n → n ≤ h.used → ((k : ℕ) → 1 ≤ k → k < n → start_at (used_runs h xs) k ≤ m) →
-      start_at xs (n - 1) ≤ m
+  pub starts_by : (n m : ℕ) → 0 < n → n ≤ h.used → ((k : ℕ) → 1 ≤ k → k < n → start_at xs k ≤ m) → start_at xs (n - 1) ≤ m
   starts_by n m some few before =
-      either (cases_lt 0 (n - 1)) (λ b. omega (arith, before (n - 1) b (omega arith), start_of (n - 1) (omega arith)))
+      either (cases_lt 0 (n - 1)) (λ b. before (n - 1) b (omega arith))
       (λ b. let zeroth : n - 1 ≡ 0 = omega arith in omega (arith, ap (start_at xs) zeroth, first_pair (omega arith)))
 
   -- each position is below the greatest number of `usize`
@@ -252,7 +255,7 @@ module _ (h : AssemblerHead) (xs : List (ℕ × ℕ)) (s : HasSoundRuns h xs) (o
       (λ b. let start = waits b in fits-up low by h.first_start (used_runs h xs) (omega arith) s.fits)
       (λ b. subst (FitsFrom low) (sym (ap (runs_shifted_up by) (nil (omega arith)))) tt)
 
-  pub joined_sound : (m : ℕ) (ys : List (ℕ × ℕ)) → m ≤ length ys → o + k + shortfall < 2 ^ 64 → take m ys ≡ runs_with_range counted lo hi →
+  joined_sound : (m : ℕ) (ys : List (ℕ × ℕ)) → m ≤ length ys → o + k + shortfall < 2 ^ 64 → take m ys ≡ runs_with_range counted lo hi →
       HasSoundRuns (record { used = m; first_start = low }) ys
   joined_sound m ys room fits e = record {
     room = room;
@@ -267,16 +270,58 @@ module _ (h : AssemblerHead) (xs : List (ℕ × ℕ)) (s : HasSoundRuns h xs) (o
   shown : runs_shifted_up low (runs_with_range counted lo hi) ≡ runs_with_range (runs_of h xs) o (o + k)
   shown = up-runs_with_range low counted lo hi ∙ (λ i. runs_with_range (same_place i) (at i) (upto i))
 
-  pub joined_runs : (m : ℕ) (ys : List (ℕ × ℕ)) → take m ys ≡ runs_with_range counted lo hi →
+  joined_runs : (m : ℕ) (ys : List (ℕ × ℕ)) → take m ys ≡ runs_with_range counted lo hi →
       runs_shifted_up low (take m ys) ≡ runs_with_range (runs_of h xs) o (o + k)
   joined_runs m ys e = ap (runs_shifted_up low) e ∙ shown
 
-  pub joined_length : length (runs_with_range (runs_of h xs) o (o + k)) ≡ length (runs_with_range counted lo hi)
+  joined_length : length (runs_with_range (runs_of h xs) o (o + k)) ≡ length (runs_with_range counted lo hi)
   joined_length = ap length (sym shown) ∙ length-up low (runs_with_range counted lo hi)
+
+  pub joined_in_place : (m : ℕ) (ys : List (ℕ × ℕ)) (counts new_counts : ℕ × ℕ) → length ys ≡ length xs → m ≤ length ys → 0 < m → 0 < k →
+      o + k + shortfall < 2 ^ 64 → take m ys ≡ runs_with_range counted lo hi →
+      TurnsWithin (2 * binary_digits (length xs)) (length xs) counts new_counts →
+      AddsInPlace h xs o k (Ok tt) (record { used = m; first_start = low }) ys counts new_counts
+  joined_in_place m ys counts new_counts long room some size fits e turns =
+      let sound = joined_sound m ys room fits e in
+      record {
+        sound = sound;
+        added = accepted h xs _ ys s long o k size sound (joined_runs m ys e);
+        unchanged = tt;
+        canonical = λ _ z. absurd (omega arith);
+        turns = turns;
+      }
+
+  pub refused_in_place : (counts new_counts : ℕ × ℕ) → 0 < k → length xs < length (runs_with_range counted lo hi) →
+      TurnsWithin (2 * binary_digits (length xs)) (length xs) counts new_counts →
+      (e : TooManyHolesError) → AddsInPlace h xs o k (Err e) h xs counts new_counts
+  refused_in_place counts new_counts size over turns e = record {
+    sound = s;
+    added = refused h xs h xs s refl o k size _ refl (omega (arith, joined_length)) refl;
+    unchanged = (refl, refl);
+    canonical = λ none. none;
+    turns = turns;
+  }
 
   -- where by is 0
   pub plain : by ≡ 0 → runs_with_range (used_runs h xs) lo hi ≡ runs_with_range counted lo hi
   plain e = ap (λ rs. runs_with_range rs lo hi) (sym (up-none by (used_runs h xs) e))
+
+-- a range that is added after a search
+pub searched : (h : AssemblerHead) (xs : List (ℕ × ℕ)) (o k : ℕ) (r : Result (Unit {0}) TooManyHolesError) (g : AssemblerHead) (ys : List (ℕ × ℕ))
+    (old counts new : ℕ × ℕ) → AddsInPlace h xs o k r g ys counts new → old.0 ≤ counts.0 → counts.0 ≤ old.0 + binary_digits (length xs) →
+    counts.1 ≡ old.1 → new.0 ≤ counts.0 + binary_digits (length xs) → AddsInPlace h xs o k r g ys old new
+searched h xs o k r g ys old counts new all few most same looks = record {
+  sound = all.sound;
+  added = all.added;
+  unchanged = all.unchanged;
+  canonical = all.canonical;
+  turns = record {
+    looks_few = omega arith;
+    moves_few = omega (arith, all.turns.moves_few);
+    no_look_lost = omega (arith, all.turns.no_look_lost);
+    no_move_lost = omega (arith, all.turns.no_move_lost);
+  };
+}
 
 -- data that comes next, and reaches no run
 pub next_alone : (h : AssemblerHead) (xs : List (ℕ × ℕ)) → HasSoundRuns h xs → (k : ℕ) → (0 < h.used → k < h.first_start) →
@@ -347,39 +392,28 @@ reaches_some h xs s size some reach t e =
     meets_first [] lo hi l a b = absurd (omega arith)
     meets_first (r ∷ rs) lo hi l a b = omega (arith, ap length (step_meets r rs lo hi a b), one_more rs (min r.0 lo) (max r.1 hi))
 
--- a range at 0 that reaches the only run, if there is one: all up to end is the front, and nothing is left
-pub all_front : (h : AssemblerHead) (xs : List (ℕ × ℕ)) → HasSoundRuns h xs → (size end : ℕ) → h.used ≤ 1 → h.first_start ≤ size →
-    (h.used ≡ 0 → end ≡ size) → (0 < h.used → end ≡ max size (h.first_start + end_at xs 0)) →
+-- a range at 0 that reaches the only run: all up to end is the front, and nothing is left
+pub all_front : (h : AssemblerHead) (xs : List (ℕ × ℕ)) → HasSoundRuns h xs → (size end : ℕ) → h.used ≡ 1 → h.first_start ≤ size →
+    end ≡ max size (h.first_start + end_at xs 0) →
     let all = with_range (set_of h xs) 0 size in (end ≡ front all) × (nothing ≡ shift_down all end)
-all_front h xs s size end few reach none one =
+all_front h xs s size end one reach is =
     let all = with_range (set_of h xs) 0 size in
     let count = length-runs_of h xs s in
-    let gone : (n : ℕ) → h.used ≤ n → nothing ≡ set_of_runs (runs_shifted_down end (drop n (runs_of h xs))) =
-    λ n m. sym (no_runs _ (length-map (drop n (runs_of h xs)) (λ (r : ℕ × ℕ). (r.0 - end, r.1 - end)) ∙ length-drop n (runs_of h xs) ∙ omega arith)) in
-    either (cases_lt 0 h.used)
-    (λ b.
-    let is = one b in
+    let gone : nothing ≡ set_of_runs (runs_shifted_down end (drop 1 (runs_of h xs))) =
+    sym (no_runs _ (length-map (drop 1 (runs_of h xs)) (λ (r : ℕ × ℕ). (r.0 - end, r.1 - end)) ∙ length-drop 1 (runs_of h xs) ∙ omega arith)) in
     let top = max (end_at xs 0) (size - h.first_start) in
     let high : end ≡ h.first_start + top = omega arith in
     either (cases_lt 0 size)
     (λ l.
-    let both = reached h xs s 1 size top (omega arith) b l reach (λ k a c. absurd (omega arith))
+    let both = reached h xs s 1 size top (omega arith) (omega arith) l reach (λ k a c. absurd (omega arith))
     (λ k a c. absurd (omega (arith, length-used_runs h xs s))) refl in
-    (high ∙ both.0, gone 1 few ∙ ap (λ t. set_of_runs (runs_shifted_down t (drop 1 (runs_of h xs)))) high ∙ both.1 ∙ ap (shift_down all) (sym high)))
+    (high ∙ both.0, gone ∙ ap (λ t. set_of_runs (runs_shifted_down t (drop 1 (runs_of h xs)))) high ∙ both.1 ∙ ap (shift_down all) (sym high)))
     (λ l.
     let same : set_of h xs ≡ all = sym (with_range-none (set_of h xs) 0 size (omega arith)) in
-    let rises = pair_rises h xs s 0 b in
-    let last = end_at-up h.first_start (used_runs h xs) 0 (omega (arith, length-used_runs h xs s)) in
-    let read = end_of h xs s 0 b in
-    let first = front_some (runs_of h xs) (omega arith) (omega (arith, run_start h xs s b)) in
-    let is_front : end ≡ front (set_of h xs) = omega (arith, front-set_of h xs s, first) in (
+    let is_front : end ≡ front (set_of h xs) = omega (arith, first_front h xs s (omega arith) (omega arith)) in (
       is_front ∙ ap front same,
-      gone 1 few ∙ shifted_down_set (runs_of h xs) end (are_runs h xs s) is_front (omega arith) ∙ ap (λ u. shift_down u end) same,
-    )))
-    (λ b.
-    let is = none (omega arith) in
-    let both = next_alone h xs s size (λ c. absurd (omega arith)) in
-    (is ∙ both.0, gone 0 (omega arith) ∙ ap (λ t. set_of_runs (runs_shifted_down t (runs_of h xs))) is ∙ both.1 ∙ ap (shift_down all) (sym is)))
+      gone ∙ shifted_down_set (runs_of h xs) end (are_runs h xs s) is_front (omega (arith, pair_rises h xs s 0 (omega arith))) ∙ ap (λ u. shift_down u end) same,
+    ))
 
 -- what holds of each refusal
 pub on_err : (P : Type 0) (r : Result (Unit {0}) TooManyHolesError) → P → OnErr r P

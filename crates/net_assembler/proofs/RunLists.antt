@@ -131,12 +131,6 @@ pub shift_down-zero : (s : Positions) (m : ℕ) → m ≡ 0 → shift_down s m �
 shift_down-zero s m e = same_positions _ _ (λ q. let z : q + m ≡ q = omega arith in contains-shift_down s m q ∙ ap (contains s) z)
 
 -- the removal of the front
-pub front_of_first : (rs : List (ℕ × ℕ)) → 0 < front_of_runs rs → (0 < length rs) × (start_at rs 0 ≡ 0) × (end_at rs 0 ≡ front_of_runs rs)
-front_of_first [] l = absurd (omega arith)
-front_of_first (r ∷ rs) l =
-    either (cases_eq r.0 0) (λ e. (omega arith, e, ap (λ b. cond b r.1 0) (sym (eq-eqb r.0 0 e))))
-    (λ ne. let z = ap (λ b. cond b r.1 0) (ne_eqb r.0 0 ne) in absurd (omega arith))
-
 pub shifted_down_set : (rs : List (ℕ × ℕ)) (m : ℕ) → AreRuns rs → m ≡ front (set_of_runs rs) → 0 < m →
     set_of_runs (runs_shifted_down m (drop 1 rs)) ≡ shift_down (set_of_runs rs) m
 shifted_down_set [] m h e l = let f = front-set_of_runs [] h in absurd (omega arith)
@@ -175,6 +169,11 @@ pub front_some : (rs : List (ℕ × ℕ)) → 0 < length rs → start_at rs 0 �
 front_some [] l h = absurd (omega arith)
 front_some (r ∷ rs) l h = sym (cond-true _ _ _ (eq-eqb r.0 0 h))
 
+start-drop : (rs : List (ℕ × ℕ)) (k : ℕ) → start_at (drop k rs) 0 ≡ start_at rs k
+start-drop rs zero = refl
+start-drop [] (suc k) = refl
+start-drop (r ∷ rs) (suc k) = start-drop rs k
+
 -- half of a number below a power of two is below half of it
 pub halved : (c w v : ℕ) → 0 < w → w < 2 ^ c → 2 * v ≤ w → (d : ℕ) × (c ≡ d + 1) × (v < 2 ^ d)
 halved zero w v l m n = absurd (omega arith)
@@ -194,10 +193,27 @@ module _ (xs : List (ℕ × ℕ)) (used : ℕ) (h : AreRuns (take used xs)) (roo
   pair_is : (k : ℕ) → k < used → (start_at cs k ≡ start_at xs k) × (end_at cs k ≡ end_at xs k)
   pair_is k l = let same = get_or-take used xs k (0, 0) l in (ap (λ (r : ℕ × ℕ). r.0) same, ap (λ (r : ℕ × ℕ). r.1) same)
 
-  -- what is after the run `from` starts at or above it
-  pub rising_after : (from : ℕ) → from < used → IsRising (start_at xs from) (drop from cs)
-  rising_after from l =
-      rising-drop 0 cs from (start_at xs from) h (λ k a b. let p = starts_rise 0 cs from k h a b in omega (arith, pair_is from l))
+  pub used_ends_rise : (i k : ℕ) → i ≤ k → k < used → end_at xs i ≤ end_at xs k
+  used_ends_rise i k l m =
+      let p = ends_rise 0 cs i k h l (omega (arith, len)) in
+      omega (arith, p, pair_is i (omega arith), pair_is k m)
+
+  pub used_starts_rise : (i k : ℕ) → i ≤ k → k < used → start_at xs i ≤ start_at xs k
+  used_starts_rise i k l m =
+      let p = starts_rise 0 cs i k h l (omega (arith, len)) in
+      omega (arith, p, pair_is i (omega arith), pair_is k m)
+
+  -- what is left from the run m on, if there is one, starts where that does
+  pub rest_rises : (m start : ℕ) → m ≤ used → (m < used → start ≡ start_at xs m) → IsRising start (drop m cs)
+  rest_rises m start few is = either (cases_lt m used)
+      (λ l.
+      rising-drop 0 cs m start h (λ k a b. let p = starts_rise 0 cs m k h a b in omega (arith, p, is l, pair_is m l)))
+      (λ l. subst (IsRising start) (sym (drop_all m cs (omega (arith, len)))) tt)
+
+  pub rest_starts : (m start : ℕ) → m ≤ used → (m < used → start ≡ start_at xs m) → start_at (drop m cs) 0 ≤ start
+  rest_starts m start few is = either (cases_lt m used)
+      (λ l. omega (arith, start-drop cs m, is l, pair_is m l))
+      (λ l. omega (arith, ap (λ rs. start_at rs 0) (drop_all m cs (omega (arith, len)))))
 
   replaced : (i j : ℕ) (v : ℕ × ℕ) → i < j → j ≤ used →
       take (i + 1) (set xs i v) ++ drop j (take used (set xs i v)) ≡ take i cs ++ v ∷ drop j cs
@@ -207,8 +223,8 @@ module _ (xs : List (ℕ × ℕ)) (used : ℕ) (h : AreRuns (take used xs)) (roo
       ∙ ap (λ zs. zs ++ v ∷ drop j cs) (sym (take-take i used xs (omega arith)))
 
   -- one entry in the place of those from i up to j
-  pub replaced_run : (i j start end lo hi : ℕ) → i < j → j ≤ used → ((k : ℕ) → k < i → end_at cs k < start) → start ≤ end_at cs i →
-      ((k : ℕ) → i ≤ k → k < j → start_at cs k ≤ end) → ((k : ℕ) → j ≤ k → k < used → end < start_at cs k) →
+  replaced_run : (i j start end lo hi : ℕ) → i < j → j ≤ used → ((k : ℕ) → k < i → end_at xs k < start) → start ≤ end_at xs i →
+      ((k : ℕ) → i ≤ k → k < j → start_at xs k ≤ end) → ((k : ℕ) → j ≤ k → k < used → end < start_at xs k) →
       lo ≡ min (start_at xs i) start → hi ≡ max (end_at xs (j - 1)) end →
       take (i + 1) (set xs i (lo, hi)) ++ drop j (take used (set xs i (lo, hi))) ≡ runs_with_range cs start end
   replaced_run i j start end lo hi l m before from upto after low high =
@@ -217,8 +233,10 @@ module _ (xs : List (ℕ × ℕ)) (used : ℕ) (h : AreRuns (take used xs)) (roo
       let hi_is : hi ≡ max (end_at cs (j - 1)) end = omega (arith, high, pair_is (j - 1) (omega arith)) in
       replaced i j (lo, hi) l m
       ∙ (λ k. take i cs ++ (lo_is k, hi_is k) ∷ drop (sym last k) cs)
-      ∙ sym (joined_at 0 cs i (j - 1) start end h (omega arith) (omega (arith, len)) before from
-      (λ k a b. upto k a (omega arith)) (λ k a b. after k (omega arith) (omega (arith, len))))
+      ∙ sym (joined_at 0 cs i (j - 1) start end h (omega arith) (omega (arith, len))
+      (λ k a. omega (arith, before k a, pair_is k (omega arith))) (omega (arith, pair_is i (omega arith)))
+      (λ k a b. omega (arith, upto k a (omega arith), pair_is k (omega arith)))
+      (λ k a b. omega (arith, after k (omega arith) (omega (arith, len)), pair_is k (omega (arith, len)))))
 
   -- one entry more
   pub inserted_run : (i start end : ℕ) → i ≤ used → start < end → ((k : ℕ) → k < i → end_at cs k < start) →
@@ -250,15 +268,15 @@ module _ (xs : List (ℕ × ℕ)) (used : ℕ) (h : AreRuns (take used xs)) (roo
   not_pushed start end m last = refused_run used start end (omega arith) m (all_before start last) (λ k a b. absurd (omega arith))
 
   -- a range that meets the run i alone
-  pub grown_run : (i start end lo hi : ℕ) → i < used → ((k : ℕ) → k < i → end_at cs k < start) → start ≤ end_at cs i → start_at cs i ≤ end →
-      ((k : ℕ) → i + 1 ≤ k → k < used → end < start_at cs k) → lo ≡ min (start_at xs i) start → hi ≡ max (end_at xs i) end →
+  pub grown_run : (i start end lo hi : ℕ) → i < used → ((k : ℕ) → k < i → end_at xs k < start) → start ≤ end_at xs i → start_at xs i ≤ end →
+      ((k : ℕ) → i + 1 ≤ k → k < used → end < start_at xs k) → lo ≡ min (start_at xs i) start → hi ≡ max (end_at xs i) end →
       take used (set xs i (lo, hi)) ≡ runs_with_range cs start end
   grown_run i start end lo hi l before from upto after low high =
       let ys = set xs i (lo, hi) in
       let at : i + 1 - 1 ≡ i = omega arith in
       sym (take-append-drop (i + 1) (take used ys)) ∙ ap (λ zs. zs ++ drop (i + 1) (take used ys)) (take-take (i + 1) used ys (omega arith))
       ∙ replaced_run i (i + 1) start end lo hi (omega arith) (omega arith) before from
-      (λ k a b. let p = starts_rise 0 cs k i h (omega arith) (omega (arith, len)) in omega arith)
+      (λ k a b. omega (arith, used_starts_rise k i (omega arith) (omega arith)))
       after low (high ∙ ap (λ k. max (end_at xs k) end) (sym at))
 
   -- a range that meets the last run alone
@@ -267,8 +285,9 @@ module _ (xs : List (ℕ × ℕ)) (used : ℕ) (h : AreRuns (take used xs)) (roo
   extended_run start end hi some m low from high =
       let i = used - 1 in
       let same = pair_is i (omega arith) in
-      grown_run i start end (start_at xs i) hi (omega arith) (λ k a. let p = apart 0 cs k i h a (omega (arith, len)) in omega (arith, same))
-      (omega (arith, same)) (omega (arith, same)) (λ k a b. absurd (omega arith)) (omega arith) high
+      grown_run i start end (start_at xs i) hi (omega arith)
+      (λ k a. let p = apart 0 cs k i h a (omega (arith, len)) in omega (arith, same, pair_is k (omega arith)))
+      (omega arith) (omega arith) (λ k a b. absurd (omega arith)) (omega arith) high
 
 -- what is left after a range at 0 that ends at top once it is joined with the first n runs, and removed
 abbrev pub Completed : List (ℕ × ℕ) → ℕ → ℕ → ℕ → Type 0

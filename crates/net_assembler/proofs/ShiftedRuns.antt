@@ -1,8 +1,8 @@
 -- Runs that are counted from where the first of them starts, and the sets that they represent.
 use Rattle.std.proofs.Common.{◌≡◌, ℕ, zero, suc, ◌+◌, ◌-◌, ◌<◌, ◌≤◌, ◌^◌, max, min, true, false, ◌&&◌, ◌||◌, List}
-use Rattle.std.proofs.Common.{[], ◌∷◌, length, map, take, drop, set, get_or, nat_le, nat_lt, refl, sym}
+use Rattle.std.proofs.Common.{[], ◌∷◌, length, map, drop, set, get_or, nat_le, nat_lt, refl, sym}
 use Rattle.std.proofs.Common.{ap, subst, ◌∙◌, arith}
-use Rattle.std.proofs.lemmas.List.{drop-map, length-map, length-take, get_or-map}
+use Rattle.std.proofs.lemmas.List.{drop-map, length-map, get_or-map}
 use Rattle.std.proofs.lemmas.List.{map-id}
 use Rattle.std.proofs.lemmas.Bool.{cases_lt, cond_both, false≢true, or_cases}
 use Rattle.std.proofs.lemmas.Bool.Decides.{nat_tests}
@@ -216,11 +216,6 @@ top_before rs (suc n) hi l =
     let last : n ≡ suc n - 1 = omega arith in
     ap (λ k. max (end_at rs k) hi) last
 
-pub start-drop : (rs : List (ℕ × ℕ)) (k : ℕ) → start_at (drop k rs) 0 ≡ start_at rs k
-start-drop rs zero = refl
-start-drop [] (suc k) = refl
-start-drop (r ∷ rs) (suc k) = start-drop rs k
-
 pub down-none : (n : ℕ) (rs : List (ℕ × ℕ)) → length rs ≡ 0 → runs_shifted_down n rs ≡ rs
 down-none n [] e = refl
 down-none n (r ∷ rs) e = absurd (omega arith)
@@ -233,10 +228,6 @@ some-runs_with_range [] lo hi = omega arith
 some-runs_with_range (r ∷ rs) lo hi =
     cond_both (nat_lt r.1 lo) _ _ (λ l. 0 < length l) (λ _. omega arith) (λ _.
     cond_both (nat_lt hi r.0) _ _ (λ l. 0 < length l) (λ _. omega arith) (λ _. some-runs_with_range rs (min r.0 lo) (max r.1 hi)))
-
--- runs with a range are some
-pub some_joined : (n : ℕ) (ys rs : List (ℕ × ℕ)) (lo hi : ℕ) → take n ys ≡ runs_with_range rs lo hi → 0 < n
-some_joined n ys rs lo hi e = omega (arith, some-runs_with_range rs lo hi, ap length e, length-take n ys)
 
 -- rising runs of which the run k begins later
 pub rising-cut : (low : ℕ) (rs : List (ℕ × ℕ)) (k m : ℕ) → IsRising low rs → start_at rs k ≤ m → m < end_at rs k →

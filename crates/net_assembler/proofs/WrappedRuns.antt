@@ -80,8 +80,7 @@ moved_usize by at used k xs ys a l room f rest =
 -- a range, and the first pairs of an array that it meets, each counted by higher: those from first up to next
 module _ (xs : List (ℕ × ℕ)) (used by start end first next : ℕ) (h : AreRuns (take used xs)) (room : used ≤ length xs)
     (f : FitsFrom by (take used xs)) (some : start < end) (one_way : 0 < by → start ≡ 0) (within : next ≤ used)
-    (before : (k : ℕ) → k < first → end_at (take used xs) k < start)
-    (after : (k : ℕ) → next ≤ k → k < length (take used xs) → end < by + start_at (take used xs) k) where
+    (before : (k : ℕ) → k < first → end_at xs k < start) (after : (k : ℕ) → next ≤ k → k < used → end < by + start_at xs k) where
   abbrev cs : List (ℕ × ℕ)
   cs = take used xs
 
@@ -91,6 +90,9 @@ module _ (xs : List (ℕ × ℕ)) (used by start end first next : ℕ) (h : AreR
   len : length cs ≡ used
   len = length-take-le used xs room
 
+  pair_is : (k : ℕ) → k < used → (start_at cs k ≡ start_at xs k) × (end_at cs k ≡ end_at xs k)
+  pair_is k l = let same = get_or-take used xs k (0, 0) l in (ap (λ (r : ℕ × ℕ). r.0) same, ap (λ (r : ℕ × ℕ). r.1) same)
+
   ups_len : length ups ≡ used
   ups_len = length-up by cs ∙ len
 
@@ -98,10 +100,12 @@ module _ (xs : List (ℕ × ℕ)) (used by start end first next : ℕ) (h : AreR
   up_before few k l =
       let at = end_at-up by cs k (omega (arith, len)) in
       let p = before k l in
-      either (cases_lt 0 by) (λ b. let zeroth = one_way b in absurd (omega arith)) (λ b. omega arith)
+      either (cases_lt 0 by) (λ b. let zeroth = one_way b in absurd (omega arith)) (λ b. omega (arith, pair_is k (omega arith)))
 
   up_after : (k : ℕ) → next ≤ k → k < length ups → end < start_at ups k
-  up_after k a b = omega (arith, start_at-up by cs k (omega (arith, len, ups_len)), after k a (omega (arith, len, ups_len)))
+  up_after k a b =
+      let l : k < used = omega (arith, b, ups_len) in
+      omega (arith, start_at-up by cs k (omega (arith, len)), after k a l, pair_is k l)
 
   tail : (n : ℕ) → runs_wrapped by (drop n cs) ≡ drop n ups
   tail n = wrapped-up by 0 (drop n cs) (rising-drop 0 cs n 0 h (λ k a b. omega arith)) (fits-drop by n cs f) ∙ sym (drop-up by n cs)
@@ -126,21 +130,19 @@ module _ (xs : List (ℕ × ℕ)) (used by start end first next : ℕ) (h : AreR
     pub refused_run : length (runs_with_range ups start end) ≡ used + 1
     refused_run = ap length alone ∙ length_apart ups first (start, end) (omega (arith, ups_len)) ∙ omega (arith, ups_len)
 
-  module _ (few : first < next) (from : start ≤ end_at (take used xs) first)
-      (upto : (k : ℕ) → first ≤ k → k < next → by + start_at (take used xs) k ≤ end) (lo hi : ℕ)
+  module _ (few : first < next) (from : start ≤ end_at xs first) (upto : (k : ℕ) → first ≤ k → k < next → by + start_at xs k ≤ end) (lo hi : ℕ)
       (low : lo ≡ min (by + start_at xs first) start) (high : hi ≡ max (by + end_at xs (next - 1)) end) where
     pub joined_run : take first xs ++ (lo, hi) ∷ runs_wrapped by (drop next cs) ≡ runs_with_range ups start end
     joined_run =
         let last : suc (next - 1) ≡ next = omega arith in
-        let at_first = ap (λ (r : ℕ × ℕ). r.0) (get_or-take used xs first (0, 0) (omega arith)) in
-        let at_last = ap (λ (r : ℕ × ℕ). r.1) (get_or-take used xs (next - 1) (0, 0) (omega arith)) in
+        let at_first = pair_is first (omega arith) in
         let lo_is : lo ≡ min (start_at ups first) start = omega (arith, low, at_first, start_at-up by cs first (omega (arith, len))) in
-        let hi_is : hi ≡ max (end_at ups (next - 1)) end = omega (arith, high, at_last, end_at-up by cs (next - 1) (omega (arith, len))) in
+        let hi_is : hi ≡ max (end_at ups (next - 1)) end = omega (arith, high, pair_is (next - 1) (omega arith), end_at-up by cs (next - 1) (omega (arith, len))) in
         (λ i. start_same (omega arith) i ++ (lo_is i, hi_is i) ∷ tail next i)
         ∙ (λ i. take first ups ++ (min (start_at ups first) start, max (end_at ups (next - 1)) end) ∷ drop (sym last i) ups)
         ∙ sym (joined_at 0 ups first (next - 1) start end (runs-up by cs h) (omega arith) (omega (arith, ups_len)) (up_before (omega arith))
-        (omega (arith, from, end_at-up by cs first (omega (arith, len))))
-        (λ k a b. omega (arith, upto k a (omega arith), start_at-up by cs k (omega (arith, len))))
+        (omega (arith, from, at_first, end_at-up by cs first (omega (arith, len))))
+        (λ k a b. omega (arith, upto k a (omega arith), pair_is k (omega arith), start_at-up by cs k (omega (arith, len))))
         (λ k a b. up_after k (omega arith) b))
 
 -- a number and its negative, if it isn't 0

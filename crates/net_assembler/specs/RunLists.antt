@@ -1,7 +1,7 @@
 -- Lists of runs (start, end), end not included, and the sets of positions that they represent.
 --     AreRuns rs      runs that rise, with a hole between neighbours
 --     run_positions rs, set_of_runs rs      their positions, as a list and as a set
---     runs_with_range rs lo hi, JoinsRange rs old new start end result      runs with a range
+--     runs_with_range rs lo hi      runs with a range
 --     runs_shifted_down m rs, StartsAtZero rs, FitsFrom n rs      how runs are counted
 --     AreUsize rs      that each start and end is a number of `usize`
 --     used_runs head rs, runs_of head rs, set_of head rs      what a head and runs represent
@@ -10,7 +10,7 @@
 --     zero_head      the head of two zeros
 --     contig_text c      a hole and the data after it, as text
 use Rattle.std.specs.Prelude.{◌≡◌, ℕ, ◌+◌, ◌-◌, ◌<◌, ◌≤◌, ◌^◌, ◌%◌, List, [], ◌∷◌, ◌++◌, length, take, map}
-use Rattle.std.specs.Prelude.{flat_map, get_or, cond, nat_lt, min, max, Result, MatchResult}
+use Rattle.std.specs.Prelude.{flat_map, get_or, cond, nat_lt, min, max}
 use Rattle.std.specs.Fmt.{decimal}
 use Rattle.std.specs.List.{range_with_len}
 use Rattle.net_assembler.specs.Assembler.{hole_text}
@@ -18,7 +18,6 @@ use Rattle.net_assembler.specs.Positions.{Positions, set_of_list, runs_shifted_u
 use Rattle.net_assembler.specs.Width.{IsUsize}
 use Rattle.net_assembler.specs.declared.assembler.Contig.{Contig}
 use Rattle.net_assembler.specs.declared.assembler.head.AssemblerHead.{AssemblerHead}
-use Rattle.net_assembler.specs.declared.assembler.error.TooManyHolesError.{TooManyHolesError}
 
 -- where the run k starts
 abbrev pub start_at : List (ℕ × ℕ) → ℕ → ℕ
@@ -51,14 +50,6 @@ runs_with_range [] lo hi = (lo, hi) ∷ []
 runs_with_range (r ∷ rs) lo hi =
     cond (nat_lt r.1 lo) (r ∷ runs_with_range rs lo hi)
     (cond (nat_lt hi r.0) ((lo, hi) ∷ r ∷ rs) (runs_with_range rs (min r.0 lo) (max r.1 hi)))
-
--- a range is joined with runs: the first n pairs of an array are then the runs with the range, or
--- the array is as it was, if these are more than it has room for
-abbrev pub JoinsRange : List (ℕ × ℕ) → List (ℕ × ℕ) → List (ℕ × ℕ) →
-    ℕ → ℕ → Result ℕ TooManyHolesError → Type 0
-JoinsRange rs old new start end result = MatchResult result
-    (λ n. (take n new ≡ runs_with_range rs start end) × (n ≤ length old))
-    (λ _. (new ≡ old) × (length old < length (runs_with_range rs start end)))
 
 -- runs, each counted m lower
 abbrev pub runs_shifted_down : ℕ → List (ℕ × ℕ) → List (ℕ × ℕ)

@@ -462,7 +462,7 @@ fn write_span<T: Copy>(storage: &mut [T], span: Span, data: &[T])
 }
 
 /// Copies `data` over the elements of a storage from the index `at` on.
-#[inline]
+#[inline(always)]
 fn copy_over<T: Copy>(storage: &mut [T], at: usize, data: &[T])
     requires { at + length «data».now ≤ length storage.old }
     ensures { storage.new ≡ overwrite storage.old at «data».now }

@@ -10,7 +10,7 @@ ghost use Rattle.net_assembler.specs.Positions.{RangeFits, are_same, contains, f
 ghost use Rattle.net_assembler.specs.Positions.{maximal_runs, nothing, runs as run_count, runs_shifted_up};
 ghost use Rattle.net_assembler.specs.Positions.{shift_down};
 ghost use Rattle.net_assembler.specs.RunLists.{AreRuns, AreUsize, FitsFrom, HasSoundRuns, IsCanonical, IsRising};
-ghost use Rattle.net_assembler.specs.RunLists.{JoinsRange, end_at, runs_of, runs_shifted_down, runs_wrapped};
+ghost use Rattle.net_assembler.specs.RunLists.{end_at, runs_of, runs_shifted_down, runs_wrapped};
 ghost use Rattle.net_assembler.specs.RunLists.{set_of, set_of_runs, start_at, used_runs, wrapped_run};
 ghost use Rattle.net_assembler.specs.Turns.{TurnsWithin, binary_digits};
 ghost use Rattle.net_assembler.specs.Width.{IsUsize};
@@ -202,10 +202,10 @@ impl AssemblerHead {
         ensures room { 0 < result → run_count (set_of self.new runs.new) < length runs.old }
         ensures canonical { IsCanonical self.old → IsCanonical self.new }
     {
-        let size = self.peek_front(runs);
-        if size == 0 {
+        if self.first_start != 0 || self.used == 0 {
             return 0;
         }
+        let size = end_of(runs, 0);
         self.drop_front(runs, 1, size);
         size
     }
@@ -234,7 +234,7 @@ impl AssemblerHead {
         }
         // The last run that starts by then is cut, or ends by then; those before it end by then.
         let by = count - self.first_start;
-        let met = runs_starting_by(&runs[..self.used], 1, by, &mut Turns::new());
+        let met = runs_starting_by(runs, self.used, 1, by, &mut Turns::new());
         let last = met - 1;
         let end = end_of(runs, last);
         if end <= by {
@@ -272,6 +272,10 @@ impl AssemblerHead {
         ensures canonical { IsCanonical self.old → IsCanonical self.new }
     {
         if offset == 0 {
+            //  0 |=== range ===|                           nothing waits, the range is the front
+            if self.used == 0 {
+                return Ok(size);
+            }
             //  0 |=== range ===|    |--- first ---|      the range is the front, the runs remain
             if size < self.first_start {
                 self.first_start -= size;
@@ -279,15 +283,11 @@ impl AssemblerHead {
             }
             //  0 |=== range ===|
             //             |--- only run ---|             all is the front, nothing remains
-            if self.used <= 1 {
-                let mut end = size;
-                if self.used == 1 {
-                    let first_end = self.first_start + end_of(runs, 0);
-                    prove!(first_end <= most(), "in any `usize`");
-                    end = end.max(first_end);
-                }
+            if self.used == 1 {
+                let end = self.first_start + end_of(runs, 0);
+                prove!(end <= most(), "in any `usize`");
                 *self = AssemblerHead::new();
-                return Ok(end);
+                return Ok(size.max(end));
             }
         }
         self.add_apart(runs, offset, size, &mut Turns::new())?;
@@ -435,36 +435,33 @@ impl AssemblerHead {
                 return Err(TooManyHolesError);
             }
             self.first_start = offset;
-        } else if offset < self.first_start {
-            //  |=== range ==...     |--- first ---|      runs are counted from the range's start then
-            let by = self.first_start - offset;
-            return self.join(runs, by, 0, size, apart, turns);
         }
-        let start = offset - self.first_start;
-        let end = start + size;
-        prove!(end <= most(), "in any `usize`");
-        //  |--- last ---|    |=== range ===|      it is a run of its own, the last
-        if self.used == 0 || end_of(runs, self.used - 1) < start {
-            if self.used == runs.len() {
-                return Err(TooManyHolesError);
+        if offset >= self.first_start {
+            let start = offset - self.first_start;
+            let end = start + size;
+            prove!(end <= most(), "in any `usize`");
+            //  |--- last ---|    |=== range ===|      it is a run of its own, the last
+            if self.used == 0 || ends_before(runs, self.used - 1, start) {
+                if self.used == runs.len() {
+                    return Err(TooManyHolesError);
+                }
+                runs[self.used] = Run { start, end };
+                self.used += 1;
+                prove!(self.used <= runs.len(), "in any `usize`");
+                return Ok(());
             }
-            runs[self.used] = Run { start, end };
-            self.used += 1;
-            prove!(self.used <= runs.len(), "in any `usize`");
-            return Ok(());
+            //  |--- last ---|
+            //       |=== range ===|                   that run grows
+            let last = self.used - 1;
+            if starts_by(runs, last, start) {
+                runs[last] = Run {
+                    start: start_of(runs, last),
+                    end: end_of(runs, last).max(end),
+                };
+                return Ok(());
+            }
         }
-        //  |--- last ---|
-        //       |=== range ===|                   that run grows
-        let last = self.used - 1;
-        let last_start = start_of(runs, last);
-        if last_start <= start {
-            runs[last] = Run {
-                start: last_start,
-                end: end_of(runs, last).max(end),
-            };
-            return Ok(());
-        }
-        self.join(runs, 0, start, end, apart, turns)
+        self.join(runs, offset, size, apart, turns)
     }
 
     /// Adds a range as `add_counted` does. It isn't marked inline: where several places call it, it is a
@@ -483,79 +480,123 @@ impl AssemblerHead {
         self.add_range(runs, offset, size, true, turns)
     }
 
-    /// Joins a range with the runs. It isn't after the last of them. `start` and `end` are counted
-    /// from `by` positions before the first run, and so are the runs then; `by` is 0 unless the
-    /// range starts there. If `apart`, it is a call.
+    /// Joins a range that isn't empty with the runs. There are some, and the range isn't after the last.
+    /// If `apart`, it is a call.
     #[inline(always)]
     fn join(
         &mut self,
         runs: &mut [Run],
-        by: usize,
-        start: usize,
-        end: usize,
+        offset: usize,
+        size: usize,
         apart: bool,
         turns: &mut Turns,
     ) -> Result<(), TooManyHolesError>
         requires sound { HasSoundRuns self.old runs.old }
         requires some { 0 < self.old.used }
-        requires by { by ≤ self.old.first_start }
-        requires one_way { 0 < by → start ≡ 0 }
-        requires range { start < end }
-        requires last { start ≤ end_at runs.old (self.old.used - 1) }
-        requires fits { IsUsize (self.old.first_start - by + end) }
-        ensures { let offset = self.old.first_start - by + start in
-            AddsInPlace self.old runs.old offset (end - start) result self.new runs.new turns.old turns.new }
+        requires range { RangeFits offset size }
+        requires size { 0 < size }
+        requires last { offset ≤ self.old.first_start + end_at runs.old (self.old.used - 1) }
+        ensures { AddsInPlace self.old runs.old offset size result self.new runs.new turns.old turns.new }
     {
         if apart {
-            self.join_apart(runs, by, start, end, turns)
+            self.join_apart(runs, offset, size, turns)
+        } else if offset < self.first_start {
+            let by = self.first_start - offset;
+            self.join_here(runs, 0, by, 0, size, turns)
         } else {
-            self.join_here(runs, by, start, end, turns)
+            let start = offset - self.first_start;
+            let first = runs_ending_before(runs, self.used, start, turns);
+            self.join_here(runs, first, 0, start, size, turns)
         }
     }
 
-    /// Does what `join` does. It isn't marked inline: where several places call it, it is a call.
+    /// Does what `join` does, with one copy of the rule. It isn't marked inline: where several places
+    /// call it, it is a call.
     fn join_apart(
         &mut self,
         runs: &mut [Run],
-        by: usize,
-        start: usize,
-        end: usize,
+        offset: usize,
+        size: usize,
         turns: &mut Turns,
     ) -> Result<(), TooManyHolesError>
         requires sound { HasSoundRuns self.old runs.old }
         requires some { 0 < self.old.used }
-        requires by { by ≤ self.old.first_start }
-        requires one_way { 0 < by → start ≡ 0 }
-        requires range { start < end }
-        requires last { start ≤ end_at runs.old (self.old.used - 1) }
-        requires fits { IsUsize (self.old.first_start - by + end) }
-        ensures { let offset = self.old.first_start - by + start in
-            AddsInPlace self.old runs.old offset (end - start) result self.new runs.new turns.old turns.new }
+        requires range { RangeFits offset size }
+        requires size { 0 < size }
+        requires last { offset ≤ self.old.first_start + end_at runs.old (self.old.used - 1) }
+        ensures { AddsInPlace self.old runs.old offset size result self.new runs.new turns.old turns.new }
     {
-        self.join_here(runs, by, start, end, turns)
+        let mut by = 0;
+        let mut start = 0;
+        let mut first = 0;
+        if offset < self.first_start {
+            by = self.first_start - offset;
+        } else {
+            start = offset - self.first_start;
+            first = runs_ending_before(runs, self.used, start, turns);
+        }
+        self.join_here(runs, first, by, start, size, turns)
     }
 
-    /// Does what `join` does, where it is called.
+    /// Joins a range with the runs that it meets or touches. `first` is the first run that doesn't end
+    /// before it. `start` is counted from `by` positions before the first run of all, and so are the
+    /// runs then; `by` is 0 unless the range starts there.
+    ///
+    /// One rule: the runs from `first` up to `next` become one with the range, and those after them
+    /// move up or down, or stay.
     #[inline(always)]
     fn join_here(
         &mut self,
         runs: &mut [Run],
+        first: usize,
         by: usize,
         start: usize,
-        end: usize,
+        size: usize,
         turns: &mut Turns,
     ) -> Result<(), TooManyHolesError>
         requires sound { HasSoundRuns self.old runs.old }
-        requires some { 0 < self.old.used }
+        requires first { first < self.old.used }
+        requires before { (k : ℕ) → k < first → end_at runs.old k < start }
+        requires reached { start ≤ end_at runs.old first }
         requires by { by ≤ self.old.first_start }
         requires one_way { 0 < by → start ≡ 0 }
-        requires range { start < end }
-        requires last { start ≤ end_at runs.old (self.old.used - 1) }
-        requires fits { IsUsize (self.old.first_start - by + end) }
-        ensures { let offset = self.old.first_start - by + start in
-            AddsInPlace self.old runs.old offset (end - start) result self.new runs.new turns.old turns.new }
+        requires size { 0 < size }
+        requires fits { IsUsize (self.old.first_start - by + start + size) }
+        ensures added { let offset = self.old.first_start - by + start in
+            AddsInPlace self.old runs.old offset size result self.new runs.new turns.old turns.new }
+        ensures looks { turns.new.0 ≤ turns.old.0 + binary_digits (length runs.old) }
     {
-        self.used = join_range(runs, self.used, by, start, end, turns)?;
+        let used = self.used;
+        let end = start + size;
+        prove!(end <= most(), "in any `usize`");
+        let first_start = by + start_of(runs, first);
+        prove!(first_start <= most(), "in any `usize`");
+        let mut low = start;
+        let mut high = end;
+        let mut next = first;
+        if end < first_start {
+            //  |--- first - 1 ---|    |=== range ===|    |--- first ---|      it is a run of its own
+            if used == runs.len() {
+                return Err(TooManyHolesError);
+            }
+        } else {
+            //  |--- first ---|  ..  |--- next - 1 ---|    |--- next ---|
+            //         |====== range ======|                                    they become one with it
+            next = runs_starting_by(runs, used, first + 1, end - by, turns);
+            low = low.min(first_start);
+            let last_end = by + end_of(runs, next - 1);
+            prove!(last_end <= most(), "in any `usize`");
+            high = high.max(last_end);
+        }
+        let entry = Run {
+            start: low,
+            end: high,
+        };
+        if by == 0 && next == first + 1 {
+            runs[first] = entry;
+            return Ok(());
+        }
+        self.used = move_runs(runs, used, first, next, entry, by, turns);
         self.first_start -= by;
         Ok(())
     }
@@ -575,14 +616,14 @@ impl AssemblerHead {
         ensures canonical { IsCanonical self.new }
     {
         let used = self.used;
+        let start = if count < used {
+            start_of(runs, count)
+        } else {
+            end
+        };
         self.used = used - count;
-        if count == used {
-            self.first_start = 0;
-            return;
-        }
-        // A sum that wraps lowers their numbers.
-        let start = start_of(runs, count);
         self.first_start = start - end;
+        // A sum that wraps lowers their numbers.
         remove_runs(runs, used, count, start.wrapping_neg(), &mut Turns::new());
     }
 
@@ -628,89 +669,55 @@ fn rise_after(runs: &[Run], after: usize, first_start: usize) -> bool
     true
 }
 
-/// Joins a range that isn't empty, and isn't after the last run, with the runs, each counted `by`
-/// higher, that it meets or touches. Returns how many runs there are then.
-///
-/// One rule: the runs from `first` up to `next` become one with the range, and those after them move
-/// up or down, or stay. `by` isn't 0 only for a range that starts at 0, before the first run.
+/// Returns whether the run with number `k` ends before `offset`. Here and in `starts_by` it is `get`
+/// and not an index, since an index also has a call that panics.
 #[inline(always)]
-fn join_range(
-    runs: &mut [Run],
-    used: usize,
-    by: usize,
-    start: usize,
-    end: usize,
-    turns: &mut Turns,
-) -> Result<usize, TooManyHolesError>
-    requires used { used ≤ length runs.old }
-    requires runs { AreRuns (take used runs.old) }
-    requires fits { FitsFrom by (take used runs.old) }
-    requires waiting { 0 < used }
-    requires some { start < end }
-    requires one_way { 0 < by → start ≡ 0 }
-    requires last { start ≤ end_at (take used runs.old) (used - 1) }
-    ensures joined { let counted = runs_shifted_up by (take used runs.old) in
-        JoinsRange counted runs.old runs.new start end result }
-    ensures turns { let n = length runs.old in
-        TurnsWithin (2 * binary_digits n) n turns.old turns.new }
+fn ends_before(runs: &[Run], k: usize, offset: usize) -> bool
+    requires { k < length runs.now }
+    ensures { IsTrue result ↔ (end_at runs.now k < offset) }
 {
-    let first = runs_ending_before(&runs[..used], start, turns);
-    let first_start = by + start_of(runs, first);
-    prove!(first_start <= most(), "in any `usize`");
-    let mut low = start;
-    let mut high = end;
-    let mut next = first;
-    if end < first_start {
-        //  |--- first - 1 ---|    |=== range ===|    |--- first ---|      it is a run of its own
-        if used == runs.len() {
-            return Err(TooManyHolesError);
-        }
-    } else {
-        //  |--- first ---|  ..  |--- next - 1 ---|    |--- next ---|
-        //         |====== range ======|                                    they become one with it
-        prove!(first + 1 <= used, "in any `usize`");
-        next = runs_starting_by(&runs[..used], first + 1, end - by, turns);
-        let last_end = by + end_of(runs, next - 1);
-        prove!(last_end <= most(), "in any `usize`");
-        low = low.min(first_start);
-        high = high.max(last_end);
-        if by == 0 && next == first + 1 {
-            runs[first] = Run {
-                start: low,
-                end: high,
-            };
-            return Ok(used);
-        }
+    match runs.get(k) {
+        Some(run) => run.end < offset,
+        None => false,
     }
-    let entry = Run {
-        start: low,
-        end: high,
-    };
-    Ok(move_runs(runs, used, first, next, entry, by, turns))
 }
 
-/// Returns how many runs end before `offset`, which the last doesn't. The first is tested by itself.
+/// Returns whether the run with number `k` starts at or before `end`.
 #[inline(always)]
-fn runs_ending_before(runs: &[Run], offset: usize, turns: &mut Turns) -> usize
-    requires runs { AreRuns runs.now }
-    requires some { 0 < length runs.now }
-    requires last { offset ≤ end_at runs.now (length runs.now - 1) }
-    ensures within { result < length runs.now }
+fn starts_by(runs: &[Run], k: usize, end: usize) -> bool
+    requires { k < length runs.now }
+    ensures { IsTrue result ↔ (start_at runs.now k ≤ end) }
+{
+    match runs.get(k) {
+        Some(run) => run.start <= end,
+        None => false,
+    }
+}
+
+/// Returns how many of the `used` runs end before `offset`, which the last doesn't. The first is tested
+/// by itself.
+#[inline(always)]
+fn runs_ending_before(runs: &[Run], used: usize, offset: usize, turns: &mut Turns) -> usize
+    requires used { used ≤ length runs.now }
+    requires runs { AreRuns (take used runs.now) }
+    requires some { 0 < used }
+    requires last { offset ≤ end_at runs.now (used - 1) }
+    ensures within { result < used }
     ensures before { (k : ℕ) → k < result → end_at runs.now k < offset }
-    ensures after { (k : ℕ) → result ≤ k → k < length runs.now → offset ≤ end_at runs.now k }
-    ensures looks { (b : ℕ) → length runs.now < 2 ^ b → turns.new.0 ≤ turns.old.0 + b }
+    ensures after { (k : ℕ) → result ≤ k → k < used → offset ≤ end_at runs.now k }
+    ensures looks { (b : ℕ) → used < 2 ^ b → turns.new.0 ≤ turns.old.0 + b }
     ensures no_look_lost { turns.old.0 ≤ turns.new.0 }
     ensures moves { turns.new.1 ≡ turns.old.1 }
 {
-    if offset <= end_of(runs, 0) {
+    if !ends_before(runs, 0, offset) {
         return 0;
     }
     let mut low = 1;
-    let mut high = runs.len() - 1;
+    let mut high = used - 1;
     while low < high {
         let middle = low + (high - low) / 2;
         prove!(middle < high, "in any `usize`");
-        if end_of(runs, middle) < offset {
+        if ends_before(runs, middle, offset) {
             low = middle + 1;
         } else {
             high = middle;
@@ -721,30 +728,26 @@ fn runs_ending_before(runs: &[Run], offset: usize, turns: &mut Turns) -> usize
     low
 }
 
-/// Returns how many runs start at or before `end`, but at least `from`. The run with number `from` is
-/// tested by itself.
+/// Returns how many of the `used` runs start at or before `end`, but at least `from`.
 #[inline(always)]
-fn runs_starting_by(runs: &[Run], from: usize, end: usize, turns: &mut Turns) -> usize
-    requires runs { AreRuns runs.now }
-    requires from { from ≤ length runs.now }
+fn runs_starting_by(runs: &[Run], used: usize, from: usize, end: usize, turns: &mut Turns) -> usize
+    requires used { used ≤ length runs.now }
+    requires runs { AreRuns (take used runs.now) }
+    requires from { from ≤ used }
     ensures from { from ≤ result }
-    ensures within { result ≤ length runs.now }
+    ensures within { result ≤ used }
     ensures before { (k : ℕ) → from ≤ k → k < result → start_at runs.now k ≤ end }
-    ensures after { (k : ℕ) → result ≤ k → k < length runs.now → end < start_at runs.now k }
-    ensures looks { (b : ℕ) → length runs.now < 2 ^ b → turns.new.0 ≤ turns.old.0 + b }
+    ensures after { (k : ℕ) → result ≤ k → k < used → end < start_at runs.now k }
+    ensures looks { (b : ℕ) → used < 2 ^ b → turns.new.0 ≤ turns.old.0 + b }
     ensures no_look_lost { turns.old.0 ≤ turns.new.0 }
     ensures moves { turns.new.1 ≡ turns.old.1 }
 {
-    if from >= runs.len() || end < start_of(runs, from) {
-        return from;
-    }
-    let mut low = from + 1;
-    prove!(low <= runs.len(), "in any `usize`");
-    let mut high = runs.len();
+    let mut low = from;
+    let mut high = used;
     while low < high {
         let middle = low + (high - low) / 2;
         prove!(middle < high, "in any `usize`");
-        if start_of(runs, middle) <= end {
+        if starts_by(runs, middle, end) {
             low = middle + 1;
         } else {
             high = middle;
@@ -833,6 +836,6 @@ fn holds(runs: &[Run], position: usize) -> bool
     requires fits { FitsFrom 0 runs.now }
     ensures { result ≡ contains (set_of_runs runs.now) position }
 {
-    let count = runs_starting_by(runs, 0, position, &mut Turns::new());
+    let count = runs_starting_by(runs, runs.len(), 0, position, &mut Turns::new());
     count > 0 && position < end_of(runs, count - 1)
 }

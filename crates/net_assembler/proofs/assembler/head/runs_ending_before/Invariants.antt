@@ -1,14 +1,14 @@
-use Rattle.std.proofs.Common.{◌≡◌, ℕ, ◌+◌, ◌-◌, ◌<◌, ◌≤◌, ◌^◌, length}
+use Rattle.std.proofs.Common.{◌≡◌, ℕ, ◌+◌, ◌-◌, ◌<◌, ◌≤◌, ◌^◌}
 use Rattle.net_assembler.specs.RunLists.{end_at}
 use Rattle.net_assembler.proofs.assembler.head.runs_ending_before.Given as goal
 
 abbrev pub invariant-loop-low : goal.invariant-loop-low
 invariant-loop-low l = record {
   order : l.low ≤ l.high;
-  within : l.high ≤ length l.runs;
+  within : l.high ≤ l.used;
   before : (k : ℕ) → k < l.low → end_at l.runs k < l.offset;
-  after : (k : ℕ) → l.high ≤ k → k < length l.runs → l.offset ≤ end_at l.runs k;
-  width : (b : ℕ) → length l.runs < 2 ^ b → (c : ℕ) × (l.turns.0 + c ≡ l.fn.turns.0 + b) × (l.high - l.low < 2 ^ c);
+  after : (k : ℕ) → l.high ≤ k → k < l.used → l.offset ≤ end_at l.runs k;
+  width : (b : ℕ) → l.used < 2 ^ b → (c : ℕ) × (l.turns.0 + c ≡ l.fn.turns.0 + b) × (l.high - l.low < 2 ^ c);
   more : l.fn.turns.0 ≤ l.turns.0;
   moves : l.turns.1 ≡ l.fn.turns.1;
 }

@@ -1,32 +1,40 @@
 use Rattle.std.proofs.Common.{◌+◌, ◌-◌, ◌*◌, ◌/◌, ◌≤◌, arith}
-use Rattle.net_assembler.proofs.RunLists.{halved, starts_rise}
+use Rattle.std.proofs.lemmas.Bool.{cases_lt}
+use Rattle.std.proofs.lemmas.Bool.Decides.{not_from_Decides}
+use Rattle.net_assembler.specs.RunLists.{start_at}
+use Rattle.net_assembler.proofs.Positions.{either}
+use Rattle.net_assembler.proofs.RunLists.{halved, used_starts_rise}
 use Rattle.net_assembler.proofs.assembler.head.runs_starting_by.Goals as goal
-use Rattle.net_assembler.proofs.assembler.head.runs_starting_by.Goals.{then-start_of-end, else-start_of-end}
-use Rattle.net_assembler.proofs.assembler.head.runs_starting_by.Goals.{then-from-runs-via-then-from-runs}
-use Rattle.net_assembler.proofs.assembler.head.runs_starting_by.Goals.{then-from-runs-via-else-from-runs+then-end-start_of}
+use Rattle.net_assembler.proofs.assembler.head.runs_starting_by.Goals.{then-starts_by, else-starts_by}
 
 pub loop-low-preserved : goal.loop-low-preserved
 loop-low-preserved c =
     let inv = c.loop-low.invariant in
-    let rs = c.args.runs.now in
+    let xs = c.args.runs.now in
+    let n = c.args.used in
     let m = c.loop-low.low + (c.loop-low.high - c.loop-low.low) / 2 in
-    let v = c.if-start_of-end.high - c.if-start_of-end.low in
-    let half : 2 * v ≤ c.loop-low.high - c.loop-low.low = elim c.if-start_of-end.branch [
-      | then-start_of-end w ↦
+    let v = c.if-starts_by.high - c.if-starts_by.low in
+    let half : 2 * v ≤ c.loop-low.high - c.loop-low.low = elim c.if-starts_by.branch [
+      | then-starts_by w ↦
           omega arith
-      | else-start_of-end w ↦ omega arith
+      | else-starts_by w ↦ omega arith
     ] in
     record {
-      from = elim c.if-start_of-end.branch [ then-start_of-end w ↦ omega arith | else-start_of-end w ↦ omega arith ];
-      order = elim c.if-start_of-end.branch [ then-start_of-end w ↦ omega arith | else-start_of-end w ↦ omega arith ];
-      within = elim c.if-start_of-end.branch [ then-start_of-end w ↦ omega arith | else-start_of-end w ↦ omega arith ];
-      before = λ j a l. elim c.if-start_of-end.branch [
-        | then-start_of-end w ↦ (let r = starts_rise 0 rs j m c.requires.runs (omega arith) (omega arith) in omega arith)
-        | else-start_of-end w ↦ inv.before j a (omega arith)
+      from = elim c.if-starts_by.branch [ then-starts_by w ↦ omega arith | else-starts_by w ↦ omega arith ];
+      order = elim c.if-starts_by.branch [ then-starts_by w ↦ omega arith | else-starts_by w ↦ omega arith ];
+      within = elim c.if-starts_by.branch [ then-starts_by w ↦ omega arith | else-starts_by w ↦ omega arith ];
+      before = λ j a l. elim c.if-starts_by.branch [
+        | then-starts_by w ↦
+            (let r = used_starts_rise xs n c.requires.runs c.requires.used j m (omega arith) (omega arith) in
+            omega (arith, r, c.starts_by.ensures.0 w.if-starts_by.true))
+        | else-starts_by w ↦ inv.before j a (omega arith)
       ];
-      after = λ j l n. elim c.if-start_of-end.branch [
-        | then-start_of-end w ↦ inv.after j (omega arith) n
-        | else-start_of-end w ↦ (let r = starts_rise 0 rs m j c.requires.runs (omega arith) n in omega arith)
+      after = λ j l b. elim c.if-starts_by.branch [
+        | then-starts_by w ↦ inv.after j (omega arith) b
+        | else-starts_by w ↦
+            (let r = used_starts_rise xs n c.requires.runs c.requires.used m j (omega arith) b in
+            either (cases_lt c.args.end (start_at xs m)) (λ past. omega (arith, r, past))
+            (λ by. absurd (not_from_Decides c.starts_by.result c.starts_by.ensures w.if-starts_by.false by)))
       ];
       width = λ b l.
           let s = inv.width b l in
@@ -35,11 +43,3 @@ loop-low-preserved c =
       more = omega arith;
       moves = omega arith;
     }
-
-pub returns-then-from-runs-clause-after : goal.returns-then-from-runs-clause-after
-returns-then-from-runs-clause-after c = λ k a b. elim c.then-from-runs.branch [
-  | then-from-runs-via-then-from-runs w ↦ absurd (omega (arith, w.if-from-runs.true))
-  | then-from-runs-via-else-from-runs+then-end-start_of w ↦
-      let p = starts_rise 0 c.args.runs.now c.args.from k c.requires.runs a b in
-      omega (arith, w.start_of.ensures, w.if-end-start_of.true)
-]

@@ -1,73 +1,93 @@
-use Rattle.std.proofs.Common.{◌≡◌, ◌∙◌, ◌+◌, ◌-◌, ◌^◌, ℕ, ap, sym, subst, take, drop, arith}
-use Rattle.std.proofs.lemmas.List.{get_or-take}
+use Rattle.std.proofs.Common.{◌≡◌, ◌∙◌, ◌+◌, ◌-◌, ◌<◌, ◌≤◌, ◌^◌, ◌%◌, ℕ, List, ap, length, sym, subst, take, drop, arith}
+use Rattle.net_assembler.specs.declared.assembler.head.AssemblerHead.{AssemblerHead}
 use Rattle.net_assembler.specs.Positions.{runs_shifted_up}
-use Rattle.net_assembler.specs.RunLists.{AreRuns, FitsFrom, StartsAtZero, used_runs, runs_shifted_down, start_at}
+use Rattle.net_assembler.specs.RunLists.{AreRuns, AreUsize, IsRising, FitsFrom, HasSoundRuns, StartsAtZero, runs_wrapped}
+use Rattle.net_assembler.specs.RunLists.{used_runs, runs_of, runs_shifted_down, start_at}
 use Rattle.net_assembler.proofs.Runs.{rising-runs_shifted_down}
-use Rattle.net_assembler.proofs.RunLists.{rising_after}
-use Rattle.net_assembler.proofs.ShiftedRuns.{first-down, fits-down, fits-drop, fits-less, start-drop, up-down}
+use Rattle.net_assembler.proofs.RunLists.{rest_rises, rest_starts}
+use Rattle.net_assembler.proofs.ShiftedRuns.{first-down, fits-down, fits-drop, fits-less, up-down}
 use Rattle.net_assembler.proofs.WrappedRuns.{negated, usize-down, wrapped-down}
 use Rattle.net_assembler.proofs.assembler.head.AssemblerHead.drop_front.Goals as goal
+use Rattle.net_assembler.proofs.assembler.head.AssemblerHead.drop_front.Goals.{then-count-used, else-count-used}
+
+-- the pairs from m on, counted from f, which is where the first of them starts, by its negative n
+module _ (h : AssemblerHead) (xs : List (ℕ × ℕ)) (room : h.used ≤ length xs) (runs : AreRuns (used_runs h xs))
+    (fits : FitsFrom h.first_start (used_runs h xs)) (m f end n : ℕ) (few : m ≤ h.used) (some : 0 < end) (above : end ≤ f)
+    (is : m < h.used → f ≡ start_at xs m) (below : n < 2 ^ 64) (start_below : f < 2 ^ 64) (negative : (n + f) % 2 ^ 64 ≡ 0) where
+  abbrev rest : List (ℕ × ℕ)
+  rest = drop m (used_runs h xs)
+
+  rises : IsRising f rest
+  rises = rest_rises xs h.used runs room m f few is
+
+  turn : n + f ≡ 2 ^ 64
+  turn = negated n f below (omega arith) start_below negative
+
+  fits_below : FitsFrom 0 rest
+  fits_below = fits-less 0 h.first_start rest (omega arith) (fits-drop h.first_start m (used_runs h xs) fits)
+
+  usize : AreUsize (runs_wrapped n rest)
+  usize = usize-down n f rest turn rises fits_below
+
+  module _ (ys : List (ℕ × ℕ)) (long : h.used ≤ length ys) (moved : take (h.used - m) ys ≡ runs_wrapped n rest) where
+    down : take (h.used - m) ys ≡ runs_shifted_down f rest
+    down = moved ∙ wrapped-down n f rest turn rises fits_below
+
+    sound : HasSoundRuns (record { used = h.used - m; first_start = f - end }) ys
+    sound = record {
+      room = omega arith;
+      runs = subst AreRuns (sym down) (rising-runs_shifted_down f 0 f rest (omega arith) rises);
+      first = subst StartsAtZero (sym down) (first-down f rest (rest_starts xs h.used runs room m f few is));
+      fits = subst (FitsFrom (f - end)) (sym down)
+          (fits-down (f - end) f h.first_start rest (omega arith) rises (fits-drop h.first_start m (used_runs h xs) fits));
+    }
+
+    left : runs_of (record { used = h.used - m; first_start = f - end }) ys ≡ runs_shifted_down end rest
+    left = ap (runs_shifted_up (f - end)) down ∙ up-down f end rest above rises
 
 pub remove_runs-requires-clause-fits : goal.remove_runs-requires-clause-fits
 remove_runs-requires-clause-fits c =
-    let h = c.args.self.now in
-    let xs = c.args.runs.now in
     let s = c.requires in
-    let m = c.args.count in
-    let f = start_at xs m in
-    let after = drop m (used_runs h xs) in
-    let rises = rising_after xs h.used s.runs s.room m (omega arith) in
-    let above = s.after (omega arith) in
-    let turn : c.wrapping_neg.result + f ≡ 2 ^ 64 =
-    subst (λ (n : ℕ). c.wrapping_neg.result + n ≡ 2 ^ 64) c.start_of-start.ensures
-    (negated c.wrapping_neg.result c.start_of-start.result (omega arith) (omega arith) (omega arith) c.wrapping_neg.ensures) in
-    usize-down c.wrapping_neg.result f after turn rises
-    (fits-less 0 h.first_start after (omega arith) (fits-drop h.first_start m (used_runs h xs) s.fits))
+    let is : c.args.count < c.args.self.now.used → c.if-count-used.start ≡ start_at c.args.runs.now c.args.count =
+    λ l. elim c.if-count-used.branch [
+      | then-count-used w ↦ w.start-is ∙ w.start_of-start.ensures
+      | else-count-used w ↦ absurd (omega (arith, w.if-count-used.false, l))
+    ] in
+    let above : c.args.end ≤ c.if-count-used.start = elim c.if-count-used.branch [
+      | then-count-used w ↦ omega (arith, s.after w.if-count-used.true, is w.if-count-used.true)
+      | else-count-used w ↦ omega (arith, w.start-is)
+    ] in
+    usize c.args.self.now c.args.runs.now s.room s.runs s.fits c.args.count c.if-count-used.start c.args.end c.wrapping_neg.result
+    s.count s.some above is (omega arith) (omega arith) c.wrapping_neg.ensures
 
 pub returns-clause-sound : goal.returns-clause-sound
 returns-clause-sound c =
-    let h = c.args.self.now in
-    let xs = c.args.runs.now in
     let s = c.requires in
-    let m = c.args.count in
-    let f = start_at xs m in
-    let after = drop m (used_runs h xs) in
-    let rises = rising_after xs h.used s.runs s.room m (omega arith) in
-    let above = s.after (omega arith) in
-    let turn : c.wrapping_neg.result + f ≡ 2 ^ 64 =
-    subst (λ (n : ℕ). c.wrapping_neg.result + n ≡ 2 ^ 64) c.start_of-start.ensures
-    (negated c.wrapping_neg.result c.start_of-start.result (omega arith) (omega arith) (omega arith) c.wrapping_neg.ensures) in
-    let is : take (h.used - m) c.remove_runs.new.runs ≡ runs_shifted_down f after =
-    c.remove_runs.ensures.runs
-    ∙ wrapped-down c.wrapping_neg.result f after turn rises
-    (fits-less 0 h.first_start after (omega arith) (fits-drop h.first_start m (used_runs h xs) s.fits)) in
-    let first = start-drop (used_runs h xs) m ∙ ap (λ (r : ℕ × ℕ). r.0) (get_or-take h.used xs m (0, 0) (omega arith)) in
-    record {
-      room = omega (arith, s.room, c.remove_runs.auto.runs);
-      runs = subst AreRuns (sym is) (rising-runs_shifted_down f 0 f after (omega arith) rises);
-      first = subst StartsAtZero (sym is) (first-down f after (omega arith));
-      fits = subst (λ (n : ℕ). FitsFrom (n - c.args.end) (take (h.used - m) c.remove_runs.new.runs)) (sym c.start_of-start.ensures)
-          (subst (FitsFrom (f - c.args.end)) (sym is)
-          (fits-down (f - c.args.end) f h.first_start after (omega arith) rises (fits-drop h.first_start m (used_runs h xs) s.fits)));
-    }
+    let is : c.args.count < c.args.self.now.used → c.if-count-used.start ≡ start_at c.args.runs.now c.args.count =
+    λ l. elim c.if-count-used.branch [
+      | then-count-used w ↦ w.start-is ∙ w.start_of-start.ensures
+      | else-count-used w ↦ absurd (omega (arith, w.if-count-used.false, l))
+    ] in
+    let above : c.args.end ≤ c.if-count-used.start = elim c.if-count-used.branch [
+      | then-count-used w ↦ omega (arith, s.after w.if-count-used.true, is w.if-count-used.true)
+      | else-count-used w ↦ omega (arith, w.start-is)
+    ] in
+    sound c.args.self.now c.args.runs.now s.room s.runs s.fits c.args.count c.if-count-used.start c.args.end c.wrapping_neg.result
+    s.count s.some above is (omega arith) (omega arith) c.wrapping_neg.ensures c.remove_runs.new.runs
+    (omega (arith, s.room, c.remove_runs.auto.runs)) c.remove_runs.ensures.runs
 
 pub returns-clause-runs : goal.returns-clause-runs
 returns-clause-runs c =
-    let h = c.args.self.now in
-    let xs = c.args.runs.now in
     let s = c.requires in
-    let m = c.args.count in
-    let f = start_at xs m in
-    let after = drop m (used_runs h xs) in
-    let rises = rising_after xs h.used s.runs s.room m (omega arith) in
-    let above = s.after (omega arith) in
-    let turn : c.wrapping_neg.result + f ≡ 2 ^ 64 =
-    subst (λ (n : ℕ). c.wrapping_neg.result + n ≡ 2 ^ 64) c.start_of-start.ensures
-    (negated c.wrapping_neg.result c.start_of-start.result (omega arith) (omega arith) (omega arith) c.wrapping_neg.ensures) in
-    let is : take (h.used - m) c.remove_runs.new.runs ≡ runs_shifted_down f after =
-    c.remove_runs.ensures.runs
-    ∙ wrapped-down c.wrapping_neg.result f after turn rises
-    (fits-less 0 h.first_start after (omega arith) (fits-drop h.first_start m (used_runs h xs) s.fits)) in
-    (λ i. runs_shifted_up (c.start_of-start.ensures i - c.args.end) (take (h.used - m) c.remove_runs.new.runs))
-    ∙ ap (runs_shifted_up (f - c.args.end)) is
-    ∙ up-down f c.args.end after (omega arith) rises
+    let is : c.args.count < c.args.self.now.used → c.if-count-used.start ≡ start_at c.args.runs.now c.args.count =
+    λ l. elim c.if-count-used.branch [
+      | then-count-used w ↦ w.start-is ∙ w.start_of-start.ensures
+      | else-count-used w ↦ absurd (omega (arith, w.if-count-used.false, l))
+    ] in
+    let above : c.args.end ≤ c.if-count-used.start = elim c.if-count-used.branch [
+      | then-count-used w ↦ omega (arith, s.after w.if-count-used.true, is w.if-count-used.true)
+      | else-count-used w ↦ omega (arith, w.start-is)
+    ] in
+    left c.args.self.now c.args.runs.now s.room s.runs s.fits c.args.count c.if-count-used.start c.args.end c.wrapping_neg.result
+    s.count s.some above is (omega arith) (omega arith) c.wrapping_neg.ensures c.remove_runs.new.runs
+    (omega (arith, s.room, c.remove_runs.auto.runs)) c.remove_runs.ensures.runs

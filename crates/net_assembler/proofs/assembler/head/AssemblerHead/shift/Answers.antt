@@ -59,7 +59,7 @@ drop_front-requires-2-clause-runs c =
     let n = c.runs_starting_by-met.result in
     let pairs = length-used_runs h xs c.requires in
     cut_rises h xs c.requires (n - 1) (c.args.count - h.first_start) c.end_of-end.result (omega (arith, met.from, met.within)) c.end_of-end.ensures
-    (starts_by h xs c.requires n (c.args.count - h.first_start) (omega (arith, met.from)) (omega (arith, met.within)) (λ k a b. omega (arith, met.before k a b))) (omega arith)
+    (starts_by h xs c.requires n (c.args.count - h.first_start) (omega (arith, met.from)) (omega (arith, met.within)) met.before) (omega arith)
 
 pub drop_front-requires-2-clause-fits : goal.drop_front-requires-2-clause-fits
 drop_front-requires-2-clause-fits c =
@@ -69,7 +69,7 @@ drop_front-requires-2-clause-fits c =
     let n = c.runs_starting_by-met.result in
     let pairs = length-used_runs h xs c.requires in
     cut_fits h xs c.requires (n - 1) (c.args.count - h.first_start) c.end_of-end.result (omega (arith, met.from, met.within)) c.end_of-end.ensures
-    (starts_by h xs c.requires n (c.args.count - h.first_start) (omega (arith, met.from)) (omega (arith, met.within)) (λ k a b. omega (arith, met.before k a b))) (omega arith)
+    (starts_by h xs c.requires n (c.args.count - h.first_start) (omega (arith, met.from)) (omega (arith, met.within)) met.before) (omega arith)
 
 pub returns-clause-set : goal.returns-clause-set
 returns-clause-set c =
@@ -79,7 +79,7 @@ returns-clause-set c =
     let n = c.runs_starting_by-met.result in
     let m = c.args.count - h.first_start in
     let pairs = length-used_runs h xs c.requires in
-    let start = starts_by h xs c.requires n m (omega (arith, met.from)) (omega (arith, met.within)) (λ k a b. omega (arith, met.before k a b)) in
+    let start = starts_by h xs c.requires n m (omega (arith, met.from)) (omega (arith, met.within)) met.before in
     left_set h xs c.requires (n - 1) m c.drop_front-2.new.self c.drop_front-2.new.runs (omega (arith, met.within))
     (λ k l. omega (arith, start, pairs_apart h xs c.requires k (n - 1) l (omega (arith, met.from, met.within))))
     (c.drop_front-2.ensures.runs
@@ -94,7 +94,7 @@ returns-clause-fewer c =
     let n = c.runs_starting_by-met.result in
     let m = c.args.count - h.first_start in
     let pairs = length-used_runs h xs c.requires in
-    let start = starts_by h xs c.requires n m (omega (arith, met.from)) (omega (arith, met.within)) (λ k a b. omega (arith, met.before k a b)) in
+    let start = starts_by h xs c.requires n m (omega (arith, met.from)) (omega (arith, met.within)) met.before in
     let left = dropped_number h xs c.requires (n - 1) m c.drop_front-2.new.self c.drop_front-2.new.runs c.drop_front-2.ensures.sound
     (c.drop_front-2.ensures.runs
     ∙ cut_left h xs c.requires (n - 1) m c.end_of-end.result (omega (arith, met.from, met.within)) c.end_of-end.ensures start (omega arith)) in
