@@ -2,8 +2,8 @@
 """SMOLTCP=path [RUST_KIT=folder] python3 overlay/costs.py
 
 Prints what the overlay costs, beside smoltcp of the checkout that SMOLTCP names, both below the layers of `stand_in`:
-instructions, counted by valgrind, of `examples/bench.rs` in cargo's release profile, and the bytes of code of `no_std`
-at opt-level "s". The Cortex-M4's are there if RUST_KIT names the folder that `sh rust/targets.sh FOLDER` fills.
+instructions, counted by valgrind, of `examples/bench.rs` in cargo's release profile, and the bytes of code and constants of `no_std`
+at opt-level "s" and "z". The Cortex-M4's are there if RUST_KIT names the folder that `sh rust/targets.sh FOLDER` fills.
 """
 import os
 import re
@@ -34,14 +34,14 @@ def instructions(tests, checkout, words):
     return int(re.search(r"Collected : (\d+)", said)[1])
 
 
-def text(tests, checkout, target, linker):
-    """Bytes of code that `entry` reaches."""
+def size(tests, checkout, level, target, linker):
+    """Bytes of code and constants that `entry` reaches."""
     folder = tests.folder / "no_std"
     shutil.rmtree(folder, ignore_errors=True)
     shutil.copytree(test.HERE / "no_std", folder, ignore=shutil.ignore_patterns("target", "Cargo.lock"))
     manifest = folder / "Cargo.toml"
     manifest.write_text(manifest.read_text().replace("../stand_in", f"../{checkout}"))
-    variables = {"CARGO_TARGET_DIR": str(tests.folder / "target/no_std" / checkout)}
+    variables = {"CARGO_TARGET_DIR": str(tests.folder / "target/no_std" / checkout), "CARGO_PROFILE_RELEASE_OPT_LEVEL": level}
     words = "build -q --release --ignore-rust-version"
     if target:
         variables["RUSTC"] = tests.compiler()
@@ -52,7 +52,7 @@ def text(tests, checkout, target, linker):
     flags = ["--gc-sections", "-e", "entry", "--unresolved-symbols=ignore-all", "-static", "-o", out, library]
     subprocess.run([f"{linker}ld", *flags], check=True)
     sections = subprocess.run([f"{linker}size", "-A", out], capture_output=True, text=True, check=True).stdout
-    return sum(int(bytes) for bytes in re.findall(r"^\.text\S*\s+(\d+)", sections, flags=re.M))
+    return sum(int(bytes) for bytes in re.findall(r"^\.(?:text|rodata|data\.rel\.ro)\S*\s+(\d+)", sections, flags=re.M))
 
 
 def rows(tests):
@@ -63,9 +63,11 @@ def rows(tests):
     for what, words, few, many, unit in CALLS:
         counts = [[instructions(tests, side, words.format(count)) for count in [few, many]] for side in sides]
         yield what, [(after - before) * unit / (many - few) for before, after in counts]
-    yield 'bytes of code without std, x86-64, "s"', [text(tests, side, "", "") for side in sides]
+    for level in "sz":
+        yield f'bytes of code and constants without std, x86-64, "{level}"', [size(tests, side, level, "", "") for side in sides]
     if os.environ.get("RUST_KIT") and shutil.which("arm-none-eabi-ld"):
-        yield 'Cortex-M4, "s"', [text(tests, side, THUMB, "arm-none-eabi-") for side in sides]
+        for level in "sz":
+            yield f'Cortex-M4, "{level}"', [size(tests, side, level, THUMB, "arm-none-eabi-") for side in sides]
     sizes = [map(int, tests.program(side, "bench", "sizes", "release").split()) for side in sides]
     names = ["bytes of a ring", "of a packet queue", "of an assembler", "of a TCP socket"]
     yield from zip(names, zip(*sizes))

@@ -59,6 +59,8 @@ CHANGES = [
     # What smoltcp derives.
     ("net_ring/error.rs", r"^(?=pub struct (?:Full|Empty);)", DEFMT, 2),
     ("net_packets/packet_metadata.rs", r"^(?=pub struct PacketMetadata<H>)", DEFMT, 1),
+    # One copy of the assembler's rule.
+    ("net_assembler/assembler/head.rs", r"add_range\(runs, offset, size, false, turns\)", "add_apart(runs, offset, size, turns)", 1),
     # Where numbers of 64 bits take two registers, a call is less code than such a sum.
     ("net_base/time/instant.rs", r"^    #\[inline\]\n(?=    pub fn saturating_|    fn sub\(self, rhs: Instant\))", CALL, 3),
 ]
@@ -72,8 +74,6 @@ TESTS = [
     ("src/storage/assembler.rs", r"^    impl From<Vec<.*?^    }\n", (MODULES / "storage/assembler_tests.rs").read_text()),
 ]
 
-# What stays always inline: accessors, whose body is shorter than a call, and what a Cortex-M4 has less code with.
-INLINE = "start_of|end_of|wrapped|add_range"
 # What of smoltcp's own `time` stays: std's clocks, its texts for defmt, and core's lengths.
 TIME = r"""^(?:#\[cfg\(feature = "(?:std|defmt)"\)\]\nimpl |impl From<::core::time::Duration> for Duration ).*?^}\n"""
 
@@ -127,9 +127,7 @@ def check(root):
 
 
 def proved_files():
-    """The files of src/proved. What is always inline there, or never, may be here, which is less code for firmware; but
-    INLINE stays so.
-    """
+    """The files of src/proved."""
     source, new = NET_BASE / "src/proved", {}
     for part in PROVED:
         for path in [source / part] if part.endswith(".rs") else sorted((source / part).rglob("*.rs")):
@@ -140,8 +138,7 @@ def proved_files():
     for name, text in new.items():
         text = re.sub(r"\bcrate::(rattle|contracts)\b", r"crate::proved::\1", text)
         # Examples are net-base's, which runs them.
-        text = re.sub(r"```(.*)\n((?:.*\n)*?.*```)", lambda fence: f"```{fence[1] or 'ignore'}\n{fence[2]}", text)
-        new[name] = re.sub(rf"#\[inline\((?:always|never)\)\](?!\n *(?:pub\(crate\) )?fn (?:{INLINE})\b)", "#[inline]", text)
+        new[name] = re.sub(r"```(.*)\n((?:.*\n)*?.*```)", lambda fence: f"```{fence[1] or 'ignore'}\n{fence[2]}", text)
     new["mod.rs"] = (MODULES / "proved/mod.rs").read_text()
     return {f"src/proved/{name}": text for name, text in new.items()}
 
