@@ -5,9 +5,9 @@ SMOLTCP=path timing.py --rust [--once] [--samples N] [--milliseconds N] [--only 
 SMOLTCP=path timing.py --whole [--lines N] [--runs N]
 
 Times the workloads of `perf` over the port and over smoltcp in turns, each side linked once for each placement of
-its code, counts instructions and branches if valgrind is there, and times whole runs of net_bench beside a plain
-program over smoltcp, of which it also counts mispredicted branches. Prints tables in Markdown, of which plot.py draws
-the first. Status 1 if results differ.
+its code, and times whole runs of net_bench beside a plain program over smoltcp; of both it counts instructions and
+mispredicted branches, if valgrind is there. Prints tables in Markdown, of which plot.py draws the first. Status 1 if
+results differ.
 With --once: one placement. With --peers: the workloads over the port and over types of std in turns, and the memory
 of both. With --rust: the workloads over the crate net-base in place of the port, both sides built as a user builds a
 program, in cargo's default profile without flags; without whole runs and the loopback device, and `rt` isn't needed.
@@ -79,7 +79,7 @@ def workloads(built, sides, arguments):
 
 
 def counted(built, sides, arguments):
-    """Of each row: instructions and branches a call, of the port and of smoltcp. None without valgrind."""
+    """Of each row: instructions and mispredicted branches a call, of the port and of smoltcp. None without valgrind."""
     if not shutil.which("valgrind"):
         return None
     with tempfile.TemporaryDirectory() as folder:
@@ -102,7 +102,7 @@ def counted(built, sides, arguments):
 
 
 def events(dump):
-    """The counts of a file of callgrind: Ir instructions, Bc and Bi branches, Bcm and Bim mispredicted ones."""
+    """The counts of a file of callgrind: Ir instructions, Bcm and Bim mispredicted branches, and others."""
     lines = dump.read_text().splitlines()
     names = next(line for line in lines if line.startswith("events:")).split()[1:]
     numbers = next(line for line in lines if line.startswith(("totals:", "summary:"))).split()[1:]
@@ -110,9 +110,9 @@ def events(dump):
 
 
 def total(dump):
-    """The instructions and the branches, conditional and indirect, of a file of callgrind."""
+    """The instructions and the mispredicted branches, conditional and indirect, of a file of callgrind."""
     known = events(dump)
-    return known["Ir"], known["Bc"] + known["Bi"]
+    return known["Ir"], known["Bcm"] + known["Bim"]
 
 
 def mean(ratios):
@@ -130,7 +130,7 @@ def groups_of(rows, at):
 def workload_table(rows, counts):
     """Over placements: the median of the ratios, the lowest and the highest, and smoltcp by itself."""
     print("| Row | Original, ns | Here, ns | Median | Lowest | Highest | smoltcp by itself "
-          "| Instructions, original | Here | Branches, original | Here |")
+          "| Instructions, original | Here | Mispredicted branches, original | Here |")
     print("|---|---:|---:|---:|---:|---:|---:|---:|---:|---:|---:|")
     columns = [groups_of(rows, at) for at in (4, 5, 6, 9)]
     number = lambda value: "not counted" if value is None else f"{value:.1f}"
@@ -141,9 +141,9 @@ def workload_table(rows, counts):
             means = " | ".join(f"**{column[group]:.2f}**" for column in columns)
             print(f"| **group {group}** | | | {means} | | | | |")
         shown = group
-        here, branches, there, other = counts[name] if counts else [None] * 4
+        here, missed, there, other = counts[name] if counts else [None] * 4
         print(f"| {name} | {original:.2f} | {port:.2f} | {median:.2f} | {lowest:.2f} | {highest:.2f} | {itself:.2f} "
-              f"| {number(there)} | {number(here)} | {number(other)} | {number(branches)} |")
+              f"| {number(there)} | {number(here)} | {number(other)} | {number(missed)} |")
 
 
 def peer_tables(rows):
