@@ -571,6 +571,7 @@ impl AssemblerHead {
         prove!(end <= most(), "in any `usize`");
         let first_start = by + start_of(runs, first);
         prove!(first_start <= most(), "in any `usize`");
+        prove!(first + 1 <= used, "in any `usize`");
         let mut low = start;
         let mut high = end;
         let mut next = first;

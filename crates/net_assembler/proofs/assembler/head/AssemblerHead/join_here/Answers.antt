@@ -12,7 +12,7 @@ use Rattle.net_assembler.proofs.ShiftedRuns.{fits-less, up-none}
 use Rattle.net_assembler.proofs.WrappedRuns.{inserted_run, joined_run, refused_run, tail_usize}
 use Rattle.net_assembler.proofs.assembler.head.AssemblerHead.join_here.Goals as goal
 use Rattle.net_assembler.proofs.assembler.head.AssemblerHead.join_here.Goals.{then-end-first_start+else-used-runs}
-use Rattle.net_assembler.proofs.assembler.head.AssemblerHead.join_here.Goals.{else-end-first_start+else-prove-3}
+use Rattle.net_assembler.proofs.assembler.head.AssemblerHead.join_here.Goals.{else-end-first_start+else-prove-4}
 use Rattle.net_assembler.proofs.assembler.head.AssemblerHead.join_here.Goals.{else-by-eq0-via-then-by-eq0+else-next-first, else-by-eq0-via-else-by-eq0}
 
 pub prove-unreachable-requires-2 : goal.prove-unreachable-requires-2
@@ -60,7 +60,7 @@ returns-then-next-first-clause-looks c =
     let d = below_binary_digits n in
     elim c.if-end-first_start.branch [
       | then-end-first_start+else-used-runs w ↦ omega (arith, ap (λ (t : ℕ × ℕ). t.0) w.turns-is)
-      | else-end-first_start+else-prove-3 w ↦
+      | else-end-first_start+else-prove-4 w ↦
           omega (arith, w.runs_starting_by-next.ensures.looks (binary_digits n) (omega (arith, c.requires.sound.room)), ap (λ (t : ℕ × ℕ). t.0) w.turns-is)
     ]
 
@@ -77,7 +77,7 @@ returns-then-next-first-clause-added c =
     let ys = set xs first (c.if-end-first_start.low, c.if-end-first_start.high) in
     let grown : take h.used ys ≡ runs_with_range (used_runs h xs) start end = elim c.if-end-first_start.branch [
       | then-end-first_start+else-used-runs w ↦ absurd (omega (arith, w.next-is, c.if-next-first.true))
-      | else-end-first_start+else-prove-3 w ↦
+      | else-end-first_start+else-prove-4 w ↦
           (let next = w.runs_starting_by-next.ensures in
           let one : w.runs_starting_by-next.result ≡ first + 1 = omega (arith, w.next-is, c.if-next-first.true) in
           let at : w.runs_starting_by-next.result - 1 ≡ first = omega (arith, one) in
@@ -90,7 +90,7 @@ returns-then-next-first-clause-added c =
     let looks = returns-then-next-first-clause-looks c in
     let turns : TurnsWithin (2 * binary_digits (length xs)) (length xs) c.args.turns.now c.if-end-first_start.turns = elim c.if-end-first_start.branch [
       | then-end-first_start+else-used-runs w ↦ absurd (omega (arith, w.next-is, c.if-next-first.true))
-      | else-end-first_start+else-prove-3 w ↦
+      | else-end-first_start+else-prove-4 w ↦
           (let next = w.runs_starting_by-next.ensures in
           let looked = ap (λ (t : ℕ × ℕ). t.0) w.turns-is in
           let steps = ap (λ (t : ℕ × ℕ). t.1) w.turns-is in
@@ -112,7 +112,7 @@ returns-clause-looks c =
     let d = below_binary_digits n in
     elim c.if-end-first_start.branch [
       | then-end-first_start+else-used-runs w ↦ omega (arith, c.move_runs-self.ensures.looks, ap (λ (t : ℕ × ℕ). t.0) w.turns-is)
-      | else-end-first_start+else-prove-3 w ↦
+      | else-end-first_start+else-prove-4 w ↦
           omega (
             arith,
             c.move_runs-self.ensures.looks,
@@ -145,7 +145,7 @@ returns-clause-added c =
           (λ i. take first xs ++ (w.low-is i, w.high-is i) ∷ runs_wrapped by (drop (w.next-is i) cs))
           ∙ inserted_run xs h.used by start end first first s.runs s.room fits (omega arith) c.requires.one_way (omega arith) c.requires.before
           (λ k a b. omega (arith, used_starts_rise xs h.used s.runs s.room first k a b, c.start_of.ensures, w.if-end-first_start.true)) refl
-      | else-end-first_start+else-prove-3 w ↦
+      | else-end-first_start+else-prove-4 w ↦
           (let next = w.runs_starting_by-next.ensures in
           let meets : by + start_at xs first ≤ end = omega (arith, c.start_of.ensures, w.if-end-first_start.false) in
           (λ i. take first xs ++ (w.low-is i, w.high-is i) ∷ runs_wrapped by (drop (w.next-is i) cs))
@@ -159,11 +159,11 @@ returns-clause-added c =
     let ys = c.move_runs-self.new.runs in
     let room : c.move_runs-self.result ≤ length xs = elim c.if-end-first_start.branch [
       | then-end-first_start+else-used-runs w ↦ omega (arith, s.room, moved.count, w.next-is, w.if-used-runs.false)
-      | else-end-first_start+else-prove-3 w ↦ omega (arith, s.room, moved.count, w.next-is, w.runs_starting_by-next.ensures.from)
+      | else-end-first_start+else-prove-4 w ↦ omega (arith, s.room, moved.count, w.next-is, w.runs_starting_by-next.ensures.from)
     ] in
     let some : 0 < c.move_runs-self.result = elim c.if-end-first_start.branch [
       | then-end-first_start+else-used-runs w ↦ omega (arith, moved.count, w.next-is)
-      | else-end-first_start+else-prove-3 w ↦ omega (arith, moved.count, w.next-is, w.runs_starting_by-next.ensures.within)
+      | else-end-first_start+else-prove-4 w ↦ omega (arith, moved.count, w.next-is, w.runs_starting_by-next.ensures.within)
     ] in
     let looks = returns-clause-looks c in
     let turns : TurnsWithin (2 * binary_digits (length xs)) (length xs) c.args.turns.now c.move_runs-self.new.turns = elim c.if-end-first_start.branch [
@@ -176,7 +176,7 @@ returns-clause-added c =
             no_look_lost = omega (arith, moved.looks, looked);
             no_move_lost = omega (arith, moved.moves, steps, w.next-is);
           })
-      | else-end-first_start+else-prove-3 w ↦
+      | else-end-first_start+else-prove-4 w ↦
           (let next = w.runs_starting_by-next.ensures in
           let looked = ap (λ (t : ℕ × ℕ). t.0) w.turns-is in
           let steps = ap (λ (t : ℕ × ℕ). t.1) w.turns-is in
