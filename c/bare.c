@@ -91,17 +91,19 @@ static int run_assembler(void) {
 static int run_receiver(void) {
     static uint8_t storage[8];
     static struct net_base_run runs[4];
-    struct net_base_receiver receiver = {.first = 100};
+    struct net_base_finite_receiver receiver;
+    if (!net_base_finite_receiver_init(&receiver, 100)) return 6;
     struct net_base_kept_counts counts;
     uint8_t into[8];
     const uint8_t *bytes = (const uint8_t *)"abcdefgh";
-    if (net_base_receiver_segment(&receiver, storage, 8, runs, 4, 103, bytes + 3, 5, &counts)
+    if (net_base_finite_receiver_segment(&receiver, storage, 8, runs, 4, 103, bytes + 3, 5, false, &counts)
         != NET_BASE_DONE)
         return 1;
-    if (net_base_receiver_segment(&receiver, storage, 8, runs, 4, 100, bytes, 4, &counts) != NET_BASE_DONE)
+    if (net_base_finite_receiver_segment(&receiver, storage, 8, runs, 4, 100, bytes, 4, false, &counts)
+        != NET_BASE_DONE)
         return 2;
     if (counts.kept != 4 || counts.queued != 8) return 3;
-    if (net_base_receiver_read(&receiver, storage, 8, into, 8) != 8) return 4;
+    if (net_base_finite_receiver_read(&receiver, storage, 8, into, 8) != 8) return 4;
     if (!are_equal(into, "abcdefgh", 8)) return 5;
     return 0;
 }

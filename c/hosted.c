@@ -22,7 +22,8 @@ static void dequeue(struct net_base_ring *ring, const uint8_t *storage, size_t s
 
 static void use_ring(void) {
     uint8_t storage[CAPACITY];
-    struct net_base_ring ring = {0, 0};
+    struct net_base_ring ring;
+    net_base_ring_init(&ring);
     enqueue(&ring, storage, "a ring of bytes");
     dequeue(&ring, storage, 7);
     enqueue(&ring, storage, " that wraps");
@@ -69,7 +70,8 @@ static void dequeue_packet(struct packet_queue *queue) {
 }
 
 static void use_packets(void) {
-    struct packet_queue queue = {.head = {{0, 0}, {0, 0}}};
+    struct packet_queue queue;
+    net_base_packets_init(&queue.head);
     enqueue_packet(&queue, 53, "question");
     enqueue_packet(&queue, 69, "files");
     dequeue_packet(&queue);
@@ -81,16 +83,16 @@ static void use_packets(void) {
 }
 
 /* Hands a part of a text over as a segment, and says what became of it. */
-static void receive(struct net_base_receiver *receiver, uint8_t *storage, struct net_base_run *runs,
+static void receive(struct net_base_finite_receiver *receiver, uint8_t *storage, struct net_base_run *runs,
     const char *text, unsigned from, unsigned size) {
     struct net_base_kept_counts counts = {0, 0};
-    uint32_t status = net_base_receiver_segment(receiver, storage, CAPACITY, runs, MOST_RUNS, from,
-        (const uint8_t *)text + from, size, &counts);
+    enum net_base_status status = net_base_finite_receiver_segment(receiver, storage, CAPACITY, runs,
+        MOST_RUNS, from, (const uint8_t *)text + from, size, false, &counts);
     if (status == NET_BASE_DONE)
         printf("%u to %u: kept %u, ", from, from + size, (unsigned)counts.kept);
     else
         printf("%u to %u: too many runs, ", from, from + size);
-    printf("%u are queued\n", (unsigned)receiver->place.length);
+    printf("%u are queued\n", (unsigned)receiver->receiver.place.length);
 }
 
 /* Segments arrive in any order. Position 0 is the text's first byte. */
@@ -98,12 +100,13 @@ static void use_receiver(void) {
     const char *text = "what arrives is read in order";
     uint8_t storage[CAPACITY], into[CAPACITY];
     struct net_base_run runs[MOST_RUNS];
-    struct net_base_receiver receiver = {.first = 0};
+    struct net_base_finite_receiver receiver;
+    if (!net_base_finite_receiver_init(&receiver, 0)) return;
     receive(&receiver, storage, runs, text, 5, 3);
     receive(&receiver, storage, runs, text, 10, 2);
     receive(&receiver, storage, runs, text, 13, 2);
     receive(&receiver, storage, runs, text, 0, 6);
-    size_t count = net_base_receiver_read(&receiver, storage, CAPACITY, into, CAPACITY);
+    size_t count = net_base_finite_receiver_read(&receiver, storage, CAPACITY, into, CAPACITY);
     printf("read \"%.*s\"\n", (int)count, (const char *)into);
 }
 

@@ -1,21 +1,61 @@
 /* SPDX-License-Identifier: 0BSD */
-/* net-base 0.5.0.
+/** @file
+ * net-base 0.5.0.
  *
- * Functions for C over memory that the caller keeps: rings, packet queues, assemblers, buffers of
- * fragments, receivers, senders and their scoreboards, windows, timeouts and sums of TCP, sequence
- * numbers, time and random words.
+ * What for, and which calls
  *
- * There is no heap and no global state. Each export, but for the version, calls a function of a
- * library here, and tests what that function needs, but for the duties below.
+ * - A queue of bytes or other elements, as between an interrupt and a program:
+ *   `net_base_ring_`: init, is_sound, enqueue_slice, dequeue_slice, enqueue_one, dequeue_one,
+ *     enqueue_span, dequeue_span, rewind_if_empty
+ *   `net_base_ring_`: allocated, unallocated, read_allocated, write_unallocated, enqueue, dequeue,
+ *     drop_last
+ * - Packets in the order of their arrival:
+ *   `net_base_packets_`: init, is_sound, enqueue, shorten_last, peek, dequeue, take_slot
+ * - A packet out of its fragments, and its checksum:
+ *   `net_base_fragments_`: init, is_sound, is_expired, differs, overlaps, set_total_size, add,
+ *     complete
+ *   `net_base_parts_sum_`: init, add, write_checksum, is_valid, checksum
+ *   `net_base_tcp_`: updated_checksum
+ * - A stream's receiving end: segments in any order, the queue, the end, SACK blocks:
+ *   `net_base_finite_receiver_`: init, is_sound, segment, read, remove, acknowledged, is_complete,
+ *     has_read_all, can_end, count_new, window_end
+ *   `net_base_receiver_`: is_sound, next, window, peek_slice, newest_runs, run_at
+ * - A stream's sending end: the queue, the end, what is lost:
+ *   `net_base_finite_sender_`: init, is_sound, write, room, close, send_at, peek_at, mark_sent,
+ *     acknowledge, is_block, first_number, numbers_end
+ *   `net_base_finite_sender_`: is_closed, is_closed_and_acknowledged
+ *   `net_base_sender_`: init, is_sound, write, room, peek_at, mark_sent, acknowledge,
+ *     acknowledge_sent, end
+ *   `net_base_scoreboard_`: init, is_sound, report, acknowledge, lost_below, next_hole, contains,
+ *     highest_reported, count_beyond
+ * - The windows of both ends, segments that aren't acceptable, sequence numbers:
+ *   `net_base_advertised_window_`: init, announce, announce_in_steps, is_update_due, classify
+ *   `net_base_peer_window_`: init, update, usable, send_limit, is_probe_allowed,
+ *     acknowledgement_number
+ *   `net_base_tcp_`: classify, is_acknowledgement, scale_for, scaled
+ *   `net_base_sequence_number_`: position
+ * - When to send again, and time:
+ *   `net_base_retransmission_timer_`: init, sent, acknowledged, expire, take_sample, start, stop
+ *   `net_base_instant_`: saturating_add, distance
+ * - Sets of positions:
+ *   `net_base_assembler_`: init, is_sound, add, add_then_remove_front, remove_front, peek_front,
+ *     shift, contains, run_at, hole_at
+ * - Random words:
+ *   `net_base_rand_`: u32, source_port, below
+ *
+ * Functions for C over memory that the caller keeps. There is no heap and no global state. Each
+ * export, but for the version, calls a function of a library here, and tests what that function
+ * needs, but for the duties below.
  *
  * Memory
  *
  * A head is a struct of numbers, which the caller keeps beside a storage and, for some heads, runs
- * or slots. A head of zeros is new, but for what the comment of its kind says. Storage, runs and
- * slots need no particular values. Lengths are in elements; a length of 0 is allowed, of runs too:
- * then no run is held. A length, an index or a count is a `size_t`, a position or a time a
- * `uint64_t` or an `int64_t` on every processor. A flag of a head or a slot is as wide as the
- * number beside it, so that they have no padding.
+ * or slots. A call whose name ends in `_init` makes it; one of zeros is new too, as the comment of
+ * its kind says. Storage, runs and slots need no particular values. Lengths are in elements; a
+ * length of 0 is allowed, of runs too: then no run is held. A length, an index or a count is a
+ * `size_t`, a position or a time a `uint64_t` or an `int64_t` on every processor. A flag of a head
+ * or a slot is as wide as the number beside it, so that they have no padding; a sum in parts has a
+ * `bool`.
  *
  * Fields of a head may be read: `length` is how many elements are queued, `used` how many runs are
  * stored. `start` and `end` of a stored run are offsets from `first_start` of the head, so the
@@ -39,10 +79,9 @@
  *    copies its elements, and around what reads fields.
  * 4. There is stack enough for a call.
  * 5. A storage, its runs and its slots have the same lengths in each call on a head.
- * 6. A head, its runs and its slots are written by calls of its own kind alone, those of a receiver
- *    by `net_base_receiver_..`, not its `place` by `net_base_ring_..` or its `held` by
- *    `net_base_assembler_..`. The caller may set a head to zeros, and then what the comment of its
- *    kind names, as `first` of a receiver.
+ * 6. A head, its runs and its slots are written by calls of its own kind alone, those of a finite
+ *    receiver by `net_base_finite_receiver_..`, not its `place` by `net_base_ring_..` or its `held`
+ *    by `net_base_assembler_..`. The caller may set a head to zeros.
  * 7. Where a comment says `Requires`, head and runs are sound, as a call whose name ends in
  *    `_is_sound` tests. What calls of its own kind wrote, from a new head on, is sound, if each
  *    slot that `net_base_packets_take_slot` was given was the first one.
@@ -51,11 +90,11 @@
  *
  * All else that a call needs is tested, but that a taken slot is the first one. Nonsense in
  * arguments, as a null pointer but to a slice of length 0, is refused before anything else. A
- * refused call changes nothing. It returns `false` where it returns a `bool`; where it returns one
- * of these alone or as the first field of a struct, `NET_BASE_REFUSED` of a status, `NET_BASE_NONE`
- * of a `size_t`, `UINT64_MAX` of a `uint64_t`; and 0 of another number, which is refused for null
- * alone. `NET_BASE_REFUSED` always means a refusal; the others can also be results of calls that
- * are done.
+ * refused call changes nothing. It returns `false` where it returns a `bool`, and one whose comment
+ * names no answer returns `true` where it is done; where it returns one of these alone or as the
+ * first field of a struct, `NET_BASE_REFUSED` of a status, `NET_BASE_NONE` of a `size_t`,
+ * `UINT64_MAX` of a `uint64_t`; and 0 of another number, which is refused for null alone.
+ * `NET_BASE_REFUSED` always means a refusal; the others can also be results of calls that are done.
  */
 #ifndef NET_BASE_H
 #define NET_BASE_H
@@ -63,10 +102,21 @@
 #include <stddef.h>
 #include <stdint.h>
 
-/* The version: until 1.0 names and structs may change with each minor number. */
+/** The major number: until 1.0 names and structs may change with each minor one. */
 #define NET_BASE_VERSION_MAJOR 0
+/** The minor number: until 1.0 names and structs may change with each minor one. */
 #define NET_BASE_VERSION_MINOR 5
+/** The patch number: until 1.0 names and structs may change with each minor one. */
 #define NET_BASE_VERSION_PATCH 0
+
+/** What is returned isn't to be thrown away. */
+#if defined __cplusplus && __cplusplus >= 201703L || defined __STDC_VERSION__ && __STDC_VERSION__ >= 202311L
+#define NET_BASE_MUST_USE [[nodiscard]]
+#elif defined __GNUC__
+#define NET_BASE_MUST_USE __attribute__((warn_unused_result))
+#else
+#define NET_BASE_MUST_USE
+#endif
 
 #ifdef __cplusplus
 extern "C" {
@@ -74,89 +124,81 @@ extern "C" {
 
 /* Written by tools/ffi.py, up to the line END. */
 
-/* What a refused call returns, and the statuses of those that are done. */
+/* What calls answer: a status, or a number in place of one. */
 
-/* The call was done. */
-#define NET_BASE_DONE UINT32_C(0)
+/** What a call answers that can be done, refused, or more. */
+enum net_base_status {
+    /** The call was done. */
+    NET_BASE_DONE = 0,
+    /** There would be more runs than the slice has elements. Nothing changes. */
+    NET_BASE_TOO_MANY_RUNS = 1,
+    /** What was passed is nonsense. Nothing changes. */
+    NET_BASE_REFUSED = 2,
+    /** The fragment or the size reaches past the end of the buffer. Nothing changes. */
+    NET_BASE_TOO_LONG = 3,
+    /** It contradicts the packet's size: another size is known, or a byte at that size or above has
+     * arrived, or the fragment reaches past a known size. Nothing changes.
+     */
+    NET_BASE_OTHER_SIZE = 4,
+    /** The stream can't end there. Nothing changes. */
+    NET_BASE_OTHER_END = 5,
+    /** Take what a segment acknowledges, its window, its bytes and its end. */
+    NET_BASE_TAKE = 6,
+    /** Take what a segment acknowledges and its window, but not its bytes, and answer it: the own
+     * window is shut, and the peer asks whether it has opened.
+     */
+    NET_BASE_ACKNOWLEDGEMENT_ONLY = 7,
+    /** Send an acknowledgement, and take nothing of a segment. */
+    NET_BASE_ANSWER = 8,
+    /** Take nothing of a segment, and send nothing. */
+    NET_BASE_IGNORE = 9,
+    /** The peer has reset the connection. */
+    NET_BASE_RESET = 10,
+    /** No status: it makes the type as wide on each processor, 32 bits. */
+    NET_BASE_STATUS_WIDTH = 0x7fffffff
+};
 
-/* There would be more runs than the slice has elements. Nothing changes. */
-#define NET_BASE_TOO_MANY_RUNS UINT32_C(1)
-
-/* What was passed is nonsense. Nothing changes. */
-#define NET_BASE_REFUSED UINT32_C(2)
-
-/* The position is missing, or the answer is no. */
-#define NET_BASE_MISSING UINT32_C(3)
-
-/* The position is present, or the answer is yes. */
-#define NET_BASE_PRESENT UINT32_C(4)
-
-/* The fragment or the size reaches past the end of the buffer. Nothing changes. */
-#define NET_BASE_TOO_LONG UINT32_C(5)
-
-/* It contradicts the packet's size: another size is known, or a byte at that size or above has
- * arrived, or the fragment reaches past a known size. Nothing changes.
- */
-#define NET_BASE_OTHER_SIZE UINT32_C(6)
-
-/* The stream can't end there. Nothing changes. */
-#define NET_BASE_OTHER_END UINT32_C(7)
-
-/* Take what a segment acknowledges, its window, its bytes and its end. */
-#define NET_BASE_TAKE UINT32_C(8)
-
-/* Take what a segment acknowledges and its window, but not its bytes, and answer it: the own window
- * is shut, and the peer asks whether it has opened.
- */
-#define NET_BASE_ACKNOWLEDGEMENT_ONLY UINT32_C(9)
-
-/* Send an acknowledgement, and take nothing of a segment. */
-#define NET_BASE_ANSWER UINT32_C(10)
-
-/* Take nothing of a segment, and send nothing. */
-#define NET_BASE_IGNORE UINT32_C(11)
-
-/* The peer has reset the connection. */
-#define NET_BASE_RESET UINT32_C(12)
-
-/* In place of a length, an index or a count: what was passed is nonsense, or there is none. */
+/** In place of a length, an index or a count: what was passed is nonsense, or there is none. */
 #define NET_BASE_NONE SIZE_MAX
 
 /* Rings: where elements are in a storage that the caller keeps, and the numbers after a call.
  *
- * If the elements aren't bytes, pass only the capacity: the call returns indices, and you copy
- * before the next call. A head that doesn't fit the capacity is refused. An empty queue may begin
- * at any index; `read_at` is 0 if the capacity is. A call that takes the last element off leaves
- * `read_at` after it, and doesn't rewind. In a span of no elements `from` is where the first would
- * be.
+ * A head of zeros is new. If the elements aren't bytes, pass only the capacity: the call returns
+ * indices, and you copy before the next call. A head that doesn't fit the capacity is refused. An
+ * empty queue may begin at any index; `read_at` is 0 if the capacity is. A call that takes the
+ * last element off leaves `read_at` after it, and doesn't rewind. In a span of no elements `from`
+ * is where the first would be.
  */
 
-/* The head of a ring: its numbers without its storage. */
+/** The head of a ring: its numbers without its storage. */
 struct net_base_ring {
-    /* The index of the first element of the queue, 0 if the storage is empty. */
+    /** The index of the first element of the queue, 0 if the storage is empty. */
     size_t read_at;
-    /* How many elements are queued. */
+    /** How many elements are queued. */
     size_t length;
 };
 
-/* A range of a ring: `contiguous` elements from the index `from` on, and the rest of `count` from
+/** A range of a ring: `contiguous` elements from the index `from` on, and the rest of `count` from
  * index 0 on.
  */
 struct net_base_span {
-    /* The index of the first one. */
+    /** The index of the first one. */
     size_t from;
-    /* How many there are. */
+    /** How many there are. */
     size_t count;
-    /* How many of them are contiguous, from the first one on. */
+    /** How many of them are contiguous, from the first one on. */
     size_t contiguous;
 };
 
-/* Returns whether `place` is that of a ring of `capacity` elements: its read index is an index of
+/** Makes `place` the head of an empty ring, which is sound for each storage. */
+void net_base_ring_init(struct net_base_ring *place);
+
+/** Returns whether the head is that of a ring of `capacity` elements: its read index is an index of
  * the storage, or 0, and it has no more elements than the storage.
  */
 bool net_base_ring_is_sound(const struct net_base_ring *place, size_t capacity);
 
-/* Returns where at most `size` free elements are, from the one at `offset` on; none if `offset` is
+/** Returns where at most `size` free elements are, from the one at `offset` on; none if `offset` is
  * past the free elements.
  *
  * It is refused if `place` isn't that of a ring of `capacity` elements: `from` is `NET_BASE_NONE`,
@@ -165,7 +207,7 @@ bool net_base_ring_is_sound(const struct net_base_ring *place, size_t capacity);
 struct net_base_span net_base_ring_unallocated(
     const struct net_base_ring *place, size_t capacity, size_t offset, size_t size);
 
-/* Returns where at most `size` elements of the queue are, from the one at `offset` on; none if
+/** Returns where at most `size` elements of the queue are, from the one at `offset` on; none if
  * `offset` is past the queue.
  *
  * It is refused if `place` isn't that of a ring of `capacity` elements: `from` is `NET_BASE_NONE`,
@@ -174,36 +216,32 @@ struct net_base_span net_base_ring_unallocated(
 struct net_base_span net_base_ring_allocated(
     const struct net_base_ring *place, size_t capacity, size_t offset, size_t size);
 
-/* Empties the queue, and moves the read index to the storage's beginning. */
-void net_base_ring_clear(struct net_base_ring *place);
-
-/* Moves the read index of an empty ring to the storage's beginning: then all its free elements are
+/** Moves the read index of an empty ring to the storage's beginning: then all its free elements are
  * contiguous. Otherwise the head stays as it is.
  */
 void net_base_ring_rewind_if_empty(struct net_base_ring *place);
 
-/* Enqueues `count` elements, with what the storage holds there, and returns true.
+/** Enqueues `count` elements, with what the storage has there.
  *
  * It is refused if `place` isn't that of a ring of `capacity` elements, or if fewer than `count`
  * elements are free: false, and nothing changes.
  */
 bool net_base_ring_enqueue(struct net_base_ring *place, size_t capacity, size_t count);
 
-/* Dequeues `count` elements, and returns true.
+/** Dequeues `count` elements.
  *
  * It is refused if `place` isn't that of a ring of `capacity` elements, or if fewer than `count`
  * elements are queued: false, and nothing changes.
  */
 bool net_base_ring_dequeue(struct net_base_ring *place, size_t capacity, size_t count);
 
-/* Takes the last `count` elements off the queue, so that they are the first free ones, and returns
- * true.
+/** Takes the last `count` elements off the queue: they are then the first free ones.
  *
  * It is refused if fewer than `count` elements are queued: false, and nothing changes.
  */
 bool net_base_ring_drop_last(struct net_base_ring *place, size_t count);
 
-/* Enqueues as many elements as there is room for, at most `size`, and returns where they are.
+/** Enqueues as many elements as there is room for, at most `size`, and returns where they are.
  *
  * An empty ring first moves its read index to the storage's beginning.
  *
@@ -213,17 +251,7 @@ bool net_base_ring_drop_last(struct net_base_ring *place, size_t count);
 struct net_base_span net_base_ring_enqueue_span(
     struct net_base_ring *place, size_t capacity, size_t size);
 
-/* Enqueues contiguous elements, at most `size`, and returns where they are: the span has no others.
- *
- * An empty ring first moves its read index to the storage's beginning.
- *
- * It is refused if `place` isn't that of a ring of `capacity` elements: `from` is `NET_BASE_NONE`,
- * `count` and `contiguous` are 0, and nothing changes.
- */
-struct net_base_span net_base_ring_enqueue_many(
-    struct net_base_ring *place, size_t capacity, size_t size);
-
-/* Dequeues as many elements as are queued, at most `size`, and returns where they are.
+/** Dequeues as many elements as are queued, at most `size`, and returns where they are.
  *
  * It is refused if `place` isn't that of a ring of `capacity` elements: `from` is `NET_BASE_NONE`,
  * `count` and `contiguous` are 0, and nothing changes.
@@ -231,15 +259,7 @@ struct net_base_span net_base_ring_enqueue_many(
 struct net_base_span net_base_ring_dequeue_span(
     struct net_base_ring *place, size_t capacity, size_t size);
 
-/* Dequeues contiguous elements, at most `size`, and returns where they are: the span has no others.
- *
- * It is refused if `place` isn't that of a ring of `capacity` elements: `from` is `NET_BASE_NONE`,
- * `count` and `contiguous` are 0, and nothing changes.
- */
-struct net_base_span net_base_ring_dequeue_many(
-    struct net_base_ring *place, size_t capacity, size_t size);
-
-/* Writes as many elements of `data` as there is room for to the free elements from the one at
+/** Writes as many elements of `data` as there is room for to the free elements from the one at
  * `offset` on, and returns how many; 0 if `offset` is past the free elements. Nothing is enqueued.
  *
  * It is refused if `place` isn't that of a ring of `storage_length` elements: `NET_BASE_NONE`, and
@@ -249,7 +269,7 @@ size_t net_base_ring_write_unallocated(
     const struct net_base_ring *place, uint8_t *storage, size_t storage_length, size_t offset,
     const uint8_t *data, size_t data_length);
 
-/* Copies as many elements of the queue as `into` has room for, from the one at `offset` on, to the
+/** Copies as many elements of the queue as `into` has room for, from the one at `offset` on, to the
  * beginning of `into`, and returns how many; 0 if `offset` is past the queue. The rest of `into`
  * stays as it is, and nothing is dequeued.
  *
@@ -260,9 +280,10 @@ size_t net_base_ring_read_allocated(
     const struct net_base_ring *place, const uint8_t *storage, size_t storage_length, size_t offset,
     uint8_t *into, size_t into_length);
 
-/* Enqueues as many elements of `data` as there is room for, and returns how many.
+/** Enqueues as many elements of `data` as there is room for, and returns how many.
  *
- * An empty ring first moves its read index to the storage's beginning, even if nothing is enqueued.
+ * An empty ring first moves its read index to the storage's beginning, even if nothing is
+ * enqueued.
  *
  * It is refused if `place` isn't that of a ring of `storage_length` elements: `NET_BASE_NONE`, and
  * nothing changes.
@@ -271,7 +292,7 @@ size_t net_base_ring_enqueue_slice(
     struct net_base_ring *place, uint8_t *storage, size_t storage_length, const uint8_t *data,
     size_t data_length);
 
-/* Dequeues as many elements as `into` has room for and are queued, copies them to the beginning of
+/** Dequeues as many elements as `into` has room for and are queued, copies them to the beginning of
  * `into`, and returns how many. The rest of `into` stays as it is.
  *
  * It is refused if `place` isn't that of a ring of `storage_length` elements: `NET_BASE_NONE`, and
@@ -281,13 +302,13 @@ size_t net_base_ring_dequeue_slice(
     struct net_base_ring *place, const uint8_t *storage, size_t storage_length, uint8_t *into,
     size_t into_length);
 
-/* Enqueues one element, and returns its index in the storage.
+/** Enqueues one element, and returns its index in the storage.
  *
  * If none is free, or the place isn't sound: `NET_BASE_NONE`, and nothing changes.
  */
 size_t net_base_ring_enqueue_one(struct net_base_ring *place, size_t capacity);
 
-/* Dequeues one element, and returns its index in the storage.
+/** Dequeues one element, and returns its index in the storage.
  *
  * If none is queued, or the place isn't sound: `NET_BASE_NONE`, and nothing changes.
  */
@@ -295,69 +316,71 @@ size_t net_base_ring_dequeue_one(struct net_base_ring *place, size_t capacity);
 
 /* Packet queues: where a packet has its slots and its bytes, in storages that the caller keeps.
  *
- * A packet's bytes are contiguous. If it doesn't fit before the storage's end, it is placed at its
- * beginning, and the bytes before the end are a gap. A packet uses one slot, and a gap before it
- * one more. `enqueue`, `dequeue`, `peek` and `shorten_last` take the slots, which `enqueue` and
- * `shorten_last` write; `take_slot` takes one. What is refused changes nothing.
+ * A head of zeros is new. A packet's bytes are contiguous. If it doesn't fit before the storage's
+ * end, it is placed at its beginning, and the bytes before the end are a gap. A packet uses one
+ * slot, and a gap before it one more. The slots, which calls write, are beside what the program
+ * has for each packet. What is refused changes nothing.
  */
 
-/* The head of a packet queue: the heads of its two rings. */
+/** The head of a packet queue: the heads of its two rings. */
 struct net_base_packets {
-    /* The head of the ring of slots. */
+    /** The head of the ring of slots. */
     struct net_base_ring slots;
-    /* The head of the ring of bytes. */
+    /** The head of the ring of bytes. */
     struct net_base_ring bytes;
 };
 
-/* A slot of a packet queue without its header: that of a packet, or of the gap before one. */
+/** A slot of a packet queue without its header: that of a packet, or of the gap before one. */
 struct net_base_packet_slot {
-    /* How many bytes the packet or the gap has. */
+    /** How many bytes the packet or the gap has. */
     size_t size;
-    /* 0 if the slot is a packet's. Any other number says that it is a gap's. */
+    /** 0 if the slot is a packet's. Any other number says that it is a gap's. */
     size_t is_gap;
 };
 
-/* Where a packet was placed. */
+/** Where a packet was placed. */
 struct net_base_packet_place {
-    /* How many bytes are skipped before the packet: 0, or those up to the storage's end. */
+    /** How many bytes are skipped before the packet: 0, or those up to the storage's end. */
     size_t gap;
-    /* The index of the slot of the gap. If the gap has 0 bytes, it has no slot, and this is `slot`.
+    /** The index of the slot of the gap. If the gap has 0 bytes, it has no slot, and this is
+     * `slot`.
      */
     size_t gap_slot;
-    /* The index of the packet's slot. */
+    /** The index of the packet's slot. */
     size_t slot;
-    /* The index of the packet's first byte. */
+    /** The index of the packet's first byte. */
     size_t from;
 };
 
-/* Where the first packet is. */
+/** Where the first packet is. */
 struct net_base_first_packet {
-    /* How many bytes are skipped before the packet. */
+    /** How many bytes are skipped before the packet. */
     size_t gap;
-    /* The index of the packet's slot. */
+    /** The index of the packet's slot. */
     size_t slot;
-    /* The index of the packet's first byte. */
+    /** The index of the packet's first byte. */
     size_t from;
-    /* How many bytes the packet has. */
+    /** How many bytes the packet has. */
     size_t size;
 };
 
-/* Returns whether head and slots are those of a queue over `capacity` bytes: the numbers are those
- * of a ring of the slots and of one of the bytes; the packets and gaps of the slots in use take the
- * bytes in use; each packet is contiguous; and a gap has bytes, ends at the storage's end and has a
- * packet after it. It looks at each slot in use.
+/** Makes `packets` the head of a queue with no packets. */
+void net_base_packets_init(struct net_base_packets *packets);
+
+/** Returns whether head and slots are those of a queue over `capacity` bytes: the numbers are those
+ * of a ring of the slots and of one of the bytes; the packets and gaps of the slots in use take
+ * the bytes in use; each packet is contiguous; and a gap has bytes, ends at the storage's end and
+ * has a packet after it. It looks at each slot in use.
  */
 bool net_base_packets_is_sound(
     const struct net_base_packets *packets, const struct net_base_packet_slot *slots,
     size_t slots_length, size_t capacity);
 
-/* Empties the queue. No head is refused: this makes one sound for all storages. */
-void net_base_packets_clear(struct net_base_packets *packets);
-
-/* Takes the last `count` bytes off the last packet, lowers the size in its slot, and returns true;
- * false, and nothing changes, if no slot is in use, if the last one is a gap's, or if its size is
- * below `count` or above the number of bytes in use. It is for a caller that wrote fewer bytes than
- * it placed.
+/** Takes the last `count` bytes off the last packet, lowers the size in its slot, and returns true.
+ * It is for a caller that wrote fewer bytes than it placed.
+ *
+ * Returns false, and changes nothing, if no slot is in use, if the last one is a gap's, or if its
+ * size is below `count` or above the number of bytes in use.
  *
  * It is refused if the numbers of `packets` aren't those of rings of `slots_length` slots and of
  * `capacity` bytes: false, and nothing changes.
@@ -366,31 +389,31 @@ bool net_base_packets_shorten_last(
     struct net_base_packets *packets, struct net_base_packet_slot *slots, size_t slots_length,
     size_t capacity, size_t count);
 
-/* Appends a packet of `size` bytes, writes its slot and that of its gap, whose `is_gap` is 1, and
+/** Appends a packet of `size` bytes, writes its slot and that of its gap, whose `is_gap` is 1, and
  * returns where they and the packet's bytes are. If no byte is in use, which is so too where all
  * packets have 0 bytes, the packet begins at the beginning of the storage of bytes.
  *
- * If there are no `size` contiguous free bytes, or no slots for the packet and its gap, `gap` is 0,
- * the three others are `NET_BASE_NONE`, and nothing changes. A head whose numbers aren't those of
- * rings of the slots and of `capacity` bytes is refused: then all four are `NET_BASE_NONE`.
+ * If there are no `size` contiguous free bytes, or no slots for the packet and its gap, `gap` is
+ * 0, the three others are `NET_BASE_NONE`, and nothing changes. A head whose numbers aren't those
+ * of rings of the slots and of `capacity` bytes is refused: then all four are `NET_BASE_NONE`.
  */
 struct net_base_packet_place net_base_packets_enqueue(
     struct net_base_packets *packets, struct net_base_packet_slot *slots, size_t slots_length,
     size_t capacity, size_t size);
 
-/* Takes the first packet off, and the gap before it, and returns where it is. Its bytes stay until
+/** Takes the first packet off, and the gap before it, and returns where it is. Its bytes stay until
  * another packet is placed there.
  *
  * If no slot is in use, `gap` and `size` are 0, the two others are `NET_BASE_NONE`, and nothing
- * changes. A head whose numbers aren't those of rings is refused, and so are first slots that can't
- * be those of a packet: then `gap` is `NET_BASE_NONE` too. The slots of a sound queue are never
- * refused.
+ * changes. A head whose numbers aren't those of rings is refused, and so are first slots that
+ * can't be those of a packet: then `gap` is `NET_BASE_NONE` too. The slots of a sound queue are
+ * never refused.
  */
 struct net_base_first_packet net_base_packets_dequeue(
     struct net_base_packets *packets, const struct net_base_packet_slot *slots, size_t slots_length,
     size_t capacity);
 
-/* Returns where the first packet is, which stays.
+/** Returns where the first packet is, which stays.
  *
  * If no slot is in use, `gap` and `size` are 0, and the two others are `NET_BASE_NONE`. A head
  * whose numbers aren't those of rings is refused, and so are first slots that can't be those of a
@@ -400,7 +423,7 @@ struct net_base_first_packet net_base_packets_peek(
     const struct net_base_packets *packets, const struct net_base_packet_slot *slots,
     size_t slots_length, size_t capacity);
 
-/* Removes the first slot in use, which the caller passes as `first`, with its bytes, and returns
+/** Removes the first slot in use, which the caller passes as `first`, with its bytes, and returns
  * the index of the first of these bytes. `first` must be the slot at the index `slots.read_at`:
  * that of the gap before the first packet, or that of the first packet if it has no gap. Only its
  * size is tested.
@@ -416,96 +439,92 @@ size_t net_base_packets_take_slot(
 
 /* Assemblers: sets of positions, stored as runs in memory that the caller keeps.
  *
- * At most as many runs are stored as the slice has elements.
+ * A head of zeros is new. At most as many runs are stored as the slice has elements.
  */
 
-/* What an assembler has besides its runs: how many there are, and where the first of them starts.
+/** What an assembler has besides its runs: how many there are, and where the first of them starts.
  */
 struct net_base_assembler {
+    /** How many runs are stored. */
     size_t used;
+    /** The position at which the first run starts, or 0 if there is none. */
     size_t first_start;
 };
 
-/* A range of positions that is stored as a run: from `start` on, up to `end`, which is not
+/** A range of positions that is stored as a run: from `start` on, up to `end`, which is not
  * included.
  */
 struct net_base_run {
+    /** The first position. */
     size_t start;
+    /** The position after the last one. */
     size_t end;
 };
 
-/* The length of the run at position 0, and whether the call was done. */
+/** The length of the run at position 0, and whether the call was done. */
 struct net_base_front_length {
-    /* `NET_BASE_DONE`, `NET_BASE_TOO_MANY_RUNS` or `NET_BASE_REFUSED`, and of
-     * `net_base_fragments_complete` also `NET_BASE_MISSING`.
-     */
-    uint32_t status;
-    /* How many positions the run has, 0 if position 0 is missing; of `net_base_fragments_complete`
-     * the packet's size. It is 0 if the call wasn't done.
-     */
+    /** `NET_BASE_DONE`, `NET_BASE_TOO_MANY_RUNS` or `NET_BASE_REFUSED`. */
+    enum net_base_status status;
+    /** How many positions the run has, 0 if position 0 is missing or the call wasn't done. */
     size_t length;
 };
 
-/* Returns whether `assembler` and `runs` are those of an assembler: there are `used` runs, which
- * rise, with a hole between neighbours; the first starts at 0; and each end fits a `size_t` also
- * with `first_start` added. It looks at each run.
+/** Makes `assembler` the head of an assembler with no position, whatever its runs. */
+void net_base_assembler_init(struct net_base_assembler *assembler);
+
+/** Returns whether the head is sound with these runs, for any numbers in both: there are `used`
+ * runs, which rise, with a hole between neighbours; the first starts at 0; and each end is a
+ * `size_t` with `first_start` added, too. It looks at each used run.
  */
 bool net_base_assembler_is_sound(
     const struct net_base_assembler *assembler, const struct net_base_run *runs,
     size_t runs_length);
 
-/* Removes every position: `used` and `first_start` are 0 then. Nothing is refused: this makes an
- * assembler of any memory.
- *
- * `first_start` is 0 whenever there is no run, as long as the head is changed only by calls. Runs
- * that aren't in use aren't read, and may be anything.
- */
-void net_base_assembler_clear(struct net_base_assembler *assembler);
-
-/* Adds the positions from `offset` to `offset + size - 1`; none if `size` is 0. Ranges that touch
+/** Adds the positions from `offset` to `offset + size - 1`; none if `size` is 0. Ranges that touch
  * form one run.
  *
- * Returns `NET_BASE_DONE`, or `NET_BASE_TOO_MANY_RUNS`, and nothing changes, if there would be more
- * runs than the slice has elements.
+ * Returns `NET_BASE_TOO_MANY_RUNS`, and changes nothing, if there would be more runs than the
+ * slice has elements.
  *
  * It is refused if `used` is above `runs_length`, or if `offset + size` doesn't fit a `size_t`:
  * `NET_BASE_REFUSED`, and nothing changes.
  *
  * Requires: head and runs are sound, as `net_base_assembler_is_sound` tests.
  */
-uint32_t net_base_assembler_add(
+NET_BASE_MUST_USE enum net_base_status net_base_assembler_add(
     struct net_base_assembler *assembler, struct net_base_run *runs, size_t runs_length,
     size_t offset, size_t size);
 
-/* Adds the positions from `offset` to `offset + size - 1`, then removes the run at position 0,
- * returns its length, and counts all later positions from its end. If position 0 is missing,
- * nothing is removed, and the length is 0.
+/** Adds the positions from `offset` to `offset + size - 1`, and then removes the run at position 0,
+ * returns its length, and counts all later positions from its end. If position 0 is missing, it
+ * removes nothing, and the length is 0.
  *
- * The status is `NET_BASE_DONE`, or `NET_BASE_TOO_MANY_RUNS` if `offset` isn't 0 and there would be
- * more runs than the slice has elements: then the length is 0, and nothing changes.
+ * Returns `NET_BASE_TOO_MANY_RUNS`, and changes nothing, if `offset` isn't 0 and there would be
+ * more runs than the slice has elements.
  *
- * It is refused if `used` is above `runs_length`, or if `offset + size` doesn't fit a `size_t`: the
- * status is `NET_BASE_REFUSED`, and the length 0, and nothing changes.
+ * It is refused if `used` is above `runs_length`, or if `offset + size` doesn't fit a `size_t`:
+ * the status is `NET_BASE_REFUSED`, and the length 0, and nothing changes.
  *
  * Requires: head and runs are sound, as `net_base_assembler_is_sound` tests.
  */
-struct net_base_front_length net_base_assembler_add_then_remove_front(
+NET_BASE_MUST_USE struct net_base_front_length net_base_assembler_add_then_remove_front(
     struct net_base_assembler *assembler, struct net_base_run *runs, size_t runs_length,
     size_t offset, size_t size);
 
-/* Removes the run at position 0, returns its length, and counts all later positions from its end.
- * If position 0 is missing, nothing is removed, and the length is 0.
+/** Removes the run at position 0, counts all later positions from its end, and returns its length.
+ *
+ * If position 0 is missing it returns 0, and head and runs stay as they were.
  *
  * It is refused if `used` is above `runs_length`: the status is `NET_BASE_REFUSED`, and length 0,
  * and nothing changes.
  *
  * Requires: head and runs are sound, as `net_base_assembler_is_sound` tests.
  */
-struct net_base_front_length net_base_assembler_remove_front(
+NET_BASE_MUST_USE struct net_base_front_length net_base_assembler_remove_front(
     struct net_base_assembler *assembler, struct net_base_run *runs, size_t runs_length);
 
-/* Removes the positions below `count`, counts the others from there, so that position `count` is
- * position 0 then, and returns true. A run that `count` cuts keeps what is at or after it.
+/** Removes the positions below `count`, and counts the others from there, so that position `count`
+ * is position 0 then. A run that `count` cuts keeps what is at or after it.
  *
  * It is refused if `used` is above `runs_length`: false, and nothing changes.
  *
@@ -515,28 +534,28 @@ bool net_base_assembler_shift(
     struct net_base_assembler *assembler, struct net_base_run *runs, size_t runs_length,
     size_t count);
 
-/* Returns the length of the run at position 0, which is 0 if position 0 is missing.
+/** Returns the length of the run at position 0, or 0 if position 0 is missing.
  *
  * It is refused if `used` is above `runs_length`: the status is `NET_BASE_REFUSED`, and length 0.
  *
  * Requires: head and runs are sound, as `net_base_assembler_is_sound` tests.
  */
-struct net_base_front_length net_base_assembler_peek_front(
+NET_BASE_MUST_USE struct net_base_front_length net_base_assembler_peek_front(
     const struct net_base_assembler *assembler, const struct net_base_run *runs,
     size_t runs_length);
 
-/* Returns `NET_BASE_PRESENT` if `position` is present, and `NET_BASE_MISSING` if it isn't.
+/** Returns whether `position` is present.
  *
- * It is refused if `used` is above `runs_length`: `NET_BASE_REFUSED`.
+ * It is refused if `used` is above `runs_length`: false.
  *
  * Requires: head and runs are sound, as `net_base_assembler_is_sound` tests.
  */
-uint32_t net_base_assembler_contains(
+bool net_base_assembler_contains(
     const struct net_base_assembler *assembler, const struct net_base_run *runs, size_t runs_length,
     size_t position);
 
-/* Returns the run with number `index`, counted from 0 in rising order: its start, and its end,
- * which isn't included. If there are no more than `index` runs, both are 0.
+/** Returns the maximal run with number `index`, counted from 0 in rising order, as (start, end),
+ * the end not included; zeros exactly if there are no more than `index`.
  *
  * It is refused if `used` is above `runs_length`: both are `NET_BASE_NONE`.
  *
@@ -546,9 +565,9 @@ struct net_base_run net_base_assembler_run_at(
     const struct net_base_assembler *assembler, const struct net_base_run *runs, size_t runs_length,
     size_t index);
 
-/* Returns the hole with number `index`, counted from 0 in rising order: its start, and its end,
- * which isn't included. Holes are the missing ranges below the end of the last run. If there are no
- * more than `index` holes, both are 0.
+/** Returns the hole with number `index`, counted from 0 in rising order, as (start, end), the end
+ * not included; zeros exactly if there are no more than `index`. Holes are the missing ranges
+ * below the end of the last run.
  *
  * It is refused if `used` is above `runs_length`: both are `NET_BASE_NONE`.
  *
@@ -558,166 +577,157 @@ struct net_base_run net_base_assembler_hole_at(
     const struct net_base_assembler *assembler, const struct net_base_run *runs, size_t runs_length,
     size_t index);
 
-/* Packets that arrive in fragments, as those of IPv4 do, over bytes and runs that the caller keeps.
+/* Packets that arrive in fragments, as those of IPv4 do, over bytes and runs that the caller
+ * keeps.
  *
- * A head of zeros, but for `expires_at`, is that of an empty buffer. The longest packet has as many
- * bytes as the storage. Fragments may overlap: at each position the byte is that of the last
- * fragment there. `present` is an assembler.
+ * A head of zeros is that of an empty buffer, whose packet is waited for up to moment 0. The
+ * longest packet has as many bytes as the storage. Fragments may overlap: at each position the
+ * byte is that of the last fragment there. `present` is an assembler.
  */
 
-/* What a buffer of fragments has besides its bytes and runs. */
+/** What a buffer of fragments has besides its bytes and runs. */
 struct net_base_fragments {
-    /* The positions that arrived: the head of an assembler. */
+    /** The positions that arrived: the head of an assembler. */
     struct net_base_assembler present;
-    /* Not 0 once the packet's size is known; this library writes 1 then. */
+    /** Not 0 once the packet's size is known; this library writes 1 then. */
     size_t has_total;
-    /* The packet's size in bytes, once it is known. */
+    /** The packet's size in bytes, once it is known. */
     size_t total;
-    /* The last moment at which the packet is waited for, in microseconds. */
+    /** The last moment at which the packet is waited for, in microseconds. */
     int64_t expires_at;
 };
 
-/* Returns whether `present` and the runs are those of an assembler, whose last run ends at
- * `capacity` or below, and at a known size or below, which is at most `capacity`. It looks at each
- * run.
+/** Makes `fragments` the head of an empty buffer, whose packet is waited for up to `expires_at`, in
+ * microseconds. It is sound for any memory.
+ */
+void net_base_fragments_init(struct net_base_fragments *fragments, int64_t expires_at);
+
+/** Returns whether head and runs are those of a buffer of `capacity` bytes, for any numbers:
+ * `present` and the runs are those of an assembler, which end at `capacity` or below, and at a
+ * known size or below, which is at most `capacity`. It looks at each used run.
  */
 bool net_base_fragments_is_sound(
     const struct net_base_fragments *fragments, size_t capacity, const struct net_base_run *runs,
     size_t runs_length);
 
-/* Starts over for a packet that is waited for up to `expires_at`, in microseconds: the other
- * numbers are 0 then. No head is refused: this makes one sound for any memory.
- */
-void net_base_fragments_reset(struct net_base_fragments *fragments, int64_t expires_at);
-
-/* Sets the packet's size to `size` bytes, in a storage of `capacity` bytes: `has_total` is 1 then,
- * whatever it was.
+/** Sets the packet's size to `size` bytes, of a buffer of `capacity` bytes.
  *
- * Returns `NET_BASE_DONE`; or, and nothing changes, `NET_BASE_TOO_LONG` if the storage has fewer
- * bytes, or else `NET_BASE_OTHER_SIZE` if another size is known, or a byte at `size` or above has
- * arrived.
+ * Returns `NET_BASE_TOO_LONG`, and changes nothing, if the buffer has fewer bytes, or else
+ * `NET_BASE_OTHER_SIZE` if another size is known, or a byte at `size` or above has arrived.
  *
  * It is refused if `present.used` is above `runs_length`: `NET_BASE_REFUSED`, and nothing changes.
  *
  * Requires: head and runs are sound, as `net_base_fragments_is_sound` tests.
  */
-uint32_t net_base_fragments_set_total_size(
+NET_BASE_MUST_USE enum net_base_status net_base_fragments_set_total_size(
     struct net_base_fragments *fragments, size_t capacity, const struct net_base_run *runs,
     size_t runs_length, size_t size);
 
-/* Adds a fragment, whose first byte is that of the packet at `offset`.
+/** Adds a fragment, whose first byte is that of the packet at `offset`. One without bytes has its
+ * end at `offset`, and adds nothing.
  *
- * Returns `NET_BASE_DONE`; or, and nothing changes, `NET_BASE_TOO_LONG` if the fragment reaches
- * past the storage's end, or else `NET_BASE_OTHER_SIZE` if it reaches past a known size, or else
- * `NET_BASE_TOO_MANY_RUNS` if there would be more runs than the slice has elements. A fragment
- * without bytes changes nothing, and has its end at `offset`.
+ * Returns `NET_BASE_TOO_LONG`, and changes nothing, if the fragment reaches past the buffer's end,
+ * or else `NET_BASE_OTHER_SIZE` if it reaches past a known size, or else `NET_BASE_TOO_MANY_RUNS`
+ * if there would be more runs than the slice has elements.
  *
  * It is refused if `present.used` is above `runs_length`, or a known size above `storage_length`:
  * `NET_BASE_REFUSED`, and nothing changes.
  *
  * Requires: head and runs are sound, as `net_base_fragments_is_sound` tests.
  */
-uint32_t net_base_fragments_add(
+NET_BASE_MUST_USE enum net_base_status net_base_fragments_add(
     struct net_base_fragments *fragments, uint8_t *storage, size_t storage_length,
     struct net_base_run *runs, size_t runs_length, size_t offset, const uint8_t *data,
     size_t data_length);
 
-/* Returns `NET_BASE_PRESENT` if a byte that arrived differs from that of the fragment whose first
- * byte is that of the packet at `offset`, and `NET_BASE_MISSING` if none does. The fragment need
- * not be within the storage.
+/** Returns whether a byte that arrived differs from that of the fragment whose first byte is that
+ * of the packet at `offset`. The fragment need not be within the buffer.
  *
  * It is refused if `present.used` is above `runs_length`, or a known size above `storage_length`:
- * `NET_BASE_REFUSED`.
+ * false.
  *
  * Requires: head and runs are sound, as `net_base_fragments_is_sound` tests.
  */
-uint32_t net_base_fragments_differs(
+bool net_base_fragments_differs(
     const struct net_base_fragments *fragments, const uint8_t *storage, size_t storage_length,
     const struct net_base_run *runs, size_t runs_length, size_t offset, const uint8_t *data,
     size_t data_length);
 
-/* Returns `NET_BASE_PRESENT` if one of the `count` positions from `offset` on has arrived, so that
- * a fragment there overlaps bytes that are present, and `NET_BASE_MISSING` if none has. If `offset
- * + count` doesn't fit a `size_t`, these are all positions from `offset` on.
+/** Returns whether one of the `count` positions from `offset` on has arrived: whether a fragment
+ * there overlaps bytes that are present. They need not be within the buffer.
  *
- * It is refused if `present.used` is above `runs_length`: `NET_BASE_REFUSED`.
+ * It is asked before `net_base_fragments_add`, by callers who refuse a packet whose fragments
+ * overlap (RFC 5722). A fragment that arrives twice overlaps too.
+ *
+ * It is refused if `present.used` is above `runs_length`: false.
  *
  * Requires: head and runs are sound, as `net_base_fragments_is_sound` tests.
  */
-uint32_t net_base_fragments_overlaps(
+bool net_base_fragments_overlaps(
     const struct net_base_fragments *fragments, const struct net_base_run *runs, size_t runs_length,
     size_t offset, size_t count);
 
-/* Returns whether `now` is after the last moment at which the packet is waited for. */
+/** Returns whether `now` is after the last moment at which the packet is waited for. */
 bool net_base_fragments_is_expired(const struct net_base_fragments *fragments, int64_t now);
 
-/* Returns the packet's size, if it is known and all its bytes have arrived: they are the first ones
- * of the storage, which has `capacity` bytes.
+/** Returns whether the packet's size is known and all its bytes have arrived, and if so writes the
+ * size to `size`: the packet's bytes are the first ones of the storage, which has `capacity`
+ * bytes.
  *
- * The status is `NET_BASE_DONE`, or `NET_BASE_MISSING` if the size isn't known or a byte is
- * missing, or `NET_BASE_REFUSED` if `present.used` is above `runs_length` or a known size above
- * `capacity`. If it isn't `NET_BASE_DONE`, the length is 0.
+ * It is refused if `present.used` is above `runs_length` or a known size above `capacity`: false,
+ * and nothing changes.
  *
  * Requires: head and runs are sound, as `net_base_fragments_is_sound` tests.
  */
-struct net_base_front_length net_base_fragments_complete(
+bool net_base_fragments_complete(
     const struct net_base_fragments *fragments, size_t capacity, const struct net_base_run *runs,
-    size_t runs_length);
+    size_t runs_length, size_t *size);
 
-/* Receivers of one stream of bytes, over a storage and runs that the caller keeps.
+/* What the receiver of a stream that ends has of the bytes, and the calls that look at it.
  *
- * A head of zeros, but for `first`, is that of a receiver of a stream that begins there, of which
- * nothing is read, queued or held. The queue is the ring of `place`. `next` is the first missing
- * position, which `net_base_receiver_next` writes. The held runs are those of the assembler `held`,
- * whose position 0 is `next`: the first of them starts `held.first_start` after it.
+ * The queue is the ring of `place`. The first missing position is `first`, plus the bytes read,
+ * plus those queued. The held runs are those of the assembler `held`, whose position 0 is that
+ * position: the first of them starts `held.first_start` after it.
  */
 
-/* What a receiver has besides its storage and its held runs: numbers. */
+/** What a receiver has besides its storage and its held runs: numbers. */
 struct net_base_receiver {
-    /* The position of the stream's first byte. */
+    /** The position of the stream's first byte. */
     uint64_t first;
-    /* How many bytes were read. */
+    /** How many bytes were read. */
     uint64_t count_read;
-    /* Where the queue is in the storage. */
+    /** Where the queue is in the storage. */
     struct net_base_ring place;
-    /* What the held runs are counted from, and how many there are. */
+    /** What the held runs are counted from, and how many there are. */
     struct net_base_assembler held;
 };
 
-/* A held run, by absolute positions: from `start` on, up to `end`, which is not included. */
+/** A held run, by absolute positions: from `start` on, up to `end`, which is not included. */
 struct net_base_held_run {
+    /** The first position. */
     uint64_t start;
+    /** The position after the last one. */
     uint64_t end;
 };
 
-/* How many bytes of a segment were kept, and how many joined the queue. */
-struct net_base_kept_counts {
-    /* How many bytes were kept: those of the segment whose positions are in the free window, and
-     * below an end that is known.
-     */
-    size_t kept;
-    /* How many bytes joined the queue: by how many positions the first missing position moved up.
-     */
-    size_t queued;
-};
-
-/* Returns whether these are the head, the storage and the runs of a receiver: `place` is that of a
- * ring of the storage, whose `read_at` is `count_read` modulo the capacity; `next` fits 64 bits;
- * `held` and the runs are those of an assembler without position 0; and each held position is in
- * the free window, and the one after it fits 64 bits. It looks at each run, and at no byte.
+/** Returns whether this head, a storage and runs are sound: `place` is that of a ring of the
+ * storage, whose `read_at` is `count_read` modulo the capacity; the first missing position fits 64
+ * bits; `held` and the runs are those of an assembler without position 0; and each held position
+ * is in the free window, and the one after it fits 64 bits. It looks at each held run, and at no
+ * byte.
  */
 bool net_base_receiver_is_sound(
     const struct net_base_receiver *receiver, const uint8_t *storage, size_t storage_length,
     const struct net_base_run *runs, size_t runs_length);
 
-/* Writes the first missing position to `next`: the first position, plus the bytes read, plus those
- * queued. Returns true.
+/** Writes to `next` the first missing position: the first position, plus the count of bytes read,
+ * plus those queued.
  *
  * It is refused if `next` doesn't fit 64 bits: false, and nothing changes.
  */
 bool net_base_receiver_next(const struct net_base_receiver *receiver, uint64_t *next);
 
-/* Returns the window, where the storage has `capacity` bytes: how many bytes have room after the
+/** Returns the window, where the storage has `capacity` bytes: how many bytes have room after the
  * queue, held ones among them.
  *
  * It is refused if `capacity` is `NET_BASE_NONE`, or if more than `capacity` elements are queued:
@@ -725,18 +735,9 @@ bool net_base_receiver_next(const struct net_base_receiver *receiver, uint64_t *
  */
 size_t net_base_receiver_window(const struct net_base_receiver *receiver, size_t capacity);
 
-/* Moves bytes from the head of the queue to the beginning of `into`, and returns how many: as many
- * as are queued and as `into` has room for. The rest of `into` stays as it is.
- *
- * It is refused if `receiver.place` isn't that of a ring of `storage_length` elements, or if `next`
- * doesn't fit 64 bits: `NET_BASE_NONE`, and nothing changes.
- */
-size_t net_base_receiver_read(
-    struct net_base_receiver *receiver, const uint8_t *storage, size_t storage_length,
-    uint8_t *into, size_t into_length);
-
-/* Copies bytes from the head of the queue to the beginning of `into`, and returns how many: as many
- * as are queued and as `into` has room for. The rest of `into` stays as it is, and the queue too.
+/** Copies bytes from the head of the queue to the beginning of `into`, and returns how many: as
+ * many as are queued and as `into` has room for. The rest of `into` stays as it is, and the queue
+ * too.
  *
  * It is refused if `receiver.place` isn't that of a ring of `storage_length` elements:
  * `NET_BASE_NONE`, and nothing changes.
@@ -745,25 +746,18 @@ size_t net_base_receiver_peek_slice(
     const struct net_base_receiver *receiver, const uint8_t *storage, size_t storage_length,
     uint8_t *into, size_t into_length);
 
-/* Removes `count` bytes from the head of the queue, as `net_base_receiver_read` does, but copies
- * none, and returns true; `net_base_ring_allocated` of `place` tells before where they are.
- *
- * It is refused if `receiver.place` isn't that of a ring of `capacity` elements, or if fewer than
- * `count` elements are queued, or if `next` doesn't fit 64 bits: false, and nothing changes.
- */
-bool net_base_receiver_remove(struct net_base_receiver *receiver, size_t capacity, size_t count);
-
-/* Lists held runs at the beginning of `into`, the newest first, and returns how many: as many as
- * are held, or as `into` has elements. The rest of `into` stays as it is.
+/** Lists held runs at the beginning of `into`, the newest first, and returns how many: as many as
+ * are held, or as `into` has elements. The rest of `into` stays as it is. The storage is for the
+ * contract only.
  *
  * The first is the run that has `position`, that of the segment just taken, if it is held; then
- * come the runs that have the positions in `recent`, in their order, and then the others, in rising
- * order; each comes once. The call writes the starts of the runs that it lists to the beginning of
- * `recent`, as many as there is room for. The caller sets `recent` to zeros before the first call,
- * and doesn't change it afterwards. It is enough if `recent` and `into` have as many elements in
- * each call as the longest acknowledgement has SACK blocks; a shorter one has the first of them.
- * RFC 2018, section 4, wants this order. The time grows with the number of runs times the number of
- * runs and of elements of `recent` together.
+ * come the runs that have the positions in `recent`, in their order, and then the others, in
+ * rising order; each comes once. The call writes the starts of the runs that it lists to the
+ * beginning of `recent`, as many as there is room for. The caller sets `recent` to zeros before
+ * the first call, and doesn't change it afterwards. It is enough if `recent` and `into` have as
+ * many elements in each call as the longest acknowledgement has SACK blocks; a shorter one has the
+ * first of them. RFC 2018, section 4, wants this order. The time grows with the number of runs
+ * times the number of runs and of elements of `recent` together.
  *
  * It is refused if `place` isn't that of a ring of `storage_length` bytes, `next` doesn't fit 64
  * bits, or `held.used` is above `runs_length`: `NET_BASE_NONE`, and nothing changes.
@@ -775,51 +769,7 @@ size_t net_base_receiver_newest_runs(
     const struct net_base_run *runs, size_t runs_length, uint64_t position, uint64_t *recent,
     size_t recent_length, struct net_base_held_run *into, size_t into_length);
 
-/* Returns how many bytes of a segment of `len` bytes at `position` would be new: those in the free
- * window whose positions are not held. Call it before `net_base_receiver_segment`, which also keeps
- * the segment's bytes whose positions are held already, and counts them. The result is 0 for a
- * duplicate, which TCP may report; it is also 0 for a segment that is beyond the free window or has
- * no byte. It looks at each run.
- *
- * It is refused if `place` isn't that of a ring of `storage_length` bytes, `next` doesn't fit 64
- * bits, or `held.used` is above `runs_length`, or if the segment doesn't end within 64 bits:
- * `NET_BASE_NONE`.
- *
- * Requires: head and runs are sound, as `net_base_receiver_is_sound` tests.
- */
-size_t net_base_receiver_count_new(
-    const struct net_base_receiver *receiver, const uint8_t *storage, size_t storage_length,
-    const struct net_base_run *runs, size_t runs_length, uint64_t position, size_t len);
-
-/* Keeps the bytes of a segment that are in the free window, and writes to `counts` how many. The
- * segment's first byte is at `position`.
- *
- * Returns `NET_BASE_DONE`, also if no byte is in the free window: then `kept` is 0. Returns
- * `NET_BASE_TOO_MANY_RUNS`, and nothing changes, if the segment has bytes in the free window, the
- * first missing position is not one of theirs, and with them there would be more runs than the
- * slice has elements.
- *
- * Returns `NET_BASE_REFUSED`, and nothing changes, if the segment doesn't end within 64 bits, if
- * `place` isn't that of a ring of `storage_length` bytes, if `next` doesn't fit 64 bits, or if
- * `held.used` is above `runs_length`.
- *
- * Requires: head, storage and runs are sound, as `net_base_receiver_is_sound` tests.
- */
-uint32_t net_base_receiver_segment(
-    struct net_base_receiver *receiver, uint8_t *storage, size_t storage_length,
-    struct net_base_run *runs, size_t runs_length, uint64_t position, const uint8_t *bytes,
-    size_t bytes_length, struct net_base_kept_counts *counts);
-
-/* Returns whether the end of the free window fits 64 bits, where the storage has `capacity` bytes,
- * and if so writes it to `end`: the first position for which there is no room, `next` plus the
- * window. No segment and no read lowers it.
- *
- * If more than `capacity` bytes are queued, it is refused: false, and nothing changes.
- */
-bool net_base_receiver_window_end(
-    const struct net_base_receiver *receiver, size_t capacity, uint64_t *end);
-
-/* Returns the held run with number `index`, counted from 0 in rising order. If there are no more
+/** Returns the held run with number `index`, counted from 0 in rising order. If there are no more
  * than `index`, start and end are 0.
  *
  * If `place` isn't that of a ring of `storage_length` bytes, `next` doesn't fit 64 bits, or
@@ -831,33 +781,37 @@ struct net_base_held_run net_base_receiver_run_at(
     const struct net_base_receiver *receiver, const uint8_t *storage, size_t storage_length,
     const struct net_base_run *runs, size_t runs_length, size_t index);
 
-/* Senders of one stream of bytes, over a storage that the caller keeps.
+/* Senders of a stream of bytes that doesn't end.
  *
- * A head of zeros, but for `first_unacknowledged`, is that of a sender of a stream that begins
- * there, to which nothing was written. The queue, of bytes that are not acknowledged, is the ring
- * of `place`. What SACK blocks report is kept in a scoreboard.
+ * A head of zeros is new, of a stream that begins at position 0. The queue, of bytes that are not
+ * acknowledged, is the ring of `place`. What SACK blocks report is kept in a scoreboard.
  */
 
-/* What a sender has besides its storage: numbers. */
+/** What a sender has besides its storage: numbers. */
 struct net_base_sender {
-    /* The position of the queue's first byte. */
+    /** The position of the queue's first byte. */
     uint64_t first_unacknowledged;
-    /* Where the queue is in the storage. */
+    /** Where the queue is in the storage. */
     struct net_base_ring place;
 };
 
-/* Returns whether this is the head of a sender over a storage of `capacity` bytes: `place` is that
- * of a ring of as many, and the position after the queue fits 64 bits.
+/** Makes `sender` the head of a sender of a stream that begins at position `first`, to which
+ * nothing was written. It is sound for every storage.
+ */
+void net_base_sender_init(struct net_base_sender *sender, uint64_t first);
+
+/** Returns whether this head is sound for a storage of `capacity` bytes: `place` is that of a ring
+ * of as many, and the position after the queue fits 64 bits.
  */
 bool net_base_sender_is_sound(const struct net_base_sender *sender, size_t capacity);
 
-/* Writes the position after the last byte that was written to `end`, and returns true.
+/** Writes to `end` the position after the last byte that was written.
  *
  * It is refused if the position after the queue doesn't fit 64 bits: false, and nothing changes.
  */
 bool net_base_sender_end(const struct net_base_sender *sender, uint64_t *end);
 
-/* Returns how many bytes `net_base_sender_write` would take: as many as have room in a storage of
+/** Returns how many bytes `net_base_sender_write` would take: as many as have room in a storage of
  * `capacity` bytes and below the last position, 2^64 - 1.
  *
  * It is refused if `capacity` is `NET_BASE_NONE`, or if `sender` isn't that of a sender over
@@ -865,8 +819,8 @@ bool net_base_sender_end(const struct net_base_sender *sender, uint64_t *end);
  */
 size_t net_base_sender_room(const struct net_base_sender *sender, size_t capacity);
 
-/* Enqueues the first of these bytes, as many as there is room for, and returns how many. An empty
- * queue is rewound before, also for no bytes: `place.read_at` becomes 0.
+/** Enqueues the first of these bytes, as many as `net_base_sender_room` says, and returns how many.
+ * An empty queue is rewound before, also for no bytes.
  *
  * It is refused if `sender` isn't that of a sender over `storage_length` bytes: `NET_BASE_NONE`,
  * and nothing changes.
@@ -875,8 +829,8 @@ size_t net_base_sender_write(
     struct net_base_sender *sender, uint8_t *storage, size_t storage_length, const uint8_t *bytes,
     size_t bytes_length);
 
-/* Returns where at most `max` queued bytes are, from the one at `position` on. The caller copies or
- * sends them. If that byte isn't queued, `count` and `contiguous` are 0, and `from` is any index.
+/** Returns where at most `max` queued bytes are, from the one at `position` on; none if the byte at
+ * `position` isn't queued. The storage has `capacity` bytes.
  *
  * It is refused if `sender` isn't that of a sender over `capacity` bytes: `from` is
  * `NET_BASE_NONE`, `count` and `contiguous` are 0.
@@ -884,28 +838,30 @@ size_t net_base_sender_write(
 struct net_base_span net_base_sender_peek_at(
     const struct net_base_sender *sender, size_t capacity, uint64_t position, size_t max);
 
-/* Drops the bytes below `next`, and returns whether it did: false, and nothing changes, if `next`
- * is below `first_unacknowledged` or above the position after the last byte.
+/** Drops the bytes below `next`, and returns whether it did: false, and nothing changes, if `next`
+ * is below `first_unacknowledged` or above `net_base_sender_end`. The storage has `capacity`
+ * bytes.
  *
  * It is refused if `sender` isn't that of a sender over `capacity` bytes: false, and nothing
  * changes.
  */
 bool net_base_sender_acknowledge(struct net_base_sender *sender, size_t capacity, uint64_t next);
 
-/* Moves the mark `sent`, the position after the last byte that was ever sent, up to `position`, if
- * that is above it, and returns true; false, and nothing changes, if `sent` or `position` is above
- * the position after the last byte that was written. The caller keeps the mark, which begins as the
- * position of the stream's first byte.
+/** Moves `sent`, the position after the last byte that was ever sent, up to `position`, if that is
+ * above it. Returns false, and changes nothing, if `sent` or `position` is above
+ * `net_base_sender_end`: no such byte was written.
+ *
+ * The caller keeps this mark. It begins as the position of the stream's first byte.
  *
  * It is refused if the position after the queue doesn't fit 64 bits: false, and nothing changes.
  */
 bool net_base_sender_mark_sent(
     const struct net_base_sender *sender, uint64_t *sent, uint64_t position);
 
-/* Drops the bytes below `next`, if they were sent, and returns whether it did: false, and nothing
- * changes, if `next` is below `first_unacknowledged` or above `sent`, or `sent` is above the
- * position after the last byte. `sent` is the position after the last byte that was ever sent, as
- * `net_base_sender_mark_sent` keeps it.
+/** Drops the bytes below `next`, as `net_base_sender_acknowledge` does, if they were sent: `sent`
+ * is the position after the last byte that was ever sent, as `net_base_sender_mark_sent` keeps it.
+ * Returns false, and changes nothing, if `next` is below `first_unacknowledged` or above `sent`,
+ * or `sent` is above `net_base_sender_end`.
  *
  * It is refused if `sender` isn't that of a sender over `capacity` bytes: false, and nothing
  * changes.
@@ -913,60 +869,62 @@ bool net_base_sender_mark_sent(
 bool net_base_sender_acknowledge_sent(
     struct net_base_sender *sender, size_t capacity, uint64_t next, uint64_t sent);
 
-/* Scoreboards: what a sender knows of the positions that the other end has, in runs that the caller
- * keeps.
+/* Scoreboards: what a sender knows of the positions that the other end has, in runs that the
+ * caller keeps.
  *
- * A head of zeros, but for `base`, is new: all positions below `base` count as reported. At most as
- * many runs are stored, beyond the first position that wasn't reported, as the slice has elements.
- * Each call but `net_base_scoreboard_reset` looks at each run, and refuses a scoreboard that isn't
- * sound.
+ * A head of zeros is new, of a stream that begins at position 0: all positions below `base` count
+ * as reported. At most as many runs are stored, beyond the first position that wasn't reported, as
+ * the slice has elements. Each call but `net_base_scoreboard_init` looks at each run, and refuses
+ * a scoreboard that isn't sound.
  */
 
-/* What a scoreboard has besides its runs. */
+/** What a scoreboard has besides its runs. */
 struct net_base_scoreboard {
-    /* The first position that wasn't reported. */
+    /** The first position that wasn't reported. */
     uint64_t base;
-    /* The positions beyond that were, counted from `base`: the head of an assembler. */
+    /** The positions beyond that were, counted from `base`: the head of an assembler. */
     struct net_base_assembler reported;
 };
 
-/* A range of positions that weren't reported, and whether the call was done. */
+/** A range of positions that weren't reported, and whether the call was done. */
 struct net_base_hole {
-    /* `NET_BASE_DONE` or `NET_BASE_REFUSED`. */
-    uint32_t status;
-    /* The first position; 0 if the call was refused. */
+    /** `NET_BASE_DONE` or `NET_BASE_REFUSED`. */
+    enum net_base_status status;
+    /** The first position; 0 if the call was refused. */
     uint64_t start;
-    /* The position after the last one; 0 if the call was refused. */
+    /** The position after the last one; 0 if the call was refused. */
     uint64_t end;
 };
 
-/* Returns whether the scoreboard is sound with these runs: `reported` and they are those of an
- * assembler, `base` isn't reported, and each end fits 64 bits.
+/** Makes `scoreboard` a scoreboard of a stream that begins at position `first`, to which nothing
+ * was reported, whatever its runs. All positions below `first` count as reported.
+ */
+void net_base_scoreboard_init(struct net_base_scoreboard *scoreboard, uint64_t first);
+
+/** Returns whether the scoreboard is sound with these runs, for any numbers in both: `reported` and
+ * they are those of an assembler, `base` isn't reported, and each end fits 64 bits. It looks at
+ * each used run.
  */
 bool net_base_scoreboard_is_sound(
     const struct net_base_scoreboard *scoreboard, const struct net_base_run *runs,
     size_t runs_length);
 
-/* Forgets all that was reported, for a stream that begins at position `first`: all positions below
- * it count as reported. Nothing is refused: this makes a scoreboard of any memory.
- */
-void net_base_scoreboard_reset(struct net_base_scoreboard *scoreboard, uint64_t first);
-
-/* Reports the positions from `start` on and below `end`, as a SACK block of an acknowledgement
- * does. Blocks may overlap. `sent` is the position after the last byte that was ever sent.
+/** Reports the positions from `start` on and below `end`, as a SACK block of an acknowledgement
+ * does. Blocks may overlap. Positions below `base` are known already.
  *
- * Returns `NET_BASE_DONE`, or `NET_BASE_TOO_MANY_RUNS`, and nothing changes, if the block begins
- * beyond the first position that wasn't reported, and there would be more runs beyond it than the
- * slice has elements, or it ends 2^32 or more above that position.
+ * Returns `NET_BASE_TOO_MANY_RUNS`, and changes nothing, if the block begins beyond `base`, and
+ * there would be more runs than the slice has elements. Then the block isn't known, and its bytes
+ * are sent again.
  *
- * It is refused if `start` isn't below `end`, or `end` is above `sent`, or if `scoreboard` isn't
- * sound with `runs`: `NET_BASE_REFUSED`, and nothing changes.
+ * It is refused if `start` isn't below `end`, `end` is above `sent`, or the block begins beyond
+ * `base` and ends 2^32 or more above it, or if `scoreboard` isn't sound with `runs`:
+ * `NET_BASE_REFUSED`, and nothing changes.
  */
-uint32_t net_base_scoreboard_report(
+NET_BASE_MUST_USE enum net_base_status net_base_scoreboard_report(
     struct net_base_scoreboard *scoreboard, struct net_base_run *runs, size_t runs_length,
     uint64_t start, uint64_t end, uint64_t sent);
 
-/* Reports all positions below `next`, whatever the number of runs, and returns true.
+/** Reports all positions below `next`, whatever the number of runs.
  *
  * It is refused if `scoreboard` isn't sound with `runs`: false, and nothing changes.
  */
@@ -974,28 +932,27 @@ bool net_base_scoreboard_acknowledge(
     struct net_base_scoreboard *scoreboard, struct net_base_run *runs, size_t runs_length,
     uint64_t next);
 
-/* Returns `NET_BASE_PRESENT` if `position` was reported, and `NET_BASE_MISSING` if it wasn't.
+/** Returns whether `position` was reported.
  *
- * It is refused if `scoreboard` isn't sound with `runs`: `NET_BASE_REFUSED`.
+ * It is refused if `scoreboard` isn't sound with `runs`: false.
  */
-uint32_t net_base_scoreboard_contains(
+bool net_base_scoreboard_contains(
     const struct net_base_scoreboard *scoreboard, const struct net_base_run *runs,
     size_t runs_length, uint64_t position);
 
-/* Returns the next range that wasn't reported, as a start and an end: it begins at the first
- * position from `position` on that wasn't, and ends at the next one that was, or at `limit`. If
- * there is none below `limit`, both are `limit`. Most of it may be in flight:
+/** Returns the next range that wasn't reported, as a start and an end: it begins at the first
+ * position from `position` on that wasn't reported, and ends at the next one that was, or at
+ * `limit`. If there is none below `limit`, both are `limit`. Most of it may be in flight:
  * `net_base_scoreboard_lost_below` gives the limit of what is lost.
  *
  * It is refused if `scoreboard` isn't sound with `runs`: the status is `NET_BASE_REFUSED`, and
  * start and end 0.
  */
-struct net_base_hole net_base_scoreboard_next_hole(
+NET_BASE_MUST_USE struct net_base_hole net_base_scoreboard_next_hole(
     const struct net_base_scoreboard *scoreboard, const struct net_base_run *runs,
     size_t runs_length, uint64_t position, uint64_t limit);
 
-/* Writes the position after the last one that was reported to `end`, which is `base` if no run is
- * stored, and returns true.
+/** Writes to `end` the position after the last one that was reported; 0 if none was.
  *
  * It is refused if `scoreboard` isn't sound with `runs`: false, and nothing changes.
  */
@@ -1003,7 +960,7 @@ bool net_base_scoreboard_highest_reported(
     const struct net_base_scoreboard *scoreboard, const struct net_base_run *runs,
     size_t runs_length, uint64_t *end);
 
-/* Returns how many positions were reported beyond the first one that wasn't, which is `base`.
+/** Returns how many positions were reported beyond the first one that wasn't, which is `base`.
  *
  * It is refused if `scoreboard` isn't sound with `runs`: `NET_BASE_NONE`.
  */
@@ -1011,10 +968,12 @@ size_t net_base_scoreboard_count_beyond(
     const struct net_base_scoreboard *scoreboard, const struct net_base_run *runs,
     size_t runs_length);
 
-/* Writes to `limit` the position below which all that wasn't reported is lost, by the rule of RFC
- * 6675, section 4, and returns true: from it on `duplicates` runs were reported (3 in TCP; 0 counts
- * as 1), or more bytes than `duplicates - 1` segments of `segment_size` bytes have. It is the start
- * of a stored run, the last one of which this holds, or 0 if nothing is lost.
+/** Writes to `limit` the position below which all that wasn't reported is lost, by the rule of RFC
+ * 6675, section 4: from it on `duplicates` runs were reported (3 in TCP; 0 counts as 1), or more
+ * bytes than `duplicates - 1` segments of `segment_size` bytes have. It is the start of a run, the
+ * last one of which this is so, or 0 if nothing is lost. A run counts as above a position if it
+ * begins above it; of a position that wasn't reported that is the RFC's rule exactly, by law
+ * `losses` of `net_receiver`.
  *
  * It is refused if `scoreboard` isn't sound with `runs`: false, and nothing changes.
  */
@@ -1022,63 +981,84 @@ bool net_base_scoreboard_lost_below(
     const struct net_base_scoreboard *scoreboard, const struct net_base_run *runs,
     size_t runs_length, size_t duplicates, size_t segment_size, uint64_t *limit);
 
-/* Receivers of a stream that ends. The end is the position after the last byte. It has a number, as
- * TCP's FIN has, and needs no room; `end` of the head is it, or `UINT64_MAX` while it isn't known.
+/* Receivers of a stream of bytes, which ends or not. The end is the position after the last byte.
+ * It has a number, as TCP's FIN has, and needs no room. It is known once a segment has said so; a
+ * stream whose segments never say so doesn't end.
  *
- * A new head has `end` set to `UINT64_MAX`, and is zeros but for `receiver.first` otherwise, which
- * is below that. `receiver` is a receiver, whose calls that only look may be made on it.
+ * A head of zeros is new, of a stream that begins at position 0. The calls of a receiver look at
+ * `receiver`.
  */
 
-/* What a receiver of a stream that ends has besides its storage and its held runs: numbers. */
+/** What a receiver of a stream that ends has besides its storage and its held runs: numbers. */
 struct net_base_finite_receiver {
-    /* The receiver of the bytes. */
+    /** The receiver of the bytes. */
     struct net_base_receiver receiver;
-    /* The position after the last byte, or the greatest number of 64 bits while it isn't known. */
-    uint64_t end;
+    /** The number after the end's, which is acknowledged once all has arrived, or 0 while the end
+     * isn't known.
+     */
+    uint64_t after_end;
 };
 
-/* Returns whether `receiver`, the storage and the runs are those of a receiver, and the position
- * after its last byte, held ones too, is at most `end` and below 2^64 - 1. It looks at each run,
- * and at no byte.
+/** How many bytes of a segment were kept, and how many joined the queue. */
+struct net_base_kept_counts {
+    /** How many bytes were kept: those of the segment whose positions are in the free window, and
+     * below an end that is known.
+     */
+    size_t kept;
+    /** How many bytes joined the queue: by how many positions the first missing position moved up.
+     */
+    size_t queued;
+};
+
+/** Makes `receiver` the head of a receiver of a stream that begins at position `first`; nothing has
+ * arrived. It is sound with every storage and all runs.
+ *
+ * It is refused if `first` is `UINT64_MAX`: false, and nothing changes.
+ */
+NET_BASE_MUST_USE bool net_base_finite_receiver_init(
+    struct net_base_finite_receiver *receiver, uint64_t first);
+
+/** Returns whether this head, a storage and runs are sound: they are those of a receiver, and the
+ * position after its last byte, held ones too, is at most the end, if that is known, and below
+ * 2^64 - 1. It looks at each held run, and at no byte.
  */
 bool net_base_finite_receiver_is_sound(
     const struct net_base_finite_receiver *receiver, const uint8_t *storage, size_t storage_length,
     const struct net_base_run *runs, size_t runs_length);
 
-/* Returns `NET_BASE_PRESENT` if the stream can end at `position`: it is the end that is known, or
- * none is, and it isn't below the first missing position or a held run's end. Otherwise
- * `NET_BASE_MISSING`, as of `UINT64_MAX`, which is no end.
+/** Returns whether the stream can end at `position`: it is the end that is known, or none is, and
+ * it isn't below the first missing position or a held run's end. 2^64 - 1 is no end.
  *
  * It is refused if `place` isn't that of a ring of `storage_length` bytes, `next` doesn't fit 64
- * bits, or `held.used` is above `runs_length`: `NET_BASE_REFUSED`.
+ * bits, or `held.used` is above `runs_length`: false.
  *
  * Requires: head and runs are sound, as `net_base_finite_receiver_is_sound` tests.
  */
-uint32_t net_base_finite_receiver_can_end(
+bool net_base_finite_receiver_can_end(
     const struct net_base_finite_receiver *receiver, const uint8_t *storage, size_t storage_length,
     const struct net_base_run *runs, size_t runs_length, uint64_t position);
 
-/* Returns `NET_BASE_PRESENT` if all bytes and the end have arrived, and `NET_BASE_MISSING` if not.
+/** Returns whether all bytes and the end have arrived. Once it is so it stays so.
  *
- * It is refused if the number after `next` doesn't fit 64 bits: `NET_BASE_REFUSED`.
+ * It is refused if the number after `next` doesn't fit 64 bits: false.
  */
-uint32_t net_base_finite_receiver_is_complete(const struct net_base_finite_receiver *receiver);
+bool net_base_finite_receiver_is_complete(const struct net_base_finite_receiver *receiver);
 
-/* Writes the number that an acknowledgement carries to `number`, and returns true: the first
- * missing position, or, once all bytes and the end have arrived, the end plus 1.
+/** Writes to `number` the number that an acknowledgement carries: the first missing position, or,
+ * once all bytes and the end have arrived, the end plus 1, since the end has a number.
  *
  * It is refused if the number after `next` doesn't fit 64 bits: false, and nothing changes.
  */
 bool net_base_finite_receiver_acknowledged(
     const struct net_base_finite_receiver *receiver, uint64_t *number);
 
-/* Returns `NET_BASE_PRESENT` if all bytes were read, up to the end, and `NET_BASE_MISSING` if not.
+/** Returns whether all bytes were read, up to the end. Once it is so it stays so.
  *
- * It is refused if the number after `next` doesn't fit 64 bits: `NET_BASE_REFUSED`.
+ * It is refused if the number after `next` doesn't fit 64 bits: false.
  */
-uint32_t net_base_finite_receiver_has_read_all(const struct net_base_finite_receiver *receiver);
+bool net_base_finite_receiver_has_read_all(const struct net_base_finite_receiver *receiver);
 
-/* Moves bytes from the head of the queue to the beginning of `into`, and returns how many: as many
+/** Moves bytes from the head of the queue to the beginning of `into`, and returns how many: as many
  * as are queued and as `into` has room for. The rest of `into` stays as it is.
  *
  * It is refused if `receiver.receiver.place` isn't that of a ring of `storage_length` elements, or
@@ -1088,9 +1068,8 @@ size_t net_base_finite_receiver_read(
     struct net_base_finite_receiver *receiver, const uint8_t *storage, size_t storage_length,
     uint8_t *into, size_t into_length);
 
-/* Removes `count` bytes from the head of the queue, as `net_base_finite_receiver_read` does, but
- * copies none, and returns true; `net_base_ring_allocated` of `receiver.place` tells before where
- * they are.
+/** Removes the first `count` bytes of the queue, as `net_base_finite_receiver_read` does, and
+ * copies none. `capacity` is how many bytes the storage has.
  *
  * It is refused if `receiver.receiver.place` isn't that of a ring of `capacity` elements, or if
  * fewer than `count` elements are queued, or if `next` doesn't fit 64 bits: false, and nothing
@@ -1099,12 +1078,14 @@ size_t net_base_finite_receiver_read(
 bool net_base_finite_receiver_remove(
     struct net_base_finite_receiver *receiver, size_t capacity, size_t count);
 
-/* Returns how many bytes of a segment of `len` bytes at `position` would be new: those in the free
- * window and below the end whose positions are not held. It looks at each run.
+/** Returns how many bytes of a segment of `len` bytes at `position` would be new: those in the free
+ * window and below the end whose positions are not held. It is asked before the segment is kept,
+ * since the bytes whose positions are held are kept again, and counted. The result is 0 for a
+ * duplicate, which TCP may report, for a segment that is beyond the free window, and for one
+ * without bytes. It looks at each held run.
  *
  * It is refused if `place` isn't that of a ring of `storage_length` bytes, `next` doesn't fit 64
- * bits, or `held.used` is above `runs_length`, or if the segment and an end after it don't fit 64
- * bits: `NET_BASE_NONE`.
+ * bits, or `held.used` is above `runs_length`: `NET_BASE_NONE`.
  *
  * Requires: head and runs are sound, as `net_base_finite_receiver_is_sound` tests.
  */
@@ -1112,24 +1093,30 @@ size_t net_base_finite_receiver_count_new(
     const struct net_base_finite_receiver *receiver, const uint8_t *storage, size_t storage_length,
     const struct net_base_run *runs, size_t runs_length, uint64_t position, size_t len);
 
-/* Keeps the bytes of a segment that are in the free window and below the end, as
- * `net_base_receiver_segment` does. `is_last` says that the stream ends after the segment; the end
- * is taken if it is at most the end of the free window.
+/** Keeps the bytes of a segment that are in the free window and below the end, and writes to
+ * `counts` how many. The segment's first byte is at `position`. `is_last` says that the stream
+ * ends after the segment; the end is taken if it is at most the end of the free window.
  *
- * Returns what `net_base_receiver_segment` does, and is refused where that is, and also if
- * `position` plus the number of bytes is 2^64 - 1 or more; or `NET_BASE_OTHER_END`, and nothing
- * changes, if the segment says that the stream ends where it can't, as
- * `net_base_finite_receiver_can_end` tells, also if there would be too many runs. A segment that is
- * refused for its runs doesn't set the end.
+ * Returns `NET_BASE_DONE`, also if no byte is in the free window: then `kept` is 0. Returns
+ * `NET_BASE_OTHER_END`, and nothing changes, if the segment says that the stream ends where it
+ * can't, as `net_base_finite_receiver_can_end` tells. Else returns `NET_BASE_TOO_MANY_RUNS`, and
+ * nothing changes, not the end either, if the segment has bytes in the free window, the first
+ * missing position is not one of theirs, and with them there would be more runs than the slice has
+ * elements.
+ *
+ * Bytes after which an end has no number are left out.
+ *
+ * Returns `NET_BASE_REFUSED`, and nothing changes, if `place` isn't that of a ring of
+ * `storage_length` bytes, if `next` doesn't fit 64 bits, or if `held.used` is above `runs_length`.
  *
  * Requires: head, storage and runs are sound, as `net_base_finite_receiver_is_sound` tests.
  */
-uint32_t net_base_finite_receiver_segment(
+NET_BASE_MUST_USE enum net_base_status net_base_finite_receiver_segment(
     struct net_base_finite_receiver *receiver, uint8_t *storage, size_t storage_length,
     struct net_base_run *runs, size_t runs_length, uint64_t position, const uint8_t *bytes,
     size_t bytes_length, bool is_last, struct net_base_kept_counts *counts);
 
-/* Writes the end of the free window to `end`, for what is announced, where the storage has
+/** Writes the end of the free window to `end`, for what is announced, where the storage has
  * `capacity` bytes, and returns true: never below the number that
  * `net_base_finite_receiver_acknowledged` writes, which is one above the free window's end where
  * the end is counted and the storage is full.
@@ -1140,45 +1127,55 @@ uint32_t net_base_finite_receiver_segment(
 bool net_base_finite_receiver_window_end(
     const struct net_base_finite_receiver *receiver, size_t capacity, uint64_t *end);
 
-/* Senders of a stream that ends. Once one is closed nothing can be written, and the end has the
- * number after the last byte's: it is sent and acknowledged as a byte is, and takes no room.
+/* Senders of a stream of bytes, which ends or not. Once one is closed nothing can be written, and
+ * the end has the number after the last byte's: it is sent and acknowledged as a byte is, and
+ * takes no room.
  *
- * A head of zeros, but for `sender.first_unacknowledged` and `sent`, which are equal then and below
- * 2^64 - 1, is new. A number is kept for the end.
+ * A head of zeros is new, of a stream that begins at position 0. The queue, of bytes that are not
+ * acknowledged, is the ring of `sender.place`. What SACK blocks report is kept in a scoreboard. A
+ * number is kept for the end.
  */
 
-/* What a sender of a stream that ends has besides its storage: numbers. */
+/** What a sender of a stream that ends has besides its storage: numbers. */
 struct net_base_finite_sender {
-    /* The sender of the bytes. */
+    /** The sender of the bytes. */
     struct net_base_sender sender;
-    /* 1 once it is closed, 0 before. */
+    /** 1 once it is closed, 0 before. */
     uint64_t closed;
-    /* 1 once the end is acknowledged, 0 before. */
+    /** 1 once the end is acknowledged, 0 before. */
     uint64_t finished;
-    /* The number after the last one that was ever sent. */
+    /** The number after the last one that was ever sent. */
     uint64_t sent;
 };
 
-/* Where the bytes of a segment are, and whether it ends the stream. */
+/** Where the bytes of a segment are, and whether it ends the stream. */
 struct net_base_segment_span {
-    /* The index of the first byte; `NET_BASE_NONE` if the call was refused. */
+    /** The index of the first byte; `NET_BASE_NONE` if the call was refused. */
     size_t from;
-    /* How many bytes are queued from the segment's position on, below its limit. */
+    /** How many bytes are queued from the segment's position on, below its limit. */
     size_t count;
-    /* How many of these are contiguous in the storage: the bytes of the segment. */
+    /** How many of these are contiguous in the storage: the bytes of the segment. */
     size_t contiguous;
-    /* Whether the segment ends the stream. */
+    /** Whether the segment ends the stream. */
     bool is_last;
 };
 
-/* Returns whether this is the head of a sender of a stream that ends over a storage of `capacity`
- * bytes: `sender` is that of a sender; `closed` and `finished` are 0 or 1, and `finished` is 1 only
- * if `closed` is and the queue is empty; and `sent` is from the first number that isn't
- * acknowledged up to the number after the last one, which fits 64 bits.
+/** Makes `sender` the head of a sender of a stream that begins at position `first`; nothing was
+ * written. It is sound for every storage.
+ *
+ * It is refused if `first` is `UINT64_MAX`: false, and nothing changes.
+ */
+NET_BASE_MUST_USE bool net_base_finite_sender_init(
+    struct net_base_finite_sender *sender, uint64_t first);
+
+/** Returns whether this head is sound for a storage of `capacity` bytes: `sender` is that of a
+ * sender; `closed` and `finished` are 0 or 1, and `finished` is 1 only if `closed` is and the
+ * queue is empty; and `sent` is from the first number that isn't acknowledged up to the number
+ * after the last one, which fits 64 bits.
  */
 bool net_base_finite_sender_is_sound(const struct net_base_finite_sender *sender, size_t capacity);
 
-/* Writes the first number that isn't acknowledged to `number`, and returns true.
+/** Writes to `number` the first number that isn't acknowledged.
  *
  * It is refused if `sender` isn't that of a sender over `capacity` bytes: false, and nothing
  * changes.
@@ -1186,8 +1183,8 @@ bool net_base_finite_sender_is_sound(const struct net_base_finite_sender *sender
 bool net_base_finite_sender_first_number(
     const struct net_base_finite_sender *sender, size_t capacity, uint64_t *number);
 
-/* Writes the number after the last byte's, and after the end's once the sender is closed, to
- * `number`, and returns true.
+/** Writes to `number` the number after the last byte's, and after the end's once the sender is
+ * closed.
  *
  * It is refused if `sender` isn't that of a sender over `capacity` bytes: false, and nothing
  * changes.
@@ -1195,16 +1192,16 @@ bool net_base_finite_sender_first_number(
 bool net_base_finite_sender_numbers_end(
     const struct net_base_finite_sender *sender, size_t capacity, uint64_t *number);
 
-/* Returns how many bytes `net_base_finite_sender_write` would take: none once the sender is closed.
- * The last number, 2^64 - 1, is kept for the end.
+/** Returns how many bytes `net_base_finite_sender_write` would take: none once the sender is
+ * closed. The last number, 2^64 - 1, is kept for the end.
  *
  * It is refused if `capacity` is `NET_BASE_NONE`, or if `sender` isn't that of a sender over
  * `capacity` bytes: `NET_BASE_NONE`.
  */
 size_t net_base_finite_sender_room(const struct net_base_finite_sender *sender, size_t capacity);
 
-/* Enqueues the first of these bytes, as many as `net_base_finite_sender_room` says, and returns how
- * many; once the sender is closed none, and nothing changes.
+/** Enqueues the first of these bytes, as many as `net_base_finite_sender_room` says, and returns
+ * how many.
  *
  * It is refused if `sender` isn't that of a sender over `storage_length` bytes: `NET_BASE_NONE`,
  * and nothing changes.
@@ -1213,18 +1210,18 @@ size_t net_base_finite_sender_write(
     struct net_base_finite_sender *sender, uint8_t *storage, size_t storage_length,
     const uint8_t *bytes, size_t bytes_length);
 
-/* Ends the stream after what was written, and returns true. A second call changes nothing.
+/** Ends the stream after what was written. A second call changes nothing.
  *
  * It is refused if `sender` isn't that of a sender over `capacity` bytes: false, and nothing
  * changes.
  */
 bool net_base_finite_sender_close(struct net_base_finite_sender *sender, size_t capacity);
 
-/* Returns where the bytes of a segment from `position` on are, as `net_base_sender_peek_at` does,
+/** Returns where the bytes of a segment from `position` on are, as `net_base_sender_peek_at` does,
  * and whether the segment ends the stream: the sender is closed, and the bytes end where it does.
  * Its numbers, the end's among them, are below `limit`: the end of the window is one, and
- * `position` plus the segment size another. A segment without bytes that ends the stream is the end
- * alone.
+ * `position` plus the segment size another. A segment at `position` without bytes that ends the
+ * stream is the end alone.
  *
  * It is refused if `sender` isn't that of a sender over `capacity` bytes: `from` is
  * `NET_BASE_NONE`, `count` and `contiguous` are 0, `is_last` is false.
@@ -1233,9 +1230,9 @@ struct net_base_segment_span net_base_finite_sender_peek_at(
     const struct net_base_finite_sender *sender, size_t capacity, uint64_t position,
     uint64_t limit);
 
-/* Returns what `net_base_finite_sender_peek_at` does, and notes that the segment was sent: `sent`
- * becomes the number after its last one, the end's counted, unless `sent` is above that. A segment
- * without numbers changes nothing.
+/** Returns what `net_base_finite_sender_peek_at` does, and notes that the segment was sent: `sent`
+ * is the number after its last one, the end's counted, unless that is below. It changes nothing if
+ * the segment has no number.
  *
  * It is refused if `sender` isn't that of a sender over `capacity` bytes: `from` is
  * `NET_BASE_NONE`, `count` and `contiguous` are 0, `is_last` is false, and nothing changes.
@@ -1243,9 +1240,9 @@ struct net_base_segment_span net_base_finite_sender_peek_at(
 struct net_base_segment_span net_base_finite_sender_send_at(
     struct net_base_finite_sender *sender, size_t capacity, uint64_t position, uint64_t limit);
 
-/* Notes that all numbers below `position` were sent, the end's among them if `position` is past it,
- * and returns true; false, and nothing changes, if `position` is above the number after the last
- * one.
+/** Notes that all numbers below `position` were sent, the end's among them if `position` is past
+ * it. Returns false, and changes nothing, if `position` is above
+ * `net_base_finite_sender_numbers_end`.
  *
  * It is refused if `sender` isn't that of a sender over `capacity` bytes: false, and nothing
  * changes.
@@ -1253,9 +1250,9 @@ struct net_base_segment_span net_base_finite_sender_send_at(
 bool net_base_finite_sender_mark_sent(
     struct net_base_finite_sender *sender, size_t capacity, uint64_t position);
 
-/* Drops the bytes below `next`, notes that the end is acknowledged if `next` is past it, and
- * returns true; false, and nothing changes, if `next` is below the first number that isn't
- * acknowledged or above what was sent.
+/** Drops the bytes below `next`, and notes that the end is acknowledged if `next` is past it.
+ * Returns false, and changes nothing, if `next` is below `net_base_finite_sender_first_number` or
+ * above what was sent.
  *
  * It is refused if `sender` isn't that of a sender over `capacity` bytes: false, and nothing
  * changes.
@@ -1263,368 +1260,350 @@ bool net_base_finite_sender_mark_sent(
 bool net_base_finite_sender_acknowledge(
     struct net_base_finite_sender *sender, size_t capacity, uint64_t next);
 
-/* Returns whether a SACK block can be right: it has a number, and none above those that were sent,
+/** Returns whether a SACK block can be right: it has a number, and none above those that were sent,
  * of which the end's is one.
  */
 bool net_base_finite_sender_is_block(
     const struct net_base_finite_sender *sender, uint64_t start, uint64_t end);
 
-/* Returns whether the sender is closed: whether `closed` is 1. */
+/** Returns whether the sender is closed. */
 bool net_base_finite_sender_is_closed(const struct net_base_finite_sender *sender);
 
-/* Returns whether all bytes and the end are acknowledged: whether `finished` is 1. */
+/** Returns whether all bytes and the end are acknowledged. Once it is so it stays so. */
 bool net_base_finite_sender_is_closed_and_acknowledged(const struct net_base_finite_sender *sender);
 
 /* What a TCP computes: acceptable segments, the scale of its window, the Internet checksum. */
 
-/* The positions and the flags of an arriving segment. */
+/** The positions and the flags of an arriving segment. */
 struct net_base_segment {
-    /* The position of its first byte, or of its SYN. */
+    /** The position of its first byte, or of its SYN. */
     uint64_t seq;
-    /* How many positions it has: its bytes, and one each for a SYN and a FIN. */
+    /** How many positions it has: its bytes, and one each for a SYN and a FIN. */
     uint64_t len;
-    /* Whether its flag SYN is set. */
+    /** Whether its flag SYN is set. */
     bool syn;
-    /* Whether its flag ACK is set. */
+    /** Whether its flag ACK is set. */
     bool ack;
-    /* Whether its flag RST is set. */
+    /** Whether its flag RST is set. */
     bool rst;
 };
 
-/* Returns whether a segment is acceptable to a receiver whose first missing position is `next`, and
- * which announced `window` positions from there on. The segment's first position is `seq`, and it
- * has `len` positions: its bytes, and one each for a SYN and a FIN.
- *
- * It is if it has a position within the window. If it has none at all it must be within the window
- * itself, or at `next` if the window is empty.
+/** What a sender sent of its stream, and what was acknowledged: the numbers that RFC 9293 calls
+ * SND.UNA and SND.NXT, as positions.
  */
-bool net_base_tcp_is_acceptable(uint64_t next, uint64_t window, uint64_t seq, uint64_t len);
+struct net_base_sent_numbers {
+    /** The first number that isn't acknowledged. */
+    uint64_t first_unacknowledged;
+    /** The number after the last one that was sent. */
+    uint64_t sent;
+};
 
-/* Returns what to do with a segment, for a receiver whose first missing position is `next`, and
- * which announced `window` positions from there on: `NET_BASE_TAKE`,
- * `NET_BASE_ACKNOWLEDGEMENT_ONLY`, `NET_BASE_ANSWER`, `NET_BASE_IGNORE` or `NET_BASE_RESET`, as RFC
- * 9293, section 3.10.7.4, has it. Resets and SYNs are answered as RFC 5961 has it: a reset counts
- * only at `next`.
+/** Returns what to do with a segment, for a receiver whose first missing position is `next`, and
+ * which announced `window` positions from there on, as RFC 9293, section 3.10.7.4, has it. Resets
+ * and SYNs are answered as RFC 5961 has it: a reset counts only at `next`.
  *
  * No position is in a window that is shut. Of a segment with positions that begins at `next` then,
- * as a probe does, the acknowledgement is taken all the same: otherwise two ends that both fill the
- * other's window never hear of one another. Whether a segment may acknowledge what it does is
+ * as a probe does, the acknowledgement is taken all the same: otherwise two ends that both fill
+ * the other's window never hear of one another. Whether a segment may acknowledge what it does is
  * tested afterwards, by `net_base_tcp_is_acknowledgement`.
  */
-uint32_t net_base_tcp_classify(
+NET_BASE_MUST_USE enum net_base_status net_base_tcp_classify(
     uint64_t next, uint64_t window, const struct net_base_segment *segment);
 
-/* Returns whether a segment may acknowledge `ack`: it isn't above `sent`, nor below
- * `first_unacknowledged` by more than the greatest window that the peer ever announced (RFC 5961,
- * section 5). If it may not, nothing of the segment is taken, and it is answered.
+/** Returns whether a segment may acknowledge `ack`: it isn't above what was sent, nor below the
+ * first unacknowledged position by more than the greatest window that the peer ever announced (RFC
+ * 5961, section 5). If it may not, nothing of the segment is taken, and it is answered.
  */
 bool net_base_tcp_is_acknowledgement(
-    uint64_t first_unacknowledged, uint64_t sent, uint64_t greatest_window, uint64_t ack);
+    const struct net_base_sent_numbers *numbers, uint64_t greatest_window, uint64_t ack);
 
-/* Returns the least scale by which this capacity, rounded down to a unit, can be announced, or 14
+/** Returns the least scale by which this capacity, rounded down to a unit, can be announced, or 14
  * if none can.
  */
 uint8_t net_base_tcp_scale_for(uint64_t capacity);
 
-/* Writes how many bytes the field of a segment announces to `bytes`, and returns true.
- *
- * It is refused if `scale` is above 14: false, and nothing changes.
+/** Returns how many bytes the field of a segment announces. A scale above 14 counts as 14, as RFC
+ * 7323, section 2.3, has it.
  */
-bool net_base_tcp_scaled(uint16_t field, uint8_t scale, uint64_t *bytes);
+uint64_t net_base_tcp_scaled(uint16_t field, uint8_t scale);
 
-/* Returns the checksum of these bytes. */
-uint16_t net_base_tcp_checksum(const uint8_t *bytes, size_t bytes_length);
-
-/* Returns whether these bytes, with their checksum among them at an even offset, are valid. No
- * bytes aren't.
- */
-bool net_base_tcp_is_checksum_valid(const uint8_t *bytes, size_t bytes_length);
-
-/* Returns the checksum of a message in which the word `old`, at an even offset, became `value`,
+/** Returns the checksum of a message in which the word `old`, at an even offset, became `value`,
  * from its checksum before (RFC 1624, equation 3); of one that is all zeros then, 0 in place of
- * 65535.
+ * 65535. Checksums and words are numbers: in a message the high byte comes first.
  */
 uint16_t net_base_tcp_updated_checksum(uint16_t checksum, uint16_t old, uint16_t value);
 
 /* What a receiver has announced.
  *
- * A head of zeros, but for `edge`, is new: nothing was announced, before the stream's byte at
- * position `edge`.
+ * A head of zeros is new, before the stream's byte at position 0: nothing was announced.
  */
 
-/* What a receiver has announced: how far its promise reaches. */
+/** What a receiver has announced: how far its promise reaches. */
 struct net_base_advertised_window {
-    /* The position after the last one that was ever promised. All from the first missing one up to
-     * it is acceptable.
-     */
+    /** The position after the last one that was ever promised. */
     uint64_t edge;
 };
 
-/* Returns what to do with a segment, as `net_base_tcp_classify` does, in the window that was
- * announced: from `next`, the first missing position, up to `edge`, whatever is free now.
+/** Makes `advertised` a window of which nothing was announced, before the byte at `first`. */
+void net_base_advertised_window_init(struct net_base_advertised_window *advertised, uint64_t first);
+
+/** Returns what to do with a segment, as `net_base_tcp_classify` says, in the window that was
+ * announced: from `next`, the first missing position, up to the edge, whatever is free now.
  */
-uint32_t net_base_advertised_window_classify(
+NET_BASE_MUST_USE enum net_base_status net_base_advertised_window_classify(
     const struct net_base_advertised_window *advertised, uint64_t next,
     const struct net_base_segment *segment);
 
-/* Writes the number to announce to `number`, in units of 2^`scale`, and returns true; `next` is the
- * first missing position, and `window_end` the end of the free room. It is the greatest that
- * doesn't promise more than there is. In a segment with a SYN the scale is 0.
+/** Writes to `number` the number to announce, in units of 2^`scale`, if `next` is the first missing
+ * position and `window_end` the end of the free room: the greatest that doesn't promise more than
+ * there is. In a segment with a SYN the scale is 0. A scale above 14 counts as 14 (RFC 7323,
+ * section 2.3).
  *
- * No number keeps a promise whose rest isn't a multiple of the unit, unless there is room up to the
- * next multiple: at one scale the number may then be less than what was promised, by less than a
- * unit. What was promised is still acceptable, and `edge` stays.
+ * No number keeps a promise whose rest is not a multiple of the unit, unless there is room up to
+ * the next multiple: at one scale the number may then be less than what was promised, by less than
+ * a unit. What was promised is still acceptable, and `edge` stays.
  *
- * It is refused if `scale` is above 14, or if `window_end` is below `next`: false, and nothing
- * changes.
+ * It is refused if `window_end` is below `next`: false, and nothing changes.
  */
 bool net_base_advertised_window_announce(
     struct net_base_advertised_window *advertised, uint8_t scale, uint64_t next,
     uint64_t window_end, uint16_t *number);
 
-/* Writes the number to announce in a segment that is sent anyway, as
+/** Writes to `number` the number to announce in a segment that is sent anyway, as
  * `net_base_advertised_window_announce` does, but moves the edge beyond `next` only if an update
- * would be due: otherwise it announces what was promised before, rounded down. So the edge grows by
- * what is worth an update, or only up to `next` (RFC 9293, section 3.8.6.2.2).
+ * would be due: otherwise it announces what was promised before, rounded down. So the edge grows
+ * by what is worth an update, or only up to `next` (RFC 9293, section 3.8.6.2.2).
  *
- * It is refused if `scale` is above 14, or if `window_end` is below `next`: false, and nothing
- * changes.
+ * It is refused if `window_end` is below `next`: false, and nothing changes.
  */
 bool net_base_advertised_window_announce_in_steps(
     struct net_base_advertised_window *advertised, uint8_t scale, uint64_t next,
     uint64_t window_end, uint64_t capacity, uint16_t mss, uint16_t *number);
 
-/* Returns `NET_BASE_PRESENT` if an update is worth a segment of its own, and `NET_BASE_MISSING` if
- * it isn't: whether the edge would move, from where it is, below `next` too, by half of the
- * receiver's capacity, rounded up, or by one segment of `mss` bytes, and by 1 at least.
+/** Returns whether an update is worth a segment of its own: whether the edge would move, from where
+ * it is, below `next` too, by half of the receiver's capacity, rounded up, or by one segment of
+ * `mss` bytes, and by 1 at least.
  *
- * It is refused if `scale` is above 14, or if `window_end` is below `next`: `NET_BASE_REFUSED`.
+ * It is refused if `window_end` is below `next`: false.
  */
-uint32_t net_base_advertised_window_is_update_due(
+bool net_base_advertised_window_is_update_due(
     const struct net_base_advertised_window *advertised, uint8_t scale, uint64_t next,
     uint64_t window_end, uint64_t capacity, uint16_t mss);
 
-/* The window that the peer announced.
+/* The window that the peer announced, and the segment that it is from.
  *
  * A head of zeros is that before any segment: nothing may be sent but a probe, and no segment is
  * older.
  */
 
-/* The window that the peer announced, and the segment that it is from. It is kept as its right
- * edge, a position. One of zeros lets nothing be sent but a probe, and no segment is older.
+/** The window that the peer announced, and the segment that it is from. It is kept as its right
+ * edge, a position.
  */
 struct net_base_peer_window {
-    /* The position after the last that may be sent. */
+    /** The position after the window's last one. */
     uint64_t edge;
-    /* The position of the segment's first byte, in the peer's stream. */
+    /** The position of the segment that the window is from, by the peer's numbers. */
     uint64_t seq;
-    /* The position that it acknowledged. */
+    /** The position that this segment acknowledged. */
     uint64_t ack;
 };
 
-/* Takes over the window of an acceptable segment, unless that is older than the one before, or
- * acknowledges a position below `first_unacknowledged` or above `sent`. Returns whether it did. A
- * window may shrink. It is older if its `seq` is below that of the head, or equal and its `ack` is.
- * The new edge is `ack + window`, or `UINT64_MAX` if that is above it.
+/** What a segment announces: the window from the position that it acknowledges on, and the numbers
+ * by which its age is told.
+ */
+struct net_base_announcement {
+    /** The position of the segment's first byte, in the peer's stream. */
+    uint64_t seq;
+    /** The position that it acknowledges. */
+    uint64_t ack;
+    /** How many bytes may be sent from there on, as `scaled` returns it. */
+    uint64_t window;
+};
+
+/** Makes `peer` the window before any segment: nothing may be sent but a probe, and no segment is
+ * older.
+ */
+void net_base_peer_window_init(struct net_base_peer_window *peer);
+
+/** Takes over the window of an acceptable segment, unless it acknowledges a position below the
+ * first unacknowledged one or above what was sent, or is older than the one before and
+ * acknowledges no more. Returns whether it did. A window may shrink.
+ *
+ * RFC 9293 takes none of an older number. So one forged segment ahead in the window would shut out
+ * each later one. It makes no difference whether the sender takes what the segment acknowledges
+ * before this call or after it.
  */
 bool net_base_peer_window_update(
-    struct net_base_peer_window *peer, uint64_t first_unacknowledged, uint64_t sent, uint64_t seq,
-    uint64_t ack, uint64_t window);
+    struct net_base_peer_window *peer, const struct net_base_sent_numbers *numbers,
+    const struct net_base_announcement *it);
 
-/* Returns how many bytes from `position` on may be sent: none if the edge is at or below it, as it
+/** Returns how many bytes from `position` on may be sent: none if the edge is at or below it, as it
  * may be after the window shrank.
  */
 uint64_t net_base_peer_window_usable(const struct net_base_peer_window *peer, uint64_t position);
 
-/* Returns the end of what may be sent of the bytes below `end`. */
+/** Returns the end of what may be sent of the bytes below `end`. */
 uint64_t net_base_peer_window_send_limit(const struct net_base_peer_window *peer, uint64_t end);
 
-/* Returns whether a probe may be sent, the one byte at `first_unacknowledged`: the window has
+/** Returns whether a probe may be sent, the one byte at `first_unacknowledged`: the window has
  * closed, and there are bytes below `end` that wait.
  */
 bool net_base_peer_window_is_probe_allowed(
     const struct net_base_peer_window *peer, uint64_t first_unacknowledged, uint64_t end);
 
-/* Returns the number of a segment without positions, as an acknowledgement is: `sent`, or the end
- * of the window if that is below it, or `first_unacknowledged` if the window ends before that.
+/** Returns the number of a segment without positions, as an acknowledgement is: `sent`, or the end
+ * of the window if that is below it, or the first unacknowledged position if the window ends
+ * before that.
  *
  * A peer whose window is shut takes no number beyond it, though a probe was sent there, nor what
  * such a segment acknowledges.
  */
 uint64_t net_base_peer_window_acknowledgement_number(
-    const struct net_base_peer_window *peer, uint64_t first_unacknowledged, uint64_t sent);
+    const struct net_base_peer_window *peer, const struct net_base_sent_numbers *numbers);
 
-/* The time until a retransmission (RFC 6298), in microseconds.
+/* The time until a retransmission (RFC 6298), and its timer, with the one segment that is timed
+ * for a sample. Lengths of time are in microseconds, and so are moments, of one clock.
  *
- * A head of zeros, but for `timeout`, is new: there was no sample. The RFC begins with 1 second.
+ * A timer of zeros is new: there was no sample, the timer doesn't run, no segment is timed, and
+ * the timeout is 1 second, which the RFC begins with. A call writes the fields that it changes: 0
+ * where there is nothing, and 0 or 1 in a flag.
  */
 
-/* An estimate of the time of a round trip. */
+/** An estimate of the time of a round trip; zeros are none. */
 struct net_base_rtt_estimate {
-    /* Eight times the smoothed time. */
+    /** Eight times the smoothed time. No more than 2^63 of it counts, which samples don't exceed.
+     */
     uint64_t srtt_8;
-    /* Four times its variation. */
+    /** Four times its variation. No more than 2^62 of it counts. */
     uint64_t rttvar_4;
 };
 
-/* The time until a retransmission. Its numbers but `timeout` are 0 before any sample. */
+/** The time until a retransmission. */
 struct net_base_retransmission_timeout {
-    /* The estimate, once there was a sample. */
+    /** The estimate, once there was a sample. */
     struct net_base_rtt_estimate estimate;
-    /* Not 0 once there was a sample; this library writes 1 then. */
+    /** Not 0 once there was a sample. */
     uint64_t has_estimate;
-    /* The timeout. */
+    /** The timeout. 0 counts as 1 second. */
     uint64_t timeout;
 };
 
-/* The bounds of a timeout, and the tick of the clock that the samples are read from. */
-struct net_base_timeout_bounds {
-    /* The least timeout. */
-    uint64_t least;
-    /* The greatest, unless `least` is above it. */
-    uint64_t most;
-    /* The time between two ticks of the clock. */
-    uint64_t tick;
-};
-
-/* Returns whether the estimate, if there is one, has room for a sample: `srtt_8` is at most 2^63,
- * and `rttvar_4` at most 2^62. Any has that was made by samples.
- */
-bool net_base_retransmission_timeout_is_small(const struct net_base_retransmission_timeout *timer);
-
-/* Takes over a sample, the time from when a segment was sent until it was acknowledged, of which at
- * most 2^60 count, and returns true. The segment was sent once: of one that was sent again it isn't
- * known which of the copies was acknowledged.
- *
- * After the first sample `srtt_8` is 8 times it, and `rttvar_4` 2 times. After another one, with
- * quotients rounded down, `srtt_8` is less by an eighth of it and more by the sample, and
- * `rttvar_4` less by a quarter of it and more by how far the sample is from an eighth of the old
- * `srtt_8`. The timeout is that of `net_base_rtt_estimate_timeout` then.
- *
- * It is refused if the estimate of `timer` has no room for a sample: false, and nothing changes.
- */
-bool net_base_retransmission_timeout_take_sample(
-    struct net_base_retransmission_timeout *timer, const struct net_base_timeout_bounds *bounds,
-    uint64_t time);
-
-/* Doubles the timeout within the bounds, after it passed. */
-void net_base_retransmission_timeout_expired(
-    struct net_base_retransmission_timeout *timer, const struct net_base_timeout_bounds *bounds);
-
-/* The timer of retransmissions (RFC 6298, section 5), and the one segment that is timed for a
- * sample. Moments are in microseconds of one clock.
- *
- * A head of zeros, but for `timeout.timeout`, is new: it doesn't run, and no segment is timed.
- */
-
-/* The timer of retransmissions, by the rules of RFC 6298, section 5, and the one segment that is
- * timed for a sample. Its numbers but `timeout` are 0 at first. Moments are in microseconds of one
- * clock.
- */
+/** The timer of retransmissions. */
 struct net_base_retransmission_timer {
-    /* The timeout. */
+    /** The timeout. */
     struct net_base_retransmission_timeout timeout;
-    /* When it expires, while it runs. */
-    uint64_t expiry;
-    /* Not 0 while it runs; this library writes 1 then. */
+    /** When it expires, while it runs. */
+    int64_t expiry;
+    /** Not 0 while it runs. */
     uint64_t is_running;
-    /* The position of the timed segment, if there is one. */
+    /** The position of the timed segment, if there is one. */
     uint64_t timed;
-    /* When that was sent. */
-    uint64_t timed_since;
-    /* Not 0 while a segment is timed; this library writes 1 then. */
+    /** When that was sent. */
+    int64_t timed_since;
+    /** Not 0 while a segment is timed. */
     uint64_t is_timing;
 };
 
-/* Starts the timer, unless it runs: it expires the timeout from `now` on, at `UINT64_MAX` if that
+/** The bounds of a timeout, and the tick of the clock that the samples are read from. */
+struct net_base_timeout_bounds {
+    /** The least timeout. */
+    uint64_t least;
+    /** The greatest, unless `least` is above it. */
+    uint64_t most;
+    /** The time between two ticks of the clock. */
+    uint64_t tick;
+};
+
+/** Makes `timer` a timer that doesn't run, with a timeout before any sample. 0 counts as 1 second,
+ * which the RFC has.
+ */
+void net_base_retransmission_timer_init(
+    struct net_base_retransmission_timer *timer, uint64_t timeout);
+
+/** Starts the timer, unless it runs: it expires the timeout from `now` on, at `INT64_MAX` if that
  * is above it.
  */
-void net_base_retransmission_timer_start(struct net_base_retransmission_timer *timer, uint64_t now);
+void net_base_retransmission_timer_start(struct net_base_retransmission_timer *timer, int64_t now);
 
-/* Stops the timer. A segment that is timed stays so. */
+/** Stops the timer. A segment that is timed stays so. */
 void net_base_retransmission_timer_stop(struct net_base_retransmission_timer *timer);
 
-/* Takes notice that the positions from `position` on and below `end` are sent `now`, and starts the
- * timer, unless it runs. `sent` is the position after the last that was sent before. Nothing
- * changes if there are no positions.
+/** Takes notice that the positions from `position` on and below `end` are sent `now`, and starts
+ * the timer, unless it runs. `numbers` are the sender's before that. Nothing changes if there are
+ * no positions.
  *
- * If no segment is timed, one that begins at `sent` or above is then. One that was timed is no
+ * If no segment is timed, one of which nothing was sent before is then. One that was timed is no
  * longer if it is sent again: which of the copies an acknowledgement is for is not known (Karn).
  */
 void net_base_retransmission_timer_sent(
-    struct net_base_retransmission_timer *timer, uint64_t position, uint64_t end, uint64_t sent,
-    uint64_t now);
+    struct net_base_retransmission_timer *timer, uint64_t position, uint64_t end,
+    const struct net_base_sent_numbers *numbers, int64_t now);
 
-/* Takes the sample of the timed segment, if there is one, since it has arrived, and returns true:
+/** Takes the sample of the timed segment, if there is one, since it has arrived:
  * `net_base_retransmission_timer_acknowledged` does so of what is acknowledged; a SACK block may
  * say so before.
- *
- * It is refused if the estimate of `timer.timeout` has no room for a sample: false, and nothing
- * changes.
  */
-bool net_base_retransmission_timer_take_sample(
+void net_base_retransmission_timer_take_sample(
     struct net_base_retransmission_timer *timer, const struct net_base_timeout_bounds *bounds,
-    uint64_t now);
+    int64_t now);
 
-/* Takes an acknowledgement of all positions below `next`, and returns true. It takes the sample of
- * the timed segment, if that is below; then, if `next` is `sent` or above, it stops the timer, and
- * otherwise, if it is above `first_unacknowledged`, starts it again. A repeated acknowledgement
- * does neither.
+/** Takes an acknowledgement of all positions below `next`: the sample of the timed segment, if that
+ * is below; then, if it acknowledges something new, it stops the timer if all that was sent is
+ * below `next`, and otherwise starts it again. A repeated acknowledgement does neither.
  *
- * `first_unacknowledged` and `sent` are the sender's before it takes the acknowledgement.
- *
- * It is refused if the estimate of `timer.timeout` has no room for a sample: false, and nothing
- * changes.
+ * `numbers` are the sender's before it takes the acknowledgement.
  */
-bool net_base_retransmission_timer_acknowledged(
+void net_base_retransmission_timer_acknowledged(
     struct net_base_retransmission_timer *timer, const struct net_base_timeout_bounds *bounds,
-    uint64_t first_unacknowledged, uint64_t sent, uint64_t next, uint64_t now);
+    const struct net_base_sent_numbers *numbers, uint64_t next, int64_t now);
 
-/* If the timer has expired, doubles the timeout within the bounds, starts it again, and times no
+/** If the timer has expired, doubles the timeout within the bounds, starts it again, and times no
  * segment any longer. Returns whether it had: then the first segment that isn't acknowledged is to
  * be sent again. Otherwise nothing changes.
  */
 bool net_base_retransmission_timer_expire(
     struct net_base_retransmission_timer *timer, const struct net_base_timeout_bounds *bounds,
-    uint64_t now);
-
-/* Estimates of the time of a round trip: `estimate` of a timeout, once it `has_estimate`; zeros are
- * none.
- */
-
-/* Returns the timeout that it gives within the bounds: an eighth of `srtt_8`, rounded down, plus
- * the greater of `rttvar_4` and `tick`. A sum above `UINT64_MAX` is that. If `least` is above
- * `most`, it is `least`.
- */
-uint64_t net_base_rtt_estimate_timeout(
-    const struct net_base_rtt_estimate *estimate, const struct net_base_timeout_bounds *bounds);
+    int64_t now);
 
 /* The Internet checksum of a message in parts, such as a pseudo-header, a header and data.
  *
  * A head of zeros is new: no bytes were added.
  */
 
-/* The sum of the bytes of several parts of a message, one after another, of any lengths. One of
+/** The sum of the bytes of several parts of a message, one after another, of any lengths. One of
  * zeros is that of no bytes.
  */
 struct net_base_parts_sum {
-    /* The sum of the words, folded to 16 bits; 0 only if that sum is 0. */
-    uint64_t sum;
-    /* 1 if the next byte is the low byte of a word, 0 if it is the high one. */
-    uint64_t odd;
+    /** The sum of the words, folded to 16 bits; 0 only if that sum is 0. */
+    uint16_t sum;
+    /** Whether the next byte is the low byte of a word. */
+    bool odd;
 };
 
-/* Adds the bytes that follow those which were added. */
+/** Makes `sum` the sum of no bytes. */
+void net_base_parts_sum_init(struct net_base_parts_sum *sum);
+
+/** Adds the bytes that follow those which were added. */
 void net_base_parts_sum_add(
     struct net_base_parts_sum *sum, const uint8_t *part, size_t part_length);
 
-/* Returns the checksum of the bytes that were added. */
+/** Returns the checksum of the bytes that were added. It is a number: in a message its high byte
+ * comes first.
+ */
 uint16_t net_base_parts_sum_checksum(const struct net_base_parts_sum *sum);
 
-/* Returns whether the bytes that were added, with a checksum among them at an even offset, are
- * valid. No bytes aren't.
+/** Returns whether the bytes that were added, with a checksum among them at an even offset, are
+ * valid. No bytes are not.
  */
 bool net_base_parts_sum_is_valid(const struct net_base_parts_sum *sum);
+
+/** Writes the checksum of the bytes that were added to the first two bytes of `into`, as a message
+ * has it, the high byte first, and returns true. The rest of `into` stays as it is.
+ *
+ * It is refused if `into` has fewer than two bytes: false, and nothing changes.
+ */
+bool net_base_parts_sum_write_checksum(
+    const struct net_base_parts_sum *sum, uint8_t *into, size_t into_length);
 
 /* Random words, drawn from a state that the caller keeps. Any state is allowed; the words are not
  * fit for cryptography. The generator is smoltcp's, sPCG32: a step multiplies the state by
@@ -1632,15 +1611,15 @@ bool net_base_parts_sum_is_valid(const struct net_base_parts_sum *sum);
  * (29 - (state >> 61))`.
  */
 
-/* Steps `state` to the next one, and returns its random word, of 32 bits. */
+/** Steps `state` to the next one, and returns its random word, of 32 bits. */
 uint32_t net_base_rand_u32(uint64_t *state);
 
-/* Draws 16 bits until a draw is above 1024, and returns it. It returns from every state, after at
+/** Draws 16 bits until a draw is above 1024, and returns it. It returns from every state, after at
  * most 2^64 draws.
  */
 uint16_t net_base_rand_source_port(uint64_t *state);
 
-/* Steps `state` to the next one, and returns its random word times `bound`, divided by 2^32 and
+/** Steps `state` to the next one, and returns its random word times `bound`, divided by 2^32 and
  * rounded down: a number below `bound`. Each number below `bound` is the result for equally many
  * words, or for one more.
  *
@@ -1653,12 +1632,12 @@ uint64_t net_base_rand_below(uint64_t *state, uint32_t bound);
  * A receiver and a sender count in positions; TCP's segments have numbers. If position 0 has the
  * number `initial`, each position has one number, and a number has at most one position near a
  * given one. In TCP segments with numbers before that of the first byte arrive too, as old
- * duplicates. If the first byte has position 0, no position near 0 has such a number. If it has the
- * position 2^32 + its number, each has one: then `initial` is 0, and the low 32 bits of a position
- * are its number.
+ * duplicates. If the first byte has position 0, no position near 0 has such a number. If it has
+ * the position 2^32 + its number, each has one: then `initial` is 0, and the low 32 bits of a
+ * position are its number.
  */
 
-/* Returns whether a position near `next` has a number, if position 0 has the number `initial`, and
+/** Returns whether a position near `next` has a number, if position 0 has the number `initial`, and
  * if so writes it to `position`: it is less than 2^31 after `next`, or at most 2^31 before it.
  */
 bool net_base_sequence_number_position(
@@ -1670,15 +1649,15 @@ bool net_base_sequence_number_position(
  * overflows if C computes it.
  */
 
-/* Returns `instant + duration`, or `INT64_MAX` if that is above it. */
+/** Returns `instant + duration`, or `INT64_MAX` if that is above it. */
 int64_t net_base_instant_saturating_add(int64_t instant, uint64_t duration);
 
-/* Returns how far apart two moments are, whichever is the later one. Any two have a distance. */
+/** Returns how far apart two moments are, whichever is the later one. Any two have a distance. */
 uint64_t net_base_instant_distance(int64_t instant, int64_t other);
 
 /* The version of this interface. */
 
-/* Returns the version of this interface, which is in the name too: a program that calls this
+/** Returns the version of this interface, which is in the name too: a program that calls this
  * doesn't link with a library of another version. Each version whose structs or functions differ
  * has another number.
  */

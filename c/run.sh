@@ -1,25 +1,29 @@
 #!/bin/sh
-# Builds the library by cargo, and runs the programs of this folder over it: sh c/run.sh [SEED CALLS]
+# Builds the library by cargo, and runs the programs of this folder over it: sh c/run.sh [--record]
 #
-# It compares the library's symbols with the header, tries the header in C++ and the shared library, and runs bare (no C
-# library), hosted, each export at the values of tools/exports.txt and with each pointer null, the rows of
-# crates/net_cases, and the fuzzer, CALLS calls with random arguments from SEED. CC and CXX name the compilers of C and
-# C++. It wants cargo, Python and nothing else.
+# It compares the library's symbols with the header, and the structs' layouts; tries the header in C11 and C++17 by each
+# compiler that is here, and by doxygen; and runs bare (no C library), hosted, those of programs, each export at the values
+# of tools/exports.txt and with each pointer null, and a sequence of 1,000,000 calls, whose digest is in c/sequence.txt.
+# CC and CXX name the compilers of C and C++. It wants cargo, Python and nothing else. --record writes the digest.
 set -eu
 
 here=$(cd "$(dirname "$0")" && pwd)
 compiler=${CC:-cc}
-seed=${1:-1}
-calls=${2:-2000000}
+warnings="-Wall -Wextra -Wpedantic -Wconversion -Werror"
 flags="-std=c11 -O2 -Wall -Wextra -Werror"
 sanitizers="-g -fsanitize=address,undefined -fno-sanitize-recover=all"
 out=$(mktemp -d)
-trap 'rm -rf "$out"' EXIT
+at=cargo
+trap 'status=$?; rm -rf "$out"; [ $status = 0 ] || echo "run.sh: failed at: $at" >&2' EXIT
 
 fail() {
     echo "run.sh: $*" >&2
     exit 1
 }
+
+for program in "$compiler" nm ar; do
+    command -v "$program" > /dev/null || { at="not run: there is no $program: apt-get install -y gcc libc6-dev"; exit 2; }
+done
 
 # Some compilers come without the sanitizers' library.
 echo 'int main(void) { return 0; }' > "$out/empty.c"
@@ -28,11 +32,11 @@ if ! "$compiler" $sanitizers "$out/empty.c" -o "$out/empty" 2> "$out/errors"; th
     sanitizers=-g
 fi
 
-target=${CARGO_TARGET_DIR:-$out/target}
+target=${CARGO_TARGET_DIR:-$out/target}/c
 (cd "$here" && CARGO_TARGET_DIR="$target" cargo build --release --offline --locked --quiet)
 library=$target/release/libnet_base.a
-shared=$target/release/libnet_base.so
 
+at="the library's symbols"
 # The library's own objects, without those that come with each compiler, want five functions at most from elsewhere.
 (cd "$out" && ar t "$library" | grep '^net_base' | xargs ar x "$library" && mv net_base*.o library.o)
 nm -u "$out/library.o" | awk 'NF == 2 { print $2 }' | sort -u > "$out/wanted"
@@ -43,51 +47,80 @@ echo "library: wants only $(tr '\n' ' ' < "$out/wanted")"
 
 # The header declares what the library has, and nothing else can be linked with. Each export has a row in exports.txt, or
 # none is written.
-python3 "$here/../tools/ffi.py" --tests "$out/exports.c"
+python3 "$here/../tools/ffi.py" --tests "$out/exports.c" --layouts "$out/layouts.c" --sequence "$out/sequence.c"
 nm -g --defined-only "$out/library.o" | awk '$2 == "T" { print $3 }' | sort -u > "$out/defined"
-nm -D --defined-only "$shared" | awk '{ print $3 }' | sort -u > "$out/shared"
 grep -oE '\bnet_base_[a-z0-9_]+\(' "$here/net_base.h" | tr -d '(' | sort -u > "$out/declared"
 diff "$out/defined" "$out/declared" || fail "library (<) and header (>) differ"
-diff "$out/shared" "$out/declared" || fail "shared library (<) and header (>) differ"
 echo "header: $(wc -l < "$out/declared") exports"
 
-# A program in C++ includes the header, and links.
+abi=$(grep '^net_base_abi_' "$out/declared")
+
+at="layouts: a field of a struct isn't where Rust has it"
+"$compiler" -I "$here" "$out/layouts.c" -o "$out/layouts"
+"$out/layouts" > "$out/layouts.rs"
+crate=$(ls -t "$target"/release/deps/libnet_base-*.rlib | head -n 1)
+rustc --edition 2021 --crate-type rlib --emit metadata -C panic=abort --extern "proved=$crate" \
+    "$out/layouts.rs" -o "$out/layouts.rmeta"
+echo "layouts: $(grep -c 'offset_of!(' "$out/layouts.rs") fields of $(grep -c 'size_of::' "$out/layouts.rs") structs"
+
+at="a warning of the header"
+for each in "$compiler" gcc clang; do
+    command -v "$each" > /dev/null || continue
+    "$each" -std=c11 $warnings -x c -fsyntax-only "$here/net_base.h"
+done
+for each in "${CXX:-c++}" g++ clang++; do
+    command -v "$each" > /dev/null || continue
+    "$each" -std=c++17 $warnings -Wold-style-cast -x c++ -fsyntax-only "$here/net_base.h"
+done
+if command -v doxygen > /dev/null; then
+    printf 'INPUT = "%s"\nQUIET = YES\nGENERATE_LATEX = NO\nHAVE_DOT = NO\nOUTPUT_DIRECTORY = "%s"\n' \
+        "$here/net_base.h" "$out/doxygen" | doxygen - > "$out/said" 2>&1
+    ! grep . "$out/said" || fail "doxygen warns"
+fi
+
+at="an example"
+for each in stream reassembly; do
+    "$compiler" -std=c11 -O2 $warnings $sanitizers -I "$here" "$here/programs/$each.c" "$library" -o "$out/$each"
+    "$out/$each"
+done
 if command -v "${CXX:-c++}" > /dev/null; then
-    printf '#include "net_base.h"\nint main() { return net_base_abi_3() - 3; }\n' > "$out/plus.cc"
-    "${CXX:-c++}" -std=c++11 -Wall -Wextra -Werror -I "$here" "$out/plus.cc" "$library" -o "$out/plus"
-    "$out/plus"
+    "${CXX:-c++}" -std=c++17 -O2 $warnings -Wold-style-cast $sanitizers -I "$here" "$here/programs/wrapper.cpp" "$library" \
+        -o "$out/wrapper"
+    "$out/wrapper"
 else
     echo "run.sh: there is no C++ compiler here: C++ isn't tried" >&2
 fi
 
+at="pkg-config"
 # What pkg-config says is enough, where cargo built the library.
 if command -v pkg-config > /dev/null; then
     mkdir "$out/place"
     cp "$here/net_base.h" "$here/net_base.pc" "$out/place"
     ln -s "$target" "$out/place/target"
     words=$(PKG_CONFIG_PATH="$out/place" pkg-config --cflags --libs net_base)
-    printf '#include <net_base.h>\nint main(void) { return (int)net_base_abi_3() - 3; }\n' > "$out/plain.c"
+    printf '#include <net_base.h>\nint main(void) { return (int)%s() - %s; }\n' "$abi" "${abi#net_base_abi_}" > "$out/plain.c"
     "$compiler" "$out/plain.c" $words -o "$out/plain"
     "$out/plain"
 fi
 
+at="bare.c"
 "$compiler" $flags -ffreestanding -fno-stack-protector -fno-builtin -nostdlib -static \
     -Wl,--gc-sections "$here/bare.c" "$library" -o "$out/bare"
 "$out/bare"
 
+at="hosted.c"
 "$compiler" $flags "$here/hosted.c" "$library" -o "$out/hosted"
 "$out/hosted" > "$out/printed"
 diff "$here/hosted.stdout" "$out/printed" || fail "hosted.c prints something else"
 echo "hosted: as in hosted.stdout"
 
-"$compiler" $flags -I "$here" "$out/exports.c" "$shared" -Wl,-rpath,"$target/release" -o "$out/exports"
-"$out/exports" > "$out/printed"
+at="tools/exports.txt"
 "$compiler" $flags $sanitizers -I "$here" "$out/exports.c" "$library" -o "$out/exports"
-"$out/exports" | diff "$out/printed" - || fail "the shared library checks otherwise"
+"$out/exports" || fail "a value of tools/exports.txt"
+
+at="the sequence"
+"$compiler" $flags $sanitizers -I "$here" "$out/sequence.c" "$library" -o "$out/sequence"
+"$out/sequence" > "$out/printed"
 cat "$out/printed"
-
-"$compiler" $flags $sanitizers "$here"/rows/*.c "$library" -o "$out/rows"
-"$out/rows" "$here/../crates/net_cases/stdin" "$here/../crates/net_cases/stdout"
-
-"$compiler" $flags $sanitizers "$here"/fuzz/*.c "$library" -o "$out/fuzz"
-"$out/fuzz" "$seed" "$calls"
+[ "${1:-}" != --record ] || sed -i "s/^$(getconf LONG_BIT) bits .*/$(getconf LONG_BIT) bits $(sed 's/.* //' "$out/printed")/" "$here/sequence.txt"
+grep -qE "bits $(sed 's/.* //' "$out/printed")$" "$here/sequence.txt" || fail "c/sequence.txt has another digest: run with --record if exports or structs are meant to differ"

@@ -1,4 +1,4 @@
-"""What the two commands share: what they need, the port's builds in a workspace of their own, and cargo."""
+"""What the commands share: what they need, their folder, and cargo."""
 import os
 import shutil
 import subprocess
@@ -13,11 +13,9 @@ FILES = [
     "storage/mod.rs", "storage/assembler.rs", "storage/packet_buffer.rs", "storage/ring_buffer.rs",
     "phy/mod.rs", "phy/loopback.rs", "rand.rs", "time.rs",
 ]
-# The crates of the port's workspace whose sources are here.
-STATIC_LIBRARIES = {"net_perf": ["time/perf"]}
 
 
-def need(programs=("cargo", "rt")):
+def need(programs):
     """The folder of smoltcp; ends with one line that says what is missing."""
     smoltcp = os.environ.get("SMOLTCP")
     if not smoltcp:
@@ -40,51 +38,6 @@ def run(words, log, **options):
     if status:
         tail = "\n".join(path.read_text(errors="replace").splitlines()[-20:])
         sys.exit(f"{tail}\n{' '.join(map(str, words))} failed: {path}")
-
-
-def port():
-    """A workspace with the repository's crates and `net_perf`. What `rt` keeps in out/ is taken over once."""
-    workspace = OUT / "port"
-    for crate in (REPOSITORY / "crates").iterdir():
-        to = workspace / "crates" / crate.name
-        to.mkdir(parents=True, exist_ok=True)
-        for old in to.iterdir():
-            if old.name != "out":
-                shutil.rmtree(old) if old.is_dir() else old.unlink()
-        for part in crate.iterdir():
-            if part.name != "out" or not (to / "out").exists():
-                (shutil.copytree if part.is_dir() else shutil.copy2)(part, to / part.name)
-    lines = (REPOSITORY / "crates.txt").read_text()
-    for crate, folders in STATIC_LIBRARIES.items():
-        sources = workspace / "crates" / crate / "src"
-        shutil.rmtree(sources, ignore_errors=True)
-        sources.mkdir(parents=True)
-        for file in [file for folder in folders for file in (COMPARE / folder).iterdir()]:
-            shutil.copy2(file, sources / file.stem)
-        lines += f"{crate} staticlib: net_ring net_packets net_assembler net_base net_receiver\n"
-    shutil.copy2(REPOSITORY / "HANDLES", workspace / "HANDLES")
-    (workspace / "crates.txt").write_text(lines)
-    return workspace / "crates"
-
-
-def static_library(name):
-    """The path of a static library of the port, proved and built."""
-    crate = port() / name
-    run(["rt", "lib"], f"rt_{name}", cwd=crate)
-    return crate / "out" / f"lib{name}.a"
-
-
-def program(name, words):
-    """The path of a program of the port, proved and built; it is run once, on no input."""
-    crate = port() / name
-    run(["rt", "run", "--", *words], f"rt_{name}", cwd=crate, stdin=subprocess.DEVNULL)
-    return crate / "out" / name
-
-
-def allocator():
-    """The kit's archive that gives the port's static libraries C's allocator."""
-    page = subprocess.run(["rt", "doc"], capture_output=True, text=True, check=True).stdout.strip()
-    return Path(page).parent / "c" / "liblibc_c.a"
 
 
 def cargo(profile, packages, smoltcp, folder=COMPARE, only=(), **variables):

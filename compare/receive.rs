@@ -1,6 +1,7 @@
 //! The receive path of a TCP socket without std: two segments that come in the wrong order, the blocks of a selective
 //! acknowledgement, a read. `sizes.py` builds it over a ring and an assembler of each side, joined as in smoltcp's
-//! socket, and with `--cfg receiver` over the crate's `Receiver`. With `--cfg emulated` it runs on a Cortex-M4 under QEMU.
+//! socket, with `--cfg apart` by `add` and `remove_front` in two calls, and with `--cfg receiver` over the crate's
+//! `Receiver`. With `--cfg emulated` it runs on a Cortex-M4 under QEMU.
 #![no_std]
 #![no_main]
 #![allow(unexpected_cfgs)]
@@ -42,7 +43,12 @@ mod path {
             }
             let part = &bytes[skipped..];
             let part = &part[..part.len().min(window - offset)];
+            #[cfg(not(apart))]
             let Ok(front) = self.assembler.add_then_remove_front(offset, part.len()) else { return false };
+            #[cfg(apart)]
+            let Ok(front) = self.assembler.add(offset, part.len()).map(|()| self.assembler.remove_front()) else {
+                return false;
+            };
             let _ = self.ring.write_unallocated(offset, part);
             if front != 0 {
                 self.ring.enqueue_unallocated(front);

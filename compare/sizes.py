@@ -3,8 +3,9 @@
 
 Prints what this crate and smoltcp take in a program of one module without std. Of rust/examples/no_std, a ring, an
 assembler and a packet queue, the bytes of `.text` and `.rodata` at `opt-level` "s" and "z", with a panic handler that
-reads nothing and with one that reads places. Of receive.rs, a receive path, those of the Cortex-M4, and there, under
-QEMU, the instructions of a round and the bytes of stack. Other processors than this machine's are there if RUST_KIT
+reads nothing and with one that reads places, and so of receive.rs, a receive path, by `add` and `remove_front`. Of
+receive.rs by `add_then_remove_front` those of the Cortex-M4, and there, under QEMU, the instructions of a round and the
+bytes of stack. Other processors than this machine's are there if RUST_KIT
 names the folder that `sh rust/targets.sh FOLDER` fills, and their linkers are.
 """
 import os
@@ -55,8 +56,9 @@ lto = true
 codegen-units = 1
 """
 EXAMPLES = same_output.CRATE / "examples"
+RECEIVE = Path(__file__).parent / "receive.rs"
 HANDLER = "fn panic(_: &core::panic::PanicInfo) -> ! {\n    loop {}"
-READS_PLACES = "fn panic(info: &core::panic::PanicInfo) -> ! {\n    black_box(info.location());\n    loop {}"
+READS_PLACES = "fn panic(info: &core::panic::PanicInfo) -> ! {\n    core::hint::black_box(info.location());\n    loop {}"
 
 HOST = "-C link-arg=-nostartfiles -C link-arg=-static -C relocation-model=static " \
        "-C link-arg=-Wl,--gc-sections,--unresolved-symbols=ignore-all"
@@ -141,21 +143,22 @@ class Sizes:
         count = lambda names: sum(int(size) for size in re.findall(rf"^\.(?:{names})\S*\s+(\d+)", sizes, flags=re.M))
         return count("text"), count("rodata|data.rel.ro|srodata")
 
-    def programs(self):
-        text = (EXAMPLES / "no_std/src/main.rs").read_text()
+    def programs(self, title, text, flags=""):
+        """A table of the bytes of a program, with a panic handler that reads nothing and with one that reads places."""
         places = text.replace(HANDLER, READS_PLACES)
-        print("| `.text` + `.rodata` | | smoltcp | net-base | reads places: smoltcp | net-base |")
+        print(f"| {title}: `.text` + `.rodata` | | smoltcp | net-base | reads places: smoltcp | net-base |")
         print("|---|---|---:|---:|---:|---:|")
         for target in filter(self.has, TARGETS):
             for level in "sz":
-                sizes = [self.sections(crate, it, target, level) for it in (text, places) for crate in self.crates]
+                each = [(crate, it) for it in (text, places) for crate in self.crates]
+                sizes = [self.sections(crate, it, target, level, flags) for crate, it in each]
                 cells = " | ".join(f"{code:,} + {data:,} = {code + data:,}" for code, data in sizes)
                 print(f"| {target} | {level} | {cells} |", flush=True)
 
     def receive_path(self):
         if not (self.has(M4) and shutil.which("qemu-system-arm") and shutil.which("arm-none-eabi-gcc")):
             return
-        text = (Path(__file__).parent / "receive.rs").read_text()
+        text = RECEIVE.read_text()
         print("\n| Receive path on a Cortex-M4 | | bytes | instructions a round | stack |\n|---|---|---:|---:|---:|")
         sums = set()
         for level in "sz3":
@@ -174,7 +177,9 @@ class Sizes:
 def main():
     with tempfile.TemporaryDirectory() as folder:
         sizes = Sizes(Path(folder))
-        sizes.programs()
+        sizes.programs("Three buffers", (EXAMPLES / "no_std/src/main.rs").read_text())
+        print()
+        sizes.programs("Receive path by `add` and `remove_front`", RECEIVE.read_text(), "--cfg apart")
         sizes.receive_path()
 
 

@@ -33,7 +33,7 @@ HELPER = """    impl From<Vec<(usize, usize)>> for Assembler {
 # The tests of the ring write and read its field `length`, which is in `head` here.
 FIELDS = """
 #[cfg(test)]
-impl<T, S: Storage<T>> core::ops::Deref for RingBuffer<'_, T, S> {
+impl<T, S: Storage<T>> core::ops::Deref for RingOver<T, S> {
     type Target = crate::proved::net_ring::RingHead;
 
     fn deref(&self) -> &Self::Target {
@@ -42,7 +42,7 @@ impl<T, S: Storage<T>> core::ops::Deref for RingBuffer<'_, T, S> {
 }
 
 #[cfg(test)]
-impl<T, S: Storage<T>> core::ops::DerefMut for RingBuffer<'_, T, S> {
+impl<T, S: Storage<T>> core::ops::DerefMut for RingOver<T, S> {
     fn deref_mut(&mut self) -> &mut Self::Target {
         &mut self.head
     }
@@ -52,7 +52,7 @@ impl<T, S: Storage<T>> core::ops::DerefMut for RingBuffer<'_, T, S> {
 # Those of the packet queue name its field `metadata_ring`, and ask how long it is: here `slots` of `head`.
 HEAD = """
 #[cfg(test)]
-impl<H, M: Storage<PacketMetadata<H>>, B: Storage<u8>> core::ops::Deref for PacketBuffer<'_, H, M, B> {
+impl<H, M: Storage<PacketMetadata<H>>, B: Storage<u8>> core::ops::Deref for PacketsOver<H, M, B> {
     type Target = crate::proved::net_packets::PacketsHead;
 
     fn deref(&self) -> &Self::Target {

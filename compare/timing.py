@@ -1,17 +1,12 @@
 #!/usr/bin/env python3
-"""SMOLTCP=path timing.py [--once] [--samples N] [--milliseconds N] [--only WORD] [--lines N] [--runs N]
-SMOLTCP=path timing.py --peers [--samples N] [--milliseconds N] [--only WORD]
-SMOLTCP=path timing.py --rust [--once] [--samples N] [--milliseconds N] [--only WORD]
-SMOLTCP=path timing.py --whole [--lines N] [--runs N]
+"""SMOLTCP=path timing.py [--once] [--samples N] [--milliseconds N] [--only WORD]
+timing.py --whole PROGRAM [--lines N] [--runs N]
 
-Times the workloads of `perf` over the port and over smoltcp in turns, each side linked once for each placement of
-its code, and times whole runs of net_bench beside a plain program over smoltcp; of both it counts instructions and
-mispredicted branches, if valgrind is there. Prints tables in Markdown, of which plot.py draws the first. Status 1 if
-results differ.
-With --once: one placement. With --peers: the workloads over the port and over types of std in turns, and the memory
-of both. With --rust: the workloads over the crate net-base in place of the port, both sides built as a user builds a
-program, in cargo's default profile without flags; without whole runs and the loopback device, and `rt` isn't needed.
-With --whole: whole runs alone.
+Times workloads over the crate net-base and over smoltcp in turns, each side linked once for each placement of its code,
+both built as a user builds a program, in cargo's default profile without flags; counts instructions and mispredicted
+branches, if valgrind is there. With --whole: whole runs of net_bench, as `rt run` or `rt ci` built it, beside PROGRAM,
+which takes the same words and lines, as net_bench of another commit. Prints a table in Markdown. Status 1 if results
+differ. --once: one placement.
 """
 import argparse
 import datetime
@@ -32,8 +27,6 @@ from pathlib import Path
 sys.dont_write_bytecode = True
 import common
 
-# The port is built for this processor.
-FLAGS = "-C target-cpu=x86-64-v2"
 # Cargo's default profile of a release, in place of the one of this workspace.
 DEFAULT_PROFILE = {"CARGO_PROFILE_RELEASE_LTO": "false", "CARGO_PROFILE_RELEASE_CODEGEN_UNITS": "16"}
 
@@ -68,7 +61,7 @@ def driver(built, sides, arguments, *more):
 
 def workloads(built, sides, arguments):
     """The driver's rows: group, name, and the numbers of its line; and what differs."""
-    words = driver(built, sides, arguments, *["--peers"] * arguments.peers)
+    words = driver(built, sides, arguments)
     done = subprocess.run(words, stdout=subprocess.PIPE, text=True)
     lines = [line.split("\t") for line in done.stdout.splitlines()]
     differ = [line[1] for line in lines if line[0] == "DIFFER"]
@@ -146,26 +139,6 @@ def workload_table(rows, counts):
               f"| {number(there)} | {number(here)} | {number(other)} | {number(missed)} |")
 
 
-def peer_tables(rows):
-    for at, title in ((4, "Here by std"), (5, "smoltcp by std")):
-        print(f"| Group | {title} |\n|---|---:|")
-        for group, ratio in groups_of(rows, at).items():
-            print(f"| {group} | {ratio:.2f} |")
-        print()
-    print("| Row | Std, ns | Here, ns | Here by std | smoltcp by std |\n|---|---:|---:|---:|---:|")
-    for _, name, std, port, here, smoltcp in rows:
-        print(f"| {name} | {std:.2f} | {port:.2f} | {here:.2f} | {smoltcp:.2f} |")
-
-
-def memory_table(built):
-    """What it takes to hold each second byte of 65,536 before the first one has come."""
-    done = subprocess.run([built / "memory"], stdout=subprocess.PIPE, text=True, check=True)
-    print("\n| Type | Held | Refused | Bytes asked for | Bytes spent |\n|---|---:|---:|---:|---:|")
-    for line in done.stdout.splitlines():
-        name, *numbers = line.split("\t")
-        print(f"| {name} | {' | '.join(f'{int(number):,}' for number in numbers)} |")
-
-
 def inputs(count):
     """Inputs of whole runs: a title, the mode's words and the lines."""
     some = random.Random(5)
@@ -217,14 +190,14 @@ def counted_run(words, lines):
     return all_lines["Ir"] / len(lines), (all_lines["Bcm"] + all_lines["Bim"]) / len(lines)
 
 
-def whole_runs(bench, plain, count, samples):
+def whole_runs(bench, beside, count, samples):
     """Whole runs in turns: a table, and what differs."""
     differ = []
-    print("| Whole run | Lines | smoltcp, ms | Here, ms | Pairs | Noise "
-          "| Instructions a line, here/smoltcp | Mispredicted branches |")
+    print("| Whole run | Lines | Beside, ms | Here, ms | Pairs | Noise "
+          "| Instructions a line, here/beside | Mispredicted branches |")
     print("|---|---:|---:|---:|---:|---:|---:|---:|")
     for title, mode, lines in inputs(count):
-        sides = [[bench, *mode], [plain, *mode], [plain, *mode]]
+        sides = [[bench, *mode], [beside, *mode], [beside, *mode]]
         data = lines.encode()
         times, results = ([], [], []), [None, None, None]
         for sample in range(samples):
@@ -254,38 +227,29 @@ def machine():
 def rust_sides(smoltcp):
     """Builds what times the crate net-base."""
     common.cargo("release", ["side_original", "side_rust"], smoltcp, RUSTFLAGS="", **DEFAULT_PROFILE)
-    return common.cargo("release", ["driver"], smoltcp, only=["--bin", "driver"], PORT_LIBS="", RUSTFLAGS=FLAGS)
+    return common.cargo("release", ["driver"], smoltcp, only=["--bin", "driver"], RUSTFLAGS="")
 
 
 def timed(smoltcp, arguments):
     """Times the workloads: tables, and what differs."""
-    if arguments.rust:
-        side, libraries, built = "side_rust", [], rust_sides(smoltcp)
-    else:
-        side, libraries = "side_port", [common.static_library("net_perf"), common.allocator()]
-        packages = ["driver", "side_original", "side_port"]
-        built = common.cargo("release", packages, smoltcp, PORT_LIBS=":".join(map(str, libraries)), RUSTFLAGS=FLAGS)
-    placements = PLACEMENTS[:1] if arguments.once or arguments.peers else PLACEMENTS
-    sides = [placed(built, side, libraries, placements), placed(built, "side_original", [], placements)]
+    built = rust_sides(smoltcp)
+    placements = PLACEMENTS[:1] if arguments.once else PLACEMENTS
+    sides = [placed(built, "side_rust", [], placements), placed(built, "side_original", [], placements)]
     print(f"{datetime.date.today()}; {machine()}; {len(placements)} placements of each side, "
           f"{arguments.samples} samples of {arguments.milliseconds:g} ms a row and placement\n")
     rows, differ = workloads(built, sides, arguments)
-    if arguments.rust:
-        rows = [row for row in rows if row[0] != "loopback"]
-    if arguments.peers:
-        peer_tables(rows)
-        memory_table(built)
-    else:
-        workload_table(rows, counted(built, [path.split(":")[0] for path in sides], arguments))
+    workload_table([row for row in rows if row[0] != "loopback"], counted(built, [path.split(":")[0] for path in sides], arguments))
     return differ
 
 
-def timed_programs(smoltcp, arguments):
+def timed_programs(arguments):
     """Times whole runs: a table, and what differs."""
-    built = common.cargo("release", ["plain"], smoltcp, PORT_LIBS="", RUSTFLAGS=FLAGS)
-    bench = common.program("net_bench", ["ring", "1"])
+    bench = common.REPOSITORY / "crates/net_bench/out/net_bench"
+    for program in (bench, arguments.whole):
+        if not os.access(program, os.X_OK):
+            sys.exit(f"there is no program {program}: (cd crates/net_bench && rt run -- ring 1 < stdin) builds net_bench")
     print(f"\n{datetime.date.today()}; {machine()}; {arguments.runs} whole runs of each program, in turns\n")
-    return whole_runs(bench, built / "plain", arguments.lines, arguments.runs)
+    return whole_runs(bench, arguments.whole, arguments.lines, arguments.runs)
 
 
 def main():
@@ -296,14 +260,9 @@ def main():
     parser.add_argument("--only")
     parser.add_argument("--lines", type=int, default=200_000)
     parser.add_argument("--runs", type=int, default=9)
-    parser.add_argument("--peers", action="store_true")
-    parser.add_argument("--rust", action="store_true")
-    parser.add_argument("--whole", action="store_true")
+    parser.add_argument("--whole", metavar="PROGRAM", type=Path)
     arguments = parser.parse_args()
-    smoltcp = common.need(["cargo"] if arguments.rust else ["cargo", "rt"])
-    differ = [] if arguments.whole else timed(smoltcp, arguments)
-    if arguments.lines and not arguments.peers and not arguments.rust:
-        differ += timed_programs(smoltcp, arguments)
+    differ = timed_programs(arguments) if arguments.whole else timed(common.need(["cargo"]), arguments)
     if differ:
         print(f"\nDIFFERENT RESULTS: {'; '.join(differ)}")
     return 1 if differ else 0

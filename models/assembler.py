@@ -217,7 +217,7 @@ def call(random, assembler, span, step):
     if choice == 5:
         name = random.of(RARE)
         return name, [position(random, assembler.runs, step)] if name == "shift" else []
-    name = random.of(ASKING)
+    name = random.name(ASKING)
     if name == "contains":
         return name, [position(random, assembler.runs, span)]
     if name in ("run_at", "hole_at"):

@@ -5,6 +5,7 @@ that no case gave makes `cases.py` fail, and is named.
 """
 
 ALL = []
+FIRST = []  # each answer, when it was first given
 
 
 class Question:
@@ -16,6 +17,8 @@ class Question:
 
     def note(self, answer):
         self.counts[answer] += 1
+        if self.counts[answer] == 1:
+            FIRST.append(answer)
         return answer
 
     def missing(self):

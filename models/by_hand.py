@@ -1,5 +1,5 @@
-"""Draws the rows that only the Cargo crate makes, of what is by hand there: storage of 0, 1, 257 and 70,000 elements, lent,
-owned and an array, and after each call the text of the subject's `Debug`."""
+"""Draws rows of what is by hand in the Cargo crate: storage of 0, 1, 257 and 70,000 elements, and after each call the text
+of the subject's `Debug`."""
 import assembler
 import closing
 import drawing
@@ -104,7 +104,7 @@ def drawn():
         last = [("enqueue_unallocated", [max(0, size - 1)]), ("enqueue_one", [8]), ("dequeue_allocated", [max(0, size - 1)]),
                 ("dequeue_one", [9])]
         block(cases, f"ring {size} 7", ring.Bytes(size, 7), one_of(
-            list(ring.CALLS), lambda it, name: [ring.number(random, it, name, kind) for kind in ring.CALLS[name]]),
+            ring.OFTEN, lambda it, name: [ring.number(random, it, name, kind) for kind in ring.CALLS[name]]),
               of_ring, last)
         block(cases, f"packets 5 {size} 7", packets.Packets(5, size, 7), one_of(
             packets.COMING + packets.LEAVING + ["peek", "last_mut"],
@@ -125,4 +125,5 @@ def drawn():
         apart = [("report", [FIRST + at, FIRST + at + 1, drawing.TOP]) for at in range(1, 12, 2)]
         block(cases, f"scoreboard {most} {FIRST}", scoreboard.Scoreboard(most, FIRST), one_of(
             scoreboard.CALLS, lambda it, name: scoreboard.numbers_of(random, it, name)), of_scoreboard, apart)
+    cases.worked = len(cases.lines)
     return [block for blocks in cases.blocks().values() for block in blocks]

@@ -1,4 +1,4 @@
-"""Draws the cases of net_cases, with the replies that the models of this folder give.
+"""Draws the rows, with the replies that the models of this folder give.
 
 Each answer to each question of a model's rules must have a case: the questions are those of branches.py.
 """
@@ -21,28 +21,31 @@ import texts
 import timer
 import worked
 
-SEED = 54
-# What draws rows, and how many lines of them.
+# What draws rows, how many lines of them, and from which seed.
 PARTS = [
-    (ring.draw, 6200),
-    (small.draw_cells, 700),
-    (small.draw_storage, 700),
-    (packets.draw, 5600),
-    (assembler.draw, 5200),
-    (receiver.draw, 4500),
-    (receiver.draw_numbers, 700),
-    (small.draw_generator, 1400),
-    (moments.draw, 3300),
-    (moments.draw_texts, 700),
-    (texts.draw, 400),
-    (modes.draw, 2100),
-    (closing.draw, 1500),
-    (sender.draw, 2500),
-    (fragments.draw, 1800),
-    (scoreboard.draw, 1800),
-    (ending.draw, 1800),
-    (tcp.draw, 1800),
-    (timer.draw, 1200),
+    (ring.draw, 1500, 54),
+    (small.draw_cells, 700, 55),
+    (small.draw_storage, 700, 56),
+    (packets.draw, 5600, 57),
+    (assembler.draw, 5200, 58),
+    (receiver.draw, 4500, 59),
+    (receiver.draw_numbers, 700, 60),
+    (small.draw_generator, 1400, 61),
+    (moments.draw_texts, 700, 63),
+    (texts.draw, 400, 64),
+    (modes.draw, 2100, 65),
+    (closing.draw, 1500, 66),
+    (sender.draw, 2500, 67),
+    (fragments.draw, 1800, 68),
+    (scoreboard.draw, 1800, 69),
+    (ending.draw, 1800, 70),
+    (timer.draw, 1200, 72),
+]
+# What draws rows of one call, how many lines of each, and the calls.
+OWN = [
+    (ring.draw, 1200, ring.OWN),
+    (moments.draw, 80, moments.CALLS),
+    (tcp.draw, 100, tcp.CALLS),
 ]
 
 
@@ -50,6 +53,10 @@ def drawn():
     """The blocks of each subject, the worked ones first, and a line for each answer that no case gave."""
     cases = drawing.Cases()
     worked.add(cases)
-    for number, (draw, lines) in enumerate(PARTS):
-        draw(drawing.Random(SEED + number), cases, lines)
+    cases.worked = len(cases.lines)
+    for draw, lines, seed in PARTS:
+        draw(drawing.Random(seed), cases, lines)
+    for draw, lines, calls in OWN:
+        for call in calls:
+            draw(drawing.Random(0, call), cases, lines)
     return cases.blocks(), branches.missing()

@@ -82,7 +82,7 @@ class Closing:
         SHUT_OUT.least(pos, limit)
         shown = self.bytes.peek_at(pos, max(0, limit - pos))
         count = int(shown.replace("#", ":").split(":")[0])
-        ends = self.closed and pos + count == self.bytes.end
+        ends = self.closed and not self.finished and pos + count == self.bytes.end
         if ends:
             LIMIT.least(self.bytes.end, limit)
         is_last = LAST(ends and self.bytes.end < limit)
@@ -125,6 +125,6 @@ def draw(random, cases, lines):
         closing = Closing(random.of([0, 1, 2, 5, 8, 40]), first)
         cases.begin(f"closing {closing.bytes.capacity} {first}", closing.show())
         for _ in range(12 + random.below(24)):
-            name = random.of(CALLS)
+            name = random.name(CALLS)
             numbers = numbers_of(random, closing, name)
             cases.add(name, numbers, getattr(closing, name)(*numbers), closing.show())

@@ -1,13 +1,21 @@
 """Numbers that follow from a seed, and how cases are drawn from them."""
+import collections
+import zlib
+
+import branches
+
+FLAT = {"times", "texts", "words", "tcp"}  # blocks whose lines depend on nothing but themselves
+LEAST = 12                                 # so many rows of each kind are kept
 
 TOP = 2 ** 64 - 1
 
 
 class Random:
-    """The generator SplitMix64."""
+    """The generator SplitMix64. Where rows of one call alone are drawn, `own` is that call: what is drawn follows from its
+    name, so that the rows of another call stay as they are."""
 
-    def __init__(self, seed):
-        self.state, self.rounds = seed, {}
+    def __init__(self, seed, own=""):
+        self.state, self.rounds, self.own = seed + zlib.crc32(own.encode()), {}, own
 
     def word(self):
         self.state = (self.state + 0x9e3779b97f4a7c15) & TOP
@@ -21,6 +29,10 @@ class Random:
 
     def of(self, all_of_them):
         return all_of_them[self.below(len(all_of_them))]
+
+    def name(self, names):
+        """A call: one of these, and where rows of one call are drawn, this in every third row."""
+        return self.own if self.own and self.one_in(3) else self.of(names)
 
     def one_in(self, count):
         return self.below(count) == 0
@@ -68,13 +80,14 @@ class Cases:
     """The lines of the cases, in blocks that are separated by an empty line, with their replies."""
 
     def __init__(self):
-        self.lines, self.replies = [], []
+        self.lines, self.replies, self.news, self.worked, self.seen = [], [], [], 0, 0
 
     def begin(self, line, state=""):
         """The first line of a block, whose reply is what can be seen then."""
         if self.lines:
             self.lines.append("")
             self.replies.append("")
+            self.news.append(0)
         self.note(line, f"|{state}")
 
     def add(self, name, numbers, reply, state=""):
@@ -84,12 +97,36 @@ class Cases:
     def note(self, line, reply):
         self.lines.append(line)
         self.replies.append(reply)
+        self.news.append(len(branches.FIRST) - self.seen)
+        self.seen = len(branches.FIRST)
 
     def blocks(self):
-        """The blocks of each subject, by its name: each block as its lines and their replies."""
-        subjects, start = {}, 0
+        """The blocks of each subject, by its name: the worked ones, and of the drawn ones those that give an answer that no
+        block before gave, or have a kind of rows of which there are too few. Drawn blocks of a flat subject are one."""
+        subjects, drawn, kinds, start = {}, set(), collections.Counter(), 0
         for end in [at for at, line in enumerate(self.lines) if not line] + [len(self.lines)]:
             subject = self.lines[start].split(" ")[0]
-            subjects.setdefault(subject, []).append((self.lines[start:end], self.replies[start:end]))
+            rows = range(start + 1, end)
+            def few(at):
+                return kinds[subject, self.lines[at].split(" ")[0]] < LEAST
+            if start < self.worked:
+                kept = list(rows)
+            elif subject in FLAT:
+                kept = []
+                for at in rows:
+                    if self.news[at] or few(at):
+                        kept.append(at)
+                        kinds[subject, self.lines[at].split(" ")[0]] += 1
+            else:
+                kept = list(rows) if any(self.news[start:end]) or any(map(few, rows)) else []
+            if subject not in FLAT or start < self.worked:
+                kinds.update((subject, self.lines[at].split(" ")[0]) for at in kept)
+            if subject in FLAT and start > self.worked and subject in drawn:
+                for part, of in zip(subjects[subject][-1], (self.lines, self.replies)):
+                    part += [of[at] for at in kept]
+            elif kept:
+                at = [start, *kept]
+                subjects.setdefault(subject, []).append(([self.lines[i] for i in at], [self.replies[i] for i in at]))
+                drawn.update({subject} if start > self.worked else ())
             start = end + 1
         return subjects

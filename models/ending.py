@@ -6,6 +6,7 @@ from showing import START, mix, pattern, show_bytes, show_digest, truth
 
 SIZES = (1, 4)
 NUMBER = Order("ending: position after a segment and the greatest number")
+UNNUMBERED = Test("ending: a last segment's end has no number")
 LAST = Test("ending: a segment is the last one")
 KNOWN = Test("ending: the end is known when a last segment comes")
 OTHER = Test("ending: a last segment says another end")
@@ -56,18 +57,19 @@ class Ending:
 
     def keep(self, pos, size, seed, last):
         NUMBER.least(pos + size, TOP)
-        if pos + size >= TOP:
-            return "forbidden"
         data, end = pattern(size, seed), pos + size
         if LAST(last == 1):
+            if UNNUMBERED(end >= TOP):
+                return "other_end"
             if KNOWN(self.end is not None):
                 if OTHER(end != self.end):
                     return "other_end"
             elif BELOW(end < self.top()):
                 return "other_end"
         window_end = self.bytes.next + self.bytes.window
-        if self.end is not None and BEYOND(end > self.end):
-            data = data[:max(0, self.end - pos)]
+        limit = TOP - 1 if self.end is None else self.end
+        if BEYOND(end > limit):
+            data = data[:max(0, limit - pos)]
         kept = self.bytes.segment(pos, data)
         if kept is None:
             REFUSED(last == 1)
@@ -146,6 +148,6 @@ def draw(random, cases, lines):
         ending = Ending(capacity, most, first)
         cases.begin(f"ending {capacity} {most} {first}", ending.show())
         for _ in range(10 + random.below(24)):
-            name = random.of(CALLS)
+            name = random.name(CALLS)
             numbers = numbers_of(random, ending, name)
             cases.add(name, numbers, getattr(ending, name)(*numbers), ending.show())

@@ -156,6 +156,6 @@ def draw(random, cases, lines):
         cases.begin(f"fragments {capacity} {most} {buffer.expires_at}", buffer.show())
         calls = [("add", [start, 1, start]) for start in range(1, capacity, 2)][:most + 1] if random.one_in(3) else []
         for _ in range(12 + random.below(20)):
-            name = random.of(CALLS)
+            name = random.name(CALLS)
             name, numbers = calls.pop() if calls else (name, numbers_of(random, buffer, name))
             cases.add(name, numbers, getattr(buffer, name)(*numbers), buffer.show())

@@ -1,15 +1,13 @@
 #!/usr/bin/env python3
 """Writes the files that the models of this folder give, or compares them.
 
-    python3 models/make.py                 writes crates/net_cases/stdin and stdout, and rust/tests/rows/stdin and stdout
-    python3 models/make.py --check         writes nothing, and names each file that is not as the models give it
-    python3 models/make.py --kinds         writes nothing, and prints how many rows there are of each kind
-    python3 models/make.py --cases FOLDER  writes the rows of each subject to files of their own in a folder, as
-                                           `rt try net_cases --cases FOLDER --seconds 300` takes them
+    python3 models/make.py          writes the rows, rust/tests/rows/rows.txt, and the program's tables of net_program_tests
+    python3 models/make.py --check  writes nothing, and names each file that is not as the models give it
+    python3 models/make.py --kinds  writes nothing, and prints how many rows there are of each kind
 
-Ends with status 1 if a file differs, if no case gives some answer to a question of the models (branches.py), or if the
-replies of a subject are too long for `rt try`. If the environment names a checkout of smoltcp, SMOLTCP=/path/to/smoltcp,
-each test that a worked row names has to be there.
+Ends with status 1 if a file differs, or if no case gives some answer to a question of the models (branches.py). If the
+environment names a checkout of smoltcp, SMOLTCP=/path/to/smoltcp, each test that a worked row names has to be there;
+one without tests is status 2.
 """
 import argparse
 import collections
@@ -22,32 +20,30 @@ sys.dont_write_bytecode = True
 import branches
 import by_hand
 import cases
+import tables
 import worked
 
 REPOSITORY = pathlib.Path(__file__).resolve().parent.parent
-MOST_BYTES = 2 ** 20  # that `rt try` takes of what a program writes; `rt ci` has no such limit
+ROWS, PROGRAM = "rust/tests/rows/rows.txt", "crates/net_program_tests/src/modes.rt"
 
 
-def text_of(blocks, number):
-    """The calls of blocks, or the replies, with an empty line between two blocks."""
-    return "\n".join("".join(line + "\n" for line in block[number]) for block in blocks)
+def text_of(blocks):
+    """Blocks as a text: `call => reply`, one a line, and an empty line between two blocks."""
+    rows = [(line, reply) for lines, replies in blocks for line, reply in zip(lines, replies)]
+    assert not any("=>" in line or "\n" in line + reply for line, reply in rows)
+    return "\n".join("".join(f"{line} => {reply}\n" for line, reply in zip(*block)) for block in blocks)
 
 
 def given():
     """The rows of each subject, each file with its text, and a line for each thing that is wrong."""
     subjects, wrong = cases.drawn()
-    blocks = [block for of_subject in subjects.values() for block in of_subject]
-    files = {}
-    for folder, of_folder in [("crates/net_cases", blocks), ("rust/tests/rows", by_hand.drawn())]:
-        files[f"{folder}/stdin"], files[f"{folder}/stdout"] = text_of(of_folder, 0), text_of(of_folder, 1)
+    program = subjects.pop("words")
     for name, of_subject in subjects.items():
-        size = len(text_of(of_subject, 1).encode())
         rows = sum(len(lines) for lines, _ in of_subject)
-        print(f"{name:10} {len(of_subject):4} blocks {rows:6} lines {size:8} bytes of replies")
-        if size > MOST_BYTES:
-            wrong.append(f"the replies of {name} have {size} bytes, and {MOST_BYTES} are taken")
+        print(f"{name:10} {len(of_subject):4} blocks {rows:6} lines")
+    blocks = [block for of_subject in subjects.values() for block in of_subject] + by_hand.drawn()
     print(f"{len(branches.ALL)} questions, {sum(len(each.counts) for each in branches.ALL)} answers")
-    return subjects, files, wrong
+    return subjects, {ROWS: text_of(blocks), PROGRAM: tables.text_of(program)}, wrong
 
 
 def print_kinds(subjects):
@@ -59,13 +55,6 @@ def print_kinds(subjects):
     print(f"{sum(kinds.values()):6} rows of {len(kinds)} kinds")
 
 
-def write_cases(subjects, folder):
-    folder.mkdir(parents=True, exist_ok=True)
-    for name, blocks in subjects.items():
-        (folder / name).write_text(text_of(blocks, 0))
-        (folder / f"{name}.stdout").write_text(text_of(blocks, 1))
-
-
 def unknown_tests():
     """A line for each test of smoltcp that a worked row names and that smoltcp doesn't have."""
     checkout = os.environ.get("SMOLTCP")
@@ -73,6 +62,9 @@ def unknown_tests():
         return []
     sources = "".join(file.read_text() for file in pathlib.Path(checkout, "src/storage").glob("*.rs"))
     known = set(re.findall(r"fn (\w+)\(", sources))
+    if not any(name.startswith("test_") for name in known):
+        print(f"SMOLTCP={checkout} is no checkout of smoltcp with its tests", file=sys.stderr)
+        sys.exit(2)
     return [f"smoltcp has no test {name}" for name in sorted(worked.tests_of_smoltcp() - known)]
 
 
@@ -92,14 +84,11 @@ def main():
     ways = parser.add_mutually_exclusive_group()
     ways.add_argument("--check", action="store_true")
     ways.add_argument("--kinds", action="store_true")
-    ways.add_argument("--cases", type=pathlib.Path, metavar="FOLDER")
     arguments = parser.parse_args()
     subjects, files, wrong = given()
     wrong += unknown_tests()
     if arguments.kinds:
         print_kinds(subjects)
-    elif arguments.cases:
-        write_cases(subjects, arguments.cases)
     else:
         compare(files, not arguments.check, wrong)
     for line in wrong:

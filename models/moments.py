@@ -239,17 +239,18 @@ def numbers_of(random, table, name):
     return [random.of_digits(44), below]
 
 
+# The calls of a type, by their names.
+CALLS = {f"{of_type}::{name}": (table, name) for of_type, tables in (
+    ("Instant", (MOMENTS, MOVES)), ("Duration", (LENGTHS, FACTORS, SHIFTS, CORES))) for table in tables for name in table}
+
+
 def draw(random, cases, lines):
-    """So many lines of moments and lengths."""
-    until = len(cases.lines) + lines
-    tables = [("Instant", MOMENTS), ("Instant", MOVES), ("Duration", LENGTHS), ("Duration", LENGTHS),
-              ("Duration", FACTORS), ("Duration", SHIFTS), ("Duration", CORES)]
+    """So many lines of one call of a moment or a length."""
+    table, name = CALLS[random.own]
     cases.begin("times")
-    while len(cases.lines) < until:
-        of_type, table = random.of(tables)
-        name = random.of(list(table))
+    for _ in range(lines):
         numbers = numbers_of(random, table, name)
-        cases.add(f"{of_type}::{name}", numbers, table[name](*numbers))
+        cases.add(random.own, numbers, table[name](*numbers))
 
 
 def draw_texts(random, cases, lines):

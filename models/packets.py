@@ -240,7 +240,7 @@ def draw(random, cases, lines):
         others = ["peek"] * (9 if many else 2) + random.of([["last_mut", "last_mut"], [], [], []]) + ["reset"]
         for turn in range(70 if many else 30 + random.below(50)):
             fills = random.below(8) < (8 if many and turn < 50 else 5)
-            name = random.of(COMING) if fills else random.of(LEAVING)
+            name = random.name(COMING if fills else LEAVING)
             if random.one_in(6):
                 name = random.of(others)
             numbers = numbers_of(random, queue, name, usual)

@@ -214,8 +214,7 @@ class Pair:
 
     def count_new(self, pos, size):
         """How many of the free positions of a segment are not held."""
-        if pos + size > TOP:
-            return "forbidden"
+        size = min(size, TOP - pos)
         now = self.now
         start, end = max(pos, now.next), min(pos + size, now.next + now.window)
         held = sum(max(0, min(end, run[1]) - max(start, run[0])) for run in now.held_runs())
@@ -320,7 +319,7 @@ def call(random, now, step):
     if choice == 14:
         count = random.below(13)
         return "replay", [x for _ in range(count) for x in command(random, now, step)]
-    name = random.of(SHOWING)
+    name = random.name(SHOWING)
     if name == "peek":
         return name, [random.offset([queue, now.contiguous_queued()], 8), random.about([queue], 11)]
     if name == "peek_slice":

@@ -304,8 +304,10 @@ CALLS = {
     "enqueue_unallocated": "c", "dequeue_allocated": "c", "as_slices": "", "clear": "",
     "push_one": "b", "pop_back": "", "rewind_if_empty": "",
 }
+# Calls in all blocks; each other call has blocks of its own.
 OFTEN = ["enqueue_slice", "dequeue_slice", "enqueue_many", "dequeue_many", "enqueue_unallocated",
          "write_unallocated", "dequeue_allocated"]
+OWN = [name for name in CALLS if name not in OFTEN]
 COPIES = ("enqueue_slice", "dequeue_slice", "write_unallocated", "read_allocated")
 
 
@@ -336,9 +338,7 @@ def draw(random, cases, lines):
         seed = random.below(1000)
         ring = Bytes(capacity, seed)
         cases.begin(f"ring {capacity} {seed}", ring.show())
-        for _ in range(30 + random.below(40)):
-            name = random.of(OFTEN if random.one_in(3) else list(CALLS))
-            if name == "clear" and not random.one_in(4):
-                continue
+        for _ in range(12 + random.below(16)):
+            name = random.name(OFTEN)
             numbers = [number(random, ring, name, kind) for kind in CALLS[name]]
             cases.add(name, numbers, ring.call(name, numbers), ring.show())

@@ -56,9 +56,9 @@ class Scoreboard:
         front = self.front(self.runs)
         START_OF.least(start, front)
         runs = with_range(self.runs, start, end)
-        if REFUSED[self.most](start > front and len(self.beyond(runs)) > self.most):
-            return "refused"
         if FAR(start > front and end - front >= 1 << 32):
+            return truth(False)
+        if REFUSED[self.most](start > front and len(self.beyond(runs)) > self.most):
             return "refused"
         MOVES(self.front(runs) > front)
         self.runs = runs
@@ -165,6 +165,6 @@ def draw(random, cases, lines):
         starts = range(first + 1, min(TOP - 1, first + 4 * most + 6), 3) if random.one_in(2) else []
         calls = [("report", [start, start + 1, TOP]) for start in random.shuffled(starts)]
         for _ in range(16 + random.below(40)):
-            name = random.of(CALLS)
+            name = random.name(CALLS)
             name, numbers = calls.pop() if calls else (name, numbers_of(random, board, name))
             cases.add(name, numbers, getattr(board, name)(*numbers), board.show())

@@ -142,6 +142,6 @@ def draw(random, cases, lines):
         sender = Sender(capacity, first_position(random, capacity))
         cases.begin(f"sender {capacity} {sender.first}", sender.show())
         for _ in range(12 + random.below(24)):
-            name = random.of(CALLS)
+            name = random.name(CALLS)
             numbers = numbers_of(random, sender, name)
             cases.add(name, numbers, sender.call(name, numbers), sender.show())

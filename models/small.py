@@ -69,7 +69,7 @@ def draw_cells(random, cases, lines):
         ring = Cells(capacity)
         cases.begin(f"cells {capacity}", ring.show())
         for _ in range(10 + random.below(40)):
-            name = random.of(["enqueue_one"] * 4 + ["dequeue_one"] * 4 + ["reset", "clear"])
+            name = random.name(["enqueue_one"] * 4 + ["dequeue_one"] * 4 + ["reset", "clear"])
             numbers = [random.word()] if name.endswith("one") else []
             cases.add(name, numbers, getattr(ring, name)(*numbers), ring.show())
 
@@ -121,7 +121,7 @@ def draw_storage(random, cases, lines):
         storage = Storage(count, seed)
         cases.begin(f"storage {count} {seed}", storage.show())
         for _ in range(5 + random.below(12)):
-            name = random.of(["as_mut_slice", "part", "part", "part_mut", "part_mut", "element", "element_mut"])
+            name = random.name(["as_mut_slice", "part", "part", "part_mut", "part_mut", "element", "element_mut"])
             start, end = (random.offset([count], 12) for _ in range(2))
             if not random.one_in(4):
                 start, end = sorted((start % (count + 1), end % (count + 1)))
@@ -180,7 +180,7 @@ def draw_generator(random, cases, lines):
         rand = Generator(seed)
         cases.begin(f"rand {seed}")
         for turn in range(3 + random.below(8)):
-            name = random.of(["rand_u32", "rand_u16", "rand_source_port", "below"])
+            name = random.name(["rand_u32", "rand_u16", "rand_source_port", "below"])
             if close and turn == 0:
                 name = "rand_source_port"
             numbers = [max(1, random.of_digits(32, "bound"))] if name == "below" else []

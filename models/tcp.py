@@ -11,6 +11,7 @@ SEQ = Order("tcp: first number of a segment and first missing one")
 EMPTY = Test("tcp: a segment has no number")
 SHUT = Test("tcp: the window is shut")
 SCALE = Size("tcp: scale for a capacity", 4)
+GREATER = Order("tcp: scale and the greatest")
 FREE = Order("tcp: number to announce and the greatest")
 KEPT = Order("tcp: edge after an announcement and before")
 REST = Test("tcp: free room isn't a multiple of the unit")
@@ -85,38 +86,38 @@ def worth(capacity, mss):
     return max(1, min(-(-capacity // 2), mss))
 
 
-def fits(scale, first, window_end):
-    return scale <= MOST_SCALE and first <= window_end
+def unit_of(scale):
+    """A greater scale than 14 counts as 14."""
+    return 2 ** GREATER.least(scale, MOST_SCALE)
 
 
-def number_for(scale, free):
-    unit = 2 ** scale
+def number_for(unit, free):
     REST(free % unit > 0)
     return FREE.least(free // unit, 65535)
 
 
 def announce(edge, scale, first, window_end):
-    if not fits(scale, first, window_end):
+    if first > window_end:
         return "forbidden"
-    number = number_for(scale, window_end - first)
-    reached = first + number * 2 ** scale
+    number = number_for(unit_of(scale), window_end - first)
+    reached = first + number * unit_of(scale)
     KEPT.least(reached, edge)
     return f"{number} {max(edge, reached)}"
 
 
 def is_due(edge, scale, first, window_end, capacity, mss):
-    gained = first + number_for(scale, window_end - first) * 2 ** scale - edge
+    gained = first + number_for(unit_of(scale), window_end - first) * unit_of(scale) - edge
     return DUE(gained >= worth(capacity, mss))
 
 
 def is_update_due(edge, scale, first, window_end, capacity, mss):
-    if not fits(scale, first, window_end):
+    if first > window_end:
         return "forbidden"
     return truth(is_due(edge, scale, first, window_end, capacity, mss))
 
 
 def announce_in_steps(edge, scale, first, window_end, capacity, mss):
-    if not fits(scale, first, window_end):
+    if first > window_end:
         return "forbidden"
     if is_due(edge, scale, first, window_end, capacity, mss):
         return announce(edge, scale, first, window_end)
@@ -124,17 +125,17 @@ def announce_in_steps(edge, scale, first, window_end, capacity, mss):
 
 
 def peer_update(edge, wl1, wl2, unacknowledged, sent, seq, ack, window):
-    """SND.WND, SND.WL1 and SND.WL2 of RFC 9293, 3.10.7.4, with the window's edge in place of its size; what acknowledges
-    more is taken though its number is older."""
+    """The edge of SND.WND of RFC 9293, 3.10.7.4, by SND.WL1 and SND.WL2; what acknowledges more is taken though its number
+    is older."""
     OLD.least(ack, unacknowledged)
     SENT.least(ack, sent)
     WL1.least(seq, wl1)
     WL2.least(ack, wl2)
     if not unacknowledged <= ack <= sent or not (wl2 < ack or wl1 < seq or (wl1, wl2) == (seq, ack)):
-        return f"0 {edge} {wl1} {wl2}"
+        return f"0 {edge}"
     reached = min(TOP, ack + window)
     SHRINKS(reached < edge)
-    return f"1 {reached} {seq} {ack}"
+    return f"1 {reached}"
 
 
 def peer_room(edge, pos, end):
@@ -144,7 +145,7 @@ def peer_room(edge, pos, end):
 
 
 def scaled(field, scale):
-    return str(field * 2 ** scale) if scale <= MOST_SCALE else "forbidden"
+    return str(field * unit_of(scale))
 
 
 def words_sum(data):
@@ -192,8 +193,7 @@ def first_sample(time):
 
 def next_sample(srtt_8, rttvar_4, time):
     """RTTVAR = 3/4 RTTVAR + 1/4 |SRTT - R|, SRTT = 7/8 SRTT + 1/8 R, in whole numbers, of which parts are dropped."""
-    if srtt_8 > 2 ** 63 or rttvar_4 > 2 ** 62:
-        return "forbidden"
+    srtt_8, rttvar_4 = min(srtt_8, 2 ** 63), min(rttvar_4, 2 ** 62)
     time, srtt = min(time, LONGEST), srtt_8 // 8
     SLOWER.least(time, srtt)
     return f"{srtt_8 - srtt + time} {rttvar_4 - rttvar_4 // 4 + abs(srtt - time)}"
@@ -201,7 +201,7 @@ def next_sample(srtt_8, rttvar_4, time):
 
 def timeout(srtt_8, rttvar_4, least, most, tick):
     """RTO = SRTT + max(G, 4 RTTVAR), at most the greatest one, and then at least the least one."""
-    time = srtt_8 // 8 + max(tick, rttvar_4)
+    time = min(srtt_8, 2 ** 63) // 8 + max(tick, min(rttvar_4, 2 ** 62))
     time = CLAMPED.least(time, most)
     RAISED.least(time, least)
     return str(max(least, time))
@@ -228,7 +228,7 @@ def near(random, *limits):
 def windows(random):
     """The numbers of a receiver's window: the edge that was announced, a scale, the first missing position, the end of
     the free room, and the capacity."""
-    scale, first = random.below(16), random.of([0, random.of_digits(63, "tcp first"), TOP - random.of_digits(20)])
+    scale, first = random.below(256) if random.one_in(12) else random.below(16), random.of([0, random.of_digits(63, "tcp first"), TOP - random.of_digits(20)])
     unit, capacity = 2 ** min(scale, MOST_SCALE), random.of_digits(30, "tcp capacity")
     free = random.of([0, capacity, 65535 * unit, 65536 * unit, unit * random.below(9), random.of_digits(30)])
     window_end = min(TOP, first + free) if not random.one_in(12) else random.wide()
@@ -260,12 +260,12 @@ def numbers_of(random, name):
         sent = unacknowledged + random.of_digits(16)
         wl2 = near(random, wl2, unacknowledged, sent)
         ack = near(random, wl2, unacknowledged, sent)
-        return [near(random, ack, ack + 100), wl1, wl2, unacknowledged, sent, near(random, wl1), ack, random.of_digits(30)]
+        return [max(wl2, near(random, ack, ack + 100)), wl1, wl2, unacknowledged, sent, near(random, wl1), ack, random.of_digits(30)]
     if name == "peer_room":
         edge = random.of_digits(64)
         return [edge, near(random, edge), near(random, edge, edge + 2)]
     if name == "scaled":
-        return [random.below(65536), random.below(16)]
+        return [random.below(65536), random.below(256) if random.one_in(4) else random.below(17)]
     if name in ("checksum", "checksum_parts"):
         size = random.of_digits(11)
         cuts = sorted([random.below(size + 1), random.below(size + 1)]) if name == "checksum_parts" else []
@@ -289,8 +289,8 @@ def numbers_of(random, name):
 
 
 def draw(random, cases, lines):
+    """So many lines of one call."""
     cases.begin("tcp")
     for _ in range(lines):
-        name = random.of(list(CALLS))
-        numbers = numbers_of(random, name)
-        cases.add(name, numbers, CALLS[name](*numbers))
+        numbers = numbers_of(random, random.own)
+        cases.add(random.own, numbers, CALLS[random.own](*numbers))

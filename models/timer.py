@@ -5,6 +5,8 @@ from showing import truth
 import tcp
 
 TICK = 1
+# The last moment, since moments have a sign.
+END = 2 ** 63 - 1
 RUNS = Test("timer: sent while it runs")
 EMPTY = Order("timer: first position that is sent and the end")
 TIMES = Test("timer: sent while a segment is timed")
@@ -27,7 +29,7 @@ class Timer:
         return " ".join(str("-" if it is None else it) for it in (self.rto, self.expiry, self.timed and self.timed[0]))
 
     def restart(self, now):
-        self.expiry = TOP if LAST(now + self.rto > TOP) else now + self.rto
+        self.expiry = END if LAST(now + self.rto > END) else now + self.rto
 
     def start(self, now):
         if not RUNS(self.expiry is not None):
@@ -63,11 +65,13 @@ class Timer:
             TIMED.least(ack, self.timed[0])
             if ack > self.timed[0]:
                 self.take_sample(now)
-        ALL.least(ack, sent)
         NEW.least(ack, first)
+        if ack <= first:
+            return "done"
+        ALL.least(ack, sent)
         if ack >= sent:
             self.stop()
-        elif ack > first:
+        else:
             self.restart(now)
         return "done"
 
@@ -91,7 +95,7 @@ def numbers_of(random, timer, name, sender):
     if name == "stop":
         return []
     if name == "expire" and timer.expiry is not None:
-        return [tcp.near(random, timer.expiry)]
+        return [min(END, tcp.near(random, timer.expiry))]
     if name == "sent":
         pos = random.of([sent, sent, first, tcp.near(random, first, sent)])
         end = max(0, pos - 3) if random.one_in(12) else min(TOP, pos + random.below(40))
@@ -109,13 +113,13 @@ def draw(random, cases, lines):
         timer = Timer(*numbers)
         cases.begin(" ".join(["timer", *map(str, numbers)]), timer.show())
         first = sent = random.of_digits(64)
-        now = random.of([0, random.of_digits(50), TOP - random.of_digits(30)])
+        now = random.of([0, random.of_digits(50), END - random.of_digits(30)])
         for _ in range(10 + random.below(30)):
-            name = random.of(CALLS)
+            name = random.name(CALLS)
             numbers = numbers_of(random, timer, name, (first, sent, now))
             cases.add(name, numbers, getattr(timer, name)(*numbers), timer.show())
             if name == "sent":
                 sent = max(sent, numbers[1])
             if name == "acknowledged" and numbers[2] <= sent:
                 first = max(first, numbers[2])
-            now = min(TOP, now + random.of_digits(22))
+            now = min(END, now + random.of_digits(22))

@@ -39,8 +39,8 @@ DIGESTS = {
 }
 
 # What of net-base's src/proved is taken.
-PROVED = ["net_ring", "net_packets", "net_assembler", "net_base/time", "net_base/time.rs", "net_base/rand.rs"]
-PROVED += ["contracts.rs"]
+PROVED = ["net_ring", "net_packets", "net_assembler", "net_base/time", "net_base/time.rs", "net_base/rand"]
+PROVED += ["net_base/rand.rs"]
 MANAGED = (MODULES / "proved/managed.rs").read_text()
 DEFMT = '#[cfg_attr(feature = "defmt", derive(defmt::Format))]\n'
 
@@ -52,7 +52,7 @@ CALL = '''    #[cfg_attr(target_pointer_width = "32", inline(never))]
 CHANGES = [
     # Storage is that of the crate `managed`, and nothing else becomes a ring by `into`.
     ("net_ring/managed.rs", r"^use .*?^(/// A list.*?)^impl<'a, T> Storage<T> for &'a mut .*\Z", r"\1" + MANAGED, 1),
-    ("net_ring/ring_buffer.rs", r"^use crate::rattle::Vec;\n(.*?)^impl<'a, T> From<&.*?(?=^/// Resets each)", r"\1", 1),
+    ("net_ring/ring_buffer.rs", r"^(use crate::rattle::prelude::\*;\n.*?)^impl<'a, T> From<&.*?(?=^/// Resets each)", r"\1", 1),
     # What is printed, and what smoltcp's tests look at.
     ("net_ring/ring_buffer.rs", r"^    (?=(?:storage: S|head: RingHead),$)", "    pub(crate) ", 2),
     ("net_packets/packet_buffer.rs", r"^    (?=(?:head: PacketsHead|slots: M|bytes: B),$)", "    pub(crate) ", 3),
@@ -60,9 +60,9 @@ CHANGES = [
     ("net_ring/error.rs", r"^(?=pub struct (?:Full|Empty);)", DEFMT, 2),
     ("net_packets/packet_metadata.rs", r"^(?=pub struct PacketMetadata<H>)", DEFMT, 1),
     # One copy of the assembler's rule.
-    ("net_assembler/assembler/head.rs", r"add_range\(runs, offset, size, false, turns\)", "add_apart(runs, offset, size, turns)", 1),
+    ("net_assembler/assembler.rs", r"self\.add_counted\(offset, size, .*?\)\)$", "self.head.add(&mut self.runs, offset, size)", 1),
     # Where numbers of 64 bits take two registers, a call is less code than such a sum.
-    ("net_base/time/instant.rs", r"^    #\[inline\]\n(?=    pub fn saturating_|    fn sub\(self, rhs: Instant\))", CALL, 3),
+    ("net_base/time/instant.rs", r"^    #\[inline\]\n(?=    pub fn saturating_(?:add|sub)\b|    fn sub\(self, rhs: Instant\))", CALL, 3),
 ]
 
 # In smoltcp's test modules, what names a private field, or what the module around them imports.
@@ -136,7 +136,7 @@ def proved_files():
     for name, pattern, by, count in CHANGES:
         new[name] = changed(source / name, pattern, by, count, new.get(name, ""))
     for name, text in new.items():
-        text = re.sub(r"\bcrate::(rattle|contracts)\b", r"crate::proved::\1", text)
+        text = re.sub(r"\bcrate::(rattle)\b", r"crate::proved::\1", text)
         # Examples are net-base's, which runs them.
         new[name] = re.sub(r"```(.*)\n((?:.*\n)*?.*```)", lambda fence: f"```{fence[1] or 'ignore'}\n{fence[2]}", text)
     new["mod.rs"] = (MODULES / "proved/mod.rs").read_text()

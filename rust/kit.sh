@@ -15,7 +15,7 @@ mkdir -p "$kit/lists/partial" "$kit/debs"
 kit=$(cd "$kit" && pwd)
 
 without() {
-    echo "kit: $*" >&2
+    echo "kit: not run: $*" >&2
     exit 2
 }
 

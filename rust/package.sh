@@ -1,5 +1,6 @@
 #!/bin/sh
-# Packs the crate, and builds and tests it from the archive, where each file that README links or names has to be.
+# Packs the crate, and builds and tests it from the archive, where each file that README links or names has to be: its
+# tests, its examples, those of the documentation, and what must not compile.
 set -eu
 cd "$(dirname "$0")"
 out=$(mktemp -d)
@@ -14,8 +15,16 @@ for file in $names $links; do
     # shellcheck disable=SC2086
     ls -d $file > /dev/null 2>&1 || { echo "package: README names $file, which isn't in the archive" >&2; exit 1; }
 done
-export CARGO_TARGET_DIR="$out/target"
-cargo test --offline --quiet
+export CARGO_TARGET_DIR="${CARGO_TARGET_DIR:-$out/target}/package"
+# Without Rust's own tests of overflow, and without assertions of debug builds: what must panic does by a test of the crate's.
+export CARGO_PROFILE_DEV_OVERFLOW_CHECKS=false CARGO_PROFILE_DEV_DEBUG_ASSERTIONS=false
+cargo test --offline --quiet --lib --tests
+# Codes of what must not compile are compared where rustdoc's unstable features are on.
+RUSTC_BOOTSTRAP=1 cargo test --offline --doc > "$out/said" 2>&1 || { cat "$out/said"; exit 1; }
+refused=$(grep -c 'Refused.* - compile fail ... ok' "$out/said")
+wanted=$(grep -c '^```compile_fail' src/refused.txt)
+[ "$refused" = "$wanted" ] || { echo "package: of $wanted texts that must not compile $refused are refused" >&2; exit 1; }
+cargo build --offline --quiet --examples
 for example in stream reassembly bridge interrupt; do
-    cargo run --offline --quiet --example "$example" > /dev/null
+    "$CARGO_TARGET_DIR/debug/examples/$example" > "$out/said" || { echo "package: the example $example failed" >&2; exit 1; }
 done

@@ -21,7 +21,7 @@ In prose, between backquotes,
   follow, of one of that name.
 
 What docs/TRUST.md counts has to be as many in the crates: declarations of C functions, which are axioms, impls that are
-unsafe, and proofs by hand.
+unsafe, proofs by hand, and lines of the definitions to read (`definitions.py`).
 
 Says what is not in the sources, and ends with status 1 if there is anything.
 """
@@ -30,14 +30,16 @@ import pathlib
 import re
 import sys
 
+import definitions
+
 ROOT = pathlib.Path(__file__).resolve().parent.parent
 # The crates whose lines doc comments quote as examples.
 EXAMPLES = ["net_examples", "net_core_tests"]
 # Where names are looked for.
-SOURCES = ["crates/**/*", "models/*", "compare/**/*", "rust/**/*", "c/**/*", "tools/*", "crates.txt", "HANDLES", ".ci/run", "*", "docs/*"]
+SOURCES = ["crates/**/*", "models/*", "compare/**/*", "rust/**/*", "c/**/*", "tools/**/*", "crates.txt", "HANDLES", ".ci/run", "*", "docs/*"]
 ELSEWHERE = set("""
     WouldBlock must_use non_exhaustive plant tidy my_crate directory logic dac8208d650f15bf axioms trusted nat defmt
-    Format iproute2 util my CAUSE DATA END MODULE PATH start_lib __builtin_add_overflow int32_t mtu softfp
+    Format Debug2Format Display2Format spsc iproute2 util my CAUSE DATA END MODULE PATH start_lib __builtin_add_overflow int32_t mtu softfp
     c.storage-1.given
 """.split())
 NAME = re.compile(r"[A-Za-z_][A-Za-z0-9_]*")
@@ -301,7 +303,7 @@ def main():
             lines = re.match(r",? (\d+) lines", behind)
             if lines and not has_lines(span, int(lines.group(1))):
                 miss(page, number, f"{span} hasn't {lines.group(1)} lines")
-    for what in miscounted():
+    for what in [*miscounted(), *definitions.miscounted()]:
         miss(ROOT / "docs/TRUST.md", 1, what)
     print(f"{counts['blocks']} quoted blocks are in the sources")
     print(f"{counts['examples']} examples of doc comments are in {', '.join(EXAMPLES)}")

@@ -3,26 +3,23 @@
 
     python3 tools/edits.py [CRATE ..]             all edits, or those of some crates, by `rt must-fail`
     python3 tools/edits.py --log FILE             all edits, by what `rt ci` printed into a file
-    python3 tools/edits.py --open CRATE EDIT      the goals that are open with this edit and not without
+    python3 tools/edits.py --table                the table of CONTRIBUTING.md alone: edits and tests that it names are there
     python3 tools/edits.py --twins [CRATE ..]     the twins of all edits, or of those of some crates
 
-An edit has a line `clause: FUNCTION CLAUSE` besides those that `rt` reads: the function as `rt check
---only` takes it, and the name of one of its `ensures`. The name is `ensures` if the contract has a
-single clause without a name, or is proved as one goal, as that of a call that lends. `rt must-fail`, and
-so `rt ci`, prints the first goal that is open with the edit, where it arises in the source or where an
-answer to it fails; that has to be a goal of this clause of this function. A callee's precondition, a
-loop's invariant, and a name that a proof no longer finds refuse an edit too, and say nothing of the
-contract.
+CONTRIBUTING.md has a table of wrong bodies. A row names the edit, and the function, as `rt check --only`
+takes it, with the name of one of its `ensures`; or the test that refuses the body. The name is `ensures`
+if the contract has a single clause without a name, or is proved as one goal, as that of a call that
+lends. `rt must-fail`, and so `rt ci`, prints the first goal that is open with the edit, where it arises
+in the source or where an answer to it fails; that has to be a goal of this clause of this function. A
+callee's precondition, a loop's invariant, and a name that a proof no longer finds refuse an edit too,
+and say nothing of the contract.
 
-An answer may fail because the clause is false with the edit, or because a value that it names changed.
-So `--open` takes the function's answers away, checks it with and without the edit, and prints the
-goals that are open only with the edit, and those that are open in both, which say nothing.
+A right body of the same shape may be refused like the edit. So each `new:` is followed by a line
+`# twin:`, which `rt` takes for a comment, the text of a right body in its place. `--twins` checks the
+function with these texts, and it has to be proved.
 
-A right body of the same shape may be refused like the edit. So each `new:` is followed by a line `twin:`,
-the text of a right body in its place. `--twins` checks the function with these texts, and it has to be
-proved.
-
-Ends with status 1 if an edit has no such line, another goal refuses it, or a twin isn't proved.
+Ends with status 1 if an edit is in no row, a row names nothing, another goal refuses an edit, or a twin
+isn't proved.
 """
 import os
 import pathlib
@@ -34,19 +31,41 @@ import tempfile
 
 ROOT = pathlib.Path(__file__).resolve().parent.parent
 CRATES = ROOT / "crates"
+PAGE = ROOT / "CONTRIBUTING.md"
+# A row: the wrong body; its edit, with the function and the clause, or a test.
+ROW = re.compile(r"^\| ([^|]+) \| `(\w+)/(\w+)` \| (?:`([\w:]+)` (\w+)|a test) \|$", re.M)
 OPEN_GOAL = re.compile(r"(src/\S+?):(\d+):\d+: .*?\(`([^`]*)(`?)")
 FAILED_ANSWER = re.compile(r"proofs/(\S+)/\w+\.antt:\d+:\d+: error: (?:\d+ declarations that depend on )?`([^`]*)`")
 
 
-def lines_of(edit, word):
-    """The texts after this word in the lines of an edit."""
-    return [it[len(word) + 2 :] for it in edit.read_text().split("\n") if it.startswith(f"{word}: ")]
+def table():
+    """The function and the clause of each edit that the page names, and the tests that it names."""
+    rows = [row[1:] for row in ROW.findall(PAGE.read_text())]
+    clauses = {f"{crate}/{name}": (function, clause) for crate, name, function, clause in rows if function}
+    return clauses, [(crate, name) for crate, name, function, _ in rows if not function]
+
+
+def name_of(edit):
+    """The name of an edit in the table."""
+    return f"{edit.parent.parent.name}/{edit.stem}"
+
+
+def differing():
+    """Prints each edit that no row has, and each row whose edit or test isn't there; returns how many."""
+    clauses, tests = table()
+    there = {name_of(it) for it in CRATES.glob("*/must-fail/*.edit")}
+    wrong = [f"{it}: no row of {PAGE.name} has this edit" for it in sorted(there - set(clauses))]
+    wrong += [f"{it}: {PAGE.name} names this edit, and there is none" for it in sorted(set(clauses) - there)]
+    for crate, name in tests:
+        texts = "".join(path.read_text() for path in (CRATES / crate / "src").rglob("*.rt"))
+        if not re.search(rf"#\[test\]\nfn {name}\(", texts):
+            wrong.append(f"{crate}/{name}: {PAGE.name} names this test, and there is none")
+    print("\n".join([*wrong, f"{len(clauses)} edits and {len(tests)} tests in rows, {len(wrong)} differ"]))
+    return len(wrong)
 
 
 def edited(folder, edit, by="new"):
-    """The texts of the files that an edit changes, by their path in the crate; by its twin's texts if
-    that is asked for.
-    """
+    """The texts of the files that an edit changes, by their path in the crate; by its twin's texts if that is asked for."""
     texts, path, old = {}, "", ""
     for line in edit.read_text().split("\n"):
         word, _, rest = line.partition(": ")
@@ -108,24 +127,25 @@ def must_fail(folders):
 
 def compare(folders, printed):
     """Prints each edit that has no clause, or that is refused by something else; returns how many."""
-    told = dict(re.findall(r"must-fail (\S+\.edit): (.*)", printed))
-    wrong = 0
+    told = dict(re.findall(r"must-fail (\S+)\.edit: (.*)", printed))
+    clauses, right, wrong = table()[0], 0, 0
     for edit in [it for folder in folders for it in sorted(folder.glob("must-fail/*.edit"))]:
-        name = f"{edit.parent.parent.name}/{edit.name}"
+        name = name_of(edit)
         said = told.get(name, "nothing was said of it")
-        wanted = (lines_of(edit, "clause") or [""])[0].split()
+        wanted = clauses.get(name, ())
         is_refused = len(wanted) == 2 and "refused, as it must be:" in said
         if is_refused and is_refused_by(said, edited(edit.parent.parent, edit), *wanted):
+            right += 1
             print(f"{name}: {' '.join(wanted)}")
         else:
             wrong += 1
-            print(f"{name}: WANTED {' '.join(wanted) or 'a line clause:'}\n    {said}")
-    print(f"{len(told) - wrong} edits are refused by their clauses, {wrong} are not")
+            print(f"{name}: WANTED {' '.join(wanted) or 'a row of CONTRIBUTING.md'}\n    {said}")
+    print(f"{right} edits are refused by their clauses, {wrong} are not")
     return wrong
 
 
-def checked(crate, texts, function, keeps_answers):
-    """What the check of a function ended with and printed, with these texts, and with its answers or without."""
+def checked(crate, texts, function):
+    """What the check of a function ended with and printed, with these texts."""
     with tempfile.TemporaryDirectory(prefix="edits-", dir=ROOT.parent) as room:
         room = pathlib.Path(room)
         (room / "crates").mkdir()
@@ -136,32 +156,22 @@ def checked(crate, texts, function, keeps_answers):
         folder = room / "crates" / crate
         for path, text in texts.items():
             (folder / path).write_text(text)
-        for answers in [] if keeps_answers else folder.glob("proofs/**/Answers.antt"):
-            if "::".join(answers.parent.relative_to(folder / "proofs").parts) == function:
-                answers.unlink()
-        holes = [] if keeps_answers else ["--allow-holes"]
-        words = ["rt", "check", *holes, "--jobs", "1", "--only", function]
+        words = ["rt", "check", "--jobs", "1", "--only", function]
         ran = subprocess.run(words, cwd=folder, capture_output=True, text=True)
         return ran.returncode, ran.stdout + ran.stderr
-
-
-def open_goals(crate, texts, function):
-    """The goals of a function that are open with these texts, when its answers are taken away."""
-    said = checked(crate, texts, function, keeps_answers=False)[1]
-    return {it[2] for it in OPEN_GOAL.findall(said) if it[3]} | {it[1] for it in FAILED_ANSWER.findall(said)}
 
 
 def try_twins(folders):
     """Checks the twin of each edit; returns how many edits have none, or one that isn't proved."""
     wrong = 0
     for edit in [it for folder in folders for it in sorted(folder.glob("must-fail/*.edit"))]:
-        folder, name = edit.parent.parent, f"{edit.parent.parent.name}/{edit.name}"
-        if len(lines_of(edit, "twin")) != len(lines_of(edit, "new")):
+        folder, name, text = edit.parent.parent, name_of(edit), edit.read_text()
+        if text.count("\n# twin:") != text.count("\nnew:"):
             wrong += 1
             print(f"{name}: HAS NO TWIN")
             continue
-        function = lines_of(edit, "clause")[0].split()[0]
-        status, said = checked(folder.name, edited(folder, edit, "twin"), function, keeps_answers=True)
+        function = table()[0][name][0]
+        status, said = checked(folder.name, edited(folder, edit, "# twin"), function)
         if status == 0 and f"fn {folder.name}::{function}: proved" in said:
             print(f"{name}: its twin is proved")
             continue
@@ -172,19 +182,9 @@ def try_twins(folders):
     return wrong
 
 
-def show_open(crate, name):
-    """Prints which goals of the edit's function are open with the edit, without its answers."""
-    edit = CRATES / crate / "must-fail" / f"{name.removesuffix('.edit')}.edit"
-    function = lines_of(edit, "clause")[0].split()[0]
-    before = open_goals(crate, {}, function)
-    after = open_goals(crate, edited(CRATES / crate, edit), function)
-    print(f"open with the edit alone: {', '.join(sorted(after - before)) or 'none'}")
-    print(f"open without answers, with the edit or not: {', '.join(sorted(after & before)) or 'none'}")
-
-
 def main():
-    if sys.argv[1:2] == ["--open"]:
-        return show_open(*sys.argv[2:4])
+    if sys.argv[1:2] == ["--table"]:
+        return 1 if differing() else 0
     if sys.argv[1:2] == ["--log"]:
         return 1 if compare(folders_of([]), pathlib.Path(sys.argv[2]).read_text()) else 0
     if sys.argv[1:2] == ["--twins"]:

@@ -8,17 +8,18 @@
 
 It reads, in the order of the modules in lib.rt, but those in FIRST before,
 - each `#[unsafe(no_mangle)] pub extern "C" fn`, with its doc comment;
-- each `pub const NET_BASE_..` of an integer type, and as `NET_BASE_NONE` what the function `no_number` returns: no constant
-  knows how many bits a `usize` has;
+- the type `Status`, an enum in C, whose enumerators are the constants `NET_BASE_..` of that type, and as `NET_BASE_NONE` what
+  the function `no_number` returns: no constant knows how many bits a `usize` has;
 - each `#[repr(C)]` struct that one of these takes or returns, of this crate or of one that it uses.
 
 A slice is a pointer and then a length, with `_length` after the slice's name; `&T` and `&mut T` are pointers. In
 C a struct's name is in snake case, without `Net` before and `Head` after it, and has the prefix `net_base_`. The doc
 comment of a module heads its section; of a struct of another crate only its first paragraph is taken. The duties and
-refusals in the crate's own comment are in the header and in docs/FFI.md.
+refusals in the crate's own comment are in the header and in docs/FFI.md. The index in the header is that of heads.txt.
 """
 import argparse
 import dataclasses
+import hashlib
 import pathlib
 import re
 import sys
@@ -28,25 +29,34 @@ ROOT = pathlib.Path(__file__).resolve().parent.parent
 EXPORTS = ROOT / "crates/net_ffi"
 HEADER = ROOT / "c/net_base.h"
 CONFIG = ROOT / "c/net_base.pc"
+ABI = ROOT / "c/abi.txt"
 # Modules whose sections come first: what the others refer to.
 FIRST = ["refusals", "ring", "results", "packets", "assembler", "fragments", "receiver", "sender", "scoreboard"]
 FIRST += ["finite_receiver", "finite_sender", "tcp", "advertised_window", "peer_window",
-          "retransmission_timeout", "retransmission_timer", "rtt_estimate", "parts_sum"]
+          "retransmission", "parts_sum"]
 PAGE = ROOT / "docs/FFI.md"
 PAGE_BEGIN = "<!-- Written by tools/ffi.py from crates/net_ffi/src/lib.rt, up to the line END. -->"
 PAGE_END = "<!-- END -->"
+# A program of which the page has the calls of both ends of a stream, from a comment on up to another.
+STREAM = ROOT / "c/programs/stream.c"
+STREAM_BEGIN = "<!-- Written by tools/ffi.py from c/programs/stream.c, up to the line END. -->"
+FROM, TO = "/* The two ends of a stream. */", "/* The end of what docs/FFI.md shows. */"
 BEGIN = "/* Written by tools/ffi.py, up to the line END. */"
 END = "/* END */"
 WIDTH = 100
 C_TYPES = {"usize": "size_t", "bool": "bool"}
 C_TYPES |= {f"{sign}{bits}": f"{'u' * (sign == 'u')}int{bits}_t" for sign in "iu" for bits in (8, 16, 32, 64)}
+# The type of the statuses, an alias of `u32`, and what says in C that one of it isn't to be thrown away.
+STATUS, MUST_USE = "Status", "NET_BASE_MUST_USE"
+C_TYPES[STATUS] = "enum net_base_status"
 C_LIMITS = {"usize": "SIZE"}
 C_LIMITS |= {f"{sign}{bits}": f"{'U' * (sign == 'u')}INT{bits}" for sign in "iu" for bits in (8, 16, 32, 64)}
 
 
 @dataclasses.dataclass
 class Item:
-    """A struct (fields as members), a constant (its value as text) or an export (parameters as members)."""
+    """A struct (fields as members), an enum or a constant (its value as text), or an export (parameters as members). The
+    members of an enum are its constants."""
 
     kind: str
     name: str
@@ -62,6 +72,7 @@ class Member:
     name: str
     type: str
     doc: list
+    is_public: bool
 
 
 def split_top(text):
@@ -91,8 +102,8 @@ def members_of(text):
     code = re.sub(r"^\s*//(?!/).*$|#\[[^\]]*\]", "", text, flags=re.M)
     for part in split_top(re.sub(r"(?:^\s*///.*\n)+", kept, code, flags=re.M)):
         doc, member = re.fullmatch(r"\s*(?:\0(\d+)\0)?(.*)", part, flags=re.S).groups()
-        name, kind = re.fullmatch(r"(?:pub )?(?:mut )?(\w+)\s*:\s*(.+)", member.strip(), flags=re.S).groups()
-        found.append(Member(name, plain_type(kind), doc_of(docs[int(doc)]) if doc else []))
+        public, name, kind = re.fullmatch(r"(pub )?(?:mut )?(\w+)\s*:\s*(.+)", member.strip(), flags=re.S).groups()
+        found.append(Member(name, plain_type(kind), doc_of(docs[int(doc)]) if doc else [], bool(public)))
     return found
 
 
@@ -115,7 +126,7 @@ def closing(text, at):
 REQUIRES = "# Requires"
 ITEM = re.compile(
     r"(?P<head>(?:^[ \t]*(?:///.*|#\[.*\])\n)*)"
-    r'^pub (?:(?P<struct>struct)|(?P<const>const)|(?:unsafe )?extern "C" (?P<fn>fn)) (?P<name>\w+)',
+    r'^pub (?:(?P<struct>struct)|(?P<enum>type)|(?P<const>const)|(?:unsafe )?extern "C" (?P<fn>fn)) (?P<name>\w+)',
     flags=re.M,
 )
 
@@ -129,6 +140,8 @@ def items_of(path):
             kind, value = re.match(r"\s*:\s*(\w+)\s*=\s*(.*?);", text[at:], flags=re.S).groups()
             if name.startswith("NET_BASE_"):
                 yield Item("const", name, doc_of(head), type=kind, text=value)
+        elif match["enum"] and name == STATUS:
+            yield Item("enum", name, doc_of(head))
         elif match["struct"] and "#[repr(C)]" in head:
             opening = text.index("{", at)
             yield Item("struct", name, doc_of(head), members_of(text[opening + 1 : closing(text, opening)]))
@@ -141,7 +154,7 @@ def items_of(path):
             if requires != (REQUIRES in doc):
                 sys.exit(f"ffi: {name}: a clause `requires` and a heading `{REQUIRES}` go together")
             yield Item("fn", name, doc, members, plain_type(result[1]) if result else "", requires=requires)
-    for head in re.findall(r"((?:^///.*\n)+)(?:^#\[.*\n)*^pub\(crate\) fn no_number\(\) -> usize$", text, flags=re.M):
+    for head in re.findall(r"((?:^///.*\n)+)(?:^#\[.*\n)*^pub fn no_number\(\) -> usize$", text, flags=re.M):
         yield Item("const", "NET_BASE_NONE", doc_of(head), type="usize", text="usize::MAX")
 
 
@@ -181,21 +194,10 @@ def structs_of(name):
     return name
 
 
-# What a refused call returns in place of a number, by its type; fields that say how many there are, which are 0 then.
-REFUSED = {"bool": "false", "usize": "MAX", "u64": "MAX", "i64": "MAX"}
-COUNTS = {"count", "contiguous", "length", "size"}
-
-
-def refusal(item, structs):
-    """What a refused call of an export returns: a word, or one for each field of a struct. `MAX` is the greatest number."""
-    if item.type in structs:
-        fields = structs[item.type].members
-        if fields[0].name == "status":
-            return ["REFUSED", *["0" for _ in fields[1:]]]
-        return ["0" if it.name in COUNTS else REFUSED[it.type] for it in fields]
-    if item.type == "u32" and "NET_BASE_" in "".join(item.doc):
-        return "REFUSED"
-    return REFUSED.get(item.type, "0") if item.type else ""
+def refusal(kind):
+    """What a refused call returns in place of a type, as code: that of a struct has its own function in net_ffi."""
+    names = {"": "", "bool": "false", "usize": "refusals::no_number()", "u64": "u64::MAX", STATUS: "refusals::NET_BASE_REFUSED"}
+    return names.get(kind, "0" if kind in C_TYPES else f"refused_{snake(kind)}()")
 
 
 class Library:
@@ -209,10 +211,12 @@ class Library:
             for item in [item for path in paths for item in items_of(path)]:
                 if item.kind == "fn":
                     self.need(section, [member.type for member in item.members] + [item.type])
-                if item.kind != "struct":
+                if item.type == STATUS and item.kind == "const":
+                    next(it for it in section if it.kind == "enum").members.append(item)
+                elif item.kind != "struct":
                     section.append(item)
             if section:
-                section.sort(key=lambda item: ["struct", "const", "fn"].index(item.kind))
+                section.sort(key=lambda item: ["struct", "enum", "const", "fn"].index(item.kind))
                 self.sections.append((module_doc(paths[0]), section))
 
     def all_structs(self, crate):
@@ -242,9 +246,13 @@ class Library:
         return [item for _, section in self.sections for item in section if item.kind == "fn"]
 
 
+def snake(name):
+    """A type's name in snake case."""
+    return re.sub(r"(?<=[a-z0-9])(?=[A-Z])", "_", name).lower()
+
+
 def c_struct(name):
-    words = re.sub(r"(?<=[a-z0-9])(?=[A-Z])", "_", re.sub(r"^Net|Head$", "", name)).lower()
-    return f"struct net_base_{words}"
+    return f"struct net_base_{snake(re.sub(r'^Net|Head$', '', name))}"
 
 
 def c_type(kind):
@@ -274,7 +282,7 @@ def c_text(lines, structs):
     """A doc comment with the words of C."""
     text = c_limits(plain_text(lines))
     text = re.sub(r"^# (\w+)\n\n(.)", lambda it: f"{it[1]}: {it[2].lower()}", text, flags=re.M)
-    text = re.sub(r"\b(\w+)\.len\(\)", r"\1_length", text)
+    text = re.sub(r"\b(\w+)\.len\(\)", r"\1_length", text).replace("`usize`", "`size_t`")
     return re.sub(r"`(\w+)`", lambda it: f"`{c_struct(it[1])}`" if it[1] in structs else it[0], text)
 
 
@@ -295,11 +303,11 @@ def c_comment(lines, structs, indent=""):
     """A comment, wrapped; none if there is no text."""
     if not lines:
         return []
-    wrapped = wrapped_text(c_text(lines, structs), WIDTH - len(indent) - 3)
-    if len(wrapped) == 1 and len(indent) + len(wrapped[0]) + 6 <= WIDTH:
-        return [f"{indent}/* {wrapped[0]} */"]
+    wrapped = wrapped_text(c_text(lines, structs), WIDTH - len(indent) - 4)
+    if len(wrapped) == 1 and len(indent) + len(wrapped[0]) + 7 <= WIDTH:
+        return [f"{indent}/** {wrapped[0]} */"]
     body = [f"{indent} * {line}".rstrip() for line in wrapped]
-    return [f"{indent}/* {wrapped[0]}"] + body[1:] + [f"{indent} */"]
+    return [f"{indent}/** {wrapped[0]}"] + body[1:] + [f"{indent} */"]
 
 
 def filled(head, parts, tail):
@@ -322,9 +330,21 @@ def c_item(item, structs):
             lines += c_comment(field.doc, structs, "    ")
             lines += [f"    {part};" for part in c_members(field)]
         return lines + ["};"]
+    if item.kind == "enum":
+        lines.append(f"{c_type(item.name)} {{")
+        for it in item.members:
+            lines += [*c_comment(it.doc, structs, "    "), f"    {it.name} = {it.text},"]
+        return [*lines, "    /** No status: it makes the type as wide on each processor, 32 bits. */",
+                "    NET_BASE_STATUS_WIDTH = 0x7fffffff", "};"]
     parameters = [part for member in item.members for part in c_members(member)]
     result = c_type(item.type) if item.type else "void"
-    return lines + filled(f"{result} {item.name}(", parameters or ["void"], ");")
+    must = f"{MUST_USE} " * (is_status(item.type, structs) or item.name.endswith("_init") and item.type == "bool")
+    return lines + filled(f"{must}{result} {item.name}(", parameters or ["void"], ");")
+
+
+def is_status(kind, structs):
+    """Whether a type is that of the statuses, or a struct with one first."""
+    return kind == STATUS or kind in structs and structs[kind].members[0].type == STATUS
 
 
 def c_limits(text):
@@ -358,10 +378,42 @@ def config():
     return "\n".join(lines) + "\n"
 
 
+def index_of(library):
+    """The index of heads.txt, by what the exports are for. Each export is in one task."""
+    from parts import heads
+
+    lines, named = [], []
+    for title, rows in heads.tasks_of(heads.TABLE.read_text()):
+        lines += [f"- {title}"]
+        for prefix, *names in rows:
+            named += [f"net_base_{prefix}{name}" for name in names]
+            lines += [f"  `net_base_{prefix}`: {', '.join(names)}"]
+    exports = [item.name for item in library.exports() if not item.name.startswith("net_base_abi_")]
+    if sorted(named) != sorted(exports):
+        sys.exit(f"ffi: not once in the index of heads.txt: {' '.join(sorted(set(named) ^ set(exports)) or named)}")
+    return lines
+
+
+# What isn't to be thrown away: C++17 and C23 say it in their own way, other compilers in that of GCC or not at all.
+MUST = f"""/** What is returned isn't to be thrown away. */
+#if defined __cplusplus && __cplusplus >= 201703L || defined __STDC_VERSION__ && __STDC_VERSION__ >= 202311L
+#define {MUST_USE} [[nodiscard]]
+#elif defined __GNUC__
+#define {MUST_USE} __attribute__((warn_unused_result))
+#else
+#define {MUST_USE}
+#endif"""
+
+
 def c_part(library, crate):
     """The first comment of the header, and the declarations for C."""
     version = version_of("rust")
-    lines = ["/* SPDX-License-Identifier: 0BSD */", f"/* net-base {version}.", " *"]
+    lines = ["/* SPDX-License-Identifier: 0BSD */", "/** @file", f" * net-base {version}.", " *"]
+    lines += [" * What for, and which calls", " *"]
+    for line in index_of(library):
+        later = " " * (4 if line.startswith("  ") else 2)
+        lines += [f" * {row}" for row in textwrap.wrap(line.strip(), WIDTH - 3, initial_indent=later[2:], subsequent_indent=later)]
+    lines += [" *"]
     for heading, text in root_sections(crate):
         lines += [f" * {heading}", " *"] * bool(heading)
         lines += [f" * {row}".rstrip() for row in wrapped_text(c_text(text.splitlines(), library.structs), WIDTH - 3)]
@@ -369,25 +421,46 @@ def c_part(library, crate):
     lines[-1] = " */"
     numbers = zip(("MAJOR", "MINOR", "PATCH"), version.split("."))
     lines += ["#ifndef NET_BASE_H", "#define NET_BASE_H", "#include <stdbool.h>", "#include <stddef.h>", "#include <stdint.h>", ""]
-    lines += ["/* The version: until 1.0 names and structs may change with each minor number. */"]
-    lines += [f"#define NET_BASE_VERSION_{name} {number}" for name, number in numbers]
-    lines += ["", "#ifdef __cplusplus", 'extern "C" {', "#endif", "", BEGIN]
+    for name, number in numbers:
+        lines += [f"/** The {name.lower()} number: until 1.0 names and structs may change with each minor one. */",
+                  f"#define NET_BASE_VERSION_{name} {number}"]
+    lines += ["", MUST, "", "#ifdef __cplusplus", 'extern "C" {', "#endif", "", BEGIN]
     for doc, section in library.sections:
-        lines += [""] + c_comment(doc, library.structs)
+        lines += ["", *(re.sub(r"^/\*\*", "/*", it) for it in c_comment(doc, library.structs))]
         for item in section:
             lines += [""] + c_item(item, library.structs)
     return "\n".join(lines + ["", END, "", "#ifdef __cplusplus", "}", "#endif", "#endif"]) + "\n"
 
 
 def page(crate, path):
-    """The page with its duties and refusals written anew."""
-    before, rest = path.read_text().split(PAGE_BEGIN + "\n", 1)
-    parts = []
-    for heading, text in root_sections(crate):
+    """The page with its duties and refusals written anew, and with the program of a stream."""
+    text, parts = path.read_text(), []
+    shown = STREAM.read_text().split(FROM, 1)[1].split(TO, 1)[0]
+    text = between(text, STREAM_BEGIN, "\n" + "".join(f"    {it}".rstrip() + "\n" for it in (FROM + shown).rstrip().split("\n")) + "\n")
+    for heading, words in root_sections(crate):
         if heading in ("Duties", "Refusals"):
-            text = re.sub(r"\n(?! *\d+\. |\n)", " ", text)
-            parts.append(f"## {heading}\n\n" + "\n".join(wrapped_text(text, 120)))
-    return before + PAGE_BEGIN + "\n" + "\n\n".join(parts) + "\n" + PAGE_END + rest.split(PAGE_END, 1)[1]
+            words = re.sub(r"\n(?! *\d+\. |\n)", " ", words)
+            parts.append(f"## {heading}\n\n" + "\n".join(wrapped_text(words, 120)))
+    return between(text, PAGE_BEGIN, "\n\n".join(parts) + "\n")
+
+
+def between(text, begin, middle):
+    """A text with another middle, from the line that begins it up to the line END."""
+    before, rest = text.split(begin + "\n", 1)
+    return before + begin + "\n" + middle + PAGE_END + rest.split(PAGE_END, 1)[1]
+
+
+def abi(text):
+    """The lines of c/abi.txt: each number of the interface, with the digest of the header's declarations without comments.
+    A number that has another digest there is refused: the export in crates/net_ffi/src/version.rt wants the next one."""
+    bare = " ".join(re.sub(r"/\*.*?\*/|#define NET_BASE_VERSION_\w+ \d+", "", text, flags=re.S).split())
+    number = re.search(r"net_base_abi_(\d+)", bare)[1]
+    digest = hashlib.sha256(bare.encode()).hexdigest()[:16]
+    known = dict(line.split() for line in ABI.read_text().splitlines()) if ABI.exists() else {}
+    if known.get(number, digest) != digest:
+        sys.exit(f"ffi: structs or functions aren't those of net_base_abi_{number}: raise it in crates/net_ffi/src/version.rt, "
+                 f"or delete its line in {ABI.relative_to(ROOT)} if no release has this number")
+    return "".join(f"{it} {said}\n" for it, said in (known | {number: digest}).items())
 
 
 def without_layout(text):
@@ -415,6 +488,7 @@ def put(files, only_compares):
 def main():
     from parts import exports  # which import this file
     from parts import heads
+    from parts import layouts
     from parts import sequence
     from parts import shim
 
@@ -422,15 +496,17 @@ def main():
     parser.add_argument("--check", action="store_true", help="compare, write nothing")
     parser.add_argument("--tests", type=pathlib.Path, help="write the program of exports.txt to a file")
     parser.add_argument("--sequence", type=pathlib.Path, help="write the program of a sequence of calls to a file")
+    parser.add_argument("--layouts", type=pathlib.Path, help="write the program of the structs' layouts to a file")
     options = parser.parse_args()
-    programs = {options.tests: exports.program, options.sequence: sequence.sequence}
+    programs = {options.tests: exports.program, options.sequence: sequence.sequence, options.layouts: layouts.program}
     stale = not any(programs) and put(heads.written(), options.check)
     library = Library(EXPORTS)
     if any(programs):
         for path in filter(None, programs):
             path.write_text(programs[path](library))
         return
-    texts = {HEADER: c_part(library, EXPORTS), CONFIG: config(), shim.OUT: shim.text(library), PAGE: page(EXPORTS, PAGE)}
+    header = c_part(library, EXPORTS)
+    texts = {HEADER: header, ABI: abi(header), CONFIG: config(), shim.OUT: shim.text(library), PAGE: page(EXPORTS, PAGE)}
     stale |= put(texts, options.check)
     sys.exit(stale)
 

@@ -5,10 +5,11 @@
     python3 tools/guards.py --faults [K]   tries those in which one guard is weaker, or each Kth; status 1 if one is proved
     python3 tools/guards.py --print        prints the checked calls
 
-A function with guards, as tools/erase.py reads them, has a checked call, with its parameters and without preconditions: it
-returns if what a guard tests is false, and then calls the function. So it is proved only if the guards imply the
-preconditions; of a parameter of type `usize` it knows that it is one. They are a crate over copies of the libraries, as
-`rt check` or `rt lib` of a crate above them left them: otherwise those are proved first.
+A function that can be called from outside and requires something begins with guards, `prove!(..)`, and is marked
+`#[track_caller]`, but for a list. It has a checked call, with its parameters and without preconditions: that returns if
+what a guard tests is false, and then calls the function. So it is proved only if the guards imply the preconditions; of
+a parameter of type `usize` it knows that it is one. They are a crate over copies of the libraries, as `rt check` or `rt
+lib` of a crate above them left them: otherwise those are proved first.
 """
 import re
 import shutil
@@ -28,23 +29,86 @@ use net_assembler::laws::is_usize;
 use net_assembler::{Assembler, Turns};
 use net_base::phy::DeviceCapabilities;
 use net_base::time::{Duration, Instant};
-use net_receiver::{FiniteReceiverOver, FiniteSenderOver, ReceiverOver};
+use net_base::storage::FragmentsOver;
+use net_base::storage::fragments::table::FragmentSlot;
+use net_receiver::{FiniteReceiverOver, FiniteSenderOver, ReceiverOver, Scoreboard};
 use net_ring::{RingOver, Storage};
-use net_tcp::{AdvertisedWindow, MAX_SCALE, PartsSum, RetransmissionTimeout, RetransmissionTimer, RttEstimate};
-use net_tcp::{TimeoutBounds, Transmission, scaled};
+use net_tcp::AdvertisedWindow;
 use std::ops::{Add, AddAssign, Div, DivAssign, Mul, MulAssign, Shl, ShlAssign, Shr, ShrAssign, Sub, SubAssign};
 
 '''
+# Functions with a precondition that no guard at their beginning tests, so that there is no checked call of them:
+# why, and the statements that test it. What a closure counted is known once it has returned.
+SLICES = 'a slice of Rust tests its indices', ''
+CLOSURE = 'Rust knows that a closure can be called', ''
+COUNT = 'Rust knows that a closure can be called; what it counts is tested after the call'
+READ = (COUNT, 'let lent = part.len(); let answer = f(part); prove!(answer.0 <= lent, "more bytes than were lent");')
+MANY = 'let answer = f(self.storage.part_mut(from, to)); prove!(answer.0 <= to - from, "more elements than were lent");'
+UNGUARDED = {
+    'Storage::part': SLICES,
+    'Storage::part_mut': SLICES,
+    'Storage::element': SLICES,
+    'Storage::element_mut': SLICES,
+    'RingOver::enqueue_one_with': CLOSURE,
+    'RingOver::dequeue_one_with': CLOSURE,
+    'PacketsOver::dequeue_with': CLOSURE,
+    'RingOver::enqueue_many_with': (COUNT, MANY),
+    'RingOver::dequeue_many_with': (COUNT, MANY),
+    'PacketsOver::enqueue_with_infallible':
+        (COUNT, 'let count = f(self.bytes.part_mut(place.from, place.from + max_size)); '
+                'prove!(count <= max_size, "more bytes than were lent");'),
+    'ReceiverOver::read_with': READ,
+    'FiniteReceiverOver::read_with': READ,
+    'PartsSum::with_word':
+        ('no public call tells whether an odd count of bytes was added', 'prove!(!self.odd, "an odd count of bytes was added");'),
+    'PacketsOver::last_dequeued_mut':
+        ('no public call tells where the bytes before the read index begin',
+         'let capacity = self.bytes.count(); prove!(size <= capacity - self.head.bytes.length, "the bytes are not free"); '
+         'let from = self.head.bytes.last_dequeued_index(capacity, size); '
+         'prove!(size <= capacity - from, "the bytes are not contiguous");'),
+}
+BOUND = '"in any `usize`"'
 HEADER = re.compile(r'impl(?:<(.*?)>)? (?:\S+ for )?(\w+)(<.*>)?\s*')
 SIGNATURE = re.compile(r'fn (\w+)(?:<(.*?)>)?\(([^()]*)\)', re.S)
 
 
+def guards_of(eraser, body):
+    """What the guards test that a body begins with."""
+    j = eraser.next(body + 1)
+    while eraser.tokens[j][1] == 'prove':
+        begin = eraser.next(j + 2)
+        end = eraser.group(begin)
+        if BOUND not in eraser.source(begin, end):
+            yield eraser.source(begin + 1, eraser.until(begin + 1, ',', ')')).strip()
+        j = eraser.next(end + 1)
+
+
 def guarded():
-    """The functions with guards: name, header of the impl, signature, what the guards test, whether N is tested."""
+    """The functions that can be called from outside and require something, or have guards: name, header of the impl,
+    signature, what the guards test."""
+    left = set(UNGUARDED)
     for crate, _, text in erase.sources():
-        eraser = erase.Eraser(text, crate, unguarded=given.UNGUARDED)
+        eraser = erase.Eraser(text, crate)
         eraser.run()
-        yield from (function for function in eraser.guarded if function[3])
+        for owner, header, k, head, begin, body, pub in eraser.functions:
+            signature, name = eraser.source(k, begin), f'{owner}::{eraser.tokens[eraser.next(k + 1)][1]}'.removeprefix('::')
+            is_operator = 'ghost can_' in text[text.rfind(header, 0, eraser.tokens[k][2]):eraser.tokens[body][2]] if owner else False
+            is_called = pub is not None or is_operator or header.startswith(('trait', 'pub trait'))
+            if not is_called or crate == given.EXPORTS or owner.endswith('Head') or pub and re.search(r'Head\b', signature):
+                continue
+            asked = any(word[:1] == 'r' for kind, word, _ in eraser.tokens[begin:body] if kind == 'clause')
+            end = eraser.group(body) if eraser.tokens[body][1] == '{' else body
+            tests = [*guards_of(eraser, body)] if end > body else []
+            if name in UNGUARDED:
+                left -= {name}
+                if ' '.join(erase.words(UNGUARDED[name][1])) not in ' '.join(erase.words(eraser.source(body, end))):
+                    raise SystemExit(f'guards: {name} has other statements than the list')
+            elif asked or is_operator or tests:
+                if {*tests} - {'N >= 1'} and 'track_caller' not in eraser.source(head, k):
+                    raise SystemExit(f'guards: {name} has no #[track_caller]')
+                yield name, header, signature, tests
+    if left:
+        raise SystemExit(f'guards: no such functions: {left}')
 
 
 def weaker(test):
@@ -57,10 +121,10 @@ def weaker(test):
 
 def faulty():
     """The same, one of their guards weaker."""
-    for name, header, signature, tests, is_some in guarded():
+    for name, header, signature, tests in guarded():
         for k, test in enumerate(tests):
             for other in weaker(test):
-                yield name, header, signature, [*tests[:k], other, *tests[k + 1:]], is_some
+                yield name, header, signature, [*tests[:k], other, *tests[k + 1:]]
 
 
 def parts(text):
@@ -68,7 +132,7 @@ def parts(text):
     return [part.strip() for part in re.split(r',(?![^<]*>)', text) if part.strip()]
 
 
-def checked(title, header, signature, tests, is_some):
+def checked(title, header, signature, tests):
     """The checked call of a function, under another name. What it takes by value can be dropped; what it makes is
     returned, since the type of a result fits the memory."""
     outer, owner, arguments = HEADER.fullmatch(header).groups('') if header else ('', '', '')
@@ -80,7 +144,7 @@ def checked(title, header, signature, tests, is_some):
         passed, called = passed[1:], f'this.{name}'
     generics = ', '.join(part if re.search('^const |Drop', part) else part + (' + ' if ':' in part else ': ') + 'Drop'
                          for part in parts(outer) + parts(inner))
-    tests = ['N >= 1'] * is_some + [re.sub(r'\bself\b', 'this', re.sub(r'\bSelf\b', path, test)) for test in tests]
+    tests = [re.sub(r'\bself\b', 'this', re.sub(r'\bSelf\b', path, test)) for test in tests]
     lengths = [part.split(':')[0] for part in parameters if part.endswith(': usize')]
     call = f'{called}({", ".join(passed)})'
     result, refused, last = '', 'return', f'let _ = {call};'

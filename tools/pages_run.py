@@ -1,22 +1,26 @@
 #!/usr/bin/env python3
-"""Runs the commands that pages tell users, as the pages have them, in a fresh clone: python3 tools/pages_run.py [--all]
+"""Runs the commands that pages tell users, as the pages have them, in a copy of this folder without what git ignores:
 
-A command is a line of a block of a page, or a text of two words or more between backquotes, that begins with one of FIRST.
-A block that changes the folder is one command. `my.c` is the program in C of docs/FFI.md. Commands that take more than
-seconds, SLOW, are run with `--all` alone, and may say by status 2 that something is missing here; those of ELSEWHERE never.
-Both lists have the reasons; a name that ends in ` ..` is the beginning of commands. Status 1 if a command fails, or if a
-name of a list is on no page.
+    python3 tools/pages_run.py [--proved|--all]
+
+A command is a line of a block of a page, or a text of two words or more between backquotes, that begins with one of
+FIRST. A block that changes the folder is one command, which ends at the first of its lines that fails. `my.c` is the
+program in C of docs/FFI.md. Commands that take more than seconds, SLOW, are run with `--all` alone, and may say by
+status 2 that something is missing here; with `--proved` those that prove something are run alone; those of ELSEWHERE
+never. Both lists have the reasons; a name that ends in ` ..` is the beginning of commands. Status 1 if a command fails,
+or if a name of a list is on no page.
 """
 import os
 import pathlib
 import re
+import shutil
 import subprocess
 import sys
 import tempfile
 
 ROOT = pathlib.Path(__file__).resolve().parent.parent
 # The pages, and where the commands of each are run, unless they name that folder.
-PAGES = {"README.md": ".", "rust/README.md": "rust", "docs/FFI.md": ".", "overlay/README.md": "."}
+PAGES = {"README.md": ".", "rust/README.md": "rust", "docs/FFI.md": ".", "docs/NOTATION.md": ".", "overlay/README.md": "."}
 FIRST = r"cd|cargo|cc|sh|rt|rustup|python3|pkg-config|arm-none-eabi-gcc|echo|\.ci/run"
 WORDS = re.compile(rf"\(?(?:[A-Z_]+=\S+ )?(?:{FIRST})(?= |$)")
 
@@ -27,7 +31,7 @@ GATE = "the gate runs it too, in the repository"
 EMULATORS = "it wants compilers and emulators, and takes minutes"
 SLOW = {
     ".ci/run": "it is the gate",
-    "(cd crates/net_bench && rt run -- ring 4 < stdin)": PROVES,
+    "(cd crates/net_bench && rt try -- ring 4 < stdin)": "it wants the kit, and half a minute",
     "rt new crates/my_crate start_lib ..": PROVES,
     "(cd rust && cargo test --offline) && sh c/run.sh": GATE,
     "cargo test --offline": GATE,
@@ -42,13 +46,18 @@ SLOW = {
     "sh examples/endpoint/run.sh --runs": "it wants a TUN device, and takes an hour",
 }
 CHECKOUT = "it wants a checkout of smoltcp; overlay/test.py runs the script over a stand-in"
-TARGET = "it wants Rust's library, or a compiler, for another processor; c/targets.sh builds for it"
+TARGET = "it wants Rust's library, or a compiler, for another processor; c/targets.sh runs it, or builds for it"
 ELSEWHERE = {
     "cargo cinstall": "it wants cargo-c",
+    "rt lemma ..": "a reader gives the words",
+    "rt check": "a reader is in a crate's folder",
+    "rt check --margin": "a reader is in a crate's folder",
+    "rt version": "it proves nothing",
     "rustup target add": TARGET,
     "sh rust/kit.sh FOLDER TARGET": TARGET,
     "sh rust/targets.sh FOLDER": TARGET,
-    "(cd c && cargo build --profile small --target thumbv7em-none-eabi)": TARGET,
+    "(cd c && cargo build --release --target ..": TARGET,
+    "(cd c && cargo build --profile small --target ..": TARGET,
     "arm-none-eabi-gcc ..": TARGET,
     "cargo package": "package.sh runs it",
     "python3 overlay/overlay.py CHECKOUT [--into COPY] [--dry-run]": CHECKOUT,
@@ -70,7 +79,7 @@ def commands(text):
         lines = [re.sub(r"  +#.*", "", line).strip() for line in block]
         lines = [line for line in lines if WORDS.match(line)]
         if any(re.search(r"(?:^|&& )cd ", line) for line in lines):
-            yield "\n".join(lines)
+            yield " &&\n".join(lines)
         else:
             yield from lines
     prose = re.sub(r"^```.*?^```$", "", BLOCK.sub("", text), flags=re.M | re.S)
@@ -87,25 +96,33 @@ def listed(command, names):
 def main():
     with tempfile.TemporaryDirectory() as folder:
         clone = pathlib.Path(folder) / "net-base"
-        subprocess.run(["git", "clone", "--quiet", ROOT, clone], check=True)
+        words = ["git", "ls-files", "-z", "--cached", "--others", "--exclude-standard"]
+        for name in subprocess.run(words, cwd=ROOT, stdout=subprocess.PIPE, text=True, check=True).stdout.split("\0"):
+            if (ROOT / name).is_file():
+                (clone / name).parent.mkdir(parents=True, exist_ok=True)
+                shutil.copy2(ROOT / name, clone / name)
         program = next(block for block in blocks((clone / "docs/FFI.md").read_text()) if block[0].startswith("#include"))
         (clone / "my.c").write_text("\n".join(program) + "\n")
         environment = {name: value for name, value in os.environ.items() if name != "CARGO_TARGET_DIR"}
-        seen, run, failed = set(), 0, []
+        seen, run, failed, lacking = set(), 0, [], []
         for page, place in PAGES.items():
             for command in dict.fromkeys(commands((clone / page).read_text())):
                 seen |= {name for name in (listed(command, SLOW), listed(command, ELSEWHERE)) if name}
-                if listed(command, ELSEWHERE) or listed(command, SLOW) and "--all" not in sys.argv[1:]:
+                why = SLOW.get(listed(command, SLOW))
+                is_run = why == PROVES if "--proved" in sys.argv[1:] else why is None or "--all" in sys.argv[1:]
+                if listed(command, ELSEWHERE) or not is_run:
                     continue
                 at = clone if f" {place}/" in command else clone / place
                 done = subprocess.run(["sh", "-ec", command], cwd=at, env=environment, capture_output=True, text=True)
                 run += 1
-                if done.returncode and not (listed(command, SLOW) and done.returncode == 2):
-                    told = done.stdout[-2000:] + done.stderr[-2000:]
-                    failed.append(f"{page}: {command}: status {done.returncode}\n{told}")
+                told = f"{page}: {command}: status {done.returncode}\n{done.stdout[-2000:]}{done.stderr[-2000:]}"
+                if done.returncode == 127:
+                    lacking.append(f"not run, for want of a program, whose package has its name: {told}")
+                elif done.returncode and not (why and done.returncode == 2):
+                    failed.append(told)
     failed += [f"{name}: on no page" for name in (*SLOW, *ELSEWHERE) if name not in seen]
-    print("\n".join([*failed, f"{run} commands of {len(PAGES)} pages run"]))
-    sys.exit(bool(failed))
+    print("\n".join([*failed, *lacking, f"{run} commands of {len(PAGES)} pages run"]))
+    sys.exit(1 if failed else 2 if lacking else 0)
 
 
 if __name__ == "__main__":

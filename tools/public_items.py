@@ -55,18 +55,19 @@ def items(pages):
 
 
 def unshown(pages):
-    """Public methods of types with pages, and those that a page lacks; all, if it is the page of an alias."""
+    """Public methods of types with pages, and those that a page lacks. An alias's page shows those of its struct's."""
     methods, lacking = set(), []
     for source in sorted((ROOT / "rust/src").rglob("*.rs")):
         for name, body in IMPL.findall(source.read_text()):
             for page in pages.rglob(f"*.{name}.html"):
                 text = page.read_text()
+                struct = page.name.startswith("type.") and re.search(r'class="struct" href="([^"]*)"', text)
+                text = (page.parent / struct[1]).read_text() if struct else text
                 if "Redirecting to" in text:
                     continue
                 own = METHOD.findall(body)
                 methods.update(f"{name}::{method}" for method in own)
-                lacking += [f"{page.name} has no {method}" for method in own
-                            if page.name.startswith("type.") or f'id="method.{method}"' not in text]
+                lacking += [f"{page.name} has no {method}" for method in own if f'id="method.{method}"' not in text]
     return methods, lacking
 
 

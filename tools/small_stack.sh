@@ -1,10 +1,9 @@
 #!/bin/sh
 # Runs the programs and the tests with little stack: sh tools/small_stack.sh [KIB]
 #
-# It runs net_bench and net_cases, as `rt ci` or `rt run` built them, each on the words and the input that are
-# stored beside its sources, under `ulimit -s KIB`, 256 if it is left out. A program that takes more stack than that is
-# ended by a signal. What it writes must be what is stored. The rows of net_cases run each mode of net_bench.
-# Then it runs each test of the crates of tests, as `rt ci` or `rt test` built them.
+# It runs net_bench, as `rt ci` or `rt run` built it, on the words and the input that are stored beside its sources,
+# under `ulimit -s KIB`, 256 if it is left out. A program that takes more stack than that is ended by a signal. What it
+# writes must be what is stored. Then it runs each test of the crates of tests, as `rt ci` or `rt test` built them.
 set -eu
 
 root=$(cd "$(dirname "$0")/.." && pwd)
@@ -17,7 +16,7 @@ fail() {
     exit 1
 }
 
-for name in net_bench net_cases; do
+for name in net_bench; do
     crate=$root/crates/$name
     program=$crate/out/$name
     [ -x "$program" ] || fail "there is no $program: rt ci, or rt run in crates/$name"
@@ -49,4 +48,4 @@ for tests in "$root"/crates/*_tests/out/*_tests_tests; do
         count=$((count + 1))
     done
 done
-echo "small stack: 2 programs, $count tests, $kib KiB"
+echo "small stack: 1 program, $count tests, $kib KiB"

@@ -9,8 +9,8 @@ Left out are modules `laws`, other functions whose body is empty or calls only s
 std, most of whose methods are called by an operator or written by a derive, and traits of ours that no
 library implements: their users write the methods, and the library calls them.
 
-Tests and examples are the crates *_tests, net_examples, net_cases, whose rows are run, net_ffi, whose exports
-the tests in C call, and the files tests.rt; and, since the Cargo crate has the same text, its tests and examples, and
+Tests and examples are the crates *_tests, net_examples, net_ffi, whose exports the tests in C call, and the files
+tests.rt; and, since the Cargo crate has the same text, its tests and examples, and
 the examples in doc comments, which rustdoc runs.
 Named there is
 - a function where it is called in a file that brings it in by `use`, or by a path that ends in it;
@@ -47,7 +47,7 @@ PAIRS = {"(": ")", "[": "]", "{": "}"}
 def renamed():
     """The names that calls have in the Cargo crate alone, each with the one that it has here."""
     names = {}
-    for _file, old, new in erase_list.REPLACED:
+    for old, new, _files in erase_list.REPLACED:
         here, there = re.findall(r"\bfn (\w+)", old), re.findall(r"\bfn (\w+)", new)
         names.update((rust, rattle) for rattle, rust in zip(here, there) if rattle != rust)
     return names
@@ -71,7 +71,7 @@ def code(text):
 
 def is_test(file):
     crate = file.relative_to(ROOT).parts[1]
-    return crate.endswith("_tests") or crate in ("net_examples", "net_cases", "net_ffi") or file.name == "tests.rt"
+    return crate.endswith("_tests") or crate in ("net_examples", "net_ffi") or file.name == "tests.rt"
 
 
 def doc_examples(file):

@@ -4,19 +4,19 @@ they are so where it has 32:
 
     python3 tools/widths.py [--all] [FOLDER]
 
-The text, with the exports for C, is erased with its bounds, `prove!(sum <= bound, "in any `usize`")`, and rustc says what
-each operation is, by its types. A difference, a quotient, a rest, `min`, `max` or `saturating_sub` of numbers of a `usize`
+The erased text, with the exports for C and its laws, has its bounds, `prove!(sum <= bound, "in any `usize`")`, and rustc
+says what each operation is, by its types. A difference, a quotient, a rest, `min`, `max` or `saturating_sub` of numbers of a `usize`
 is one. Any other operation has a cover:
 
     bound     on each way that runs it, a bound of its value is tested before the value is changed, and no way leaves before;
               or such a bound of the same expression was tested, and none of its variables is assigned in between.
-              The right side is `most()`, a length, a variable or a field that was there before, and no expression
+              The right side is `most()`, a length, a variable or a field that was there before, and no expression. A
+              bound of a sum is one of the sum in it, since it is proved of numbers of any size
     end       it is the end of the range of a slice, or of `part`: the index is proved to be at most a length
     cut       a cast of the lesser of two numbers, one of which was a `usize`
     wrapped   the negative of a number: only `wrapping_add` is given it, whose value has a bound
     greatest  the body of `most`
     constant  a literal that has 32 bits
-    counted   how many elements an iterator has left, as tools/parts/erase_list.py adds it: they are parts of one storage
 
 The law `is_usize` is given a parameter, a field, a length, what a call returned, or a literal: of a sum it would state
 what is to be proved. No proof but those of `most` and of this law unfolds `shortfall`. With --all the operations that
@@ -25,14 +25,12 @@ have a cover are shown too. The compiler is that of rust/kit.sh, unpacked in FOL
 """
 import os
 import re
-import shutil
 import subprocess
 import sys
 import tempfile
 from pathlib import Path
 
 sys.dont_write_bytecode = True
-import erase
 
 REPOSITORY = Path(__file__).resolve().parent.parent
 MARK = '"in any `usize`"'
@@ -167,8 +165,10 @@ class Reader:
         text = re.sub(r'^\(([^()]*)\)$', r'\1', plain(file.code[start:end]))
         if kind in SAFE or kind == 'cast usize to u64':
             return 'no growth'
-        if self.bound_at(file, start):
-            return 'in a bound'
+        bound = self.bound_at(file, start)
+        if bound:
+            is_sum = kind == 'Add' and (bound[2] == text or bound[2].startswith(f'{text}+'))
+            return is_sum and self.is_there(file, bound[3], bound[2], start) and 'bound'
         if kind == 'call MAX' and name.endswith('net_assembler/width.rs') and re.search(
                 r'\bconst fn most\(\) -> usize \{\s*$', file.code[:start]):
             return 'greatest'
@@ -179,8 +179,6 @@ class Reader:
             return self.is_wrapped(file, start, end) and 'wrapped'
         if kind not in ('Add', 'Mul', 'call wrapping_add') and not kind.startswith('cast u64'):
             return None
-        if kind == 'Add' and file.code[start:end] in (count for _, _, count in erase.given.COUNTED):
-            return 'counted'
         if kind == 'Add' and self.is_end(file, start, end):
             return 'end'
         if kind.startswith('cast') and self.is_cut(at, text):
@@ -188,13 +186,13 @@ class Reader:
         return self.is_bounded(file, start, end, text) and 'bound'
 
     def bound_at(self, file, at):
-        return any(a <= at < b for a, b, _, _ in self.bounds(file))
+        return next((bound for bound in self.bounds(file) if bound[0] <= at < bound[1]), None)
 
     def bounds(self, file):
         """The bounds of a file: where, the left side, and the right one."""
         if not hasattr(file, 'bounds'):
             file.bounds = []
-            for m in re.finditer(r'assert!\(((?:(?!assert!)[^;])*?),\s*' + re.escape(MARK) + r',?\s*\);', file.code):
+            for m in re.finditer(r'prove!\(((?:(?!prove!)[^;])*?),\s*' + re.escape(MARK) + r',?\s*\);', file.code):
                 sides = re.fullmatch(r'(.*?[^<])<=?([^<=].*)', plain(m[1]))
                 if sides and '&&' not in m[1] and '||' not in m[1]:
                     file.bounds.append((m.start(), m.end(), sides[1], sides[2]))
@@ -417,18 +415,6 @@ def unfolded(crates):
             yield f'{path}: a proof unfolds shortfall'
 
 
-def erased(folder):
-    """Writes the crate to a folder, its text erased with its bounds."""
-    shutil.copytree(REPOSITORY / 'rust', folder, ignore=shutil.ignore_patterns('target', 'proved', 'rows'))
-    erase.Eraser.bounds, said = True, []
-    for path, text in erase.erased(said).items():
-        path = folder / path.relative_to(erase.OUT.parent.parent)
-        path.parent.mkdir(parents=True, exist_ok=True)
-        path.write_text(text)
-    if said:
-        raise SystemExit('\n'.join(said))
-
-
 def compiled(crate, kit, target):
     """The reader of an erased crate."""
     environment = dict(os.environ, RUSTC=str(kit / 'rustc'), RUSTC_BOOTSTRAP='1', CARGO_TARGET_DIR=str(target))
@@ -444,8 +430,6 @@ def show(reader, everything=False):
     for (at, kind) in sorted(reader.operations):
         name, start, end = at
         cover = reader.cover(at, kind) or 'open'
-        if cover == 'in a bound':
-            continue
         counts[cover] = counts.get(cover, 0) + 1
         if cover == 'open' or everything and cover != 'no growth':
             file = reader.file(name)
@@ -466,10 +450,8 @@ def main(arguments):
         compiler = subprocess.run(['sh', REPOSITORY / 'rust/kit.sh', kit])
         if compiler.returncode:
             print('widths: not run: no compiler', file=sys.stderr)
-            return 2
-        crate = temporary / 'crate'
-        erased(crate)
-        counts = show(compiled(crate, kit, temporary / 'target'), everything)
+            return compiler.returncode
+        counts = show(compiled(REPOSITORY / 'rust', kit, temporary / 'target'), everything)
     for line in [*laws(sorted((REPOSITORY / 'crates').glob('*/src/**/*.rt'))), *unfolded(REPOSITORY / 'crates')]:
         counts['open'] += 1
         print(f'open: {line}')

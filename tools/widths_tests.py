@@ -3,6 +3,7 @@
 
 Each text is the body of a function, or items; the status is 2 if there is no compiler, as that of tools/widths.py."""
 import os
+import shutil
 import subprocess
 import sys
 import tempfile
@@ -12,6 +13,11 @@ sys.dont_write_bytecode = True
 import widths
 
 HEAD = """
+    macro_rules! prove {
+        ($holds:expr, $said:literal) => {
+            assert!($holds, $said)
+        };
+    }
     #[inline(always)]
     pub const fn most() -> usize {
         usize::MAX
@@ -35,22 +41,22 @@ BOUND = ', "in any `usize`");'
 
 # Bodies of `fn f(a: usize, b: usize, x: u64, xs: &mut [u8], s: &mut S) -> usize`, and what covers their operation.
 COVERED = [
-    (f'let c = a + b; assert!(c <= most(){BOUND} c', 'bound'),
-    (f'let c = a + b; assert!(c <= xs.len(){BOUND} c', 'bound'),
-    (f'let c = a + b; assert!(c < s.n{BOUND} c', 'bound'),
-    (f'assert!(a + b <= s.n{BOUND} a + b', 'bound'),
-    (f'assert!(a + b <= s.n{BOUND} if x > 3 {{ a + b }} else {{ 0 }}', 'bound'),
-    (f's.n += a; assert!(s.n <= b{BOUND} s.n', 'bound'),
-    (f's.n = a + b; assert!(s.n <= most(){BOUND} a', 'bound'),
-    (f'let c = a / 8 * 8; assert!(c <= a{BOUND} c', 'bound'),
-    (f'assert!(x <= a as u64{BOUND} x as usize', 'bound'),
-    (f'let c = x as usize; assert!(x <= a as u64{BOUND} c', 'bound'),
-    (f'assert!(b + read(xs) <= a{BOUND} b + read(xs)', 'bound'),
-    (f'assert!(a + b <= s.n{BOUND} while x > 3 {{ if x > 9 {{ take(a + b); }} }} 0', 'bound'),
-    (f'assert!(a + b <= s.n{BOUND} s.n - (a + b)', 'bound'),
-    (f'let mut c = a; if x > 3 {{ c = a + b; }} else {{ take(a); }} assert!(c <= most(){BOUND} c', 'bound'),
-    (f'let mut c = 0; while x > 3 {{ c = a + b; assert!(c <= most(){BOUND} }} c', 'bound'),
-    (f'let c = a.wrapping_add(b); assert!(c <= most(){BOUND} c', 'bound'),
+    (f'let c = a + b; prove!(c <= most(){BOUND} c', 'bound'),
+    (f'let c = a + b; prove!(c <= xs.len(){BOUND} c', 'bound'),
+    (f'let c = a + b; prove!(c < s.n{BOUND} c', 'bound'),
+    (f'prove!(a + b <= s.n{BOUND} a + b', 'bound'),
+    (f'prove!(a + b <= s.n{BOUND} if x > 3 {{ a + b }} else {{ 0 }}', 'bound'),
+    (f's.n += a; prove!(s.n <= b{BOUND} s.n', 'bound'),
+    (f's.n = a + b; prove!(s.n <= most(){BOUND} a', 'bound'),
+    (f'let c = a / 8 * 8; prove!(c <= a{BOUND} c', 'bound'),
+    (f'prove!(x <= a as u64{BOUND} x as usize', 'bound'),
+    (f'let c = x as usize; prove!(x <= a as u64{BOUND} c', 'bound'),
+    (f'prove!(b + read(xs) <= a{BOUND} b + read(xs)', 'bound'),
+    (f'prove!(a + b <= s.n{BOUND} while x > 3 {{ if x > 9 {{ take(a + b); }} }} 0', 'bound'),
+    (f'prove!(a + b <= s.n{BOUND} s.n - (a + b)', 'bound'),
+    (f'let mut c = a; if x > 3 {{ c = a + b; }} else {{ take(a); }} prove!(c <= most(){BOUND} c', 'bound'),
+    (f'let mut c = 0; while x > 3 {{ c = a + b; prove!(c <= most(){BOUND} }} c', 'bound'),
+    (f'let c = a.wrapping_add(b); prove!(c <= most(){BOUND} c', 'bound'),
     ('take(xs[a..a + b].len()); 0', 'end'),
     ('(x.min(a as u64)) as usize', 'cut'),
     ('x.min(a as u64) as usize', 'cut'),
@@ -88,38 +94,38 @@ OPEN = [
     'usize::BITS as usize',
     'let c = usize::MAX - a; c',
     # A bound on another branch, after a way that leaves, in a closure, or after the value was changed.
-    f'let c = a + b; if x > 3 {{ assert!(c <= most(){BOUND} }} c',
-    f'let mut c = a; if x > 3 {{ c = a + b; }} else {{ assert!(c <= most(){BOUND} }} c',
-    f'if x > 3 {{ assert!(a + b <= s.n{BOUND} }} a + b',
-    f'if x > 3 {{ take(a + b); }} else {{ assert!(a + b <= s.n{BOUND} }} 0',
-    f'let c = a + b; if x > 3 {{ return c; }} assert!(c <= most(){BOUND} c',
-    f'let mut c = 0; while x > 3 {{ c = a + b; if c > a {{ break; }} assert!(c <= most(){BOUND} }} c',
-    f'let mut c = 0; while c < b {{ c = a + b; }} assert!(c <= most(){BOUND} c',
-    f'let mut c = a + b; c = 3; assert!(c <= most(){BOUND} c',
-    f'let c = a + b; let c = c - b; assert!(c <= most(){BOUND} c',
-    f'assert!(s.n + b <= a{BOUND} s.n = 7; s.n + b',
-    f'let mut c = a; assert!(c + b <= s.n{BOUND} c = b; c + b',
-    f'assert!(s.n + b <= a{BOUND} grow(s); s.n + b',
-    f'assert!(s.n + b <= a{BOUND} s.grow(); s.n + b',
-    f's.n = a + b; s.grow(); assert!(s.n <= b{BOUND} 0',
-    f'assert!(b + read(xs) <= a{BOUND} change(xs); b + read(xs)',
-    f'let mut c = a; assert!(c + b <= s.n{BOUND} while x > 3 {{ take(c + b); c = b; }} 0',
-    f'let mut c = a; assert!(c + b <= s.n{BOUND} if x > 3 {{ c = b; take(c + b); }} 0',
-    f'let mut y = x; assert!(y <= a as u64{BOUND} y = x + 9; y as usize',
-    f'let f = |c: usize| a + c; assert!(a + b <= s.n{BOUND} f(b)',
-    f'match x {{ 0 => {{ assert!(a + b <= s.n{BOUND} 0 }} _ => a + b }}',
+    f'let c = a + b; if x > 3 {{ prove!(c <= most(){BOUND} }} c',
+    f'let mut c = a; if x > 3 {{ c = a + b; }} else {{ prove!(c <= most(){BOUND} }} c',
+    f'if x > 3 {{ prove!(a + b <= s.n{BOUND} }} a + b',
+    f'if x > 3 {{ take(a + b); }} else {{ prove!(a + b <= s.n{BOUND} }} 0',
+    f'let c = a + b; if x > 3 {{ return c; }} prove!(c <= most(){BOUND} c',
+    f'let mut c = 0; while x > 3 {{ c = a + b; if c > a {{ break; }} prove!(c <= most(){BOUND} }} c',
+    f'let mut c = 0; while c < b {{ c = a + b; }} prove!(c <= most(){BOUND} c',
+    f'let mut c = a + b; c = 3; prove!(c <= most(){BOUND} c',
+    f'let c = a + b; let c = c - b; prove!(c <= most(){BOUND} c',
+    f'prove!(s.n + b <= a{BOUND} s.n = 7; s.n + b',
+    f'let mut c = a; prove!(c + b <= s.n{BOUND} c = b; c + b',
+    f'prove!(s.n + b <= a{BOUND} grow(s); s.n + b',
+    f'prove!(s.n + b <= a{BOUND} s.grow(); s.n + b',
+    f's.n = a + b; s.grow(); prove!(s.n <= b{BOUND} 0',
+    f'prove!(b + read(xs) <= a{BOUND} change(xs); b + read(xs)',
+    f'let mut c = a; prove!(c + b <= s.n{BOUND} while x > 3 {{ take(c + b); c = b; }} 0',
+    f'let mut c = a; prove!(c + b <= s.n{BOUND} if x > 3 {{ c = b; take(c + b); }} 0',
+    f'let mut y = x; prove!(y <= a as u64{BOUND} y = x + 9; y as usize',
+    f'let f = |c: usize| a + c; prove!(a + b <= s.n{BOUND} f(b)',
+    f'match x {{ 0 => {{ prove!(a + b <= s.n{BOUND} 0 }} _ => a + b }}',
     # A bound of the wrong variable, of a part, or by what isn't there before.
-    f'let c = a + b; assert!(a <= most(){BOUND} c',
-    f'let c = a + b; assert!(b <= c{BOUND} c',
-    f'let c = a + b; assert!(c <= c{BOUND} c',
-    f'let c = a + b; assert!(c <= a + b{BOUND} c',
-    f'let c = a + b; assert!(c >= a{BOUND} c',
-    f'let c = a + b; let d = c; assert!(c <= d{BOUND} c',
-    f'let c = (a + b) / 2; assert!(c <= a{BOUND} c',
-    f'let c = a + b; assert!(c <= most() || x > 3{BOUND} c',
-    'let c = a + b; assert!(c <= most(), "another text"); c',
-    f'let c = x as usize; assert!(x <= x{BOUND} c',
-    f'assert!(x <= a{BOUND} x as usize'.replace('x <= a', 'x <= (a as u64)'),
+    f'let c = a + b; prove!(a <= most(){BOUND} c',
+    f'let c = a + b; prove!(b <= c{BOUND} c',
+    f'let c = a + b; prove!(c <= c{BOUND} c',
+    f'let c = a + b; prove!(c <= a + b{BOUND} c',
+    f'let c = a + b; prove!(c >= a{BOUND} c',
+    f'let c = a + b; let d = c; prove!(c <= d{BOUND} c',
+    f'let c = (a + b) / 2; prove!(c <= a{BOUND} c',
+    f'let c = a + b; prove!(c <= most() || x > 3{BOUND} c',
+    'let c = a + b; prove!(c <= most(), "another text"); c',
+    f'let c = x as usize; prove!(x <= x{BOUND} c',
+    f'prove!(x <= a{BOUND} x as usize'.replace('x <= a', 'x <= (a as u64)'),
     # An end of no slice, a cut of no `usize`, and a number that wraps and goes elsewhere.
     'take((a..a + b).len()); 0',
     'let c = [(a..a + b).len()]; c[0]',
@@ -140,23 +146,24 @@ OPEN = [
 ITEMS = [
     ('const A: usize = 1 << 20; const B: usize = 65_536;', 0),
     ('pub const A: usize = 4_294_967_296; pub fn g() -> usize { A }', 1),
-    (f'fn moved(by: usize, a: usize) -> usize {{ let c = by.wrapping_add(a); assert!(c <= most(){BOUND} c }}\n'
+    (f'fn moved(by: usize, a: usize) -> usize {{ let c = by.wrapping_add(a); prove!(c <= most(){BOUND} c }}\n'
      'pub fn g(a: usize, b: usize) { take(moved(a.wrapping_neg(), b)); }', 0),
-    (f'fn moved(by: usize, a: usize) -> usize {{ let c = by.wrapping_add(a); assert!(c <= most(){BOUND} c }}\n'
+    (f'fn moved(by: usize, a: usize) -> usize {{ let c = by.wrapping_add(a); prove!(c <= most(){BOUND} c }}\n'
      'fn all(by: usize, a: usize) { take(moved(by, a)); }\npub fn g(a: usize, b: usize) { all(a.wrapping_neg(), b); }', 0),
     ('fn moved(by: usize) -> bool { by == 0 }\npub fn g(a: usize) -> bool { moved(a.wrapping_neg()) }', 1),
 ]
 
-# Plants in the erased exports for C: a file, a part of it, and what is there in its place.
+# Plants in the erased exports for C, and one among laws: a file, a part of it, and what is there in its place.
 EXPORTS = [
     ('ring.rs', 'place.index(capacity, place.length)', 'place.index(capacity, place.length + 0)'),
     ('packets.rs', 'packets.is_sound(slots.len(), capacity)', 'packets.is_sound(slots.len() * 1, capacity)'),
-    ('receiver.rs', 'kept: accepted.kept,', 'kept: position as usize,'),
+    ('finite_receiver.rs', 'kept: it.kept,', 'kept: position as usize,'),
     ('refusals.rs', 'most()', 'usize::MAX'),
     ('refusals.rs', 'pub const NET_BASE_DONE', 'pub const ALL: usize = usize::MAX;\npub const NET_BASE_DONE'),
     ('heads/receiver.rs', 'capacity == no_number()', 'capacity == usize::MAX'),
     ('heads/scoreboard.rs', 'scoreboard.count_beyond(runs)', 'scoreboard.count_beyond(runs).saturating_add(1)'),
     ('heads/sender.rs', 'sender.room(capacity)', 'sender.room(4_294_967_296)'),
+    ('../net_assembler/laws.rs', 'pub fn is_usize(n: usize) {}', 'pub fn is_usize(n: usize) {}\npub fn wide() { let n = usize::MAX; is_usize(n); }'),
 ]
 
 # Functions that state of a number that it is one, and whether they may.
@@ -195,29 +202,29 @@ def covers(reader, name):
     begin = len('//! A plant.\n' + HEAD)
     found = [reader.cover(at, kind) for at, kind in reader.operations if at[0].endswith(f'/{name}.rs') and at[1] >= begin]
     found += [None for at, _ in reader.large if at[0].endswith(f'/{name}.rs')]
-    return [cover for cover in found if cover not in ('no growth', 'in a bound')]
+    return [cover for cover in found if cover != 'no growth']
 
 
 def main(arguments):
     with tempfile.TemporaryDirectory() as temporary:
         temporary = Path(temporary)
         kit = Path(arguments[0]).resolve() if arguments else temporary / 'kit'
-        if subprocess.run(['sh', widths.REPOSITORY / 'rust/kit.sh', kit]).returncode:
+        if status := subprocess.run(['sh', widths.REPOSITORY / 'rust/kit.sh', kit]).returncode:
             print('widths_tests: not run: no compiler', file=sys.stderr)
-            return 2
+            return status
         body = 'pub fn f(a: usize, b: usize, x: u64, xs: &mut [u8], s: &mut S) -> usize {{\n    {}\n}}'
         modules = {f'covered{k}': body.format(text) for k, (text, _) in enumerate(COVERED)}
         modules |= {f'open{k}': body.format(text) for k, text in enumerate(OPEN)}
         modules |= {f'items{k}': text for k, (text, _) in enumerate(ITEMS)}
         reader = read(temporary / 'plants', str(kit / 'rustc'), modules)
         for k, (text, cover) in enumerate(COVERED):
-            assert covers(reader, f'covered{k}') == [cover], (text, covers(reader, f'covered{k}'))
+            assert {*covers(reader, f'covered{k}')} == {cover}, (text, covers(reader, f'covered{k}'))
         for k, text in enumerate(OPEN):
             assert None in covers(reader, f'open{k}') or False in covers(reader, f'open{k}'), text
         for k, (text, count) in enumerate(ITEMS):
             assert sum(not cover for cover in covers(reader, f'items{k}')) == count, (text, covers(reader, f'items{k}'))
         crate = temporary / 'crate'
-        widths.erased(crate)
+        shutil.copytree(widths.REPOSITORY / 'rust', crate, ignore=shutil.ignore_patterns('target', 'rows'))
         for file, part, plant in EXPORTS:
             path = crate / 'src/proved/net_ffi' / file
             assert part in path.read_text(), (file, part)

@@ -4,6 +4,12 @@ use crate::{slice, slice_mut};
 use proved::exports::*;
 
 #[unsafe(no_mangle)]
+pub extern "C" fn net_base_ring_init(place: Option<&mut RingHead>) {
+    let Some(place) = place else { return };
+    heads::ring::net_base_ring_init(place)
+}
+
+#[unsafe(no_mangle)]
 pub extern "C" fn net_base_ring_is_sound(place: Option<&RingHead>, capacity: usize) -> bool {
     let Some(place) = place else { return false };
     heads::ring::net_base_ring_is_sound(place, capacity)
@@ -11,20 +17,14 @@ pub extern "C" fn net_base_ring_is_sound(place: Option<&RingHead>, capacity: usi
 
 #[unsafe(no_mangle)]
 pub extern "C" fn net_base_ring_unallocated(place: Option<&RingHead>, capacity: usize, offset: usize, size: usize) -> Span {
-    let Some(place) = place else { return Span { from: usize::MAX, count: 0, contiguous: 0 } };
+    let Some(place) = place else { return refusals::refused_span() };
     heads::ring::net_base_ring_unallocated(place, capacity, offset, size)
 }
 
 #[unsafe(no_mangle)]
 pub extern "C" fn net_base_ring_allocated(place: Option<&RingHead>, capacity: usize, offset: usize, size: usize) -> Span {
-    let Some(place) = place else { return Span { from: usize::MAX, count: 0, contiguous: 0 } };
+    let Some(place) = place else { return refusals::refused_span() };
     heads::ring::net_base_ring_allocated(place, capacity, offset, size)
-}
-
-#[unsafe(no_mangle)]
-pub extern "C" fn net_base_ring_clear(place: Option<&mut RingHead>) {
-    let Some(place) = place else { return };
-    heads::ring::net_base_ring_clear(place)
 }
 
 #[unsafe(no_mangle)]
@@ -53,70 +53,64 @@ pub extern "C" fn net_base_ring_drop_last(place: Option<&mut RingHead>, count: u
 
 #[unsafe(no_mangle)]
 pub extern "C" fn net_base_ring_enqueue_span(place: Option<&mut RingHead>, capacity: usize, size: usize) -> Span {
-    let Some(place) = place else { return Span { from: usize::MAX, count: 0, contiguous: 0 } };
+    let Some(place) = place else { return refusals::refused_span() };
     heads::ring::net_base_ring_enqueue_span(place, capacity, size)
 }
 
 #[unsafe(no_mangle)]
-pub extern "C" fn net_base_ring_enqueue_many(place: Option<&mut RingHead>, capacity: usize, size: usize) -> Span {
-    let Some(place) = place else { return Span { from: usize::MAX, count: 0, contiguous: 0 } };
-    heads::ring::net_base_ring_enqueue_many(place, capacity, size)
-}
-
-#[unsafe(no_mangle)]
 pub extern "C" fn net_base_ring_dequeue_span(place: Option<&mut RingHead>, capacity: usize, size: usize) -> Span {
-    let Some(place) = place else { return Span { from: usize::MAX, count: 0, contiguous: 0 } };
+    let Some(place) = place else { return refusals::refused_span() };
     heads::ring::net_base_ring_dequeue_span(place, capacity, size)
 }
 
 #[unsafe(no_mangle)]
-pub extern "C" fn net_base_ring_dequeue_many(place: Option<&mut RingHead>, capacity: usize, size: usize) -> Span {
-    let Some(place) = place else { return Span { from: usize::MAX, count: 0, contiguous: 0 } };
-    heads::ring::net_base_ring_dequeue_many(place, capacity, size)
-}
-
-#[unsafe(no_mangle)]
 pub unsafe extern "C" fn net_base_ring_write_unallocated(place: Option<&RingHead>, storage: *mut u8, storage_length: usize, offset: usize, data: *const u8, data_length: usize) -> usize {
-    let Some(place) = place else { return usize::MAX };
-    let Some(storage) = slice_mut(storage, storage_length) else { return usize::MAX };
-    let Some(data) = slice(data, data_length) else { return usize::MAX };
+    let Some(place) = place else { return refusals::no_number() };
+    let Some(storage) = slice_mut(storage, storage_length) else { return refusals::no_number() };
+    let Some(data) = slice(data, data_length) else { return refusals::no_number() };
     heads::ring::net_base_ring_write_unallocated(place, storage, offset, data)
 }
 
 #[unsafe(no_mangle)]
 pub unsafe extern "C" fn net_base_ring_read_allocated(place: Option<&RingHead>, storage: *const u8, storage_length: usize, offset: usize, into: *mut u8, into_length: usize) -> usize {
-    let Some(place) = place else { return usize::MAX };
-    let Some(storage) = slice(storage, storage_length) else { return usize::MAX };
-    let Some(into) = slice_mut(into, into_length) else { return usize::MAX };
+    let Some(place) = place else { return refusals::no_number() };
+    let Some(storage) = slice(storage, storage_length) else { return refusals::no_number() };
+    let Some(into) = slice_mut(into, into_length) else { return refusals::no_number() };
     heads::ring::net_base_ring_read_allocated(place, storage, offset, into)
 }
 
 #[unsafe(no_mangle)]
 pub unsafe extern "C" fn net_base_ring_enqueue_slice(place: Option<&mut RingHead>, storage: *mut u8, storage_length: usize, data: *const u8, data_length: usize) -> usize {
-    let Some(place) = place else { return usize::MAX };
-    let Some(storage) = slice_mut(storage, storage_length) else { return usize::MAX };
-    let Some(data) = slice(data, data_length) else { return usize::MAX };
+    let Some(place) = place else { return refusals::no_number() };
+    let Some(storage) = slice_mut(storage, storage_length) else { return refusals::no_number() };
+    let Some(data) = slice(data, data_length) else { return refusals::no_number() };
     heads::ring::net_base_ring_enqueue_slice(place, storage, data)
 }
 
 #[unsafe(no_mangle)]
 pub unsafe extern "C" fn net_base_ring_dequeue_slice(place: Option<&mut RingHead>, storage: *const u8, storage_length: usize, into: *mut u8, into_length: usize) -> usize {
-    let Some(place) = place else { return usize::MAX };
-    let Some(storage) = slice(storage, storage_length) else { return usize::MAX };
-    let Some(into) = slice_mut(into, into_length) else { return usize::MAX };
+    let Some(place) = place else { return refusals::no_number() };
+    let Some(storage) = slice(storage, storage_length) else { return refusals::no_number() };
+    let Some(into) = slice_mut(into, into_length) else { return refusals::no_number() };
     heads::ring::net_base_ring_dequeue_slice(place, storage, into)
 }
 
 #[unsafe(no_mangle)]
 pub extern "C" fn net_base_ring_enqueue_one(place: Option<&mut RingHead>, capacity: usize) -> usize {
-    let Some(place) = place else { return usize::MAX };
+    let Some(place) = place else { return refusals::no_number() };
     ring::net_base_ring_enqueue_one(place, capacity)
 }
 
 #[unsafe(no_mangle)]
 pub extern "C" fn net_base_ring_dequeue_one(place: Option<&mut RingHead>, capacity: usize) -> usize {
-    let Some(place) = place else { return usize::MAX };
+    let Some(place) = place else { return refusals::no_number() };
     ring::net_base_ring_dequeue_one(place, capacity)
+}
+
+#[unsafe(no_mangle)]
+pub extern "C" fn net_base_packets_init(packets: Option<&mut PacketsHead>) {
+    let Some(packets) = packets else { return };
+    heads::packets::net_base_packets_init(packets)
 }
 
 #[unsafe(no_mangle)]
@@ -124,12 +118,6 @@ pub unsafe extern "C" fn net_base_packets_is_sound(packets: Option<&PacketsHead>
     let Some(packets) = packets else { return false };
     let Some(slots) = slice(slots, slots_length) else { return false };
     heads::packets::net_base_packets_is_sound(packets, slots, capacity)
-}
-
-#[unsafe(no_mangle)]
-pub extern "C" fn net_base_packets_clear(packets: Option<&mut PacketsHead>) {
-    let Some(packets) = packets else { return };
-    heads::packets::net_base_packets_clear(packets)
 }
 
 #[unsafe(no_mangle)]
@@ -141,30 +129,36 @@ pub unsafe extern "C" fn net_base_packets_shorten_last(packets: Option<&mut Pack
 
 #[unsafe(no_mangle)]
 pub unsafe extern "C" fn net_base_packets_enqueue(packets: Option<&mut PacketsHead>, slots: *mut PacketSlot, slots_length: usize, capacity: usize, size: usize) -> PacketPlace {
-    let Some(packets) = packets else { return PacketPlace { gap: usize::MAX, gap_slot: usize::MAX, slot: usize::MAX, from: usize::MAX } };
-    let Some(slots) = slice_mut(slots, slots_length) else { return PacketPlace { gap: usize::MAX, gap_slot: usize::MAX, slot: usize::MAX, from: usize::MAX } };
+    let Some(packets) = packets else { return packets::refused_packet_place() };
+    let Some(slots) = slice_mut(slots, slots_length) else { return packets::refused_packet_place() };
     packets::net_base_packets_enqueue(packets, slots, capacity, size)
 }
 
 #[unsafe(no_mangle)]
 pub unsafe extern "C" fn net_base_packets_dequeue(packets: Option<&mut PacketsHead>, slots: *const PacketSlot, slots_length: usize, capacity: usize) -> FirstPacket {
-    let Some(packets) = packets else { return FirstPacket { gap: usize::MAX, slot: usize::MAX, from: usize::MAX, size: 0 } };
-    let Some(slots) = slice(slots, slots_length) else { return FirstPacket { gap: usize::MAX, slot: usize::MAX, from: usize::MAX, size: 0 } };
+    let Some(packets) = packets else { return packets::refused_first_packet() };
+    let Some(slots) = slice(slots, slots_length) else { return packets::refused_first_packet() };
     packets::net_base_packets_dequeue(packets, slots, capacity)
 }
 
 #[unsafe(no_mangle)]
 pub unsafe extern "C" fn net_base_packets_peek(packets: Option<&PacketsHead>, slots: *const PacketSlot, slots_length: usize, capacity: usize) -> FirstPacket {
-    let Some(packets) = packets else { return FirstPacket { gap: usize::MAX, slot: usize::MAX, from: usize::MAX, size: 0 } };
-    let Some(slots) = slice(slots, slots_length) else { return FirstPacket { gap: usize::MAX, slot: usize::MAX, from: usize::MAX, size: 0 } };
+    let Some(packets) = packets else { return packets::refused_first_packet() };
+    let Some(slots) = slice(slots, slots_length) else { return packets::refused_first_packet() };
     packets::net_base_packets_peek(packets, slots, capacity)
 }
 
 #[unsafe(no_mangle)]
 pub extern "C" fn net_base_packets_take_slot(packets: Option<&mut PacketsHead>, slot_count: usize, capacity: usize, first: Option<&PacketSlot>) -> usize {
-    let Some(packets) = packets else { return usize::MAX };
-    let Some(first) = first else { return usize::MAX };
+    let Some(packets) = packets else { return refusals::no_number() };
+    let Some(first) = first else { return refusals::no_number() };
     packets::net_base_packets_take_slot(packets, slot_count, capacity, first)
+}
+
+#[unsafe(no_mangle)]
+pub extern "C" fn net_base_assembler_init(assembler: Option<&mut AssemblerHead>) {
+    let Some(assembler) = assembler else { return };
+    heads::assembler::net_base_assembler_init(assembler)
 }
 
 #[unsafe(no_mangle)]
@@ -175,13 +169,7 @@ pub unsafe extern "C" fn net_base_assembler_is_sound(assembler: Option<&Assemble
 }
 
 #[unsafe(no_mangle)]
-pub extern "C" fn net_base_assembler_clear(assembler: Option<&mut AssemblerHead>) {
-    let Some(assembler) = assembler else { return };
-    heads::assembler::net_base_assembler_clear(assembler)
-}
-
-#[unsafe(no_mangle)]
-pub unsafe extern "C" fn net_base_assembler_add(assembler: Option<&mut AssemblerHead>, runs: *mut Run, runs_length: usize, offset: usize, size: usize) -> u32 {
+pub unsafe extern "C" fn net_base_assembler_add(assembler: Option<&mut AssemblerHead>, runs: *mut Run, runs_length: usize, offset: usize, size: usize) -> refusals::Status {
     let Some(assembler) = assembler else { return refusals::NET_BASE_REFUSED };
     let Some(runs) = slice_mut(runs, runs_length) else { return refusals::NET_BASE_REFUSED };
     heads::assembler::net_base_assembler_add(assembler, runs, offset, size)
@@ -189,15 +177,15 @@ pub unsafe extern "C" fn net_base_assembler_add(assembler: Option<&mut Assembler
 
 #[unsafe(no_mangle)]
 pub unsafe extern "C" fn net_base_assembler_add_then_remove_front(assembler: Option<&mut AssemblerHead>, runs: *mut Run, runs_length: usize, offset: usize, size: usize) -> results::FrontLength {
-    let Some(assembler) = assembler else { return results::FrontLength { status: refusals::NET_BASE_REFUSED, length: 0 } };
-    let Some(runs) = slice_mut(runs, runs_length) else { return results::FrontLength { status: refusals::NET_BASE_REFUSED, length: 0 } };
+    let Some(assembler) = assembler else { return refusals::refused_front_length() };
+    let Some(runs) = slice_mut(runs, runs_length) else { return refusals::refused_front_length() };
     heads::assembler::net_base_assembler_add_then_remove_front(assembler, runs, offset, size)
 }
 
 #[unsafe(no_mangle)]
 pub unsafe extern "C" fn net_base_assembler_remove_front(assembler: Option<&mut AssemblerHead>, runs: *mut Run, runs_length: usize) -> results::FrontLength {
-    let Some(assembler) = assembler else { return results::FrontLength { status: refusals::NET_BASE_REFUSED, length: 0 } };
-    let Some(runs) = slice_mut(runs, runs_length) else { return results::FrontLength { status: refusals::NET_BASE_REFUSED, length: 0 } };
+    let Some(assembler) = assembler else { return refusals::refused_front_length() };
+    let Some(runs) = slice_mut(runs, runs_length) else { return refusals::refused_front_length() };
     heads::assembler::net_base_assembler_remove_front(assembler, runs)
 }
 
@@ -210,30 +198,36 @@ pub unsafe extern "C" fn net_base_assembler_shift(assembler: Option<&mut Assembl
 
 #[unsafe(no_mangle)]
 pub unsafe extern "C" fn net_base_assembler_peek_front(assembler: Option<&AssemblerHead>, runs: *const Run, runs_length: usize) -> results::FrontLength {
-    let Some(assembler) = assembler else { return results::FrontLength { status: refusals::NET_BASE_REFUSED, length: 0 } };
-    let Some(runs) = slice(runs, runs_length) else { return results::FrontLength { status: refusals::NET_BASE_REFUSED, length: 0 } };
+    let Some(assembler) = assembler else { return refusals::refused_front_length() };
+    let Some(runs) = slice(runs, runs_length) else { return refusals::refused_front_length() };
     heads::assembler::net_base_assembler_peek_front(assembler, runs)
 }
 
 #[unsafe(no_mangle)]
-pub unsafe extern "C" fn net_base_assembler_contains(assembler: Option<&AssemblerHead>, runs: *const Run, runs_length: usize, position: usize) -> u32 {
-    let Some(assembler) = assembler else { return refusals::NET_BASE_REFUSED };
-    let Some(runs) = slice(runs, runs_length) else { return refusals::NET_BASE_REFUSED };
+pub unsafe extern "C" fn net_base_assembler_contains(assembler: Option<&AssemblerHead>, runs: *const Run, runs_length: usize, position: usize) -> bool {
+    let Some(assembler) = assembler else { return false };
+    let Some(runs) = slice(runs, runs_length) else { return false };
     heads::assembler::net_base_assembler_contains(assembler, runs, position)
 }
 
 #[unsafe(no_mangle)]
 pub unsafe extern "C" fn net_base_assembler_run_at(assembler: Option<&AssemblerHead>, runs: *const Run, runs_length: usize, index: usize) -> Run {
-    let Some(assembler) = assembler else { return Run { start: usize::MAX, end: usize::MAX } };
-    let Some(runs) = slice(runs, runs_length) else { return Run { start: usize::MAX, end: usize::MAX } };
+    let Some(assembler) = assembler else { return refusals::refused_run() };
+    let Some(runs) = slice(runs, runs_length) else { return refusals::refused_run() };
     heads::assembler::net_base_assembler_run_at(assembler, runs, index)
 }
 
 #[unsafe(no_mangle)]
 pub unsafe extern "C" fn net_base_assembler_hole_at(assembler: Option<&AssemblerHead>, runs: *const Run, runs_length: usize, index: usize) -> Run {
-    let Some(assembler) = assembler else { return Run { start: usize::MAX, end: usize::MAX } };
-    let Some(runs) = slice(runs, runs_length) else { return Run { start: usize::MAX, end: usize::MAX } };
+    let Some(assembler) = assembler else { return refusals::refused_run() };
+    let Some(runs) = slice(runs, runs_length) else { return refusals::refused_run() };
     heads::assembler::net_base_assembler_hole_at(assembler, runs, index)
+}
+
+#[unsafe(no_mangle)]
+pub extern "C" fn net_base_fragments_init(fragments: Option<&mut FragmentsHead>, expires_at: i64) {
+    let Some(fragments) = fragments else { return };
+    heads::fragments::net_base_fragments_init(fragments, expires_at)
 }
 
 #[unsafe(no_mangle)]
@@ -244,20 +238,14 @@ pub unsafe extern "C" fn net_base_fragments_is_sound(fragments: Option<&Fragment
 }
 
 #[unsafe(no_mangle)]
-pub extern "C" fn net_base_fragments_reset(fragments: Option<&mut FragmentsHead>, expires_at: i64) {
-    let Some(fragments) = fragments else { return };
-    heads::fragments::net_base_fragments_reset(fragments, expires_at)
-}
-
-#[unsafe(no_mangle)]
-pub unsafe extern "C" fn net_base_fragments_set_total_size(fragments: Option<&mut FragmentsHead>, capacity: usize, runs: *const Run, runs_length: usize, size: usize) -> u32 {
+pub unsafe extern "C" fn net_base_fragments_set_total_size(fragments: Option<&mut FragmentsHead>, capacity: usize, runs: *const Run, runs_length: usize, size: usize) -> refusals::Status {
     let Some(fragments) = fragments else { return refusals::NET_BASE_REFUSED };
     let Some(runs) = slice(runs, runs_length) else { return refusals::NET_BASE_REFUSED };
     heads::fragments::net_base_fragments_set_total_size(fragments, capacity, runs, size)
 }
 
 #[unsafe(no_mangle)]
-pub unsafe extern "C" fn net_base_fragments_add(fragments: Option<&mut FragmentsHead>, storage: *mut u8, storage_length: usize, runs: *mut Run, runs_length: usize, offset: usize, data: *const u8, data_length: usize) -> u32 {
+pub unsafe extern "C" fn net_base_fragments_add(fragments: Option<&mut FragmentsHead>, storage: *mut u8, storage_length: usize, runs: *mut Run, runs_length: usize, offset: usize, data: *const u8, data_length: usize) -> refusals::Status {
     let Some(fragments) = fragments else { return refusals::NET_BASE_REFUSED };
     let Some(storage) = slice_mut(storage, storage_length) else { return refusals::NET_BASE_REFUSED };
     let Some(runs) = slice_mut(runs, runs_length) else { return refusals::NET_BASE_REFUSED };
@@ -266,18 +254,18 @@ pub unsafe extern "C" fn net_base_fragments_add(fragments: Option<&mut Fragments
 }
 
 #[unsafe(no_mangle)]
-pub unsafe extern "C" fn net_base_fragments_differs(fragments: Option<&FragmentsHead>, storage: *const u8, storage_length: usize, runs: *const Run, runs_length: usize, offset: usize, data: *const u8, data_length: usize) -> u32 {
-    let Some(fragments) = fragments else { return refusals::NET_BASE_REFUSED };
-    let Some(storage) = slice(storage, storage_length) else { return refusals::NET_BASE_REFUSED };
-    let Some(runs) = slice(runs, runs_length) else { return refusals::NET_BASE_REFUSED };
-    let Some(data) = slice(data, data_length) else { return refusals::NET_BASE_REFUSED };
+pub unsafe extern "C" fn net_base_fragments_differs(fragments: Option<&FragmentsHead>, storage: *const u8, storage_length: usize, runs: *const Run, runs_length: usize, offset: usize, data: *const u8, data_length: usize) -> bool {
+    let Some(fragments) = fragments else { return false };
+    let Some(storage) = slice(storage, storage_length) else { return false };
+    let Some(runs) = slice(runs, runs_length) else { return false };
+    let Some(data) = slice(data, data_length) else { return false };
     heads::fragments::net_base_fragments_differs(fragments, storage, runs, offset, data)
 }
 
 #[unsafe(no_mangle)]
-pub unsafe extern "C" fn net_base_fragments_overlaps(fragments: Option<&FragmentsHead>, runs: *const Run, runs_length: usize, offset: usize, count: usize) -> u32 {
-    let Some(fragments) = fragments else { return refusals::NET_BASE_REFUSED };
-    let Some(runs) = slice(runs, runs_length) else { return refusals::NET_BASE_REFUSED };
+pub unsafe extern "C" fn net_base_fragments_overlaps(fragments: Option<&FragmentsHead>, runs: *const Run, runs_length: usize, offset: usize, count: usize) -> bool {
+    let Some(fragments) = fragments else { return false };
+    let Some(runs) = slice(runs, runs_length) else { return false };
     heads::fragments::net_base_fragments_overlaps(fragments, runs, offset, count)
 }
 
@@ -288,10 +276,11 @@ pub extern "C" fn net_base_fragments_is_expired(fragments: Option<&FragmentsHead
 }
 
 #[unsafe(no_mangle)]
-pub unsafe extern "C" fn net_base_fragments_complete(fragments: Option<&FragmentsHead>, capacity: usize, runs: *const Run, runs_length: usize) -> results::FrontLength {
-    let Some(fragments) = fragments else { return results::FrontLength { status: refusals::NET_BASE_REFUSED, length: 0 } };
-    let Some(runs) = slice(runs, runs_length) else { return results::FrontLength { status: refusals::NET_BASE_REFUSED, length: 0 } };
-    fragments::net_base_fragments_complete(fragments, capacity, runs)
+pub unsafe extern "C" fn net_base_fragments_complete(fragments: Option<&FragmentsHead>, capacity: usize, runs: *const Run, runs_length: usize, size: Option<&mut usize>) -> bool {
+    let Some(fragments) = fragments else { return false };
+    let Some(runs) = slice(runs, runs_length) else { return false };
+    let Some(size) = size else { return false };
+    fragments::net_base_fragments_complete(fragments, capacity, runs, size)
 }
 
 #[unsafe(no_mangle)]
@@ -311,73 +300,40 @@ pub extern "C" fn net_base_receiver_next(receiver: Option<&ReceiverHead>, next: 
 
 #[unsafe(no_mangle)]
 pub extern "C" fn net_base_receiver_window(receiver: Option<&ReceiverHead>, capacity: usize) -> usize {
-    let Some(receiver) = receiver else { return usize::MAX };
+    let Some(receiver) = receiver else { return refusals::no_number() };
     heads::receiver::net_base_receiver_window(receiver, capacity)
 }
 
 #[unsafe(no_mangle)]
-pub unsafe extern "C" fn net_base_receiver_read(receiver: Option<&mut ReceiverHead>, storage: *const u8, storage_length: usize, into: *mut u8, into_length: usize) -> usize {
-    let Some(receiver) = receiver else { return usize::MAX };
-    let Some(storage) = slice(storage, storage_length) else { return usize::MAX };
-    let Some(into) = slice_mut(into, into_length) else { return usize::MAX };
-    heads::receiver::net_base_receiver_read(receiver, storage, into)
-}
-
-#[unsafe(no_mangle)]
 pub unsafe extern "C" fn net_base_receiver_peek_slice(receiver: Option<&ReceiverHead>, storage: *const u8, storage_length: usize, into: *mut u8, into_length: usize) -> usize {
-    let Some(receiver) = receiver else { return usize::MAX };
-    let Some(storage) = slice(storage, storage_length) else { return usize::MAX };
-    let Some(into) = slice_mut(into, into_length) else { return usize::MAX };
+    let Some(receiver) = receiver else { return refusals::no_number() };
+    let Some(storage) = slice(storage, storage_length) else { return refusals::no_number() };
+    let Some(into) = slice_mut(into, into_length) else { return refusals::no_number() };
     heads::receiver::net_base_receiver_peek_slice(receiver, storage, into)
 }
 
 #[unsafe(no_mangle)]
-pub extern "C" fn net_base_receiver_remove(receiver: Option<&mut ReceiverHead>, capacity: usize, count: usize) -> bool {
-    let Some(receiver) = receiver else { return false };
-    heads::receiver::net_base_receiver_remove(receiver, capacity, count)
-}
-
-#[unsafe(no_mangle)]
 pub unsafe extern "C" fn net_base_receiver_newest_runs(receiver: Option<&ReceiverHead>, storage: *const u8, storage_length: usize, runs: *const Run, runs_length: usize, position: u64, recent: *mut u64, recent_length: usize, into: *mut HeldRun, into_length: usize) -> usize {
-    let Some(receiver) = receiver else { return usize::MAX };
-    let Some(storage) = slice(storage, storage_length) else { return usize::MAX };
-    let Some(runs) = slice(runs, runs_length) else { return usize::MAX };
-    let Some(recent) = slice_mut(recent, recent_length) else { return usize::MAX };
-    let Some(into) = slice_mut(into, into_length) else { return usize::MAX };
+    let Some(receiver) = receiver else { return refusals::no_number() };
+    let Some(storage) = slice(storage, storage_length) else { return refusals::no_number() };
+    let Some(runs) = slice(runs, runs_length) else { return refusals::no_number() };
+    let Some(recent) = slice_mut(recent, recent_length) else { return refusals::no_number() };
+    let Some(into) = slice_mut(into, into_length) else { return refusals::no_number() };
     heads::receiver::net_base_receiver_newest_runs(receiver, storage, runs, position, recent, into)
 }
 
 #[unsafe(no_mangle)]
-pub unsafe extern "C" fn net_base_receiver_count_new(receiver: Option<&ReceiverHead>, storage: *const u8, storage_length: usize, runs: *const Run, runs_length: usize, position: u64, len: usize) -> usize {
-    let Some(receiver) = receiver else { return usize::MAX };
-    let Some(storage) = slice(storage, storage_length) else { return usize::MAX };
-    let Some(runs) = slice(runs, runs_length) else { return usize::MAX };
-    heads::receiver::net_base_receiver_count_new(receiver, storage, runs, position, len)
-}
-
-#[unsafe(no_mangle)]
-pub unsafe extern "C" fn net_base_receiver_segment(receiver: Option<&mut ReceiverHead>, storage: *mut u8, storage_length: usize, runs: *mut Run, runs_length: usize, position: u64, bytes: *const u8, bytes_length: usize, counts: Option<&mut receiver::KeptCounts>) -> u32 {
-    let Some(receiver) = receiver else { return refusals::NET_BASE_REFUSED };
-    let Some(storage) = slice_mut(storage, storage_length) else { return refusals::NET_BASE_REFUSED };
-    let Some(runs) = slice_mut(runs, runs_length) else { return refusals::NET_BASE_REFUSED };
-    let Some(bytes) = slice(bytes, bytes_length) else { return refusals::NET_BASE_REFUSED };
-    let Some(counts) = counts else { return refusals::NET_BASE_REFUSED };
-    receiver::net_base_receiver_segment(receiver, storage, runs, position, bytes, counts)
-}
-
-#[unsafe(no_mangle)]
-pub extern "C" fn net_base_receiver_window_end(receiver: Option<&ReceiverHead>, capacity: usize, end: Option<&mut u64>) -> bool {
-    let Some(receiver) = receiver else { return false };
-    let Some(end) = end else { return false };
-    receiver::net_base_receiver_window_end(receiver, capacity, end)
-}
-
-#[unsafe(no_mangle)]
 pub unsafe extern "C" fn net_base_receiver_run_at(receiver: Option<&ReceiverHead>, storage: *const u8, storage_length: usize, runs: *const Run, runs_length: usize, index: usize) -> HeldRun {
-    let Some(receiver) = receiver else { return HeldRun { start: u64::MAX, end: u64::MAX } };
-    let Some(storage) = slice(storage, storage_length) else { return HeldRun { start: u64::MAX, end: u64::MAX } };
-    let Some(runs) = slice(runs, runs_length) else { return HeldRun { start: u64::MAX, end: u64::MAX } };
+    let Some(receiver) = receiver else { return refusals::refused_held_run() };
+    let Some(storage) = slice(storage, storage_length) else { return refusals::refused_held_run() };
+    let Some(runs) = slice(runs, runs_length) else { return refusals::refused_held_run() };
     receiver::net_base_receiver_run_at(receiver, storage, runs, index)
+}
+
+#[unsafe(no_mangle)]
+pub extern "C" fn net_base_sender_init(sender: Option<&mut SenderHead>, first: u64) {
+    let Some(sender) = sender else { return };
+    heads::sender::net_base_sender_init(sender, first)
 }
 
 #[unsafe(no_mangle)]
@@ -395,21 +351,21 @@ pub extern "C" fn net_base_sender_end(sender: Option<&SenderHead>, end: Option<&
 
 #[unsafe(no_mangle)]
 pub extern "C" fn net_base_sender_room(sender: Option<&SenderHead>, capacity: usize) -> usize {
-    let Some(sender) = sender else { return usize::MAX };
+    let Some(sender) = sender else { return refusals::no_number() };
     heads::sender::net_base_sender_room(sender, capacity)
 }
 
 #[unsafe(no_mangle)]
 pub unsafe extern "C" fn net_base_sender_write(sender: Option<&mut SenderHead>, storage: *mut u8, storage_length: usize, bytes: *const u8, bytes_length: usize) -> usize {
-    let Some(sender) = sender else { return usize::MAX };
-    let Some(storage) = slice_mut(storage, storage_length) else { return usize::MAX };
-    let Some(bytes) = slice(bytes, bytes_length) else { return usize::MAX };
+    let Some(sender) = sender else { return refusals::no_number() };
+    let Some(storage) = slice_mut(storage, storage_length) else { return refusals::no_number() };
+    let Some(bytes) = slice(bytes, bytes_length) else { return refusals::no_number() };
     heads::sender::net_base_sender_write(sender, storage, bytes)
 }
 
 #[unsafe(no_mangle)]
 pub extern "C" fn net_base_sender_peek_at(sender: Option<&SenderHead>, capacity: usize, position: u64, max: usize) -> Span {
-    let Some(sender) = sender else { return Span { from: usize::MAX, count: 0, contiguous: 0 } };
+    let Some(sender) = sender else { return refusals::refused_span() };
     heads::sender::net_base_sender_peek_at(sender, capacity, position, max)
 }
 
@@ -433,6 +389,12 @@ pub extern "C" fn net_base_sender_acknowledge_sent(sender: Option<&mut SenderHea
 }
 
 #[unsafe(no_mangle)]
+pub extern "C" fn net_base_scoreboard_init(scoreboard: Option<&mut ScoreboardHead>, first: u64) {
+    let Some(scoreboard) = scoreboard else { return };
+    heads::scoreboard::net_base_scoreboard_init(scoreboard, first)
+}
+
+#[unsafe(no_mangle)]
 pub unsafe extern "C" fn net_base_scoreboard_is_sound(scoreboard: Option<&ScoreboardHead>, runs: *const Run, runs_length: usize) -> bool {
     let Some(scoreboard) = scoreboard else { return false };
     let Some(runs) = slice(runs, runs_length) else { return false };
@@ -440,13 +402,7 @@ pub unsafe extern "C" fn net_base_scoreboard_is_sound(scoreboard: Option<&Scoreb
 }
 
 #[unsafe(no_mangle)]
-pub extern "C" fn net_base_scoreboard_reset(scoreboard: Option<&mut ScoreboardHead>, first: u64) {
-    let Some(scoreboard) = scoreboard else { return };
-    heads::scoreboard::net_base_scoreboard_reset(scoreboard, first)
-}
-
-#[unsafe(no_mangle)]
-pub unsafe extern "C" fn net_base_scoreboard_report(scoreboard: Option<&mut ScoreboardHead>, runs: *mut Run, runs_length: usize, start: u64, end: u64, sent: u64) -> u32 {
+pub unsafe extern "C" fn net_base_scoreboard_report(scoreboard: Option<&mut ScoreboardHead>, runs: *mut Run, runs_length: usize, start: u64, end: u64, sent: u64) -> refusals::Status {
     let Some(scoreboard) = scoreboard else { return refusals::NET_BASE_REFUSED };
     let Some(runs) = slice_mut(runs, runs_length) else { return refusals::NET_BASE_REFUSED };
     heads::scoreboard::net_base_scoreboard_report(scoreboard, runs, start, end, sent)
@@ -460,16 +416,16 @@ pub unsafe extern "C" fn net_base_scoreboard_acknowledge(scoreboard: Option<&mut
 }
 
 #[unsafe(no_mangle)]
-pub unsafe extern "C" fn net_base_scoreboard_contains(scoreboard: Option<&ScoreboardHead>, runs: *const Run, runs_length: usize, position: u64) -> u32 {
-    let Some(scoreboard) = scoreboard else { return refusals::NET_BASE_REFUSED };
-    let Some(runs) = slice(runs, runs_length) else { return refusals::NET_BASE_REFUSED };
+pub unsafe extern "C" fn net_base_scoreboard_contains(scoreboard: Option<&ScoreboardHead>, runs: *const Run, runs_length: usize, position: u64) -> bool {
+    let Some(scoreboard) = scoreboard else { return false };
+    let Some(runs) = slice(runs, runs_length) else { return false };
     heads::scoreboard::net_base_scoreboard_contains(scoreboard, runs, position)
 }
 
 #[unsafe(no_mangle)]
 pub unsafe extern "C" fn net_base_scoreboard_next_hole(scoreboard: Option<&ScoreboardHead>, runs: *const Run, runs_length: usize, position: u64, limit: u64) -> results::Hole {
-    let Some(scoreboard) = scoreboard else { return results::Hole { status: refusals::NET_BASE_REFUSED, start: 0, end: 0 } };
-    let Some(runs) = slice(runs, runs_length) else { return results::Hole { status: refusals::NET_BASE_REFUSED, start: 0, end: 0 } };
+    let Some(scoreboard) = scoreboard else { return refusals::refused_hole() };
+    let Some(runs) = slice(runs, runs_length) else { return refusals::refused_hole() };
     heads::scoreboard::net_base_scoreboard_next_hole(scoreboard, runs, position, limit)
 }
 
@@ -483,8 +439,8 @@ pub unsafe extern "C" fn net_base_scoreboard_highest_reported(scoreboard: Option
 
 #[unsafe(no_mangle)]
 pub unsafe extern "C" fn net_base_scoreboard_count_beyond(scoreboard: Option<&ScoreboardHead>, runs: *const Run, runs_length: usize) -> usize {
-    let Some(scoreboard) = scoreboard else { return usize::MAX };
-    let Some(runs) = slice(runs, runs_length) else { return usize::MAX };
+    let Some(scoreboard) = scoreboard else { return refusals::no_number() };
+    let Some(runs) = slice(runs, runs_length) else { return refusals::no_number() };
     heads::scoreboard::net_base_scoreboard_count_beyond(scoreboard, runs)
 }
 
@@ -497,6 +453,12 @@ pub unsafe extern "C" fn net_base_scoreboard_lost_below(scoreboard: Option<&Scor
 }
 
 #[unsafe(no_mangle)]
+pub extern "C" fn net_base_finite_receiver_init(receiver: Option<&mut FiniteReceiverHead>, first: u64) -> bool {
+    let Some(receiver) = receiver else { return false };
+    heads::finite_receiver::net_base_finite_receiver_init(receiver, first)
+}
+
+#[unsafe(no_mangle)]
 pub unsafe extern "C" fn net_base_finite_receiver_is_sound(receiver: Option<&FiniteReceiverHead>, storage: *const u8, storage_length: usize, runs: *const Run, runs_length: usize) -> bool {
     let Some(receiver) = receiver else { return false };
     let Some(storage) = slice(storage, storage_length) else { return false };
@@ -505,16 +467,16 @@ pub unsafe extern "C" fn net_base_finite_receiver_is_sound(receiver: Option<&Fin
 }
 
 #[unsafe(no_mangle)]
-pub unsafe extern "C" fn net_base_finite_receiver_can_end(receiver: Option<&FiniteReceiverHead>, storage: *const u8, storage_length: usize, runs: *const Run, runs_length: usize, position: u64) -> u32 {
-    let Some(receiver) = receiver else { return refusals::NET_BASE_REFUSED };
-    let Some(storage) = slice(storage, storage_length) else { return refusals::NET_BASE_REFUSED };
-    let Some(runs) = slice(runs, runs_length) else { return refusals::NET_BASE_REFUSED };
+pub unsafe extern "C" fn net_base_finite_receiver_can_end(receiver: Option<&FiniteReceiverHead>, storage: *const u8, storage_length: usize, runs: *const Run, runs_length: usize, position: u64) -> bool {
+    let Some(receiver) = receiver else { return false };
+    let Some(storage) = slice(storage, storage_length) else { return false };
+    let Some(runs) = slice(runs, runs_length) else { return false };
     heads::finite_receiver::net_base_finite_receiver_can_end(receiver, storage, runs, position)
 }
 
 #[unsafe(no_mangle)]
-pub extern "C" fn net_base_finite_receiver_is_complete(receiver: Option<&FiniteReceiverHead>) -> u32 {
-    let Some(receiver) = receiver else { return refusals::NET_BASE_REFUSED };
+pub extern "C" fn net_base_finite_receiver_is_complete(receiver: Option<&FiniteReceiverHead>) -> bool {
+    let Some(receiver) = receiver else { return false };
     heads::finite_receiver::net_base_finite_receiver_is_complete(receiver)
 }
 
@@ -526,16 +488,16 @@ pub extern "C" fn net_base_finite_receiver_acknowledged(receiver: Option<&Finite
 }
 
 #[unsafe(no_mangle)]
-pub extern "C" fn net_base_finite_receiver_has_read_all(receiver: Option<&FiniteReceiverHead>) -> u32 {
-    let Some(receiver) = receiver else { return refusals::NET_BASE_REFUSED };
+pub extern "C" fn net_base_finite_receiver_has_read_all(receiver: Option<&FiniteReceiverHead>) -> bool {
+    let Some(receiver) = receiver else { return false };
     heads::finite_receiver::net_base_finite_receiver_has_read_all(receiver)
 }
 
 #[unsafe(no_mangle)]
 pub unsafe extern "C" fn net_base_finite_receiver_read(receiver: Option<&mut FiniteReceiverHead>, storage: *const u8, storage_length: usize, into: *mut u8, into_length: usize) -> usize {
-    let Some(receiver) = receiver else { return usize::MAX };
-    let Some(storage) = slice(storage, storage_length) else { return usize::MAX };
-    let Some(into) = slice_mut(into, into_length) else { return usize::MAX };
+    let Some(receiver) = receiver else { return refusals::no_number() };
+    let Some(storage) = slice(storage, storage_length) else { return refusals::no_number() };
+    let Some(into) = slice_mut(into, into_length) else { return refusals::no_number() };
     heads::finite_receiver::net_base_finite_receiver_read(receiver, storage, into)
 }
 
@@ -547,14 +509,14 @@ pub extern "C" fn net_base_finite_receiver_remove(receiver: Option<&mut FiniteRe
 
 #[unsafe(no_mangle)]
 pub unsafe extern "C" fn net_base_finite_receiver_count_new(receiver: Option<&FiniteReceiverHead>, storage: *const u8, storage_length: usize, runs: *const Run, runs_length: usize, position: u64, len: usize) -> usize {
-    let Some(receiver) = receiver else { return usize::MAX };
-    let Some(storage) = slice(storage, storage_length) else { return usize::MAX };
-    let Some(runs) = slice(runs, runs_length) else { return usize::MAX };
+    let Some(receiver) = receiver else { return refusals::no_number() };
+    let Some(storage) = slice(storage, storage_length) else { return refusals::no_number() };
+    let Some(runs) = slice(runs, runs_length) else { return refusals::no_number() };
     heads::finite_receiver::net_base_finite_receiver_count_new(receiver, storage, runs, position, len)
 }
 
 #[unsafe(no_mangle)]
-pub unsafe extern "C" fn net_base_finite_receiver_segment(receiver: Option<&mut FiniteReceiverHead>, storage: *mut u8, storage_length: usize, runs: *mut Run, runs_length: usize, position: u64, bytes: *const u8, bytes_length: usize, is_last: bool, counts: Option<&mut receiver::KeptCounts>) -> u32 {
+pub unsafe extern "C" fn net_base_finite_receiver_segment(receiver: Option<&mut FiniteReceiverHead>, storage: *mut u8, storage_length: usize, runs: *mut Run, runs_length: usize, position: u64, bytes: *const u8, bytes_length: usize, is_last: bool, counts: Option<&mut receiver::KeptCounts>) -> refusals::Status {
     let Some(receiver) = receiver else { return refusals::NET_BASE_REFUSED };
     let Some(storage) = slice_mut(storage, storage_length) else { return refusals::NET_BASE_REFUSED };
     let Some(runs) = slice_mut(runs, runs_length) else { return refusals::NET_BASE_REFUSED };
@@ -568,6 +530,12 @@ pub extern "C" fn net_base_finite_receiver_window_end(receiver: Option<&FiniteRe
     let Some(receiver) = receiver else { return false };
     let Some(end) = end else { return false };
     finite_receiver::net_base_finite_receiver_window_end(receiver, capacity, end)
+}
+
+#[unsafe(no_mangle)]
+pub extern "C" fn net_base_finite_sender_init(sender: Option<&mut FiniteSenderHead>, first: u64) -> bool {
+    let Some(sender) = sender else { return false };
+    heads::finite_sender::net_base_finite_sender_init(sender, first)
 }
 
 #[unsafe(no_mangle)]
@@ -592,15 +560,15 @@ pub extern "C" fn net_base_finite_sender_numbers_end(sender: Option<&FiniteSende
 
 #[unsafe(no_mangle)]
 pub extern "C" fn net_base_finite_sender_room(sender: Option<&FiniteSenderHead>, capacity: usize) -> usize {
-    let Some(sender) = sender else { return usize::MAX };
+    let Some(sender) = sender else { return refusals::no_number() };
     heads::finite_sender::net_base_finite_sender_room(sender, capacity)
 }
 
 #[unsafe(no_mangle)]
 pub unsafe extern "C" fn net_base_finite_sender_write(sender: Option<&mut FiniteSenderHead>, storage: *mut u8, storage_length: usize, bytes: *const u8, bytes_length: usize) -> usize {
-    let Some(sender) = sender else { return usize::MAX };
-    let Some(storage) = slice_mut(storage, storage_length) else { return usize::MAX };
-    let Some(bytes) = slice(bytes, bytes_length) else { return usize::MAX };
+    let Some(sender) = sender else { return refusals::no_number() };
+    let Some(storage) = slice_mut(storage, storage_length) else { return refusals::no_number() };
+    let Some(bytes) = slice(bytes, bytes_length) else { return refusals::no_number() };
     heads::finite_sender::net_base_finite_sender_write(sender, storage, bytes)
 }
 
@@ -612,13 +580,13 @@ pub extern "C" fn net_base_finite_sender_close(sender: Option<&mut FiniteSenderH
 
 #[unsafe(no_mangle)]
 pub extern "C" fn net_base_finite_sender_peek_at(sender: Option<&FiniteSenderHead>, capacity: usize, position: u64, limit: u64) -> results::SegmentSpan {
-    let Some(sender) = sender else { return results::SegmentSpan { from: usize::MAX, count: 0, contiguous: 0, is_last: false } };
+    let Some(sender) = sender else { return refusals::refused_segment_span() };
     heads::finite_sender::net_base_finite_sender_peek_at(sender, capacity, position, limit)
 }
 
 #[unsafe(no_mangle)]
 pub extern "C" fn net_base_finite_sender_send_at(sender: Option<&mut FiniteSenderHead>, capacity: usize, position: u64, limit: u64) -> results::SegmentSpan {
-    let Some(sender) = sender else { return results::SegmentSpan { from: usize::MAX, count: 0, contiguous: 0, is_last: false } };
+    let Some(sender) = sender else { return refusals::refused_segment_span() };
     heads::finite_sender::net_base_finite_sender_send_at(sender, capacity, position, limit)
 }
 
@@ -653,19 +621,15 @@ pub extern "C" fn net_base_finite_sender_is_closed_and_acknowledged(sender: Opti
 }
 
 #[unsafe(no_mangle)]
-pub extern "C" fn net_base_tcp_is_acceptable(next: u64, window: u64, seq: u64, len: u64) -> bool {
-    heads::tcp::net_base_tcp_is_acceptable(next, window, seq, len)
-}
-
-#[unsafe(no_mangle)]
-pub extern "C" fn net_base_tcp_classify(next: u64, window: u64, segment: Option<&Segment>) -> u32 {
+pub extern "C" fn net_base_tcp_classify(next: u64, window: u64, segment: Option<&Segment>) -> refusals::Status {
     let Some(segment) = segment else { return refusals::NET_BASE_REFUSED };
     heads::tcp::net_base_tcp_classify(next, window, segment)
 }
 
 #[unsafe(no_mangle)]
-pub extern "C" fn net_base_tcp_is_acknowledgement(first_unacknowledged: u64, sent: u64, greatest_window: u64, ack: u64) -> bool {
-    heads::tcp::net_base_tcp_is_acknowledgement(first_unacknowledged, sent, greatest_window, ack)
+pub extern "C" fn net_base_tcp_is_acknowledgement(numbers: Option<&SentNumbers>, greatest_window: u64, ack: u64) -> bool {
+    let Some(numbers) = numbers else { return false };
+    heads::tcp::net_base_tcp_is_acknowledgement(numbers, greatest_window, ack)
 }
 
 #[unsafe(no_mangle)]
@@ -674,21 +638,8 @@ pub extern "C" fn net_base_tcp_scale_for(capacity: u64) -> u8 {
 }
 
 #[unsafe(no_mangle)]
-pub extern "C" fn net_base_tcp_scaled(field: u16, scale: u8, bytes: Option<&mut u64>) -> bool {
-    let Some(bytes) = bytes else { return false };
-    heads::tcp::net_base_tcp_scaled(field, scale, bytes)
-}
-
-#[unsafe(no_mangle)]
-pub unsafe extern "C" fn net_base_tcp_checksum(bytes: *const u8, bytes_length: usize) -> u16 {
-    let Some(bytes) = slice(bytes, bytes_length) else { return 0 };
-    heads::tcp::net_base_tcp_checksum(bytes)
-}
-
-#[unsafe(no_mangle)]
-pub unsafe extern "C" fn net_base_tcp_is_checksum_valid(bytes: *const u8, bytes_length: usize) -> bool {
-    let Some(bytes) = slice(bytes, bytes_length) else { return false };
-    heads::tcp::net_base_tcp_is_checksum_valid(bytes)
+pub extern "C" fn net_base_tcp_scaled(field: u16, scale: u8) -> u64 {
+    heads::tcp::net_base_tcp_scaled(field, scale)
 }
 
 #[unsafe(no_mangle)]
@@ -697,9 +648,15 @@ pub extern "C" fn net_base_tcp_updated_checksum(checksum: u16, old: u16, value: 
 }
 
 #[unsafe(no_mangle)]
-pub extern "C" fn net_base_advertised_window_classify(advertised: Option<&AdvertisedWindow>, next: u64, segment: Option<&Segment>) -> u32 {
-    let Some(advertised) = advertised else { return 0 };
-    let Some(segment) = segment else { return 0 };
+pub extern "C" fn net_base_advertised_window_init(advertised: Option<&mut AdvertisedWindow>, first: u64) {
+    let Some(advertised) = advertised else { return };
+    heads::advertised_window::net_base_advertised_window_init(advertised, first)
+}
+
+#[unsafe(no_mangle)]
+pub extern "C" fn net_base_advertised_window_classify(advertised: Option<&AdvertisedWindow>, next: u64, segment: Option<&Segment>) -> refusals::Status {
+    let Some(advertised) = advertised else { return refusals::NET_BASE_REFUSED };
+    let Some(segment) = segment else { return refusals::NET_BASE_REFUSED };
     heads::advertised_window::net_base_advertised_window_classify(advertised, next, segment)
 }
 
@@ -718,15 +675,23 @@ pub extern "C" fn net_base_advertised_window_announce_in_steps(advertised: Optio
 }
 
 #[unsafe(no_mangle)]
-pub extern "C" fn net_base_advertised_window_is_update_due(advertised: Option<&AdvertisedWindow>, scale: u8, next: u64, window_end: u64, capacity: u64, mss: u16) -> u32 {
-    let Some(advertised) = advertised else { return refusals::NET_BASE_REFUSED };
+pub extern "C" fn net_base_advertised_window_is_update_due(advertised: Option<&AdvertisedWindow>, scale: u8, next: u64, window_end: u64, capacity: u64, mss: u16) -> bool {
+    let Some(advertised) = advertised else { return false };
     heads::advertised_window::net_base_advertised_window_is_update_due(advertised, scale, next, window_end, capacity, mss)
 }
 
 #[unsafe(no_mangle)]
-pub extern "C" fn net_base_peer_window_update(peer: Option<&mut PeerWindow>, first_unacknowledged: u64, sent: u64, seq: u64, ack: u64, window: u64) -> bool {
+pub extern "C" fn net_base_peer_window_init(peer: Option<&mut PeerWindow>) {
+    let Some(peer) = peer else { return };
+    heads::peer_window::net_base_peer_window_init(peer)
+}
+
+#[unsafe(no_mangle)]
+pub extern "C" fn net_base_peer_window_update(peer: Option<&mut PeerWindow>, numbers: Option<&SentNumbers>, it: Option<&Announcement>) -> bool {
     let Some(peer) = peer else { return false };
-    heads::peer_window::net_base_peer_window_update(peer, first_unacknowledged, sent, seq, ack, window)
+    let Some(numbers) = numbers else { return false };
+    let Some(it) = it else { return false };
+    heads::peer_window::net_base_peer_window_update(peer, numbers, it)
 }
 
 #[unsafe(no_mangle)]
@@ -748,75 +713,63 @@ pub extern "C" fn net_base_peer_window_is_probe_allowed(peer: Option<&PeerWindow
 }
 
 #[unsafe(no_mangle)]
-pub extern "C" fn net_base_peer_window_acknowledgement_number(peer: Option<&PeerWindow>, first_unacknowledged: u64, sent: u64) -> u64 {
+pub extern "C" fn net_base_peer_window_acknowledgement_number(peer: Option<&PeerWindow>, numbers: Option<&SentNumbers>) -> u64 {
     let Some(peer) = peer else { return u64::MAX };
-    heads::peer_window::net_base_peer_window_acknowledgement_number(peer, first_unacknowledged, sent)
+    let Some(numbers) = numbers else { return u64::MAX };
+    heads::peer_window::net_base_peer_window_acknowledgement_number(peer, numbers)
 }
 
 #[unsafe(no_mangle)]
-pub extern "C" fn net_base_retransmission_timeout_is_small(timer: Option<&RetransmissionTimeout>) -> bool {
-    let Some(timer) = timer else { return false };
-    heads::retransmission_timeout::net_base_retransmission_timeout_is_small(timer)
+pub extern "C" fn net_base_retransmission_timer_init(timer: Option<&mut retransmission::RetransmissionTimer>, timeout: u64) {
+    let Some(timer) = timer else { return };
+    retransmission::net_base_retransmission_timer_init(timer, timeout)
 }
 
 #[unsafe(no_mangle)]
-pub extern "C" fn net_base_retransmission_timeout_take_sample(timer: Option<&mut RetransmissionTimeout>, bounds: Option<&TimeoutBounds>, time: u64) -> bool {
-    let Some(timer) = timer else { return false };
-    let Some(bounds) = bounds else { return false };
-    heads::retransmission_timeout::net_base_retransmission_timeout_take_sample(timer, bounds, time)
+pub extern "C" fn net_base_retransmission_timer_start(timer: Option<&mut retransmission::RetransmissionTimer>, now: i64) {
+    let Some(timer) = timer else { return };
+    retransmission::net_base_retransmission_timer_start(timer, now)
 }
 
 #[unsafe(no_mangle)]
-pub extern "C" fn net_base_retransmission_timeout_expired(timer: Option<&mut RetransmissionTimeout>, bounds: Option<&TimeoutBounds>) {
+pub extern "C" fn net_base_retransmission_timer_stop(timer: Option<&mut retransmission::RetransmissionTimer>) {
+    let Some(timer) = timer else { return };
+    retransmission::net_base_retransmission_timer_stop(timer)
+}
+
+#[unsafe(no_mangle)]
+pub extern "C" fn net_base_retransmission_timer_sent(timer: Option<&mut retransmission::RetransmissionTimer>, position: u64, end: u64, numbers: Option<&SentNumbers>, now: i64) {
+    let Some(timer) = timer else { return };
+    let Some(numbers) = numbers else { return };
+    retransmission::net_base_retransmission_timer_sent(timer, position, end, numbers, now)
+}
+
+#[unsafe(no_mangle)]
+pub extern "C" fn net_base_retransmission_timer_take_sample(timer: Option<&mut retransmission::RetransmissionTimer>, bounds: Option<&retransmission::TimeoutBounds>, now: i64) {
     let Some(timer) = timer else { return };
     let Some(bounds) = bounds else { return };
-    heads::retransmission_timeout::net_base_retransmission_timeout_expired(timer, bounds)
+    retransmission::net_base_retransmission_timer_take_sample(timer, bounds, now)
 }
 
 #[unsafe(no_mangle)]
-pub extern "C" fn net_base_retransmission_timer_start(timer: Option<&mut RetransmissionTimer>, now: u64) {
+pub extern "C" fn net_base_retransmission_timer_acknowledged(timer: Option<&mut retransmission::RetransmissionTimer>, bounds: Option<&retransmission::TimeoutBounds>, numbers: Option<&SentNumbers>, next: u64, now: i64) {
     let Some(timer) = timer else { return };
-    heads::retransmission_timer::net_base_retransmission_timer_start(timer, now)
+    let Some(bounds) = bounds else { return };
+    let Some(numbers) = numbers else { return };
+    retransmission::net_base_retransmission_timer_acknowledged(timer, bounds, numbers, next, now)
 }
 
 #[unsafe(no_mangle)]
-pub extern "C" fn net_base_retransmission_timer_stop(timer: Option<&mut RetransmissionTimer>) {
-    let Some(timer) = timer else { return };
-    heads::retransmission_timer::net_base_retransmission_timer_stop(timer)
-}
-
-#[unsafe(no_mangle)]
-pub extern "C" fn net_base_retransmission_timer_sent(timer: Option<&mut RetransmissionTimer>, position: u64, end: u64, sent: u64, now: u64) {
-    let Some(timer) = timer else { return };
-    heads::retransmission_timer::net_base_retransmission_timer_sent(timer, position, end, sent, now)
-}
-
-#[unsafe(no_mangle)]
-pub extern "C" fn net_base_retransmission_timer_take_sample(timer: Option<&mut RetransmissionTimer>, bounds: Option<&TimeoutBounds>, now: u64) -> bool {
+pub extern "C" fn net_base_retransmission_timer_expire(timer: Option<&mut retransmission::RetransmissionTimer>, bounds: Option<&retransmission::TimeoutBounds>, now: i64) -> bool {
     let Some(timer) = timer else { return false };
     let Some(bounds) = bounds else { return false };
-    heads::retransmission_timer::net_base_retransmission_timer_take_sample(timer, bounds, now)
+    retransmission::net_base_retransmission_timer_expire(timer, bounds, now)
 }
 
 #[unsafe(no_mangle)]
-pub extern "C" fn net_base_retransmission_timer_acknowledged(timer: Option<&mut RetransmissionTimer>, bounds: Option<&TimeoutBounds>, first_unacknowledged: u64, sent: u64, next: u64, now: u64) -> bool {
-    let Some(timer) = timer else { return false };
-    let Some(bounds) = bounds else { return false };
-    heads::retransmission_timer::net_base_retransmission_timer_acknowledged(timer, bounds, first_unacknowledged, sent, next, now)
-}
-
-#[unsafe(no_mangle)]
-pub extern "C" fn net_base_retransmission_timer_expire(timer: Option<&mut RetransmissionTimer>, bounds: Option<&TimeoutBounds>, now: u64) -> bool {
-    let Some(timer) = timer else { return false };
-    let Some(bounds) = bounds else { return false };
-    heads::retransmission_timer::net_base_retransmission_timer_expire(timer, bounds, now)
-}
-
-#[unsafe(no_mangle)]
-pub extern "C" fn net_base_rtt_estimate_timeout(estimate: Option<&RttEstimate>, bounds: Option<&TimeoutBounds>) -> u64 {
-    let Some(estimate) = estimate else { return u64::MAX };
-    let Some(bounds) = bounds else { return u64::MAX };
-    heads::rtt_estimate::net_base_rtt_estimate_timeout(estimate, bounds)
+pub extern "C" fn net_base_parts_sum_init(sum: Option<&mut PartsSum>) {
+    let Some(sum) = sum else { return };
+    heads::parts_sum::net_base_parts_sum_init(sum)
 }
 
 #[unsafe(no_mangle)]
@@ -836,6 +789,13 @@ pub extern "C" fn net_base_parts_sum_checksum(sum: Option<&PartsSum>) -> u16 {
 pub extern "C" fn net_base_parts_sum_is_valid(sum: Option<&PartsSum>) -> bool {
     let Some(sum) = sum else { return false };
     heads::parts_sum::net_base_parts_sum_is_valid(sum)
+}
+
+#[unsafe(no_mangle)]
+pub unsafe extern "C" fn net_base_parts_sum_write_checksum(sum: Option<&PartsSum>, into: *mut u8, into_length: usize) -> bool {
+    let Some(sum) = sum else { return false };
+    let Some(into) = slice_mut(into, into_length) else { return false };
+    parts_sum::net_base_parts_sum_write_checksum(sum, into)
 }
 
 #[unsafe(no_mangle)]

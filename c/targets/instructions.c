@@ -8,12 +8,13 @@ enum { ROUNDS = 1000, CAPACITY = 64, RUNS = 4, SLOTS = 4 };
 
 static uint8_t storage[CAPACITY], bytes[CAPACITY];
 static struct net_base_run runs[RUNS];
+static volatile enum net_base_status status;
 static struct net_base_packet_slot slots[SLOTS];
 static struct net_base_ring ring;
 static struct net_base_assembler assembler;
 static struct net_base_packets packets;
-static struct net_base_receiver receiver;
-static struct net_base_sender sender;
+static struct net_base_finite_receiver receiver;
+static struct net_base_finite_sender sender;
 static struct net_base_fragments fragments;
 
 #ifdef __riscv
@@ -57,8 +58,8 @@ static void slices(void) {
 }
 
 static void ranges(void) {
-    net_base_assembler_add(&assembler, runs, RUNS, 10, 5);
-    net_base_assembler_add_then_remove_front(&assembler, runs, RUNS, 0, 10);
+    status = net_base_assembler_add(&assembler, runs, RUNS, 10, 5);
+    status = net_base_assembler_add_then_remove_front(&assembler, runs, RUNS, 0, 10).status;
 }
 
 static void packet(void) {
@@ -68,22 +69,24 @@ static void packet(void) {
 
 static void segment(void) {
     struct net_base_kept_counts counts;
-    net_base_receiver_segment(&receiver, storage, CAPACITY, runs, RUNS, receiver.count_read, bytes, 32, &counts);
-    net_base_receiver_read(&receiver, storage, CAPACITY, bytes, 32);
+    status = net_base_finite_receiver_segment(
+        &receiver, storage, CAPACITY, runs, RUNS, receiver.receiver.count_read, bytes, 32, false, &counts);
+    net_base_finite_receiver_read(&receiver, storage, CAPACITY, bytes, 32);
 }
 
 static void send(void) {
-    net_base_sender_write(&sender, storage, CAPACITY, bytes, 32);
-    net_base_sender_peek_at(&sender, CAPACITY, sender.first_unacknowledged, 32);
-    net_base_sender_acknowledge(&sender, CAPACITY, sender.first_unacknowledged + 32);
+    net_base_finite_sender_write(&sender, storage, CAPACITY, bytes, 32);
+    net_base_finite_sender_send_at(&sender, CAPACITY, sender.sent, sender.sent + 32);
+    net_base_finite_sender_acknowledge(&sender, CAPACITY, sender.sent);
 }
 
 static void fragment(void) {
-    net_base_fragments_reset(&fragments, 0);
-    net_base_fragments_add(&fragments, storage, CAPACITY, runs, RUNS, 16, bytes, 16);
-    net_base_fragments_add(&fragments, storage, CAPACITY, runs, RUNS, 0, bytes, 16);
-    net_base_fragments_set_total_size(&fragments, CAPACITY, runs, RUNS, 32);
-    net_base_fragments_complete(&fragments, CAPACITY, runs, RUNS);
+    size_t size;
+    net_base_fragments_init(&fragments, 0);
+    status = net_base_fragments_add(&fragments, storage, CAPACITY, runs, RUNS, 16, bytes, 16);
+    status = net_base_fragments_add(&fragments, storage, CAPACITY, runs, RUNS, 0, bytes, 16);
+    status = net_base_fragments_set_total_size(&fragments, CAPACITY, runs, RUNS, 32);
+    net_base_fragments_complete(&fragments, CAPACITY, runs, RUNS, &size);
 }
 
 static unsigned taken(void (*round)(void)) {

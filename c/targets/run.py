@@ -22,6 +22,7 @@ sys.dont_write_bytecode = True
 import disassembly  # noqa: E402
 import ffi  # noqa: E402
 from parts import exports  # noqa: E402
+from parts import layouts  # noqa: E402
 from parts import sequence  # noqa: E402
 
 FLAGS = ["-std=gnu11", "-O2", "-Wall", "-Wextra", "-Werror", "-ffunction-sections"]
@@ -53,8 +54,8 @@ PACKAGES = {
 @dataclasses.dataclass(frozen=True)
 class Way:
     """How programs are compiled and run for a target of rustc: the compiler and its words, those for linking, the emulator's. A
-    bare one has no operating system, so that a program gets the words of its command line when it is compiled. A small
-    one has no room for the fuzzer and the rows. The library may be built with other features of the processor."""
+    bare one has no operating system, so that a program gets the words of its command line when it is compiled. The library
+    may be built with other features of the processor."""
 
     target: str
     title: str
@@ -62,14 +63,19 @@ class Way:
     linking: tuple
     emulator: tuple
     bare: bool = False
-    small: bool = False
     features: str = ""
 
     def name(self):
         return f"{self.target} ({self.title})"
 
-    def programs(self):
-        return [self.compiler[0], *self.emulator[:1]]
+    def lacking(self):
+        """The programs that aren't here: the compiler, which counts as missing where its C library is, and the emulator."""
+        lacking = [program for program in (self.compiler[0], *self.emulator[:1]) if not shutil.which(program)]
+        if self.compiler[0] not in lacking and "-nostdlib" not in self.linking:
+            specs = next((it[8:] for it in (*self.compiler, *self.linking) if it.startswith("--specs=")), "libc.a")
+            found = shell([self.compiler[0], f"-print-file-name={specs}"])[1].strip()
+            lacking += [self.compiler[0]] * (not os.path.isabs(found))
+        return lacking
 
     def tool(self, name):
         """A program beside the compiler."""
@@ -91,11 +97,11 @@ def memory(rom, rom_size, ram, ram_size):
             for name, value in (("rom", rom), ("rom_size", rom_size), ("ram", ram), ("ram_size", ram_size))]
 
 
-def cortex_m(target, machine, words, memory_words, features="", small=False):
+def cortex_m(target, machine, words, memory_words, features=""):
     return Way(target, f"qemu-system-arm -M {machine}{features and ', '}{features}",
                ("arm-none-eabi-gcc", "-mthumb", *words),
                ("--specs=rdimon.specs", "-nostartfiles", "-Wl,--gc-sections", f"-T{HERE}/cortex_m.ld", *memory_words),
-               ("qemu-system-arm", "-M", machine, "-nographic", "-semihosting", "-kernel"), True, small, features)
+               ("qemu-system-arm", "-M", machine, "-nographic", "-semihosting", "-kernel"), True, features)
 
 
 def riscv(target, bits, words):
@@ -129,13 +135,15 @@ WAYS = [
     linux("powerpc-unknown-linux-gnu", "powerpc-linux-gnu-gcc", "qemu-ppc-static"),
     linux("riscv64gc-unknown-linux-gnu", "riscv64-linux-gnu-gcc", "qemu-riscv64-static"),
     riscv("riscv64gc-unknown-none-elf", 64, ["-march=rv64gc", "-mabi=lp64d"]),
-    cortex_m("thumbv6m-none-eabi", "microbit", ["-march=armv6s-m", *TRAPPED], MICROBIT, small=True),
+    cortex_m("thumbv6m-none-eabi", "microbit", ["-march=armv6s-m", *TRAPPED], MICROBIT),
     cortex_m("thumbv6m-none-eabi", "mps2-an385", ["-march=armv6s-m", *TRAPPED], LARGE),
     cortex_m("thumbv7m-none-eabi", "mps2-an385", ["-march=armv7-m"], LARGE),
     cortex_m("thumbv7em-none-eabihf", "mps2-an386", ["-march=armv7e-m+fp", "-mfloat-abi=hard"], LARGE),
     cortex_m("thumbv8m.main-none-eabi", "mps2-an505", ["-march=armv8-m.main"], SECURE),
     cortex_m("thumbv8m.main-none-eabihf", "mps2-an505", ["-march=armv8-m.main+fp", "-mfloat-abi=hard"], SECURE),
 ]
+# The sequence's calls, whose digest depends on how many bits a `size_t` has.
+CALLS, DIGESTS = 1_000_000, C / "sequence.txt"
 TARGETS = list(dict.fromkeys(way.target for way in WAYS))
 # Those of the gate.
 QUICK = [ARMV7, CORTEX_M4, RISCV_32]
@@ -198,6 +206,7 @@ class Library:
         if status:
             raise Failed(f"cargo: {said[:1500]}")
         self.path = built / way.target / profile / "libnet_base.a"
+        self.crate = next((self.path.parent / "deps").glob("libnet_base-*.rlib"))
         members = [it for it in shell([way.tool("ar"), "t", self.path])[1].split() if it.startswith("net_base")]
         if len(members) != 1:
             raise Failed(f"the library has {len(members)} objects of its own")
@@ -218,15 +227,15 @@ class Programs:
     """Builds programs for one way, and runs them."""
 
     def __init__(self, way, compiler, folder):
-        self.way, self.folder = way, folder
+        self.way, self.rustc, self.folder = way, compiler, folder
         self.folder.mkdir(parents=True, exist_ok=True)
         self.library = Library(way, compiler, folder)
 
     def compiled(self, source, words=()):
         """An object file of a source; `main` has another name where the harness has its own."""
         made = self.folder / f"{source.name}.o"
-        extra = ["-Dmain=program", "-D__int64_t_defined=1", f"-I{HERE}/bare"] if self.way.bare else []
-        status, said = shell([*self.way.compiler, *FLAGS, *extra, *words, f"-I{C}", f"-I{C}/fuzz", "-c", source, "-o", made])
+        extra = ["-Dmain=program", "-D__int64_t_defined=1"] if self.way.bare else []
+        status, said = shell([*self.way.compiler, *FLAGS, *extra, *words, f"-I{C}", "-c", source, "-o", made])
         if status:
             raise Failed(f"{source.name} isn't compiled: {said[:1500]}")
         return made
@@ -285,11 +294,35 @@ def last(said):
     return (said.strip().splitlines() or ["(nothing)"])[-1]
 
 
+def lines_of_page(programs):
+    """Runs the lines that docs/FFI.md has for a target, as they are there, over a copy. Returns whether it has some."""
+    text = (ROOT / "docs/FFI.md").read_text()
+    lines = re.search(rf"^    (\(cd c && cargo build .*--target {programs.way.target}\)\n    .*)$", text, flags=re.M)
+    if not lines or programs.way.features:
+        return False
+    copy = programs.folder / "copy"
+    for name in ("c", "rust"):
+        shutil.copytree(ROOT / name, copy / name, ignore=shutil.ignore_patterns("target"))
+    program = re.search(r"^    #include.*\n(?:(?:    .*)?\n)*?    \}\n", text, flags=re.M)[0]
+    (copy / "my.c").write_text(re.sub("^    ", "", program, flags=re.M))
+    environment = {name: value for name, value in os.environ.items() if name != "CARGO_TARGET_DIR"}
+    status, said = shell(["sh", "-ec", lines[1]], cwd=copy, env=environment | {"RUSTC": str(programs.rustc)})
+    if status:
+        raise Failed(f"the lines of docs/FFI.md: {said[-1500:]}")
+    return True
+
+
 def tests(programs, generated, options):
-    """Runs the tests. Returns what is printed of them, and the digest of the sequence."""
+    """Runs the tests. Returns what is printed of them."""
     way = programs.way
     if problem := disassembly.problem_of(way.target, way.tool("objdump"), programs.library.object):
         raise Failed(problem)
+    layouts = programs.folder / "layouts.rs"
+    layouts.write_text(programs.run("layouts", [generated / "layouts.c"]))
+    status, said = shell([programs.rustc, "--target", way.target, "--edition", "2021", "--crate-type", "rlib", "--emit", "metadata",
+                          "-C", "panic=abort", "--extern", f"proved={programs.library.crate}", layouts, "-o", f"{layouts}.rmeta"])
+    if status:
+        raise Failed(f"layouts: a field of a struct isn't where Rust has it: {said[:1500]}")
     checks = re.search(r"(\d+) checks", programs.run("exports", [generated / "exports.c"]))
     if not checks:
         raise Failed("exports.c counts no checks")
@@ -297,25 +330,23 @@ def tests(programs, generated, options):
     if programs.run("hosted", [C / "hosted.c"]) != (C / "hosted.stdout").read_text():
         raise Failed("hosted.c prints something else than hosted.stdout")
     done.append("hosted.c as it should")
-    if not (way.small or options.quick and way.bare):
-        calls = 200_000 if way.bare else options.calls
-        said = last(programs.run("fuzz", sorted((C / "fuzz").glob("*.c")), ["1", str(calls)]))
-        if not said.endswith("0 faults"):
-            raise Failed(f"fuzz: {said}")
-        done.append(f"{calls:,} calls of the fuzzer")
-        files = [str(ROOT / "crates/net_cases" / name) for name in ("stdin", "stdout")]
-        said = programs.run("rows", sorted((C / "rows").glob("*.c")), files)
-        rows = re.search(r"^rows: (\d+) made", said, flags=re.M)
-        if not rows:
-            raise Failed("rows counts none")
-        left_out = re.search(r"^rows: (\d+) left out", said, flags=re.M)
-        done.append(f"{int(rows[1]):,} rows" + (f" ({int(left_out[1]):,} left out)" if left_out else ""))
+    for name in ("stream", "reassembly") if "microbit" not in way.emulator else ():
+        if not programs.run(name, [C / f"programs/{name}.c"]).startswith(f"{name}: "):
+            raise Failed(f"programs/{name}.c fails")
+        done.append(f"{name}.c")
+    if lines_of_page(programs):
+        done.append("the lines of docs/FFI.md")
     said = last(programs.run("sequence", [generated / "sequence.c"], [str(options.calls)]))
     digest = re.search(r"digest ([0-9a-f]{16})$", said)
     if not digest:
         raise Failed(f"sequence: {said}")
+    bits = "64 bits" if "64" in way.target else "32 bits"
+    if options.record:
+        DIGESTS.write_text(re.sub(f"^{bits} .*", f"{bits} {digest[1]}", DIGESTS.read_text(), flags=re.M))
+    if options.calls == CALLS and f"{bits} {digest[1]}\n" not in DIGESTS.read_text():
+        raise Failed(f"the sequence has digest {digest[1]}, and on {bits} c/sequence.txt has another")
     done.append(f"{options.calls:,} calls with digest {digest[1]}")
-    return ", ".join(done), digest[1]
+    return ", ".join(done)
 
 
 # What of the caller's frame an empty call leaves painted, so that it counts for the export: less than a frame's alignment.
@@ -397,7 +428,9 @@ def main():
     parser.add_argument("--quick", action="store_true")
     parser.add_argument("--table", action="store_true")
     parser.add_argument("--packages", action="store_true")
-    parser.add_argument("--calls", type=int, default=1_000_000)
+    parser.add_argument("--install", action="store_true", help="install what is missing, where that can be done")
+    parser.add_argument("--record", action="store_true", help="write the digest")
+    parser.add_argument("--calls", type=int, default=CALLS)
     parser.add_argument("--kit", type=pathlib.Path)
     parser.add_argument("targets", nargs="*")
     options = parser.parse_args()
@@ -406,15 +439,21 @@ def main():
         sys.exit(f"targets: no target {' '.join(sorted(unknown))}: there are {' '.join(TARGETS)}")
     ways = [way for way in WAYS if way.target in names and not (options.table and way.features)]
     ways += [] if options.table else [way for way in INTERRUPTED if way.target in names]
-    gone = {program for way in ways for program in way.programs() if not shutil.which(program)}
+    gone = {program for way in ways for program in way.lacking()}
+    if gone and options.install and os.getuid() == 0 and shutil.which("apt-get"):
+        words = ["apt-get", "-qq", "-o", "DPkg::Lock::Timeout=600"]
+        shell([*words, "update"])
+        shell([*words, "install", "-y", "--no-install-recommends", *packages_of(gone).split()], 3600,
+              env=os.environ | {"DEBIAN_FRONTEND": "noninteractive"})
+        gone = {program for way in ways for program in way.lacking()}
     if options.packages:
         print(packages_of(gone))
         return
-    left_out = [way for way in ways if gone & set(way.programs())]
+    left_out = [way for way in ways if way.lacking()]
     if gone:
         print(f"targets: not run: {', '.join(dict.fromkeys(way.name() for way in left_out))}: there is no "
               f"{', '.join(sorted(gone))}: apt-get install -y {packages_of(gone)}")
-    status, digests, tables = 0, {}, {}
+    status, tables = 0, {}
     with tempfile.TemporaryDirectory(prefix="net_base_") as folder:
         folder = pathlib.Path(folder)
         there = [way for way in ways if way not in left_out]
@@ -427,6 +466,7 @@ def main():
         library = ffi.Library(ROOT / "crates/net_ffi")
         (generated / "exports.c").write_text(exports.program(library))
         (generated / "sequence.c").write_text(sequence.sequence(library))
+        (generated / "layouts.c").write_text(layouts.program(library))
         (generated / "empty.c").write_text(sequence.empty(library))
 
         def act(index, way):
@@ -434,7 +474,7 @@ def main():
             if options.table:
                 return table_of(programs, generated)
             if way is PC or way in ways[:index]:  # it is there once more for the interrupt
-                return interrupted(programs), None
+                return interrupted(programs)
             return tests(programs, generated, options)
 
         for way, result, failure in each(ways, act):
@@ -444,16 +484,9 @@ def main():
             elif options.table:
                 tables[way] = result
             else:
-                text, digest = result
-                print(f"{way.name()}: {text}", flush=True)
-                if digest:
-                    digests.setdefault("64 bits" if "64" in way.target else "32 bits", set()).add(digest)
+                print(f"{way.name()}: {result}", flush=True)
     if options.table:
         print_table(tables)
-    for bits, found in digests.items():
-        if len(found) > 1:
-            print(f"targets: the digests differ on {bits}: {' '.join(sorted(found))}")
-            status = 1
     sys.exit(status or (0 if is_whole else 2))
 
 

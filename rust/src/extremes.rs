@@ -1,7 +1,9 @@
-//! Heads, called with numbers about 0, the middle and the greatest `usize`, beside models in numbers of 128 bits.
+//! Heads, called with numbers about 0, the middle and the greatest `usize`, beside models in numbers of 128 bits; and what
+//! `prove!` tests.
 use crate::proved::net_assembler::{AssemblerHead, Run};
 use crate::proved::net_packets::PacketsHead;
 use crate::proved::net_ring::RingHead;
+use crate::rattle::prelude::prove;
 use std::vec::Vec;
 
 /// The generator xorshift64.
@@ -225,4 +227,17 @@ fn assemblers() {
         );
     }
     assert!(done > 1000 && refused > 10, "{done} {refused}");
+}
+
+/// In each build, also one without assertions.
+#[test]
+fn what_is_tested_is_evaluated() {
+    let mut count = 0;
+    let mut counted = || {
+        count += 1;
+        count < 10
+    };
+    prove!(counted(), "in any `usize`");
+    prove!(counted(), "a guard");
+    assert_eq!(count, 2);
 }

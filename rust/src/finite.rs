@@ -14,7 +14,8 @@
 //! let mut advertised = AdvertisedWindow::new(1);
 //! let room = receiver.window_end().expect("positions are left");
 //! let window = advertised.announce(0, receiver.acknowledged(), room);
-//! let peer = PeerWindow::new(0, 1, window.into());
+//! let mut peer = PeerWindow::new();
+//! peer.open_to(1 + u64::from(window));
 //! assert_eq!(sender.write(b"hello"), 5);
 //! sender.close();
 //! let limit = peer.send_limit(sender.numbers_end());
@@ -33,25 +34,18 @@
 //! assert_eq!((receiver.read(&mut text), &text[..5], receiver.has_read_all()), (5, &b"hello"[..], true));
 //! ```
 //!
-//! By hand: storage that is converted, what is printed, and the texts of the error.
+//! By hand: storage that is converted, and what is printed.
 use core::fmt;
 
 use crate::managed::ManagedSlice;
 use crate::proved::net_ring::Storage;
-use crate::rattle::error_text;
 use crate::storage::Listed;
 use crate::storage::TooManyHolesError;
 
 pub use crate::proved::net_receiver::{
     FiniteError, FiniteReceiver, FiniteReceiverOver, FiniteSender, FiniteSenderOver,
 };
-
-error_text! {
-    FiniteError, error => match error {
-        FiniteError::TooManyHoles => "too many holes",
-        FiniteError::OtherEnd => "the stream ends elsewhere",
-    };
-}
+pub use crate::proved::net_numbers::SentNumbers;
 
 impl From<TooManyHolesError> for FiniteError {
     fn from(_error: TooManyHolesError) -> Self {
@@ -83,7 +77,7 @@ impl<'a> FiniteSender<'a> {
     }
 }
 
-impl<S: Storage<u8>, const N: usize> fmt::Debug for FiniteReceiver<'_, N, S> {
+impl<S: Storage<u8>, const N: usize> fmt::Debug for FiniteReceiverOver<S, N> {
     fn fmt(&self, f: &mut fmt::Formatter) -> fmt::Result {
         f.debug_struct("FiniteReceiver")
             .field("next", &self.next())
@@ -96,7 +90,7 @@ impl<S: Storage<u8>, const N: usize> fmt::Debug for FiniteReceiver<'_, N, S> {
 }
 
 /// The first number that isn't acknowledged, that after the last one, and whether the stream has its end: not the storage.
-impl<S: Storage<u8>> fmt::Debug for FiniteSender<'_, S> {
+impl<S: Storage<u8>> fmt::Debug for FiniteSenderOver<S> {
     fn fmt(&self, f: &mut fmt::Formatter) -> fmt::Result {
         f.debug_struct("FiniteSender")
             .field("first_number", &self.first_number())

@@ -22,14 +22,18 @@
 //! # What is proved
 //!
 //! All but what is by hand is written in Rattle, Rust in which functions have contracts: a prover shows for all arguments
-//! that a body meets its contract. Then the contracts are taken out, and left in the documentation of public functions,
-//! folded, with some clauses above in Rust's words, "Guarantees"; [`contracts`] explains both. What a contract requires
-//! of a caller is tested: a call that breaks it panics, and says where. In Rattle such a test is shown never to fail if
-//! the contract is kept.
+//! that a body meets its contract. Then the contracts are taken out. A type's page says which file of the repository has
+//! them. What a contract requires of a caller is tested: a call that breaks it panics, and says where. In Rattle such a
+//! test is shown never to fail if the contract is kept.
+//!
+//! # Guarantees
+//!
+//! Some clauses are on a function's page, in Rust's words. `old(x)` is x before the call, `x` what it is afterwards, and
+//! numbers in them have no bound: sums don't wrap. `docs/NOTATION.md` of the repository explains what isn't a call here.
 //!
 //! # What isn't
 //!
-//! The compiler; what is printed, and the texts of errors; conversions of storage; std's clocks; the traits and devices of
+//! The compiler; what is printed; conversions of storage; std's clocks; the traits and devices of
 //! [`phy`]. README lists what is by hand, and why.
 //!
 //! # Features and targets
@@ -52,6 +56,7 @@ extern crate std;
 #[cfg(not(any(target_pointer_width = "32", target_pointer_width = "64")))]
 compile_error!("a `usize` has 32 or 64 bits");
 
+pub mod checksum;
 pub mod config;
 #[cfg(test)]
 mod extremes;
@@ -70,8 +75,6 @@ pub mod storage;
 pub mod tcp;
 pub mod time;
 
-pub use proved::contracts;
-
 /// The exports for C, over references and slices, and their structs: for the crate in `c` alone.
 #[cfg(feature = "c")]
 #[doc(hidden)]
@@ -87,7 +90,8 @@ pub mod exports {
         FiniteReceiverHead, FiniteSenderHead, HeldRun, ReceiverHead, ScoreboardHead, SenderHead,
     };
     pub use proved::net_ring::{RingHead, Span};
-    pub use proved::net_tcp::*;
+    pub use proved::net_numbers::SentNumbers;
+    pub use proved::net_tcp::{AdvertisedWindow, Announcement, PartsSum, PeerWindow, Segment};
 }
 
 #[cfg(doctest)]

@@ -1,9 +1,10 @@
 //! The receiver of one stream of bytes. (Not in smoltcp's lowest layer.)
 //!
 //! By hand: storage that is converted, what has 4 runs, and what is printed.
-use core::fmt;
+use core::{fmt, iter};
 
 use crate::managed::ManagedSlice;
+use crate::proved::net_receiver::HeldRunIter;
 use crate::proved::net_ring::Storage;
 use crate::storage::Listed;
 
@@ -64,7 +65,7 @@ impl<'a, const N: usize> Receiver<'a, N> {
     }
 }
 
-impl<S: Storage<u8>, const N: usize> fmt::Debug for Receiver<'_, N, S> {
+impl<S: Storage<u8>, const N: usize> fmt::Debug for ReceiverOver<S, N> {
     fn fmt(&self, f: &mut fmt::Formatter) -> fmt::Result {
         f.debug_struct("Receiver")
             .field("next", &self.next())
@@ -74,6 +75,10 @@ impl<S: Storage<u8>, const N: usize> fmt::Debug for Receiver<'_, N, S> {
             .finish()
     }
 }
+
+impl ExactSizeIterator for HeldRunIter<'_> {}
+
+impl iter::FusedIterator for HeldRunIter<'_> {}
 
 #[cfg(test)]
 mod tests {

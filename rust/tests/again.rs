@@ -7,7 +7,7 @@ use net_base::sender::{Sender, SenderOver};
 use net_base::storage::fragment_table::{claim, claim_or_evict, find, find_free, FragmentSlot};
 use net_base::storage::{FragmentBuffer, Full};
 use net_base::tcp::{RetransmissionTimeout, TimeoutBounds};
-use net_base::time::Instant;
+use net_base::time::{Duration, Instant};
 
 fn length(storage: ManagedSlice<u8>) -> usize {
     storage.len()
@@ -75,18 +75,19 @@ fn a_sender_of_a_stream_that_ends() {
 #[test]
 fn a_scoreboard_and_a_buffer_of_fragments() {
     let mut board = Scoreboard::<4>::empty_at(100);
-    assert_eq!(board.report(110, 120, 200), Ok(true));
+    assert_eq!(board.report(110, 120, 200), Ok(()));
     board.reset_at(7);
     assert_eq!((board.first_unreported(), board.count_beyond()), (7, 0));
     let mut storage = [0; 8];
     let mut buffer: FragmentBuffer<4> = FragmentBuffer::empty(&mut storage[..], Instant::ZERO);
     assert!(buffer.add(3, b"d").is_ok());
     assert_eq!(length(buffer.into_storage()), 8);
-    let mut timer = RetransmissionTimeout::new(1_000_000);
-    assert!(timer.is_small() && timer.rtt().is_none());
-    timer.take_sample(TimeoutBounds { least: 1, most: 9_000, tick: 1 }, 800);
-    assert_eq!(timer.rtt().map(|it| it.srtt()), Some(800));
-    assert_eq!(timer.timeout, 2_400);
+    let mut timer = RetransmissionTimeout::default();
+    assert!(timer.rtt().is_none());
+    let [least, most, sample] = [1, 9_000, 800].map(Duration::from_micros);
+    timer.take_sample(TimeoutBounds { least, most, tick: least }, sample);
+    assert_eq!(timer.rtt().map(|it| it.srtt()), Some(sample));
+    assert_eq!(timer.timeout(), Duration::from_micros(2_400));
 }
 
 #[test]

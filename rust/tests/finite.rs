@@ -1,4 +1,4 @@
-//! Streams that end, as no row of `net_cases` shows them: closures, and calls of the receiver of the bytes.
+//! Streams that end, as no row shows them: closures, and calls of the receiver of the bytes.
 mod support;
 
 use net_base::finite::{FiniteReceiver, FiniteSender};
@@ -23,9 +23,6 @@ fn closures() {
 /// A segment's bytes and an end after them have numbers below `u64::MAX`.
 #[test]
 fn lengths() {
-    let fits = FiniteReceiver::<2>::fits;
-    assert!(fits(0, 9) && fits(u64::MAX - 4, 3) && fits(u64::MAX - 1, 0));
-    assert!(!fits(u64::MAX - 4, 4) && !fits(u64::MAX - 1, 1) && !fits(u64::MAX, 0));
     let mut storage = [0u8; 8];
     let last = FiniteReceiver::<2>::empty_at(&mut storage[..], u64::MAX - 1);
     assert_eq!((last.acknowledged(), last.end()), (u64::MAX - 1, None));

@@ -2,10 +2,10 @@
 //! every processor, but where `usize` is named.
 use net_base::finite::{FiniteError, FiniteReceiver, FiniteSender};
 use net_base::receiver::Receiver;
-use net_base::scoreboard::Scoreboard;
+use net_base::scoreboard::{ReportError, Scoreboard};
 use net_base::sender::Sender;
 use net_base::sequence_number::SequenceNumber;
-use net_base::storage::{Assembler, FragmentBuffer, FragmentError, RingBuffer, TooManyHolesError};
+use net_base::storage::{Assembler, FragmentBuffer, FragmentError, RingBuffer};
 use net_base::time::Instant;
 
 /// 2^32, the first number that a `usize` of 32 bits hasn't.
@@ -69,23 +69,23 @@ fn sent() {
     }
 }
 
-/// What is reported is counted from what was acknowledged: a block that ends 2^32 or more from there is refused, and no
+/// What is reported is counted from what was acknowledged: a block that ends 2^32 or more from there is none, and no
 /// other is taken for it.
 #[test]
 fn reported() {
     for first in begins() {
         let mut it = Scoreboard::<2>::empty_at(first);
-        assert_eq!(it.report(first + 4, first + 8, first + 20), Ok(true));
+        assert_eq!(it.report(first + 4, first + 8, first + 20), Ok(()));
         for pos in aliases(first + 4) {
             assert_eq!(it.contains(pos), pos < first, "{first} {pos}");
-            assert_eq!(it.report(pos, pos.saturating_add(4), first + 20), Ok(pos < first));
+            assert_eq!(it.report(pos, pos.saturating_add(4), first + 20).is_ok(), pos < first);
         }
         assert_eq!(it.reported().collect::<Vec<_>>(), [(first + 4, first + 8)]);
         let far = first.checked_add(WORD).filter(|far| *far < u64::MAX - 9);
         if let Some(far) = far {
-            assert_eq!(it.report(far, far + 2, u64::MAX), Err(TooManyHolesError), "{first}");
-            assert_eq!(it.report(far - 2, far, u64::MAX), Err(TooManyHolesError), "{first}");
-            assert_eq!(it.report(far - 2, far - 1, u64::MAX), Ok(true), "{first}");
+            assert_eq!(it.report(far, far + 2, u64::MAX), Err(ReportError::NoBlock), "{first}");
+            assert_eq!(it.report(far - 2, far, u64::MAX), Err(ReportError::NoBlock), "{first}");
+            assert_eq!(it.report(far - 2, far - 1, u64::MAX), Ok(()), "{first}");
             assert_eq!(it.highest_reported(), far - 1);
             assert_eq!(
                 (it.contains(far - 2), it.contains(far - 1), it.contains(far + 1)),

@@ -1,13 +1,12 @@
 //! Scoreboards. Values are worked by hand, and compared with a list of positions.
-use net_base::scoreboard::Scoreboard;
-use net_base::storage::TooManyHolesError;
+use net_base::scoreboard::{ReportError, Scoreboard};
 
 /// A scoreboard with all below 10, and 20 to 29 and 40 to 44; all up to 100 was sent.
 fn scoreboard() -> Scoreboard<2> {
     let mut scoreboard = Scoreboard::empty();
     scoreboard.acknowledge(10);
-    assert_eq!(scoreboard.report(20, 30, 100), Ok(true));
-    assert_eq!(scoreboard.report(40, 45, 100), Ok(true));
+    assert_eq!(scoreboard.report(20, 30, 100), Ok(()));
+    assert_eq!(scoreboard.report(40, 45, 100), Ok(()));
     scoreboard
 }
 
@@ -22,12 +21,12 @@ fn reports() {
     let mut it = scoreboard();
     assert!(has(&it, &[(0, 10), (20, 30), (40, 45)]));
     // A third run is refused; what touches or overlaps one is not.
-    assert_eq!(it.report(50, 51, 100), Err(TooManyHolesError));
-    assert_eq!(it.report(12, 13, 100), Err(TooManyHolesError));
+    assert_eq!(it.report(50, 51, 100), Err(ReportError::TooManyHoles));
+    assert_eq!(it.report(12, 13, 100), Err(ReportError::TooManyHoles));
     assert!(has(&it, &[(0, 10), (20, 30), (40, 45)]));
-    assert_eq!((it.report(45, 50, 100), it.report(25, 41, 100)), (Ok(true), Ok(true)));
+    assert_eq!((it.report(45, 50, 100), it.report(25, 41, 100)), (Ok(()), Ok(())));
     assert!(has(&it, &[(0, 10), (20, 50)]));
-    assert_eq!((it.report(99, 100, 100), it.report(5, 8, 100)), (Ok(true), Ok(true)));
+    assert_eq!((it.report(99, 100, 100), it.report(5, 8, 100)), (Ok(()), Ok(())));
     assert!(has(&it, &[(0, 10), (20, 50), (99, 100)]));
 }
 
@@ -37,12 +36,12 @@ fn what_is_no_block() {
     for (start, end, sent) in
         [(50, 50, 100), (51, 50, 100), (99, 101, 100), (20, 25, 24), (0, u64::MAX, 0)]
     {
-        assert_eq!(it.report(start, end, sent), Ok(false));
+        assert_eq!(it.report(start, end, sent), Err(ReportError::NoBlock));
         assert!(has(&it, &[(0, 10), (20, 30), (40, 45)]));
     }
     let mut it = Scoreboard::<1>::empty();
     it.acknowledge(u64::MAX - 9);
-    assert_eq!(it.report(u64::MAX - 1, u64::MAX, u64::MAX), Ok(true));
+    assert_eq!(it.report(u64::MAX - 1, u64::MAX, u64::MAX), Ok(()));
     assert!(it.contains(u64::MAX - 1) && !it.contains(u64::MAX) && it.contains(0));
 }
 
@@ -56,7 +55,7 @@ fn acknowledgements() {
     it.acknowledge(45);
     assert!(has(&it, &[(0, 45)]));
     let mut it = Scoreboard::<1>::empty();
-    assert_eq!(it.report(3, 5, 9), Ok(true));
+    assert_eq!(it.report(3, 5, 9), Ok(()));
     it.acknowledge(2);
     assert!(it.contains(1) && !it.contains(2) && it.contains(3));
     it.acknowledge(3);

@@ -6,18 +6,19 @@ use std::fmt::Write as _;
 use std::hash::Hash;
 use std::iter::FusedIterator;
 
-use net_base::finite::{FiniteError, FiniteReceiver, FiniteSender};
-use net_base::receiver::Receiver;
+use net_base::finite::{FiniteError, FiniteReceiverOver, FiniteSenderOver};
+use net_base::receiver::{Receiver, ReceiverOver};
 use net_base::scoreboard::Scoreboard;
-use net_base::sender::Sender;
+use net_base::sender::SenderOver;
 use net_base::sequence_number::SequenceNumber;
 use net_base::storage::{
-    Assembler, Empty, FragmentBuffer, FragmentError, Full, PacketBuffer, PacketMetadata,
+    Assembler, Empty, FragmentError, FragmentsOver, Full, PacketMetadata, PacketsOver,
     RingBuffer, RingOver, TooManyHolesError,
 };
 use net_base::tcp::{
-    AdvertisedWindow, PartsSum, PeerWindow, RetransmissionTimeout, RetransmissionTimer,
-    TimeoutBounds, Transmission,
+    AdvertisedWindow, Announcement, PartsSum, PeerWindow, RetransmissionTimeout,
+    RetransmissionTimer, SentNumbers,
+    RttEstimate, TimeoutBounds, Transmission,
 };
 use net_base::time::{Duration, Instant};
 
@@ -64,9 +65,9 @@ fn sequence_numbers() {
 fn scoreboards() {
     let [mut one, mut other] = [(); 2].map(|()| Scoreboard::<4>::empty_at(5));
     assert!(one == other && one != Scoreboard::empty_at(6));
-    assert_eq!((one.report(7, 9, 20), other.report(7, 8, 20)), (Ok(true), Ok(true)));
+    assert_eq!((one.report(7, 9, 20), other.report(7, 8, 20)), (Ok(()), Ok(())));
     assert!(one != other);
-    assert_eq!(other.report(8, 9, 20), Ok(true));
+    assert_eq!(other.report(8, 9, 20), Ok(()));
     assert!(one == other);
     one.acknowledge(20);
     other.acknowledge(21);
@@ -76,28 +77,28 @@ fn scoreboards() {
 /// What is changed in a clone stays in the other.
 #[test]
 fn clones() {
-    let mut ring = RingBuffer::over([1u8, 2, 3]);
+    let mut ring = RingOver::over([1u8, 2, 3]);
     ring.enqueue_unallocated(2);
     let mut other = ring.clone();
     other.dequeue_allocated(1);
     assert_eq!((ring.as_slices().0, other.as_slices().0), (&[1, 2][..], &[2][..]));
-    let mut queue = PacketBuffer::over([PacketMetadata::EMPTY; 2], [0u8; 4]);
+    let mut queue = PacketsOver::over([PacketMetadata::EMPTY; 2], [0u8; 4]);
     assert_eq!(queue.push_slice('h', b"abc"), Ok(()));
     assert_eq!(queue.clone().dequeue(), Ok(('h', &mut b"abc"[..].to_vec()[..])));
     assert_eq!((queue.payload_bytes_count(), queue.clone().is_empty()), (3, false));
-    let mut fragments = FragmentBuffer::<4, _>::over([0u8; 4], Instant::ZERO);
+    let mut fragments = FragmentsOver::<_, 4>::over([0u8; 4], Instant::ZERO);
     assert_eq!((fragments.clone().add(0, b"ab"), fragments.set_total_size(2)), (Ok(()), Ok(())));
     assert_eq!((fragments.assemble(), fragments.total_size()), (None, Some(2)));
-    let mut sender = Sender::over(*b"....");
+    let mut sender = SenderOver::over(*b"....");
     assert_eq!((sender.write(b"ab"), sender.clone().write(b"cde")), (2, 2));
     assert_eq!((sender.peek_at(0, 9), sender.clone().into_storage()), (&b"ab"[..], *b"ab.."));
-    let mut finite = FiniteSender::over([0u8; 4]);
+    let mut finite = FiniteSenderOver::over([0u8; 4]);
     finite.clone().close();
     assert_eq!((finite.is_closed(), finite.write(b"a")), (false, 1));
-    let mut receiver = Receiver::<2, _>::over([0u8; 4]);
+    let mut receiver = ReceiverOver::<_, 2>::over([0u8; 4]);
     assert!(receiver.segment(1, b"b").is_ok() && receiver.clone().segment(0, b"a").is_ok());
     assert_eq!((receiver.next(), receiver.clone().held().next()), (0, Some((1, 2))));
-    let mut finite = FiniteReceiver::<2, _>::over([0u8; 4]);
+    let mut finite = FiniteReceiverOver::<_, 2>::over([0u8; 4]);
     assert!(finite.clone().keep(0, b"a", true).is_ok());
     assert_eq!((finite.keep(0, b"b", false).is_ok(), finite.end()), (true, None));
 }
@@ -106,27 +107,43 @@ fn clones() {
 fn machines() {
     assert_eq!(AdvertisedWindow::default(), AdvertisedWindow::new(0));
     assert_eq!(PartsSum::default().with(b"ab"), PartsSum::new().with(b"ab"));
-    assert_ne!(PeerWindow::new(1, 2, 3), PeerWindow::new(1, 2, 4));
-    assert_ne!(Transmission::Once(5), Transmission::Repeated);
-    assert_eq!(RetransmissionTimeout::default(), RetransmissionTimeout::new(1_000_000));
+    assert_ne!(PeerWindow::of(Announcement { seq: 1, ack: 2, window: 3 }), PeerWindow::default());
+    assert_ne!(Transmission::Once(Instant::ZERO), Transmission::Repeated);
+    assert_eq!(RetransmissionTimeout::default(), RetransmissionTimeout::new(Duration::from_secs(1)));
     let bounds = TimeoutBounds::default();
-    assert_eq!((bounds.least, bounds.most, bounds.tick), (1_000_000, 60_000_000, 1_000));
+    assert_eq!((bounds.least, bounds.most, bounds.tick), (
+        Duration::from_secs(1), Duration::from_secs(60), Duration::from_millis(1)
+    ));
     let mut timeout = RetransmissionTimeout::default();
-    timeout.acknowledged(bounds, Transmission::Repeated, 5);
+    timeout.acknowledged(bounds, Transmission::Repeated, Instant::ZERO);
     assert_eq!(timeout, RetransmissionTimeout::default());
-    assert_eq!(RetransmissionTimer::default(), RetransmissionTimer::new(1_000_000));
+    assert_eq!(RetransmissionTimer::default(), RetransmissionTimer::new(Duration::from_secs(1)));
 }
 
-/// What a timer takes and gives, in moments: none is before 0, or after the last one.
+/// None is after the last one; and what a timer is made of makes the same.
 #[test]
 fn moments_of_timers() {
-    assert_eq!([-1, 0, 5].map(|at| u64::from(Instant::from_micros(at))), [0, 0, 5]);
-    let mut timer = RetransmissionTimer::new(7);
-    assert_eq!((timer.expires(), timer.timeout.duration()), (None, Duration::from_micros(7)));
-    timer.start(Instant::from_micros(5).into());
-    assert_eq!(timer.expires(), Some(Instant::from_micros(12)));
-    timer.expiry = u64::MAX;
-    assert_eq!(timer.expires(), Some(Instant::from_micros(i64::MAX)));
+    let mut timer = RetransmissionTimer::new(Duration::from_micros(7));
+    assert_eq!((timer.expires_at(), timer.timeout()), (None, Duration::from_micros(7)));
+    timer.start(Instant::from_micros(-5));
+    assert_eq!(timer.expires_at(), Some(Instant::from_micros(2)));
+    timer.stop();
+    timer.start(Instant::from_micros(i64::MAX));
+    assert_eq!(timer.expires_at(), Some(Instant::from_micros(i64::MAX)));
+    let timeout = RetransmissionTimeout::from_parts(timer.rtt(), timer.timeout());
+    assert_eq!(RetransmissionTimer::from_parts(timeout, timer.expires_at(), timer.timed()), timer);
+    let estimate = RttEstimate::from_scaled(u64::MAX, u64::MAX);
+    assert_eq!(estimate.scaled(), (1 << 63, 1 << 62));
+}
+
+/// What `start` began, where nothing is on the way, a repeated acknowledgement doesn't end.
+#[test]
+fn a_timer_of_a_shut_window() {
+    let (mut timer, bounds) = (RetransmissionTimer::default(), TimeoutBounds::default());
+    timer.start(Instant::ZERO);
+    let numbers = SentNumbers { first_unacknowledged: 50, sent: 50 };
+    timer.acknowledged(bounds, numbers, 50, Instant::from_millis(10));
+    assert_eq!(timer.expires_at(), Some(Instant::from_millis(1_000)));
 }
 
 #[test]
@@ -155,11 +172,8 @@ fn counts() {
     ring.dequeue_allocated(3);
     ring.extend(*b"abc");
     let mut back = ring.iter();
-    assert_eq!((back.next_back(), back.len()), (Some(&b'c'), 2));
-    assert_eq!(
-        (counted(ring.iter()), (&ring).into_iter().copied().collect()),
-        (3, b"abc".to_vec())
-    );
+    assert_eq!((back.next_back(), back.count()), (Some(&b'c'), 2));
+    assert_eq!((&ring).into_iter().copied().collect::<Vec<_>>(), b"abc");
     let mut assembler = Assembler::<4>::empty();
     assert!(
         assembler.add(0, 2).is_ok() && assembler.add(5, 1).is_ok() && assembler.add(9, 1).is_ok()
@@ -169,8 +183,8 @@ fn counts() {
     let mut receiver = Receiver::<4>::empty(&mut storage[..]);
     assert!(receiver.segment(2, b"c").is_ok() && receiver.segment(5, b"f").is_ok());
     assert_eq!(counted(receiver.held()), 2);
-    assert_eq!(counted(receiver.newest_runs(5, &mut [0; 3])), 2);
-    assert_eq!(counted(receiver.newest_runs(5, &mut [0; 1])), 1);
+    assert_eq!(receiver.newest_runs(5, &mut [0; 3]).count(), 2);
+    assert_eq!(receiver.newest_runs(5, &mut [0; 1]).count(), 1);
 }
 
 #[test]

@@ -23,8 +23,8 @@ use net_base::storage::{
     PacketMetadata, PacketsOver, RingBuffer, RingOver, Storage, TooManyHolesError,
 };
 use net_base::tcp::{
-    AdvertisedWindow, Arrival, PartsSum, PeerWindow, RetransmissionTimeout, RetransmissionTimer,
-    RttEstimate, Segment, TimeoutBounds, Transmission, MAX_SCALE,
+    AdvertisedWindow, Announcement, Arrival, PartsSum, PeerWindow, RetransmissionTimeout, RetransmissionTimer,
+    RttEstimate, Segment, Transmission, MAX_SCALE,
 };
 use net_base::time::{Duration, Instant};
 
@@ -58,20 +58,19 @@ fn texts_of_values() {
     );
     assert_eq!(debug(PacketMetadata::<u8>::EMPTY), "PacketMetadata { size: 0, header: None }");
     assert_eq!(debug(AdvertisedWindow::new(9)), "AdvertisedWindow { edge: 9 }");
-    assert_eq!(debug(PeerWindow::new(1, 2, 3)), "PeerWindow { edge: 5, seq: 1, ack: 2 }");
+    let it = Announcement { seq: 1, ack: 2, window: 3 };
+    assert_eq!(debug(PeerWindow::of(it)), "PeerWindow { edge: 5, seq: 1, ack: 2 }");
     let segment = Segment { seq: 1, len: 2, syn: true, ack: false, rst: true };
     let text = "Segment { seq: 1, len: 2, syn: true, ack: false, rst: true }";
     assert_eq!(debug(segment), text);
     assert_eq!(debug(Arrival::AcknowledgementOnly), "AcknowledgementOnly");
-    assert_eq!(debug(PartsSum::new()), "PartsSum { sum: 0, odd: 0 }");
-    assert_eq!(debug(RttEstimate::first(4)), "RttEstimate { srtt_8: 32, rttvar_4: 8 }");
+    assert_eq!(debug(PartsSum::new()), "PartsSum { sum: 0, odd: false }");
+    assert_eq!(debug(RttEstimate::first(Duration::from_micros(4))), "RttEstimate { srtt_8: 32, rttvar_4: 8 }");
     assert_eq!(
-        debug(RetransmissionTimeout::new(5)),
-        "RetransmissionTimeout { estimate: RttEstimate { srtt_8: 0, rttvar_4: 0 }, has_estimate: 0, timeout: 5 }"
+        debug(RetransmissionTimeout::new(Duration::from_micros(5))),
+        "RetransmissionTimeout { estimate: None, timeout: Duration { micros: 5 } }"
     );
-    assert_eq!(debug([Transmission::Once(6), Transmission::Repeated]), "[Once(6), Repeated]");
-    let bounds = TimeoutBounds { least: 1, most: 2, tick: 3 };
-    assert_eq!(debug(bounds), "TimeoutBounds { least: 1, most: 2, tick: 3 }");
+    assert_eq!(debug(Transmission::Once(Instant::ZERO)), "Once(Instant { micros: 0 })");
 }
 
 /// Capacities and positions: not what is in storage.
@@ -98,7 +97,7 @@ fn texts_of_what_stores() {
     );
     let mut scoreboard = Scoreboard::<2>::empty();
     scoreboard.acknowledge(10);
-    assert_eq!(scoreboard.report(12, 14, 20), Ok(true));
+    assert_eq!(scoreboard.report(12, 14, 20), Ok(()));
     assert_eq!(debug(&scoreboard), "Scoreboard { first_unreported: 10, reported: [(12, 14)] }");
     assert_eq!(debug(ManagedSlice::from(&mut [1u8, 2])), "Borrowed([1, 2])");
 }

@@ -1,172 +1,149 @@
-"""Clauses in Rust's words, for tools/erase.py: what documentation has under "Guarantees".
+"""The documentation of erased functions, for tools/erase.py: marked clauses in Rust's words, under "Guarantees".
 
-The tables say what a clause becomes; what they lack is refused. What a call returns by its contract is said as that call:
-`window self.new` as `self.window()`, since `window` has a clause `result ≡ window self.now`. What else contracts see of
-`self` has no parentheses: `self.queue`.
+What a call returns by its contract is said as that call: `window self.new` as `self.window()`, since `window` has a clause
+`result ≡ window self.now`. What else contracts see of `self` has no parentheses: `self.queue`. What isn't known is refused.
 """
 import re
-from collections import namedtuple
 
 from parts.erase_tokens import Refused
 
-TOKEN = re.compile(r'\d[\d_]*|«?[A-Za-z_]\w*»?(?:\.\w+)*|==|&&|\+\+|\S')
-BINDERS = re.compile(r'(?:\( (?:\w+ )+: [^()]*\) )+→ ')
-LEVELS = ['↔'], ['→'], ['⊎'], ['×'], ['≡', '≢', '≤', '<', '=='], ['&&'], ['++', '∷'], ['+', '-'], ['*', '/', '%'], ['^']
-RANK = {sign: rank for rank, level in enumerate(LEVELS) for sign in level}        # the loosest is the first
-TERM, WHOLE = RANK['≡'], len(LEVELS)              # what is looser than the first is a sentence; nothing divides the second
-RIGHT, LEFT = {'→', '⊎', '×', '++', '∷'}, {'+', '-', '*', '/'}                    # the others join only two
+LEVELS = '↔', '→', '⊎', '×', '≡ ≢ ≤ <', '++ ∷', '+ -', '* / %', '^'         # the loosest first
+RANK = {sign: rank for rank, level in enumerate(LEVELS) for sign in level.split()}
+TERM, WHOLE, CASE = RANK['≡'], len(LEVELS), -1    # what is looser than terms is a sentence
 SIGNS = {'≡': '==', '≢': '!=', '≤': '<=', '×': 'and', '⊎': 'or', '↔': 'exactly if'}
-MOST = 3
 CASES = {'OnOk': 'Ok', 'IfOk': 'Ok', 'OnErr': 'Err', 'IfErr': 'Err', 'IfSome': 'Some'}
 CALLS = {                                         # a capital is what may need parentheses there
     'take': '{B}[..{a}]', 'drop': '{B}[{a}..]', 'length': '{A}.len()', 'min': 'min({a}, {b})', 'max': 'max({a}, {b})',
     'Ok': 'Ok({a})', 'Some': 'Some({a})', 'IsOk': '{A}.is_ok()', 'IsErr': '{A}.is_err()', 'IsTrue': '{A}', 'IsFalse': '!{A}',
 }
-UNSAID = {'let', 'in', 'if', 'then', 'else', 'record'}
 STATES = {'new', 'now', 'entry', 'receiver', 'sender'}    # the last two: a stream that ends is said as the one in it
+NAME = re.compile(r'(?!(?:let|in|if|then|else|record)$|[A-Z]\w*\.)«?([A-Za-z_]\w*)»?((?:\.\w+)*)')
+MARK, MOST = '// Guarantee.', 3                   # before a clause that a user of Rust wants, at most three of a function
 
-# What is said of a part of a clause, the rank of its loosest sign, and of a function what it takes.
-Said = namedtuple('Said', 'text rank takes', defaults=(WHOLE, ''))
 
-
-def needs(true):
+def needs(true, why="a marked clause that can't be said"):
     if not true:
-        raise Refused('unknown')
+        raise Refused(why)
 
 
 def term(said, rank=TERM):
     """A term, in parentheses if it is looser than that."""
-    needs(said.rank >= TERM and not said.takes)
-    return said.text if said.rank >= rank else f'({said.text})'
+    needs(said[1] >= TERM)
+    return said[0] if said[1] >= rank else f'({said[0]})'
 
 
-def sentence(said, loosest='↔'):
-    return said.text if RANK[loosest] <= said.rank < TERM else f'`{term(said)}`'
+def sentence(said, rank=0):
+    """A sentence that isn't looser than that."""
+    needs(said[1] >= rank)
+    return f'`{said[0]}`' if said[1] >= TERM else said[0]
 
 
 def joined(left, sign, right):
     rank = RANK[sign]
-    if sign == '→':                               # what is given is all of it
-        then = sentence(right)
-        return Said(f'if {sentence(left, "×")}' + (f' and {then[3:]}' if then[:3] == 'if ' else f', then {then}'), rank)
     if rank < TERM:
-        needs((sign, right.rank) != ('⊎', RANK['×']))
-        return Said(f'{sentence(left, "≡")} {SIGNS[sign]} {sentence(right, "⊎" if sign == "↔" else sign)}', rank)
-    if sign == '∷' and right.text == '[]':
-        return Said(f'[{term(left)}]')
+        one, two = map(sentence, (left, right), (TERM, RANK['⊎']) if sign == '↔' else (rank + 1, rank))
+        needs(sign != '⊎' or RANK['×'] not in (left[1], right[1]))
+        if sign == '→':
+            return f'if {one}' + (f' and {two[3:]}' if two[:3] == 'if ' else f', then {two}'), rank
+        return f'{one} {SIGNS[sign]} {two}', rank
     if sign == '∷':
-        left, sign = Said(f'[{term(left)}]'), '++'
+        left, sign = (f'[{term(left)}]', WHOLE), '++'
+        if right[0] == '[]':
+            return left
     if sign == '-':                               # it stops at 0
-        return Said(f'{term(left, WHOLE)}.saturating_sub({term(right)})')
-    space = ' ' * (sign != '^')
-    sides = term(left, rank + (sign not in LEFT)), term(right, rank + (sign not in RIGHT))
-    return Said(f'{space}{SIGNS.get(sign, sign)}{space}'.join(sides), rank)
+        return f'{term(left, WHOLE)}.saturating_sub({term(right)})', WHOLE
+    needs(rank != TERM or min(left[1], right[1]) > TERM)
+    space, sides = ' ' * (sign != '^'), (term(left, rank + (sign in ('++', '^'))), term(right, rank + (sign != '++')))
+    return f'{space}{SIGNS.get(sign, sign)}{space}'.join(sides), rank
 
 
-class Reader:
-    """Reads a clause, or a part of one, and says it."""
+def read(text, held):
+    """What a part of a clause says, and the rank of its loosest sign. `held` has what is in parentheses, by its place."""
+    for signs in LEVELS:
+        found = [*re.finditer(rf' ({"|".join(map(re.escape, signs.split()))}) ', text)]
+        if found:
+            sign = found[-1 if signs in ('+ -', '* / %') else 0]
+            return joined(read(text[:sign.start()], held), sign[1], read(text[sign.end():], held))
+    name, *given = text.split(' ')
+    if name in CASES:
+        needs(len(given) == 2 and given[0] == 'result')
+        takes, said = held.get(given[1], ('', None))
+        return f'on `{CASES[name]}{takes}`: {sentence(said or read(given[1], held))}', CASE
+    if not given:
+        needs(name not in held or not held[name][0])
+        return held[name][1] if name in held else (named(name), WHOLE)
+    given = [read(one, held) for one in given]
+    if name in CALLS:
+        needs(CALLS[name].count('{') == len(given))
+        return CALLS[name].format(**dict(zip('abcd', map(term, given))), **{k: term(one, WHOLE) for k, one in zip('ABCD', given)}), WHOLE
+    of_self = len(given) == 1 and given[0][0] in ('self', 'old(self)')
+    needs(name.isidentifier())
+    return (f'{given[0][0]}.{named(name)}' if of_self else f'{named(name)}({", ".join(map(term, given))})'), WHOLE
 
-    def __init__(self, text):
-        self.words = [*TOKEN.findall(text), '']
-        self.said = self.level()
-        needs(self.words == [''])
 
-    def next(self, *expected):
-        needs(self.words[0] in expected or not expected)
-        return self.words.pop(0)
-
-    def level(self, rank=0):
-        if rank == WHOLE:
-            return self.call()
-        said = self.level(rank + 1)
-        while self.words[0] in LEVELS[rank]:
-            sign = self.next()
-            said = joined(said, sign, self.level(rank + (sign not in RIGHT)))
-            if sign not in LEFT:
-                break
-        return said
-
-    def call(self):
-        """What a function and what it takes become, or what is no function."""
-        name, given = self.part(), []
-        while re.match(r'[A-Za-z_«\d(\[]', self.words[0]):
-            given.append(self.part())
-        if not given:
-            return name
-        name = re.fullmatch(r'\w+', name.text)[0]
-        if name in CASES:
-            needs(given[0].text == 'result')
-            takes = given[1].takes and f'({given[1].takes})'
-            return Said(f'on `{CASES[name]}{takes}`: {sentence(given[1]._replace(takes=""))}', 0)
-        if name in CALLS:
-            loose, whole = zip('ab', map(term, given)), zip('AB', (term(one, WHOLE) for one in given))
-            return Said(CALLS[name].format(**dict([*loose, *whole])))
-        if [one.text for one in given] in (['self'], ['old(self)']):
-            return Said(f'{given[0].text}.{name}')
-        return Said(f'{name}({", ".join(map(term, given))})')
-
-    def part(self):
-        binders = BINDERS.match(' '.join(self.words))
-        if binders:
-            self.words = self.words[len(binders[0].split()):]
-            names = ' '.join(re.findall(r'\( ([\w ]*):', binders[0])).split()
-            return Said(f'for each {", ".join(f"`{name}`" for name in names)}: {sentence(self.level())}', 0)
-        word = self.next()
-        if word == 'λ':
-            takes, _ = self.next(), self.next('.')
-            return self.level()._replace(takes=takes)
-        if word == '[':
-            return Said('[' + self.next(']'))
-        if word == '(':
-            parts = [self.level()]
-            while self.next(',', ')') == ',':
-                parts.append(self.level())
-            return Said(f'({", ".join(map(term, parts))})') if parts[1:] else parts[0]
-        if word[:1].isdigit():
-            return Said(word)
-        name, *fields = re.sub('[«»]', '', word).split('.')
-        needs(re.match('[A-Za-z_]', name) and name not in UNSAID and not (fields and name[0].isupper()))
-        before = fields[:1] == ['old']
-        fields = [field for field in fields[before:] if field not in STATES]
-        needs('old' not in fields)
-        return Said('.'.join([f'old({name})' if before else name, *fields]))
+def named(word):
+    """What a number, a list without elements, or a name with its fields becomes."""
+    name = NAME.fullmatch(word)
+    needs(name or re.fullmatch(r'\[\]|\d[\d_]*', word))
+    before, *fields = name[2].split('.') if name else ['']
+    fields = [field for field in fields if field not in STATES]
+    needs('old' not in fields[1:])
+    return '.'.join([f'old({name[1]})', *fields[1:]] if fields[:1] == ['old'] else [name[1], *fields]) if name else word
 
 
 def said(clause, begin=''):
-    """A clause, after these words of it; nothing if that can't be said."""
-    try:
-        return Reader(re.fullmatch(rf'ensures(?: \w+)? {{ {begin}(.*) }}', clause, re.S)[1]).said
-    except (Refused, TypeError, IndexError, KeyError):
-        return None
+    """A clause, after these words of it, as `read` says it."""
+    held, found = {}, re.fullmatch(rf'ensures(?: \w+)? {{ {begin}((?:\((?:\w+ )+: [^()]*\) )+→ )?(.*) }}', ' '.join(clause.split()))
+    needs(found)
+
+    def hold(inside):
+        takes = re.match(r'λ (\w+)\. ', inside[1])
+        parts = [read(one, held) for one in inside[1][takes.end() if takes else 0:].split(', ')]
+        whole = (f'({", ".join(map(term, parts))})', WHOLE) if parts[1:] else parts[0]
+        held[f'⟨{len(held)}⟩'] = f'({takes[1]})' if takes else '', whole
+        return f'⟨{len(held) - 1}⟩'
+
+    text, count = found[2], 1
+    while count:
+        text, count = re.subn(r'\(([^()]*)\)', hold, text)
+    names = ', '.join(f'`{name}`' for name in ' '.join(re.findall(r'\(([\w ]*):', found[1] or '')).split())
+    return (f'for each {names}: {sentence(read(text, held))}', CASE) if names else read(text, held)
 
 
-def answers(owner, signature, contract):
-    """What a call returns that requires and changes nothing, if a plain value: a pattern of what that is, and the call."""
-    call = re.match(r'fn (\w+)\(((?:(?!mut\b).)*)\) -> \w+\s*$', signature, re.S)
-    for clause in contract if call and contract[0][0] == 'e' else []:
-        value, names = said(clause, 'result ≡ '), re.findall(r'\w+(?=:[^:])|\bself\b', call[2])
-        if value and value.rank == WHOLE and re.search(r'\W', value.text):
-            pattern = re.escape(value.text)
-            for name in names:
-                one = 'self' if name == 'self' else r'\w+'
-                pattern = re.sub(rf'(?<!\.)\b{name}\b', lambda _: rf'(?P<{name}>old\({one}\)|{one})', pattern)
-            if all(pattern.count(f'(?P<{name}>') == 1 for name in names):
-                of = '{self}.' if 'self' in names else f'{owner}::'
-                given = ', '.join(f'{{{name}}}' for name in names if name != 'self')
-                yield rf'(?<![\w.]){pattern}(?![\w(])', f'{of}{call[1]}({given})'
-
-
-def section(marked, signature, calls):
-    """The lines of these clauses of a function; `calls` is what `answers` gives of its type."""
-    own, slices = re.match(r'fn (\w+)', signature)[1], '|'.join(re.findall(r"(\w+): &(?:'\w+ )?mut \[", signature))
-    lines = ['# [Guarantees](crate::contracts#guarantees)', '']
-    for clause in marked:
-        line = said(clause)
-        if not line or len(marked) > MOST:
-            raise Refused(f"a marked clause that can't be said: {clause}" if not line else f'more than {MOST} marked clauses')
-        text = re.sub(rf'old\(({slices})\)(?=\.len\(\))', r'\1', sentence(line))     # a slice keeps its length
-        for pattern, call in sorted(calls, key=lambda one: len(one[1])):
-            if not re.search(rf'\b{own}\(', call):
-                text = re.sub(pattern, lambda value: call.format(**value.groupdict()), text)
-        lines.append(f'- {text}')
-    return [*lines, '']
+def document(eraser):
+    """Adds lines to the documentation: of public functions the marked clauses, of public types the file with the contracts."""
+    tokens, shown, calls = eraser.tokens, [], {}
+    for owner, header, k, head, begin, body, pub in eraser.functions:
+        clauses = [j for j in range(begin, body) if tokens[j][0] == 'clause']
+        if (pub is not None or re.search(r'\bfor\b|^(?:pub )?trait', header)) and clauses and not owner.endswith('Head'):
+            call = re.match(r'fn (\w+)\(&self\) -> \w+\s', eraser.source(k, begin))
+            shown.append((owner, k, head, clauses))
+            for j in clauses if call else ():     # what a call returns that takes `self` alone
+                try:
+                    value = said(tokens[j][1], 'result ≡ ')
+                    if value[1] == WHOLE and re.match(r'self\W', value[0]):
+                        calls.setdefault(owner, {})[value[0][4:]] = call[1]
+                except Refused:
+                    pass
+    marks = {eraser.next(k): k for k, token in enumerate(tokens) if token[1] == MARK}
+    for owner, k, head, clauses in shown:
+        keeps = lambda one: one[1] if f'{one[1]}: &mut [' in eraser.source(k, clauses[0]) else one[0]      # slices, their length
+        lines, docs = [], [d for d in range(head, k) if tokens[d][0] == 'doc']
+        for j in (j for j in clauses if j in marks):
+            marks.pop(j)
+            try:
+                needs(docs and len(lines) < MOST, f'no documentation, or more than {MOST} marked clauses')
+                text = re.sub(r'old\((\w+)\)(?=\.len\(\))', keeps, sentence(said(tokens[j][1]), CASE))
+            except Refused as refused:
+                eraser.refuse(tokens[k][2], refused)
+            for value, call in sorted(calls.get(owner, {}).items(), key=lambda one: -len(one[0])):
+                text = re.sub(rf'(?<![\w.])(self|old\(self\)){re.escape(value)}(?![\w(])', rf'\1.{call}()', text)
+            lines.append(f'\n{eraser.margin(head)}/// - {text}')
+        if lines:
+            lines[:0] = [f'\n{eraser.margin(head)}{line}' for line in ('///', '/// # [Guarantees](crate#guarantees)', '///')]
+            eraser.after[docs[-1]] = ''.join(lines)
+    for k in marks.values():
+        eraser.refuse(tokens[k][2], 'a mark of no clause that is shown')
+    for item in re.finditer(r'^///[^\n]*(?=\n(?:#\[[^\n]*\n)*pub (?:struct|enum|trait)\b)', eraser.text, re.M) if shown else ():
+        k = next(j for j, token in enumerate(tokens) if token[2] == item.start())
+        eraser.after[k] = eraser.after.get(k, '') + f'\n///\n/// Contracts: `{eraser.file}`.'

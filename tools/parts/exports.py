@@ -7,10 +7,11 @@ import re
 import sys
 
 import ffi
+from parts import nulls
 
 TABLE = pathlib.Path(__file__).resolve().parents[1] / "exports.txt"
 TOKEN = re.compile(r'"[^"]*"|[\[\]{}]|[^\s\[\]{}"]+')
-ANY, SAME = "_", "="
+ANY, SAME, EMPTY = "_", "=", ('""', ["["])
 HEAD = r"""/* Calls each export at the values of tools/exports.txt. Written by `python3 tools/ffi.py --tests`. */
 #include "net_base.h"
 #include <stdio.h>
@@ -22,7 +23,7 @@ static int checks;
 static void check(bool holds, const char *text, int line) {
     checks++;
     if (holds) return;
-    printf("exports.c:%d: %s is false\n", line, text);
+    printf("exports.c:%d: %.300s is false\n", line, text);
     exit(1);
 }
 
@@ -61,7 +62,8 @@ class Table:
         self.rows = {name: [] for name in self.exports}
         for line, text in enumerate(TABLE.read_text().splitlines(), start=1):
             self.take(line, text.split("#")[0].strip() if text.startswith("#") else text.strip())
-        constants = {item.name for _, section in library.sections for item in section if item.kind == "const"}
+        constants = {it.name for _, section in library.sections for item in section
+                     for it in ([item] if item.kind == "const" else item.members if item.kind == "enum" else [])}
         for name in sorted(constants - {f"NET_BASE_{name}" for name in self.numbers}):
             sys.exit(f"exports.txt: no number of {name}")
         for name in [name for name, rows in self.rows.items() if not rows]:
@@ -90,6 +92,7 @@ class Table:
     def values(self, text):
         """The values of a text: a text each, or a list of values with its bracket before them."""
         stack = [[]]
+        text = re.sub(r'(\d+)\*"([^"]*)"', lambda it: f'"{it[2] * int(it[1])}"', text).replace('"+"', "")
         for token in TOKEN.findall(text):
             if token in "[{":
                 stack.append([token])
@@ -118,7 +121,7 @@ class C:
     """How C writes values of a type, and compares them; and the program."""
 
     def __init__(self, table):
-        self.table, self.structs, self.is_wide = table, table.library.structs, False
+        self.table, self.structs, self.is_wide, self.refused = table, table.library.structs, False, nulls.refusals()
 
     def value(self, tree, kind):
         if kind == "bool":
@@ -136,7 +139,7 @@ class C:
 
     def compared(self, name, tree, kind):
         """Comparisons of what has a name with a value."""
-        if tree == ANY:
+        if tree in (ANY, *EMPTY):
             return []
         if slice_of := re.fullmatch(r"\[(.+)\]", kind):
             if isinstance(tree, str):
@@ -155,6 +158,8 @@ class C:
         if kind == "usize" and 2**64 - 1 - number < 100:
             return "SIZE_MAX" + f" - {2**64 - 1 - number}" * (number < 2**64 - 1)
         self.is_wide |= kind == "usize" and number >= 2**32
+        if kind == ffi.STATUS:
+            return str(number)
         bits = 64 if kind.endswith("size") else int(re.sub(r"\D", "", kind))
         sign = "U" if kind[0] == "u" else ""
         least = 0 if sign else -(2 ** (bits - 1))
@@ -176,14 +181,15 @@ class C:
         kind = pointee(member)
         if slice_of := re.fullmatch(r"\[(.+)\]", kind):
             mutable, length = member.type.startswith("&mut"), len(tree) - (2 if isinstance(tree, str) else 1)
+            if tree in EMPTY:
+                return [], "NULL, 0"
             if isinstance(tree, str):
                 variable = [f"uint8_t {member.name}[] = {tree};"] if mutable else []
                 passed = member.name if mutable else f"text({tree})"
             else:
                 parts = ", ".join(self.value(part, slice_of[1]) for part in tree[1:])
                 variable = [f"{ffi.c_type(slice_of[1])} {member.name}[] = {{{parts}}};"] if mutable else []
-                array = f"[]){{{parts}}}" if parts else "[1]){0}"
-                passed = member.name if mutable else f"({ffi.c_type(slice_of[1])}{array}"
+                passed = member.name if mutable else f"({ffi.c_type(slice_of[1])}[]){{{parts}}}"
             return variable, f"{passed}, {length}"
         value = self.value(tree, kind)
         if member.type.startswith("&mut"):
@@ -198,10 +204,8 @@ class C:
 
     def nulls(self, row):
         """The lines of calls with each pointer of a row null in turn: they are refused, and nothing changes."""
-        words = ffi.refusal(row.item, self.structs)
-        result = words if isinstance(words, str) else ["{", *words]
         return [line for it in row.item.members if it.type.startswith("&")
-                for line in self.lines(Row(row.line, row.item, row.arguments, result, {
+                for line in self.lines(Row(row.line, row.item, row.arguments, None, {
                     name: row.arguments[name] for name in row.left if name != it.name}), it)]
 
     def lines(self, row, null=None):
@@ -211,6 +215,10 @@ class C:
         call = f"{row.item.name}({', '.join(passed for _, passed in arguments)})"
         if not row.item.type:
             lines.append(f"{call};")
+        elif null:
+            refused = self.refused[row.item.name]
+            lines.append(f"{ffi.c_type(row.item.type)} refused = {call};")
+            lines.append(f"CHECK({' && '.join(f'refused{field} == {value}' for field, value in refused)});")
         elif row.item.type in self.structs:
             values = ", ".join(self.value(part, field.type) for field, part in
                                zip(self.fields(row.result, row.item.type), row.result[1:]))
@@ -225,8 +233,8 @@ class C:
 
     def program(self):
         lines = [HEAD]
-        wrong = " || ".join(f"NET_BASE_{name} != {self.literal(it, 'usize')}" for name, it in self.table.numbers.items())
-        lines += [f"#if {wrong}".replace(" || ", " \\\n    || "), '#error "a number of net_base.h isn\'t that of the table"', "#endif"]
+        lines += [f'_Static_assert(NET_BASE_{name} == {self.literal(it, "usize")}, "a number of net_base.h isn\'t that of the table");'
+                  for name, it in self.table.numbers.items()]
         for name in sorted({item.type for item in self.table.exports.values()} & set(self.structs)):
             members = self.structs[name].members
             parameters = [f"{ffi.c_type(name)} it"] + [part for it in members for part in ffi.c_members(it)]

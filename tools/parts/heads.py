@@ -1,9 +1,9 @@
 """Writes the exports of net_ffi that are methods of heads: a test of what the method requires, then the call. It is a part of
 ffi.py.
 
-An export is a line of heads.txt, whose first lines say what the line says. Of the method it has the comment, or another
-that follows the line; the parameters, where elements are bytes, and a pointer is passed in place of a struct; and each clause `ensures`, after the test that it was
-not refused. What the method requires is tested, and where that isn't so, the clause `refused` says what is returned, and
+An export is a line of heads.txt, whose first lines say what the line says. Of the method it has the comment, with C's names
+(`in_c`); the parameters, where elements are bytes, and a pointer is passed in place of a struct; and each clause `ensures`,
+after the test that it was not refused. What the method requires is tested, and where that isn't so, the clause `refused` says what is returned, and
 that nothing changes. What would cost a look at each run isn't tested: that is the export's own `requires`, where the
 tests hold. `TESTS` says how each is tested, `RESULTS` how a result of the method is returned.
 """
@@ -31,9 +31,8 @@ TESTS = [
     (rf"IsSoundFiniteSender {TERM} {TERM}", "{all}", "!{c1}.is_sound({c0})",
      "`{c1}` isn't that of a sender over `{c0}` bytes", True),
     (rf"next_of {TERM} < no_end", "{all}", "!has_number({c0})", "the number after `next` doesn't fit 64 bits", True),
+    (r"(\w+) < no_end", "{all}", "{c0} == u64::MAX", "`{c0}` is `u64::MAX`", True),
     (rf"next_of {TERM} < 2 \^ 64", "{all}", "!has_next(&{c0}.receiver)", "`next` doesn't fit 64 bits", True),
-    (rf"{TERM} \+ len < no_end", "{all}", "!FiniteReceiverHead::fits({c0}, len)",
-     "the segment and an end after it don't fit 64 bits", True),
     (rf"IsSoundBoard {TERM} {TERM}", "{all}", "!{c0}.is_sound({c1})", "`{c0}` isn't sound with `{c1}`", True),
     (rf"RangeFits {TERM} {TERM}", "{all}", "!AssemblerHead::fits({c0}, {c1})", "`{c0} + {c1}` doesn't fit a `size_t`", True),
     (rf"{TERM} \+ length {TERM} < 2 \^ 64", "{all}", "{c1}.len() as u64 > u64::MAX - {c0}",
@@ -46,9 +45,7 @@ TESTS = [
     (rf"count ≤ {TERM} - {TERM}", "{all}", "count > {c0} - {c1}", "fewer than `count` elements are free", True),
     (rf"count ≤ {TERM}", "{all}", "count > {c0}", "fewer than `count` elements are queued", True),
     (rf"{TERM} ≤ capacity", "{all}", "{c0} > capacity", "more than `capacity` elements are queued", True),
-    (r"scale ≤ 14", "{all}", "scale > MAX_SCALE", "`scale` is above 14", True),
     (r"next ≤ window_end", "{all}", "window_end < next", "`window_end` is below `next`", True),
-    (r"IsSmallIfAny \(estimate_of (\S+)\)", "{all}", "!{c0}.is_small()", "the estimate of `{c0}` has no room for a sample", True),
     (rf"HasSoundRuns {TERM} {TERM}", "{0}.used ≤ length {1}", "{c0}.used > {c1}.len()", "`{f0}used` is above `{c1}.len()`",
      False),
     (rf"HasSoundParts (fragments\S+) {TERM} {TERM}", "IsPlausible (length {1}) (length {2}) {0}",
@@ -64,7 +61,7 @@ TESTS = [
      False),
 ]
 # What a method requires and a row's own test says, by what that has.
-IMPLIED = {"start ≤ end": "(start < end)"}
+IMPLIED = {"start ≤ end": "IsReport", "scoreboard.old.base < start → end < scoreboard.old.base + 2 ^ 32": "IsReport"}
 # Clauses of what a call leaves, which hold too where nothing changes; the last where the call counts no bytes.
 STAY = {"canonical", "exact", "others", "sends"}
 NONE = "NET_BASE_NONE"
@@ -91,24 +88,24 @@ STATUS = "NET_BASE_REFUSED", "result ≡ NET_BASE_REFUSED", "`NET_BASE_REFUSED`"
 RESULTS = {
     "bool": Result("bool", "{call}", "false", "IsFalse result", "false"),
     "usize": Result("usize", "{call}", "no_number()", "result ≡ no_number", f"`{NONE}`"),
-    "Span": Result("Span", "{call}", "no_span()", "result ≡ nowhere",
+    "Span": Result("Span", "{call}", "refused_span()", "result ≡ nowhere",
                    f"`from` is `{NONE}`, `count` and `contiguous` are 0"),
     "(Span, bool)": Result(
-        "SegmentSpan", "segment_span({call})", "no_segment()",
+        "SegmentSpan", "segment_span({call})", "refused_segment_span()",
         "(result.from ≡ no_number) × (result.count ≡ 0) × (result.contiguous ≡ 0) × IsFalse result.is_last",
         f"`from` is `{NONE}`, `count` and `contiguous` are 0, `is_last` is false", ["", "is_last"]),
     "Result<(), TooManyHolesError>": Result(
-        "u32", "status_of({call})", *STATUS, "(done_or_many result)", (("status", "result < 2"),)),
+        ffi.STATUS, "status_of({call})", *STATUS, "(done_or_many result)", (("status", "result < 2"),)),
     "Result<(), FragmentError>": Result(
-        "u32", "status_of_fragment({call})", *STATUS, "(done_or_error result)", (("status", "IsStatus result"),)),
+        ffi.STATUS, "status_of_fragment({call})", *STATUS, "(done_or_error result)", (("status", "IsStatus result"),)),
     "Result<usize, TooManyHolesError>": Result(
-        "FrontLength", "front_length({call})", "NO_FRONT",
+        "FrontLength", "front_length({call})", "refused_front_length()",
         "(result.status ≡ NET_BASE_REFUSED) × (result.length ≡ 0)", "the status is `NET_BASE_REFUSED`, and the length 0",
         "(length_or_many result.status result.length)",
         (("status", "result.status < 2"), ("none", "result.status ≡ 1 → result.length ≡ 0"))),
-    "Arrival": Result("u32", "number_of({call})", "", "", ""),
+    "Arrival": Result(ffi.STATUS, "number_of({call})", "", "", ""),
     "Option<(usize, usize)>": Result(
-        "Run", "run_of({call})", "no_run()", "result ≡ (no_number, no_number)", f"both are `{NONE}`",
+        "Run", "run_of({call})", "refused_run()", "result ≡ (no_number, no_number)", f"both are `{NONE}`",
         "unwrap_or"),
 }
 
@@ -170,18 +167,18 @@ def uses_of(path):
 class Export:
     """The export of a row: METHOD or NAME = METHOD, perhaps more parameters, `-> RESULT`, `if CODE : CLAUSE : WORDS`."""
 
-    def __init__(self, head, row, doc):
+    def __init__(self, head, row):
         words = re.fullmatch(r"(\w+)(?: = (\w+))?(?: with (.+?))?(?: -> (.+?))?(?: if (.+?) : (.+?) : (.+))?", row)
         if not words or (words[2] or words[1]) not in head.methods:
             stop(f"{head.section}: no method: {row}")
         self.head, self.name, self.method = head, words[1], words[2] or words[1]
         of = head.methods[self.method]
-        of_doc = of.doc[: of.doc.index("# Requires")] if "# Requires" in of.doc else list(of.doc)
-        self.doc = doc or [re.sub(r"`(\w+)`", lambda it: f"`{head.names.get(it[1], it[1])}`", line) for line in of_doc]
+        self.doc = of.doc[: of.doc.index("# Requires")] if "# Requires" in of.doc else list(of.doc)
         self.parameters, self.copied, given = [], [], of.parameters
+        self.is_new = of.result == "Self"
         if head.type != FREE:
-            self.parameters = [(head.name, f"&{'mut ' * (given[0] == '&mut self')}{head.type}")]
-            given = given[1:]
+            self.parameters = [(head.name, f"&{'mut ' * (self.is_new or given[0] == '&mut self')}{head.type}")]
+            given = given[0 if self.is_new else 1 :]
         for it in given:
             name, kind = it.split(": ", 1)
             name, kind = head.names.get(name, name), kind.replace("[T]", "[u8]")
@@ -231,8 +228,10 @@ class Export:
     def returned(self, word, kind):
         """How the result is returned."""
         self.more = []
-        if word == "present":
-            self.result = Result("u32", "presence_of({call})", *STATUS, "present")
+        if self.is_new:
+            made = f"*{self.head.name} = {{call}};"
+            self.result = (Result("bool", f"{made}\n    true", "false", "IsFalse result", "false", f"{self.head.name}.new")
+                           if self.tests else Result("", made, "", "", "", f"{self.head.name}.new"))
         elif word and word.startswith("out "):
             name = word[4:]
             self.parameters.append((name, f"&mut {kind}"))
@@ -241,9 +240,8 @@ class Export:
             struct, *fields = re.findall(r"\w+", word)
             made = ", ".join(["status: NET_BASE_DONE", *fields])
             given = fields[0] if len(fields) == 1 else f"({', '.join(fields)})"
-            none = ", ".join(["status: NET_BASE_REFUSED", *[f"{it}: 0" for it in fields]])
             zeros = " × ".join(["(result.status ≡ NET_BASE_REFUSED)", *[f"(result.{it} ≡ 0)" for it in fields]])
-            self.result = Result(struct, f"let {given} = {{call}};\n    {struct} {{ {made} }}", f"{struct} {{ {none} }}",
+            self.result = Result(struct, f"let {given} = {{call}};\n    {struct} {{ {made} }}", f"refused_{ffi.snake(struct)}()",
                                  zeros, f"the status is `NET_BASE_REFUSED`, and {' and '.join(fields)} 0", fields,
                                  (("status", "result.status ≡ NET_BASE_DONE"),))
         elif kind:
@@ -268,9 +266,6 @@ class Export:
         if is_done and guard:
             found.append(("ensures", "done", f"IsTrue result ↔ ({guard})"))
         for name, clause in [*self.ensures, *self.result.more]:
-            if value == "present":
-                found += present(name, clause, guard)
-                continue
             if value == "unwrap_or":
                 match = re.fullmatch(r"result ≡ (.*)", clause)
                 if not match:
@@ -295,7 +290,7 @@ class Export:
 
     def guarded(self, name, clause, guard, is_done):
         """A clause after the test that the call isn't refused."""
-        if not guard or name in STAY and (name, self.result.type) != ("sends", "usize"):
+        if not guard or name in STAY and not self.is_new and (name, self.result.type) != ("sends", "usize"):
             return clause
         if self.result.type == "bool" and re.match(r"Is(?:True|False) result →", clause):
             return clause
@@ -324,7 +319,7 @@ class Export:
         lines.append("{")
         if self.tests:
             lines += [f"    if {' || '.join(it[1] for it in self.tests)} {{", f"        return {self.result.refusal};", "    }"]
-        owner = f"{self.head.name}::" if self.head.type == FREE else f"{self.head.name}."
+        owner = f"{self.head.type}::" if self.is_new else f"{self.head.name}::" if self.head.type == FREE else f"{self.head.name}."
         call = f"{owner}{self.method}({', '.join('*' * (name in self.copied) + name for name, _ in self.given())})"
         lines += [f"    {it}" for it in self.result.body.replace("{call}", call).split("\n    ")]
         return lines + ["}"]
@@ -334,11 +329,33 @@ class Export:
         return [it for it in self.parameters[self.head.type != FREE :] if it not in self.besides
                 and not (isinstance(self.result.value, str) and f"{it[0]}.new" == self.result.value)]
 
+    def in_c(self, text):
+        """The method's comment with C's names: those of parameters, exports and statuses. What is returned is written where the
+        result is, and of a call that makes a head made of it."""
+        text = ffi.plain_text([text])
+        if self.is_new:
+            text = re.sub(r"^Returns ", f"Makes `{self.head.name}` ", text)
+        elif isinstance(self.result.value, str) and self.result.value.endswith(".new"):
+            text = re.sub(r"^Returns ", f"Writes to `{self.result.value[:-4]}` ", text)
+        names = {name for name, _ in self.parameters}
+
+        def word(match):
+            owner, name = match[1], match[2]
+            if not owner:
+                name = self.head.names.get(name, name)
+            if not owner and name in names:
+                return f"`{name}`"
+            if name in VARIANTS:
+                return f"`NET_BASE_{VARIANTS[name]}`"
+            of = re.sub(r"Over$", "Head", owner[:-2]) if owner else self.head.name if self.head.type == FREE else self.head.type
+            export = EXPORTED.get((of, name))
+            return f"`net_base_{export}`" if export else "zeros" if name == "None" else f"`{name}`"
+
+        return re.sub(r"`(\w+::)?(\w+)`", word, text)
+
     def comment(self):
         """The comment: what the call does, when it is refused, and its duty."""
-        doc = list(self.doc)
-        while doc and not doc[-1]:
-            doc.pop()
+        doc = self.in_c("\n".join(self.doc)).strip().split("\n")
         if self.tests:
             words = list(dict.fromkeys(it[2] for it in self.tests))
             either = ", or if ".join(words)
@@ -363,16 +380,6 @@ def code_of(term):
     return re.sub(r"[«»]|\.(?:old|now|new)\b", "", term)
 
 
-def present(name, clause, guard):
-    """The clauses of an answer that is yes or no."""
-    if match := re.fullmatch(r"IsTrue result ↔ (.*)", clause):
-        return [("ensures", "present", f"{guard} → {match[1]} → result ≡ NET_BASE_PRESENT"),
-                ("ensures", "missing", f"{guard} → ({match[1]} → ⊥) → result ≡ NET_BASE_MISSING")]
-    match = re.fullmatch(r"(.*→ )?result ≡ (.*)", clause) or stop(f"{name}: not a clause of yes or no: {clause}")
-    answer = f"(if {match[2]} then NET_BASE_PRESENT else NET_BASE_MISSING)"
-    return [("ensures", name or "done", f"{guard} → {match[1] or ''}result ≡ {answer}")]
-
-
 def with_fields(clause, fields):
     """A clause of a number or of a pair, about the fields of a struct; one without a name is the struct."""
     if len(fields) == 1:
@@ -380,10 +387,29 @@ def with_fields(clause, fields):
     return re.sub(r"\bresult\.([01])\b", lambda it: f"result.{fields[int(it[1])]}".rstrip("."), clause)
 
 
+# The exports by the type and the name of the method, and a crate and the name of a function.
+EXPORTED = {}
+# Variants that comments name, as C's statuses.
+VARIANTS = {"TooManyHolesError": "TOO_MANY_RUNS", "TooManyHoles": "TOO_MANY_RUNS", "TooLong": "TOO_LONG", "OtherSize": "OTHER_SIZE",
+            "OtherEnd": "OTHER_END", "Take": "TAKE", "AcknowledgementOnly": "ACKNOWLEDGEMENT_ONLY", "Answer": "ANSWER",
+            "Ignore": "IGNORE", "Reset": "RESET"}
+
+
+def tasks_of(text):
+    """The index of the table: titles, each with its lines of names, of which the first word is what is before each."""
+    found = []
+    for line in text.splitlines():
+        if line.startswith("task "):
+            found.append((line[5:], []))
+        elif line.startswith("task: "):
+            found[-1][1].append(line[6:].split())
+    return found
+
+
 def heads_of(text):
     """The heads of the table, with the exports of each."""
     found, head = [], None
-    lines = [it for it in text.splitlines() if it and not it.startswith("#")]
+    lines = [it for it in text.splitlines() if it and not it.startswith(("#", "task"))]
     for at, line in enumerate(lines):
         if line.startswith("head "):
             _, section, kind, name, *words = line.split()
@@ -394,7 +420,9 @@ def heads_of(text):
             head = Head(section, kind, name, names, methods, uses, comment_after(lines, at))
             found.append((head, []))
         elif not line.startswith("  "):
-            found[-1][1].append(Export(head, line, comment_after(lines, at)))
+            export = Export(head, line)
+            found[-1][1].append(export)
+            EXPORTED.setdefault((kind if head.type != FREE else head.name, export.method), f"{head.section}_{export.name}")
     return found
 
 
@@ -421,6 +449,8 @@ def is_cited(name, text):
         return " then " in text
     if "◌" in short:
         return f" {short.strip('◌')} " in text
+    if short == "[]":
+        return bool(re.search(r"(?<!\S)\[\](?!\S)", text))
     return bool(re.search(rf"(?<![\w.]){re.escape(short)}\b", text))
 
 
@@ -461,12 +491,12 @@ def file_of(head, exports):
 
 
 CODE = {name: module for module, names in {
-    "crate::refusals": "NET_BASE_ACKNOWLEDGEMENT_ONLY NET_BASE_ANSWER NET_BASE_IGNORE NET_BASE_RESET NET_BASE_TAKE NET_BASE_DONE NET_BASE_MISSING NET_BASE_PRESENT NET_BASE_REFUSED NO_FRONT no_number no_run no_segment no_span",
-    "crate::results": "FrontLength Hole SegmentSpan front_length number_of presence_of run_of segment_span status_of status_of_fragment",
+    "crate::refusals": "NET_BASE_ACKNOWLEDGEMENT_ONLY NET_BASE_ANSWER NET_BASE_IGNORE NET_BASE_RESET NET_BASE_TAKE NET_BASE_DONE NET_BASE_REFUSED Status no_number refused_front_length refused_hole refused_run refused_segment_span refused_span",
+    "crate::results": "FrontLength Hole SegmentSpan front_length number_of run_of segment_span status_of status_of_fragment",
     "crate::receiver": "has_next", "crate::finite_receiver": "has_number",
     "net_assembler": "AssemblerHead Run", "net_ring": "RingHead Span", "net_base::storage": "FragmentsHead",
     "net_packets": "PacketSlot PacketsHead", "net_receiver": "FiniteReceiverHead FiniteSenderHead HeldRun ReceiverHead ScoreboardHead SenderHead",
-    "net_tcp": "AdvertisedWindow MAX_SCALE PartsSum PeerWindow RetransmissionTimeout RetransmissionTimer RttEstimate Segment TimeoutBounds",
+    "net_numbers": "SentNumbers", "net_tcp": "AdvertisedWindow Announcement PartsSum PeerWindow Segment",
 }.items() for name in names.split()}
 
 
@@ -476,5 +506,5 @@ def written():
     files = {WRITTEN / f"{head.section}.rt": file_of(head, exports) for head, exports in found}
     files[ffi.EXPORTS / "src/heads.rt"] = "\n".join(
         ["//! Exports that are methods of heads: each is a line of tools/heads.txt. Written by tools/ffi.py.",
-         *sorted(f"mod {head.section};" for head, _ in found)]) + "\n"
+         *sorted(f"pub mod {head.section};" for head, _ in found)]) + "\n"
     return files

@@ -271,8 +271,7 @@ class Call:
             else:
                 words.append(f"{self.subject}_{member.name}, {size}" if "[" in member.type else str(size))
         variable = head.split(".")[0]
-        ends = [f"    {variable}.end = UINT64_MAX;"] if self.memory.kinds[variable] == "FiniteReceiverHead" else []
-        return [f"if (!{sound.name}({', '.join(words)})) {{", *["    " + line for line in self.memory.each(variable, zeroed)], *ends, "}"]
+        return [f"if (!{sound.name}({', '.join(words)})) {{", *["    " + line for line in self.memory.each(variable, zeroed)], "}"]
 
     def functions(self, sounds):
         """The functions that prepare a call, make it, make an empty one, and eat what it returned and left."""

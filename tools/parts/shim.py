@@ -16,31 +16,20 @@ use proved::exports::*;
 
 
 def modules():
-    """The module of each export and struct of net_ffi."""
+    """The module of each function and type of net_ffi."""
     found = {}
     for path in ffi.EXPORTS.glob("src/**/*.rt"):
         module = "::".join(path.relative_to(ffi.EXPORTS / "src").with_suffix("").parts)
-        for name in re.findall(r'^pub (?:extern "C" fn|struct) (\w+)', path.read_text(), flags=re.M):
+        for name in re.findall(r'^pub (?:extern "C" fn|fn|struct|type) (\w+)', path.read_text(), flags=re.M):
             found[name] = f"{module}::{name}"
     return found
-
-
-def refused(item, library, where):
-    """What a refused call returns."""
-    def value(word, kind):
-        return f"{kind}::MAX" if word == "MAX" else word.replace("REFUSED", "refusals::NET_BASE_REFUSED")
-
-    found = ffi.refusal(item, library.structs)
-    if isinstance(found, str):
-        return value(found, item.type)
-    fields = [f"{it.name}: {value(word, it.type)}" for it, word in zip(library.structs[item.type].members, found)]
-    return f"{where.get(item.type, item.type)} {{ {', '.join(fields)} }}"
 
 
 def function(item, library, where):
     """The lines of an export."""
     parameters, lines, is_unsafe = [], [], False
-    give = f"return {refused(item, library, where)}".rstrip()
+    refused = ffi.refusal(item.type)
+    give = f"return {where.get(refused[:-2], refused[:-2])}()" if refused.startswith("refused_") else f"return {refused}".rstrip()
     for member in item.members:
         name, kind = member.name, member.type
         if inner := re.fullmatch(r"&(mut )?\[(\w+)\]", kind):

@@ -23,6 +23,14 @@ const RECEIVER: &[(&str, &str)] = &[
         "pub use original32::storage::Assembler as Assembler32;",
         "pub type Assembler32 = net_base::storage::Assembler<32>;",
     ),
+    (
+        "pub use original256::storage::Assembler as Assembler256;",
+        "pub type Assembler256 = net_base::storage::Assembler<256>;",
+    ),
+    (
+        "pub use original1024::storage::Assembler as Assembler1024;",
+        "pub type Assembler1024 = net_base::storage::Assembler<1024>;",
+    ),
     ("<$type>::new()", "<$type>::empty()"),
 ];
 

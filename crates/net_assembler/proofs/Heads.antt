@@ -7,9 +7,9 @@ use Rattle.net_assembler.specs.Width.{shortfall}
 use Rattle.net_assembler.specs.declared.assembler.error.TooManyHolesError.{TooManyHolesError}
 use Rattle.net_assembler.specs.declared.assembler.head.AssemblerHead.{AssemblerHead}
 use Rattle.net_assembler.specs.AssemblerLaws.{Adds, AddsThenRemovesFront}
-use Rattle.net_assembler.specs.Heads.{AddsInPlace}
+use Rattle.net_assembler.specs.Heads.{AddsInPlace, FrontEnds}
 use Rattle.net_assembler.specs.Turns.{TurnsWithin, binary_digits}
-use Rattle.net_assembler.specs.Positions.{Positions, front, holes, holes_before, nothing, runs, runs_shifted_up}
+use Rattle.net_assembler.specs.Positions.{Positions, front, holes, holes_before, runs, runs_shifted_up}
 use Rattle.net_assembler.specs.Positions.{contains, with_range, maximal_runs, shift_down}
 use Rattle.net_assembler.specs.RunLists.{start_at, end_at, AreRuns, HasSoundRuns, StartsAtZero, FitsFrom}
 use Rattle.net_assembler.specs.RunLists.{used_runs, runs_of, set_of, set_of_runs, runs_with_range}
@@ -22,7 +22,7 @@ use Rattle.net_assembler.proofs.Runs.{rising-runs_with_range, set-shifted_down, 
 use Rattle.net_assembler.proofs.Runs.{contains-set_of_runs, front-set_of_runs, runs-set_of_runs, maximal_runs-set_of_runs}
 use Rattle.net_assembler.proofs.Runs.{set_of_runs_injective, set-runs_with_range, runs-runs_with_range}
 use Rattle.net_assembler.proofs.RunLists.{front_none, shift_down-zero, Completed, completed_at, at_run, apart}
-use Rattle.net_assembler.proofs.RunLists.{front_some, no_runs, shifted_down_set, with_range-none, top_of}
+use Rattle.net_assembler.proofs.RunLists.{front_some, shifted_down_set, with_range-none, top_of}
 use Rattle.net_assembler.proofs.ShiftedRuns.{end_at-up, top_before, down-zero, start_at-up}
 use Rattle.net_assembler.proofs.ShiftedRuns.{first-runs_with_range, up-none}
 use Rattle.net_assembler.proofs.ShiftedRuns.{fits-runs_with_range, fits-up, up-runs_with_range, up-up}
@@ -392,28 +392,67 @@ reaches_some h xs s size some reach t e =
     meets_first [] lo hi l a b = absurd (omega arith)
     meets_first (r ∷ rs) lo hi l a b = omega (arith, ap length (step_meets r rs lo hi a b), one_more rs (min r.0 lo) (max r.1 hi))
 
--- a range at 0 that reaches the only run: all up to end is the front, and nothing is left
-pub all_front : (h : AssemblerHead) (xs : List (ℕ × ℕ)) → HasSoundRuns h xs → (size end : ℕ) → h.used ≡ 1 → h.first_start ≤ size →
-    end ≡ max size (h.first_start + end_at xs 0) →
-    let all = with_range (set_of h xs) 0 size in (end ≡ front all) × (nothing ≡ shift_down all end)
-all_front h xs s size end one reach is =
-    let all = with_range (set_of h xs) 0 size in
-    let count = length-runs_of h xs s in
-    let gone : nothing ≡ set_of_runs (runs_shifted_down end (drop 1 (runs_of h xs))) =
-    sym (no_runs _ (length-map (drop 1 (runs_of h xs)) (λ (r : ℕ × ℕ). (r.0 - end, r.1 - end)) ∙ length-drop 1 (runs_of h xs) ∙ omega arith)) in
-    let top = max (end_at xs 0) (size - h.first_start) in
-    let high : end ≡ h.first_start + top = omega arith in
+-- a front that is there
+front_there : (h : AssemblerHead) (xs : List (ℕ × ℕ)) → HasSoundRuns h xs → (end : ℕ) → 0 < end → end ≡ front (set_of h xs) →
+    (0 < h.used) × (h.first_start ≡ 0) × (end ≡ end_at xs 0)
+front_there h xs s end some is =
+    either (cases_lt 0 h.used)
+    (λ used. either (cases_lt 0 h.first_start)
+    (λ later. absurd (omega (arith, no_front h xs s (λ _. later), is)))
+    (λ z. let zeroth : h.first_start ≡ 0 = omega arith in (used, zeroth, is ∙ sym (first_front h xs s used zeroth))))
+    (λ none. absurd (omega (arith, no_front h xs s (λ used. absurd (omega arith)), is)))
+
+-- the front of a sound head, once the range (o, k) is in its set
+pub front_ends : (h : AssemblerHead) (xs : List (ℕ × ℕ)) (o k : ℕ) (g : AssemblerHead) (ys : List (ℕ × ℕ)) (end : ℕ) →
+    HasSoundRuns g ys → set_of g ys ≡ with_range (set_of h xs) o k → g.used ≤ h.used + 1 → (0 < o → length ys ≤ length xs) →
+    end ≡ front (set_of g ys) → FrontEnds h xs o k g ys end
+front_ends h xs o k g ys end t same few long is =
+    let top : 0 < end → end ≡ g.first_start + end = λ some. omega (arith, (front_there g ys t end some is).1) in
+    record {
+      sound = t;
+      few = few;
+      room = λ past. omega (arith, ap runs same, few_held g ys t, long past);
+      none = λ z. (sym z ∙ is ∙ ap front same, same);
+      some = λ some. (front_there g ys t end some is).0;
+      second = λ some l. omega (arith, (front_there g ys t end some is).2, pairs_apart g ys t 0 1 (omega arith) l);
+      fits = λ some. omega (arith, (front_there g ys t end some is).2, pair_fits g ys t 0 (front_there g ys t end some is).0);
+      front = λ some. sym (top some) ∙ is ∙ ap front same;
+      rest = λ some. ap (λ n. set_of_runs (runs_shifted_down n (drop 1 (runs_of g ys)))) (sym (top some))
+          ∙ shifted_down_set (runs_of g ys) end (are_runs g ys t) is some
+          ∙ (λ i. shift_down (same i) (top some i));
+    }
+
+-- a range at 0 that reaches the first run, and not the second
+pub first_reached : (h : AssemblerHead) (xs : List (ℕ × ℕ)) → HasSoundRuns h xs → (size end : ℕ) → 0 < h.used → h.first_start ≤ size →
+    size + shortfall < 2 ^ 64 → end ≡ max (end_at xs 0) (size - h.first_start) → (1 < h.used → size - h.first_start < start_at xs 1) →
+    FrontEnds h xs 0 size h xs end
+first_reached h xs s size end some reach fits is second =
+    let rises = pair_rises h xs s 0 some in
     either (cases_lt 0 size)
     (λ l.
-    let both = reached h xs s 1 size top (omega arith) (omega arith) l reach (λ k a c. absurd (omega arith))
-    (λ k a c. absurd (omega (arith, length-used_runs h xs s))) refl in
-    (high ∙ both.0, gone ∙ ap (λ t. set_of_runs (runs_shifted_down t (drop 1 (runs_of h xs)))) high ∙ both.1 ∙ ap (shift_down all) (sym high)))
-    (λ l.
-    let same : set_of h xs ≡ all = sym (with_range-none (set_of h xs) 0 size (omega arith)) in
-    let is_front : end ≡ front (set_of h xs) = omega (arith, first_front h xs s (omega arith) (omega arith)) in (
-      is_front ∙ ap front same,
-      gone ∙ shifted_down_set (runs_of h xs) end (are_runs h xs s) is_front (omega (arith, pair_rises h xs s 0 (omega arith))) ∙ ap (λ u. shift_down u end) same,
-    ))
+    let both = reached h xs s 1 size end (omega arith) (omega arith) l reach (λ k a b. absurd (omega arith))
+    (λ k a b.
+    let used : k < h.used = omega (arith, length-used_runs h xs s) in
+    omega (arith, second (omega arith), later_start h xs s 1 k a used, start_of h xs s k used)) is in
+    record {
+      sound = s;
+      few = omega arith;
+      room = λ past. absurd (omega arith);
+      none = λ z. absurd (omega arith);
+      some = λ _. some;
+      second = λ _ m. omega (arith, is, second m, pairs_apart h xs s 0 1 (omega arith) m);
+      fits = λ _. omega (arith, is, pair_fits h xs s 0 some);
+      front = λ _. both.0;
+      rest = λ _. both.1;
+    })
+    (λ none.
+    front_ends h xs 0 size h xs end s (sym (with_range-none (set_of h xs) 0 size (omega arith))) (omega arith) (λ past. absurd (omega arith))
+    (let ends : end ≡ end_at xs 0 = omega arith in ends ∙ first_front h xs s some (omega arith)))
+  where
+    later_start : (h : AssemblerHead) (xs : List (ℕ × ℕ)) → HasSoundRuns h xs → (i k : ℕ) → i ≤ k → k < h.used → start_at xs i ≤ start_at xs k
+    later_start h xs s i k l m = either (cases_lt i k)
+        (λ b. omega (arith, pairs_apart h xs s i k b m, pair_rises h xs s i (omega arith)))
+        (λ b. let e : i ≡ k = omega arith in let same = ap (start_at xs) e in omega arith)
 
 -- what holds of each refusal
 pub on_err : (P : Type 0) (r : Result (Unit {0}) TooManyHolesError) → P → OnErr r P

@@ -53,3 +53,8 @@ later_hole (r ∷ rs) k first = ap (λ hs. slice_get hs (suc k)) (first_hole 0 r
 pub rises_after : (rs : List (ℕ × ℕ)) → AreRuns rs → (0 < length rs → 0 < start_at rs 0) → IsRising 1 rs
 rises_after [] h first = tt
 rises_after (r ∷ rs) h first = (omega (arith, first (omega arith)), h.1, h.2)
+
+-- between runs that rise there are as many holes
+pub all_holes : (from : ℕ) (rs : List (ℕ × ℕ)) → IsRising (from + 1) rs → length (holes_before from rs) ≡ length rs
+all_holes from [] h = refl
+all_holes from (r ∷ rs) h = ap length (first_hole from r rs (omega (arith, h.0))) ∙ ap suc (all_holes r.1 rs h.2)

@@ -9,7 +9,6 @@ use Rattle.net_assembler.specs.Positions.{runs_shifted_up}
 use Rattle.net_assembler.specs.RunLists.{AreRuns, AreUsize, FitsFrom, IsRising, end_at, runs_shifted_down}
 use Rattle.net_assembler.specs.RunLists.{runs_with_range, runs_wrapped, start_at, wrapped_run}
 use Rattle.net_assembler.specs.Width.{IsUsize}
-use Rattle.net_assembler.proofs.Moves.{rest_at}
 use Rattle.net_assembler.proofs.Positions.{either}
 use Rattle.net_assembler.proofs.Runs.{rising_from}
 use Rattle.net_assembler.proofs.RunLists.{apart_at, joined_at, length_apart, rising-drop}
@@ -66,15 +65,15 @@ usize-at by (suc k) (r ∷ rs) f l = usize-at by k rs f.2 (omega arith)
 
 -- the entry k, which a loop that counts higher has not reached
 pub moved_usize : (by at used k : ℕ) (xs ys : List (ℕ × ℕ)) → at ≤ k → k < used → used ≤ length ys →
-    AreUsize (runs_wrapped by (drop at (take used ys))) → drop k xs ≡ drop k ys →
+    AreUsize (runs_wrapped by (drop at (take used ys))) → get_or xs k (0, 0) ≡ get_or ys k (0, 0) →
     IsUsize (wrapped_run by (get_or xs k (0, 0))).0 × IsUsize (wrapped_run by (get_or xs k (0, 0))).1
-moved_usize by at used k xs ys a l room f rest =
+moved_usize by at used k xs ys a l room f held =
     let cs = take used ys in
     let one = usize-at by (k - at) (drop at cs) f (omega (arith, length-drop at cs, length-take-le used ys room)) in
     let place : at + (k - at) ≡ k = omega arith in
     let same : get_or (drop at cs) (k - at) (0, 0) ≡ get_or xs k (0, 0) =
     get_or-drop at cs (k - at) (0, 0) ∙ ap (λ n. get_or cs n (0, 0)) place ∙ get_or-take used ys k (0, 0) l
-    ∙ sym (rest_at xs ys k (0, 0) rest) in
+    ∙ sym held in
     subst (λ (r : ℕ × ℕ). IsUsize (wrapped_run by r).0 × IsUsize (wrapped_run by r).1) same one
 
 -- a range, and the first pairs of an array that it meets, each counted by higher: those from first up to next

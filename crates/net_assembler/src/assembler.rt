@@ -13,6 +13,7 @@ ghost use Rattle.net_assembler.specs.Turns.{binary_digits};
 mod error;
 mod head;
 pub mod laws;
+mod new;
 mod run;
 mod turns;
 
@@ -64,27 +65,6 @@ impl<const N: usize> Model for Assembler<N> {
 }
 
 impl<const N: usize> Assembler<N> {
-    /// Returns an assembler with no position, as [`empty`](Assembler::empty) does.
-    ///
-    /// ```
-    /// # use net_base::storage::Assembler;
-    /// assert!(Assembler::new().is_empty());
-    /// ```
-    ///
-    /// # Requires
-    ///
-    /// `N` is at least 1.
-    pub const fn new() -> Self
-        requires { 1 ≤ N }
-        ensures empty { result ≡ nothing }
-        ensures no_run { runs result ≡ 0 }
-        ensures bound { runs result ≤ N }
-    {
-        Self::empty()
-    }
-}
-
-impl<const N: usize> Assembler<N> {
     /// Returns an assembler with no position, which has room for `N` maximal runs.
     ///
     /// smoltcp has only `new`. In Rust that has the number of runs that features set, and this any.
@@ -99,15 +79,14 @@ impl<const N: usize> Assembler<N> {
     /// let assembler = Assembler::<0>::empty();
     /// ```
     ///
-    /// # Requires
-    ///
-    /// `N` is at least 1.
+    /// A program in which `N` is 0 does not compile.
     pub const fn empty() -> Self
         requires { 1 ≤ N }
         ensures empty { result ≡ nothing }
         ensures no_run { runs result ≡ 0 }
         ensures bound { runs result ≤ N }
     {
+        prove!(N >= 1, "N is at least 1");
         Assembler {
             head: AssemblerHead::new(),
             runs: [Run { start: 0, end: 0 }; N],
@@ -218,6 +197,9 @@ impl<const N: usize> Assembler<N> {
 
     /// Adds the positions from `offset` to `offset + size - 1`; none if `size` is 0.
     ///
+    /// It is inlined where it is called, so it is the fast call, and the large one. `AssemblerHead::add`
+    /// is the same rule as one function, which `add_then_remove_front` calls.
+    ///
     /// ```rust
     /// assembler.add(offset, size)?;
     /// Ok(assembler.peek_front())
@@ -241,6 +223,7 @@ impl<const N: usize> Assembler<N> {
     ///
     /// The range ends at a `usize`, as `fits` tests.
     #[inline(always)]
+    #[track_caller]
     pub fn add(&mut self, offset: usize, size: usize) -> Result<(), TooManyHolesError>
         requires { RangeFits offset size }
         // Guarantee.
@@ -274,6 +257,7 @@ impl<const N: usize> Assembler<N> {
     ///
     /// The range ends at a `usize`, as `fits` tests.
     #[inline(always)]
+    #[track_caller]
     pub fn add_counted(
         &mut self,
         offset: usize,
@@ -374,6 +358,7 @@ impl<const N: usize> Assembler<N> {
     ///
     /// The range ends at a `usize`, as `fits` tests.
     #[inline(always)]
+    #[track_caller]
     pub fn add_then_remove_front(
         &mut self,
         offset: usize,
@@ -617,6 +602,12 @@ impl<'a> Iterator for RunIter<'a> {
         prove!(end <= most(), "in any `usize`");
         Some((start, end))
     }
+
+    #[inline]
+    fn size_hint(&self) -> (usize, Option<usize>) {
+        let count = self.rest.len();
+        (count, Some(count))
+    }
 }
 
 /// An iterator over the holes of an assembler, made by `holes`.
@@ -668,5 +659,11 @@ impl<'a> Iterator for HoleIter<'a> {
         let (start, end) = self.runs.next()?;
         let from = mem::replace(&mut self.from, end);
         Some((from, start))
+    }
+
+    #[tactic(auto, using(crate::proofs::Holes::all_holes))]
+    #[inline]
+    fn size_hint(&self) -> (usize, Option<usize>) {
+        self.runs.size_hint()
     }
 }

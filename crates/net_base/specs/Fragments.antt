@@ -2,18 +2,21 @@
 --     FragmentsState, state_code      the state of a buffer, and its code
 --     limit_of b      where its fragments must end
 --     with_fragment b offset data', IsComplete b n      a fragment arrived, and all bytes have
+--     sized b last end, with_piece b offset data' last      a fragment arrived that is the packet's last one or isn't
+--     HasOtherEnd b end last      it contradicts the packet's size
+--     begun b e      an empty buffer with the bytes of b, which expires after e
 --     IsBelow s n      a set has no position from n on
 --     Contradicts s total n      the packet can't have n bytes
 --     Meets s o n      a set has one of the n positions from o on
 --     HasOther bytes offset data' p, Differs b offset data'      a fragment has another byte at p than some bytes; than
 --         one that arrived
 use Rattle.std.specs.Prelude.{◌≡◌, ◌≢◌, ◌+◌, ◌-◌, ◌<◌, ◌≤◌, ℕ, ℤ, List, Option, length, slice_index_or, unwrap_or}
-use Rattle.std.specs.Prelude.{IsTrue, refl}
+use Rattle.std.specs.Prelude.{◌⊎◌, IsTrue, IsFalse, Bool, if◌then◌else◌, refl}
 use Rattle.std.specs.Coded.{Coded, code_by, coded×, coded_ℕ, coded_ℤ, coded_list, coded_option}
 use Rattle.std.specs.FinSet as set
 use Rattle.std.specs.declared.option.Option.TheVariants.{Some, None}
 use Rattle.net_ring.specs.Overwrite.{overwrite}
-use Rattle.net_assembler.specs.Positions.{Positions, contains, with_range}
+use Rattle.net_assembler.specs.Positions.{Positions, contains, nothing, with_range}
 
 -- the bytes of the buffer, the positions that arrived, how many bytes the packet has, once that is
 -- known, and the last moment at which it is waited for
@@ -44,6 +47,10 @@ with_fragment b offset data' = record b {
   present = with_range b.present offset (length data');
 }
 
+-- a buffer that was begun again, with nothing in it
+abbrev pub begun : FragmentsState → ℤ → FragmentsState
+begun b e = record { bytes = b.bytes; present = nothing; total = None; expires_at = e }
+
 -- the packet has n bytes, and each of them arrived
 abbrev pub IsComplete : FragmentsState → ℕ → Type 0
 IsComplete b n = (b.total ≡ Some n) × ((p : ℕ) → p < n → IsTrue (contains b.present p))
@@ -56,6 +63,18 @@ IsBelow s n = (p : ℕ) → IsTrue (contains s p) → p < n
 abbrev pub Contradicts : Positions → Option ℕ → ℕ → Type 0
 Contradicts s None n = IsBelow s n → ⊥
 Contradicts s (Some m) n = m ≢ n
+
+-- a last fragment ends where the packet does, and another one ends where it does or before
+abbrev pub HasOtherEnd : FragmentsState → ℕ → Bool → Type 0
+HasOtherEnd b end last =
+    (IsTrue last × Contradicts b.present b.total end) ⊎ (IsFalse last × (limit_of b < end))
+
+-- the packet's size is known once its last fragment arrived
+abbrev pub sized : FragmentsState → Bool → ℕ → FragmentsState
+sized b last end = if last then record b { total = Some end } else b
+
+abbrev pub with_piece : FragmentsState → ℕ → List ℕ → Bool → FragmentsState
+with_piece b offset data' last = with_fragment (sized b last (offset + length data')) offset data'
 
 -- one of the n positions from o on is in the set
 abbrev pub Meets : Positions → ℕ → ℕ → Type 0

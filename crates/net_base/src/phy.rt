@@ -190,6 +190,7 @@ impl DeviceCapabilities {
     /// # Requires
     ///
     /// The MTU has room for the medium's header, as `has_ip_mtu` tests.
+    #[track_caller]
     pub fn ip_mtu(&self) -> usize
         requires has_ip_mtu { HasIpMtu self.now }
         ensures { result ≡ ip_mtu_of self.now }
@@ -230,6 +231,7 @@ impl DeviceCapabilities {
     /// # Requires
     ///
     /// The MTU has room for the medium's header and this one, as `fits_ip_header` tests.
+    #[track_caller]
     pub fn max_ipv4_fragment_size(&self, ip_header_len: usize) -> usize
         requires fits_ip_header { FitsIpHeader self.now ip_header_len }
         ensures { result ≡ fragment_size_of self.now ip_header_len }

@@ -14,7 +14,7 @@ pub mod laws;
 /// The last of the reserved ports.
 const LAST_RESERVED_PORT: u16 = 1024;
 
-/// A generator of random words. Contracts see its state, a number below 2^64.
+/// A generator of random words.
 ///
 /// It serves for source ports and for tests. Random words are no secret: anyone who knows one state
 /// knows all that follow.
@@ -31,6 +31,7 @@ pub struct Rand {
     state: u64,
 }
 
+/// Contracts see its state, a number below 2^64.
 impl Model for Rand {
     ghost Value = { ℕ };
 

@@ -4,9 +4,9 @@ use Rattle.std.specs.Bool.{Decides}
 use Rattle.std.specs.Cmp.Lexicographic.{pointwise}
 use Rattle.std.proofs.lemmas.Bool.Decides.{Decides-eqb, Decides-and, same_from_decides}
 use Rattle.std.proofs.lemmas.Slice.Eq.{bytes_eq-Decides, slice_eq-Decides}
-use Rattle.net_receiver.specs.ReceiverState.{ReceiverState, IsSameState, receiver_ops}
-use Rattle.net_bench_lib.specs.StreamMode.{Outcome, outcome, same_run, same_outcome, Schedules, comparison_with, stream_closing}
-use Rattle.net_bench_lib.specs.StreamReceivers.{receiver_schedule_ops}
+use Rattle.net_receiver.specs.ReceiverState.{ReceiverState, IsSameState}
+use Rattle.net_bench_lib.specs.StreamMode.{Outcome, same_run, same_outcome, Schedules, comparison_with, stream_closing}
+use Rattle.net_bench_lib.specs.StreamReceivers.{receiver_outcome, receiver_schedule_ops}
 
 -- runs that are one
 run_decides : (a b : ℕ × ℕ) → Decides (same_run a b) (a ≡ b)
@@ -25,17 +25,17 @@ outcome_decides a b =
 
 -- the same receivers have one outcome
 module _ (v u : ReceiverState) where
-  outcomes : IsSameState v u → AreOne (outcome receiver_ops v) (outcome receiver_ops u)
+  outcomes : IsSameState v u → AreOne (receiver_outcome v) (receiver_outcome u)
   outcomes h = (((h.1, let n = ap length h.2 in omega (arith, h.0, h.1, n)), h.2), h.3)
 
-  states : AreOne (outcome receiver_ops v) (outcome receiver_ops u) → IsSameState v u
+  states : AreOne (receiver_outcome v) (receiver_outcome u) → IsSameState v u
   states h =
       let n = ap length h.0.1 in
       let first : v.first ≡ u.first = omega (arith, n, h.0.0.0, h.0.0.1) in (first, h.0.0.0, h.0.1, h.1)
 
-  same_decides : (same : Bool) → IsTrue same ↔ IsSameState v u → same ≡ same_outcome (outcome receiver_ops v) (outcome receiver_ops u)
+  same_decides : (same : Bool) → IsTrue same ↔ IsSameState v u → same ≡ same_outcome (receiver_outcome v) (receiver_outcome u)
   same_decides same exact =
-      let d = outcome_decides (outcome receiver_ops v) (outcome receiver_ops u) in
+      let d = outcome_decides (receiver_outcome v) (receiver_outcome u) in
       same_from_decides same _ ((λ h. outcomes (exact.0 h)), λ h. exact.1 (states h)) d
 
 -- the closing line, as `same_state` returns

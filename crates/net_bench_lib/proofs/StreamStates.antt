@@ -1,12 +1,12 @@
 -- What receivers store in mode stream represents the states of schedules, line by line.
 use Rattle.std.proofs.Common.{◌≡◌, ℕ, [], ◌∷◌, cond, true, false, Option, Some, None, Ok, Err, refl, ◌∙◌, ap, subst}
-use Rattle.net_receiver.specs.Rules.{CommandValue, Segment, Read, Show, Verdict, KeepsNone, Refuses, Keeps, state_after}
-use Rattle.net_receiver.specs.Schedule.{Setting, KeptState, queue_bytes, kept_ops, kept_after_command, kept_reply}
-use Rattle.net_receiver.specs.ReceiverState.{ReceiverState, receiver_ops, receiver_after_command, receiver_reply, setting, Refines}
+use Rattle.net_receiver.specs.Headline.{Setting, KeptState, CommandValue, Segment, Read, Show, queue, step, replies_from, state_from}
+use Rattle.net_receiver.specs.ReceiverState.{Verdict, KeepsNone, Refuses, Keeps, state_after}
+use Rattle.net_receiver.specs.ReceiverState.{ReceiverState, receiver_after_command, receiver_reply, setting, Refines}
 use Rattle.net_receiver.specs.Execution.{FreshRefines, EverySchedule}
 use Rattle.net_bench_lib.specs.Transcript.{transcript}
-use Rattle.net_bench_lib.specs.StreamMode.{StreamCommand, ToReceiver, NextSchedule, end_fits, stream_command, reply_text, outcome, comparison, kept_schedule_ops, Schedules, first_schedule, after_command, stream_does, stream_replies, stream_rules, comparison_with, stream_closing}
-use Rattle.net_bench_lib.specs.StreamReceivers.{receiver_schedule_ops}
+use Rattle.net_bench_lib.specs.StreamMode.{StreamCommand, ToReceiver, NextSchedule, end_fits, stream_command, reply_text, comparison, kept_outcome, kept_schedule_ops, Schedules, first_schedule, after_command, stream_does, stream_replies, stream_rules, comparison_with, stream_closing}
+use Rattle.net_bench_lib.specs.StreamReceivers.{receiver_outcome, receiver_schedule_ops}
 use Rattle.net_bench_lib.specs.declared.fault.Fault.TheVariants as faults
 use Rattle.net_bench_lib.proofs.SameText.{AlikeAfter, TreatsAlike, same_transcript}
 
@@ -27,7 +27,7 @@ record Alike (x : Schedules ReceiverState) (y : Schedules KeptState) : Type 0 wh
   ended : EndedAlike y.setting x.ended y.ended
 
 -- no command changes the setting
-verdict_setting : (most : ℕ) (v : ReceiverState) (verdict : Verdict) → setting most (state_after receiver_ops v verdict) ≡ setting most v
+verdict_setting : (most : ℕ) (v : ReceiverState) (verdict : Verdict) → setting most (state_after v verdict) ≡ setting most v
 verdict_setting most v KeepsNone = refl
 verdict_setting most v Refuses = refl
 verdict_setting most v (Keeps part) = refl
@@ -38,26 +38,27 @@ command_setting most v (Read count) = refl
 command_setting most v Show = refl
 
 module _ (fresh_refines : FreshRefines) (every : EverySchedule) where
-  after_refines : (w : Setting) (v : ReceiverState) (s : KeptState) (c : CommandValue) → RefinesIn w v s → RefinesIn w (receiver_after_command w.most_runs v c) (kept_after_command w s c)
+  after_refines : (w : Setting) (v : ReceiverState) (s : KeptState) (c : CommandValue) → RefinesIn w v s → RefinesIn w (receiver_after_command w.most_runs v c) (step w s c).0
+  unfolding state_from
   after_refines w v s c h = record {
     setting = command_setting w.most_runs v c ∙ h.setting;
-    state = subst (λ u. Refines (receiver_after_command w.most_runs v c) (kept_after_command u s c)) h.setting (every w.most_runs v s h.state (c ∷ [])).0;
+    state = subst (λ u. Refines (receiver_after_command w.most_runs v c) (step u s c).0) h.setting (every w.most_runs v s h.state (c ∷ [])).0;
   }
 
-  same_reply : (w : Setting) (v : ReceiverState) (s : KeptState) (c : CommandValue) → RefinesIn w v s → receiver_reply w.most_runs v c ≡ kept_reply w s c
+  same_reply : (w : Setting) (v : ReceiverState) (s : KeptState) (c : CommandValue) → RefinesIn w v s → receiver_reply w.most_runs v c ≡ (step w s c).1
+  unfolding replies_from
   same_reply w v s c h =
-      let there : receiver_reply w.most_runs v c ∷ [] ≡ kept_reply (setting w.most_runs v) s c ∷ [] = (every w.most_runs v s h.state (c ∷ [])).1 in
-      let here : receiver_reply w.most_runs v c ≡ kept_reply (setting w.most_runs v) s c = cc in
-      here ∙ ap (λ u. kept_reply u s c) h.setting
+      let there : receiver_reply w.most_runs v c ∷ [] ≡ (step (setting w.most_runs v) s c).1 ∷ [] = (every w.most_runs v s h.state (c ∷ [])).1 in
+      let here : receiver_reply w.most_runs v c ≡ (step (setting w.most_runs v) s c).1 = cc in
+      here ∙ ap (λ u. (step u s c).1) h.setting
 
-  same_outcome_there : (w : Setting) (v : ReceiverState) (s : KeptState) → RefinesIn w v s → outcome receiver_ops v ≡ outcome (kept_ops w) s
+  same_outcome_there : (w : Setting) (v : ReceiverState) (s : KeptState) → RefinesIn w v s → receiver_outcome v ≡ kept_outcome w s
   same_outcome_there w v s h =
       let shown = same_reply w v s Show h in
-      let next_is : (outcome receiver_ops v).next ≡ (outcome (kept_ops w) s).next = cc in
-      let held_is : (outcome receiver_ops v).held ≡ (outcome (kept_ops w) s).held = cc in
-      let first : v.first ≡ w.first = ap (λ u. u.first) h.setting in
-      let queue : v.queue ≡ queue_bytes w.first s = h.state.queue ∙ ap (λ f. queue_bytes f s) first in
-      λ i. record { read = h.state.read i; next = next_is i; queue = queue i; held = held_is i }
+      let next_is : (receiver_outcome v).next ≡ (kept_outcome w s).next = cc in
+      let held_is : (receiver_outcome v).held ≡ (kept_outcome w s).held = cc in
+      let queue_is : v.queue ≡ queue w s = h.state.queue ∙ ap (λ u. queue u s) h.setting in
+      λ i. record { read = h.state.read i; next = next_is i; queue = queue_is i; held = held_is i }
 
   -- first schedules
   begun_alike : (w : Setting) → RefinesIn w (receiver_schedule_ops.begun w) (kept_schedule_ops.begun w)

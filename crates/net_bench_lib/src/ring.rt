@@ -99,7 +99,7 @@ impl<'a> RingSession<'a> {
     {
         let count = (self.ring.len() as u64).min(number) as usize;
         let mut bytes = vec![in alloc; 0u8; count]?;
-        self.ring.dequeue_slice(&mut bytes);
+        let _ = self.ring.dequeue_slice(&mut bytes);
         text::show_bytes(alloc, &bytes, reply)
     }
 }

@@ -17,3 +17,5 @@ mod receiver;
 mod storage;
 #[cfg(test)]
 mod tcp;
+#[cfg(test)]
+mod worked;

@@ -3,5 +3,5 @@
 mod heads;
 mod parts;
 mod receiver;
-mod schedule;
+pub mod schedule;
 mod sender;

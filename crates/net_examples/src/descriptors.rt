@@ -138,7 +138,7 @@ fn put(ring: &mut RingBuffer<'_, Descriptor>, descriptor: Descriptor)
     requires { window ring.old ≢ 0 }
     ensures { frames ring.new ≡ frames ring.old ++ frame_of descriptor ∷ [] }
 {
-    ring.enqueue_slice(&[descriptor]);
+    let _ = ring.enqueue_slice(&[descriptor]);
 }
 
 /// Takes the first frame off a ring.

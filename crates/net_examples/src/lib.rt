@@ -2,6 +2,7 @@
 #![tactic(auto)]
 
 mod acknowledgement;
+mod anew;
 mod any_path;
 mod bridge;
 mod counted;
@@ -21,7 +22,6 @@ mod line;
 mod message;
 mod newlines;
 mod one_byte;
-mod one_command;
 mod outbox;
 mod packets;
 mod ranges;
@@ -31,7 +31,8 @@ mod timer;
 mod udp_socket;
 
 pub use acknowledgement::acknowledge;
-pub use any_path::{Event, Segment, Transfer, carry, first_missing, happen};
+pub use anew::replay_anew;
+pub use any_path::{Event, carry};
 pub use bridge::{forward, forward_lists, forward_one};
 pub use counted::Counted;
 pub use datagram::pass_through;
@@ -49,7 +50,6 @@ pub use line::Line;
 pub use message::send;
 pub use newlines::{line_end, take_line};
 pub use one_byte::{byte_at, stage};
-pub use one_command::execute_by_list;
 pub use outbox::Outbox;
 pub use packets::{push_packet, wipe_first};
 pub use ranges::came;

@@ -13,6 +13,6 @@ pub fn send(ring: &mut RingBuffer<'_, u8>, message: &[u8]) -> bool
     if message.len() > ring.window() {
         return false;
     }
-    ring.enqueue_slice(message);
+    let _ = ring.enqueue_slice(message);
     true
 }

@@ -40,6 +40,6 @@ pub fn take_line(ring: &mut RingBuffer<'_, u8>, into: &mut [u8]) -> Option<usize
     if length >= into.len() {
         return None;
     }
-    ring.dequeue_slice(&mut into[..length + 1]);
+    let _ = ring.dequeue_slice(&mut into[..length + 1]);
     Some(length)
 }

@@ -2,3 +2,4 @@ pub mod PacketPlaces
 pub mod ReceiverParts
 pub mod Refusals
 pub mod Results
+pub mod Retransmission

@@ -24,13 +24,13 @@ abbrev pub done_or_error : ℕ → Result (Unit {0}) FragmentError
 done_or_error n =
     if nat_eq n 0 then Ok tt
     else if nat_eq n 1 then Err TooManyHoles
-    else if nat_eq n 5 then Err TooLong
+    else if nat_eq n 3 then Err TooLong
     else Err OtherSize
 
 -- the statuses of fragments and sizes that aren't refused as nonsense
 abbrev pub IsStatus : ℕ → Type 0
-IsStatus n = (n ≡ 0) ⊎ (n ≡ 1) ⊎ (n ≡ 5) ⊎ (n ≡ 6)
+IsStatus n = (n ≡ 0) ⊎ (n ≡ 1) ⊎ (n ≡ 3) ⊎ (n ≡ 4)
 
 abbrev pub status_of_finite : FiniteError → ℕ
 status_of_finite NoRoom = 1
-status_of_finite OtherEnd = 7
+status_of_finite OtherEnd = 5

@@ -4,14 +4,14 @@ ghost use Rattle.std.specs.Prelude.{IsTrue, IsFalse, MatchResult, if◌then◌el
 ghost use Rattle.net_receiver.specs.Finite.{no_end, acknowledged, finite_after, finite_result};
 ghost use Rattle.net_receiver.specs.ReceiverState.{limit_of};
 ghost use Rattle.net_assembler.specs.RunLists.{IsCanonical};
-ghost use Rattle.net_receiver.specs.FiniteHead.{finite_of, finite_storage_after, HasSoundFinite, next_of};
+ghost use Rattle.net_receiver.specs.FiniteHead.{finite_of, finite_storage_after, HasSoundFinite, next_of, end_of};
 ghost use Rattle.net_receiver.specs.FiniteLaws.{MatchesFinite, ReceivesFinite};
 ghost use Rattle.net_ffi.specs.ReceiverParts.{IsPlausible};
 ghost use Rattle.net_ffi.specs.Results.{status_of_finite};
 
 use crate::receiver::{KeptCounts, has_next, is_plausible};
 use crate::refusals::{
-    NET_BASE_DONE, NET_BASE_OTHER_END, NET_BASE_REFUSED, NET_BASE_TOO_MANY_RUNS,
+    NET_BASE_DONE, NET_BASE_OTHER_END, NET_BASE_REFUSED, NET_BASE_TOO_MANY_RUNS, Status,
 };
 use net_assembler::Run;
 use net_receiver::{FiniteError, FiniteReceiverHead};
@@ -24,14 +24,20 @@ pub(crate) fn has_number(receiver: &FiniteReceiverHead) -> bool
     has_next(&receiver.receiver) && receiver.receiver.next() < u64::MAX
 }
 
-/// Keeps the bytes of a segment that are in the free window and below the end, as `net_base_receiver_segment` does.
-/// `is_last` says that the stream ends after the segment; the end is taken if it is at most the end of the free
-/// window.
+/// Keeps the bytes of a segment that are in the free window and below the end, and writes to `counts` how many. The
+/// segment's first byte is at `position`. `is_last` says that the stream ends after the segment; the end is taken if it
+/// is at most the end of the free window.
 ///
-/// Returns what `net_base_receiver_segment` does, and is refused where that is, and also if `position` plus the number of
-/// bytes is 2^64 - 1 or more; or `NET_BASE_OTHER_END`, and nothing changes, if the segment says that the stream ends
-/// where it can't, as `net_base_finite_receiver_can_end` tells, also if there would be too many runs. A segment that is refused
-/// for its runs doesn't set the end.
+/// Returns `NET_BASE_DONE`, also if no byte is in the free window: then `kept` is 0. Returns `NET_BASE_OTHER_END`, and
+/// nothing changes, if the segment says that the stream ends where it can't, as `net_base_finite_receiver_can_end` tells.
+/// Else returns `NET_BASE_TOO_MANY_RUNS`, and nothing changes, not the end either, if the segment has bytes in the free
+/// window, the first missing position is not one of theirs, and with them there would be more runs than the slice has
+/// elements.
+///
+/// Bytes after which an end has no number are left out.
+///
+/// Returns `NET_BASE_REFUSED`, and nothing changes, if `place` isn't that of a ring of `storage.len()` bytes, if `next`
+/// doesn't fit 64 bits, or if `held.used` is above `runs.len()`.
 ///
 /// # Requires
 ///
@@ -45,35 +51,30 @@ pub extern "C" fn net_base_finite_receiver_segment(
     bytes: &[u8],
     is_last: bool,
     counts: &mut KeptCounts,
-) -> u32
+) -> Status
     requires sound { IsPlausible (length storage.old) (length runs.old) receiver.old.receiver → HasSoundFinite
         receiver.old storage.old runs.old }
-    ensures result { IsPlausible (length storage.old) (length runs.old) receiver.old.receiver → position + length
-        bytes.now < no_end → MatchResult (finite_result (length runs.old) (finite_of receiver.old storage.old
-        runs.old) position bytes.now is_last) (λ k. (result ≡ NET_BASE_DONE) × (counts.new.kept ≡ k.kept) ×
-        (counts.new.queued ≡ k.queued)) (λ e. (result ≡ status_of_finite e) × (counts.new ≡ counts.old) ×
-        (receiver.new ≡ receiver.old) × (storage.new ≡ storage.old) × (runs.new ≡ runs.old)) }
-    ensures state { IsPlausible (length storage.old) (length runs.old) receiver.old.receiver → position + length
-        bytes.now < no_end → finite_of receiver.new storage.new runs.new ≡ finite_after (length runs.old) (finite_of
-        receiver.old storage.old runs.old) position bytes.now is_last }
-    ensures receives { IsPlausible (length storage.old) (length runs.old) receiver.old.receiver → position + length
-        bytes.now < no_end → (f : ℕ) (x : List ℕ) → ReceivesFinite f x (finite_of receiver.old storage.old runs.old) →
-        MatchesFinite f x position bytes.now is_last → ReceivesFinite f x (finite_of receiver.new storage.new
-        runs.new) }
-    ensures stored { IsPlausible (length storage.old) (length runs.old) receiver.old.receiver → position + length
-        bytes.now < no_end → storage.new ≡ finite_storage_after receiver.old storage.old runs.old position bytes.now
-        is_last }
+    ensures result { IsPlausible (length storage.old) (length runs.old) receiver.old.receiver → MatchResult
+        (finite_result (length runs.old) (finite_of receiver.old storage.old runs.old) position bytes.now is_last) (λ k.
+        (result ≡ NET_BASE_DONE) × (counts.new.kept ≡ k.kept) × (counts.new.queued ≡ k.queued)) (λ e. (result ≡
+        status_of_finite e) × (counts.new ≡ counts.old) × (receiver.new ≡ receiver.old) × (storage.new ≡ storage.old) ×
+        (runs.new ≡ runs.old)) }
+    ensures state { IsPlausible (length storage.old) (length runs.old) receiver.old.receiver → finite_of
+        receiver.new storage.new runs.new ≡ finite_after (length runs.old) (finite_of receiver.old storage.old runs.old)
+        position bytes.now is_last }
+    ensures receives { IsPlausible (length storage.old) (length runs.old) receiver.old.receiver → (f : ℕ) (x : List
+        ℕ) → ReceivesFinite f x (finite_of receiver.old storage.old runs.old) → MatchesFinite f x position bytes.now
+        is_last → ReceivesFinite f x (finite_of receiver.new storage.new runs.new) }
+    ensures stored { IsPlausible (length storage.old) (length runs.old) receiver.old.receiver → storage.new ≡
+        finite_storage_after receiver.old storage.old runs.old position bytes.now is_last }
     ensures canonical { IsCanonical receiver.old.receiver.held → IsCanonical receiver.new.receiver.held }
     ensures sound { IsPlausible (length storage.old) (length runs.old) receiver.old.receiver → HasSoundFinite
         receiver.new storage.new runs.new }
-    ensures refused { (IsPlausible (length storage.old) (length runs.old) receiver.old.receiver × (position + length
-        bytes.now < no_end) → ⊥) → (result ≡ NET_BASE_REFUSED) × (receiver.new ≡ receiver.old) × (storage.new ≡
-        storage.old) × (runs.new ≡ runs.old) × (counts.new ≡ counts.old) }
+    ensures refused { (IsPlausible (length storage.old) (length runs.old) receiver.old.receiver → ⊥) → (result ≡
+        NET_BASE_REFUSED) × (receiver.new ≡ receiver.old) × (storage.new ≡ storage.old) × (runs.new ≡ runs.old) ×
+        (counts.new ≡ counts.old) }
 {
     if !is_plausible(&receiver.receiver, storage.len(), runs.len()) {
-        return NET_BASE_REFUSED;
-    }
-    if !FiniteReceiverHead::fits(position, bytes.len()) {
         return NET_BASE_REFUSED;
     }
     match receiver.keep(storage, runs, position, bytes, is_last) {
@@ -104,7 +105,7 @@ pub extern "C" fn net_base_finite_receiver_window_end(
     ensures fits { IsTrue result ↔ ((receiver.now.receiver.place.length ≤ capacity) × (next_of receiver.now < no_end)
         × (receiver.now.receiver.first + receiver.now.receiver.count_read + capacity < 2 ^ 64)) }
     ensures end { IsTrue result → end.new ≡ max (receiver.now.receiver.first + receiver.now.receiver.count_read
-        + capacity) (if next_of receiver.now == receiver.now.end then next_of receiver.now + 1 else next_of
+        + capacity) (if next_of receiver.now == end_of receiver.now then next_of receiver.now + 1 else next_of
         receiver.now) }
     ensures limit { (storage : List ℕ) (runs : List (ℕ × ℕ)) → length storage ≡ capacity → HasSoundFinite
         receiver.now storage runs → IsTrue result → end.new ≡ max (limit_of (finite_of receiver.now storage

@@ -1,17 +1,14 @@
-//! Functions for C over memory that the caller keeps: rings, packet queues, assemblers, buffers of fragments,
-//! receivers, senders and their scoreboards, windows, timeouts and sums of TCP, sequence numbers, time and random
-//! words.
-//!
-//! There is no heap and no global state. Each export, but for the version, calls a function of a library here, and tests
-//! what that function needs, but for the duties below.
+//! Functions for C over memory that the caller keeps. There is no heap and no global state. Each export, but for the
+//! version, calls a function of a library here, and tests what that function needs, but for the duties below.
 //!
 //! # Memory
 //!
-//! A head is a struct of numbers, which the caller keeps beside a storage and, for some heads, runs or slots. A head of
-//! zeros is new, but for what the comment of its kind says. Storage, runs and slots need no particular values. Lengths
-//! are in elements; a length of 0 is allowed, of runs too: then no run is held. A length, an index or a count is a
-//! `size_t`, a position or a time a `uint64_t` or an `int64_t` on every processor. A flag of a head or a slot is as
-//! wide as the number beside it, so that they have no padding.
+//! A head is a struct of numbers, which the caller keeps beside a storage and, for some heads, runs or slots. A call
+//! whose name ends in `_init` makes it; one of zeros is new too, as the comment of its kind says. Storage, runs and
+//! slots need no particular values. Lengths are in elements; a length of 0 is allowed, of runs too: then no run is
+//! held. A length, an index or a count is a `size_t`, a position or a time a `uint64_t` or an `int64_t` on every
+//! processor. A flag of a head or a slot is as wide as the number beside it, so that they have no padding; a sum in
+//! parts has a `bool`.
 //!
 //! Fields of a head may be read: `length` is how many elements are queued, `used` how many runs are stored. `start`
 //! and `end` of a stored run are offsets from `first_start` of the head, so the first one starts at 0. A run that a
@@ -33,31 +30,34 @@
 //!    reads fields.
 //! 4. There is stack enough for a call.
 //! 5. A storage, its runs and its slots have the same lengths in each call on a head.
-//! 6. A head, its runs and its slots are written by calls of its own kind alone, those of a receiver by
-//!    `net_base_receiver_..`, not its `place` by `net_base_ring_..` or its `held` by `net_base_assembler_..`. The
-//!    caller may set a head to zeros, and then what the comment of its kind names, as `first` of a receiver.
+//! 6. A head, its runs and its slots are written by calls of its own kind alone, those of a finite
+//!    receiver by `net_base_finite_receiver_..`, not its `place` by `net_base_ring_..` or its `held` by
+//!    `net_base_assembler_..`. The caller may set a head to zeros.
 //! 7. Where a comment says `Requires`, head and runs are sound, as a call whose name ends in `_is_sound` tests. What
 //!    calls of its own kind wrote, from a new head on, is sound, if each slot that `net_base_packets_take_slot` was given
 //!    was the first one.
 //!
 //! # Refusals
 //!
-//! All else that a call needs is tested, but that a taken slot is the first one. Nonsense in arguments, as a null pointer
-//! but to a slice of length 0, is refused before anything else. A refused call changes nothing. It returns `false` where
-//! it returns a `bool`; where it returns one of these alone or as the first field of a struct, `NET_BASE_REFUSED` of a
-//! status, `NET_BASE_NONE` of a `size_t`, `UINT64_MAX` of a `uint64_t`; and 0 of another number, which is refused for
-//! null alone. `NET_BASE_REFUSED` always means a refusal; the others can also be results of calls that are done.
+//! All else that a call needs is tested, but that a taken slot is the first one. Nonsense in arguments, as a null
+//! pointer but to a slice of length 0, is refused before anything else. A refused call changes nothing. It returns
+//! `false` where it returns a `bool`, and one whose comment names no answer returns `true` where it is done; where it
+//! returns one of these alone or as the first field of a struct, `NET_BASE_REFUSED` of a status, `NET_BASE_NONE` of a
+//! `size_t`, `UINT64_MAX` of a `uint64_t`; and 0 of another number, which is refused for null alone.
+//! `NET_BASE_REFUSED` always means a refusal; the others can also be results of calls that are done.
 #![tactic(auto)]
 
-mod finite_receiver;
-mod fragments;
-mod heads;
-mod packets;
-mod rand;
-mod receiver;
-mod refusals;
-mod results;
-mod ring;
-mod sequence_number;
-mod time;
-mod version;
+pub mod finite_receiver;
+pub mod fragments;
+pub mod heads;
+pub mod packets;
+pub mod parts_sum;
+pub mod rand;
+pub mod receiver;
+pub mod refusals;
+pub mod results;
+pub mod retransmission;
+pub mod ring;
+pub mod sequence_number;
+pub mod time;
+pub mod version;

@@ -5,8 +5,8 @@ ghost use Rattle.net_ring.specs.RingHead.{place};
 ghost use Rattle.net_packets.specs.Packets.{with_packet_if_room, without_first_and_gap};
 ghost use Rattle.net_packets.specs.PacketsHead.{IsSoundHead, placement_in, place_after_gap, with_packet_placed};
 ghost use Rattle.net_packets.specs.PacketsHead.{with_slot_taken};
-ghost use Rattle.net_packets.specs.HeadQueue.{HasSoundSlots, queue_of, slots_written, HasFirst, first_packet};
-ghost use Rattle.net_packets.specs.HeadQueue.{head_after_first, IsFirstAt, CanTake, after_slot, IsFirstSlot};
+ghost use Rattle.net_packets.specs.PacketsHead.{HasSoundSlots, queue_of, slots_written, HasFirst, first_packet};
+ghost use Rattle.net_packets.specs.PacketsHead.{head_after_first, IsFirstAt, CanTake, after_slot, IsFirstSlot};
 ghost use Rattle.net_packets.specs.declared.packet_slot.PacketSlot.{PacketSlot};
 ghost use Rattle.net_ffi.specs.Refusals.{no_number};
 ghost use Rattle.net_ffi.specs.PacketPlaces.{no_place, nonsense_place, no_first, nonsense_first};
@@ -29,7 +29,7 @@ fn no_place() -> PacketPlace
 
 /// What is returned in place of a place that is refused.
 #[inline(always)]
-fn nonsense_place() -> PacketPlace
+pub fn refused_packet_place() -> PacketPlace
     ensures { result ≡ nonsense_place }
 {
     PacketPlace {
@@ -55,7 +55,7 @@ fn no_first() -> FirstPacket
 
 /// What is returned in place of a first packet that is refused.
 #[inline(always)]
-fn nonsense_first() -> FirstPacket
+pub fn refused_first_packet() -> FirstPacket
     ensures { result ≡ nonsense_first }
 {
     FirstPacket {
@@ -92,7 +92,7 @@ pub extern "C" fn net_base_packets_enqueue(
     ensures sound { HasSoundSlots capacity packets.old slots.old → HasSoundSlots capacity packets.new slots.new }
 {
     if !packets.is_sound(slots.len(), capacity) {
-        return nonsense_place();
+        return refused_packet_place();
     }
     match packets.enqueue(slots, capacity, size) {
         Some(place) => place,
@@ -127,14 +127,14 @@ pub extern "C" fn net_base_packets_dequeue(
     ensures sound { HasSoundSlots capacity packets.old slots.now → HasSoundSlots capacity packets.new slots.now }
 {
     if !packets.is_sound(slots.len(), capacity) {
-        return nonsense_first();
+        return refused_first_packet();
     }
     if packets.slots.length == 0 {
         return no_first();
     }
     match packets.dequeue(slots, capacity) {
         Some(first) => first,
-        None => nonsense_first(),
+        None => refused_first_packet(),
     }
 }
 
@@ -159,14 +159,14 @@ pub extern "C" fn net_base_packets_peek(
         packets.now.slots.length → IsFirstAt (queue_of packets.now slots.now xs) result }
 {
     if !packets.is_sound(slots.len(), capacity) {
-        return nonsense_first();
+        return refused_first_packet();
     }
     if packets.slots.length == 0 {
         return no_first();
     }
     match packets.peek(slots, capacity) {
         Some(first) => first,
-        None => nonsense_first(),
+        None => refused_first_packet(),
     }
 }
 

@@ -1,79 +1,69 @@
-//! What a refused call returns, and the statuses of those that are done.
-ghost use Rattle.std.specs.Prelude.{◌≡◌, IsFalse};
+//! What calls answer: a status, or a number in place of one.
+ghost use Rattle.std.specs.Prelude.{◌≡◌, ◌-◌, ◌^◌, IsFalse};
 ghost use Rattle.net_ffi.specs.Refusals.{no_number, nowhere};
 
-use crate::results::{FrontLength, SegmentSpan};
+use crate::results::{FrontLength, Hole, SegmentSpan};
 use net_assembler::Run;
 use net_assembler::width::most;
+use net_receiver::HeldRun;
 use net_ring::Span;
 
+/// What a call answers that can be done, refused, or more.
+pub type Status = u32;
+
 /// The call was done.
-pub const NET_BASE_DONE: u32 = 0;
+pub const NET_BASE_DONE: Status = 0;
 
 /// There would be more runs than the slice has elements. Nothing changes.
-pub const NET_BASE_TOO_MANY_RUNS: u32 = 1;
+pub const NET_BASE_TOO_MANY_RUNS: Status = 1;
 
 /// What was passed is nonsense. Nothing changes.
-pub const NET_BASE_REFUSED: u32 = 2;
-
-/// The position is missing, or the answer is no.
-pub const NET_BASE_MISSING: u32 = 3;
-
-/// The position is present, or the answer is yes.
-pub const NET_BASE_PRESENT: u32 = 4;
+pub const NET_BASE_REFUSED: Status = 2;
 
 /// The fragment or the size reaches past the end of the buffer. Nothing changes.
-pub const NET_BASE_TOO_LONG: u32 = 5;
+pub const NET_BASE_TOO_LONG: Status = 3;
 
 /// It contradicts the packet's size: another size is known, or a byte at that size or above has arrived, or the fragment
 /// reaches past a known size. Nothing changes.
-pub const NET_BASE_OTHER_SIZE: u32 = 6;
+pub const NET_BASE_OTHER_SIZE: Status = 4;
 
 /// The stream can't end there. Nothing changes.
-pub const NET_BASE_OTHER_END: u32 = 7;
+pub const NET_BASE_OTHER_END: Status = 5;
 
 /// Take what a segment acknowledges, its window, its bytes and its end.
-pub const NET_BASE_TAKE: u32 = 8;
+pub const NET_BASE_TAKE: Status = 6;
 
 /// Take what a segment acknowledges and its window, but not its bytes, and answer it: the own window is shut, and the peer
 /// asks whether it has opened.
-pub const NET_BASE_ACKNOWLEDGEMENT_ONLY: u32 = 9;
+pub const NET_BASE_ACKNOWLEDGEMENT_ONLY: Status = 7;
 
 /// Send an acknowledgement, and take nothing of a segment.
-pub const NET_BASE_ANSWER: u32 = 10;
+pub const NET_BASE_ANSWER: Status = 8;
 
 /// Take nothing of a segment, and send nothing.
-pub const NET_BASE_IGNORE: u32 = 11;
+pub const NET_BASE_IGNORE: Status = 9;
 
 /// The peer has reset the connection.
-pub const NET_BASE_RESET: u32 = 12;
-
-/// The front of a refused call.
-pub(crate) const NO_FRONT: FrontLength = FrontLength {
-    status: NET_BASE_REFUSED,
-    length: 0,
-};
+pub const NET_BASE_RESET: Status = 10;
 
 /// States each number of this module: callers may be compiled with it.
 pub fn numbers()
     ensures done { NET_BASE_DONE ≡ 0 }
     ensures too_many_runs { NET_BASE_TOO_MANY_RUNS ≡ 1 }
     ensures refused { NET_BASE_REFUSED ≡ 2 }
-    ensures missing { NET_BASE_MISSING ≡ 3 }
-    ensures present { NET_BASE_PRESENT ≡ 4 }
-    ensures too_long { NET_BASE_TOO_LONG ≡ 5 }
-    ensures other_size { NET_BASE_OTHER_SIZE ≡ 6 }
-    ensures other_end { NET_BASE_OTHER_END ≡ 7 }
-    ensures take { NET_BASE_TAKE ≡ 8 }
-    ensures acknowledgement_only { NET_BASE_ACKNOWLEDGEMENT_ONLY ≡ 9 }
-    ensures answer { NET_BASE_ANSWER ≡ 10 }
-    ensures ignore { NET_BASE_IGNORE ≡ 11 }
-    ensures reset { NET_BASE_RESET ≡ 12 }
+    ensures too_long { NET_BASE_TOO_LONG ≡ 3 }
+    ensures other_size { NET_BASE_OTHER_SIZE ≡ 4 }
+    ensures other_end { NET_BASE_OTHER_END ≡ 5 }
+    ensures take { NET_BASE_TAKE ≡ 6 }
+    ensures acknowledgement_only { NET_BASE_ACKNOWLEDGEMENT_ONLY ≡ 7 }
+    ensures answer { NET_BASE_ANSWER ≡ 8 }
+    ensures ignore { NET_BASE_IGNORE ≡ 9 }
+    ensures reset { NET_BASE_RESET ≡ 10 }
 {}
 
 /// In place of a length, an index or a count: what was passed is nonsense, or there is none.
 #[inline(always)]
-pub(crate) fn no_number() -> usize
+pub fn no_number() -> usize
     ensures { result ≡ no_number }
 {
     most()
@@ -81,7 +71,7 @@ pub(crate) fn no_number() -> usize
 
 /// The span of a refused call.
 #[inline(always)]
-pub(crate) fn no_span() -> Span
+pub fn refused_span() -> Span
     ensures { result ≡ nowhere }
 {
     Span {
@@ -93,7 +83,7 @@ pub(crate) fn no_span() -> Span
 
 /// The run of a refused call.
 #[inline(always)]
-pub(crate) fn no_run() -> Run
+pub fn refused_run() -> Run
     ensures { result ≡ (no_number, no_number) }
 {
     Run {
@@ -102,9 +92,45 @@ pub(crate) fn no_run() -> Run
     }
 }
 
+/// The held run of a refused call.
+#[inline(always)]
+pub fn refused_held_run() -> HeldRun
+    ensures { result ≡ (2 ^ 64 - 1, 2 ^ 64 - 1) }
+{
+    HeldRun {
+        start: u64::MAX,
+        end: u64::MAX,
+    }
+}
+
+/// The front of a refused call.
+#[inline(always)]
+pub fn refused_front_length() -> FrontLength
+    ensures status { result.status ≡ NET_BASE_REFUSED }
+    ensures length { result.length ≡ 0 }
+{
+    FrontLength {
+        status: NET_BASE_REFUSED,
+        length: 0,
+    }
+}
+
+/// The hole of a refused call.
+#[inline(always)]
+pub fn refused_hole() -> Hole
+    ensures status { result.status ≡ NET_BASE_REFUSED }
+    ensures none { (result.start ≡ 0) × (result.end ≡ 0) }
+{
+    Hole {
+        status: NET_BASE_REFUSED,
+        start: 0,
+        end: 0,
+    }
+}
+
 /// The segment of a refused call.
 #[inline(always)]
-pub(crate) fn no_segment() -> SegmentSpan
+pub fn refused_segment_span() -> SegmentSpan
     ensures span { (result.from ≡ no_number) × (result.count ≡ 0) × (result.contiguous ≡ 0) }
     ensures end { IsFalse result.is_last }
 {

@@ -1,12 +1,12 @@
 //! Results of methods, as exports return them.
-ghost use Rattle.std.specs.Prelude.{◌≡◌, ◌↔◌, ◌<◌, IsTrue, IsFalse, if◌then◌else◌, unwrap_or};
+ghost use Rattle.std.specs.Prelude.{◌≡◌, ◌↔◌, ◌<◌, unwrap_or};
 ghost use Rattle.net_ffi.specs.Results.{done_or_many, length_or_many, done_or_error, IsStatus};
 ghost use Rattle.net_tcp.specs.declared.arriving.Arrival.TheVariants.{Take, AcknowledgementOnly, Answer, Ignore, Reset};
 
 use crate::refusals::{
     NET_BASE_ACKNOWLEDGEMENT_ONLY, NET_BASE_ANSWER, NET_BASE_DONE, NET_BASE_IGNORE,
-    NET_BASE_MISSING, NET_BASE_OTHER_SIZE, NET_BASE_PRESENT, NET_BASE_RESET, NET_BASE_TAKE,
-    NET_BASE_TOO_LONG, NET_BASE_TOO_MANY_RUNS,
+    NET_BASE_OTHER_SIZE, NET_BASE_RESET, NET_BASE_TAKE, NET_BASE_TOO_LONG, NET_BASE_TOO_MANY_RUNS,
+    Status,
 };
 use net_assembler::{Run, TooManyHolesError};
 use net_base::storage::FragmentError;
@@ -17,11 +17,9 @@ use net_tcp::Arrival;
 #[repr(C)]
 #[derive(Debug, Clone, Copy)]
 pub struct FrontLength {
-    /// `NET_BASE_DONE`, `NET_BASE_TOO_MANY_RUNS` or `NET_BASE_REFUSED`, and of `net_base_fragments_complete` also
-    /// `NET_BASE_MISSING`.
-    pub status: u32,
-    /// How many positions the run has, 0 if position 0 is missing; of `net_base_fragments_complete` the packet's size.
-    /// It is 0 if the call wasn't done.
+    /// `NET_BASE_DONE`, `NET_BASE_TOO_MANY_RUNS` or `NET_BASE_REFUSED`.
+    pub status: Status,
+    /// How many positions the run has, 0 if position 0 is missing or the call wasn't done.
     pub length: usize,
 }
 
@@ -30,7 +28,7 @@ pub struct FrontLength {
 #[derive(Debug, Clone, Copy)]
 pub struct Hole {
     /// `NET_BASE_DONE` or `NET_BASE_REFUSED`.
-    pub status: u32,
+    pub status: Status,
     /// The first position; 0 if the call was refused.
     pub start: u64,
     /// The position after the last one; 0 if the call was refused.
@@ -53,7 +51,7 @@ pub struct SegmentSpan {
 
 /// Returns the status of a call that adds positions.
 #[inline(always)]
-pub(crate) fn status_of(done: Result<(), TooManyHolesError>) -> u32
+pub(crate) fn status_of(done: Result<(), TooManyHolesError>) -> Status
     ensures same { done_or_many result ≡ done }
     ensures small { result < 2 }
 {
@@ -84,7 +82,7 @@ pub(crate) fn front_length(front: Result<usize, TooManyHolesError>) -> FrontLeng
 
 /// Returns the status of a call that takes a fragment or a size.
 #[inline(always)]
-pub(crate) fn status_of_fragment(done: Result<(), FragmentError>) -> u32
+pub(crate) fn status_of_fragment(done: Result<(), FragmentError>) -> Status
     ensures same { done_or_error result ≡ done }
     ensures status { IsStatus result }
 {
@@ -98,7 +96,7 @@ pub(crate) fn status_of_fragment(done: Result<(), FragmentError>) -> u32
 
 /// Returns the number of what to do with a segment.
 #[inline(always)]
-pub(crate) fn number_of(arrival: Arrival) -> u32
+pub(crate) fn number_of(arrival: Arrival) -> Status
     ensures take { (result ≡ NET_BASE_TAKE) ↔ (arrival ≡ Take) }
     ensures only { (result ≡ NET_BASE_ACKNOWLEDGEMENT_ONLY) ↔ (arrival ≡ AcknowledgementOnly) }
     ensures answer { (result ≡ NET_BASE_ANSWER) ↔ (arrival ≡ Answer) }
@@ -141,19 +139,5 @@ pub(crate) fn run_of(found: Option<(usize, usize)>) -> Run
     match found {
         Some((start, end)) => Run { start, end },
         None => Run { start: 0, end: 0 },
-    }
-}
-
-/// Returns the number of an answer that is yes or no.
-#[inline(always)]
-pub(crate) fn presence_of(is_present: bool) -> u32
-    ensures value { result ≡ (if is_present then NET_BASE_PRESENT else NET_BASE_MISSING) }
-    ensures present { IsTrue is_present → result ≡ NET_BASE_PRESENT }
-    ensures missing { IsFalse is_present → result ≡ NET_BASE_MISSING }
-{
-    if is_present {
-        NET_BASE_PRESENT
-    } else {
-        NET_BASE_MISSING
     }
 }

@@ -1,33 +1,30 @@
 -- The queue that a head and slots without headers represent, after a step on its numbers.
 use Rattle.std.proofs.Common.{◌≢◌, ◌≡◌, ℕ, zero, suc, ◌++◌, ◌+◌, ◌-◌, ◌<◌, ◌≤◌, List, [], ◌∷◌, get_or, length}
-use Rattle.std.proofs.Common.{length-append, append_assoc, drop, refl, sym, ap, ap₂, ◌∙◌, subst, inl, inr}
-use Rattle.std.proofs.Common.{arith, ◌⊎◌, map, nat_eq, if◌then◌else◌}
+use Rattle.std.proofs.Common.{length-append, append_assoc, drop, refl, sym, ap, ap₂, ◌∙◌, subst, inl, inr, arith, ◌⊎◌}
+use Rattle.std.proofs.Common.{map, nat_eq, if◌then◌else◌}
 use Rattle.std.proofs.lemmas.Bool.{cases_Bool, cond-true, cond-false}
 use Rattle.std.proofs.lemmas.Bool.Decides.{nat_tests}
-use Rattle.std.proofs.lemmas.List.{length-map, length-replicate, length-set, take_all, places, map-set}
-use Rattle.std.proofs.lemmas.Option.{slice_get-get_or, slice_get-map, get_or_from_slice_get, gets, cond_some}
-use Rattle.std.proofs.lemmas.Option.{none-some, slice_get_within}
+use Rattle.std.proofs.lemmas.List.{length-map, length-replicate, length-set, map-set}
+use Rattle.std.proofs.lemmas.Option.{slice_get-get_or, slice_get-map, get_or_from_slice_get, cond_some, none-some}
+use Rattle.std.proofs.lemmas.Option.{slice_get_within}
 use Rattle.std.proofs.Math.Seq.{drop-cons}
 use Rattle.std.specs.Option.{option_map}
 use Rattle.std.specs.Prelude.{IfSome, IsNone, ⊤, Option, Bool, true, false, replicate, set}
 use Rattle.std.specs.List.{slice_get}
 use Rattle.net_ring.specs.Overwrite.{overwrite}
+use Rattle.net_ring.specs.Ring.{RingState, index_after, queue, storage_index, IsWellFormed, ring, with_dequeued}
+use Rattle.net_ring.specs.Ring.{with_elements}
+use Rattle.net_ring.specs.RingHead.{ring_at, place}
 use Rattle.std.specs.declared.option.Option.TheVariants.{Some, None}
-use Rattle.net_ring.specs.Ring.{RingState, index_after, queue, window, storage_index, write_at, IsWellFormed}
-use Rattle.net_ring.specs.Ring.{ring, with_dequeued, with_elements, with_enqueued, Enqueues}
-use Rattle.net_ring.specs.RingHead.{ring_at, place, enqueued_place, rewound, contiguous_free}
-use Rattle.net_packets.specs.Packets.{Packet, PacketsState, packet, bytes_used, slots_used, byte_ring}
-use Rattle.net_packets.specs.Packets.{IsPlaced, slots_for, gap_for, ArePlaced, IsWellPlaced, first_gap}
-use Rattle.net_packets.specs.Packets.{first_size, without_first_gap, without_gap, without_first_and_gap}
-use Rattle.net_packets.specs.Packets.{without_first, with_last_size, with_first_size, placement}
-use Rattle.net_packets.specs.Packets.{with_packet_if, with_packet_if_room, before_last, only_last}
-use Rattle.net_packets.specs.PacketSlots.{slot, gap_slot, packet_slots, packets_in, Represents}
-use Rattle.net_packets.specs.PacketsHead.{IsSoundHead, with_slot_taken, placement_in, place_after_gap}
-use Rattle.net_packets.specs.PacketsHead.{with_packet_placed}
-use Rattle.net_packets.specs.HeadQueue.{AreSlotsAfter, metadata, slot_ring, queue_of, HasSoundSlots, CanTake}
-use Rattle.net_packets.specs.HeadQueue.{after_slot, first_slot, head_after_gap, HasFirst, first_packet}
-use Rattle.net_packets.specs.HeadQueue.{head_after_first, IsFirstAt, CanShorten, last_slot, last_slot_index}
-use Rattle.net_packets.specs.HeadQueue.{packet_slot, slots_written, IsFirstSlot}
+use Rattle.net_packets.specs.{Packet, PacketsState, packet, bytes_used, slots_used, byte_ring, IsPlaced, ArePlaced}
+use Rattle.net_packets.specs.{IsWellPlaced, first_gap, first_size, without_first_gap, without_gap}
+use Rattle.net_packets.specs.{without_first_and_gap, without_first, with_last_size, with_first_size, with_packet_if}
+use Rattle.net_packets.specs.{with_packet_if_room, before_last, only_last, slot, gap_slot, packet_slots, packets_in}
+use Rattle.net_packets.specs.{AreSoundParts, IsSoundHead, with_slot_taken, placement_in, place_after_gap}
+use Rattle.net_packets.specs.{with_packet_placed, AreSlotsAfter, metadata, slot_ring, queue_of, HasSoundSlots}
+use Rattle.net_packets.specs.{CanTake, after_slot, first_slot, head_after_gap, HasFirst, first_packet}
+use Rattle.net_packets.specs.{head_after_first, IsFirstAt, CanShorten, last_slot, last_slot_index, packet_slot}
+use Rattle.net_packets.specs.{slots_written, IsFirstSlot, slots_with}
 use Rattle.net_ring.specs.declared.head.RingHead.{RingHead}
 use Rattle.net_packets.specs.declared.head.PacketsHead.{PacketsHead}
 use Rattle.net_packets.specs.declared.head.FirstPacket.{FirstPacket}
@@ -35,14 +32,12 @@ use Rattle.net_packets.specs.declared.head.PacketPlace.{PacketPlace}
 use Rattle.net_packets.specs.declared.packet_metadata.PacketMetadata.{PacketMetadata}
 use Rattle.net_packets.specs.declared.packet_slot.PacketSlot.{PacketSlot}
 use Rattle.net_ring.proofs.Rotations.{with_dequeued_parts, length-queue, overwrite_at, storage_index_is}
-use Rattle.net_ring.proofs.RingFacts.{rewound_ring, enqueued_one, queue_head, queue_law, written_wf}
-use Rattle.net_packets.proofs.PacketFacts.{placed_alike}
-use Rattle.net_packets.proofs.PacketFacts.{count_is, ends_in, pushed_slot, slots_some, slots_for_pos}
-use Rattle.net_packets.proofs.PacketFacts.{place_cases, place_zero, off_wf, bytes_append}
-use Rattle.net_packets.proofs.PacketFacts.{slots_of_append, slots_append}
-use Rattle.net_packets.proofs.PacketSteps.{head_or, close_gap, push_left, pushed_is, mk, held, before_append}
-use Rattle.net_packets.proofs.PacketSteps.{last_append, well_placed, slice_get_end, skip_left, take_left}
-use Rattle.net_packets.proofs.PacketSteps.{gap_of, gap_fits, head_fits}
+use Rattle.net_ring.proofs.RingFacts.{queue_head, queue_law, written_wf}
+use Rattle.net_packets.proofs.PacketSteps.{count_is, ends_in, place_cases, place_zero, off_wf, bytes_append}
+use Rattle.net_packets.proofs.PacketSteps.{slots_of_append, slots_append, head_or, close_gap, mk, held, before_append}
+use Rattle.net_packets.proofs.PacketSteps.{last_append, well_placed, slice_get_end, skip_left, take_left, gap_of}
+use Rattle.net_packets.proofs.PacketSteps.{gap_fits, head_fits}
+use Rattle.net_packets.proofs.HeadParts.{set_is, queue_get, no_place, place_in, placed_is, placed_sound, placed_as}
 
 -- a slot is a packet's or a gap's
 kind_of : (s : PacketSlot) → ((s.is_gap ≡ 0) × (metadata s ≡ slot s.size (Some tt)) × (nat_eq s.is_gap 0 ≡ true))
@@ -53,19 +48,24 @@ kind_of s = elim (cases_Bool (nat_eq s.is_gap 0)) [
 ]
 
 -- two rings that represent packets are those of a head with sound slots
-pub sound_again : (h : PacketsHead) (ss : List PacketSlot) (xs : List ℕ)
-    → Represents (slot_ring h ss) (ring_at xs h.bytes) (packets_in 0 (queue (slot_ring h ss))) → HasSoundSlots (length xs) h ss
+sound_again : (h : PacketsHead) (ss : List PacketSlot) (xs : List ℕ) → AreSoundParts h (map metadata ss) xs → HasSoundSlots (length xs) h ss
 sound_again h ss xs r =
     let wf = subst (λ (n : ℕ). ((h.slots.read_at ≡ 0) ⊎ (h.slots.read_at < n)) × (h.slots.length ≤ n)) (length-map ss metadata) r.0 in
     ((wf, r.1), r.2, r.3, r.4)
+
+-- so it is enough that they do over each storage of c bytes
+sound_over : (c : ℕ) (h : PacketsHead) (ss : List PacketSlot)
+    → ((xs : List ℕ) → length xs ≡ c → AreSoundParts h (map metadata ss) xs) → HasSoundSlots c h ss
+sound_over c h ss r =
+    let e = length-replicate c 0 in
+    subst (λ (n : ℕ). HasSoundSlots n h ss) e (sound_again h ss (replicate c 0) (r (replicate c 0) e))
 
 module _ (c : ℕ) (h : PacketsHead) (ss : List PacketSlot) (hs : HasSoundSlots c h ss) where
   pub slots_wf : IsWellFormed (slot_ring h ss)
   slots_wf =
       subst (λ (n : ℕ). ((h.slots.read_at ≡ 0) ⊎ (h.slots.read_at < n)) × (h.slots.length ≤ n)) (sym (length-map ss metadata)) hs.0.0
 
-  pub represented : (xs : List ℕ) → length xs ≡ c
-      → Represents (slot_ring h ss) (ring_at xs h.bytes) (packets_in 0 (queue (slot_ring h ss)))
+  pub represented : (xs : List ℕ) → length xs ≡ c → AreSoundParts h (map metadata ss) xs
   represented xs e =
       let ms = queue (slot_ring h ss) in
       subst (λ (k : ℕ). IsWellFormed (slot_ring h ss) × (((h.bytes.read_at ≡ 0) ⊎ (h.bytes.read_at < k)) × (h.bytes.length ≤ k))
@@ -78,7 +78,7 @@ module _ (c : ℕ) (h : PacketsHead) (ss : List PacketSlot) (hs : HasSoundSlots 
     first_is =
         let found = slice_get-map metadata ss h.slots.read_at ∙ ap (option_map metadata) at in
         queue_head (slot_ring h ss) slots_wf (metadata s)
-        (sym (get_or_from_slice_get (map metadata ss) h.slots.read_at (metadata s) (metadata s) found)) (λ z. omega (arith, z, some))
+        (sym (get_or_from_slice_get (map metadata ss) h.slots.read_at (metadata s) (metadata s) found)) (λ z. omega arith)
 
     can : CanTake c h s
     can =
@@ -91,12 +91,12 @@ module _ (c : ℕ) (h : PacketsHead) (ss : List PacketSlot) (hs : HasSoundSlots 
               let z : first_gap ps ≡ 0 = ap (λ l. first_gap (packets_in 0 l)) all in
               let size : first_size ps ≡ s.size = ap (λ l. first_size (packets_in 0 l)) all in
               let at = head_fits c h.bytes.read_at ps hs.0.1.0 fits hs.3 z in
-              (some, omega (arith, hs.2, size, at), omega (arith, size, at), λ n. absurd (n k.0))
+              (some, omega (arith, hs.2), omega arith, λ n. absurd (n k.0))
           | inr k ↦
               let gap = gap_of ps s.size (drop 1 ms) (sym (sym hs.1 ∙ first_is ∙ ap (λ x. x ∷ drop 1 ms) k.1)) in
-              let at = gap_fits c h.bytes.read_at 0 ps hs.3 (omega (arith, gap)) in
+              let at = gap_fits c h.bytes.read_at 0 ps hs.3 (omega arith) in
               let zero_at = place_zero c h.bytes.read_at hs.0.1.0 in
-              (some, omega (arith, hs.2, gap, at), omega (arith, gap, at, zero_at), λ n. (gap.1, omega (arith, gap, at, zero_at)))
+              (some, omega (arith, hs.2), omega arith, λ n. (gap.1, omega arith))
         ]
 
     module _ (xs : List ℕ) (e : length xs ≡ c) where
@@ -109,8 +109,7 @@ module _ (c : ℕ) (h : PacketsHead) (ss : List PacketSlot) (hs : HasSoundSlots 
       bytes_off : ring_at xs after.bytes ≡ with_dequeued s.size (ring_at xs h.bytes)
       bytes_off = ap (λ (n : ℕ). ring_at xs (place (index_after n h.bytes.read_at s.size) (h.bytes.length - s.size))) (sym e)
 
-      pub taken : Represents (slot_ring after ss) (ring_at xs after.bytes) (packets_in 0 (queue (slot_ring after ss)))
-          × (queue_of after ss xs ≡ after_slot s (queue_of h ss xs))
+      pub taken : AreSoundParts after (map metadata ss) xs × (queue_of after ss xs ≡ after_slot s (queue_of h ss xs))
       taken =
           let m = slot_ring h ss in
           let b = ring_at xs h.bytes in
@@ -145,22 +144,9 @@ module _ (n c : ℕ) (h : PacketsHead) (s : PacketSlot) (can : CanTake c h s) (h
 
   pub sound_taken : length ss ≡ n → HasSoundSlots c h ss → slice_get ss h.slots.read_at ≡ Some s → HasSoundSlots c h2 ss
   sound_taken en hs at =
-      let xs = replicate c 0 in
-      let ec = length-replicate c 0 in
       let same = is ∙ ap (λ k. with_slot_taken k c s.size h) (sym en) in
-      let again = sound_again (with_slot_taken (length ss) c s.size h) ss xs (taken c h ss hs s can.0 at xs ec).0 in
-      subst (λ (k : PacketsHead). HasSoundSlots c k ss) (sym same) (subst (λ (k : ℕ). HasSoundSlots k (with_slot_taken (length ss) c s.size h) ss) ec again)
-
--- ---- one element of a storage
-module _ {T : Type 0} where
-  pub set_is : (xs : List T) (i : ℕ) (x : T) → set xs i x ≡ overwrite xs i (x ∷ [])
-  set_is [] i x = refl
-  set_is (y ∷ ys) zero x = ap (λ l. x ∷ l) (sym (take_all (length ys) ys (omega arith)))
-  set_is (y ∷ ys) (suc i) x = ap (λ l. y ∷ l) (set_is ys i x)
-
-  pub queue_get : (g : RingState T) → IsWellFormed g → (i : ℕ) (x : T) → i < g.count → slice_get g.storage (storage_index g i) ≡ Some x
-      → slice_get (queue g) i ≡ Some x
-  queue_get g wf i x lt at = grind (arith, places, gets, nat_tests)
+      subst (λ (k : PacketsHead). HasSoundSlots c k ss) (sym same)
+      (sound_over c (with_slot_taken (length ss) c s.size h) ss (λ xs ec. (taken c h ss hs s can.0 at xs ec).0))
 
 -- the slot of a packet with fewer bytes
 pub lower_slot : (k : ℕ) (s : PacketSlot) → s.is_gap ≡ 0 → record { size = k; is_gap = s.is_gap } ≡ packet_slot k
@@ -169,7 +155,7 @@ lower_slot k s e = ap (λ (n : ℕ). record { size = k; is_gap = n }) e
 -- ---- the last packet becomes shorter
 shrunk : (c r o k : ℕ) (ps : List (Packet ⊤)) (p : Packet ⊤) → k ≤ p.size → ArePlaced c r o (ps ++ (p ∷ []))
     → ArePlaced c r o (ps ++ (packet p.header k p.gap ∷ []))
-shrunk c r o k [] p le a = ((omega (arith, a.0.0, le), a.0.1), tt)
+shrunk c r o k [] p le a = ((omega (arith, a.0.0), a.0.1), tt)
 shrunk c r o k (q ∷ ps) p le a = (a.0, shrunk c r (o + q.gap + q.size) k ps p le a.1)
 
 module _ (q : PacketsState ⊤) (ok : IsWellPlaced q) (ps : List (Packet ⊤)) (p : Packet ⊤) (is : q.packets ≡ ps ++ (p ∷ []))
@@ -185,7 +171,7 @@ module _ (q : PacketsState ⊤) (ok : IsWellPlaced q) (ps : List (Packet ⊤)) (
       let one = bytes_append ps p in
       let two = bytes_append ps (packet p.header k p.gap) in
       let all = ap bytes_used is in
-      omega (arith, one, two, all, le)
+      omega arith
 
   shorter_well : IsWellPlaced (with_last_size k q)
   shorter_well =
@@ -194,7 +180,7 @@ module _ (q : PacketsState ⊤) (ok : IsWellPlaced q) (ps : List (Packet ⊤)) (
       let two = slots_of_append ps (packet p.header k p.gap) in
       let all = ap slots_used is in
       let placed = shrunk (length q.storage) q.read_at 0 k ps p le (subst (ArePlaced (length q.storage) q.read_at 0) is ok.1) in
-      subst IsWellPlaced (sym shorter_is) ((ok.0.0, omega (arith, ok.0.1, bytes)), placed, omega (arith, ok.2, one, two, all))
+      subst IsWellPlaced (sym shorter_is) ((ok.0.0, omega (arith, ok.0.1)), placed, omega (arith, ok.2))
 
 module _ (c : ℕ) (h : PacketsHead) (ss : List PacketSlot) (hs : HasSoundSlots c h ss) (last : PacketSlot) (k : ℕ) (can : CanShorten h last k)
     (at : slice_get ss (last_slot_index h ss) ≡ Some last) (h2 : PacketsHead) (slots : h2.slots ≡ h.slots)
@@ -221,7 +207,7 @@ module _ (c : ℕ) (h : PacketsHead) (ss : List PacketSlot) (hs : HasSoundSlots 
   ends : (ps : List (Packet ⊤)) × (p : Packet ⊤) × (packets_in 0 (queue m) ≡ ps ++ (p ∷ []))
   ends =
       let n = count_is m (ring_at (replicate c 0) h.bytes) (packets_in 0 (queue m)) (represented c h ss hs (replicate c 0) (length-replicate c 0)) in
-      ends_in (packets_in 0 (queue m)) (λ z. let none = ap slots_used z in omega (arith, n, none, can.0))
+      ends_in (packets_in 0 (queue m)) (λ z. let none = ap slots_used z in omega (arith, can.0))
 
   -- its slots before the last one
   abbrev others : List (PacketMetadata ⊤)
@@ -237,7 +223,7 @@ module _ (c : ℕ) (h : PacketsHead) (ss : List PacketSlot) (hs : HasSoundSlots 
       let all = ap length slots_end_in in
       let long = length-queue m (slots_wf c h ss hs) in
       let sum = length-append others (slot ends.1.size (Some ends.1.header) ∷ []) in
-      omega (arith, all, long, sum)
+      omega arith
 
   size_is : ends.1.size ≡ last.size
   size_is =
@@ -262,15 +248,14 @@ module _ (c : ℕ) (h : PacketsHead) (ss : List PacketSlot) (hs : HasSoundSlots 
       let z = slot ends.1.size (Some ends.1.header) in
       let within : last_slot_index h ss < length ss = slice_get_within ss (last_slot_index h ss) last at in
       let long = length-map ss metadata in
-      let write = queue_law m wf end (storage_index m end) (x ∷ []) end_in (omega (arith, within, long, end_at)) (storage_index_is m end) in
+      let write = queue_law m wf end (storage_index m end) (x ∷ []) end_in (omega (arith, end_at)) (storage_index_is m end) in
       let over : overwrite (others ++ ((z ∷ []) ++ [])) end (x ∷ []) ≡ others ++ ((x ∷ []) ++ []) =
       overwrite_at others (z ∷ []) [] (x ∷ []) end others_long refl in
       ap queue slots_are_written ∙ write.0 ∙ ap (λ l. overwrite l end (x ∷ [])) slots_end_in ∙ over
       ∙ append_assoc (packet_slots ends.0) (gap_slot ends.1.gap) (x ∷ [])
       ∙ sym (slots_append ends.0 (packet ends.1.header (last.size - k) ends.1.gap))
 
-  pub shortened : (xs : List ℕ) → length xs ≡ c
-      → Represents (slot_ring h2 written) (ring_at xs h2.bytes) (packets_in 0 (queue (slot_ring h2 written)))
+  pub shortened : (xs : List ℕ) → length xs ≡ c → AreSoundParts h2 (map metadata written) xs
       × (queue_of h2 written xs ≡ with_last_size (last.size - k) (queue_of h ss xs))
   shortened xs e =
       let q = queue_of h ss xs in
@@ -281,7 +266,7 @@ module _ (c : ℕ) (h : PacketsHead) (ss : List PacketSlot) (hs : HasSoundSlots 
       let is = shorter_is q ok ends.0 ends.1 ends.2 j le in
       let used = shorter_bytes q ok ends.0 ends.1 ends.2 j le in
       let wf = subst IsWellFormed (sym slots_are_written) (written_wf m (slots_wf c h ss hs) (storage_index m end) (slot j (Some tt) ∷ [])) in
-      let count : h.bytes.length - k ≡ bytes_used (ends.0 ++ (packet ends.1.header j ends.1.gap ∷ [])) = omega (arith, used, size_is, hs.2, can.2, can.3) in
+      let count : h.bytes.length - k ≡ bytes_used (ends.0 ++ (packet ends.1.header j ends.1.gap ∷ [])) = omega (arith, size_is, hs.2, can.2, can.3) in
       let left = held (with_last_size j q) (shorter_well q ok ends.0 ends.1 ends.2 j le) (slot_ring h2 written) wf
       (slots_left ∙ ap (λ o. packet_slots o.packets) (sym is)) (ring_at xs h2.bytes)
       (ap (ring_at xs) bytes ∙ ap (λ (n : ℕ). ring xs h.bytes.read_at n) count ∙ ap byte_ring (sym is)) in
@@ -300,63 +285,21 @@ module _ (h : PacketsHead) (last : PacketSlot) (k : ℕ) (can : CanShorten h las
   pub sound_shortened : HasSoundSlots c h ss → slice_get ss (last_slot_index h ss) ≡ Some last
       → HasSoundSlots c h2 (set ss (last_slot_index h ss) new)
   sound_shortened hs at =
-      let xs = replicate c 0 in
-      let ec = length-replicate c 0 in
       let i = last_slot_index h ss in
-      let again = sound_again h2 (set ss i (packet_slot (last.size - k))) xs (shortened c h ss hs last k can at h2 slots bytes xs ec).0 in
       subst (λ (x : PacketSlot). HasSoundSlots c h2 (set ss i x)) (sym is)
-      (subst (λ (n : ℕ). HasSoundSlots n h2 (set ss i (packet_slot (last.size - k)))) ec again)
+      (sound_over c h2 (set ss i (packet_slot (last.size - k))) (λ xs ec. (shortened c h ss hs last k can at h2 slots bytes xs ec).0))
 
 -- ---- a packet comes last
--- an element is set after the queue of a ring
-pub push_set : {T : Type 0} (st : List T) (r n p : ℕ) (x : T) → IsWellFormed (ring st r n) → n < length st → p ≡ index_after (length st) r n
-    → (queue (ring (set st p x) r (n + 1)) ≡ queue (ring st r n) ++ (x ∷ [])) × IsWellFormed (ring (set st p x) r (n + 1))
-push_set st r n p x wf lt e =
-    let g = ring st r n in
-    let some : window g ≢ 0 = λ z. omega (arith, z, lt) in
-    let is : ring (set st p x) r (n + 1) ≡ with_elements (with_enqueued 1 g) (write_at g) (x ∷ []) =
-    ap (λ l. ring l r (n + 1)) (set_is st p x ∙ ap (λ (j : ℕ). overwrite st j (x ∷ [])) e) in
-    let all = pushed_slot g (ring (set st p x) r (n + 1)) x wf some is (subst (Enqueues g (x ∷ [])) (sym is) (enqueued_one g wf x some)) in
-    (all.0, all.1)
-
--- the slots of a packet and its gap are set after those in use
-slots_pushed : (c : ℕ) (h : PacketsHead) (ss : List PacketSlot) (s gap : ℕ) → IsWellFormed (slot_ring h ss) → h.slots.length + slots_for gap ≤ length ss
-    → let m2 = ring_at (map metadata (slots_written (place_after_gap (length ss) c h gap) s ss)) (enqueued_place (slots_for gap) h.slots) in
-    (queue m2 ≡ queue (slot_ring h ss) ++ (gap_slot gap ++ (slot s (Some tt) ∷ []))) × IsWellFormed m2
-slots_pushed c h ss s zero wf fit =
-    let r = h.slots.read_at in
-    let n = h.slots.length in
-    let st = map metadata ss in
-    let p = place_after_gap (length ss) c h 0 in
-    let long = length-map ss metadata in
-    let none : n + (1 - 1) ≡ n = omega arith in
-    let at : p.slot ≡ index_after (length st) r n = ap₂ (λ (k i : ℕ). index_after k r i) (sym long) none in
-    let is = map-set metadata ss p.slot (packet_slot s) in
-    let all = push_set st r n p.slot (slot s (Some tt)) wf (omega (arith, long, fit)) at in
-    (ap (λ l. queue (ring l r (n + 1))) is ∙ all.0, subst (λ (l : List (PacketMetadata ⊤)). IsWellFormed (ring l r (n + 1))) (sym is) all.1)
-slots_pushed c h ss s (suc g) wf fit =
-    let r = h.slots.read_at in
-    let n = h.slots.length in
-    let st = map metadata ss in
-    let p = place_after_gap (length ss) c h (suc g) in
-    let x : PacketMetadata ⊤ = slot (suc g) None in
-    let y : PacketMetadata ⊤ = slot s (Some tt) in
-    let gs : PacketSlot = record { size = suc g; is_gap = 1 } in
-    let long = length-map ss metadata in
-    let one = push_set st r n p.gap_slot x wf (omega (arith, long, fit)) (ap (λ (k : ℕ). index_after k r n) (sym long)) in
-    let st1 = set st p.gap_slot x in
-    let long1 = length-set st p.gap_slot x in
-    let next : n + (2 - 1) ≡ n + 1 = omega arith in
-    let at : p.slot ≡ index_after (length st1) r (n + 1) = ap₂ (λ (k i : ℕ). index_after k r i) (sym (long1 ∙ long)) next in
-    let two = push_set st1 r (n + 1) p.slot y one.1 (omega (arith, long, long1, fit)) at in
-    let not_zero : nat_eq (suc g) 0 ≡ false = grind (arith, nat_tests) in
-    let is = ap (λ (z : Bool). map metadata (set (if z then ss else set ss p.gap_slot gs) p.slot (packet_slot s))) not_zero
-    ∙ map-set metadata (set ss p.gap_slot gs) p.slot (packet_slot s) ∙ ap (λ l. set l p.slot y) (map-set metadata ss p.gap_slot gs) in
-    let sum : n + 2 ≡ n + 1 + 1 = omega arith in
-    let same = ap₂ (λ (l : List (PacketMetadata ⊤)) (k : ℕ). ring l r k) is sum in (
-      ap queue same ∙ two.0 ∙ ap (λ l. l ++ (y ∷ [])) one.0 ∙ append_assoc (queue (slot_ring h ss)) (x ∷ []) (y ∷ []),
-      subst IsWellFormed (sym same) two.1,
-    )
+-- the slots that are written are those of a queue whose headers are `tt`
+written_as : (p : PacketPlace) (s : ℕ) (ss : List PacketSlot) → map metadata (slots_written p s ss) ≡ slots_with p s tt (map metadata ss)
+written_as p s ss =
+    map-set metadata (if nat_eq p.gap 0 then ss else set ss p.gap_slot (record { size = p.gap; is_gap = 1 })) p.slot (packet_slot s)
+    ∙ ap (λ l. set l p.slot (slot s (Some tt))) (gap_as (nat_eq p.gap 0))
+  where
+    gap_as : (b : Bool) → map metadata (if b then ss else set ss p.gap_slot (record { size = p.gap; is_gap = 1 }))
+        ≡ (if b then map metadata ss else set (map metadata ss) p.gap_slot (slot p.gap None))
+    gap_as true = refl
+    gap_as false = map-set metadata ss p.gap_slot (record { size = p.gap; is_gap = 1 })
 
 module _ (c : ℕ) (h : PacketsHead) (ss : List PacketSlot) (hs : HasSoundSlots c h ss) (gap s : ℕ)
     (e : placement_in (length ss) c h s ≡ Some gap) where
@@ -369,35 +312,15 @@ module _ (c : ℕ) (h : PacketsHead) (ss : List PacketSlot) (hs : HasSoundSlots 
   abbrev filled : List PacketSlot
   filled = slots_written p s ss
 
-  slots_fit : h.slots.length + slots_for gap ≤ length ss
-  slots_fit =
-      let b = rewound h.bytes in
-      let all = slots_some (length ss - h.slots.length) (gap_for s (contiguous_free c b) (c - b.length)) gap e in
-      let some = slots_for_pos gap in
-      omega (arith, all.1, some, hs.0.0.1)
-
-  pub enqueued : (xs : List ℕ) → length xs ≡ c
-      → Represents (slot_ring h2 filled) (ring_at xs h2.bytes) (packets_in 0 (queue (slot_ring h2 filled)))
+  pub enqueued : (xs : List ℕ) → length xs ≡ c → AreSoundParts h2 (map metadata filled) xs
       × (queue_of h2 filled xs ≡ with_packet_if_room (queue_of h ss xs) s tt)
   enqueued xs ec =
-      let m = slot_ring h ss in
-      let b = ring_at xs h.bytes in
-      let q = queue_of h ss xs in
-      let all = represented c h ss hs xs ec in
-      let ok = well_placed m b all q refl in
-      let long = length-map ss metadata in
-      let placed : placement q s ≡ Some gap =
-      sym (placed_alike q (length ss) c h.slots h.bytes s (sym long) (count_is m b (packets_in 0 (queue m)) all) (sym ec) (ap (place h.bytes.read_at) hs.2)) ∙ e in
-      let pushed = slots_pushed c h ss s gap (slots_wf c h ss hs) slots_fit in
-      let start = rewound h.bytes in
-      let sum : start.length + (gap + s) ≡ start.length + (gap + s) = refl in
-      let left = push_left q ok gap s placed m b all refl (ring_at xs start) (rewound_ring xs h.bytes) tt s (omega arith)
-      (slot_ring h2 filled) pushed.0 pushed.1 (ring_at xs h2.bytes) refl in
-      let size = length-map filled metadata ∙ length_filled ∙ sym long in
-      (left.0, left.1 size ∙ sym (pushed_is q ok gap s placed tt))
-    where
-      length_filled : length filled ≡ length ss
-      length_filled = grind (arith, length-set)
+      let at = place_in h (map metadata ss) xs (represented c h ss hs xs ec) (queue_of h ss xs) refl (length ss) c (sym (length-map ss metadata)) (sym ec) s
+      p e (refl, refl) refl in
+      let wrote = written_as p s ss in (
+        placed_sound at s (omega arith) tt h2 refl refl (map metadata filled) wrote,
+        placed_as at s (omega arith) tt h2 refl refl (map metadata filled) wrote ∙ placed_is at tt,
+      )
 
 -- as clauses say it
 module _ (c : ℕ) (h : PacketsHead) (ss : List PacketSlot) (s : ℕ) (p : PacketPlace) (placed : placement_in (length ss) c h s ≡ Some p.gap)
@@ -411,39 +334,18 @@ module _ (c : ℕ) (h : PacketsHead) (ss : List PacketSlot) (s : ℕ) (p : Packe
 
   pub sound_enqueued : HasSoundSlots c h ss → HasSoundSlots c h2 ss2
   sound_enqueued hs =
-      let xs = replicate c 0 in
-      let ec = length-replicate c 0 in
       let o = place_after_gap (length ss) c h p.gap in
-      let again = sound_again (with_packet_placed p.gap s h) (slots_written o s ss) xs (enqueued c h ss hs p.gap s placed xs ec).0 in
       subst (λ (k : PacketsHead). HasSoundSlots c k ss2) (sym is)
       (subst (λ (l : List PacketSlot). HasSoundSlots c (with_packet_placed p.gap s h) l) (sym (wrote ∙ ap (λ o. slots_written o s ss) at))
-      (subst (λ (n : ℕ). HasSoundSlots n (with_packet_placed p.gap s h) (slots_written o s ss)) ec again))
+      (sound_over c (with_packet_placed p.gap s h) (slots_written o s ss) (λ xs ec. (enqueued c h ss hs p.gap s placed xs ec).0)))
 
 -- where none is placed
 pub none_enqueued : (c : ℕ) (h : PacketsHead) (ss : List PacketSlot) (s : ℕ) → placement_in (length ss) c h s ≡ None → (xs : List ℕ) → length xs ≡ c
     → HasSoundSlots c h ss → queue_of h ss xs ≡ with_packet_if_room (queue_of h ss xs) s tt
 none_enqueued c h ss s none xs e hs =
-    let m = slot_ring h ss in
     let q = queue_of h ss xs in
-    let all = represented c h ss hs xs e in
-    let long = length-map ss metadata in
-    let placed : placement q s ≡ None =
-    sym (placed_alike q (length ss) c h.slots h.bytes s (sym long) (count_is m (ring_at xs h.bytes) (packets_in 0 (queue m)) all) (sym e) (ap (place h.bytes.read_at) hs.2)) ∙ none in
-    sym (ap (λ o. with_packet_if q o s tt) placed)
-
--- a place by its parts
-pub place_is : (n c : ℕ) (h : PacketsHead) (p : PacketPlace)
-    → (p.gap_slot ≡ index_after n h.slots.read_at h.slots.length)
-    × (p.slot ≡ index_after n h.slots.read_at (h.slots.length + (slots_for p.gap - 1)))
-    → p.from ≡ index_after c (rewound h.bytes).read_at ((rewound h.bytes).length + p.gap) → p ≡ place_after_gap n c h p.gap
-place_is n c h p slots from =
-    ap₂ (λ (i j : ℕ). record { gap = p.gap; gap_slot = i; slot = j; from = p.from }) slots.0 slots.1
-    ∙ ap (λ (k : ℕ). record {
-      gap = p.gap;
-      gap_slot = index_after n h.slots.read_at h.slots.length;
-      slot = index_after n h.slots.read_at (h.slots.length + (slots_for p.gap - 1));
-      from = k;
-    }) from
+    sym (ap (λ o. with_packet_if q o s tt) (no_place h (map metadata ss) xs (represented c h ss hs xs e) q refl (length ss) c (sym (length-map ss metadata))
+    (sym e) s none))
 
 -- ---- the first packet leaves
 -- what two steps that both succeed say of it
@@ -474,7 +376,7 @@ module _ (c : ℕ) (h : PacketsHead) (ss : List PacketSlot) (hs : HasSoundSlots 
   k = head_after_gap c h ss
 
   pub first_at : slice_get ss h.slots.read_at ≡ Some s
-  first_at = slice_get-get_or ss h.slots.read_at (packet_slot 0) (omega (arith, hs.0.0, some))
+  first_at = slice_get-get_or ss h.slots.read_at (packet_slot 0) (omega (arith, hs.0.0))
 
   -- the head and the queue without the gap
   pub skipped : HasSoundSlots c k ss × ((xs : List ℕ) → length xs ≡ c → queue_of k ss xs ≡ without_gap (queue_of h ss xs))
@@ -510,8 +412,8 @@ module _ (c : ℕ) (h : PacketsHead) (ss : List PacketSlot) (hs : HasSoundSlots 
       let before = count_is (slot_ring h ss) (ring_at xs h.bytes) q.packets (represented c h ss hs xs ec) in
       let after = count_is (slot_ring k ss) (ring_at xs k.bytes) (queue_of k ss xs).packets (represented c k ss skipped.0 xs ec) in
       let is = ap (λ o. slots_used o.packets) (skipped.1 xs ec) in
-      let left = used_skip q.packets (omega (arith, before, some)) in
-      omega (arith, after, is, left)
+      let left = used_skip q.packets (omega arith) in
+      omega (arith, after)
 
   abbrev s2 : PacketSlot
   s2 = first_slot k ss
@@ -530,7 +432,7 @@ module _ (c : ℕ) (h : PacketsHead) (ss : List PacketSlot) (hs : HasSoundSlots 
         let gap = gap_of (packets_in 0 ms) s2.size (drop 1 ms)
         (sym (sym skipped.0.1 ∙ first_is c k ss skipped.0 s2 some_left second_at ∙ ap (λ x. x ∷ drop 1 ms) a.1)) in
         let none = second_first (replicate c 0) (length-replicate c 0) in
-        absurd (omega (arith, gap, none))
+        absurd (omega arith)
   ]
 
   pub has_first : HasFirst c h ss
@@ -596,7 +498,7 @@ cancel (suc g) x l m e = ap (drop 2) e
 
 -- no gap comes after a gap
 two_gaps : (ps : List (Packet ⊤)) (k n : ℕ) (ms : List (PacketMetadata ⊤)) → slot k None ∷ (slot n None ∷ ms) ≡ packet_slots ps → ⊥
-two_gaps [] k n ms e = let z = ap length e in omega (arith, z)
+two_gaps [] k n ms e = let z = ap length e in omega arith
 two_gaps (p ∷ ps) k n ms e = go p.gap p.size p.header (packet_slots ps) e
   where
     go : (g s : ℕ) (hd : ⊤) (rest : List (PacketMetadata ⊤)) → slot k None ∷ (slot n None ∷ ms) ≡ gap_slot g ++ (slot s (Some hd) ∷ rest) → ⊥
@@ -625,10 +527,10 @@ module _ (c : ℕ) (b : RingHead) (o : ℕ) where
         let none = one_gap g s.size ms seen in
         let first : AreSlotsAfter c b o 0 (slot s.size None ∷ ms) = subst (λ (n : ℕ). AreSlotsAfter c b o n (slot s.size None ∷ ms)) none seen in
         let gap = gap_of (packets_in (0 + s.size) ms) s.size ms first.0 in
-        let at = gap_fits c b.read_at o (packets_in (0 + s.size) ms) first.2 (omega (arith, gap)) in
-        let same : o + g ≡ o = omega (arith, none) in
+        let at = gap_fits c b.read_at o (packets_in (0 + s.size) ms) first.2 (omega arith) in
+        let same : o + g ≡ o = omega arith in
         let is = ap (index_after c b.read_at) same in
-        (omega (arith, none, first.1, at, gap), omega (arith, is, at, gap), λ n. (none, gap.1, omega (arith, is, at, gap)))
+        (omega (arith, first.1), omega arith, λ n. (none, gap.1, omega arith))
   ]
 
 -- the slot that is tested next
@@ -640,12 +542,12 @@ next_slot n c h ss sound en k i lt at d =
     let long = length-map ss metadata in
     let wf = subst (λ (j : ℕ). ((h.slots.read_at ≡ 0) ⊎ (h.slots.read_at < j)) × (h.slots.length ≤ j)) (en ∙ sym long) sound.0 in
     let is : i ≡ storage_index m k = at ∙ ap (λ (j : ℕ). index_after j h.slots.read_at k) (en ∙ sym long) in
-    let within : i < length ss = omega (arith, place_cases n h.slots.read_at k, at, en, lt, sound.0) in
+    let within : i < length ss = omega (arith, place_cases n h.slots.read_at k, sound.0) in
     let found = slice_get-map metadata ss i ∙ ap (option_map metadata) (slice_get-get_or ss i d within) in
     let got = queue_get m wf k (metadata (get_or ss i d)) lt (ap (slice_get m.storage) (sym is) ∙ found) in
     let count = length-queue m wf in
     let step : suc k ≡ k + 1 = omega arith in
-    drop-cons (queue m) k (metadata d) (omega (arith, lt, count))
+    drop-cons (queue m) k (metadata d) (omega arith)
     ∙ ap (λ (j : ℕ). get_or (queue m) k (metadata d) ∷ drop j (queue m)) step
     ∙ ap (λ x. x ∷ drop (k + 1) (queue m)) (get_or_from_slice_get (queue m) k (metadata (get_or ss i d)) (metadata d) got)
 

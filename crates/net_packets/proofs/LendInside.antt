@@ -9,8 +9,8 @@ use base.Share.{halves, left, right}
 use base.Logic.{SProp, ent, sep, ex, all, all_e, wand, wand_i, apply∗}
 use base.Fml.{Lft, GName, Share, Fml, flft, fdead, fres}
 use types.Logic.{Logic, sem}
-use types.Kit.{‵, ◌⊛◌, raw, some, later, ◌$◌, ◌∵◌, !, qed, move, split, join, use1, use2, use3, await, pick}
-use types.Kit.{show, updating, now as at_once, each, assume, done}
+use types.Kit.{‵, ◌⊛◌, raw, some, later, ◌$◌, ◌∵◌, !, qed, move, split, join, use1, use2, use3, await, pick, show}
+use types.Kit.{updating, now as at_once, each, assume, done}
 use types.Tokens.{lft_new, lft_end, lft-common}
 use contract.BorrowLft.{meet_⊑_left}
 use denote.RattleType.{RattleType}

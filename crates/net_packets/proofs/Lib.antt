@@ -1,10 +1,8 @@
-pub mod PacketFacts
 pub mod PacketSteps
-mod HeadQueue
 mod HeadParts
+mod HeadQueue
 pub mod PacketOrder
 pub mod PacketRuns
-mod EmptyQueue
 mod LendInside
 mod ResultParts
 mod WalkedQueue

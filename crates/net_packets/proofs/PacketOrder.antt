@@ -1,25 +1,23 @@
 -- A queue's packets leave in the order in which they came.
-use Rattle.std.proofs.Common.{◌≢◌, ◌≡◌, ℕ, ◌+◌, ◌≤◌, List, [], ◌∷◌, ◌++◌, length, take, drop, refl, sym, ap}
-use Rattle.std.proofs.Common.{ap₂, ◌∙◌, arith, length-drop}
-use Rattle.std.proofs.lemmas.List.{take_at, drop_at, nil_from_length, take_all, take-take, drop-drop}
-use Rattle.std.proofs.lemmas.List.{length-take-le, take-append-le, drop-append-le}
+use Rattle.std.proofs.Common.{◌≢◌, ◌≡◌, ℕ, ◌+◌, ◌≤◌, List, [], ◌∷◌, ◌++◌, length, take, drop, refl, sym, ap, ap₂, ◌∙◌}
+use Rattle.std.proofs.Common.{arith, length-drop}
+use Rattle.std.proofs.lemmas.List.{take_at, drop_at, nil_from_length, take_all, take-take, drop-drop, length-take-le}
+use Rattle.std.proofs.lemmas.List.{take-append-le, drop-append-le}
 use Rattle.std.specs.Prelude.{Option}
 use Rattle.std.specs.declared.option.Option.TheVariants.{Some, None}
 use Rattle.net_ring.specs.Overwrite.{overwrite}
 use Rattle.net_ring.specs.Ring.{RingState, capacity, window, queue, spare, storage_index, IsWellFormed}
 use Rattle.net_ring.specs.Ring.{rewind_if_empty, with_enqueued, with_elements}
-use Rattle.net_packets.specs.Packets.{Packet, PacketsState, packet, bytes_used, byte_ring, placement}
-use Rattle.net_packets.specs.Packets.{with_packet, with_packet_if_room, last_index, with_bytes}
-use Rattle.net_packets.specs.Packets.{with_last_bytes, with_last_size, first_gap, first_size}
-use Rattle.net_packets.specs.Packets.{without_first_gap, without_gap, first_bytes, IsFirst, with_first_header}
-use Rattle.net_packets.specs.Packets.{with_first_bytes, without_first, IsWellPlaced}
-use Rattle.net_packets.specs.PacketHistory.{contents_of, contents}
+use Rattle.net_packets.specs.{Packet, PacketsState, packet, bytes_used, byte_ring, placement, with_packet}
+use Rattle.net_packets.specs.{with_packet_if_room, last_index, with_bytes, with_last_bytes, with_last_size, first_gap}
+use Rattle.net_packets.specs.{first_size, without_first_gap, without_gap, first_bytes, IsFirst, with_first_header}
+use Rattle.net_packets.specs.{with_first_bytes, without_first, IsWellPlaced, contents_of, contents}
 use Rattle.net_ring.proofs.Rotations.{length-overwrite, length-queue, length-spare, with_enqueued_parts}
 use Rattle.net_ring.proofs.Rotations.{with_dequeued_parts, take_sum, cut, overwrite_at, storage_index_is}
 use Rattle.net_ring.proofs.RingFacts.{written_wf, spare_law, queue_law, queue_value, rewound_is, read_index_is}
-use Rattle.net_packets.proofs.PacketSteps.{here, wfg, count_g, byte_room, enqueued_is, pushed_is, push_place}
-use Rattle.net_packets.proofs.PacketSteps.{cut_is, close_gap, skipped_well, skipped_ring, head_fits, headed}
-use Rattle.net_packets.proofs.PacketSteps.{headed_ring, headed_well, popped_ring}
+use Rattle.net_packets.proofs.PacketSteps.{here, wfg, count_g, byte_room, enqueued_is, pushed_is, push_place, cut_is}
+use Rattle.net_packets.proofs.PacketSteps.{close_gap, skipped_well, skipped_ring, head_fits, headed, headed_ring}
+use Rattle.net_packets.proofs.PacketSteps.{headed_well, popped_ring}
 
 pub some_of : (o : Option ℕ) → o ≢ None → (n : ℕ) × (o ≡ Some n)
 some_of None h = absurd (h refl)
@@ -51,9 +49,9 @@ filled_queue g wf gap k ws room fits le =
     let p = storage_index g (g.count + gap) in
     let w = spare_law g wf gap p ws room fits (storage_index_is g (g.count + gap)) in
     let long = length-overwrite g.storage p ws in
-    let t = with_enqueued_parts (with_elements g p ws) (written_wf g wf p ws) (gap + k) (omega (arith, room, le, long)) in
+    let t = with_enqueued_parts (with_elements g p ws) (written_wf g wf p ws) (gap + k) (omega arith) in
     let s = length-spare g wf in
-    t.0 ∙ ap₂ ◌++◌ w.0 (ap (take (gap + k)) w.1 ∙ take_over (spare g) ws gap k (omega (arith, room, s)) le)
+    t.0 ∙ ap₂ ◌++◌ w.0 (ap (take (gap + k)) w.1 ∙ take_over (spare g) ws gap k (omega arith) le)
 
 module _ {H : Type 0} where
   pub contents_append : (ps : List (Packet H)) (p : Packet H) (bs x ws : List ℕ) → length bs ≡ bytes_used ps → length x ≡ p.gap
@@ -63,14 +61,14 @@ module _ {H : Type 0} where
       ap (λ (y : List ℕ). contents_of (p ∷ []) (y ++ (x ++ ws))) none ∙ ap (λ (y : List ℕ). (p.header, take p.size y) ∷ []) (drop_at x ws p.gap l)
   contents_append (o ∷ ps) p bs x ws n l =
       let y = x ++ ws in
-      let d : drop o.gap (bs ++ y) ≡ drop o.gap bs ++ y = drop-append-le o.gap bs y (omega (arith, n)) in
+      let d : drop o.gap (bs ++ y) ≡ drop o.gap bs ++ y = drop-append-le o.gap bs y (omega arith) in
       let k = length-drop o.gap bs in
       let t : take o.size (drop o.gap (bs ++ y)) ≡ take o.size (drop o.gap bs) = ap (take o.size) d
-      ∙ take-append-le o.size (drop o.gap bs) y (omega (arith, n, k)) in
-      let r : drop (o.gap + o.size) (bs ++ y) ≡ drop (o.gap + o.size) bs ++ y = drop-append-le (o.gap + o.size) bs y (omega (arith, n)) in
+      ∙ take-append-le o.size (drop o.gap bs) y (omega arith) in
+      let r : drop (o.gap + o.size) (bs ++ y) ≡ drop (o.gap + o.size) bs ++ y = drop-append-le (o.gap + o.size) bs y (omega arith) in
       let m = length-drop (o.gap + o.size) bs in
       ap₂ (λ (one rest : List ℕ). (o.header, one) ∷ contents_of (ps ++ (p ∷ [])) rest) t r
-      ∙ ap (λ c. (o.header, take o.size (drop o.gap bs)) ∷ c) (contents_append ps p (drop (o.gap + o.size) bs) x ws (omega (arith, n, m)) l)
+      ∙ ap (λ c. (o.header, take o.size (drop o.gap bs)) ∷ c) (contents_append ps p (drop (o.gap + o.size) bs) x ws (omega arith) l)
 
   -- ---- a packet comes last
   module _ (q : PacketsState H) (ok : IsWellPlaced q) (s : ℕ) (hd : H) (ws : List ℕ) (some : placement q s ≢ None) (long : length ws ≡ s) where
@@ -83,21 +81,21 @@ module _ {H : Type 0} where
         let room = byte_room q ok gap s e in
         let wf = wfg q ok gap s e in
         let counts = count_g q ok gap s e in
-        let filled = filled_queue g wf gap k ws (omega (arith, room, long)) (omega (arith, fits.0, long)) (omega (arith, le, long)) in
+        let filled = filled_queue g wf gap k ws (omega arith) (omega (arith, fits.0)) (omega arith) in
         let bytes = length-queue g wf in
         let free = length-spare g wf in
-        let skip : length (take gap (spare g)) ≡ gap = length-take-le gap (spare g) (omega (arith, free, room)) in
+        let skip : length (take gap (spare g)) ≡ gap = length-take-le gap (spare g) (omega arith) in
         ap₂ (λ (o : RingState ℕ) (p : ℕ). contents_of (q.packets ++ (packet hd k gap ∷ [])) (queue (with_elements o p ws)))
         (sym (enqueued_is q ok gap s e hd k)) (sym (push_place q ok gap s e hd))
         ∙ ap (contents_of (q.packets ++ (packet hd k gap ∷ []))) filled
-        ∙ contents_append q.packets (packet hd k gap) (queue g) (take gap (spare g)) (take k ws) (omega (arith, bytes, counts)) skip
+        ∙ contents_append q.packets (packet hd k gap) (queue g) (take gap (spare g)) (take k ws) (omega arith) skip
         ∙ ap₂ (λ (bs one : List ℕ). contents_of q.packets bs ++ ((hd, one) ∷ [])) (rewound_is (byte_ring q)).0 (take-take k k ws (omega arith))
 
     pub accepted : contents (with_last_bytes (with_packet_if_room q s hd) ws) ≡ contents q ++ ((hd, ws) ∷ [])
     accepted =
         let p = some_of (placement q s) some in
         ap (λ (o : PacketsState H). contents (with_last_bytes o ws)) (pushed_is q ok p.0 s p.1 hd) ∙ filled_go p.0 p.1 s (omega arith)
-        ∙ ap (λ (l : List ℕ). contents q ++ ((hd, l) ∷ [])) (take_all s ws (omega (arith, long)))
+        ∙ ap (λ (l : List ℕ). contents q ++ ((hd, l) ∷ [])) (take_all s ws (omega arith))
 
     pub accepted_with : (k : ℕ) → k ≤ s → contents (with_last_size k (with_last_bytes (with_packet_if_room q s hd) ws)) ≡ contents q ++ ((hd, take k ws) ∷ [])
     accepted_with k le = let p = some_of (placement q s) some in ap contents (sym (cut_is q ok p.0 s p.1 hd k ws)) ∙ filled_go p.0 p.1 k le
@@ -117,7 +115,7 @@ module _ {H : Type 0} where
   -- it goes
   contents_rest : (ps : List (Packet H)) (bs : List ℕ) → first_gap ps ≡ 0 → contents_of (drop 1 ps) (drop (first_size ps) bs) ≡ drop 1 (contents_of ps bs)
   contents_rest [] bs z = refl
-  contents_rest (p ∷ ps) bs z = let n : p.size ≡ p.gap + p.size = omega (arith, z) in ap (λ (i : ℕ). contents_of ps (drop i bs)) n
+  contents_rest (p ∷ ps) bs z = let n : p.size ≡ p.gap + p.size = omega arith in ap (λ (i : ℕ). contents_of ps (drop i bs)) n
 
   -- it is written over
   contents_headed : (hd : H) (ps : List (Packet H)) (bs ws : List ℕ) → first_gap ps ≡ 0 → length ws ≡ first_size ps → first_size ps ≤ length bs
@@ -127,7 +125,7 @@ module _ {H : Type 0} where
   contents_headed hd (p ∷ ps) bs ws z long fits =
       let all = overwrite bs 0 ws in
       let o = over_head bs ws p.size fits long in
-      let n : p.gap + p.size ≡ p.size = omega (arith, z) in
+      let n : p.gap + p.size ≡ p.size = omega arith in
       let one : take p.size (drop p.gap all) ≡ ws = ap (λ (i : ℕ). take p.size (drop i all)) z ∙ o.0 in
       let rest : drop (p.gap + p.size) all ≡ drop (p.gap + p.size) bs = ap (λ (i : ℕ). drop i all) n ∙ o.1 ∙ ap (λ (i : ℕ). drop i bs) (sym n) in
       (λ some. ap₂ (λ (l r : List ℕ). (hd, l) ∷ contents_of ps r) one rest, ap (contents_of ps) rest)
@@ -161,7 +159,7 @@ module _ {H : Type 0} where
     first_written hd ws long =
         let c = byte_ring q in
         let bytes : queue (byte_ring (with_first_bytes q hd ws)) ≡ overwrite (queue c) 0 ws = ap queue (sym (headed_ring q hd ws))
-        ∙ (queue_law c ok.0 0 q.read_at ws (omega (arith, long, fits.0)) (omega (arith, long, fits.1)) (read_index_is c ok.0)).0 in
+        ∙ (queue_law c ok.0 0 q.read_at ws (omega (arith, fits.0)) (omega (arith, fits.1)) (read_index_is c ok.0)).0 in
         let all = contents_headed hd q.packets (queue c) ws z long (omega (arith, fits.0, length-queue c ok.0)) in (
           λ some. ap (contents_of (with_first_header hd q.packets)) bytes ∙ all.0 some,
           ap (λ bs. drop 1 (contents_of (with_first_header hd q.packets) bs)) bytes ∙ all.1,

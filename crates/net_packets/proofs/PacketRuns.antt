@@ -1,35 +1,38 @@
 -- Over whole runs, a queue's packets leave in the order in which they came.
-use Rattle.std.proofs.Common.{◌≢◌, ◌≡◌, ℕ, ◌+◌, ◌-◌, ◌≤◌, List, [], ◌∷◌, ◌++◌, length, take, drop, refl, sym}
-use Rattle.std.proofs.Common.{ap, ap₂, ◌∙◌, subst, inl, arith, append_assoc, length-append, length-drop, suc}
-use Rattle.std.proofs.Common.{◌↔◌, Bool, true, false, if◌then◌else◌, ◌==◌, Result, Ok, Err, IfOk, min}
+-- What a queue with no packets takes.
+use Rattle.std.proofs.Common.{◌≢◌, ◌≡◌, ℕ, ◌+◌, ◌-◌, ◌≤◌, List, [], ◌∷◌, ◌++◌, length, take, drop, refl}
+use Rattle.std.proofs.Common.{sym, ap, ap₂, ◌∙◌, subst, inl, arith, append_assoc, length-append}
+use Rattle.std.proofs.Common.{length-drop, suc, ◌↔◌, Bool, true, false, if◌then◌else◌, ◌==◌, Result, Ok}
+use Rattle.std.proofs.Common.{Err, IfOk, min, zero, ◌<◌}
 use Rattle.std.proofs.lemmas.List.{append-nil, take_all, drop_all, nil_from_length, length-take-le}
-use Rattle.std.proofs.lemmas.Bool.{eqb-true, eq-eqb}
+use Rattle.std.proofs.lemmas.Bool.{eqb-true, eq-eqb, le-leb, lt-leb, cond-true, cond-false}
 use Rattle.std.proofs.lemmas.Option.{none-some}
 use Rattle.std.proofs.Math.Seq.{set-append_seam}
-use Rattle.std.specs.Prelude.{set}
+use Rattle.std.specs.Prelude.{set, Option}
 use Rattle.std.specs.declared.option.Option.TheVariants.{Some, None}
 use Rattle.net_ring.specs.Overwrite.{overwrite}
 use Rattle.net_ring.specs.Ring.{index_after, queue, storage_index}
-use Rattle.net_packets.specs.Packets.{Packet, PacketsState, no_packets, packet, bytes_used, byte_ring}
-use Rattle.net_packets.specs.Packets.{placement, with_packet, with_packet_if_room, only_last, last_index}
-use Rattle.net_packets.specs.Packets.{last_bytes, with_last_bytes, with_last_size, first_gap, first_size}
-use Rattle.net_packets.specs.Packets.{without_first_gap, without_gap, with_first_bytes, without_first}
-use Rattle.net_packets.specs.Packets.{without_first_and_gap, after_hand_out, last_dequeued_bytes_index}
-use Rattle.net_packets.specs.Packets.{last_dequeued_bytes, AreLastDequeued, with_bytes, first_bytes, IsFirst}
-use Rattle.net_packets.specs.Packets.{IsFirstSized, IsWellPlaced}
+use Rattle.net_packets.specs.{Packet, PacketsState, no_packets, packet, bytes_used, byte_ring}
+use Rattle.net_packets.specs.{placement, with_packet, with_packet_if_room, only_last, last_index}
+use Rattle.net_packets.specs.{last_bytes, with_last_bytes, with_last_size, first_gap, first_size}
+use Rattle.net_packets.specs.{without_first_gap, without_gap, with_first_bytes, without_first}
+use Rattle.net_packets.specs.{without_first_and_gap, after_hand_out, last_dequeued_bytes_index}
+use Rattle.net_packets.specs.{last_dequeued_bytes, AreLastDequeued, with_bytes, first_bytes, IsFirst}
+use Rattle.net_packets.specs.{IsFirstSized, IsWellPlaced, contents_of, contents, QueueCall, Reset}
+use Rattle.net_packets.specs.{Place, WriteLast, Enqueue, EnqueueWith, Peek, DequeueErr, DequeueOk}
+use Rattle.net_packets.specs.{DequeueWith, Take, WriteLastDequeued, Dequeue, Makes, MakesAll}
+use Rattle.net_packets.specs.{with_bytes_in_last_entry, log_after, log_after_all, history}
 use Rattle.net_ring.specs.Log.{Log, empty_log}
-use Rattle.net_packets.specs.PacketHistory.{contents_of, contents, QueueCall, Reset, Place, WriteLast}
-use Rattle.net_packets.specs.PacketHistory.{Enqueue, EnqueueWith, Peek, DequeueErr, DequeueOk, DequeueWith}
-use Rattle.net_packets.specs.PacketHistory.{Take, WriteLastDequeued, Dequeue, Makes, MakesAll}
-use Rattle.net_packets.specs.PacketHistory.{with_bytes_in_last_entry, log_after, log_after_all, history}
-use Rattle.net_ring.proofs.Overwrites.{overwrite-same}
-use Rattle.net_ring.proofs.Rotations.{IsStorageIndex, length-queue, cut, overwrite_at, storage_index_is}
-use Rattle.net_ring.proofs.RingFacts.{queue_law, spare_law}
-use Rattle.net_packets.proofs.PacketFacts.{ends_in, bytes_append, place_cases, place_place}
-use Rattle.net_packets.proofs.PacketSteps.{mk, last_append, last_ends, head_fits, push_well, pushed_is}
+use Rattle.net_ring.proofs.Rotations.{overwrite-same, IsStorageIndex, length-queue, cut, overwrite_at}
+use Rattle.net_ring.proofs.Rotations.{storage_index_is}
+use Rattle.net_ring.proofs.RingFacts.{queue_law, spare_law, storage_index-zero}
+use Rattle.net_packets.proofs.PacketSteps.{ends_in, bytes_append, place_cases, place_place, mk}
+use Rattle.net_packets.proofs.PacketSteps.{last_append, last_ends, head_fits, push_well, pushed_is}
 use Rattle.net_packets.proofs.PacketSteps.{cut_is, with_bytes_well, skipped_well, headed, headed_well}
 use Rattle.net_packets.proofs.PacketSteps.{popped_well, close_gap}
 use Rattle.net_packets.proofs.PacketOrder.{some_of, contents_append, close_size}
+use Rattle.net_ring.specs.Ring.{ring, contiguous_window}
+use Rattle.net_packets.specs.Packets.{gap_for, if_slots}
 use Rattle.net_packets.proofs.PacketOrder as order
 
 -- what two clauses say of a result that is `Ok`
@@ -40,7 +43,7 @@ if_both (Err e) both p q = tt
 -- what is copied over a list that is as long
 pub copied_whole : (bs xs ys : List ℕ) (k : ℕ) → k ≡ min (length bs) (length xs) → ys ≡ take k bs ++ drop k xs → length bs ≡ length xs → ys ≡ bs
 copied_whole bs xs ys k count is long =
-    is ∙ ap₂ (λ (a b : List ℕ). a ++ b) (take_all k bs (omega (arith, count, long))) (drop_all k xs (omega (arith, count, long))) ∙ append-nil bs
+    is ∙ ap₂ (λ (a b : List ℕ). a ++ b) (take_all k bs (omega arith)) (drop_all k xs (omega arith)) ∙ append-nil bs
 
 module _ {H : Type 0} where
   -- ---- each step leaves the packets well placed
@@ -102,18 +105,18 @@ module _ {H : Type 0} where
       let size : length ws ≡ p.size = long ∙ ap first_size (last_append ps p) in
       let f = last_ends q ok in
       let i : ℕ = bytes_used q.packets - first_size (only_last q.packets) in
-      let w = (queue_law c ok.0 i (last_index q) ws (omega (arith, long, f.0)) (omega (arith, long, f.1)) (storage_index_is c i)).0 in
+      let w = (queue_law c ok.0 i (last_index q) ws (omega (arith, f.0)) (omega (arith, f.1)) (storage_index_is c i)).0 in
       let all = length-queue c ok.0 in
-      let c1 = cut (bytes_used ps) bs (omega (arith, all, sum)) in let a = c1.0 in let v = c1.1 in
-      let c2 = cut p.gap v (omega (arith, all, sum, c1.4)) in let x = c2.0 in let old = c2.1 in
+      let c1 = cut (bytes_used ps) bs (omega arith) in let a = c1.0 in let v = c1.1 in
+      let c2 = cut p.gap v (omega (arith, c1.4)) in let x = c2.0 in let old = c2.1 in
       let whole : bs ≡ a ++ (x ++ old) = c1.2 ∙ ap (λ (l : List ℕ). a ++ l) c2.2 in
       let ax = length-append a x in
-      let here : length (a ++ x) ≡ i = omega (arith, ax, c1.3, c2.3, sum, long, size) in
-      let row : length old ≡ length ws = omega (arith, c2.4, c1.4, all, sum, size) in
+      let here : length (a ++ x) ≡ i = omega (arith, c1.3, c2.3) in
+      let row : length old ≡ length ws = omega (arith, c2.4, c1.4) in
       let over : overwrite bs i ws ≡ a ++ (x ++ ws) =
       ap (λ (l : List ℕ). overwrite l i ws) (whole ∙ sym (append_assoc a x old) ∙ ap (λ (l : List ℕ). (a ++ x) ++ l) (sym (append-nil old)))
       ∙ overwrite_at (a ++ x) old [] ws i here row ∙ ap (λ (l : List ℕ). (a ++ x) ++ l) (append-nil ws) ∙ append_assoc a x ws in
-      let full : take p.size ws ≡ ws = take_all p.size ws (omega (arith, size)) in (
+      let full : take p.size ws ≡ ws = take_all p.size ws (omega arith) in (
         contents_of ps a,
         take p.size old,
         ap (contents_of q.packets) whole ∙ contents_append ps p a x old c1.3 c2.3,
@@ -157,7 +160,7 @@ module _ {H : Type 0} where
       let back : s + (c - s) ≡ c = omega (arith, f.1) in
       let round : last_dequeued_bytes_index (without_first (mk n st r ps)) s ≡ r =
       place_place c r s (c - s) ok.0.0 (omega (arith, f.1)) ∙ ap (index_after c r) back ∙ omega (arith, place_cases c r c, f.1) in
-      (round, (omega (arith, rest, ok.0.1), omega (arith, round, f.1)))
+      (round, (omega (arith, ok.0.1), omega (arith, f.1)))
 
   off_contents : (q : PacketsState H) → IsWellPlaced q → (ws : List ℕ) → length ws ≡ first_size q.packets
       → contents (with_bytes (without_first_and_gap q) (without_gap q).read_at ws) ≡ contents (without_first_and_gap q)
@@ -195,7 +198,7 @@ module _ {H : Type 0} where
       let o = with_packet_if_room q s hd in
       let f = last_ends o (placed_well q ok s hd some) in
       let long = length-drop (last_index o) o.storage in
-      length-take-le (first_size (only_last o.packets)) (drop (last_index o) o.storage) (omega (arith, f.1, long))
+      length-take-le (first_size (only_last o.packets)) (drop (last_index o) o.storage) (omega (arith, f.1))
       ∙ ap (λ (p : PacketsState H). first_size (only_last p.packets)) (pushed_is q ok g.0 s g.1 hd) ∙ ap first_size (last_append q.packets (packet hd s g.0))
 
   placed_stands : (q : PacketsState H) → IsWellPlaced q → (s : ℕ) (hd : H) → placement q s ≢ None
@@ -223,7 +226,7 @@ module _ {H : Type 0} where
       let at : last_dequeued_bytes_index (without_first_and_gap q) s ≡ (without_gap q).read_at = sym (ap (last_dequeued_bytes_index (without_first_and_gap q)) size) ∙ f.0 in
       let long = length-drop (last_dequeued_bytes_index (without_first_and_gap q) s) q.storage in (
         ap₂ (λ (p n : ℕ). take n (drop p q.storage)) at (sym size),
-        length-take-le s (drop (last_dequeued_bytes_index (without_first_and_gap q) s) q.storage) (omega (arith, long, fits.1)),
+        length-take-le s (drop (last_dequeued_bytes_index (without_first_and_gap q) s) q.storage) (omega (arith, fits.1)),
       )
 
   taken_contents : (q : PacketsState H) → IsWellPlaced q → (hd : H) (s : ℕ) → IsFirstSized q.packets hd s
@@ -246,8 +249,8 @@ module _ {H : Type 0} where
   still_there q = (close_size q.packets).1
 
   some_first : (ps : List (Packet H)) (hd : H) (n : ℕ) → IsFirstSized ps hd n → ps ≢ []
-  some_first [] hd n e z = let k = ap length e in omega (arith, k)
-  some_first (p ∷ ps) hd n e z = let k = ap length z in omega (arith, k)
+  some_first [] hd n e z = let k = ap length e in omega arith
+  some_first (p ∷ ps) hd n e z = let k = ap length z in omega arith
 
   pub kept_contents : (q : PacketsState H) → IsWellPlaced q → (hd : H) (ws : List ℕ) (gone : Bool) → IsFirst q hd ws
       → contents (after_hand_out gone q hd ws) ≡ (if gone then drop 1 (contents q) else contents q)
@@ -276,7 +279,7 @@ module _ {H : Type 0} where
       → contents (with_last_bytes (mk n st r ps) ws) ≡ with_bytes_in_last_entry ws (contents (mk n st r ps))
   unfolding contents
   last_any n st r [] ws ok long = refl
-  last_any n st r (p ∷ ps) ws ok long = last_is_written (mk n st r (p ∷ ps)) ok ws (λ e. let k = ap length e in absurd (omega (arith, k))) long
+  last_any n st r (p ∷ ps) ws ok long = last_is_written (mk n st r (p ∷ ps)) ok ws (λ e. let k = ap length e in absurd (omega arith)) long
 
   pub last_shown : (q : PacketsState H) → IsWellPlaced q → (ws : List ℕ) → length ws ≡ first_size (only_last q.packets)
       → contents (with_last_bytes q ws) ≡ with_bytes_in_last_entry ws (contents q)
@@ -328,7 +331,7 @@ module _ {H : Type 0} where
   pub enqueue_with_call : (q : PacketsState H) (s : ℕ) (hd : H) (k : ℕ) (ws : List ℕ) → placement q s ≢ None → length ws ≡ s → k ≤ s
       → (n : PacketsState H) → n ≡ with_last_size k (with_last_bytes (with_packet_if_room q s hd) ws) → Makes (EnqueueWith hd ws k) q n
   enqueue_with_call q s hd k ws some long le n is = let c = enqueue_call q s hd ws some long in
-      (c.0, omega (arith, le, long), is ∙ ap (with_last_size k) c.1)
+      (c.0, omega arith, is ∙ ap (with_last_size k) c.1)
 
   pub take_call : (q : PacketsState H) → IsWellPlaced q → (hd : H) (s : ℕ) → IsFirstSized q.packets hd s → (n : PacketsState H)
       → n ≡ without_first_and_gap q → Makes (Take hd (last_dequeued_bytes n s)) q n
@@ -414,3 +417,49 @@ module _ {H : Type 0} where
   unfolding contents
   in_turn slots storage calls r run =
       calls_turn calls empty_log (no_packets slots storage) r ((inl refl, omega arith), tt, omega arith) run refl
+
+-- ---- what a queue with no packets takes
+-- all free bytes of an empty ring are contiguous
+contiguous_all : (storage : List ℕ) → contiguous_window (ring storage 0 0) ≡ length storage
+contiguous_all storage =
+    let at = storage_index-zero (ring storage 0 0) (inl refl, omega arith) in
+    omega arith
+
+gap_taken : (size n : ℕ) → size ≤ n → gap_for size n n ≡ Some 0
+gap_taken size n le = cond-true _ _ _ (le-leb size n le)
+
+gap_refused : (size n : ℕ) → n < size → gap_for size n n ≡ None
+gap_refused size n le =
+    cond-false _ _ _ (lt-leb size n le) ∙ cond-false _ _ _ (lt-leb size (n - n) (omega arith))
+
+no_slots : (gap : Option ℕ) → if_slots 0 gap ≡ None
+no_slots None = refl
+no_slots (Some zero) = refl
+no_slots (Some (suc gap)) = refl
+
+module _ {H : Type 0} where
+  -- with no packets
+  placement_is : (slots : ℕ) (storage : List ℕ) (read_at : ℕ) (ps : List (Packet H)) (size : ℕ) → length ps ≡ 0 →
+      placement (record { slot_count = slots; storage = storage; read_at = read_at; packets = ps }) size
+      ≡ if_slots slots (gap_for size (length storage) (length storage))
+  placement_is slots storage read_at [] size none =
+      let all = contiguous_all storage in
+      ap₂ if_slots (omega arith) (ap₂ (gap_for size) all (omega arith))
+  placement_is slots storage read_at (p ∷ ps) size none = absurd (omega arith)
+
+  placement_empty : (q : PacketsState H) (size : ℕ) → contents q ≡ [] →
+      placement q size ≡ if_slots q.slot_count (gap_for size (length q.storage) (length q.storage))
+  placement_empty q size none = placement_is q.slot_count q.storage q.read_at q.packets size ((contents_none q).0 none)
+
+  pub empty_taken : (q : PacketsState H) (size : ℕ) → contents q ≡ [] → 0 < q.slot_count → size ≤ length q.storage → placement q size ≡ Some 0
+  empty_taken q size none slot le =
+      placement_empty q size none ∙ ap (if_slots q.slot_count) (gap_taken size (length q.storage) le)
+      ∙ cond-true _ _ _ (le-leb 1 q.slot_count slot)
+
+  pub empty_no_slot : (q : PacketsState H) (size : ℕ) → contents q ≡ [] → q.slot_count ≡ 0 → placement q size ≡ None
+  empty_no_slot q size none slot =
+      let free : ℕ → Option ℕ = λ n. if_slots n (gap_for size (length q.storage) (length q.storage)) in
+      placement_empty q size none ∙ ap free slot ∙ no_slots (gap_for size (length q.storage) (length q.storage))
+
+  pub empty_too_long : (q : PacketsState H) (size : ℕ) → contents q ≡ [] → length q.storage < size → placement q size ≡ None
+  empty_too_long q size none long = placement_empty q size none ∙ ap (if_slots q.slot_count) (gap_refused size (length q.storage) long)

@@ -1,32 +1,252 @@
+-- What the two rings of a queue of packets say of its packets.
 -- What a queue of packets is after a step on its two rings.
-use Rattle.std.proofs.Common.{◌≢◌, ◌≡◌, ℕ, suc, ◌+◌, ◌-◌, ◌<◌, ◌≤◌, List, [], ◌∷◌, ◌++◌, length}
-use Rattle.std.proofs.Common.{drop, min, refl, sym, ap, ap₂, ◌∙◌, subst, inl, inr, arith, ◌⊎◌, length-append}
-use Rattle.std.proofs.lemmas.List.{take_at, drop_at}
-use Rattle.std.proofs.lemmas.Bool.{cases_lt}
+use Rattle.std.proofs.Common.{◌≢◌, zero, suc, ◌≡◌, ℕ, ◌+◌, ◌-◌, ◌<◌, ◌≤◌, List, [], ◌∷◌, ◌++◌, length}
+use Rattle.std.proofs.Common.{min, refl, sym, ap, ap₂, ◌∙◌, subst, inl, inr, arith, ◌⊎◌, append_assoc}
+use Rattle.std.proofs.Common.{length-append, nat_le, if◌then◌else◌, Bool, ◌==◌, drop}
+use Rattle.std.proofs.lemmas.Bool.{cases_lt, cases_Bool, cond-true, cond-false, leb-true, lt-ltb}
+use Rattle.std.proofs.lemmas.Bool.{le-ltb}
+use Rattle.std.proofs.lemmas.Bool.Decides.{nat_tests}
 use Rattle.std.proofs.lemmas.Option.{none-some, cond_some}
-use Rattle.std.specs.Prelude.{true}
-use Rattle.std.specs.List.{slice_get}
+use Rattle.std.proofs.lemmas.List.Elements.{filter-append}
+use Rattle.std.specs.Prelude.{Option, true, filter, is_some}
 use Rattle.std.specs.declared.option.Option.TheVariants.{Some, None}
-use Rattle.net_ring.specs.Overwrite.{overwrite}
-use Rattle.net_ring.specs.Ring.{RingState, ring, index_after, storage_index, capacity, window, queue}
-use Rattle.net_ring.specs.Ring.{IsWellFormed, rewind_if_empty, with_enqueued, with_dequeued, with_elements}
-use Rattle.net_ring.specs.Ring.{contiguous_window, queue_index}
-use Rattle.net_packets.specs.Packets.{Packet, PacketsState, packet, bytes_used, slots_used, slots_for}
-use Rattle.net_packets.specs.Packets.{byte_ring, IsPlaced, ArePlaced, gap_for, placement, with_packet}
-use Rattle.net_packets.specs.Packets.{with_packet_if_room, with_packet_if, only_last, before_last, last_index}
-use Rattle.net_packets.specs.Packets.{with_last_bytes, with_last_size, with_first_size}
-use Rattle.net_packets.specs.Packets.{first_gap, first_size, without_first_gap, without_gap, IsFirstSized}
-use Rattle.net_packets.specs.Packets.{with_first_header, with_first_bytes, without_first}
-use Rattle.net_packets.specs.Packets.{IsWellPlaced, with_bytes}
-use Rattle.net_packets.specs.PacketSlots.{slot, gap_slot, packet_slots, packets_in, Represents, packets_state}
+use Rattle.net_ring.specs.Ring.{RingState, index_after, capacity, window, queue, write_at, IsWellFormed}
+use Rattle.net_ring.specs.Ring.{Enqueues, with_enqueued, with_dequeued, with_elements}
+use Rattle.net_ring.specs.Ring.{contiguous_window, ring, storage_index, rewind_if_empty, queue_index}
+use Rattle.net_ring.specs.RingHead.{place, rewound, contiguous_free}
+use Rattle.net_ring.specs.declared.head.RingHead.{RingHead}
+use Rattle.net_packets.specs.Packets.{Packet, packet, bytes_used, slots_used, slots_for, IsPlaced}
+use Rattle.net_packets.specs.Packets.{ArePlaced, PacketsState, gap_for, if_slots, placement, byte_ring}
+use Rattle.net_packets.specs.Packets.{with_packet, with_packet_if_room, with_packet_if, only_last}
+use Rattle.net_packets.specs.Packets.{before_last, last_index, with_last_bytes, with_last_size}
+use Rattle.net_packets.specs.Packets.{with_first_size, first_gap, first_size, without_first_gap}
+use Rattle.net_packets.specs.Packets.{without_gap, IsFirstSized, with_first_header, with_first_bytes}
+use Rattle.net_packets.specs.Packets.{without_first, IsWellPlaced, with_bytes}
+use Rattle.net_packets.specs.PacketsHead.{packets_head, placement_in}
+use Rattle.net_packets.specs.PacketSlots.{slot, gap_slot, packet_slots, packets_in, Represents}
+use Rattle.net_packets.specs.PacketSlots.{packets_state}
 use Rattle.net_packets.specs.declared.packet_metadata.PacketMetadata.{PacketMetadata}
-use Rattle.net_ring.proofs.Rotations.{length-overwrite, length-queue, with_dequeued_parts}
-use Rattle.net_ring.proofs.RingFacts.{rewind_cases, rewind_wf, rewound_is}
-use Rattle.net_packets.proofs.PacketFacts.{round, slots_append, slots_of_append, bytes_append}
-use Rattle.net_packets.proofs.PacketFacts.{placed_append, placed_anew, placed_here, placed_skip, placed_pop}
-use Rattle.net_packets.proofs.PacketFacts.{slots_some, slots_for_pos, count_is, place_zero, place_le_in}
-use Rattle.net_packets.proofs.PacketFacts.{place_wf, gap_slot_one, gap_slot_none, off_wf}
+use Rattle.net_ring.proofs.RingFacts.{rewound_ring, rewind_cases, rewind_wf, rewound_is}
+use Rattle.net_ring.proofs.Rotations.{length-queue, length-overwrite, with_dequeued_parts}
+use Rattle.std.proofs.lemmas.List.{take_at, drop_at}
+use Rattle.std.specs.List.{slice_get}
+use Rattle.net_ring.specs.Overwrite.{overwrite}
 
+-- a list that is not empty ends in an element
+pub ends_in : {X : Type 0} (xs : List X) → xs ≢ [] → (ys : List X) × (y : X) × (xs ≡ ys ++ (y ∷ []))
+ends_in [] some = absurd (some refl)
+ends_in (x ∷ []) some = ([], x, refl)
+ends_in (x ∷ (o ∷ xs)) some =
+    let rest = ends_in (o ∷ xs) (λ e. let n = ap length e in absurd (omega arith)) in
+    (x ∷ rest.0, rest.1, ap (λ l. x ∷ l) rest.2)
+
+-- ---- places of a ring of c elements that is read from r on
+pub place_cases : (c r i : ℕ) → ((i < c - r) × (index_after c r i ≡ r + i)) ⊎ ((c - r ≤ i) × (index_after c r i ≡ i - (c - r)))
+place_cases c r i = elim (cases_lt i (c - r)) [
+  | inl h ↦ inl (h, ap (λ (t : Bool). if t then r + i else i - (c - r)) (lt-ltb i (c - r) h))
+  | inr h ↦ inr (h, ap (λ (t : Bool). if t then r + i else i - (c - r)) (le-ltb i (c - r) h))
+]
+
+pub place_place : (c r k j : ℕ) → (r ≡ 0) ⊎ (r < c) → k + j ≤ c → index_after c (index_after c r k) j ≡ index_after c r (k + j)
+place_place c r k j wf le = omega (arith, place_cases c r k, place_cases c r (k + j), place_cases c (index_after c r k) j)
+
+pub place_le_in : (c r i : ℕ) → (r ≡ 0) ⊎ (r < c) → i ≤ c → index_after c r i ≤ c
+place_le_in c r i wf le = omega (arith, place_cases c r i)
+
+pub place_wf : (c r i : ℕ) → (r ≡ 0) ⊎ (r < c) → i ≤ c → (index_after c r i ≡ 0) ⊎ (index_after c r i < c)
+place_wf c r i wf le = elim (place_cases c r i) [
+  | inl a ↦ inr (omega arith)
+  | inr a ↦ elim wf [ inl z ↦ inl (omega arith) | inr l ↦ inr (omega arith) ]
+]
+
+pub place_zero : (c r : ℕ) → (r ≡ 0) ⊎ (r < c) → index_after c r 0 ≡ r
+place_zero c r wf = omega (arith, place_cases c r 0)
+
+pub slots_for_pos : (g : ℕ) → (1 ≤ slots_for g) × (slots_for g ≤ 2)
+slots_for_pos zero = (omega arith, omega arith)
+slots_for_pos (suc g) = (omega arith, omega arith)
+
+-- ---- placement
+pub slots_some : (free : ℕ) (o : Option ℕ) (gap : ℕ) → if_slots free o ≡ Some gap → (o ≡ Some gap) × (slots_for gap ≤ free)
+slots_some free None gap e = absurd (none-some _ e)
+slots_some free (Some g) gap e = elim (cases_Bool (nat_le (slots_for g) free)) [
+  | inl t ↦
+      let same : Some g ≡ Some gap = sym (cond-true _ _ _ t) ∙ e in
+      (same, subst (λ (n : ℕ). slots_for n ≤ free) (cond_some true g gap same).1 (leb-true (slots_for g) free t))
+  | inr f ↦ absurd (none-some _ (sym (cond-false _ _ _ f) ∙ e))
+]
+
+pub gap_some : (s c w gap : ℕ) → gap_for s c w ≡ Some gap → ((gap ≡ 0) × (s ≤ c)) ⊎ ((gap ≡ c) × (c < s) × (s ≤ w - c))
+gap_some s c w gap e = grind (arith, nat_tests)
+
+-- where a packet of s bytes comes, in a ring of c elements that is read from r on and holds n
+pub placed_here : (c r n s gap : ℕ) → (r ≡ 0) ⊎ (r < c) → n ≤ c → gap_for s (min (c - n) (c - index_after c r n)) (c - n) ≡ Some gap
+    → (index_after c r (n + gap) + s ≤ c) × (gap ≢ 0 → index_after c r n + gap ≡ c) × (n + gap + s ≤ c)
+placed_here c r n s gap wf le e =
+    let at = place_le_in c r n wf le in
+    elim (gap_some s (min (c - n) (c - index_after c r n)) (c - n) gap e) [
+      | inl h ↦
+          let z : n + gap ≡ n = omega (arith, h.0) in
+          (omega (arith, ap (index_after c r) z, h.1, at), λ k. absurd (k h.0), omega (arith, h.0, h.1))
+      | inr h ↦
+          let ends : index_after c r n + gap ≡ c = omega (arith, h.0, h.1, h.2) in
+          let fits : n + gap + s ≤ c = omega (arith, h.0, h.1, h.2) in
+          (omega (arith, place_cases c r n, place_cases c r (n + gap), ends, fits, h), λ k. ends, fits)
+    ]
+
+module _ {H : Type 0} where
+  -- ---- slots
+  gap_in : (g s : ℕ) (h : H) (ms : List (PacketMetadata H)) → packets_in 0 (gap_slot g ++ (slot s (Some h) ∷ ms)) ≡ packet h s g ∷ packets_in 0 ms
+  gap_in zero s h ms = refl
+  gap_in (suc g) s h ms = let e : 0 + suc g ≡ suc g = omega arith in ap (λ (n : ℕ). packet h s n ∷ packets_in 0 ms) e
+
+  pub round : (ps : List (Packet H)) → packets_in 0 (packet_slots ps) ≡ ps
+  round [] = refl
+  round (p ∷ ps) = gap_in p.gap p.size p.header (packet_slots ps) ∙ ap (λ (l : List (Packet H)). p ∷ l) (round ps)
+
+  pub length-gap : (g : ℕ) (m : PacketMetadata H) (ms : List (PacketMetadata H)) → length (gap_slot g ++ (m ∷ ms)) ≡ slots_for g + length ms
+  length-gap zero m ms = omega arith
+  length-gap (suc g) m ms = omega arith
+
+  pub length-slots : (ps : List (Packet H)) → length (packet_slots ps) ≡ slots_used ps
+  length-slots [] = refl
+  length-slots (p ∷ ps) = length-gap p.gap (slot p.size (Some p.header)) (packet_slots ps) ∙ ap (λ (n : ℕ). slots_for p.gap + n) (length-slots ps)
+
+  pub slots_pos : (ps : List (Packet H)) → (length ps ≤ slots_used ps) × (slots_used ps ≤ length ps + length ps)
+  slots_pos [] = (omega arith, omega arith)
+  slots_pos (p ∷ ps) = (omega (arith, slots_pos ps, slots_for_pos p.gap), omega (arith, slots_pos ps, slots_for_pos p.gap))
+
+  -- ---- a packet more
+  pub slots_append : (ps : List (Packet H)) (p : Packet H)
+      → packet_slots (ps ++ (p ∷ [])) ≡ packet_slots ps ++ (gap_slot p.gap ++ (slot p.size (Some p.header) ∷ []))
+  slots_append [] p = refl
+  slots_append (q ∷ ps) p =
+      let m = slot q.size (Some q.header) in
+      ap (λ (l : List (PacketMetadata H)). gap_slot q.gap ++ (m ∷ l)) (slots_append ps p)
+      ∙ sym (append_assoc (gap_slot q.gap) (m ∷ packet_slots ps) (gap_slot p.gap ++ (slot p.size (Some p.header) ∷ [])))
+
+  pub bytes_append : (ps : List (Packet H)) (p : Packet H) → bytes_used (ps ++ (p ∷ [])) ≡ bytes_used ps + p.gap + p.size
+  bytes_append [] p = omega arith
+  bytes_append (q ∷ ps) p = omega (arith, bytes_append ps p)
+
+  pub slots_of_append : (ps : List (Packet H)) (p : Packet H) → slots_used (ps ++ (p ∷ [])) ≡ slots_used ps + slots_for p.gap
+  slots_of_append [] p = omega arith
+  slots_of_append (q ∷ ps) p = omega (arith, slots_of_append ps p)
+
+  pub placed_append : (c r o : ℕ) (ps : List (Packet H)) (p : Packet H) → ArePlaced c r o ps → IsPlaced c r (o + bytes_used ps) p
+      → ArePlaced c r o (ps ++ (p ∷ []))
+  placed_append c r o [] p a i = let e : o + 0 ≡ o = omega arith in (subst (λ (n : ℕ). IsPlaced c r n p) e i, tt)
+  placed_append c r o (q ∷ ps) p a i =
+      let e : o + bytes_used (q ∷ ps) ≡ o + q.gap + q.size + bytes_used ps = omega arith in
+      (a.0, placed_append c r (o + q.gap + q.size) ps p a.1 (subst (λ (n : ℕ). IsPlaced c r n p) e i))
+
+  -- where no bytes are queued, packets are placed from any place on
+  pub placed_anew : (c r o : ℕ) (ps : List (Packet H)) → bytes_used ps ≡ 0 → index_after c r o ≤ c → ArePlaced c r o ps
+  placed_anew c r o [] e le = tt
+  placed_anew c r o (p ∷ ps) e le =
+      let g : p.gap ≡ 0 = omega arith in let s : p.size ≡ 0 = omega arith in
+      let at : o + p.gap ≡ o = omega (arith, g) in
+      let next : o + p.gap + p.size ≡ o = omega (arith, g) in
+      let at_is = ap (index_after c r) at in
+      let next_is = ap (index_after c r) next in
+      ((omega arith, λ n. absurd (n g)), placed_anew c r (o + p.gap + p.size) ps (omega arith) (omega arith))
+
+  -- the same packets from a later place on
+  pub placed_from : (c r k o : ℕ) (ps : List (Packet H)) → (r ≡ 0) ⊎ (r < c) → k + o + bytes_used ps ≤ c
+      → ArePlaced c r (k + o) ps → ArePlaced c (index_after c r k) o ps
+  placed_from c r k o [] wf le a = tt
+  placed_from c r k o (p ∷ ps) wf le a =
+      let one = place_place c r k (o + p.gap) wf (omega arith) in
+      let two = place_place c r k o wf (omega arith) in
+      let e : k + (o + p.gap) ≡ k + o + p.gap = omega arith in
+      let one_is = ap (index_after c r) e in
+      let n : k + o + p.gap + p.size ≡ k + (o + p.gap + p.size) = omega arith in (
+        (omega (arith, a.0.0), λ z. let w = a.0.1 z in omega arith),
+        placed_from c r k (o + p.gap + p.size) ps wf (omega arith) (subst (λ (j : ℕ). ArePlaced c r j ps) n a.1),
+      )
+
+  -- the same packets once the gap before the first one is gone
+  pub placed_skip : (c r : ℕ) (p : Packet H) (ps : List (Packet H)) → (r ≡ 0) ⊎ (r < c) → bytes_used (p ∷ ps) ≤ c
+      → ArePlaced c r 0 (p ∷ ps) → ArePlaced c (index_after c r p.gap) 0 (packet p.header p.size 0 ∷ ps)
+  placed_skip c r p ps wf le a =
+      let at : 0 + p.gap ≡ p.gap + 0 + 0 = omega arith in
+      let n : 0 + p.gap + p.size ≡ p.gap + 0 + 0 + p.size = omega arith in
+      placed_from c r p.gap 0 (packet p.header p.size 0 ∷ ps) wf (omega arith)
+      ((omega (arith, ap (index_after c r) at, a.0.0), λ k. absurd (k refl)), subst (λ (j : ℕ). ArePlaced c r j ps) n a.1)
+
+  -- and once the first one, which has no gap, is gone
+  pub placed_pop : (c r : ℕ) (p : Packet H) (ps : List (Packet H)) → (r ≡ 0) ⊎ (r < c) → bytes_used (p ∷ ps) ≤ c → p.gap ≡ 0
+      → ArePlaced c r 0 (p ∷ ps) → ArePlaced c (index_after c r p.size) 0 ps
+  placed_pop c r p ps wf le z a =
+      let k : 0 + p.gap + p.size ≡ p.size + 0 = omega arith in
+      placed_from c r p.size 0 ps wf (omega arith) (subst (λ (j : ℕ). ArePlaced c r j ps) k a.1)
+
+  module _ (m : RingState (PacketMetadata H)) (b : RingState ℕ) (ps : List (Packet H)) (h : Represents m b ps) where
+    pub count_is : m.count ≡ slots_used ps
+    count_is = sym (length-queue m h.0) ∙ ap length h.2 ∙ length-slots ps
+
+    pub empty_is : (m.count == 0) ≡ (length ps == 0)
+    empty_is = let n = count_is in let some = slots_pos ps in grind (arith, nat_tests)
+
+  -- ---- a slot more
+  pub gap_slot_one : (gap : ℕ) → 0 < gap → gap_slot {H = H} gap ≡ slot gap None ∷ []
+  gap_slot_one zero p = absurd (omega arith)
+  gap_slot_one (suc g) p = refl
+
+  pub gap_slot_none : (gap : ℕ) → gap ≡ 0 → gap_slot {H = H} gap ≡ []
+  gap_slot_none gap e = ap (λ (n : ℕ). gap_slot {H = H} n) e
+
+-- ---- what the ring of slots is after a slot came last
+pub pushed_slot : {T : Type 0} (g h : RingState T) (w : T) → IsWellFormed g → window g ≢ 0
+    → h ≡ with_elements (with_enqueued 1 g) (write_at g) (w ∷ []) → Enqueues g (w ∷ []) h
+    → (queue h ≡ queue g ++ (w ∷ [])) × IsWellFormed h × (window h ≡ window g - 1) × (capacity h ≡ capacity g)
+pushed_slot g h w wf some e q =
+    let cap : capacity h ≡ capacity g = ap capacity e ∙ length-overwrite g.storage (write_at g) (w ∷ []) in
+    let r : h.read_at ≡ g.read_at = ap (λ o. o.read_at) e in
+    let n : h.count ≡ g.count + 1 = ap (λ o. o.count) e in
+    (q.0, (elim wf.0 [ inl z ↦ inl (r ∙ z) | inr l ↦ inr (omega arith) ], omega arith), omega arith, cap)
+
+-- and after the first one was taken off as it is
+pub off_wf : {T : Type 0} (g : RingState T) (x : T) (xs : List T) → IsWellFormed g → queue g ≡ x ∷ xs → IsWellFormed (with_dequeued 1 g)
+off_wf g x xs wf e =
+    let long = length-queue g wf in
+    let n = ap length e in
+    (place_wf (capacity g) g.read_at 1 wf.0 (omega (arith, wf.1)), omega (arith, wf.1))
+
+-- ---- where a packet is placed
+-- the head of the queue q places a packet where q does
+pub placed_alike : {H : Type 0} (q : PacketsState H) (n c : ℕ) (m b : RingHead) (s : ℕ) → n ≡ q.slot_count → m.length ≡ slots_used q.packets
+    → c ≡ length q.storage → b ≡ place q.read_at (bytes_used q.packets) → placement_in n c (packets_head m b) s ≡ placement q s
+placed_alike q n c m b s en em ec eb =
+    ap₂ if_slots (ap₂ (λ x y. x - y) en em)
+    (ap₂ (λ (k : ℕ) (p : RingHead). gap_for s (contiguous_free k (rewound p)) (k - (rewound p).length)) ec eb
+    ∙ ap (λ o. gap_for s (contiguous_window o) (window o)) (rewound_ring q.storage (place q.read_at (bytes_used q.packets))))
+
+-- ---- how many packets slots have
+module _ {H : Type 0} where
+  -- one slot more, if the others have a packet for each of theirs with a header
+  slot_counted : (gap s : ℕ) (h : Option H) (ms : List (PacketMetadata H)) →
+      ((g : ℕ) → length (packets_in g ms) ≡ length (filter (λ m. is_some m.header) ms)) →
+      length (packets_in gap (slot s h ∷ ms)) ≡ length (filter (λ m. is_some m.header) (slot s h ∷ ms))
+  slot_counted gap s None ms rest = rest (gap + s)
+  slot_counted gap s (Some h) ms rest = ap suc (rest 0)
+
+  -- a packet for each slot with a header
+  pub length-packets_in : (gap : ℕ) (ms : List (PacketMetadata H)) →
+      length (packets_in gap ms) ≡ length (filter (λ m. is_some m.header) ms)
+  length-packets_in gap [] = refl
+  length-packets_in gap (m ∷ ms) = slot_counted gap m.size m.header ms (λ g. length-packets_in g ms)
+
+  -- in two parts
+  pub packets_in_parts : (a b ms : List (PacketMetadata H)) → a ++ b ≡ ms →
+      length (filter (λ m. is_some m.header) a) + length (filter (λ m. is_some m.header) b) ≡ length (packets_in 0 ms)
+  packets_in_parts a b ms e =
+      sym (length-append (filter (λ m. is_some m.header) a) (filter (λ m. is_some m.header) b))
+      ∙ ap length (sym (filter-append (λ m. is_some m.header) a b))
+      ∙ ap (λ l. length (filter (λ m. is_some m.header) l)) e
+      ∙ sym (length-packets_in 0 ms)
+
+-- ---- what a queue of packets is after a step on its two rings
 -- the first element of a list
 module _ {X : Type 0} where
   abbrev pub head_or : X → List X → X
@@ -44,7 +264,7 @@ module _ {H : Type 0} where
     pub well_placed : IsWellPlaced q
     well_placed =
         let n = count_is m b (packets_in 0 (queue m)) h in
-        subst IsWellPlaced is ((h.1.0, omega (arith, h.3, h.1.1)), h.4, omega (arith, n, h.0.1))
+        subst IsWellPlaced is ((h.1.0, omega (arith, h.3, h.1.1)), h.4, omega (arith, h.0.1))
 
     pub bytes_are : b ≡ byte_ring q
     bytes_are = ap (ring b.storage b.read_at) h.3 ∙ ap byte_ring is
@@ -76,10 +296,10 @@ module _ {H : Type 0} where
 
   -- ---- a packet at the end of a list
   pub last_append : (ps : List (Packet H)) (p : Packet H) → only_last (ps ++ (p ∷ [])) ≡ p ∷ []
-  last_append ps p = let n = length-append ps (p ∷ []) in drop_at ps (p ∷ []) (length (ps ++ (p ∷ [])) - 1) (omega (arith, n))
+  last_append ps p = let n = length-append ps (p ∷ []) in drop_at ps (p ∷ []) (length (ps ++ (p ∷ [])) - 1) (omega arith)
 
   pub before_append : (ps : List (Packet H)) (p : Packet H) → before_last (ps ++ (p ∷ [])) ≡ ps
-  before_append ps p = let n = length-append ps (p ∷ []) in take_at ps (p ∷ []) (length (ps ++ (p ∷ [])) - 1) (omega (arith, n))
+  before_append ps p = let n = length-append ps (p ∷ []) in take_at ps (p ∷ []) (length (ps ++ (p ∷ [])) - 1) (omega arith)
 
   -- ---- a packet comes last
   module _ (q : PacketsState H) (ok : IsWellPlaced q) (gap s : ℕ) (e : placement q s ≡ Some gap) where
@@ -114,7 +334,7 @@ module _ {H : Type 0} where
       pub enqueued_is : (k : ℕ) → with_enqueued (gap + k) g ≡ byte_ring (with_packet q gap k hd)
       enqueued_is k =
           let all = bytes_append q.packets (packet hd k gap) in
-          ap₂ (λ (st : List ℕ) (n : ℕ). ring st g.read_at n) (rewound_is (byte_ring q)).2 (omega (arith, count_g, all))
+          ap₂ (λ (st : List ℕ) (n : ℕ). ring st g.read_at n) (rewound_is (byte_ring q)).2 (omega (arith, count_g))
 
       pub push_well : (k : ℕ) → k ≤ s → IsWellPlaced (with_packet q gap k hd)
       push_well k le =
@@ -123,11 +343,11 @@ module _ {H : Type 0} where
           let some = slots_for_pos gap in
           let end : g.count ≡ 0 + bytes_used q.packets = omega (arith, count_g) in
           let at : IsPlaced (capacity g) g.read_at (0 + bytes_used q.packets) (packet hd k gap) =
-          subst (λ (n : ℕ). IsPlaced (capacity g) g.read_at n (packet hd k gap)) end (omega (arith, here.0, le), here.1) in
+          subst (λ (n : ℕ). IsPlaced (capacity g) g.read_at n (packet hd k gap)) end (omega (arith, here.0), here.1) in
           subst IsWellPlaced (ap (λ (st : List ℕ). mk q.slot_count st g.read_at (q.packets ++ (packet hd k gap ∷ []))) (rewound_is (byte_ring q)).2) (
-            (wfg.0, omega (arith, here.2, le, all, count_g)),
+            (wfg.0, omega (arith, here.2, count_g)),
             placed_append (capacity g) g.read_at 0 q.packets (packet hd k gap) placed_g at,
-            omega (arith, more, some, parts.1),
+            omega (arith, parts.1),
           )
 
       pub pushed_is : with_packet_if_room q s hd ≡ with_packet q gap s hd
@@ -139,7 +359,7 @@ module _ {H : Type 0} where
       pub push_place : index_after (capacity g) g.read_at (g.count + gap) ≡ last_index (with_packet q gap s hd)
       push_place =
           let sum = bytes_append q.packets (packet hd s gap) in
-          ap₂ (λ (st : List ℕ) (n : ℕ). index_after (length st) g.read_at n) (rewound_is (byte_ring q)).2 (omega (arith, sum, end_size, count_g))
+          ap₂ (λ (st : List ℕ) (n : ℕ). index_after (length st) g.read_at n) (rewound_is (byte_ring q)).2 (omega (arith, end_size, count_g))
 
       -- bytes are written to it, and the first k of them stay
       pub cut_is : (k : ℕ) (ws : List ℕ) → with_bytes (with_packet q gap k hd) (last_index (with_packet q gap s hd)) ws
@@ -180,23 +400,23 @@ module _ {H : Type 0} where
   pub last_fits : (c r o : ℕ) (ps : List (Packet H)) → (r ≡ 0) ⊎ (r < c) → o + bytes_used ps ≤ c → ArePlaced c r o ps
       → (first_size (only_last ps) ≤ bytes_used ps) × (index_after c r (o + bytes_used ps - first_size (only_last ps)) + first_size (only_last ps) ≤ c)
   last_fits c r o [] wf le a =
-      let at = place_le_in c r o wf (omega (arith, le)) in
+      let at = place_le_in c r o wf (omega arith) in
       let z : o + 0 - 0 ≡ o = omega arith in
       let is = ap (index_after c r) z in
-      (omega arith, omega (arith, is, at))
+      (omega arith, omega arith)
   last_fits c r o (p ∷ []) wf le a =
       let s = ap first_size (last_one p) in
-      let z : o + (p.gap + p.size + 0) - first_size (only_last (p ∷ [])) ≡ o + p.gap = omega (arith, s) in
+      let z : o + (p.gap + p.size + 0) - first_size (only_last (p ∷ [])) ≡ o + p.gap = omega arith in
       let is = ap (index_after c r) z in
-      (omega (arith, s), omega (arith, is, s, a.0.0))
+      (omega arith, omega (arith, a.0.0))
   last_fits c r o (p ∷ (q ∷ ps)) wf le a =
       let s = ap first_size (last_cons p q ps) in
-      let rest = last_fits c r (o + p.gap + p.size) (q ∷ ps) wf (omega (arith, le)) a.1 in
+      let rest = last_fits c r (o + p.gap + p.size) (q ∷ ps) wf (omega arith) a.1 in
       let z : o + bytes_used (p ∷ (q ∷ ps)) - first_size (only_last (p ∷ (q ∷ ps)))
       ≡ o + p.gap + p.size + bytes_used (q ∷ ps) - first_size (only_last (q ∷ ps)) =
-      omega (arith, s) in
+      omega arith in
       let is = ap (index_after c r) z in
-      (omega (arith, s, rest.0), omega (arith, is, s, rest.1))
+      (omega (arith, rest.0), omega (arith, rest.1))
 
   module _ (q : PacketsState H) (ok : IsWellPlaced q) where
     abbrev end : ℕ
@@ -207,7 +427,7 @@ module _ {H : Type 0} where
         let all = last_fits (length q.storage) q.read_at 0 q.packets ok.0.0 (omega (arith, ok.0.1)) ok.1 in
         let z : 0 + bytes_used q.packets - end ≡ bytes_used q.packets - end = omega arith in
         let at = ap (index_after (length q.storage) q.read_at) z in
-        (all.0, omega (arith, at, all.1))
+        (all.0, omega (arith, all.1))
 
   -- ---- the gap before the first packet goes
   pub skipped_well : (q : PacketsState H) → IsWellPlaced q → IsWellPlaced (without_gap q)
@@ -218,7 +438,7 @@ module _ {H : Type 0} where
       go (p ∷ ps) ok =
           let some = slots_for_pos p.gap in
           let at = place_wf (length q.storage) q.read_at p.gap ok.0.0 (omega (arith, ok.0.1)) in
-          ((at, omega (arith, ok.0.1)), placed_skip (length q.storage) q.read_at p ps ok.0.0 ok.0.1 ok.1, omega (arith, some, ok.2))
+          ((at, omega (arith, ok.0.1)), placed_skip (length q.storage) q.read_at p ps ok.0.0 ok.0.1 ok.1, omega (arith, ok.2))
 
   pub close_gap : (ps : List (Packet H)) → first_gap (without_first_gap ps) ≡ 0
   close_gap [] = refl
@@ -246,7 +466,7 @@ module _ {H : Type 0} where
       (off : m2 ≡ with_dequeued 1 m) (dequeued : b2 ≡ with_dequeued gap b) where
     pub skip_left : Represents m2 b2 (packets_in 0 (queue m2)) × (capacity m2 ≡ q.slot_count → packets_state m2 b2 ≡ without_gap q)
     skip_left =
-        let all = slots_are m b h q is ∙ skipped_slots q.packets (omega (arith, size, some)) in
+        let all = slots_are m b h q is ∙ skipped_slots q.packets (omega (arith, size)) in
         let many : 1 ≤ m.count = omega (arith, length-queue m h.0, ap length all) in
         let slots = ap queue off ∙ (with_dequeued_parts m h.0 1 many).0 ∙ ap (drop 1) all in
         let wfm = subst IsWellFormed (sym off) (off_wf m _ _ h.0 all) in
@@ -260,7 +480,7 @@ module _ {H : Type 0} where
   -- the first slot is that of the first packet
   head_of : (ps : List (Packet H)) (s : ℕ) (hd : H) (ms : List (PacketMetadata H)) → slot s (Some hd) ∷ ms ≡ packet_slots ps → first_gap ps ≡ 0
       → IsFirstSized ps hd s × (ms ≡ packet_slots (drop 1 ps))
-  head_of [] s hd ms e z = absurd (let n = ap length e in omega (arith, n))
+  head_of [] s hd ms e z = absurd (let n = ap length e in omega arith)
   head_of (p ∷ ps) s hd ms e z =
       let all : slot s (Some hd) ∷ ms ≡ slot p.size (Some p.header) ∷ packet_slots ps = e ∙ head_slots ps p z in
       let same = ap (head_or (slot s (Some hd))) all in (
@@ -270,32 +490,32 @@ module _ {H : Type 0} where
 
   -- the first slot is that of a gap
   pub gap_of : (ps : List (Packet H)) (s : ℕ) (ms : List (PacketMetadata H)) → slot s None ∷ ms ≡ packet_slots ps → (first_gap ps ≡ s) × (0 < s)
-  gap_of [] s ms e = absurd (let n = ap length e in omega (arith, n))
+  gap_of [] s ms e = absurd (let n = ap length e in omega arith)
   gap_of (p ∷ ps) s ms e = elim (cases_lt 0 p.gap) [
     | inl pos ↦
         let all = e ∙ skipped_slots (p ∷ ps) pos in
         let size : s ≡ p.gap = ap (λ x. x.size) (ap (head_or (slot s None)) all) in
-        (sym size, omega (arith, size, pos))
+        (sym size, omega (arith, size))
     | inr z ↦
-        let all = e ∙ head_slots ps p (omega (arith, z)) in
+        let all = e ∙ head_slots ps p (omega arith) in
         absurd (none-some p.header (ap (λ x. x.header) (ap (head_or (slot s None)) all)))
   ]
 
   -- where the first packet is
   pub head_fits : (c r : ℕ) (ps : List (Packet H)) → (r ≡ 0) ⊎ (r < c) → bytes_used ps ≤ c → ArePlaced c r 0 ps
       → first_gap ps ≡ 0 → (first_size ps ≤ bytes_used ps) × (r + first_size ps ≤ c)
-  head_fits c r [] wf le a z = (omega arith, elim wf [ inl e ↦ omega (arith, e) | inr l ↦ omega (arith, l) ])
+  head_fits c r [] wf le a z = (omega arith, elim wf [ inl e ↦ omega arith | inr l ↦ omega arith ])
   head_fits c r (p ∷ ps) wf le a z =
-      let n : 0 + p.gap ≡ 0 = omega (arith, z) in
+      let n : 0 + p.gap ≡ 0 = omega arith in
       let is = ap (index_after c r) n in
       let at = place_zero c r wf in
-      (omega arith, omega (arith, is, at, a.0.0))
+      (omega arith, omega (arith, a.0.0))
 
   -- where the gap before it is
   pub gap_fits : (c r o : ℕ) (ps : List (Packet H)) → ArePlaced c r o ps → 0 < first_gap ps
       → (first_gap ps ≤ bytes_used ps) × (index_after c r o + first_gap ps ≡ c)
-  gap_fits c r o [] a some = absurd (omega (arith, some))
-  gap_fits c r o (p ∷ ps) a some = (omega arith, a.0.1 (λ z. omega (arith, z, some)))
+  gap_fits c r o [] a some = absurd (omega arith)
+  gap_fits c r o (p ∷ ps) a some = (omega arith, a.0.1 (λ z. omega arith))
 
   -- its header is written over
   pub headed : (hd : H) (ps : List (Packet H)) → (first_gap (with_first_header hd ps) ≡ first_gap ps) × (first_size (with_first_header hd ps) ≡ first_size ps)
@@ -326,7 +546,7 @@ module _ {H : Type 0} where
 
   popped_bytes : (ps : List (Packet H)) → first_gap ps ≡ 0 → bytes_used ps - first_size ps ≡ bytes_used (drop 1 ps)
   popped_bytes [] z = omega arith
-  popped_bytes (p ∷ ps) z = omega (arith, z)
+  popped_bytes (p ∷ ps) z = omega arith
 
   pub popped_ring : (q : PacketsState H) → first_gap q.packets ≡ 0 → with_dequeued (first_size q.packets) (byte_ring q) ≡ byte_ring (without_first q)
   popped_ring q z = ap (ring q.storage (without_first q).read_at) (popped_bytes q.packets z)

@@ -8,8 +8,8 @@ use mir.Syntax.{Ty, tcons, tnil}
 use mir.Val.{Val, WT, has_ty, has_tys, vstruct, vcons, vnil, of_list}
 use base.Logic.{SProp, ent, sep, emp, via, comm∗, mono_l, emp∗}
 use types.Logic.{Logic, sem}
-use types.Kit.{Item, Goal, Seq, prop, Step, step, ‵, ◌$◌, ◌∵◌, !, qed, move, drop, fsplit, fsplit3, fpick}
-use types.Kit.{feq_l, feq_i, fjoin, fpack, done}
+use types.Kit.{Item, Goal, Seq, prop, Step, step, ‵, ◌$◌, ◌∵◌, !, qed, move, drop, fsplit, fsplit3, fpick, feq_l}
+use types.Kit.{feq_i, fjoin, fpack, done}
 use types.Match.{live}
 use contract.Monad.{fact, fact_i}
 use denote.Laws.{Typed}

@@ -14,7 +14,7 @@ use denote.RattleType.{RattleType}
 use denote.Steps.{heard}
 use denote.Param.{param, bounded}
 use denote.Param.Laws.{Laws}
-use Rattle.net_packets.specs.Packets.{PacketsState}
+use Rattle.net_packets.specs.{PacketsState}
 use Rattle.net_ring.specs.declared.managed.Storage.{Ghosts}
 use Rattle.net_packets.specs.declared.packet_metadata.PacketMetadata.{PacketMetadata}
 use Rattle.net_packets.specs.contracts.packet_buffer.PacketsOver as P

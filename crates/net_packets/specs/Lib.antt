@@ -1,8 +1,11 @@
 pub mod Packets
-pub mod PacketsHead
 pub mod PacketSlots
-pub mod HeadQueue
+pub mod PacketsHead
 pub mod PacketLends
-pub mod PacketHistory
 pub mod PacketCalls
-pub mod Drops
+pub mod PacketHistory
+pub use Packets.*
+pub use PacketsHead.*
+pub use PacketSlots.*
+unfoldable pub use PacketHistory.*
+pub use PacketCalls.*

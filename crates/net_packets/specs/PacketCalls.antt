@@ -1,14 +1,12 @@
 -- Calls of a closure at a packet: at the bytes that it is given, or at its header and bytes; and
 -- bytes that are copied out.
---     TakesRoom f q s h, CountsAtMost f q s h      what is required of a closure that writes a packet
---     WritesPacket f q s h k r      what a call of it leaves
+--     WritesPacket f q s h k r      what a call of a closure that writes a packet leaves
 --     TakesPacket f h ws, GivesAtPacket f h ws r h' ws'      a closure at a header and bytes
 --     TakesFirstPacket f q, HandsPacket f q answer r      the same at the first packet of a queue
 --     CopiesOut ps h xs k rest ys      the first packet was copied out
-use Rattle.std.specs.Prelude.{◌≡◌, ◌≤◌, ℕ, List, [], ◌∷◌, ◌++◌, Result, is_ok, if◌then◌else◌}
-use Rattle.std.specs.Prelude.{length, min, take, drop}
+use Rattle.std.specs.Prelude.{◌≡◌, ◌≤◌, ℕ, List, [], ◌∷◌, ◌++◌, Result, is_ok, if◌then◌else◌, length, min, take, drop}
 use Rattle.std.specs.Borrow.{MutBor}
-use Rattle.std.specs.Fn.{Once, FnOnceTakesAtMut, FnOnceReturnsAtMut}
+use Rattle.std.specs.Fn.{Once, FnOnceReturnsAtMut}
 use Rattle.net_packets.specs.Packets.{PacketsState, IsRoom, IsFirst, with_packet_if_room, with_last_bytes}
 use Rattle.net_packets.specs.Packets.{with_last_size, after_hand_out}
 use Rattle.net_packets.specs.PacketHistory.{contents, Makes, EnqueueWith, DequeueWith}
@@ -16,15 +14,6 @@ use Rattle.net_packets.specs.PacketHistory.{contents, Makes, EnqueueWith, Dequeu
 -- ---- the closure writes a new packet
 module _ {F H : Type 0}
     (g : Once F (MutBor (List ℕ) × Unit {0}) (ℕ × (MutBor (List ℕ) × Unit {0}))) where
-  -- f may be called once at the bytes that a packet of s bytes is given
-  abbrev pub TakesRoom : F → PacketsState H → ℕ → H → Type 0
-  TakesRoom f q s h = (room : List ℕ) → IsRoom q s h room → FnOnceTakesAtMut g f room
-
-  -- and there it returns at most s
-  abbrev pub CountsAtMost : F → PacketsState H → ℕ → H → Type 0
-  CountsAtMost f q s h =
-      (room ws : List ℕ) (k : ℕ) → IsRoom q s h room → FnOnceReturnsAtMut g f room k ws → k ≤ s
-
   -- f was lent the bytes room, wrote ws there and returned k: the first k bytes of ws were appended
   -- as a packet, which made r of q
   pub record WritesPacket (f : F) (q : PacketsState H) (s : ℕ) (h : H) (k : ℕ)

@@ -4,14 +4,21 @@
 --     with_bytes_in_last_entry bytes ps      the last of these has other bytes
 --     QueueCall H, Makes call q r, MakesAll calls q r      what one call did, and what calls make
 --     log_after call log, log_after_all calls log, history calls      the log after calls
-use Rattle.std.specs.Prelude.{Bool, if◌then◌else◌, ◌≡◌, ◌≢◌, ◌≤◌, ℕ, ◌+◌, List, [], ◌∷◌, length, take, drop, set}
+-- And a queue whose oldest packets were dropped, in words that proofs keep as names.
+--     without_oldest q      the queue once its first packet is taken off, with the gap before it
+--     after_drops k q      the queue once its k first packets are taken off
+--     HasNoRoom q s      a packet of s bytes is refused
+--     HasNoRoomBefore k q s      it is refused after each number of drops below k
+use Rattle.std.specs.Prelude.{Bool, if◌then◌else◌, ◌≡◌, ◌≢◌, ◌≤◌, ℕ, ◌+◌, List, [], ◌∷◌, length, take}
+use Rattle.std.specs.Prelude.{drop, set, zero, suc, ◌<◌}
 use Rattle.std.specs.declared.option.Option.TheVariants.{None}
 use Rattle.net_ring.specs.Ring.{queue}
 use Rattle.net_ring.specs.Log.{Log, empty_log, log_accepted, log_left, log_dropped}
 use Rattle.net_packets.specs.Packets.{Packet, PacketsState, no_packets, byte_ring, placement}
-use Rattle.net_packets.specs.Packets.{with_packet_if_room, only_last, last_bytes, with_last_bytes, with_last_size}
-use Rattle.net_packets.specs.Packets.{with_packet_of, first_size, without_gap, with_first_bytes, IsFirst, without_first}
-use Rattle.net_packets.specs.Packets.{without_first_and_gap, last_dequeued_bytes_index, AreLastDequeued, with_bytes}
+use Rattle.net_packets.specs.Packets.{with_packet_if_room, only_last, last_bytes, with_last_bytes}
+use Rattle.net_packets.specs.Packets.{with_last_size, with_packet_of, first_size, without_gap}
+use Rattle.net_packets.specs.Packets.{with_first_bytes, IsFirst, without_first, without_first_and_gap}
+use Rattle.net_packets.specs.Packets.{last_dequeued_bytes_index, AreLastDequeued, with_bytes}
 
 module _ {H : Type 0} where
   -- the headers and bytes of packets whose bytes, gaps among them, are bs
@@ -131,3 +138,17 @@ module _ {H : Type 0} where
   -- the log of calls from a new queue on
   abbrev pub history : List (QueueCall H) → Log (H × List ℕ)
   history calls = log_after_all calls empty_log
+
+-- ---- a queue whose oldest packets were dropped
+unfoldable pub without_oldest : {H : Type 0} → PacketsState H → PacketsState H
+without_oldest q = without_first_and_gap q
+
+unfoldable pub after_drops : {H : Type 0} → ℕ → PacketsState H → PacketsState H
+after_drops zero q = q
+after_drops (suc k) q = without_oldest (after_drops k q)
+
+unfoldable pub HasNoRoom : {H : Type 0} → PacketsState H → ℕ → Type 0
+HasNoRoom q s = placement q s ≡ None
+
+unfoldable pub HasNoRoomBefore : {H : Type 0} → ℕ → PacketsState H → ℕ → Type 0
+HasNoRoomBefore k q s = (j : ℕ) → j < k → HasNoRoom (after_drops j q) s

@@ -3,8 +3,7 @@
 --     lends_bytes_if r F, lends_packet_if r F      the same at `Ok`, and at `Err` as it was
 --     ends_as q      it ends as q
 use Rattle.std.specs.Prelude.{◌≡◌, List, ℕ, Result, ⊤}
-use Rattle.std.specs.Borrow.{Lends, LendsIfOk, MutBor, Fml, RattleType, Array, u8, follows_if}
-use Rattle.std.specs.Borrow.{follows_so, name_if_ok}
+use Rattle.std.specs.Borrow.{Lends, LendsIfOk, MutBor, Fml, RattleType, Array, u8, follows_if, follows_so, name_if_ok}
 use mathlib.Core.Option.{none}
 use Rattle.net_packets.specs.Packets.{PacketsState}
 use Rattle.net_ring.specs.declared.managed.Storage.{Ghosts}

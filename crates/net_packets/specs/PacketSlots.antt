@@ -4,8 +4,7 @@
 --     packets_at h ms xs, AreSoundParts h ms xs      the same by a head, slots and bytes
 --     slots_with p s h ms      the slots of a packet of s bytes are written
 --     IsFirstSlot m s h, WithFirstSlot m s h n      what the first slot of a ring is
-use Rattle.std.specs.Prelude.{◌≡◌, ℕ, zero, suc, ◌+◌, List, [], ◌∷◌, ◌++◌, set, nat_eq, if◌then◌else◌}
-use Rattle.std.specs.Prelude.{Option}
+use Rattle.std.specs.Prelude.{◌≡◌, ℕ, zero, suc, ◌+◌, List, [], ◌∷◌, ◌++◌, set, nat_eq, if◌then◌else◌, Option}
 use Rattle.std.specs.declared.option.Option.TheVariants.{Some, None}
 use Rattle.net_ring.specs.Ring.{RingState, capacity, queue, IsWellFormed}
 use Rattle.net_ring.specs.RingHead.{ring_at}

@@ -12,12 +12,11 @@
 --         and the last packet by itself
 --     IsFirst q h ws, without_gap q, with_first_bytes q h ws, without_first q, without_first_and_gap q,
 --         after_hand_out gone q h ws      the first packet
---     AreLastDequeued q s, AreLastDequeuedAt q s p, last_dequeued_bytes_index q s, last_dequeued_bytes q s
+--     AreLastDequeued q s, last_dequeued_bytes_index q s, last_dequeued_bytes q s
 --         the bytes of a packet that was taken off
 --     with_bytes q p ws      bytes that are written over the storage
-use Rattle.std.specs.Prelude.{◌≡◌, ◌≢◌, Bool, ℕ, zero, suc, ◌+◌, ◌-◌, ◌≤◌, nat_le}
-use Rattle.std.specs.Prelude.{if◌then◌else◌, List, [], ◌∷◌, ◌++◌, length, take, drop, ⊤}
-use Rattle.std.specs.Prelude.{Option}
+use Rattle.std.specs.Prelude.{◌≡◌, ◌≢◌, Bool, ℕ, zero, suc, ◌+◌, ◌-◌, ◌≤◌, nat_le, if◌then◌else◌, List, [], ◌∷◌, ◌++◌}
+use Rattle.std.specs.Prelude.{length, take, drop, ⊤, Option}
 use Rattle.std.specs.declared.option.Option.TheVariants.{Some, None}
 use Rattle.net_ring.specs.Overwrite.{overwrite}
 use Rattle.net_ring.specs.Ring.{RingState, ring, window, index_after, storage_index, last_dequeued_index}
@@ -264,7 +263,3 @@ module _ {H : Type 0} where
   -- the s bytes before the read index are contiguous, and none of them is a packet's
   abbrev pub AreLastDequeued : PacketsState H → ℕ → Type 0
   AreLastDequeued q s = (s ≤ window (byte_ring q)) × (last_dequeued_bytes_index q s + s ≤ length q.storage)
-
-  -- the s bytes before the read index are such, and begin at the index p
-  abbrev pub AreLastDequeuedAt : PacketsState H → ℕ → ℕ → Type 0
-  AreLastDequeuedAt q s p = AreLastDequeued q s × (last_dequeued_bytes_index q s ≡ p)

@@ -4,19 +4,19 @@
 //! [`PacketsOver`](crate::PacketsOver) places packets by the rule here. A caller that has slots and bytes
 //! elsewhere, as a program in C, calls these functions with the number of slots, or the slots, and with
 //! the number of bytes.
-ghost use Rattle.std.specs.Prelude.{◌≡◌, ◌≢◌, ◌↔◌, ◌≤◌, ◌<◌, ◌-◌, ◌+◌, ◌∷◌, ℕ, List, length, set, slice_get};
-ghost use Rattle.std.specs.Prelude.{⊤, IsTrue, IsFalse, IsNone, IfSome};
+ghost use Rattle.std.specs.Prelude.{◌≡◌, ◌≢◌, ◌↔◌, ◌≤◌, ◌<◌, ◌-◌, ◌+◌, ◌∷◌, ℕ, List, length, set, slice_get, ⊤};
+ghost use Rattle.std.specs.Prelude.{IsTrue, IsFalse, IsNone, IfSome};
 ghost use Rattle.std.specs.declared.option.Option.TheVariants.{Some, None};
 ghost use Rattle.net_ring.specs.Ring.{index_after};
 ghost use Rattle.net_ring.specs.RingHead.{place, IsSound, rewound, contiguous_free};
-ghost use Rattle.net_packets.specs.HeadQueue.{HasSoundSlots, AreSlotsAfter, metadata, queue_of, CanTake, CanShorten};
-ghost use Rattle.net_packets.specs.HeadQueue.{after_slot, packet_slot, slots_written, last_slot_index, last_slot};
-ghost use Rattle.net_packets.specs.HeadQueue.{HasFirst, IsFirstAt, first_packet, first_slot, head_after_gap};
-ghost use Rattle.net_packets.specs.HeadQueue.{head_after_first, IsFirstSlot};
+ghost use Rattle.net_packets.specs.PacketsHead.{HasSoundSlots, AreSlotsAfter, metadata, queue_of, CanTake};
+ghost use Rattle.net_packets.specs.PacketsHead.{CanShorten, after_slot, packet_slot, slots_written, last_slot_index};
+ghost use Rattle.net_packets.specs.PacketsHead.{last_slot, HasFirst, IsFirstAt, first_packet, first_slot};
+ghost use Rattle.net_packets.specs.PacketsHead.{head_after_gap, head_after_first, IsFirstSlot, packets_head};
+ghost use Rattle.net_packets.specs.PacketsHead.{IsSoundHead, placement_in, with_packet_placed, place_after_gap};
+ghost use Rattle.net_packets.specs.PacketsHead.{with_slot_taken};
 ghost use Rattle.net_packets.specs.Packets.{gap_for, slots_for, if_slots, with_last_size, with_packet_if_room};
 ghost use Rattle.net_packets.specs.Packets.{without_first_and_gap};
-ghost use Rattle.net_packets.specs.PacketsHead.{packets_head, IsSoundHead, placement_in, with_packet_placed};
-ghost use Rattle.net_packets.specs.PacketsHead.{place_after_gap, with_slot_taken};
 ghost use Rattle.net_packets.specs.declared.packet_metadata.PacketMetadata.{PacketMetadata};
 
 use crate::packet_slot::PacketSlot;
@@ -179,22 +179,14 @@ impl PacketsHead {
     {
         self.bytes.drop_last(count);
     }
-
-    /// Empties the queue.
-    #[inline]
-    pub fn clear(&mut self)
-        ensures { self.new ≡ packets_head (place 0 0) (place 0 0) }
-    {
-        self.slots.clear();
-        self.bytes.clear();
-    }
 }
 
 /// The calls that take slots without headers, as a slice or one of them.
 impl PacketsHead {
-    /// Returns whether head and slots are those of a queue over `capacity` bytes: the head is sound; the
-    /// packets and gaps of the slots in use take the bytes in use; each packet is contiguous; and a gap
-    /// has bytes, ends at the storage's end and has a packet after it. It looks at each slot in use.
+    /// Returns whether head and slots are those of a queue over `capacity` bytes: the numbers are
+    /// those of a ring of the slots and of one of the bytes; the packets and gaps of the slots in
+    /// use take the bytes in use; each packet is contiguous; and a gap has bytes, ends at the
+    /// storage's end and has a packet after it. It looks at each slot in use.
     pub fn has_sound_slots(self, slots: &[PacketSlot], capacity: usize) -> bool
         ensures { IsTrue result ↔ HasSoundSlots capacity self slots.now }
     {
@@ -331,10 +323,10 @@ impl PacketsHead {
     }
 
     /// Takes the last `count` bytes off the last packet, lowers the size in its slot, and returns
-    /// true.
+    /// true. It is for a caller that wrote fewer bytes than it placed.
     ///
-    /// Returns false, and changes nothing, if the last slot in use can't be that of a packet of at
-    /// least `count` bytes, or none is in use.
+    /// Returns false, and changes nothing, if no slot is in use, if the last one is a gap's, or if
+    /// its size is below `count` or above the number of bytes in use.
     #[inline]
     pub fn shorten_last_in(
         &mut self,

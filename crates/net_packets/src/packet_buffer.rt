@@ -1,21 +1,18 @@
 //! A queue of packets, each with a header, over storage that is lent or owned.
-ghost use Rattle.std.specs.Prelude.{◌≡◌, ◌≢◌, ◌↔◌, ◌<◌, ◌≤◌, ◌==◌, ◌-◌, ◌∷◌, ◌++◌, [], ℕ, List, length};
-ghost use Rattle.std.specs.Prelude.{take, drop, min, set, slice_get, filter, is_some};
-ghost use Rattle.std.specs.Prelude.{IsTrue, IsErr, IsNone, IsSome, IfOk, IfSome, OnErr, OnOk};
+ghost use Rattle.std.specs.Prelude.{◌≡◌, ◌≢◌, ◌↔◌, ◌<◌, ◌≤◌, ◌==◌, ◌-◌, ◌∷◌, ◌++◌, [], ℕ, List, length, take, drop};
+ghost use Rattle.std.specs.Prelude.{min, set, slice_get, filter, is_some, IsTrue, IsErr, IsNone, IsSome, IfOk};
+ghost use Rattle.std.specs.Prelude.{IfSome, OnErr, OnOk};
 ghost use Rattle.std.specs.Borrow.{sem};
+ghost use Rattle.std.specs.Fn.{FnOnceTakesAtMut, FnOnceReturnsAtMut};
 ghost use Rattle.std.specs.declared.option.Option.TheVariants.{Some, None};
-ghost use Rattle.net_packets.specs.PacketCalls.{TakesRoom, CountsAtMost, WritesPacket};
-ghost use Rattle.net_packets.specs.PacketCalls.{TakesFirstPacket, HandsPacket, CopiesOut};
-ghost use Rattle.net_packets.specs.PacketHistory.{contents, with_bytes_in_last_entry, head_bytes, Makes, Reset};
-ghost use Rattle.net_packets.specs.PacketHistory.{Enqueue, Place, WriteLast, Dequeue, Take, WriteLastDequeued};
-ghost use Rattle.net_packets.specs.PacketHistory.{Peek};
-ghost use Rattle.net_packets.specs.PacketSlots.{slot, slots_with};
-ghost use Rattle.net_packets.specs.Packets.{IsWellPlaced, bytes_used, slots_used, no_packets, placement};
-ghost use Rattle.net_packets.specs.Packets.{with_packet_if_room, with_packet_of, only_last, last_bytes};
-ghost use Rattle.net_packets.specs.Packets.{with_last_bytes, first_size, first_gap, first_bytes, IsFirst};
-ghost use Rattle.net_packets.specs.Packets.{IsFirstSized, without_gap, without_first, without_first_and_gap};
-ghost use Rattle.net_packets.specs.Packets.{with_bytes, AreLastDequeued, AreLastDequeuedAt};
-ghost use Rattle.net_packets.specs.Packets.{last_dequeued_bytes, last_dequeued_bytes_index};
+ghost use Rattle.net_packets.specs.{IsRoom, WritesPacket, TakesFirstPacket, HandsPacket, CopiesOut};
+ghost use Rattle.net_packets.specs.{contents, with_bytes_in_last_entry, head_bytes, Makes, Reset, Enqueue, Place};
+ghost use Rattle.net_packets.specs.{WriteLast, Dequeue, Take, WriteLastDequeued, Peek, slot, slots_with};
+ghost use Rattle.net_packets.specs.{IsWellPlaced, bytes_used, slots_used, no_packets, placement, with_packet_if_room};
+ghost use Rattle.net_packets.specs.{with_packet_of, only_last, last_bytes, with_last_bytes, first_size, first_gap};
+ghost use Rattle.net_packets.specs.{first_bytes, IsFirst, IsFirstSized, without_gap, without_first};
+ghost use Rattle.net_packets.specs.{without_first_and_gap, with_bytes, AreLastDequeued};
+ghost use Rattle.net_packets.specs.{last_dequeued_bytes, last_dequeued_bytes_index};
 
 use crate::head::{PacketPlace, PacketsHead};
 use crate::packet_metadata::PacketMetadata;
@@ -23,6 +20,7 @@ use net_ring::{Empty, Full, ManagedSlice, Storage};
 use std::marker::{Model, PhantomData};
 
 pub mod laws;
+mod managed;
 
 /// A [`PacketBuffer`] over any storage: `M` has the slots and `B` the bytes.
 ///
@@ -36,9 +34,8 @@ pub mod laws;
 /// slots    x, gap, y
 /// ```
 ///
-/// Contracts lead with `contents q`, the list of the headers and bytes of a queue's packets. The
-/// number of slots, the storage, the read index and the list of packets (header, size, gap)
-/// determine which packets are refused.
+/// Which packets are refused depends on the number of slots, the number of bytes, the read index, and
+/// the sizes and gaps of the packets.
 #[derive(Debug, Drop)]
 pub struct PacketsOver<H, M: Storage<PacketMetadata<H>>, B: Storage<u8>> {
     // Invariant: the head is sound for the storages. The slots in use are packets and gaps, whose sizes
@@ -50,7 +47,7 @@ pub struct PacketsOver<H, M: Storage<PacketMetadata<H>>, B: Storage<u8>> {
     headers: PhantomData<H>,
 }
 
-/// A queue of packets over lent or owned storage.
+/// A queue of packets over lent or owned storage. Its calls are those of [`PacketsOver`].
 ///
 /// It serves sockets that send and receive whole packets, such as those of UDP and ICMP.
 ///
@@ -71,28 +68,16 @@ pub type PacketBuffer<'a, H> = PacketsOver<
     ManagedSlice<'a, u8>,
 >;
 
+/// Contracts see the number of slots, the storage, the read index and the list of packets (header,
+/// size, gap). They lead with `contents q`, the list of the headers and bytes of a queue's packets.
 impl<H, M: Storage<PacketMetadata<H>>, B: Storage<u8>> Model for PacketsOver<H, M, B> {
-    ghost use Rattle.net_packets.specs.Packets.{PacketsState};
-    ghost use Rattle.net_packets.specs.PacketSlots.{packets_at, AreSoundParts};
+    ghost use Rattle.net_packets.specs.{PacketsState, packets_at, AreSoundParts};
 
     ghost Value = { PacketsState H };
 
     ghost view = { λ a. packets_at a.head (M.elements a.slots) (B.elements a.bytes) };
 
     ghost invariant = { λ a. AreSoundParts a.head (M.elements a.slots) (B.elements a.bytes) };
-}
-
-impl<'a, H> PacketBuffer<'a, H> {
-    ghost use Rattle.net_ring.specs.Managed.{elements};
-
-    /// Returns a queue with no packets, which has as many slots as `slots` has elements, and room
-    /// for as many bytes as `bytes` has.
-    pub fn new(slots: ManagedSlice<'a, PacketMetadata<H>>, bytes: ManagedSlice<'a, u8>) -> Self
-        ensures empty { contents result ≡ [] }
-        ensures made { result ≡ no_packets (length (elements slots.entry)) (elements bytes.entry) }
-    {
-        PacketsOver::over(slots, bytes)
-    }
 }
 
 /// Making, emptying and measuring a queue.
@@ -274,7 +259,7 @@ impl<H, M: Storage<PacketMetadata<H>>, B: Storage<u8>> PacketsOver<H, M, B> {
         ensures made { self.new ≡ no_packets self.old.slot_count self.old.storage }
         ensures call { Makes Reset self.old self.new }
     {
-        self.head.clear();
+        self.head = PacketsHead::new();
     }
 }
 
@@ -321,7 +306,7 @@ impl<H: Drop, M: Storage<PacketMetadata<H>>, B: Storage<u8>> PacketsOver<H, M, B
     }
 
     /// Appends a packet of `size` bytes, as [`PacketsOver::enqueue`] does, of which this is the
-    /// first step: [`PacketsOver::last_mut`] lends the bytes. Each step has an exact contract.
+    /// first step: [`PacketsOver::last_mut`] lends the bytes.
     ///
     /// ```
     /// # use net_base::storage::{PacketBuffer, PacketMetadata};
@@ -431,15 +416,18 @@ impl<H: Drop, M: Storage<PacketMetadata<H>>, B: Storage<u8>> PacketsOver<H, M, B
     ///
     /// # Requires
     ///
-    /// `f` may be called on the `max_size` bytes that it is lent, and returns at most `max_size`.
+    /// `f` takes the `max_size` bytes that it is lent, and returns at most `max_size`.
+    #[track_caller]
     pub fn enqueue_with_infallible<F: FnOnce(&mut [u8]) -> usize>(
         &mut self,
         max_size: usize,
         header: H,
         f: F,
     ) -> Result<usize, Full>
-        requires callable { TakesRoom F.FnOnce f self.old max_size header }
-        requires count { CountsAtMost F.FnOnce f self.old max_size header }
+        requires callable { (room : List ℕ) → IsRoom self.old max_size header room
+            → FnOnceTakesAtMut F.FnOnce f room }
+        requires count { (room ws : List ℕ) (k : ℕ) → IsRoom self.old max_size header room
+            → FnOnceReturnsAtMut F.FnOnce f room k ws → k ≤ max_size }
         ensures full { IsErr result ↔ (placement self.old max_size ≡ None) }
         ensures unchanged { OnErr result (self.new ≡ self.old) }
         ensures wrote { IfOk result
@@ -467,9 +455,9 @@ impl<H: Drop, M: Storage<PacketMetadata<H>>, B: Storage<u8>> PacketsOver<H, M, B
 impl<H: Drop, M: Storage<PacketMetadata<H>>, B: Storage<u8>> PacketsOver<H, M, B> {
     ghost use Rattle.net_packets.specs.PacketLends.{lends_bytes, lends_packet_if, ends_as};
 
-    /// Calls `f` on the header and the bytes of the first packet, and drops its gap. If `f` returns
-    /// `Ok`, the packet is taken off; if it returns `Err`, the packet stays first, with what `f`
-    /// wrote to its header and bytes.
+    /// Calls `f` on the header and the bytes of the first packet, which `f` has to take, and drops its
+    /// gap. If `f` returns `Ok`, the packet is taken off; if it returns `Err`, the packet stays first,
+    /// with what `f` wrote to its header and bytes.
     ///
     /// ```
     /// # use net_base::storage::{Full, PacketBuffer, PacketMetadata};
@@ -486,10 +474,6 @@ impl<H: Drop, M: Storage<PacketMetadata<H>>, B: Storage<u8>> PacketsOver<H, M, B
     /// # Errors
     ///
     /// `Empty` if the queue has no packets. Then `f` isn't called, and nothing changes.
-    ///
-    /// # Requires
-    ///
-    /// `f` may be called on the first packet, if there is one.
     pub fn dequeue_with<R, E, F: FnOnce(&mut H, &mut [u8]) -> Result<R, E>>(
         &mut self,
         f: F,
@@ -506,18 +490,17 @@ impl<H: Drop, M: Storage<PacketMetadata<H>>, B: Storage<u8>> PacketsOver<H, M, B
         if self.head.slots.length == 0 {
             return Err(Empty);
         }
-        let at = self.head.slots.read_at;
-        let Some((size, mut header)) = lift_header(&mut self.slots, at) else {
-            return Err(Empty);
-        };
         let slot_count = self.slots.count();
         let capacity = self.bytes.count();
         let from = self.head.bytes.read_at;
-        let answer = f(&mut header, self.bytes.part_mut(from, from + size));
+        let slot = self.slots.element_mut(self.head.slots.read_at);
+        let size = slot.size;
+        let Some(header) = slot.header.as_mut() else {
+            return Err(Empty);
+        };
+        let answer = f(header, self.bytes.part_mut(from, from + size));
         if answer.is_ok() {
             self.head.take(slot_count, capacity, size);
-        } else {
-            put_header(&mut self.slots, at, size, header);
         }
         Ok(answer)
     }
@@ -563,7 +546,7 @@ impl<H: Drop, M: Storage<PacketMetadata<H>>, B: Storage<u8>> PacketsOver<H, M, B
 
     /// Takes the first packet and its gap off, and returns its header and how many bytes it has, as
     /// [`PacketsOver::dequeue`] does, of which this is the first step:
-    /// [`PacketsOver::last_dequeued_mut`] lends the bytes. Each step has an exact contract.
+    /// [`PacketsOver::last_dequeued_mut`] lends the bytes.
     ///
     /// ```
     /// # use net_base::storage::{PacketBuffer, PacketMetadata};
@@ -590,7 +573,8 @@ impl<H: Drop, M: Storage<PacketMetadata<H>>, B: Storage<u8>> PacketsOver<H, M, B
         ensures first { IfOk result (λ r. IsFirstSized self.old.packets r.0 r.1) }
         ensures dequeued { OnOk result (self.new ≡ without_first_and_gap self.old) }
         ensures last_dequeued { IfOk result
-            (λ r. AreLastDequeuedAt self.new r.1 (without_gap self.old).read_at) }
+            (λ r. AreLastDequeued self.new r.1
+            × (last_dequeued_bytes_index self.new r.1 ≡ (without_gap self.old).read_at)) }
         ensures capacity { (self.new.slot_count ≡ self.old.slot_count)
             × (length self.new.storage ≡ length self.old.storage) }
         ensures call { IfOk result
@@ -609,6 +593,7 @@ impl<H: Drop, M: Storage<PacketMetadata<H>>, B: Storage<u8>> PacketsOver<H, M, B
     ///
     /// The `size` bytes before the read index are contiguous and none is a packet's, as after a
     /// call of [`PacketsOver::take`] that returned `size`.
+    #[track_caller]
     pub fn last_dequeued_mut(&mut self, size: usize) -> &mut [u8]
         requires { AreLastDequeued self.old size }
         ensures* writes_back { sem 𝓛 (lends_bytes H.row M.row B.row M.Storage B.Storage
@@ -887,20 +872,4 @@ fn lift_header<H: Drop, M: Storage<PacketMetadata<H>>>(
     let size = slot.size;
     let header = slot.header.take()?;
     Some((size, header))
-}
-
-/// Writes size and header of a packet to the slot at the index `at`.
-fn put_header<H: Drop, M: Storage<PacketMetadata<H>>>(
-    slots: &mut M,
-    at: usize,
-    size: usize,
-    header: H,
-)
-    requires { at < length (M.elements slots.old) }
-    ensures { M.elements slots.new ≡ set (M.elements slots.old) at (slot size (Some header)) }
-{
-    *slots.element_mut(at) = PacketMetadata {
-        size,
-        header: Some(header),
-    };
 }

@@ -16,6 +16,8 @@ mod long_inputs;
 #[cfg(test)]
 mod memory;
 #[cfg(test)]
+mod modes;
+#[cfg(test)]
 mod numeral;
 #[cfg(test)]
 mod rows;

@@ -1,5 +1,6 @@
 //! The numbers that words write.
 use crate::assertions::assert_holds;
+use crate::modes::NUMBERS;
 use net_bench_lib::number;
 
 /// Words, and the numbers that they write.
@@ -31,5 +32,8 @@ static WORDS: [(&'static [u8], Option<u64>); 21] = [
 fn numerals_write_numbers(rt: HostRuntime) {
     for (row, (word, written)) in WORDS.iter().enumerate() {
         assert_holds(&rt, number(word) == *written, ("word", row));
+    }
+    for (row, (word, written)) in NUMBERS.iter().enumerate() {
+        assert_holds(&rt, number(word.as_bytes()) == *written, ("drawn", row));
     }
 }

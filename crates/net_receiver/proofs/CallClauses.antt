@@ -1,40 +1,38 @@
 -- What one call leaves and replies, as its callers want it.
-use Rattle.std.proofs.Common.{nat_le, leb-true, ltb-true, ◌≡◌, ℕ, zero, suc, ◌+◌, ◌-◌, ◌<◌, ◌≤◌, min, List}
-use Rattle.std.proofs.Common.{[], ◌∷◌, ◌++◌, length, take, drop, nat_lt, Some, unwrap_or, slice_get}
-use Rattle.std.proofs.Common.{slice_range, refl, sym, ap, subst, ◌∙◌, arith, ⊎_elim, take_all, Result, Ok}
-use Rattle.std.proofs.Common.{Err, IsOk, IfOk, OnErr, All, length-take, length-drop}
+use Rattle.std.proofs.Common.{nat_le, leb-true, ltb-true, ◌≡◌, ℕ, zero, suc, ◌+◌, ◌-◌, ◌<◌, ◌≤◌, min, List, [], ◌∷◌}
+use Rattle.std.proofs.Common.{◌++◌, length, take, drop, nat_lt, Some, unwrap_or, slice_get, slice_range, refl, sym}
+use Rattle.std.proofs.Common.{ap, subst, ◌∙◌, arith, ⊎_elim, take_all, Result, Ok, Err, IsOk, IfOk, OnErr, All}
+use Rattle.std.proofs.Common.{length-take, length-drop}
 use Rattle.std.specs.FinMap as fin
 use Rattle.std.specs.Option.{option_or}
 use Rattle.std.specs.Prelude.{⊤}
 use Rattle.std.proofs.lemmas.Grind.{common_steps}
-use Rattle.std.proofs.lemmas.Bool.{both_ways, cases_lt, false≢true, or_left}
+use Rattle.std.proofs.lemmas.Bool.{and_parts, both_ways, cases_lt, false≢true, or_left}
 use Rattle.std.proofs.lemmas.List.{append_assoc, take-append-drop, drop-take, drop-drop, drop_at, take-take}
 use Rattle.net_assembler.specs.declared.assembler.error.TooManyHolesError.{TooManyHolesError}
 use Rattle.net_receiver.specs.declared.kept.Kept.{Kept}
 use Rattle.net_receiver.specs.declared.kept.KeptBytes.{KeptBytes}
-use Rattle.net_receiver.specs.KeptList.{Piece, piece, piece_within, byte_at, next}
+use Rattle.net_receiver.specs.Headline.{missing, is_held, state_from}
+use Rattle.net_receiver.specs.KeptList.{Piece, piece, piece_within, byte_at}
 use Rattle.std.proofs.lemmas.List.Elements.{All-head}
-use Rattle.net_receiver.proofs.Stream.{agrees_at}
-use Rattle.net_receiver.specs.Rules.{CommandValue, ReplyValue, Segment, Read, verdict, state_after}
-use Rattle.net_receiver.specs.Rules.{numbers, segment_result}
-use Rattle.net_receiver.specs.Schedule.{KeptState, kept_after_commands, Follows, EndsBy, bytes_read}
-use Rattle.net_receiver.specs.ReceiverState.{receiver_reply, setting, Refines, ReceiverState, HeldBytes}
-use Rattle.net_receiver.specs.ReceiverState.{domain, held_with_piece, first_lacking, held_bytes_at}
-use Rattle.net_receiver.specs.ReceiverState.{next_position, receiver_ops, receiver_after_read}
-use Rattle.net_receiver.specs.ReceiverState.{receiver_after_command, fresh_receiver, IsSound, StaysInSetting}
+use Rattle.net_receiver.proofs.Stream.{agrees_at, follows_verdict}
+use Rattle.net_receiver.specs.ReceiverState.{CommandValue, ReplyValue, Segment, Read, verdict, state_after, numbers}
+use Rattle.net_receiver.specs.ReceiverState.{segment_result, receiver_reply, setting, Refines, ReceiverState}
+use Rattle.net_receiver.specs.ReceiverState.{HeldBytes, domain, held_with_piece, first_lacking, held_bytes_at}
+use Rattle.net_receiver.specs.ReceiverState.{next_position, receiver_after_read, receiver_after_command}
+use Rattle.net_receiver.specs.ReceiverState.{fresh_receiver, IsSound, StaysInSetting}
+use Rattle.net_receiver.specs.Schedule.{KeptState, Follows, EndsBy, bytes_read}
 use Rattle.net_receiver.specs.Segments.{KeepsOrRefuses, JoinsQueue}
 use Rattle.net_receiver.proofs.Theorems.{ran}
-use Rattle.net_receiver.specs.OneStream.{HeldIsOfStream, QueueIsOfStream, CapacityStays, Receives}
-use Rattle.net_receiver.specs.OneStream.{ReceivesFrom, MatchesStream, AllMatch, IsTruthful}
-use Rattle.net_receiver.specs.OneStream.{MatchesWhatIsThere, window_part}
+use Rattle.net_receiver.specs.OneStream.{HeldIsOfStream, QueueIsOfStream, CapacityStays, Receives, ReceivesFrom}
+use Rattle.net_receiver.specs.OneStream.{MatchesStream, AllMatch, IsTruthful, MatchesWhatIsThere, window_part}
 use Rattle.net_receiver.proofs.Step.{any_verdict, same_next}
 use Rattle.net_receiver.proofs.Schedules.{setting_kept, settings_kept, read_prefix}
 use Rattle.net_receiver.proofs.OneStream.{one_receives, queue_is_of, fresh_receives, first_stays, run_receives}
 use Rattle.net_receiver.specs.Execution.{Executes}
 use Rattle.net_receiver.specs.Retransmission.{InOrderReaches}
 use Rattle.net_receiver.proofs.Maps.{get-with_bytes_at, next_joined, lacks, lacking, laid_has}
-use Rattle.net_receiver.proofs.Covering.{next_is, piece_from, piece_some, cond_some, slice_get-drop, slice_get-take}
-use Rattle.net_receiver.proofs.Recover.{follows_verdict}
+use Rattle.net_receiver.proofs.Covering.{piece_from, piece_some, cond_some, slice_get-drop, slice_get-take}
 
 -- ---- streams
 first_of : (N : ℕ) (v u : ReceiverState) (c : CommandValue) → u ≡ receiver_after_command N v c → u.first ≡ v.first
@@ -127,8 +125,8 @@ splits_none q part e = grind (arith, common_steps)
 
 -- what a segment that begins at or below `next` comes to
 pub in_order : (N : ℕ) (v u : ReceiverState) (pos : ℕ) (xs : List ℕ) (r : Result Kept TooManyHolesError) →
-    u ≡ state_after receiver_ops v (verdict receiver_ops N v (piece pos xs)) →
-    r ≡ segment_result receiver_ops v (verdict receiver_ops N v (piece pos xs)) →
+    u ≡ state_after v (verdict N v (piece pos xs)) →
+    r ≡ segment_result v (verdict N v (piece pos xs)) →
     pos ≤ next_position v → JoinsQueue v (window_part v pos xs) u r
 in_order N v u pos xs r state told h =
     let n = next_position v in
@@ -136,7 +134,7 @@ in_order N v u pos xs r state told h =
     let at : part.start ≡ n = omega arith in
     let far = reaches v part at in
     let more = next_joined v part in
-    let all = follows_verdict (λ y. JoinsQueue v part.bytes (state_after receiver_ops v y) (segment_result receiver_ops v y)) n N (domain v.held) part at
+    let all = follows_verdict (λ y. JoinsQueue v part.bytes (state_after v y) (segment_result v y)) n N (domain v.held) part at
     (λ none. record { accepted = refl; joins = omega arith; appends = splits_none v.queue part.bytes none })
     (λ some. record {
       accepted = refl;
@@ -146,60 +144,60 @@ in_order N v u pos xs r state told h =
           (λ q i b e is. laid_at v part q i b (omega arith) is));
     }) in
     subst (λ z. JoinsQueue v part.bytes z r) (sym state)
-    (subst (JoinsQueue v part.bytes (state_after receiver_ops v (verdict receiver_ops N v (piece pos xs)))) (sym told) all)
+    (subst (JoinsQueue v part.bytes (state_after v (verdict N v (piece pos xs)))) (sym told) all)
 
 -- what any segment comes to
 pub any_order : (N : ℕ) (v u : ReceiverState) (pos : ℕ) (xs : List ℕ) (r : Result Kept TooManyHolesError) →
-    u ≡ state_after receiver_ops v (verdict receiver_ops N v (piece pos xs)) →
-    r ≡ segment_result receiver_ops v (verdict receiver_ops N v (piece pos xs)) →
+    u ≡ state_after v (verdict N v (piece pos xs)) →
+    r ≡ segment_result v (verdict N v (piece pos xs)) →
     KeepsOrRefuses v (window_part v pos xs) u r
 any_order N v u pos xs r state told =
     let n = next_position v in
     let part = piece_within n (v.first + v.read + v.capacity) (piece pos xs) in
     let more = next_joined v part in
     let from = (lacking v part).from in
-    let all = any_verdict (λ y. KeepsOrRefuses v part.bytes (state_after receiver_ops v y) (segment_result receiver_ops v y)) n N (domain v.held) part
+    let all = any_verdict (λ y. KeepsOrRefuses v part.bytes (state_after v y) (segment_result v y)) n N (domain v.held) part
     (λ none. record { read = refl; refused = tt; kept = sym none; queued = omega arith; grows = omega arith })
     (record { read = refl; refused = refl; kept = tt; queued = tt; grows = omega arith })
     (record { read = refl; refused = tt; kept = refl; queued = omega arith; grows = omega arith }) in
     subst (λ z. KeepsOrRefuses v part.bytes z r) (sym state)
-    (subst (KeepsOrRefuses v part.bytes (state_after receiver_ops v (verdict receiver_ops N v (piece pos xs)))) (sym told) all)
+    (subst (KeepsOrRefuses v part.bytes (state_after v (verdict N v (piece pos xs)))) (sym told) all)
 
 -- the same of what `keep` returns
 pub kept_any : (N : ℕ) (v u : ReceiverState) (pos : ℕ) (xs : List ℕ) (r : Result KeptBytes TooManyHolesError) →
-    u ≡ state_after receiver_ops v (verdict receiver_ops N v (piece pos xs)) →
-    r ≡ numbers receiver_ops v (verdict receiver_ops N v (piece pos xs)) →
+    u ≡ state_after v (verdict N v (piece pos xs)) →
+    r ≡ numbers v (verdict N v (piece pos xs)) →
     OnErr r (u ≡ v) × IfOk r (λ k. k.kept ≡ length (window_part v pos xs)) × IfOk r (λ k. next_position u ≡ next_position v + k.queued)
 kept_any N v u pos xs r state told =
     let n = next_position v in
     let part = piece_within n (v.first + v.read + v.capacity) (piece pos xs) in
     let more = next_joined v part in
     let from = (lacking v part).from in
-    let all = any_verdict (λ y. OnErr (numbers receiver_ops v y) (state_after receiver_ops v y ≡ v) × IfOk (numbers receiver_ops v y) (λ k. k.kept ≡ length part.bytes)
-    × IfOk (numbers receiver_ops v y) (λ k. next_position (state_after receiver_ops v y) ≡ next_position v + k.queued)) n N (domain v.held) part
+    let all = any_verdict (λ y. OnErr (numbers v y) (state_after v y ≡ v) × IfOk (numbers v y) (λ k. k.kept ≡ length part.bytes)
+    × IfOk (numbers v y) (λ k. next_position (state_after v y) ≡ next_position v + k.queued)) n N (domain v.held) part
     (λ none. (tt, sym none, omega arith))
     (refl, tt, tt)
     (tt, refl, omega arith) in
     subst (λ z. OnErr r (z ≡ v) × IfOk r (λ k. k.kept ≡ length part.bytes) × IfOk r (λ k. next_position z ≡ next_position v + k.queued)) (sym state)
-    (subst (λ z. OnErr z (state_after receiver_ops v (verdict receiver_ops N v (piece pos xs)) ≡ v) × IfOk z (λ k. k.kept ≡ length part.bytes)
-    × IfOk z (λ k. next_position (state_after receiver_ops v (verdict receiver_ops N v (piece pos xs))) ≡ next_position v + k.queued)) (sym told) all)
+    (subst (λ z. OnErr z (state_after v (verdict N v (piece pos xs)) ≡ v) × IfOk z (λ k. k.kept ≡ length part.bytes)
+    × IfOk z (λ k. next_position (state_after v (verdict N v (piece pos xs))) ≡ next_position v + k.queued)) (sym told) all)
 
 pub kept_in_order : (N : ℕ) (v : ReceiverState) (pos : ℕ) (xs : List ℕ) (r : Result KeptBytes TooManyHolesError) →
-    r ≡ numbers receiver_ops v (verdict receiver_ops N v (piece pos xs)) → pos ≤ next_position v → IsOk r
+    r ≡ numbers v (verdict N v (piece pos xs)) → pos ≤ next_position v → IsOk r
 kept_in_order N v pos xs r told h =
     let n = next_position v in
     let part = piece_within n (v.first + v.read + v.capacity) (piece pos xs) in
     let at : part.start ≡ n = omega arith in
-    subst IsOk (sym told) (follows_verdict (λ y. IsOk (numbers receiver_ops v y)) n N (domain v.held) part at (λ none. refl) (λ some. refl))
+    subst IsOk (sym told) (follows_verdict (λ y. IsOk (numbers v y)) n N (domain v.held) part at (λ none. refl) (λ some. refl))
 
 -- ---- what is held
 pub held_of_stream : HeldIsOfStream
 unfolding ReceivesFrom
 held_of_stream f x v p b r is =
     let s = r.1.state in
-    let low = (next_is v.first s.kept).from in
-    let there = cond_some (nat_lt (next v.first s.kept) p) (byte_at s.kept p) b (sym (r.1.refines.held p) ∙ is) in
-    let above = ltb-true (next v.first s.kept) p there.0 in
+    let w = setting 0 v in
+    let there = cond_some (is_held w s p) (byte_at s.kept p) b (sym (r.1.refines.held p) ∙ is) in
+    let above = ltb-true (missing w s) p (and_parts _ _ there.0).0 in
     subst (λ g. slice_get x (p - g) ≡ Some b) r.0 (agrees_at v.first s.kept x r.1.agrees p b (omega arith) there.1)
 
 -- ---- one command, of which a refusal of memory leaves nothing
@@ -245,12 +243,12 @@ pub reached :
     Follows (setting N v) s (next_position v) cs → IfOk r (λ _. EndsBy (next_position u) cs)
 reached (Err e) s run d follows = tt
 reached {N} {v} {u} {cs} (Ok t) s run d follows =
-    let first : u.first ≡ v.first = ap (λ w. w.first) (ap (setting N) run.state ∙ settings_kept N v (take run.prefix.count cs)) in
+    let same : setting N u ≡ setting N v = ap (setting N) run.state ∙ settings_kept N v (take run.prefix.count cs) in
     let seen = ran run s d in
     let all : take seen.prefix.count cs ≡ cs = take_all seen.prefix.count cs (omega (arith, seen.prefix.whole refl)) in
-    let w = kept_after_commands (setting N v) s cs in
-    let there : Refines u w = subst (λ l. Refines u (kept_after_commands (setting N v) s l)) all seen.refines in
-    let end : next_position u ≡ next v.first w.kept = same_next u w there ∙ ap (λ b. next b w.kept) first in
+    let t = state_from (setting N v) s cs in
+    let there : Refines u t = subst (λ l. Refines u (state_from (setting N v) s l)) all seen.refines in
+    let end : next_position u ≡ missing (setting N v) t = same_next u t there ∙ ap (λ y. missing y t) same in
     subst (λ n. EndsBy n cs) (sym end) (seen.recovers refl (subst (λ n. Follows (setting N v) s n cs) (same_next v s d) follows))
 
 -- ---- parts of the queue
@@ -282,7 +280,7 @@ pub in_order_reaches : InOrderReaches
 in_order_reaches N v pos xs h =
     let u = receiver_after_command N v (Segment pos xs) in
     let limit = v.first + v.read + v.capacity in
-    let r = segment_result receiver_ops v (verdict receiver_ops N v (piece pos xs)) in
+    let r = segment_result v (verdict N v (piece pos xs)) in
     let near = in_order N v u pos xs r refl refl h in
     let any = any_order N v u pos xs r refl refl in
     let cut = length-take (limit - pos) xs in

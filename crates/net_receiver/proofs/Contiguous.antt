@@ -1,7 +1,7 @@
 -- How many bytes of the queue are contiguous in the storage, by the count read.
-use Rattle.std.proofs.Common.{◌≡◌, ℕ, ◌+◌, ◌-◌, ◌<◌, ◌≤◌, ◌%◌, min, List, ◌++◌, length, take, drop, sym, ap}
-use Rattle.std.proofs.Common.{subst, ◌∙◌, arith, ⊎_elim, lt-ltb, le-ltb, length-take, length-drop, take_at}
-use Rattle.std.proofs.Common.{drop_at, get_or-drop, get_or-take}
+use Rattle.std.proofs.Common.{◌≡◌, ℕ, ◌+◌, ◌-◌, ◌<◌, ◌≤◌, ◌%◌, min, List, ◌++◌, length, take, drop, sym, ap, subst}
+use Rattle.std.proofs.Common.{◌∙◌, arith, ⊎_elim, lt-ltb, le-ltb, length-take, length-drop, take_at, drop_at}
+use Rattle.std.proofs.Common.{get_or-drop, get_or-take}
 use Rattle.std.specs.Prelude.{slice_index_or}
 use Rattle.std.proofs.Math.Nat.{mod-eq_of_lt, mod-add-mod, add-mod_left}
 use Rattle.std.proofs.lemmas.Bool.{cond-true, cond-false, cases_lt}

@@ -1,23 +1,22 @@
 -- A receiver of a stream that ends: no byte is at or above the end.
-use Rattle.std.proofs.Common.{◌≡◌, ◌⊎◌, inl, inr, ℕ, ◌+◌, ◌-◌, ◌<◌, ◌≤◌, ◌&&◌, Bool, true, false, not, cond}
-use Rattle.std.proofs.Common.{List, [], ◌∷◌, length, take, min, nat_le, nat_eq, is_ok, is_some, Result, Err}
-use Rattle.std.proofs.Common.{refl, sym, ap, ◌∙◌, arith, ⊎_elim, length-take, length-drop}
+use Rattle.std.proofs.Common.{◌≡◌, ◌⊎◌, inl, inr, ℕ, ◌+◌, ◌-◌, ◌<◌, ◌≤◌, ◌&&◌, Bool, true, false, not, cond, List, []}
+use Rattle.std.proofs.Common.{◌∷◌, length, take, min, nat_le, nat_eq, is_ok, is_some, Result, Err, refl, sym, ap, ◌∙◌}
+use Rattle.std.proofs.Common.{arith, ⊎_elim, length-take, length-drop}
 use Rattle.std.specs.FinMap as fin
 use Rattle.std.specs.Ordering.{nat_cmp}
-use Rattle.std.proofs.lemmas.Bool.{both_ways, cases_lt, cond_both, and_parts, and_cases, not-false, or_cases}
-use Rattle.std.proofs.lemmas.Bool.{or_left, or_right, leb-true, eqb-true}
+use Rattle.std.proofs.lemmas.Bool.{both_ways, cases_lt, cond_both, and_parts, and_cases, and_left, not-false, or_cases}
+use Rattle.std.proofs.lemmas.Bool.{or_left, or_right, leb-true, eqb-true, le-ltb, ltb-true}
 use Rattle.std.proofs.lemmas.Bool.Decides.{nat_tests}
 use Rattle.std.proofs.lemmas.Grind.{common_steps}
 use Rattle.net_assembler.specs.Positions.{bound_of, positions, contains}
 use Rattle.net_assembler.proofs.Positions.{has, contains-positions}
 use Rattle.net_receiver.specs.KeptList.{Piece, piece, piece_byte_at, piece_within}
-use Rattle.net_receiver.specs.Rules.{Segment, state_after, verdict, numbers}
-use Rattle.net_receiver.specs.ReceiverState.{ReceiverState, domain, next_position, limit_of, receiver_ops}
-use Rattle.net_receiver.specs.ReceiverState.{receiver_with_piece, receiver_after_command, receiver_after_read}
-use Rattle.net_receiver.specs.ReceiverState.{fresh_receiver}
-use Rattle.net_receiver.specs.Finite.{FiniteState, no_end, top_of, knows_end, can_end, below_end, end_after}
-use Rattle.net_receiver.specs.Finite.{has_other_end, finite_after, finite_after_read, bytes_result}
-use Rattle.net_receiver.specs.Finite.{finite_result, with_error, fresh_finite, IsSoundEnd}
+use Rattle.net_receiver.specs.ReceiverState.{Segment, state_after, verdict, numbers, ReceiverState, domain}
+use Rattle.net_receiver.specs.ReceiverState.{next_position, limit_of, receiver_with_piece, receiver_after_command}
+use Rattle.net_receiver.specs.ReceiverState.{receiver_after_read, fresh_receiver}
+use Rattle.net_receiver.specs.Finite.{FiniteState, no_end, top_of, knows_end, can_end, bytes_end, below_end, end_after}
+use Rattle.net_receiver.specs.Finite.{has_other_end, finite_after, finite_after_read, bytes_result, finite_result}
+use Rattle.net_receiver.specs.Finite.{with_error, fresh_finite, IsSoundEnd}
 use Rattle.net_receiver.specs.declared.finite_receiver_head.FiniteReceiverHead.{FiniteReceiverHead}
 use Rattle.net_receiver.specs.declared.receiver_head.ReceiverHead.{ReceiverHead}
 use Rattle.net_assembler.specs.declared.assembler.error.TooManyHolesError.{TooManyHolesError}
@@ -81,7 +80,7 @@ module _ (v : ReceiverState) (m : ℕ) (top : top_of v ≤ m) where
   top_after N pos xs below =
       let limit = v.first + v.read + v.capacity in
       let part = piece_within (next_position v) limit (piece pos xs) in
-      any_verdict (λ y. top_of (state_after receiver_ops v y) ≤ m) (next_position v) N (domain v.held) part (λ _. top) top
+      any_verdict (λ y. top_of (state_after v y) ≤ m) (next_position v) N (domain v.held) part (λ _. top) top
       (top_joined part (λ q there. (let at = piece_at (piece pos xs) q (clipped (next_position v) limit (piece pos xs) q there) in below q at.0 at.1)))
     where
       clipped : (low high : ℕ) (e : Piece) (q : ℕ) → is_some (piece_byte_at (piece_within low high e) q) ≡ true → is_some (piece_byte_at e q) ≡ true
@@ -136,12 +135,11 @@ pub top_can_end : (s : FiniteState) (e : ℕ) → IsSoundEnd s → can_end s e �
 top_can_end s e sound can =
     cond_both (knows_end s) (nat_eq e s.end) (nat_le (top_of s.receiver) e) (λ b. b ≡ true → top_of s.receiver ≤ e)
     (λ _ same. (let is = eqb-true e s.end same in omega (arith, sound.below)))
-    (λ _ le. leb-true (top_of s.receiver) e le) can
+    (λ _ le. leb-true (top_of s.receiver) e le) (and_parts _ _ can).1
 
-pub sound_after : (N : ℕ) (s : FiniteState) (pos : ℕ) (xs : List ℕ) (last : Bool) → IsSoundEnd s → pos + length xs < no_end →
-    IsSoundEnd (finite_after N s pos xs last)
-sound_after N s pos xs last sound fits =
-    let size = length-take (s.end - pos) xs in
+pub sound_after : (N : ℕ) (s : FiniteState) (pos : ℕ) (xs : List ℕ) (last : Bool) → IsSoundEnd s → IsSoundEnd (finite_after N s pos xs last)
+sound_after N s pos xs last sound =
+    let size = length-take (bytes_end s - pos) xs in
     after_by IsSoundEnd N s pos xs last sound (λ e which. record {
       below = ⊎_elim
           (λ (is : e ≡ s.end). top_after s.receiver e (omega (arith, sound.below)) N pos (below_end s pos xs) (λ q from to. omega arith))
@@ -165,6 +163,28 @@ no_other s e last which = ⊎_elim (λ (no : last ≡ false). ap (λ b. b && not
     and-false true = refl
     and-false false = refl
 
+-- the greatest number stands for each end that has no number after it: no stream ends there
+module _ (s : FiniteState) (e n : ℕ) (last : Bool) (is : n ≡ min e no_end) where
+  can_end_at : can_end s n ≡ can_end s e
+  can_end_at =
+      ⊎_elim (λ (l : e < no_end). ap (can_end s) (omega (arith, l, is)))
+      (λ (g : no_end ≤ e). and_left _ _ (le-ltb n no_end (omega (arith, g, is))) ∙ sym (and_left _ _ (le-ltb e no_end g)))
+      (cases_lt e no_end)
+
+  pub no_other_at : (last ≡ false) ⊎ (can_end s n ≡ true) → has_other_end s e last ≡ false
+  no_other_at which = no_other s e last (⊎_elim (λ (no : last ≡ false). inl no) (λ (can : can_end s n ≡ true). inr (sym can_end_at ∙ can)) which)
+
+  pub other_at : can_end s n ≡ false → has_other_end s e true ≡ true
+  other_at cannot = ap not (sym can_end_at ∙ cannot)
+
+  pub end_after_at : (last ≡ false) ⊎ (can_end s n ≡ true) → end_after s n last ≡ end_after s e last
+  end_after_at which =
+      ⊎_elim
+      (λ (no : last ≡ false).
+      ap (λ b. cond (b && nat_le n (limit_of s.receiver)) n s.end) no ∙ sym (ap (λ b. cond (b && nat_le e (limit_of s.receiver)) e s.end) no))
+      (λ (can : can_end s n ≡ true). ap (λ k. end_after s k last) (let below = ltb-true n no_end (and_parts _ _ can).0 in omega (arith, is, below)))
+      which
+
 pub cut_is : (n count : ℕ) (xs : List ℕ) → count ≡ min (length xs) n → take count xs ≡ take n xs
 cut_is n count xs is = grind (arith, common_steps)
 
@@ -172,10 +192,10 @@ cut_is n count xs is = grind (arith, common_steps)
 module _ (N : ℕ) (s : FiniteState) (pos : ℕ) (xs : List ℕ) (last : Bool) where
   module _ (other : has_other_end s (pos + length xs) last ≡ false) (cut : List ℕ) (cut_is : cut ≡ below_end s pos xs) (u : ReceiverState)
       (u_is : u ≡ receiver_after_command N s.receiver (Segment pos cut)) (r : Result KeptBytes TooManyHolesError)
-      (r_is : r ≡ numbers receiver_ops s.receiver (verdict receiver_ops N s.receiver (piece pos cut)))
+      (r_is : r ≡ numbers s.receiver (verdict N s.receiver (piece pos cut)))
     where
       result_is : r ≡ bytes_result N s pos xs last
-      result_is = r_is ∙ ap (λ ys. numbers receiver_ops s.receiver (verdict receiver_ops N s.receiver (piece pos ys))) cut_is
+      result_is = r_is ∙ ap (λ ys. numbers s.receiver (verdict N s.receiver (piece pos ys))) cut_is
 
       state_is : u ≡ receiver_after_command N s.receiver (Segment pos (below_end s pos xs))
       state_is = u_is ∙ ap (λ ys. receiver_after_command N s.receiver (Segment pos ys)) cut_is
@@ -195,7 +215,7 @@ module _ (N : ℕ) (s : FiniteState) (pos : ℕ) (xs : List ℕ) (last : Bool) w
 module _ (h : FiniteReceiverHead) (xs : List ℕ) (rs : List (ℕ × ℕ)) (pos : ℕ) (bytes : List ℕ) (last : Bool) where
   -- the storage after the bytes of a segment
   abbrev written : List ℕ → List ℕ
-  written ys = storage_after h.receiver xs (verdict receiver_ops (length rs) (receiver_of h.receiver xs rs) (piece pos ys))
+  written ys = storage_after h.receiver xs (verdict (length rs) (receiver_of h.receiver xs rs) (piece pos ys))
 
   pub left_storage : has_other_end (finite_of h xs rs) (pos + length bytes) last ≡ false → (cut : List ℕ) → cut ≡ below_end (finite_of h xs rs) pos bytes →
       (ys : List ℕ) → ys ≡ written cut → ys ≡ finite_storage_after h xs rs pos bytes last

@@ -1,6 +1,6 @@
 -- The laws of a sender of a stream that ends.
-use Rattle.std.proofs.Common.{◌≡◌, ℕ, ◌+◌, ◌-◌, ◌≤◌, max, min, Bool, true, false, cond, List, [], ◌∷◌, ◌++◌, length, take}
-use Rattle.std.proofs.Common.{drop, nat_eq, nat_le, refl, sym, ap, subst, ◌∙◌, arith, length-drop}
+use Rattle.std.proofs.Common.{◌≡◌, ℕ, ◌+◌, ◌-◌, ◌≤◌, max, min, Bool, true, false, cond, List, [], ◌∷◌, ◌++◌, length}
+use Rattle.std.proofs.Common.{take, drop, nat_eq, nat_le, refl, sym, ap, subst, ◌∙◌, arith, length-drop}
 use Rattle.std.proofs.Common.{length-append, append_assoc, append-nil}
 use Rattle.std.specs.Prelude.{◌<◌, ◌↔◌, IsTrue, IsFalse}
 use Rattle.std.specs.Int.{from_bool}
@@ -15,11 +15,12 @@ use Rattle.net_receiver.specs.SenderHeads.{sender_of}
 use Rattle.net_receiver.specs.SenderState.{contiguous_end, end_of, with_written, Sends}
 use Rattle.net_receiver.specs.OneStream.{MatchesStream, MatchesLonger}
 use Rattle.net_receiver.specs.FiniteSender.{FiniteSenderState, first_number, numbers_end, finite_room}
-use Rattle.net_receiver.specs.FiniteSender.{finite_sender_of, with_bytes, open_room, has_end_at, accepts, acknowledged_below}
-use Rattle.net_receiver.specs.FiniteSenderLaws.{SenderCommand, Writes, Closes, Marks, Acknowledges}
-use Rattle.net_receiver.specs.FiniteSenderLaws.{written_of, sender_after_command, sender_after_commands}
-use Rattle.net_receiver.specs.FiniteSenderLaws.{bytes_written, IsSoundSent, FreshSentIsSound, SoundSentStays}
-use Rattle.net_receiver.specs.FiniteSenderLaws.{ClosedStays, LentIsOfStream}
+use Rattle.net_receiver.specs.FiniteSender.{finite_sender_of, with_bytes, open_room, has_end_at, accepts}
+use Rattle.net_receiver.specs.FiniteSender.{acknowledged_below}
+use Rattle.net_receiver.specs.FiniteSenderLaws.{SenderCommand, Writes, Closes, Marks, Acknowledges, written_of}
+use Rattle.net_receiver.specs.FiniteSenderLaws.{sender_after_command, sender_after_commands, bytes_written}
+use Rattle.net_receiver.specs.FiniteSenderLaws.{IsSoundSent, FreshSentIsSound, SoundSentStays, ClosedStays}
+use Rattle.net_receiver.specs.FiniteSenderLaws.{LentIsOfStream}
 use Rattle.net_receiver.specs.FiniteLaws.{MatchesFinite}
 use Rattle.net_receiver.proofs.Senders.{sends_written, sends_from, lent_says, lent_within}
 use Rattle.net_receiver.proofs.OneStream.{longer_at}
@@ -155,7 +156,7 @@ pub record IsLent (s : FiniteSenderState) (pos limit : ℕ) (xs : List ℕ) (las
   pub value : xs ≡ take (length xs) (drop (pos - s.sender.first_unacknowledged) s.sender.queue)
   pub count : s.sender.first_unacknowledged ≤ pos → length xs ≡ min (limit - pos) (contiguous_end s.sender pos - pos)
   pub before : pos < s.sender.first_unacknowledged → xs ≡ []
-  pub end : IsTrue last ↔ ((s.closed ≡ 1) × (pos + length xs ≡ end_of s.sender) × (pos + length xs < limit))
+  pub end : IsTrue last ↔ ((s.closed ≡ 1) × (pos + length xs ≡ end_of s.sender) × (pos + length xs < limit) × (s.finished ≡ 0))
   pub says : (f : ℕ) (w : List ℕ) → Sends f w s.sender → s.sender.first_unacknowledged ≤ pos → MatchesFinite f w pos xs last
 
 -- it is one if the head says so of the storage
@@ -164,7 +165,7 @@ pub lent_of : (h : FiniteSenderHead) (storage : List ℕ) (v : FiniteSenderState
     take n (drop from storage) ≡ take n (drop (pos - h.sender.first_unacknowledged) (queue (ring_at storage h.sender.place))) →
     (h.sender.first_unacknowledged ≤ pos → n ≡ min (limit - pos) (contiguous_end (sender_of h.sender storage) pos - pos)) →
     (pos < h.sender.first_unacknowledged → n ≡ 0) →
-    (IsTrue last ↔ ((h.closed ≡ 1) × (pos + n ≡ h.sender.first_unacknowledged + h.sender.place.length) × (pos + n < limit))) →
+    (IsTrue last ↔ ((h.closed ≡ 1) × (pos + n ≡ h.sender.first_unacknowledged + h.sender.place.length) × (pos + n < limit) × (h.finished ≡ 0))) →
     (h.sender.first_unacknowledged ≤ pos → (f : ℕ) (w : List ℕ) → Sends f w (sender_of h.sender storage) →
     MatchesFinite f w pos (take n (drop from storage)) last) → IsLent v pos limit now last
 lent_of h storage v pos limit from n last now is place long shown bytes count before end says =
@@ -174,8 +175,8 @@ lent_of h storage v pos limit from n last now is place long shown bytes count be
       count = λ low. long ∙ count low;
       before = λ below. nil_from_length now (long ∙ before below);
       end = (
-        λ on. (let at = end.0 on in (at.0, omega (arith, at.1, long, queued), omega (arith, at.2, long))),
-        λ at. end.1 (at.0, omega (arith, at.1, long, queued), omega (arith, at.2, long)),
+        λ on. (let at = end.0 on in (at.0, omega (arith, at.1, long, queued), omega (arith, at.2, long), at.3)),
+        λ at. end.1 (at.0, omega (arith, at.1, long, queued), omega (arith, at.2, long), at.3),
       );
       says = λ f w s low. subst (λ ys. MatchesFinite f w pos ys last) (sym shown) (says low f w s);
     })

@@ -1,9 +1,9 @@
 -- Receivers in parts: what a kept piece and a read make of a head, a storage and runs.
-use Rattle.std.proofs.Common.{◌++◌, length-take, length-drop, ◌≡◌, ℕ, ◌+◌, ◌-◌, ◌<◌, ◌≤◌, ◌^◌, min, List}
-use Rattle.std.proofs.Common.{length, take, drop, ◌⊎◌, Ok, Err, refl, sym, ap, subst, ◌∙◌, arith, take_all}
+use Rattle.std.proofs.Common.{◌++◌, length-take, length-drop, ◌≡◌, ℕ, ◌+◌, ◌-◌, ◌<◌, ◌≤◌, ◌^◌, min, List, length}
+use Rattle.std.proofs.Common.{take, drop, ◌⊎◌, Ok, Err, refl, sym, ap, subst, ◌∙◌, arith, take_all}
 use Rattle.std.proofs.lemmas.List.{length-take-le}
-use Rattle.net_ring.specs.Ring.{RingState, queue, spare, with_enqueued, with_dequeued, WritesSpare}
-use Rattle.net_ring.specs.Ring.{spare_index, with_elements_wrapping}
+use Rattle.net_ring.specs.Ring.{RingState, queue, spare, with_enqueued, with_dequeued, WritesSpare, spare_index}
+use Rattle.net_ring.specs.Ring.{with_elements_wrapping}
 use Rattle.net_ring.specs.declared.head.RingHead.{RingHead}
 use Rattle.net_ring.specs.Overwrite.{overwrite}
 use Rattle.net_ring.specs.RingHead.{IsSound as IsSoundPlace, ring_at, enqueued_place, dequeued_place}
@@ -14,14 +14,14 @@ use Rattle.net_assembler.specs.RunLists.{set_of, HasSoundRuns}
 use Rattle.net_assembler.specs.declared.assembler.head.AssemblerHead.{AssemblerHead}
 use Rattle.net_receiver.specs.declared.receiver_head.ReceiverHead.{ReceiverHead}
 use Rattle.net_receiver.specs.KeptList.{piece}
-use Rattle.net_receiver.specs.Rules.{verdict, state_after, numbers}
-use Rattle.net_receiver.specs.ReceiverState.{ReceiverState, domain, receiver_ops, receiver_after_read, IsSound}
+use Rattle.net_receiver.specs.ReceiverState.{verdict, state_after, numbers, ReceiverState, domain}
+use Rattle.net_receiver.specs.ReceiverState.{receiver_after_read, IsSound}
 use Rattle.net_receiver.specs.Head.{receiver_of, HasSoundParts, storage_after, head_after_read}
 use Rattle.net_receiver.proofs.Contiguous.{stays_at, read_on}
 use Rattle.net_receiver.specs.Parts.{parts, Fits64Bits}
 use Rattle.net_receiver.proofs.RingPlaces.{IsReceiver, IsFrontRemoved, held_runs}
-use Rattle.net_receiver.proofs.Segment.{IsCut, refused_is, keeps_is, wrote_all, refusal, kept_state}
-use Rattle.net_receiver.proofs.Segment.{kept_invariant, m_fits, read_invariant}
+use Rattle.net_receiver.proofs.Segment.{IsCut, refused_is, keeps_is, wrote_all, refusal, kept_state, kept_invariant}
+use Rattle.net_receiver.proofs.Segment.{m_fits, read_invariant}
 
 -- what is written over a whole storage
 pub whole_written : (old new written : List ℕ) → length written ≡ length old → new ≡ overwrite old 0 written → new ≡ written
@@ -110,19 +110,19 @@ module _ {h : ReceiverHead} {xs : List ℕ} {rs : List (ℕ × ℕ)} (s : HasSou
       pub refused : (held : AssemblerHead) (rs' : List (ℕ × ℕ)) → 0 < ahead → length rs < runs (with_range (set_of h.held rs) ahead kept) →
           held ≡ h.held → rs' ≡ rs →
           let h' : ReceiverHead = record { first = h.first; count_read = h.count_read; place = h.place; held = held } in
-          (receiver_of h' xs rs' ≡ state_after receiver_ops v (verdict receiver_ops (length rs) v (piece pos bytes)))
-          × (Err (record {}) ≡ numbers receiver_ops v (verdict receiver_ops (length rs) v (piece pos bytes)))
+          (receiver_of h' xs rs' ≡ state_after v (verdict (length rs) v (piece pos bytes)))
+          × (Err (record {}) ≡ numbers v (verdict (length rs) v (piece pos bytes)))
       refused held rs' apart many e e' = refusal whole cut word (set_of held rs') apart many (λ i. set_of (e i) (e' i))
 
       pub refused_stores : 0 < ahead → length rs < runs (with_range (set_of h.held rs) ahead kept) →
-          xs ≡ storage_after h xs (verdict receiver_ops (length rs) v (piece pos bytes))
+          xs ≡ storage_after h xs (verdict (length rs) v (piece pos bytes))
       refused_stores apart many = ap (storage_after h xs) (sym (refused_is whole cut word apart many))
 
       -- what is written of a kept piece
       pub kept_stores : (ahead ≡ 0) ⊎ (runs (with_range (set_of h.held rs) ahead kept) ≤ length rs) → (ys arg : List ℕ) (wrote : ℕ) →
           ring_at ys h.place ≡ with_elements_wrapping g (spare_index g ahead) (take wrote arg) →
           arg ≡ take kept (drop late bytes) → wrote ≡ min (length arg) (length xs - h.place.length - ahead) →
-          ys ≡ storage_after h xs (verdict receiver_ops (length rs) v (piece pos bytes))
+          ys ≡ storage_after h xs (verdict (length rs) v (piece pos bytes))
       kept_stores which ys arg wrote is arg_is wrote_is =
           let at : ahead ≡ h.first + h.count_read + length (queue g) + ahead - (h.first + h.count_read + h.place.length) = omega (arith, queue_size) in
           ap (λ (o : RingState ℕ). o.storage) is
@@ -140,8 +140,8 @@ module _ {h : ReceiverHead} {xs : List ℕ} {rs : List (ℕ × ℕ)} (s : HasSou
 
         abbrev IsKept : List ℕ → RingHead → Type 0
         IsKept ys to =
-            (receiver_of (left to) ys rs' ≡ state_after receiver_ops v (verdict receiver_ops (length rs) v (piece pos bytes)))
-            × (Ok (record { kept = kept; queued = m }) ≡ numbers receiver_ops v (verdict receiver_ops (length rs) v (piece pos bytes))) × HasSoundParts (left to) ys rs'
+            (receiver_of (left to) ys rs' ≡ state_after v (verdict (length rs) v (piece pos bytes)))
+            × (Ok (record { kept = kept; queued = m }) ≡ numbers v (verdict (length rs) v (piece pos bytes))) × HasSoundParts (left to) ys rs'
 
         pub kept_is : HasSoundRuns held rs' → runs (set_of held rs') ≤ length rs → length rs' ≡ length rs →
             (ahead ≡ 0) ⊎ (runs (with_range (set_of h.held rs) ahead kept) ≤ length rs) → (ys arg : List ℕ) (wrote : ℕ) →

@@ -1,6 +1,6 @@
 -- The maximal runs of a set as a list of ranges: which positions they have, and where the next hole is.
-use Rattle.std.proofs.Common.{cond, ◌≡◌, ℕ, ◌+◌, ◌-◌, ◌<◌, ◌≤◌, min, max, nat_lt, true, false, Bool, List, [], ◌∷◌, All}
-use Rattle.std.proofs.Common.{refl, arith, sym, subst}
+use Rattle.std.proofs.Common.{cond, ◌≡◌, ℕ, ◌+◌, ◌-◌, ◌<◌, ◌≤◌, min, max, nat_lt, true, false, Bool, List, [], ◌∷◌}
+use Rattle.std.proofs.Common.{All, refl, arith, sym, subst}
 use Rattle.std.specs.Prelude.{if◌then◌else◌}
 use Rattle.std.specs.List.{count_by, list_any}
 use Rattle.std.proofs.lemmas.Bool.{both_ways, cases_Bool}

@@ -1,22 +1,22 @@
 -- What is true of every receiver is true of a fresh one, and is kept by each command.
-use Rattle.std.proofs.Common.{◌≡◌, ◌⊎◌, ℕ, ◌+◌, ◌-◌, ◌<◌, ◌≤◌, ◌==◌, Bool, true, false, cond, not, ◌&&◌, ◌||◌}
-use Rattle.std.proofs.Common.{List, [], ◌∷◌, length, take, filter, nat_le, nat_lt, is_some, refl, sym, ap}
-use Rattle.std.proofs.Common.{subst, ◌∙◌, arith, ⊎_elim, le_trans, length-take, length-drop, eq-eqb}
+use Rattle.std.proofs.Common.{◌≡◌, ◌⊎◌, ℕ, ◌+◌, ◌-◌, ◌<◌, ◌≤◌, ◌==◌, Bool, true, false, cond, not, ◌&&◌, ◌||◌, List}
+use Rattle.std.proofs.Common.{[], ◌∷◌, length, take, filter, nat_le, nat_lt, is_some, refl, sym, ap, subst, ◌∙◌}
+use Rattle.std.proofs.Common.{arith, ⊎_elim, le_trans, length-take, length-drop, eq-eqb}
 use Rattle.std.specs.FinMap as fin
 use Rattle.std.proofs.lemmas.Bool.{both_ways, cond_both, or_left, or_right, or_parts, or_from}
 use Rattle.std.proofs.lemmas.Bool.Decides.{nat_tests}
 use Rattle.net_assembler.specs.Positions.{Positions, contains, positions, runs, run_starts, begins_run, with_range}
-use Rattle.net_assembler.proofs.Positions.{has, contains-positions, contains-with_range, positions_rise, rising_unique}
+use Rattle.net_assembler.proofs.Positions.{has, contains-positions, contains-with_range, positions_rise}
+use Rattle.net_assembler.proofs.Positions.{rising_unique}
 use Rattle.net_assembler.proofs.RunLists.{runs-nothing}
 use Rattle.net_receiver.specs.KeptList.{Piece, piece, piece_byte_at, end, piece_within}
-use Rattle.net_receiver.specs.Rules.{Segment, Read, Show, state_after}
-use Rattle.net_receiver.specs.Soundness.{FreshIsSound, SoundStays}
+use Rattle.net_receiver.specs.ReceiverState.{Segment, Read, Show, state_after, FreshIsSound, SoundStays}
 use Rattle.net_receiver.specs.ReceiverState.{ReceiverState, domain, receiver_with_piece, next_position}
-use Rattle.net_receiver.specs.ReceiverState.{receiver_after_command, receiver_ops, IsSound}
+use Rattle.net_receiver.specs.ReceiverState.{receiver_after_command, IsSound}
 use Rattle.net_receiver.proofs.Covering.{piece_has, piece_at, piece_some, or_swap}
 use Rattle.net_receiver.proofs.Maps.{contains-domain, lacks, lacking, laid_has, left_has}
-use Rattle.net_receiver.proofs.Step.{verdict_by, has-filter, filter_rises}
-use Rattle.net_receiver.proofs.ReceiverInvariant.{sound_joined, sound_read}
+use Rattle.net_receiver.proofs.Step.{has-filter, filter_rises, verdict_by}
+use Rattle.net_receiver.proofs.Segment.{sound_joined, sound_read}
 use Rattle.net_receiver.proofs.Theorems.{fresh_sound}
 
 -- ---- the positions of a set from one on that is not in it
@@ -92,7 +92,7 @@ segment_sound most v pos xs sound =
     let part = piece_within (next_position v) limit (piece pos xs) in
     let cut = length-take (limit - pos) xs in
     let size = length-drop (next_position v - pos) (take (limit - pos) xs) in
-    verdict_by (λ y. IsSound most (state_after receiver_ops v y)) (next_position v) most (domain v.held) part (λ _. sound) (λ _ _ _. sound)
+    verdict_by (λ y. IsSound most (state_after v y)) (next_position v) most (domain v.held) part (λ _. sound) (λ _ _ _. sound)
     (λ some which. sound_joined most v sound part (omega arith) (few_joined most v sound part which))
 
 pub sound_stays : SoundStays

@@ -1,21 +1,13 @@
 -- The lemmas of the theorems.
-pub mod Search
-pub mod Covering
 pub mod Maps
-pub mod Ranges
+pub mod Covering
 pub mod ShiftedRuns
-pub mod Step
 pub mod Schedules
-pub mod Stream
 pub mod Converge
-pub mod Recover
-pub mod ReceiverInvariant
+pub mod Stream
 pub mod RingPlaces
 pub mod Segment
-pub mod Theorems
 pub mod InvariantLaws
-pub mod SameBytes
-pub mod KeptLists
 pub mod OneStream
 pub mod CallClauses
 pub mod Retransmission
@@ -23,9 +15,7 @@ pub mod ReadLaws
 pub mod Contiguous
 pub mod Heads
 pub mod ReceiverParts
-pub mod WorkedExample
 pub mod Senders
-pub mod Represents
 pub mod Scoreboards
 pub mod Losses
 pub mod Holes
@@ -36,3 +26,6 @@ pub mod EndInvariant
 pub mod FiniteReceivers
 pub mod FiniteSchedules
 pub mod FiniteSenders
+pub mod Transfers
+pub mod Step
+pub mod Theorems

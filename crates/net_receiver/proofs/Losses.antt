@@ -1,12 +1,13 @@
 -- Up to where what isn't reported is lost, run by run.
-use Rattle.std.proofs.Common.{◌≡◌, ℕ, ◌+◌, ◌-◌, ◌*◌, ◌<◌, ◌≤◌, ◌↔◌, max, true, false, List, [], ◌∷◌, length}
-use Rattle.std.proofs.Common.{refl, ap, sym, subst, ◌∙◌, arith, IsTrue, cond, nat_lt, ◌⊎◌, inl, inr}
+use Rattle.std.proofs.Common.{◌≡◌, ℕ, ◌+◌, ◌-◌, ◌*◌, ◌<◌, ◌≤◌, ◌↔◌, max, true, false, List, [], ◌∷◌, length, refl, ap}
+use Rattle.std.proofs.Common.{sym, subst, ◌∙◌, arith, IsTrue, cond, nat_lt, ◌⊎◌, inl, inr}
 use Rattle.std.specs.List.{count_by}
 use Rattle.std.specs.Int.{from_bool}
 use Rattle.std.proofs.lemmas.Bool.{both_ways, cases_Bool, cases_lt}
 use Rattle.std.proofs.lemmas.Bool.Decides.{nat_tests}
 use Rattle.std.proofs.lemmas.List.Sums.{sum_by-cons}
-use Rattle.net_assembler.specs.Positions.{Positions, contains, first_missing, front, shift_down, maximal_runs, lies_in}
+use Rattle.net_assembler.specs.Positions.{Positions, contains, first_missing, front, shift_down, maximal_runs}
+use Rattle.net_assembler.specs.Positions.{lies_in}
 use Rattle.net_assembler.specs.RunLists.{IsRising}
 use Rattle.net_assembler.proofs.Positions.{first_missing-misses, contains-shift_up, contains-shift_down}
 use Rattle.net_assembler.proofs.Runs.{rising_from}

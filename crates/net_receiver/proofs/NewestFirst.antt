@@ -1,8 +1,7 @@
 -- Several calls of `newest_runs`: the runs of the positions that were asked for last are listed first.
-use Rattle.std.proofs.Common.{◌≡◌, inr, ℕ, zero, suc, ◌-◌, ◌<◌, ◌≤◌, true, false, List, [], ◌∷◌}
-use Rattle.std.proofs.Common.{length, map, take, drop, Some, All, slice_get, unwrap_or}
-use Rattle.std.proofs.Common.{is_some, refl, sym, ap, subst, ◌∙◌, arith, ⊎_elim, le_refl, length-append}
-use Rattle.std.proofs.Common.{length-take, length-drop, lt-ltb}
+use Rattle.std.proofs.Common.{◌≡◌, inr, ℕ, zero, suc, ◌-◌, ◌<◌, ◌≤◌, true, false, List, [], ◌∷◌, length, map, take}
+use Rattle.std.proofs.Common.{drop, Some, All, slice_get, unwrap_or, is_some, refl, sym, ap, subst, ◌∙◌, arith}
+use Rattle.std.proofs.Common.{⊎_elim, le_refl, length-append, length-take, length-drop, lt-ltb}
 use Rattle.std.specs.Option.{option_map}
 use Rattle.std.specs.FinMap as fin
 use Rattle.std.proofs.lemmas.Bool.{both_ways, cases_lt, cond-true}
@@ -11,8 +10,7 @@ use Rattle.std.proofs.lemmas.List.{length-map}
 use Rattle.std.proofs.lemmas.List.Elements.{All-head, All-tail}
 use Rattle.net_assembler.specs.Positions.{Positions, contains, lies_in, IsMaximalRun}
 use Rattle.net_assembler.specs.AssemblerLaws.{MaximalRunsOfEverySet}
-use Rattle.net_receiver.specs.Rules.{CommandValue}
-use Rattle.net_receiver.specs.ReceiverState.{ReceiverState, IsSound, next_position}
+use Rattle.net_receiver.specs.ReceiverState.{CommandValue, ReceiverState, IsSound, next_position}
 use Rattle.net_receiver.specs.ReceiverState.{receiver_after_command, receiver_after_commands}
 use Rattle.net_receiver.specs.Retransmission.{HasByteAt}
 use Rattle.net_receiver.specs.NewestRuns.{newest_runs, with_starts, AreNewestRuns, IsListedBy, IsNamed}

@@ -1,22 +1,21 @@
 -- What truthful segments leave.
-use Rattle.std.proofs.Common.{◌≡◌, ℕ, zero, suc, ◌+◌, ◌-◌, ◌<◌, ◌≤◌, List, [], ◌∷◌, ◌++◌, length, take, drop}
-use Rattle.std.proofs.Common.{All, Some, slice_get, slice_range, refl, sym, ap, subst, ◌∙◌, arith}
-use Rattle.std.proofs.Common.{length-append, length-drop, ⊎_elim, take-add}
+use Rattle.std.proofs.Common.{◌≡◌, ℕ, zero, suc, ◌+◌, ◌-◌, ◌<◌, ◌≤◌, List, [], ◌∷◌, ◌++◌, length, take, drop, All}
+use Rattle.std.proofs.Common.{Some, slice_get, slice_range, refl, sym, ap, subst, ◌∙◌, arith, length-append}
+use Rattle.std.proofs.Common.{length-drop, ⊎_elim, take-add}
 use Rattle.std.proofs.lemmas.Bool.{cases_lt}
 use Rattle.std.proofs.lemmas.Option.{slice_get_within, none-some}
 use Rattle.std.proofs.lemmas.List.Elements.{All-nil, All-cons, All-head, All-tail, All-push, All-take, All-weaker}
-use Rattle.net_receiver.specs.KeptList.{Piece, piece, piece_within, byte_at, next, bytes, held_positions}
-use Rattle.net_receiver.specs.Rules.{CommandValue, ReplyValue, Segment, Read, Show, state_after}
-use Rattle.net_receiver.specs.Schedule.{Setting, KeptState, fresh_kept, kept_after_command}
-use Rattle.net_receiver.specs.Schedule.{kept_after_commands, bytes_read, PieceAgrees, Agrees, kept_ops}
-use Rattle.net_receiver.specs.ReceiverState.{ReceiverState, receiver_ops, fresh_receiver, next_position}
-use Rattle.net_receiver.specs.ReceiverState.{limit_of, receiver_after_command, receiver_after_commands}
-use Rattle.net_receiver.specs.ReceiverState.{setting}
+use Rattle.net_receiver.specs.Headline.{CommandValue, Segment, Read, Show, ReplyValue, unread, queued, queue, missing}
+use Rattle.net_receiver.specs.Headline.{step, state_from}
+use Rattle.net_receiver.specs.KeptList.{Piece, piece, piece_within, byte_at}
+use Rattle.net_receiver.specs.Schedule.{Setting, KeptState, fresh_kept, HasRoom, bytes_read, PieceAgrees, Agrees}
+use Rattle.net_receiver.specs.ReceiverState.{ReceiverState, fresh_receiver, next_position, limit_of}
+use Rattle.net_receiver.specs.ReceiverState.{receiver_after_command, receiver_after_commands, setting}
 use Rattle.net_receiver.specs.Execution.{Executes}
 use Rattle.net_receiver.specs.OneStream.{IsTruthful, Receives, QueueIsOf, FirstStays, NextGrows, LimitGrows}
 use Rattle.net_receiver.specs.OneStream.{SegmentReadsNothing}
-use Rattle.net_receiver.proofs.Covering.{clip_at, next_is}
-use Rattle.net_receiver.proofs.Step.{any_verdict, segment_cases, same_next, queue_length}
+use Rattle.net_receiver.proofs.Covering.{clip_at}
+use Rattle.net_receiver.proofs.Step.{missing_is, part_cases, window_piece, segment_cases, same_next, queue_length}
 use Rattle.net_receiver.proofs.Schedules.{schedule, setting_kept, settings_kept}
 use Rattle.net_receiver.proofs.Stream.{queue_agrees, agrees_at, some_of, stream}
 use Rattle.net_receiver.proofs.Theorems.{fresh_refines}
@@ -25,19 +24,20 @@ clip_agrees : (f low high : ℕ) (x : List ℕ) (e : Piece) → PieceAgrees f x 
 clip_agrees f low high x e h = λ p b from is. h p b from (clip_at low high e p b is).2
 
 one_kept : (w : Setting) (s : KeptState) (x : List ℕ) (c : CommandValue) → Agrees w.first s.kept x → IsTruthful w.first x c →
-    Agrees w.first (kept_after_command w s c).kept x
+    Agrees w.first (step w s c).0.kept x
 one_kept w s x (Segment pos xs) all h =
-    let part = piece_within (next w.first s.kept) (w.first + s.read + w.capacity) (piece pos xs) in
-    any_verdict (λ y. Agrees w.first (state_after (kept_ops w) s y).kept x) (next w.first s.kept) w.most_runs (held_positions w.first s.kept) part (λ _. all) all
-    (All-push (PieceAgrees w.first x) s.kept part all (clip_agrees w.first (next w.first s.kept) (w.first + s.read + w.capacity) x (piece pos xs) h))
+    let part = window_piece w s (piece pos xs) in
+    part_cases (λ y. Agrees w.first y.0.kept x) w s part (λ _. all) (λ _ _. all)
+    (λ _. All-push (PieceAgrees w.first x) s.kept part all (clip_agrees w.first (missing w s) (unread w s + w.capacity) x (piece pos xs) h))
 one_kept w s x (Read count) all h = all
 one_kept w s x Show all h = all
 
 pub truthful_is_kept : (w : Setting) (s : KeptState) (x : List ℕ) (cs : List CommandValue) → Agrees w.first s.kept x → All (IsTruthful w.first x) cs →
-    Agrees w.first (kept_after_commands w s cs).kept x
+    Agrees w.first (state_from w s cs).kept x
+unfolding state_from
 truthful_is_kept w s x [] all h = all
 truthful_is_kept w s x (c ∷ cs) all h =
-    truthful_is_kept w (kept_after_command w s c) x cs (one_kept w s x c all (All-head (IsTruthful w.first x) c cs h)) (All-tail (IsTruthful w.first x) c cs h)
+    truthful_is_kept w (step w s c).0 x cs (one_kept w s x c all (All-head (IsTruthful w.first x) c cs h)) (All-tail (IsTruthful w.first x) c cs h)
 
 pub fresh_receives : (x : List ℕ) (first capacity : ℕ) → Receives x (fresh_receiver first capacity)
 fresh_receives x first capacity = record { state = fresh_kept; refines = fresh_refines first capacity; agrees = All-nil (PieceAgrees first x) }
@@ -47,9 +47,9 @@ all_receive : (most : ℕ) (x : List ℕ) (v : ReceiverState) (cs : List Command
 all_receive most x v cs r h =
     let w = setting most v in
     record {
-      state = kept_after_commands w r.state cs;
+      state = state_from w r.state cs;
       refines = (schedule most v r.state r.refines cs).0;
-      agrees = subst (λ f. Agrees f (kept_after_commands w r.state cs).kept x) (sym (ap (λ y. y.first) (settings_kept most v cs))) (truthful_is_kept w r.state x cs r.agrees h);
+      agrees = subst (λ f. Agrees f (state_from w r.state cs).kept x) (sym (ap (λ y. y.first) (settings_kept most v cs))) (truthful_is_kept w r.state x cs r.agrees h);
     }
 
 pub one_receives : (most : ℕ) (x : List ℕ) (v : ReceiverState) (c : CommandValue) → Receives x v → IsTruthful v.first x c →
@@ -71,32 +71,30 @@ longer_receives x more v r = record {
       (λ e h p b from is. longer_at x more (p - v.first) b (h p b from is)) r.state.kept r.agrees;
 }
 
--- the bytes up to `next` are those of x
-covered_within : (f : ℕ) (k : List Piece) (x : List ℕ) → Agrees f k x → next f k - f ≤ length x
-covered_within f k x all =
+-- the bytes up to the first missing position are those of x
+covered_within : (w : Setting) (s : KeptState) (x : List ℕ) → HasRoom w s → Agrees w.first s.kept x → missing w s - w.first ≤ length x
+covered_within w s x room all =
+    let n = missing w s in
     ⊎_elim
-    (λ (l : f < next f k).
-    let there = some_of (byte_at k (next f k - 1)) ((next_is f k).before (next f k - 1) (omega arith) (omega arith)) in
-    let is : slice_get x (next f k - 1 - f) ≡ Some there.0 = agrees_at f k x all (next f k - 1) there.0 (omega arith) there.1 in
-    let near : next f k - 1 - f < length x = slice_get_within x (next f k - 1 - f) there.0 is in
+    (λ (l : w.first < n).
+    let there = some_of (byte_at s.kept (n - 1)) ((missing_is w s room).before (n - 1) (omega arith) (omega arith)) in
+    let is : slice_get x (n - 1 - w.first) ≡ Some there.0 = agrees_at w.first s.kept x all (n - 1) there.0 (omega arith) there.1 in
+    let near : n - 1 - w.first < length x = slice_get_within x (n - 1 - w.first) there.0 is in
     omega arith)
-    (λ (l : next f k ≤ f). omega arith)
-    (cases_lt f (next f k))
+    (λ (l : n ≤ w.first). omega arith)
+    (cases_lt w.first n)
 
 pub queue_is_of : (x : List ℕ) (v : ReceiverState) → Receives x v → QueueIsOf x v
 queue_is_of x v r =
     let w = setting 0 v in
     let s = r.state in
     let d = r.refines in
-    let n = next v.first s.kept - (v.first + s.read) in
+    let n = queued w s in
     let long : length v.queue ≡ n = queue_length v s d in
-    let same : v.queue ≡ take n (drop s.read x) = d.queue ∙ queue_agrees w x s d.within r.agrees n (omega arith) in
+    let same : v.queue ≡ take n (drop s.read x) = d.queue ∙ queue_agrees w x s r.agrees n (omega arith) in
     let read : v.read ≡ s.read = d.read in
     let is : v.queue ≡ take (length v.queue) (drop v.read x) = same ∙ (λ i. take (sym long i) (drop (sym read i) x)) in
-    let end : next_position v ≡ next v.first s.kept = same_next v s d in
-    let wide = covered_within v.first s.kept x r.agrees in
-    let from = (next_is v.first s.kept).from in
-    let within = d.within in
+    let wide = covered_within w s x d.room r.agrees in
     let total : v.read + length v.queue ≡ next_position v - v.first = omega arith in
     record {
       within = omega arith;
@@ -113,15 +111,14 @@ run_receives {most} {v} {u} {cs} {rs} x r h run =
     let prefix = take run.prefix.count cs in
     let kept = All-take (IsTruthful v.first x) run.prefix.count cs h in
     let z = receiver_after_commands most v prefix in
-    let t = kept_after_commands w r.state prefix in
+    let t = state_from w r.state prefix in
     let d = schedule most v r.state r.refines prefix in
-    let f : z.first ≡ v.first = ap (λ y. y.first) (settings_kept most v prefix) in
-    let end : next_position z - z.first ≡ next v.first t.kept - v.first =
-    (let e = same_next z t d.0 in let e' : next z.first t.kept ≡ next v.first t.kept = ap (λ b. next b t.kept) f in omega arith) in (
+    let same : setting most z ≡ w = settings_kept most v prefix in
+    let end : next_position z - z.first ≡ missing w t - v.first =
+    (λ i. same_next z t d.0 i - z.first) ∙ ap (λ y. missing y t - y.first) same in (
       subst (Receives x) (sym run.state) (all_receive most x v prefix r kept),
-      (λ i. bytes_read ((run.replies ∙ d.1) i) ++
-          (ap (λ y. y.queue) run.state ∙ d.0.queue ∙ (λ j. bytes t.kept (f j + t.read) (next (f j) t.kept - (f j + t.read)))) i)
-          ∙ stream w x r.state r.refines.within prefix (truthful_is_kept w r.state x prefix r.agrees kept)
+      (λ i. bytes_read ((run.replies ∙ d.1) i) ++ (ap (λ y. y.queue) run.state ∙ d.0.queue ∙ ap (λ y. queue y t) same) i)
+          ∙ stream w x r.state prefix (truthful_is_kept w r.state x prefix r.agrees kept)
           ∙ (λ i. slice_range x (sym r.refines.read i) ((sym end ∙ ap (λ y. next_position y - y.first) (sym run.state)) i)),
     )
 
@@ -131,15 +128,15 @@ first_stays most v c = ap (λ w. w.first) (setting_kept most v c)
 
 pub next_position_grows : NextGrows
 next_position_grows most v (Segment pos xs) =
-    segment_cases receiver_ops (λ u. next_position v ≤ next_position u) most v pos xs (omega arith) (λ part. omega (arith, length-append {A = ℕ}))
+    segment_cases (λ u. next_position v ≤ next_position u) most v pos xs (omega arith) (λ part. omega (arith, length-append {A = ℕ}))
 next_position_grows most v (Read count) = omega (arith, length-drop count v.queue)
 next_position_grows most v Show = omega arith
 
 pub limit_grows : LimitGrows
 limit_grows most v (Segment pos xs) =
-    segment_cases receiver_ops (λ u. limit_of v ≤ limit_of u) most v pos xs (omega arith) (λ part. omega arith)
+    segment_cases (λ u. limit_of v ≤ limit_of u) most v pos xs (omega arith) (λ part. omega arith)
 limit_grows most v (Read count) = omega arith
 limit_grows most v Show = omega arith
 
 pub segment_reads_nothing : SegmentReadsNothing
-segment_reads_nothing most v pos xs = segment_cases receiver_ops (λ u. u.read ≡ v.read) most v pos xs refl (λ part. refl)
+segment_reads_nothing most v pos xs = segment_cases (λ u. u.read ≡ v.read) most v pos xs refl (λ part. refl)

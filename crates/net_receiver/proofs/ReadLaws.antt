@@ -2,7 +2,7 @@
 use Rattle.std.proofs.Common.{◌≡◌, inl, inr, ◌+◌, ◌<◌, min, length, drop, sym, arith, ⊎_elim, length-drop, take-add}
 use Rattle.std.proofs.lemmas.List.{drop-drop}
 use Rattle.net_receiver.specs.ReceiverState.{next_position, receiver_after_read}
-use Rattle.net_receiver.specs.ReadLaws.{ReadLeavesNext, ReadLeavesBytes, ReadsAdd, ReadsGiveTogether}
+use Rattle.net_receiver.specs.Retransmission.{ReadLeavesNext, ReadLeavesBytes, ReadsAdd, ReadsGiveTogether}
 
 pub read_leaves_next : ReadLeavesNext
 read_leaves_next v n = (let size = length-drop n v.queue in omega arith)

@@ -1,7 +1,6 @@
 -- The parts of which a test has found that they are those of a receiver.
-use Rattle.std.proofs.Common.{◌≡◌, ℕ, suc, zero, ◌+◌, ◌-◌, ◌<◌, ◌≤◌, ◌^◌, true, List, [], ◌∷◌, length, nat_le}
-use Rattle.std.proofs.Common.{nat_lt, ◌&&◌, is_some, sym, ap, refl, ◌∙◌, arith, ⊎_elim, le-leb, lt-ltb}
-use Rattle.std.proofs.Common.{ltb-true}
+use Rattle.std.proofs.Common.{◌≡◌, ℕ, suc, zero, ◌+◌, ◌-◌, ◌<◌, ◌≤◌, ◌^◌, true, List, [], ◌∷◌, length, nat_le, nat_lt}
+use Rattle.std.proofs.Common.{◌&&◌, is_some, sym, ap, refl, ◌∙◌, arith, ⊎_elim, le-leb, lt-ltb, ltb-true}
 use Rattle.std.specs.FinMap as fin
 use Rattle.std.proofs.lemmas.Bool.{false≢true, both_ways, cases_lt, or_cases, or_left, or_right, and_parts, and_from}
 use Rattle.net_assembler.specs.declared.assembler.head.AssemblerHead.{AssemblerHead}

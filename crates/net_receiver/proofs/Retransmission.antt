@@ -1,26 +1,24 @@
 -- Segments that come again, and segments that together cover a range.
-use Rattle.std.proofs.Common.{◌≡◌, ◌⊎◌, inl, inr, ℕ, ◌+◌, ◌-◌, ◌<◌, ◌≤◌, true, false, cond, List, [], ◌∷◌}
-use Rattle.std.proofs.Common.{◌++◌, take, nat_le, Option, Some, None, is_some, All, refl, sym, ap, ◌∙◌, arith}
-use Rattle.std.proofs.Common.{⊎_elim, le-leb, lt-ltb, le_trans, length-take, length-drop}
+use Rattle.std.proofs.Common.{◌≡◌, ◌⊎◌, inl, inr, ℕ, ◌+◌, ◌-◌, ◌<◌, ◌≤◌, true, false, cond, List, [], ◌∷◌, ◌++◌, take}
+use Rattle.std.proofs.Common.{nat_le, Option, Some, None, is_some, All, refl, sym, ap, ◌∙◌, arith, ⊎_elim, le-leb}
+use Rattle.std.proofs.Common.{lt-ltb, le_trans, length-take, length-drop}
 use Rattle.std.specs.Option.{option_or}
 use Rattle.std.specs.FinMap as fin
 use Rattle.std.proofs.lemmas.Bool.{both_ways, cases_lt, cond-true, and_from, or_left, or_right, false_from_ne_true}
 use Rattle.std.proofs.lemmas.List.{append-nil}
 use Rattle.std.proofs.lemmas.List.Elements.{All-head, All-tail}
 use Rattle.net_receiver.specs.KeptList.{Piece, piece, piece_byte_at, piece_within}
-use Rattle.net_receiver.specs.Rules.{CommandValue, Segment, Read, Show, SegmentReply, verdict, state_after}
-use Rattle.net_receiver.specs.Rules.{segment_result}
+use Rattle.net_receiver.specs.ReceiverState.{CommandValue, Segment, Read, Show, SegmentReply, verdict, state_after}
+use Rattle.net_receiver.specs.ReceiverState.{segment_result, ReceiverState, domain, held_with_piece, held_bytes_at}
+use Rattle.net_receiver.specs.ReceiverState.{receiver_with_piece, receiver_up_to, next_position, receiver_after_read}
+use Rattle.net_receiver.specs.ReceiverState.{receiver_after_command, receiver_reply, receiver_after_commands}
+use Rattle.net_receiver.specs.ReceiverState.{receiver_replies}
 use Rattle.net_receiver.specs.Schedule.{IsAccepted}
-use Rattle.net_receiver.specs.ReceiverState.{ReceiverState, domain, held_with_piece, held_bytes_at}
-use Rattle.net_receiver.specs.ReceiverState.{receiver_with_piece, receiver_up_to, next_position, receiver_ops}
-use Rattle.net_receiver.specs.ReceiverState.{receiver_after_read, receiver_after_command, receiver_reply}
-use Rattle.net_receiver.specs.ReceiverState.{receiver_after_commands, receiver_replies}
 use Rattle.net_receiver.specs.Retransmission.{IsHeld, HeldChangesNothing, SecondCopy, HasByteAt, HasByteStays}
 use Rattle.net_receiver.specs.Retransmission.{AcceptedBrings, HasAllReaches, Brings, Completes}
-use Rattle.net_receiver.proofs.Search.{first_unique}
-use Rattle.net_receiver.proofs.Covering.{piece_some, clip_at, clip_byte}
-use Rattle.net_receiver.proofs.Maps.{get-with_bytes_at, same_both, same_bytes, next_joined, get_from, laid}
-use Rattle.net_receiver.proofs.Maps.{lacks, lacking, laid_has, left_has, left_above}
+use Rattle.net_receiver.proofs.Covering.{first_unique, piece_some, clip_at, clip_byte}
+use Rattle.net_receiver.proofs.Maps.{get-with_bytes_at, same_both, same_bytes, next_joined, get_from, laid, lacks}
+use Rattle.net_receiver.proofs.Maps.{lacking, laid_has, left_has, left_above}
 use Rattle.net_receiver.proofs.Step.{any_verdict, segment_cases}
 use Rattle.net_receiver.proofs.OneStream.{next_position_grows}
 
@@ -85,7 +83,7 @@ held_changes_nothing_above : (most : ℕ) (v : ReceiverState) (pos : ℕ) (xs : 
 held_changes_nothing_above most v pos xs above held =
     let limit = v.first + v.read + v.capacity in
     let part = piece_within (next_position v) limit (piece pos xs) in
-    any_verdict (λ y. state_after receiver_ops v y ≡ v) (next_position v) most (domain v.held) part (λ _. refl) refl
+    any_verdict (λ y. state_after v y ≡ v) (next_position v) most (domain v.held) part (λ _. refl) refl
     (kept_held v part above (λ q b is. (let at = clip_at (next_position v) limit (piece pos xs) q b is in held q b at.0 at.1 at.2)))
 
 pub held_changes_nothing : HeldChangesNothing
@@ -97,10 +95,10 @@ second_copy most v pos xs sound =
     let limit = v.first + v.read + v.capacity in
     let part = piece_within (next_position v) limit e in
     any_verdict
-    (λ y. verdict receiver_ops most v e ≡ y → receiver_after_command most (state_after receiver_ops v y) (Segment pos xs) ≡ state_after receiver_ops v y)
+    (λ y. verdict most v e ≡ y → receiver_after_command most (state_after v y) (Segment pos xs) ≡ state_after v y)
     (next_position v) most (domain v.held) part
-    (λ _ is. ap (state_after receiver_ops v) is)
-    (λ is. ap (state_after receiver_ops v) is)
+    (λ _ is. ap (state_after v) is)
+    (λ is. ap (state_after v) is)
     (λ is. held_changes_nothing_above most (receiver_with_piece v part) pos xs (above_joined v part) (λ p b from to at.
     let there = next_joined v part in
     let grown = (lacking v part).from in
@@ -113,7 +111,7 @@ second_copy most v pos xs sound =
 
 -- ---- segments that cover a range
 pub has_byte_stays : HasByteStays
-has_byte_stays most v (Segment pos xs) p h = segment_cases receiver_ops (λ u. HasByteAt u p) most v pos xs h (λ part. has_joined v part p h)
+has_byte_stays most v (Segment pos xs) p h = segment_cases (λ u. HasByteAt u p) most v pos xs h (λ part. has_joined v part p h)
 has_byte_stays most v (Read count) p h =
     let size = length-drop count v.queue in
     ⊎_elim (λ (l : p < next_position v). inl (omega arith)) (λ (k : fin.contains_key v.held p ≡ true). inr k) h
@@ -124,7 +122,7 @@ accepted_brings most v pos xs p accepted from to below =
     let part = piece_within (next_position v) (v.first + v.read + v.capacity) (piece pos xs) in
     let cut = length-drop (next_position v - pos) (take (v.first + v.read + v.capacity - pos) xs) in
     let size = length-take (v.first + v.read + v.capacity - pos) xs in
-    any_verdict (λ y. IsAccepted (SegmentReply (segment_result receiver_ops v y)) → HasByteAt (state_after receiver_ops v y) p) (next_position v) most (domain v.held) part
+    any_verdict (λ y. IsAccepted (SegmentReply (segment_result v y)) → HasByteAt (state_after v y) p) (next_position v) most (domain v.held) part
     (λ none _. inl (omega arith))
     (λ no. absurd no)
     (λ _. ⊎_elim (λ (l : p < next_position v). has_joined v part p (inl l))
@@ -136,7 +134,7 @@ accepted_brings most v pos xs p accepted from to below =
 missing_stays : (most : ℕ) (v : ReceiverState) (c : CommandValue) → fin.contains_key v.held (next_position v) ≡ false →
     fin.contains_key (receiver_after_command most v c).held (next_position (receiver_after_command most v c)) ≡ false
 missing_stays most v (Segment pos xs) h =
-    segment_cases receiver_ops (λ u. fin.contains_key u.held (next_position u) ≡ false) most v pos xs h (λ part. missing_of (receiver_with_piece v part) (above_joined v part))
+    segment_cases (λ u. fin.contains_key u.held (next_position u) ≡ false) most v pos xs h (λ part. missing_of (receiver_with_piece v part) (above_joined v part))
 missing_stays most v (Read count) h =
     let size = length-drop count v.queue in
     let same : next_position (receiver_after_read v count) ≡ next_position v = omega arith in
@@ -147,7 +145,7 @@ missing_stays most v Show h = h
 limit_rises : (most : ℕ) (v : ReceiverState) (c : CommandValue) →
     v.first + v.read + v.capacity ≤ (receiver_after_command most v c).first + (receiver_after_command most v c).read + (receiver_after_command most v c).capacity
 limit_rises most v (Segment pos xs) =
-    segment_cases receiver_ops (λ u. v.first + v.read + v.capacity ≤ u.first + u.read + u.capacity) most v pos xs (omega arith) (λ part. omega arith)
+    segment_cases (λ u. v.first + v.read + v.capacity ≤ u.first + u.read + u.capacity) most v pos xs (omega arith) (λ part. omega arith)
 limit_rises most v (Read count) = omega arith
 limit_rises most v Show = omega arith
 

@@ -1,20 +1,19 @@
 -- Scoreboards as a base and offsets.
-use Rattle.std.proofs.Common.{◌≡◌, ℕ, ◌+◌, ◌-◌, ◌<◌, ◌≤◌, ◌^◌, ◌&&◌, ◌||◌, min, max, true, false, List, []}
-use Rattle.std.proofs.Common.{◌∷◌, ◌++◌, length, length-append, zero, suc, All, refl, sym, ap, subst, ◌∙◌}
-use Rattle.std.proofs.Common.{arith, nat_le, nat_lt, ◌↔◌, IsTrue, ◌⊎◌, inl, inr, Result, Ok, Err, OnOk}
+use Rattle.std.proofs.Common.{◌≡◌, ℕ, ◌+◌, ◌-◌, ◌<◌, ◌≤◌, ◌^◌, ◌&&◌, ◌||◌, min, max, true, false, List, [], ◌∷◌, ◌++◌}
+use Rattle.std.proofs.Common.{length, length-append, zero, suc, All, refl, sym, ap, subst, ◌∙◌, arith, nat_le, nat_lt}
+use Rattle.std.proofs.Common.{◌↔◌, IsTrue, ◌⊎◌, inl, inr, Result, Ok, Err, OnOk}
 use Rattle.std.specs.List.{range_with_len}
 use Rattle.std.proofs.lemmas.List.FromFn.{length-range_with_len}
 use Rattle.std.proofs.lemmas.Bool.{both_ways, cases_Bool, cases_lt, false_from_ne_true}
 use Rattle.std.proofs.lemmas.Bool.Decides.{nat_tests}
 use Rattle.std.proofs.lemmas.List.Elements.{All-head, All-tail}
 use Rattle.net_assembler.specs.Assembler.{MakesTooManyRuns, makes_too_many_runs}
-use Rattle.net_assembler.specs.Positions.{Positions, contains, positions, front, first_missing, maximal_runs}
-use Rattle.net_assembler.specs.Positions.{runs, with_range, shift_up, shift_down, runs_shifted_up, nothing}
-use Rattle.net_assembler.specs.Positions.{IsMaximalRun}
-use Rattle.net_assembler.proofs.Positions.{either, Rises, positions-set_of_list, same_positions}
-use Rattle.net_assembler.proofs.Positions.{contains-nothing, contains-with_range, contains-shift_up}
-use Rattle.net_assembler.proofs.Positions.{contains-shift_down, first_missing-is, first_missing-misses}
-use Rattle.net_assembler.proofs.Positions.{first_missing-has, first_missing-le, maximal_runs-shift_up}
+use Rattle.net_assembler.specs.Positions.{Positions, contains, positions, front, first_missing, maximal_runs, runs}
+use Rattle.net_assembler.specs.Positions.{with_range, shift_up, shift_down, runs_shifted_up, nothing, IsMaximalRun}
+use Rattle.net_assembler.proofs.Positions.{either, Rises, positions-set_of_list, same_positions, contains-nothing}
+use Rattle.net_assembler.proofs.Positions.{contains-with_range, contains-shift_up, contains-shift_down}
+use Rattle.net_assembler.proofs.Positions.{first_missing-is, first_missing-misses, first_missing-has}
+use Rattle.net_assembler.proofs.Positions.{first_missing-le, maximal_runs-shift_up}
 use Rattle.net_assembler.specs.AssemblerLaws.{Adds}
 use Rattle.net_assembler.specs.declared.assembler.error.TooManyHolesError.{TooManyHolesError}
 use Rattle.net_assembler.specs.RunLists.{IsRising, run_positions, set_of, set_of_runs}

@@ -1,12 +1,13 @@
 -- Facts of senders: what is lent, and what is sent.
-use Rattle.std.proofs.Common.{◌≡◌, ℕ, ◌+◌, ◌-◌, ◌<◌, ◌≤◌, List, [], length, take, drop, get_or, ◌++◌, ◌∙◌}
-use Rattle.std.proofs.Common.{arith, sym, ap, min, max, length-append, length-drop}
+use Rattle.std.proofs.Common.{◌≡◌, ℕ, ◌+◌, ◌-◌, ◌<◌, ◌≤◌, List, [], length, take, drop, get_or, ◌++◌, ◌∙◌, arith, sym}
+use Rattle.std.proofs.Common.{ap, min, max, length-append, length-drop}
 use Rattle.std.proofs.lemmas.Bool.{cases_lt}
 use Rattle.std.proofs.lemmas.Bool.Decides.{nat_tests}
 use Rattle.net_assembler.proofs.Positions.{either}
 use Rattle.std.proofs.lemmas.List.{drop_all, get_or-take, drop-drop, get_or-drop, drop-append-le}
 use Rattle.net_receiver.specs.OneStream.{MatchesStream, MatchesWhatIsThere}
-use Rattle.net_receiver.specs.SenderState.{SenderState, sender_state, Sends, end_of, contiguous_end, with_written, sender_from}
+use Rattle.net_receiver.specs.SenderState.{SenderState, sender_state, Sends, end_of, contiguous_end, with_written}
+use Rattle.net_receiver.specs.SenderState.{sender_from}
 
 -- what a sender lends matches the stream
 pub lent_says : MatchesWhatIsThere → (f : ℕ) (w : List ℕ) (v : SenderState) (pos : ℕ) (xs : List ℕ) → Sends f w v →

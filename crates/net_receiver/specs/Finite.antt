@@ -3,7 +3,7 @@
 --     top_of v      the position after the last byte that is queued or held
 --     FiniteState, fresh_finite first capacity      what a receiver stores, and the end
 --     knows_end s, can_end s e      whether the end is known; whether it can be e
---     below_end s pos xs      the bytes of a segment that are below the end
+--     bytes_end s, below_end s pos xs      the end of the bytes that it takes; those of a segment below it
 --     end_after s e last      the end that is known after a segment, which itself ends at e
 --     finite_after N s pos xs last, finite_result N s pos xs last      what a segment leaves, and its result
 --     finite_after_read s n      what a read leaves
@@ -11,9 +11,8 @@
 --     IsSameFinite s t      what `is_same_state` compares
 --     IsSoundEnd s      what is true of every such receiver
 --     finite_code      what is stored, as a code
-use Rattle.std.specs.Prelude.{◌≡◌, ℕ, ◌+◌, ◌-◌, ◌<◌, ◌≤◌, ◌^◌, max, Bool, ◌&&◌, not, if◌then◌else◌}
-use Rattle.std.specs.Prelude.{List, length, take, nat_lt, nat_le, nat_eq, is_ok, Result, Ok, Err}
-use Rattle.std.specs.Prelude.{refl}
+use Rattle.std.specs.Prelude.{◌≡◌, ℕ, ◌+◌, ◌-◌, ◌<◌, ◌≤◌, ◌^◌, max, min, Bool, ◌&&◌, not, if◌then◌else◌, List}
+use Rattle.std.specs.Prelude.{length, take, nat_lt, nat_le, nat_eq, is_ok, Result, Ok, Err, refl}
 use Rattle.std.specs.Coded.{Coded, code_by, coded×, coded_ℕ}
 use Rattle.net_receiver.specs.Parts.{receiver_code}
 use Rattle.net_assembler.specs.declared.assembler.error.TooManyHolesError.{TooManyHolesError}
@@ -22,9 +21,9 @@ use Rattle.net_receiver.specs.declared.finite_error.FiniteError.{FiniteError}
 use Rattle.net_receiver.specs.declared.finite_error.FiniteError.TheVariants as errors
 use Rattle.net_receiver.specs.declared.kept.KeptBytes.{KeptBytes}
 use Rattle.net_receiver.specs.KeptList.{piece}
-use Rattle.net_receiver.specs.Rules.{Segment, verdict, numbers}
-use Rattle.net_receiver.specs.ReceiverState.{ReceiverState, domain, fresh_receiver, next_position, limit_of}
-use Rattle.net_receiver.specs.ReceiverState.{receiver_ops, receiver_after_command, receiver_after_read, IsSameState}
+use Rattle.net_receiver.specs.ReceiverState.{Segment, verdict, numbers, ReceiverState, domain, fresh_receiver}
+use Rattle.net_receiver.specs.ReceiverState.{next_position, limit_of, receiver_after_command, receiver_after_read}
+use Rattle.net_receiver.specs.ReceiverState.{IsSameState}
 
 -- the greatest number of 64 bits: it is no end's position, since the end has a number after it
 abbrev pub no_end : ℕ
@@ -47,14 +46,18 @@ fresh_finite first capacity = record { receiver = fresh_receiver first capacity;
 abbrev pub knows_end : FiniteState → Bool
 knows_end s = nat_lt s.end no_end
 
--- e is the end that is known, or none is, and no byte is queued or held at e or above
+-- e is the end that is known, or none is, and no byte is queued or held at e or above; it has a number after it
 abbrev pub can_end : FiniteState → ℕ → Bool
-can_end s e = if knows_end s then nat_eq e s.end else nat_le (top_of s.receiver) e
+can_end s e = nat_lt e no_end && (if knows_end s then nat_eq e s.end else nat_le (top_of s.receiver) e)
 
 -- ---- a segment, which is the stream's last one or isn't
--- its bytes below the end
+-- the end, or while that isn't known the greatest number that an end can have
+abbrev pub bytes_end : FiniteState → ℕ
+bytes_end s = min s.end (no_end - 1)
+
+-- its bytes below that
 abbrev pub below_end : FiniteState → ℕ → List ℕ → List ℕ
-below_end s pos xs = take (s.end - pos) xs
+below_end s pos xs = take (bytes_end s - pos) xs
 
 -- the end is taken if it is not above the limit: it has a number, as a byte has, and needs no room
 abbrev pub end_after : FiniteState → ℕ → Bool → ℕ
@@ -73,7 +76,7 @@ module _ (most_runs : ℕ) (s : FiniteState) (pos : ℕ) (xs : List ℕ) (last :
   -- the result of the bytes below the end
   abbrev pub bytes_result : Result KeptBytes TooManyHolesError
   bytes_result =
-      numbers receiver_ops s.receiver (verdict receiver_ops most_runs s.receiver (piece pos (below_end s pos xs)))
+      numbers s.receiver (verdict most_runs s.receiver (piece pos (below_end s pos xs)))
 
   -- the result of the segment
   abbrev pub finite_result : Result KeptBytes FiniteError

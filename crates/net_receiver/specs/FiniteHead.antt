@@ -1,19 +1,26 @@
 -- A receiver of a stream that ends, in parts.
 --     finite_of h xs rs      what is stored
+--     end_of h, end_with n      the position after the last byte, or `no_end`; where n is the number after its own, or 0
 --     next_of h      the first missing position
 --     HasSoundFinite h xs rs      the parts are those of such a receiver
 --     finite_storage_after h xs rs pos bytes last      the storage after a segment
-use Rattle.std.specs.Prelude.{ℕ, ◌+◌, List, length, Bool, if◌then◌else◌}
+use Rattle.std.specs.Prelude.{ℕ, ◌+◌, ◌-◌, List, length, Bool, nat_eq, if◌then◌else◌}
 use Rattle.net_receiver.specs.declared.finite_receiver_head.FiniteReceiverHead.{FiniteReceiverHead}
 use Rattle.net_receiver.specs.KeptList.{piece}
-use Rattle.net_receiver.specs.Rules.{verdict}
-use Rattle.net_receiver.specs.ReceiverState.{receiver_ops}
+use Rattle.net_receiver.specs.ReceiverState.{verdict}
 use Rattle.net_receiver.specs.Head.{receiver_of, HasSoundParts, storage_after}
-use Rattle.net_receiver.specs.Finite.{FiniteState, IsSoundEnd, has_other_end, below_end}
+use Rattle.net_receiver.specs.Finite.{FiniteState, IsSoundEnd, no_end, has_other_end, below_end}
+
+-- the end whose number has n after it; none if n is 0
+abbrev pub end_with : ℕ → ℕ
+end_with n = if nat_eq n 0 then no_end else n - 1
+
+abbrev pub end_of : FiniteReceiverHead → ℕ
+end_of h = end_with h.after_end
 
 -- what is stored
 abbrev pub finite_of : FiniteReceiverHead → List ℕ → List (ℕ × ℕ) → FiniteState
-finite_of h xs rs = record { receiver = receiver_of h.receiver xs rs; end = h.end }
+finite_of h xs rs = record { receiver = receiver_of h.receiver xs rs; end = end_of h }
 
 -- the first missing position, of the numbers of a head
 abbrev pub next_of : FiniteReceiverHead → ℕ
@@ -29,5 +36,5 @@ pub record HasSoundFinite (h : FiniteReceiverHead) (xs : List ℕ) (rs : List (�
 abbrev pub finite_storage_after : FiniteReceiverHead → List ℕ → List (ℕ × ℕ) → ℕ → List ℕ → Bool → List ℕ
 finite_storage_after h xs rs pos bytes last =
     if has_other_end (finite_of h xs rs) (pos + length bytes) last then xs else
-    storage_after h.receiver xs (verdict receiver_ops (length rs) (receiver_of h.receiver xs rs)
+    storage_after h.receiver xs (verdict (length rs) (receiver_of h.receiver xs rs)
     (piece pos (below_end (finite_of h xs rs) pos bytes)))

@@ -6,16 +6,16 @@
 --         last byte
 --     ReceivesFinite f x s      the receiver took only such segments
 -- The others are laws.
-use Rattle.std.specs.Prelude.{◌≡◌, ℕ, ◌+◌, ◌<◌, ◌≤◌, Bool, true, IsOk, IsTrue, IsFalse}
-use Rattle.std.specs.Prelude.{List, [], ◌∷◌, ◌++◌, length, take, All}
+use Rattle.std.specs.Prelude.{◌≡◌, ℕ, ◌+◌, ◌<◌, ◌≤◌, Bool, true, IsOk, IsTrue, IsFalse, List, [], ◌∷◌, ◌++◌, length}
+use Rattle.std.specs.Prelude.{take, All}
 use Rattle.net_receiver.specs.KeptList.{is_covered}
 use Rattle.net_receiver.specs.Schedule.{KeptState, Agrees}
 use Rattle.net_receiver.specs.Retransmission.{HasByteAt}
 use Rattle.net_receiver.specs.ReceiverState.{next_position, limit_of, IsSound, Refines}
 use Rattle.net_receiver.specs.OneStream.{MatchesStream, ReceivesFrom}
-use Rattle.net_receiver.specs.Finite.{FiniteState, no_end, fresh_finite, knows_end, has_other_end}
-use Rattle.net_receiver.specs.Finite.{finite_after, finite_result, finite_after_read, IsSameFinite}
-use Rattle.net_receiver.specs.Finite.{is_complete, acknowledged, has_read_all, IsSoundEnd}
+use Rattle.net_receiver.specs.Finite.{FiniteState, no_end, fresh_finite, knows_end, has_other_end, finite_after}
+use Rattle.net_receiver.specs.Finite.{finite_result, finite_after_read, IsSameFinite, is_complete, acknowledged}
+use Rattle.net_receiver.specs.Finite.{has_read_all, IsSoundEnd}
 
 -- ---- lists of segments and reads
 pub data FiniteCommand : Type 0 where
@@ -69,30 +69,32 @@ abbrev pub FreshEndIsSound : Type 0
 FreshEndIsSound = (first capacity : ℕ) → first < no_end → IsSoundEnd (fresh_finite first capacity)
 
 abbrev pub SoundEndStays : Type 0
-SoundEndStays = (most_runs : ℕ) (s : FiniteState) (c : FiniteCommand) → IsSoundEnd s → CommandFits c →
+SoundEndStays = (most_runs : ℕ) (s : FiniteState) (c : FiniteCommand) → IsSoundEnd s →
     IsSoundEnd (finite_after_command most_runs s c)
 
 -- once the end is known, no segment moves it; once all has arrived, or all was read, that stays so, whatever
 -- arrives later: no byte is queued any more, and the acknowledgement stays
 abbrev pub EndStays : Type 0
-EndStays = (most_runs : ℕ) (s : FiniteState) (cs : List FiniteCommand) → IsSoundEnd s → All CommandFits cs →
+EndStays = (most_runs : ℕ) (s : FiniteState) (cs : List FiniteCommand) → IsSoundEnd s →
     let t = finite_after_commands most_runs s cs in
     (IsTrue (knows_end s) → t.end ≡ s.end)
     × (IsTrue (is_complete s) →
     IsTrue (is_complete t) × (next_position t.receiver ≡ s.end) × (acknowledged t ≡ s.end + 1))
     × (IsTrue (has_read_all s) → IsTrue (has_read_all t))
 
--- a segment of the stream is never said to end it elsewhere, and leaves a receiver that took only such
+-- a segment of the stream, whose end has a number after it, is never said to end it elsewhere; and each leaves a
+-- receiver that took only such
 abbrev pub SegmentOfStream : Type 0
 SegmentOfStream = (most_runs f : ℕ) (x : List ℕ) (s : FiniteState) (pos : ℕ) (xs : List ℕ) (last : Bool) →
     ReceivesFinite f x s → MatchesFinite f x pos xs last →
-    IsFalse (has_other_end s (pos + length xs) last) × ReceivesFinite f x (finite_after most_runs s pos xs last)
+    (pos + length xs < no_end → IsFalse (has_other_end s (pos + length xs) last))
+    × ReceivesFinite f x (finite_after most_runs s pos xs last)
 
 -- the bytes that were taken, from a fresh receiver on, are those of the stream from its first one on; all of
 -- them once the receiver says so: so the bytes read, and then the end, are the stream
 abbrev pub ReadsTheStream : Type 0
 ReadsTheStream = (most_runs f capacity : ℕ) (x : List ℕ) (cs : List FiniteCommand) → f < no_end →
-    All CommandFits cs → All (CommandMatches f x) cs →
+    All (CommandMatches f x) cs →
     let t = finite_after_commands most_runs (fresh_finite f capacity) cs in
     ReceivesFinite f x t
     × (bytes_taken most_runs (fresh_finite f capacity) cs ≡ take t.receiver.read x)
@@ -100,7 +102,7 @@ ReadsTheStream = (most_runs f capacity : ℕ) (x : List ℕ) (cs : List FiniteCo
 
 -- the number that an acknowledgement carries never falls
 abbrev pub AcknowledgedGrows : Type 0
-AcknowledgedGrows = (most_runs : ℕ) (s : FiniteState) (cs : List FiniteCommand) → IsSoundEnd s → All CommandFits cs →
+AcknowledgedGrows = (most_runs : ℕ) (s : FiniteState) (cs : List FiniteCommand) → IsSoundEnd s →
     acknowledged s ≤ acknowledged (finite_after_commands most_runs s cs)
 
 -- the end of an accepted last segment is known, if it isn't above the end of the free window

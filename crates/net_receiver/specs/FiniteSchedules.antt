@@ -6,17 +6,16 @@
 --         window at that time
 --     EndsWithin n c      a segment's end is at most n
 -- The others are laws.
-use Rattle.std.specs.Prelude.{◌≡◌, ◌⊎◌, ℕ, ◌+◌, ◌<◌, ◌≤◌, max, if◌then◌else◌, IsOk, IsTrue}
-use Rattle.std.specs.Prelude.{List, [], ◌∷◌, ◌++◌, length, All}
-use Rattle.net_receiver.specs.Rules.{CommandValue, Segment, Read}
-use Rattle.net_receiver.specs.Schedule.{KeptState, kept_after_commands, kept_replies, bytes_read}
-use Rattle.net_receiver.specs.ReceiverState.{next_position, limit_of, setting, IsSound, Refines}
-use Rattle.net_receiver.specs.Finite.{FiniteState, no_end, fresh_finite, has_other_end, below_end}
-use Rattle.net_receiver.specs.Finite.{finite_after, finite_result, finite_after_read, is_complete, has_read_all}
-use Rattle.net_receiver.specs.Finite.{IsSoundEnd}
-use Rattle.net_receiver.specs.FiniteLaws.{FiniteCommand, Arrives, Reads, finite_after_command}
-use Rattle.net_receiver.specs.FiniteLaws.{finite_after_commands, bytes_taken, CommandFits, CommandMatches}
-use Rattle.net_receiver.specs.FiniteLaws.{ReceivesFinite}
+use Rattle.std.specs.Prelude.{◌≡◌, ◌⊎◌, ℕ, ◌+◌, ◌<◌, ◌≤◌, max, if◌then◌else◌, IsOk, IsTrue, List, [], ◌∷◌, ◌++◌}
+use Rattle.std.specs.Prelude.{length, All}
+use Rattle.net_receiver.specs.ReceiverState.{CommandValue, Segment, Read, next_position, limit_of, setting, IsSound}
+use Rattle.net_receiver.specs.ReceiverState.{Refines}
+use Rattle.net_receiver.specs.Headline.{state_from, replies_from}
+use Rattle.net_receiver.specs.Schedule.{KeptState, bytes_read}
+use Rattle.net_receiver.specs.Finite.{FiniteState, no_end, fresh_finite, has_other_end, below_end, finite_after}
+use Rattle.net_receiver.specs.Finite.{finite_result, finite_after_read, is_complete, has_read_all, IsSoundEnd}
+use Rattle.net_receiver.specs.FiniteLaws.{FiniteCommand, Arrives, Reads, finite_after_command, finite_after_commands}
+use Rattle.net_receiver.specs.FiniteLaws.{bytes_taken, CommandFits, CommandMatches, ReceivesFinite}
 
 -- a segment without its bytes from the end on, or nothing if it says that the stream ends elsewhere
 abbrev pub plain_of : FiniteState → FiniteCommand → List CommandValue
@@ -67,15 +66,15 @@ abbrev pub FiniteSchedules : Type 0
 FiniteSchedules = (most_runs : ℕ) (s : FiniteState) (k : KeptState) (cs : List FiniteCommand) → Refines s.receiver k →
     let w = setting most_runs s.receiver in
     Refines (finite_after_commands most_runs s cs).receiver
-    (kept_after_commands w k (plain_commands most_runs s cs))
-    × (bytes_taken most_runs s cs ≡ bytes_read (kept_replies w k (plain_commands most_runs s cs)))
+    (state_from w k (plain_commands most_runs s cs))
+    × (bytes_taken most_runs s cs ≡ bytes_read (replies_from w k (plain_commands most_runs s cs)))
 
 -- if segments cover all missing positions up to an end within the free window, in any order and however they
 -- overlap, and none is refused, the first missing position is then not below it, unless the stream ends before;
 -- and if one says that the stream ends there, all has arrived
 abbrev pub FiniteCompletes : Type 0
 FiniteCompletes = (most_runs : ℕ) (s : FiniteState) (cs : List FiniteCommand) (end : ℕ) →
-    IsSound most_runs s.receiver → IsSoundEnd s → All CommandFits cs → AreAccepted most_runs s cs →
+    IsSound most_runs s.receiver → IsSoundEnd s → AreAccepted most_runs s cs → end < no_end →
     end ≤ limit_of s.receiver → ((p : ℕ) → next_position s.receiver ≤ p → p < end → BringsByte cs p) →
     let t = finite_after_commands most_runs s cs in
     (end ≤ t.end → end ≤ next_position t.receiver)
@@ -95,7 +94,7 @@ FiniteRecovers = (most_runs f : ℕ) (x : List ℕ) (s : FiniteState) (cs : List
 -- the stream was read
 abbrev pub ResentIsRead : Type 0
 ResentIsRead = (most_runs f capacity n : ℕ) (x : List ℕ) (before cs : List FiniteCommand) → f < no_end →
-    All CommandFits before → All (CommandMatches f x) before → All CommandFits cs → All (CommandMatches f x) cs →
+    All (CommandMatches f x) before → All CommandFits cs → All (CommandMatches f x) cs →
     let s = finite_after_commands most_runs (fresh_finite f capacity) before in
     let t = finite_after_commands most_runs s cs in
     Resends most_runs s (next_position s.receiver) cs → BringsEnd cs (f + length x) → length t.receiver.queue ≤ n →

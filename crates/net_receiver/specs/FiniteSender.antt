@@ -10,8 +10,8 @@
 --     finite_sender_of h xs      what is stored
 --     head_after_sending h pos n      the head once n numbers from pos on were sent
 --     IsSoundFiniteSender c h      the head is that of a sender whose storage has c bytes
-use Rattle.std.specs.Prelude.{◌≡◌, ℕ, ◌+◌, ◌-◌, ◌<◌, ◌≤◌, ◌&&◌, min, max, Bool, if◌then◌else◌, List, []}
-use Rattle.std.specs.Prelude.{nat_eq, nat_le}
+use Rattle.std.specs.Prelude.{◌≡◌, ℕ, ◌+◌, ◌-◌, ◌<◌, ◌≤◌, ◌&&◌, min, max, Bool, if◌then◌else◌, List, [], nat_eq}
+use Rattle.std.specs.Prelude.{nat_le}
 use Rattle.net_receiver.specs.SenderState.{SenderState, sender_state, end_of, room_of, with_written, sender_from}
 use Rattle.net_receiver.specs.SenderHeads.{sender_of, IsSoundHead}
 use Rattle.net_receiver.specs.declared.finite_sender_head.FiniteSenderHead.{FiniteSenderHead}

@@ -3,12 +3,12 @@
 --     sender_after_commands s cs, bytes_written s cs      what they leave, and the bytes that were taken
 --     IsSoundSent s      what is true of every sender
 -- The others are laws.
-use Rattle.std.specs.Prelude.{◌≡◌, ℕ, ◌+◌, ◌-◌, ◌<◌, ◌≤◌, max, min, if◌then◌else◌, nat_le}
-use Rattle.std.specs.Prelude.{List, [], ◌∷◌, ◌++◌, length, take, drop}
+use Rattle.std.specs.Prelude.{◌≡◌, ℕ, ◌+◌, ◌-◌, ◌<◌, ◌≤◌, max, min, if◌then◌else◌, nat_le, List, [], ◌∷◌, ◌++◌}
+use Rattle.std.specs.Prelude.{length, take, drop}
 use Rattle.net_receiver.specs.SenderState.{end_of, Sends}
 use Rattle.net_receiver.specs.FiniteSender.{FiniteSenderState, fresh_finite_sender, first_number, numbers_end}
-use Rattle.net_receiver.specs.FiniteSender.{finite_room, with_bytes, closed_sender}
-use Rattle.net_receiver.specs.FiniteSender.{has_end_at, accepts, acknowledged_below}
+use Rattle.net_receiver.specs.FiniteSender.{finite_room, with_bytes, closed_sender, has_end_at, accepts}
+use Rattle.net_receiver.specs.FiniteSender.{acknowledged_below}
 use Rattle.net_receiver.specs.FiniteLaws.{MatchesFinite}
 
 -- commands

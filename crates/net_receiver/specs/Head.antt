@@ -8,8 +8,7 @@ use Rattle.net_ring.specs.Ring.{queue, spare, spare_index, with_elements_wrappin
 use Rattle.net_ring.specs.RingHead.{IsSound as IsSoundPlace, ring_at, dequeued_place}
 use Rattle.net_assembler.specs.RunLists.{set_of, HasSoundRuns}
 use Rattle.net_receiver.specs.declared.receiver_head.ReceiverHead.{ReceiverHead}
-use Rattle.net_receiver.specs.Rules.{Verdict, KeepsNone, Refuses, Keeps}
-use Rattle.net_receiver.specs.ReceiverState.{ReceiverState, IsSound}
+use Rattle.net_receiver.specs.ReceiverState.{Verdict, KeepsNone, Refuses, Keeps, ReceiverState, IsSound}
 use Rattle.net_receiver.specs.Parts.{parts, Fits64Bits}
 use Rattle.net_receiver.specs.Contiguous.{IsReadAt}
 

@@ -1,65 +1,16 @@
--- The laws of kept lists, of listed runs, and of calls of `replay`, one after another.
---     Contains e p, NoneContains k p      the entry e, or no entry of k, contains the position p
---     IsLast k p e      e is the last entry of k that contains p
---     IsLeastMissing f k n      n is the least position from f on that no entry of k contains
+-- The laws of listed runs, and of calls of `replay`, one after another.
 --     ListsRuns held sack      sack lists the first three runs of held positions
 --     Replays N v calls u      what calls of `replay`, one after another, store
 --     Composes N v calls u      these calls do what one call does
 -- The others are laws, and what they name.
-use Rattle.std.specs.Prelude.{◌≡◌, ◌↔◌, ◌⊎◌, ℕ, ◌-◌, ◌≤◌, ◌<◌, Bool, List, [], ◌∷◌, ◌++◌, length}
-use Rattle.std.specs.Prelude.{take, flat_map, slice_index, Option, Some, None, Ok, IsTrue, All}
-use Rattle.std.specs.Prelude.{AllPairs, count_by, ⊤}
+use Rattle.std.specs.Prelude.{◌≡◌, ◌⊎◌, ℕ, ◌<◌, Bool, List, [], ◌∷◌, ◌++◌, length, take, flat_map, Option, Some, None}
+use Rattle.std.specs.Prelude.{Ok, IsTrue, All, AllPairs, count_by, ⊤}
 use Rattle.net_assembler.specs.Positions.{Positions, contains, lies_in, IsMaximalRun}
 use Rattle.net_receiver.specs.declared.kept.Kept.{Kept}
-use Rattle.net_receiver.specs.KeptList.{Piece, end, byte_at, next, held_positions}
-use Rattle.net_receiver.specs.Rules.{CommandValue, ReplyValue, Verdict, state_after, segment_result}
-use Rattle.net_receiver.specs.Rules.{first_three}
-use Rattle.net_receiver.specs.Schedule.{Setting, KeptState, kept_ops}
-use Rattle.net_receiver.specs.ReceiverState.{ReceiverState, Refines}
+use Rattle.net_receiver.specs.ReceiverState.{CommandValue, ReplyValue, Verdict, state_after, segment_result}
+use Rattle.net_receiver.specs.ReceiverState.{first_three, ReceiverState, Refines, domain}
+use Rattle.net_receiver.specs.Schedule.{KeptState}
 use Rattle.net_receiver.specs.Execution.{ExecutedPrefix, Executes, ExecutesFor}
-
--- ---- kept lists
--- p is one of the positions of an entry
-abbrev pub Contains : Piece → ℕ → Type 0
-Contains e p = (e.start ≤ p) × (p < end e)
-
--- no entry of k contains p
-abbrev pub NoneContains : List Piece → ℕ → Type 0
-NoneContains k p = All (λ e. Contains e p → ⊥) k
-
--- e is the last entry of k that contains p
-pub record IsLast (k : List Piece) (p : ℕ) (e : Piece) : Type 0 where
-  pub before : List Piece
-  pub after : List Piece
-  pub whole : k ≡ before ++ e ∷ after
-  pub contains : Contains e p
-  pub last : NoneContains after p
-
--- some entry contains p
-abbrev pub SomeContains : List Piece → ℕ → Type 0
-SomeContains k p = (e : Piece) × IsLast k p e
-
--- the byte at a position is that of the last entry that contains it, and there is none if no entry
--- does
-abbrev pub ByteOfLast : Type 0
-ByteOfLast = (k : List Piece) (p : ℕ) →
-    (NoneContains k p × (byte_at k p ≡ None))
-    ⊎ ((e : Piece) × IsLast k p e × (byte_at k p ≡ Some (slice_index e.bytes (p - e.start))))
-
--- n is the least position from f on that no entry contains
-pub record IsLeastMissing (f : ℕ) (k : List Piece) (n : ℕ) : Type 0 where
-  pub from : f ≤ n
-  pub missing : NoneContains k n
-  pub present : (p : ℕ) → f ≤ p → p < n → SomeContains k p
-
--- `next` is the least missing position from the first position on
-abbrev pub NextIsLeast : Type 0
-NextIsLeast = (f : ℕ) (k : List Piece) → IsLeastMissing f k (next f k)
-
--- held positions are those above `next` that an entry contains
-abbrev pub HeldAreAbove : Type 0
-HeldAreAbove = (f : ℕ) (k : List Piece) (p : ℕ) →
-    IsTrue (contains (held_positions f k) p) ↔ ((next f k < p) × SomeContains k p)
 
 -- ---- listed runs
 -- the runs of a list, some of whose entries are missing
@@ -82,9 +33,8 @@ pub record ListsRuns (held : Positions) (sack : List (Option (ℕ × ℕ))) : Ty
 -- the result of each accepted segment lists the held runs after it, whether bytes of it were kept
 -- or none
 abbrev pub ListsHeldRuns : Type 0
-ListsHeldRuns = (w : Setting) (s : KeptState) (x : Verdict) (kept : Kept) →
-    segment_result (kept_ops w) s x ≡ Ok kept →
-    ListsRuns (held_positions w.first (state_after (kept_ops w) s x).kept) kept.sack
+ListsHeldRuns = (v : ReceiverState) (x : Verdict) (kept : Kept) → segment_result v x ≡ Ok kept →
+    ListsRuns (domain (state_after v x).held) kept.sack
 
 -- ---- calls of `replay`, one after another
 -- a call by its commands and the replies that it appended, and whether it returned Ok

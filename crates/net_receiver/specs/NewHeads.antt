@@ -1,5 +1,5 @@
 -- The numbers of new heads; of a stream that begins at position 0 they are all 0, as a program in C sets them.
---     receiver_head first, sender_head first, scoreboard_head first, finite_sender_head first
+--     receiver_head first, sender_head first, scoreboard_head first, finite_receiver_head first, finite_sender_head first
 -- The others are laws: what such heads of zeros store.
 use Rattle.std.specs.Prelude.{◌≡◌, ℕ, List, [], length}
 use Rattle.net_ring.specs.declared.head.RingHead.{RingHead}
@@ -8,9 +8,12 @@ use Rattle.net_assembler.specs.declared.assembler.head.AssemblerHead.{AssemblerH
 use Rattle.net_receiver.specs.declared.receiver_head.ReceiverHead.{ReceiverHead}
 use Rattle.net_receiver.specs.declared.sender_head.SenderHead.{SenderHead}
 use Rattle.net_receiver.specs.declared.scoreboard_head.ScoreboardHead.{ScoreboardHead}
+use Rattle.net_receiver.specs.declared.finite_receiver_head.FiniteReceiverHead.{FiniteReceiverHead}
 use Rattle.net_receiver.specs.declared.finite_sender_head.FiniteSenderHead.{FiniteSenderHead}
 use Rattle.net_receiver.specs.Head.{receiver_of, HasSoundParts}
 use Rattle.net_receiver.specs.ReceiverState.{fresh_receiver}
+use Rattle.net_receiver.specs.Finite.{fresh_finite}
+use Rattle.net_receiver.specs.FiniteHead.{finite_of, HasSoundFinite}
 use Rattle.net_receiver.specs.SenderState.{sender_state}
 use Rattle.net_receiver.specs.SenderHeads.{sender_of, IsSoundHead}
 use Rattle.net_receiver.specs.Scoreboards.{reported_by, IsSoundBoard}
@@ -31,6 +34,9 @@ sender_head first = record { first_unacknowledged = first; place = no_place }
 abbrev pub scoreboard_head : ℕ → ScoreboardHead
 scoreboard_head first = record { base = first; reported = no_runs }
 
+abbrev pub finite_receiver_head : ℕ → FiniteReceiverHead
+finite_receiver_head first = record { receiver = receiver_head first; after_end = 0 }
+
 abbrev pub finite_sender_head : ℕ → FiniteSenderHead
 finite_sender_head first = record { sender = sender_head first; closed = 0; finished = 0; sent = first }
 
@@ -38,6 +44,10 @@ finite_sender_head first = record { sender = sender_head first; closed = 0; fini
 abbrev pub ZerosReceive : Type 0
 ZerosReceive = (xs : List ℕ) (rs : List (ℕ × ℕ)) →
     HasSoundParts (receiver_head 0) xs rs × (receiver_of (receiver_head 0) xs rs ≡ fresh_receiver 0 (length xs))
+
+abbrev pub ZerosReceiveAnEnd : Type 0
+ZerosReceiveAnEnd = (xs : List ℕ) (rs : List (ℕ × ℕ)) → HasSoundFinite (finite_receiver_head 0) xs rs
+    × (finite_of (finite_receiver_head 0) xs rs ≡ fresh_finite 0 (length xs))
 
 abbrev pub ZerosSend : Type 0
 ZerosSend = (xs : List ℕ) → IsSoundHead (length xs) (sender_head 0)

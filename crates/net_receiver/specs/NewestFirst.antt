@@ -7,8 +7,7 @@
 -- The others are laws.
 use Rattle.std.specs.Prelude.{◌≡◌, ℕ, ◌<◌, ◌≤◌, List, [], ◌∷◌, map, length, slice_get, Some, IsTrue}
 use Rattle.net_assembler.specs.Positions.{Positions, contains, lies_in, IsMaximalRun}
-use Rattle.net_receiver.specs.Rules.{CommandValue}
-use Rattle.net_receiver.specs.ReceiverState.{ReceiverState, IsSound, domain, receiver_after_commands}
+use Rattle.net_receiver.specs.ReceiverState.{CommandValue, ReceiverState, IsSound, domain, receiver_after_commands}
 use Rattle.net_receiver.specs.NewestRuns.{newest_runs, with_starts, IsNamed, IsListedBy}
 
 -- calls, each with what is held then and a position, the last one first
@@ -34,7 +33,8 @@ AllStayTogether (call ∷ before ∷ calls) = StayTogether before.0 call.0 × Al
 
 -- the position is held at the call b calls before the last one, and at each one after it
 abbrev pub IsHeldSince : Calls → ℕ → ℕ → Type 0
-IsHeldSince calls b p = (a : ℕ) (call : Positions × ℕ) → a ≤ b → slice_get calls a ≡ Some call → IsTrue (contains call.0 p)
+IsHeldSince calls b p =
+    (a : ℕ) (call : Positions × ℕ) → a ≤ b → slice_get calls a ≡ Some call → IsTrue (contains call.0 p)
 
 -- ---- laws
 -- the last call lists the run of the position asked for b calls before, if it has been held since and neither

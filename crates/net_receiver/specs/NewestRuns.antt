@@ -6,8 +6,8 @@
 --     with_starts ps rs      the starts of these runs over the first of the positions ps
 --     IsNamed ps n run      one of the first n of these positions is in the run
 --     AreNewestRuns k held ps list      what is true of it, by the law `NewestRunsAreListed`
-use Rattle.std.specs.Prelude.{◌≡◌, ◌⊎◌, ℕ, ◌<◌, ◌≤◌, if◌then◌else◌, List, [], ◌∷◌, ◌++◌, map, length, take}
-use Rattle.std.specs.Prelude.{drop, slice_get, Option, Some, IsTrue, All, count_by}
+use Rattle.std.specs.Prelude.{◌≡◌, ◌⊎◌, ℕ, ◌<◌, ◌≤◌, if◌then◌else◌, List, [], ◌∷◌, ◌++◌, map, length, take, drop}
+use Rattle.std.specs.Prelude.{slice_get, Option, Some, IsTrue, All, count_by}
 use Rattle.std.specs.List.{find, list_any}
 use Rattle.std.specs.Option.{option_to_list}
 use Rattle.net_assembler.specs.Positions.{Positions, contains, maximal_runs, lies_in, IsMaximalRun}

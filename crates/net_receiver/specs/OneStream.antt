@@ -7,14 +7,13 @@
 -- The others are laws: when these hold, what follows from them, and what commands leave. `MatchesStream`,
 -- `AllMatch` and `ReceivesFrom` are not unfolded by a caller's proofs, which find them by the clauses of the
 -- calls and by the laws that make them.
-use Rattle.std.specs.Prelude.{◌≡◌, ℕ, ◌+◌, ◌-◌, ◌≤◌, List, [], ◌∷◌, ◌++◌, length, take, drop}
-use Rattle.std.specs.Prelude.{slice_get, Some, All}
+use Rattle.std.specs.Prelude.{◌≡◌, ℕ, ◌+◌, ◌-◌, ◌≤◌, List, [], ◌∷◌, ◌++◌, length, take, drop, slice_get, Some, All}
 use Rattle.std.specs.FinMap as fin
 use Rattle.net_receiver.specs.KeptList.{piece}
-use Rattle.net_receiver.specs.Rules.{CommandValue, Segment, Read, Show}
-use Rattle.net_receiver.specs.Schedule.{Setting, KeptState, kept_after_commands, PieceAgrees, Agrees}
-use Rattle.net_receiver.specs.ReceiverState.{ReceiverState, fresh_receiver, next_position, receiver_after_command}
-use Rattle.net_receiver.specs.ReceiverState.{limit_of, Refines, IsSound}
+use Rattle.net_receiver.specs.ReceiverState.{CommandValue, Segment, Read, Show, ReceiverState, fresh_receiver}
+use Rattle.net_receiver.specs.ReceiverState.{next_position, receiver_after_command, limit_of, Refines, IsSound}
+use Rattle.net_receiver.specs.Headline.{state_from}
+use Rattle.net_receiver.specs.Schedule.{Setting, KeptState, PieceAgrees, Agrees}
 
 -- ---- the relations
 -- a segment has the bytes of x at its positions from f on; the other commands bring no bytes
@@ -119,7 +118,7 @@ QueueIsOfStream = (f : ℕ) (x : List ℕ) (v : ReceiverState) → ReceivesFrom 
 -- a kept list that agrees with x still does after truthful commands, whatever is kept of them
 abbrev pub TruthfulIsKept : Type 0
 TruthfulIsKept = (w : Setting) (s : KeptState) (x : List ℕ) (cs : List CommandValue) →
-    Agrees w.first s.kept x → AllMatch w.first x cs → Agrees w.first (kept_after_commands w s cs).kept x
+    Agrees w.first s.kept x → AllMatch w.first x cs → Agrees w.first (state_from w s cs).kept x
 
 -- ---- what commands change
 -- the first position stays

@@ -1,28 +1,34 @@
--- What a receiver stores, by the rules, and the relation of it to a schedule's state.
+-- What a receiver stores, the rules by which a command changes it, and the relation of it to a schedule's state.
 --     ReceiverState      the first position, the capacity, the count read, the queue and the held bytes
 --     domain held      the positions that held bytes have
 --     with_bytes_at held p xs      xs from position p on, over held bytes
 --     fresh_receiver first capacity      what a fresh receiver stores
 --     next_position v, limit_of v      the first missing position, and the end of the free window
 --     receiver_after_read v n      what a read leaves
---     receiver_ops      what it tells, and what a kept piece and a read make of it
+--     Verdict, verdict N v e      what happens to a segment: nothing is kept, it is refused, or a piece is kept
+--     state_after v x, segment_result v x      what it leaves, and its result
 --     receiver_after_command N v c, receiver_reply N v c      one command by the rules
 --     setting N v      the setting of the schedules that v represents
 --     IsSound N v      what is true of every receiver
 --     StaysInSetting N v u      first position and capacity stay, and at most N runs are held
 --     Refines v s      what is stored represents a schedule's state
---     StepRefines N v u c r      one command, for each state that v represents
 --     IsSameState v u      what `same_state` compares
-use Rattle.std.specs.Prelude.{◌≡◌, ℕ, ◌+◌, ◌-◌, ◌≤◌, ◌<◌, min, true, List, [], ◌∷◌, ◌++◌, map}
-use Rattle.std.specs.Prelude.{length, drop, nat_le, unwrap_or}
+-- The commands, the replies and the schedules' states are those of `Headline.antt`, which says what the rules come to.
+use Rattle.std.specs.Prelude.{◌≡◌, ℕ, ◌+◌, ◌-◌, ◌≤◌, ◌<◌, ◌&&◌, not, min, true, List, [], ◌∷◌, ◌++◌, map, take}
+use Rattle.std.specs.Prelude.{length, drop, nat_eq, nat_le, unwrap_or, is_some, if◌then◌else◌, None, Result, Ok, Err}
 use Rattle.std.specs.List.{range_with_len}
 use Rattle.std.specs.Ordering.{nat_cmp}
 use Rattle.std.specs.FinMap as fin
+use Rattle.net_assembler.specs.Assembler.{makes_too_many_runs}
 use Rattle.net_assembler.specs.Positions.{Positions, set_of_list, first_missing, runs, maximal_runs}
-use Rattle.net_receiver.specs.KeptList.{Piece, next, held_byte_at}
-use Rattle.net_receiver.specs.Rules as rules
-use Rattle.net_receiver.specs.Rules.{CommandValue, ReplyValue, ReceiverOps}
-use Rattle.net_receiver.specs.Schedule.{Setting, KeptState, queue_bytes, kept_after_command, kept_reply}
+use Rattle.net_assembler.specs.declared.assembler.error.TooManyHolesError.{TooManyHolesError}
+use Rattle.net_receiver.specs.declared.kept.Kept.{Kept}
+use Rattle.net_receiver.specs.declared.kept.KeptBytes.{KeptBytes}
+use Rattle.net_receiver.specs.Headline.{queue, is_held}
+use Rattle.net_receiver.specs.KeptList.{Piece, piece, piece_byte_at, piece_within, byte_at}
+use Rattle.net_receiver.specs.Schedule.{Setting, KeptState, HasRoom}
+pub use Rattle.net_receiver.specs.Headline.{CommandValue, Segment, Read, Show, ReplyValue, SegmentReply, ReadReply}
+pub use Rattle.net_receiver.specs.Headline.{ShowReply, first_three}
 
 -- held bytes by their positions
 abbrev pub HeldBytes : Type 0
@@ -102,35 +108,75 @@ receiver_after_read v n = record {
   held = v.held;
 }
 
--- a kept piece is laid over the held bytes, and what is read leaves the queue
-abbrev pub receiver_ops : ReceiverOps ReceiverState
-receiver_ops = record {
-  first = λ v. v.first;
-  capacity = λ v. v.capacity;
-  read = λ v. v.read;
-  next = next_position;
-  queue = λ v. v.queue;
-  held = λ v. domain v.held;
-  with_piece = receiver_with_piece;
-  after_read = receiver_after_read;
-}
+-- ---- the rules
+-- what happens to a segment
+pub data Verdict : Type 0 where
+  KeepsNone : Verdict
+  Refuses : Verdict
+  Keeps : Piece → Verdict
+
+-- the verdict on the part of a segment in the free window, n being the first missing position
+abbrev pub verdict_of_piece : ℕ → ℕ → Positions → Piece → Verdict
+verdict_of_piece n most_runs held part =
+    if nat_eq (length part.bytes) 0 then KeepsNone
+    else if not (is_some (piece_byte_at part n))
+    && makes_too_many_runs most_runs held part.start (length part.bytes) then Refuses
+    else Keeps part
+
+-- the numbers, with the first three held runs after the segment
+abbrev pub with_sack : Result KeptBytes TooManyHolesError → Positions → Result Kept TooManyHolesError
+with_sack (Ok n) held =
+    Ok (record { kept = n.kept; queued = n.queued; sack = first_three (maximal_runs held) })
+with_sack (Err e) held = Err e
+
+-- the state after a segment, by what happens to it
+abbrev pub state_after : ReceiverState → Verdict → ReceiverState
+state_after v KeepsNone = v
+state_after v Refuses = v
+state_after v (Keeps part) = receiver_with_piece v part
+
+-- how many bytes are kept, and how many join the queue, or the refusal
+abbrev pub numbers : ReceiverState → Verdict → Result KeptBytes TooManyHolesError
+numbers v KeepsNone = Ok (record { kept = 0; queued = 0 })
+numbers v Refuses = Err (record {})
+numbers v (Keeps part) =
+    Ok (record {
+      kept = length part.bytes;
+      queued = next_position (receiver_with_piece v part) - next_position v;
+    })
+
+-- the result of a segment
+abbrev pub segment_result : ReceiverState → Verdict → Result Kept TooManyHolesError
+segment_result v x = with_sack (numbers v x) (domain (state_after v x).held)
 
 module _ (most_runs : ℕ) where
+  -- what happens to a segment in a state: its part in the free window is at the positions from the first missing
+  -- one on and below the limit
+  abbrev pub verdict : ReceiverState → Piece → Verdict
+  verdict v e =
+      verdict_of_piece (next_position v) most_runs (domain v.held) (piece_within (next_position v) (limit_of v) e)
+
   -- what is stored after a command
   abbrev pub receiver_after_command : ReceiverState → CommandValue → ReceiverState
-  receiver_after_command = rules.after receiver_ops most_runs
+  receiver_after_command v (Segment pos xs) = state_after v (verdict v (piece pos xs))
+  receiver_after_command v (Read count) = receiver_after_read v count
+  receiver_after_command v Show = v
 
   -- the reply to a command
   abbrev pub receiver_reply : ReceiverState → CommandValue → ReplyValue
-  receiver_reply = rules.reply receiver_ops most_runs
+  receiver_reply v (Segment pos xs) = SegmentReply (segment_result v (verdict v (piece pos xs)))
+  receiver_reply v (Read count) = ReadReply (take count v.queue)
+  receiver_reply v Show =
+      ShowReply (next_position v) (length v.queue) (v.capacity - length v.queue) (maximal_runs (domain v.held))
 
-  -- what is stored after commands
+  -- what is stored after commands, and the replies to them
   abbrev pub receiver_after_commands : ReceiverState → List CommandValue → ReceiverState
-  receiver_after_commands = rules.after_all receiver_ops most_runs
+  receiver_after_commands v [] = v
+  receiver_after_commands v (c ∷ cs) = receiver_after_commands (receiver_after_command v c) cs
 
-  -- the replies to commands
   abbrev pub receiver_replies : ReceiverState → List CommandValue → List ReplyValue
-  receiver_replies = rules.replies receiver_ops most_runs
+  receiver_replies v [] = []
+  receiver_replies v (c ∷ cs) = receiver_reply v c ∷ receiver_replies (receiver_after_command v c) cs
 
   -- the setting of the schedules that a receiver represents
   abbrev pub setting : ReceiverState → Setting
@@ -142,18 +188,12 @@ pub record StaysInSetting (most_runs : ℕ) (v u : ReceiverState) : Type 0 where
   pub capacity : u.capacity ≡ v.capacity
   pub bound : runs (domain u.held) ≤ most_runs
 
--- what is stored represents a kept list and a count read
+-- what is stored represents a kept list and a count read: the queue and the held bytes are the state's
 pub record Refines (v : ReceiverState) (s : KeptState) : Type 0 where
   pub read : v.read ≡ s.read
-  pub within : v.first + s.read ≤ next v.first s.kept
-  pub queue : v.queue ≡ queue_bytes v.first s
-  pub held : (p : ℕ) → fin.get v.held p ≡ held_byte_at v.first s.kept p
-
--- one command: for every state that a receiver represents, its reply is that of the schedule's rules,
--- and the receiver then represents the state after it
-abbrev pub StepRefines : ℕ → ReceiverState → ReceiverState → CommandValue → ReplyValue → Type 0
-StepRefines most_runs v u c r = (s : KeptState) → Refines v s →
-    Refines u (kept_after_command (setting most_runs v) s c) × (r ≡ kept_reply (setting most_runs v) s c)
+  pub room : HasRoom (setting 0 v) s
+  pub queue : v.queue ≡ queue (setting 0 v) s
+  pub held : (p : ℕ) → fin.get v.held p ≡ if is_held (setting 0 v) s p then byte_at s.kept p else None
 
 -- what is true of every receiver: at most N held runs, all above `next` and within the free window
 pub record IsSound (most_runs : ℕ) (v : ReceiverState) : Type 0 where
@@ -168,3 +208,13 @@ abbrev pub IsSameState : ReceiverState → ReceiverState → Type 0
 IsSameState v u =
     (v.first ≡ u.first) × (v.read ≡ u.read) × (v.queue ≡ u.queue)
     × (maximal_runs (domain v.held) ≡ maximal_runs (domain u.held))
+
+-- ---- What is true of every receiver is true of a fresh one, and stays true after each command.
+-- a fresh receiver, for any number of runs
+abbrev pub FreshIsSound : Type 0
+FreshIsSound = (most_runs first capacity : ℕ) → IsSound most_runs (fresh_receiver first capacity)
+
+-- each command
+abbrev pub SoundStays : Type 0
+SoundStays = (most_runs : ℕ) (v : ReceiverState) (c : CommandValue) →
+    IsSound most_runs v → IsSound most_runs (receiver_after_command most_runs v c)

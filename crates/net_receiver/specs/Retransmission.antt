@@ -1,17 +1,17 @@
--- Retransmitted segments, and segments that together cover a range.
+-- Retransmitted segments, segments that together cover a range, and what reads leave.
 --     IsHeld v pos xs      all bytes of a segment in the free window are held already
 --     HasByteAt v p      the position p is below the first missing one, or is held
 --     Brings cs p      a segment of cs contains the position p
 -- The others are laws.
-use Rattle.std.specs.Prelude.{◌≡◌, ◌⊎◌, ℕ, ◌+◌, ◌≤◌, ◌<◌, min, List, [], ◌∷◌, length, Some}
-use Rattle.std.specs.Prelude.{All, IsTrue}
-use Rattle.std.specs.FinMap as fin
+use Rattle.std.specs.Prelude.{◌≡◌, ◌⊎◌, ℕ, ◌+◌, ◌≤◌, ◌<◌, min, List, [], ◌∷◌, length, Some, All, IsTrue, ◌↔◌, ◌++◌}
+use Rattle.std.specs.Prelude.{take}
 use Rattle.net_receiver.specs.KeptList.{piece, piece_byte_at}
-use Rattle.net_receiver.specs.Rules.{CommandValue, Segment, Read, Show}
+use Rattle.net_receiver.specs.ReceiverState.{CommandValue, Segment, Read, Show, ReceiverState, IsSound, next_position}
+use Rattle.net_receiver.specs.ReceiverState.{receiver_after_command, limit_of, receiver_reply}
+use Rattle.net_receiver.specs.ReceiverState.{receiver_after_commands, receiver_replies, receiver_after_read}
 use Rattle.net_receiver.specs.Schedule.{IsAccepted}
-use Rattle.net_receiver.specs.ReceiverState.{ReceiverState, IsSound, next_position, receiver_after_command}
-use Rattle.net_receiver.specs.ReceiverState.{limit_of, receiver_reply}
-use Rattle.net_receiver.specs.ReceiverState.{receiver_after_commands, receiver_replies}
+use Rattle.net_receiver.specs.OneStream.{ReceivesFrom}
+use Rattle.std.specs.FinMap as fin
 
 -- ---- retransmitted segments
 -- each byte of a segment within the free window is held already
@@ -74,3 +74,27 @@ abbrev pub InOrderReaches : Type 0
 InOrderReaches = (most_runs : ℕ) (v : ReceiverState) (pos : ℕ) (xs : List ℕ) → pos ≤ next_position v →
     min (pos + length xs) (limit_of v)
     ≤ next_position (receiver_after_command most_runs v (Segment pos xs))
+
+-- ---- What reads leave, of what a receiver stores.
+-- a receiver that took only parts of a stream still did after a read
+abbrev pub ReadReceives : Type 0
+ReadReceives = (f n : ℕ) (x : List ℕ) (v : ReceiverState) →
+    ReceivesFrom f x v → ReceivesFrom f x (receiver_after_read v n)
+
+-- the first missing position stays
+abbrev pub ReadLeavesNext : Type 0
+ReadLeavesNext = (v : ReceiverState) (n : ℕ) → next_position (receiver_after_read v n) ≡ next_position v
+
+-- the receiver has the same positions
+abbrev pub ReadLeavesBytes : Type 0
+ReadLeavesBytes = (v : ReceiverState) (n p : ℕ) → HasByteAt (receiver_after_read v n) p ↔ HasByteAt v p
+
+-- a read of m bytes and then one of n leave what one of m + n leaves
+abbrev pub ReadsAdd : Type 0
+ReadsAdd = (v : ReceiverState) (m n : ℕ) →
+    receiver_after_read (receiver_after_read v m) n ≡ receiver_after_read v (m + n)
+
+-- and together they give what it gives
+abbrev pub ReadsGiveTogether : Type 0
+ReadsGiveTogether = (v : ReceiverState) (m n : ℕ) →
+    take m v.queue ++ take n (receiver_after_read v m).queue ≡ take (m + n) v.queue

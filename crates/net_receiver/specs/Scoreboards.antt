@@ -2,7 +2,8 @@
 --     board base offsets, reported_by h runs      the positions that a scoreboard represents
 --     offsets_of s, beyond s      those beyond the first missing one, counted from it, and as they are
 --     HasNoRoom most s o n      a range isn't stored, since there would be too many runs
---     IsTooFar s o n      nor this one, since it ends too far above the first missing position
+--     IsReport first sent start end      a block that can be: of positions that were sent, and not too far above the
+--         first missing one
 --     IsBlock i s start end p q      p and q are the positions of a block's numbers, above the first missing one
 --     IsSoundBoard h runs      what is true of the parts of a scoreboard
 --     IsEnd s n      n is the position after the last one
@@ -35,9 +36,11 @@ beyond s = shift_up (offsets_of s) (front s)
 abbrev pub HasNoRoom : ℕ → Positions → ℕ → ℕ → Type 0
 HasNoRoom most s o n = (front s < o) × MakesTooManyRuns most (beyond s) o n
 
--- it begins beyond the first missing position, and ends 2 ^ 32 or more above it
-abbrev pub IsTooFar : Positions → ℕ → ℕ → Type 0
-IsTooFar s o n = (front s < o) × (front s + 2 ^ 32 ≤ o + n)
+-- it has positions, which were sent; if it begins beyond the first missing one, it ends less than 2 ^ 32 above that
+pub record IsReport (first sent start end : ℕ) : Type 0 where
+  pub some : start < end
+  pub was_sent : end ≤ sent
+  pub near : first < start → end < first + 2 ^ 32
 
 -- position 0 has the number i
 pub record IsBlock (i : ℕ) (s : Positions) (start end p q : ℕ) : Type 0 where

@@ -1,9 +1,10 @@
 -- What happens to one segment, whose bytes in the free window are xs.
 --     KeepsOrRefuses v xs u r      xs is kept, or nothing changes
 --     JoinsQueue v xs u r      xs is kept and joins the queue
+--     existing p xs      the bytes of a segment at p that are below position 2 ^ 64 - 1: no stream has others
 --     new_count v p n      how many bytes of a segment of n bytes at p would be new
-use Rattle.std.specs.Prelude.{◌≡◌, ℕ, ◌+◌, ◌≤◌, ◌&&◌, not, List, ◌++◌, length, drop, Result, IsOk, IfOk}
-use Rattle.std.specs.Prelude.{OnErr, nat_le, nat_lt, count_by}
+use Rattle.std.specs.Prelude.{◌≡◌, ℕ, ◌+◌, ◌-◌, ◌^◌, ◌≤◌, ◌&&◌, not, List, ◌++◌, length, drop, take, Result, IsOk}
+use Rattle.std.specs.Prelude.{IfOk, OnErr, nat_le, nat_lt, count_by}
 use Rattle.std.specs.List.{range_with_len}
 use Rattle.net_assembler.specs.Positions.{contains}
 use Rattle.net_assembler.specs.declared.assembler.error.TooManyHolesError.{TooManyHolesError}
@@ -27,6 +28,9 @@ pub record JoinsQueue (v : ReceiverState) (xs : List ℕ) (u : ReceiverState)
   pub accepted : IsOk r
   pub joins : IfOk r (λ k. k.kept ≤ k.queued)
   pub appends : u.queue ≡ v.queue ++ xs ++ drop (length v.queue + length xs) u.queue
+
+abbrev pub existing : ℕ → List ℕ → List ℕ
+existing p xs = take (2 ^ 64 - 1 - p) xs
 
 -- of the positions of a segment of n bytes at p, those in the free window whose bytes are not held
 abbrev pub new_count : ReceiverState → ℕ → ℕ → ℕ

@@ -9,8 +9,8 @@
 --     acknowledge_each v ns      the sender once several acknowledgements arrived
 --     QueueFromGreatest      a law on several acknowledgements
 --     Sends f w v      w was written to a sender, its first byte at position f
-use Rattle.std.specs.Prelude.{◌≡◌, ℕ, ◌+◌, ◌-◌, ◌≤◌, ◌^◌, ◌&&◌, nat_lt, nat_le, nat_eq, min, max}
-use Rattle.std.specs.Prelude.{if◌then◌else◌, List, [], ◌∷◌, ◌++◌, length, drop}
+use Rattle.std.specs.Prelude.{◌≡◌, ℕ, ◌+◌, ◌-◌, ◌≤◌, ◌^◌, ◌&&◌, nat_lt, nat_le, nat_eq, min, max, if◌then◌else◌, List}
+use Rattle.std.specs.Prelude.{[], ◌∷◌, ◌++◌, length, drop}
 
 -- the model of a sender: a byte of position `wraps_at` is at the storage's beginning, and one before it is at an index
 -- less by `wraps_at` minus its position than the storage's length

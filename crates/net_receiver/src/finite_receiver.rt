@@ -1,7 +1,7 @@
 //! A receiver of a stream that ends.
 ghost use Rattle.std.specs.Prelude.{◌≡◌, ◌↔◌, ℕ, ◌+◌, ◌-◌, ◌<◌, ◌≤◌, ◌^◌, min, List, length, ◌++◌};
-ghost use Rattle.std.specs.Prelude.{IsTrue, Some, None, take, drop, slice_range, max, [], ◌∷◌, nat_lt, ◌&&◌};
-ghost use Rattle.net_receiver.specs.Finite.{no_end, fresh_finite, can_end, finite_after};
+ghost use Rattle.std.specs.Prelude.{IsTrue, Some, None, take, drop, slice_range, max, [], ◌∷◌};
+ghost use Rattle.net_receiver.specs.Finite.{no_end, fresh_finite, can_end, bytes_end, finite_after};
 ghost use Rattle.net_receiver.specs.Finite.{finite_result, finite_after_read, is_complete};
 ghost use Rattle.net_receiver.specs.Finite.{acknowledged, has_read_all};
 ghost use Rattle.net_receiver.specs.Finite.{IsSameFinite, IsSoundEnd};
@@ -32,8 +32,6 @@ use std::marker::Model;
 /// position after the last byte. It has a number, as a byte has (that of TCP's FIN), and needs no room.
 /// Segments may arrive in any order, the last one too. The held runs that a selective acknowledgement
 /// lists are of bytes alone: an end that came out of order is sent again.
-///
-/// Contracts see what the receiver of the bytes stores, and the end, `no_end` while it isn't known.
 pub struct FiniteReceiverOver<S: Storage<u8>, const N: usize> {
     // Invariant: the head is sound with the storage and the runs, as `FiniteReceiverHead::is_sound`
     // tests. If there is no run, the head of the runs is 0 in both numbers.
@@ -42,9 +40,11 @@ pub struct FiniteReceiverOver<S: Storage<u8>, const N: usize> {
     runs: [Run; N],
 }
 
-/// A receiver of one stream of bytes that ends, over storage that is lent or owned.
+/// A receiver of one stream of bytes that ends, over storage that is lent or owned. Its calls are those
+/// of [`FiniteReceiverOver`].
 pub type FiniteReceiver<'a, const N: usize> = FiniteReceiverOver<ManagedSlice<'a, u8>, N>;
 
+/// Contracts see what the receiver of the bytes stores, and the end, `no_end` while it isn't known.
 impl<S: Storage<u8>, const N: usize> Model for FiniteReceiverOver<S, N> {
     ghost use Rattle.std.specs.Prelude.{◌≡◌, length};
     ghost use Rattle.net_assembler.specs.RunLists.{IsCanonical};
@@ -77,28 +77,33 @@ impl<S: Storage<u8> + Drop, const N: usize> Drop for FiniteReceiverOver<S, N> {
 impl<S: Storage<u8>, const N: usize> FiniteReceiverOver<S, N> {
     /// Returns a receiver of a stream that begins at position 0: `over_at` with 0.
     ///
-    /// # Requires
-    ///
-    /// `N` is at least 1.
+    /// A program in which `N` is 0 does not compile.
+    #[must_use]
     pub const fn over(storage: S) -> Self
         requires { 1 ≤ N }
         ensures state { result ≡ fresh_finite 0 (length (S.elements storage)) }
         ensures receives { (x : List ℕ) → ReceivesFinite 0 x result }
     {
+        prove!(N >= 1, "N is at least 1");
         Self::over_at(storage, 0)
     }
 
     /// Returns a receiver of a stream that begins at position `first`; nothing has arrived.
     ///
+    /// A program in which `N` is 0 does not compile.
+    ///
     /// # Requires
     ///
-    /// `N` is at least 1, and `first` is not the greatest number of 64 bits.
+    /// `first` is not the greatest number of 64 bits.
+    #[must_use]
+    #[track_caller]
     pub const fn over_at(storage: S, first: u64) -> Self
         requires runs { 1 ≤ N }
         requires number { first < no_end }
         ensures state { result ≡ fresh_finite first (length (S.elements storage)) }
         ensures receives { (x : List ℕ) → ReceivesFinite first x result }
     {
+        prove!(N >= 1, "N is at least 1");
         prove!(first < u64::MAX, "no number is left for an end");
         FiniteReceiverOver {
             head: FiniteReceiverHead::new(first),
@@ -152,6 +157,7 @@ impl<S: Storage<u8>, const N: usize> FiniteReceiverOver<S, N> {
     }
 
     /// Returns the storage, of which the bytes can be any.
+    #[must_use]
     pub fn into_storage(self) -> S
         ensures { length (S.elements result) ≡ self.receiver.capacity }
     {
@@ -165,6 +171,7 @@ impl<S: Storage<u8>, const N: usize> FiniteReceiverOver<S, N> {
     /// # Requires
     ///
     /// `first` is not the greatest number of 64 bits.
+    #[track_caller]
     pub fn reset_at(&mut self, first: u64)
         requires { first < no_end }
         ensures state { self.new ≡ fresh_finite first self.old.receiver.capacity }
@@ -174,25 +181,19 @@ impl<S: Storage<u8>, const N: usize> FiniteReceiverOver<S, N> {
         self.head.reset_at(first);
     }
 
-    /// Returns whether a segment fits, as `keep` requires: `pos + len` is below `u64::MAX`, so that an end
-    /// after its bytes has a number.
-    pub fn fits(pos: u64, len: usize) -> bool
-        ensures { IsTrue result ↔ (pos + len < no_end) }
-    {
-        FiniteReceiverHead::fits(pos, len)
-    }
-
     /// Returns whether the stream can end at a position: it is the end that is known, or none is,
     /// and no byte is queued or held at it or above. No stream ends at `u64::MAX`, after which there is
     /// no number for an end.
+    #[must_use]
     pub fn can_end(&self, pos: u64) -> bool
-        ensures { result ≡ (nat_lt pos no_end && can_end self.now pos) }
+        ensures { result ≡ can_end self.now pos }
     {
         self.head.can_end(whole(&self.storage), &self.runs, pos)
     }
 
     /// Keeps the bytes of a segment that are in the free window and below the end, as
-    /// `ReceiverOver::keep` does. `is_last` says that the stream ends after the segment.
+    /// `ReceiverOver::keep` does. `is_last` says that the stream ends after the segment. Any segment may
+    /// arrive: bytes after which an end has no number, which no stream has, are left out.
     ///
     /// The end is taken if it is at most the end of the free window: an end beyond that is cut off,
     /// as the bytes before it are, and is sent again. An end alone at the first missing position is
@@ -202,12 +203,7 @@ impl<S: Storage<u8>, const N: usize> FiniteReceiverOver<S, N> {
     ///
     /// `OtherEnd` if the segment says that the stream ends where it can't (`can_end`), else
     /// `TooManyHoles` if its bytes are refused. Then nothing changes.
-    ///
-    /// # Requires
-    ///
-    /// The segment fits, as `fits` tests.
     pub fn keep(&mut self, pos: u64, bytes: &[u8], is_last: bool) -> Result<KeptBytes, FiniteError>
-        requires { pos + length bytes.now < no_end }
         ensures state { self.new ≡ finite_after N self.old pos bytes.now is_last }
         ensures value { result ≡ finite_result N self.old pos bytes.now is_last }
         ensures receives { (f : ℕ) (x : List ℕ) → ReceivesFinite f x self.old →
@@ -216,7 +212,6 @@ impl<S: Storage<u8>, const N: usize> FiniteReceiverOver<S, N> {
         // Guarantee.
         ensures grows { acknowledged self.old ≤ acknowledged self.new }
     {
-        prove!(Self::fits(pos, bytes.len()), "the segment ends too high");
         let count = self.storage.count();
         let storage = self.storage.part_mut(0, count);
         self.head.keep(storage, &mut self.runs, pos, bytes, is_last)
@@ -241,6 +236,7 @@ impl<S: Storage<u8>, const N: usize> FiniteReceiverOver<S, N> {
 
     /// Shows the queue, in order, in two parts: the bytes up to the storage's end, and those from its
     /// beginning on. The second part is empty unless the queue wraps.
+    #[must_use]
     pub fn as_slices(&self) -> (&[u8], &[u8])
         // Guarantee.
         ensures queue { result.0.now ++ result.1.now ≡ self.now.receiver.queue }
@@ -256,8 +252,6 @@ impl<S: Storage<u8>, const N: usize> FiniteReceiverOver<S, N> {
     /// Calls `f` on the first part of the queue, as `as_slices` shows it, takes as many bytes off the
     /// queue as `f` counts, and returns what `f` returned. The part is empty only if the queue is.
     ///
-    /// `f` must take that part, and count no more bytes than it is lent.
-    ///
     /// ```
     /// # use net_base::finite::FiniteReceiver;
     /// # let mut storage = [0u8; 16];
@@ -269,7 +263,8 @@ impl<S: Storage<u8>, const N: usize> FiniteReceiverOver<S, N> {
     ///
     /// # Requires
     ///
-    /// `f` may be called on the part that it is lent, and counts at most its length.
+    /// `f` takes that part, and counts no more bytes than it is lent.
+    #[track_caller]
     pub fn read_with<R, F: FnOnce(&[u8]) -> (usize, R)>(&mut self, f: F) -> (usize, R)
         requires callable { FnOnceTakesAt F.FnOnce f (first_part self.old.receiver) }
         requires count { (r : ℕ × R) → FnOnceReturnsAt F.FnOnce f (first_part self.old.receiver) r →
@@ -297,6 +292,7 @@ impl<S: Storage<u8>, const N: usize> FiniteReceiverOver<S, N> {
     /// # Requires
     ///
     /// At least `count` bytes are queued.
+    #[track_caller]
     pub fn remove(&mut self, count: usize)
         requires { count ≤ length self.old.receiver.queue }
         ensures state { self.new ≡ finite_after_read self.old count }
@@ -320,6 +316,7 @@ impl<S: Storage<u8>, const N: usize> FiniteReceiverOver<S, N> {
     }
 
     /// Returns the position after the last byte, once it is known.
+    #[must_use]
     pub fn end(&self) -> Option<u64>
         ensures some { self.now.end < no_end → result ≡ Some self.now.end }
         ensures none { no_end ≤ self.now.end → result ≡ None }
@@ -328,6 +325,7 @@ impl<S: Storage<u8>, const N: usize> FiniteReceiverOver<S, N> {
     }
 
     /// Returns whether all bytes and the end have arrived. Once it is so it stays so.
+    #[must_use]
     pub fn is_complete(&self) -> bool
         ensures value { result ≡ is_complete self.now }
         ensures whole { (f : ℕ) (x : List ℕ) → ReceivesFinite f x self.now → IsTrue result →
@@ -338,6 +336,7 @@ impl<S: Storage<u8>, const N: usize> FiniteReceiverOver<S, N> {
 
     /// Returns the number that an acknowledgement carries: the first missing position, or, once all
     /// bytes and the end have arrived, the end plus 1, since the end has a number.
+    #[must_use]
     pub fn acknowledged(&self) -> u64
         ensures { result ≡ acknowledged self.now }
     {
@@ -345,6 +344,7 @@ impl<S: Storage<u8>, const N: usize> FiniteReceiverOver<S, N> {
     }
 
     /// Returns whether all bytes were read, up to the end. Once it is so it stays so.
+    #[must_use]
     pub fn has_read_all(&self) -> bool
         ensures value { result ≡ has_read_all self.now }
         ensures whole { (f : ℕ) (x : List ℕ) → ReceivesFinite f x self.now → IsTrue result →
@@ -355,6 +355,7 @@ impl<S: Storage<u8>, const N: usize> FiniteReceiverOver<S, N> {
 
     /// Returns the first missing position, as `ReceiverOver::next` does. It doesn't count the end:
     /// `acknowledged` does.
+    #[must_use]
     pub fn next(&self) -> u64
         ensures { result ≡ next_position self.now.receiver }
     {
@@ -362,6 +363,7 @@ impl<S: Storage<u8>, const N: usize> FiniteReceiverOver<S, N> {
     }
 
     /// Returns how many bytes are queued.
+    #[must_use]
     pub fn len(&self) -> usize
         ensures { result ≡ length self.now.receiver.queue }
     {
@@ -369,6 +371,7 @@ impl<S: Storage<u8>, const N: usize> FiniteReceiverOver<S, N> {
     }
 
     /// Returns whether no byte is queued; bytes may be held.
+    #[must_use]
     pub fn is_empty(&self) -> bool
         ensures { IsTrue result ↔ (self.now.receiver.queue ≡ []) }
     {
@@ -376,6 +379,7 @@ impl<S: Storage<u8>, const N: usize> FiniteReceiverOver<S, N> {
     }
 
     /// Returns how many bytes have room, queued and held ones included: the storage's length.
+    #[must_use]
     pub fn capacity(&self) -> usize
         ensures { result ≡ self.now.receiver.capacity }
     {
@@ -383,6 +387,7 @@ impl<S: Storage<u8>, const N: usize> FiniteReceiverOver<S, N> {
     }
 
     /// Returns the window: how many bytes have room after the queue, held ones among them.
+    #[must_use]
     pub fn window(&self) -> usize
         ensures window { result ≡ self.now.receiver.capacity - length self.now.receiver.queue }
         ensures room { length self.now.receiver.queue + result ≡ self.now.receiver.capacity }
@@ -403,6 +408,7 @@ impl<S: Storage<u8>, const N: usize> FiniteReceiverOver<S, N> {
     /// assert!(receiver.keep(3, b"", true).is_ok());
     /// assert_eq!((receiver.acknowledged(), receiver.window_end()), (4, Some(4)));
     /// ```
+    #[must_use]
     pub fn window_end(&self) -> Option<u64>
         ensures some { limit_of self.now.receiver < 2 ^ 64 →
             result ≡ Some (max (limit_of self.now.receiver) (acknowledged self.now)) }
@@ -413,6 +419,7 @@ impl<S: Storage<u8>, const N: usize> FiniteReceiverOver<S, N> {
     }
 
     /// Returns the held runs as absolute (start, end), as `ReceiverOver::held` does: of bytes alone.
+    #[must_use]
     pub fn held(&self) -> HeldRuns<'_, N>
         ensures runs { result ≡ maximal_runs (domain self.now.receiver.held) }
         ensures bound { length result ≤ N }
@@ -421,6 +428,7 @@ impl<S: Storage<u8>, const N: usize> FiniteReceiverOver<S, N> {
     }
 
     /// Returns how many runs are held, without a look at them: as many as `held` yields, at most `N`.
+    #[must_use]
     pub fn held_count(&self) -> usize
         ensures count { result ≡ run_count (domain self.now.receiver.held) }
         ensures bound { result ≤ N }
@@ -446,22 +454,20 @@ impl<S: Storage<u8>, const N: usize> FiniteReceiverOver<S, N> {
     }
 
     /// Returns how many bytes of a segment of `len` bytes at `position` would be new: those in the
-    /// free window and below the end whose positions are not held.
-    ///
-    /// # Requires
-    ///
-    /// The segment fits, as `fits` tests.
+    /// free window and below the end whose positions are not held. Positions that leave no number for an end
+    /// after them, which no stream has, aren't counted.
+    #[must_use]
     pub fn count_new(&self, position: u64, len: usize) -> usize
-        requires { position + len < no_end }
-        ensures { result ≡ new_count self.now.receiver position (min len (self.now.end - position)) }
+        ensures { result ≡ new_count self.now.receiver position
+            (min len (bytes_end self.now - position)) }
     {
-        prove!(Self::fits(position, len), "the segment ends too high");
         self.head
             .count_new(whole(&self.storage), &self.runs, position, len)
     }
 
     /// Returns whether two receivers of a stream that ends are equal in first position, count of
     /// bytes read, queued bytes, held runs and end.
+    #[must_use]
     pub fn same_state<O: Storage<u8>>(&self, other: &FiniteReceiverOver<O, N>) -> bool
         ensures { IsTrue result ↔ IsSameFinite self.now other.now }
     {

@@ -1,19 +1,20 @@
 //! A receiver of a stream that ends, in parts.
 ghost use Rattle.std.specs.Prelude.{◌≡◌, ◌↔◌, ℕ, ◌+◌, ◌-◌, ◌<◌, ◌≤◌, ◌^◌, min, max, List, length};
-ghost use Rattle.std.specs.Prelude.{IsTrue, OnErr, Some, None, ◌==◌, ◌++◌, nat_lt, take, drop, ◌&&◌};
-ghost use Rattle.std.specs.Prelude.{slice_range, if◌then◌else◌};
+ghost use Rattle.std.specs.Prelude.{IsTrue, OnErr, Some, None, ◌==◌, ◌++◌, take, drop};
+ghost use Rattle.std.specs.Prelude.{slice_range, nat_lt, if◌then◌else◌};
 ghost use Rattle.net_ring.specs.Ring.{queue};
 ghost use Rattle.net_ring.specs.RingHead.{IsSound as IsSoundPlace, ring_at};
 ghost use Rattle.net_receiver.specs.Finite.{no_end, fresh_finite};
-ghost use Rattle.net_receiver.specs.Finite.{can_end, end_after, finite_after, finite_result};
+ghost use Rattle.net_receiver.specs.Finite.{can_end, bytes_end, end_after, finite_after, finite_result};
 ghost use Rattle.net_receiver.specs.Finite.{finite_after_read, IsSameFinite, is_complete};
 ghost use Rattle.net_receiver.specs.Finite.{acknowledged, has_read_all};
 ghost use Rattle.net_receiver.specs.Segments.{new_count};
 ghost use Rattle.net_receiver.specs.FiniteLaws.{MatchesFinite, ReceivesFinite};
 ghost use Rattle.net_receiver.specs.Head.{receiver_of, head_after_read};
 ghost use Rattle.net_receiver.specs.ReceiverState.{limit_of};
-ghost use Rattle.net_receiver.specs.FiniteHead.{finite_of, HasSoundFinite, next_of};
+ghost use Rattle.net_receiver.specs.FiniteHead.{finite_of, HasSoundFinite, next_of, end_of, end_with};
 ghost use Rattle.net_receiver.specs.FiniteHead.{finite_storage_after};
+ghost use Rattle.net_receiver.specs.NewHeads.{finite_receiver_head};
 ghost use Rattle.net_assembler.specs.RunLists.{IsCanonical};
 
 use crate::finite_error::FiniteError;
@@ -31,15 +32,23 @@ pub(crate) const NO_END: u64 = u64::MAX;
 /// segment has said so, in whatever order the segments arrive; then no byte at or above it is kept.
 ///
 /// Head, storage and runs are *sound* if they are those of such a receiver, as `is_sound` tests:
-/// `HasSoundFinite` in contracts, where `finite_of` is what is stored. A head of zeros is that of a stream
-/// that ends at position 0, and not a new one. smoltcp has no such type.
+/// `HasSoundFinite` in contracts, where `finite_of` is what is stored. A head of zeros is new, of a stream
+/// that begins at position 0. smoltcp has no such type.
 #[repr(C)]
 #[derive(Debug, Clone, Copy)]
 pub struct FiniteReceiverHead {
     /// The receiver of the bytes.
     pub receiver: ReceiverHead,
-    /// The position after the last byte, or the greatest number of 64 bits while it isn't known.
-    pub end: u64,
+    /// The number after the end's, which is acknowledged once all has arrived, or 0 while the end isn't known.
+    pub after_end: u64,
+}
+
+/// Returns the number after that of an end, or 0 if that is none.
+#[inline(always)]
+fn number_after(end: u64) -> u64
+    ensures { end_with result ≡ end }
+{
+    if end == NO_END { 0 } else { end + 1 }
 }
 
 // A parameter `_runs` is there for the contract.
@@ -56,10 +65,11 @@ impl FiniteReceiverHead {
         ensures state { (storage : List ℕ) (runs : List (ℕ × ℕ)) →
             finite_of result storage runs ≡ fresh_finite first (length storage) }
         ensures canonical { IsCanonical result.receiver.held }
+        ensures numbers { result ≡ finite_receiver_head first }
     {
         FiniteReceiverHead {
             receiver: ReceiverHead::new(first),
-            end: NO_END,
+            after_end: 0,
         }
     }
 
@@ -80,62 +90,67 @@ impl FiniteReceiverHead {
         *self = FiniteReceiverHead::new(first);
     }
 
-    /// Returns whether this head, a storage and runs are sound. It takes a look at each held run,
-    /// and at no byte.
+    /// Returns whether this head, a storage and runs are sound: they are those of a receiver, and
+    /// the position after its last byte, held ones too, is at most the end, if that is known, and
+    /// below 2^64 - 1. It looks at each held run, and at no byte.
     pub fn is_sound(&self, storage: &[u8], runs: &[Run]) -> bool
         ensures { IsTrue result ↔ HasSoundFinite self.now storage.now runs.now }
     {
         self.receiver.is_sound(storage, runs)
             && self
                 .receiver
-                .has_all_below(storage, runs, self.end.min(NO_END - 1))
+                .has_all_below(storage, runs, self.end_or_none().min(NO_END - 1))
     }
 
-    /// Returns whether a segment fits, as `keep` requires: `pos + len` is below `u64::MAX`, so that an end
-    /// after its bytes has a number.
-    pub fn fits(pos: u64, len: usize) -> bool
-        ensures { IsTrue result ↔ (pos + len < no_end) }
+    /// Returns the position after the last byte, or the greatest number of 64 bits while it isn't known.
+    #[inline(always)]
+    fn end_or_none(&self) -> u64
+        ensures value { result ≡ end_of self.now }
+        ensures most { result ≤ no_end }
     {
-        pos < NO_END && (len as u64) < NO_END - pos
+        if self.after_end == 0 {
+            NO_END
+        } else {
+            self.after_end - 1
+        }
     }
 
     /// Returns whether the end is known.
     #[inline]
     pub fn knows_end(&self) -> bool
-        ensures value { result ≡ nat_lt self.now.end no_end }
-        ensures known { IsTrue result ↔ (self.now.end < no_end) }
+        ensures value { result ≡ nat_lt (end_of self.now) no_end }
+        ensures known { IsTrue result ↔ (end_of self.now < no_end) }
     {
-        self.end < NO_END
+        self.end_or_none() < NO_END
     }
 
     /// Returns the position after the last byte, once it is known.
     pub fn end(&self) -> Option<u64>
-        ensures some { self.now.end < no_end → result ≡ Some self.now.end }
-        ensures none { no_end ≤ self.now.end → result ≡ None }
+        ensures some { end_of self.now < no_end → result ≡ Some (end_of self.now) }
+        ensures none { no_end ≤ end_of self.now → result ≡ None }
     {
         if self.knows_end() {
-            Some(self.end)
+            Some(self.end_or_none())
         } else {
             None
         }
     }
 
-    /// Returns whether the stream can end at a position, as `FiniteReceiverOver::can_end` does.
+    /// Returns whether the stream can end at `pos`: it is the end that is known, or none is, and it
+    /// isn't below the first missing position or a held run's end. 2^64 - 1 is no end.
     ///
     /// # Requires
     ///
     /// Head, storage and runs are sound, as `is_sound` tests.
     pub fn can_end(&self, storage: &[u8], runs: &[Run], pos: u64) -> bool
         requires { HasSoundFinite self.now storage.now runs.now }
-        ensures value { result
-            ≡ (nat_lt pos no_end && can_end (finite_of self.now storage.now runs.now) pos) }
-        ensures fits { pos < no_end → result ≡ can_end (finite_of self.now storage.now runs.now) pos }
+        ensures { result ≡ can_end (finite_of self.now storage.now runs.now) pos }
     {
         if pos == NO_END {
             return false;
         }
         if self.knows_end() {
-            return pos == self.end;
+            return pos == self.end_or_none();
         }
         self.receiver.has_all_below(storage, runs, pos)
     }
@@ -151,16 +166,18 @@ impl FiniteReceiverHead {
         if is_last && ahead <= self.receiver.window(storage.len()) as u64 {
             pos
         } else {
-            self.end
+            self.end_or_none()
         }
     }
 
-    /// Returns how many of `len` bytes at `pos` are below the end.
+    /// Returns how many of `len` bytes at `pos` are below the end, or while that isn't known below the
+    /// greatest number that an end can have.
     #[inline]
     fn count_below(&self, pos: u64, len: usize) -> usize
-        ensures { result ≡ min len (self.now.end - pos) }
+        ensures { result ≡ min len (min (end_of self.now) (no_end - 1) - pos) }
     {
-        (len as u64).min(self.end.saturating_sub(pos)) as usize
+        let end = self.end_or_none().min(NO_END - 1);
+        (len as u64).min(end.saturating_sub(pos)) as usize
     }
 
     /// Keeps the bytes of a segment that are in the free window and below the end, and takes the end, as
@@ -168,7 +185,7 @@ impl FiniteReceiverHead {
     ///
     /// # Requires
     ///
-    /// Head, storage and runs are sound, as `is_sound` tests, and the segment fits, as `fits` tests.
+    /// Head, storage and runs are sound, as `is_sound` tests.
     #[inline]
     pub fn keep(
         &mut self,
@@ -178,8 +195,7 @@ impl FiniteReceiverHead {
         bytes: &[u8],
         is_last: bool,
     ) -> Result<KeptBytes, FiniteError>
-        requires sound { HasSoundFinite self.old storage.old runs.old }
-        requires fits { pos + length bytes.now < no_end }
+        requires { HasSoundFinite self.old storage.old runs.old }
         ensures sound { HasSoundFinite self.new storage.new runs.new }
         ensures state { finite_of self.new storage.new runs.new
             ≡ finite_after (length runs.old) (finite_of self.old storage.old runs.old)
@@ -196,15 +212,17 @@ impl FiniteReceiverHead {
             MatchesFinite f x pos bytes.now is_last →
             ReceivesFinite f x (finite_of self.new storage.new runs.new) }
     {
-        let last = pos + bytes.len() as u64;
+        // No stream ends at the greatest number.
+        let last = pos.saturating_add(bytes.len() as u64);
         if is_last && !self.can_end(storage, runs, last) {
             return Err(FiniteError::OtherEnd);
         }
         let end = self.end_after(storage, runs, last, is_last);
+        let after_end = number_after(end);
         let count = self.count_below(pos, bytes.len());
         match self.receiver.keep(storage, runs, pos, &bytes[..count]) {
             Ok(kept) => {
-                self.end = end;
+                self.after_end = after_end;
                 Ok(kept)
             }
             Err(_) => Err(FiniteError::TooManyHoles),
@@ -220,12 +238,12 @@ impl FiniteReceiverHead {
     #[inline]
     pub fn is_complete(&self) -> bool
         requires { next_of self.now < no_end }
-        ensures value { result ≡ (next_of self.now == self.now.end) }
+        ensures value { result ≡ (next_of self.now == end_of self.now) }
         ensures state { (storage : List ℕ) (runs : List (ℕ × ℕ)) →
             HasSoundFinite self.now storage runs →
             result ≡ is_complete (finite_of self.now storage runs) }
     {
-        self.receiver.next() == self.end
+        self.receiver.next() == self.end_or_none()
     }
 
     /// Returns the number that an acknowledgement carries: the first missing position, or, once all
@@ -242,10 +260,10 @@ impl FiniteReceiverHead {
             HasSoundFinite self.now storage runs →
             result ≡ acknowledged (finite_of self.now storage runs) }
         ensures value { result
-            ≡ (if next_of self.now == self.now.end then next_of self.now + 1 else next_of self.now) }
+            ≡ (if next_of self.now == end_of self.now then next_of self.now + 1 else next_of self.now) }
     {
-        let next = self.receiver.next();
-        if next == self.end { next + 1 } else { next }
+        let (next, end) = (self.receiver.next(), self.end_or_none());
+        if next == end { next + 1 } else { next }
     }
 
     /// Returns whether all bytes were read, up to the end. Once it is so it stays so.
@@ -259,7 +277,7 @@ impl FiniteReceiverHead {
         ensures state { (storage : List ℕ) (runs : List (ℕ × ℕ)) →
             result ≡ has_read_all (finite_of self.now storage runs) }
     {
-        self.receiver.first + self.receiver.count_read == self.end
+        self.receiver.first + self.receiver.count_read == self.end_or_none()
     }
 
     /// Returns the end of the free window, where the storage has `capacity` bytes, for what is announced:
@@ -275,7 +293,7 @@ impl FiniteReceiverHead {
         requires { next_of self.now < no_end }
         ensures some { let limit = self.now.receiver.first + self.now.receiver.count_read + capacity in
             limit < 2 ^ 64 → result ≡ Some (max limit
-            (if next_of self.now == self.now.end then next_of self.now + 1 else next_of self.now)) }
+            (if next_of self.now == end_of self.now then next_of self.now + 1 else next_of self.now)) }
         ensures none { 2 ^ 64 ≤ self.now.receiver.first + self.now.receiver.count_read + capacity →
             result ≡ None }
         ensures state { (storage : List ℕ) (runs : List (ℕ × ℕ)) → length storage ≡ capacity →
@@ -304,7 +322,7 @@ impl FiniteReceiverHead {
             into.new ≡ take (length into.old) queued ++ drop (length queued) into.old }
         ensures head { self.new.receiver
             ≡ head_after_read (length storage.now) result self.old.receiver }
-        ensures end { self.new.end ≡ self.old.end }
+        ensures end { self.new.after_end ≡ self.old.after_end }
         ensures sound { (runs : List (ℕ × ℕ)) → HasSoundFinite self.old storage.now runs →
             HasSoundFinite self.new storage.now runs }
         ensures state { (runs : List (ℕ × ℕ)) → HasSoundFinite self.old storage.now runs →
@@ -332,7 +350,7 @@ impl FiniteReceiverHead {
         requires queued { count ≤ self.old.receiver.place.length }
         requires fits { next_of self.old < 2 ^ 64 }
         ensures head { self.new.receiver ≡ head_after_read capacity count self.old.receiver }
-        ensures end { self.new.end ≡ self.old.end }
+        ensures end { self.new.after_end ≡ self.old.after_end }
         ensures sound { (storage : List ℕ) (runs : List (ℕ × ℕ)) → length storage ≡ capacity →
             HasSoundFinite self.old storage runs → HasSoundFinite self.new storage runs }
         ensures state { (storage : List ℕ) (runs : List (ℕ × ℕ)) → length storage ≡ capacity →
@@ -366,25 +384,27 @@ impl FiniteReceiverHead {
         ensures { IsTrue result ↔ IsSameFinite (finite_of self.now storage.now runs.now)
             (finite_of other.now other_storage.now other_runs.now) }
     {
-        self.end == other.end
+        self.end_or_none() == other.end_or_none()
             && self
                 .receiver
                 .is_same_state(storage, runs, &other.receiver, other_storage, other_runs)
     }
 
-    /// Returns how many bytes of a segment of `len` bytes at `position` would be new, as
-    /// `FiniteReceiverOver::count_new` does.
+    /// Returns how many bytes of a segment of `len` bytes at `position` would be new: those in the
+    /// free window and below the end whose positions are not held. It is asked before the segment
+    /// is kept, since the bytes whose positions are held are kept again, and counted. The result is
+    /// 0 for a duplicate, which TCP may report, for a segment that is beyond the free window, and
+    /// for one without bytes. It looks at each held run.
     ///
     /// # Requires
     ///
-    /// Head, storage and runs are sound, as `is_sound` tests, and the segment fits, as `fits` tests.
+    /// Head, storage and runs are sound, as `is_sound` tests.
     pub fn count_new(&self, storage: &[u8], runs: &[Run], position: u64, len: usize) -> usize
         requires sound { HasSoundFinite self.now storage.now runs.now }
-        requires fits { position + len < no_end }
         ensures { result ≡ new_count (receiver_of self.now.receiver storage.now runs.now) position
-            (min len (self.now.end - position)) }
+            (min len (bytes_end (finite_of self.now storage.now runs.now) - position)) }
     {
         let count = self.count_below(position, len);
-        self.receiver.count_new(storage, runs, position, count)
+        self.receiver.count_part(storage, runs, position, count)
     }
 }

@@ -6,6 +6,7 @@ ghost use Rattle.std.specs.Borrow.{sem};
 ghost use Rattle.net_receiver.specs.SenderState.{contiguous_end, end_of, Sends};
 ghost use Rattle.net_receiver.specs.Finite.{no_end};
 ghost use Rattle.net_receiver.specs.FiniteLaws.{MatchesFinite};
+ghost use Rattle.net_receiver.specs.FiniteSenderLaws.{IsSoundSent};
 ghost use Rattle.net_receiver.specs.FiniteSender.{finite_sender_of, IsSoundFiniteSender};
 ghost use Rattle.net_receiver.specs.FiniteSender.{fresh_finite_sender, first_number, numbers_end};
 ghost use Rattle.net_receiver.specs.FiniteSender.{finite_room, with_bytes, closed_sender};
@@ -13,6 +14,7 @@ ghost use Rattle.net_receiver.specs.FiniteSender.{acknowledged_below, sent_after
 
 use crate::finite_sender_head::FiniteSenderHead;
 use crate::laws;
+use net_numbers::SentNumbers;
 use net_ring::{ManagedSlice, Storage};
 use std::marker::Model;
 
@@ -23,9 +25,7 @@ use std::marker::Model;
 /// is, and takes no room. A number is kept for it, so that it can always be closed. The sender keeps
 /// the mark of what was sent itself, which counts the end.
 ///
-/// Contracts see what they see of a `Sender`; 1 or 0 for whether it is closed, and for whether the end
-/// is acknowledged; and the number after the last one that was sent. No call takes memory. smoltcp has
-/// no such type.
+/// No call takes memory. smoltcp has no such type.
 pub struct FiniteSenderOver<S: Storage<u8>> {
     // Invariant: the end is acknowledged only once the sender is closed and its queue is empty. What
     // was sent ends between what is acknowledged and what was written, the end counted. The end's
@@ -34,9 +34,12 @@ pub struct FiniteSenderOver<S: Storage<u8>> {
     storage: S,
 }
 
-/// A sender of a stream that ends, over storage that is lent or owned.
+/// A sender of a stream that ends, over storage that is lent or owned. Its calls are those of
+/// [`FiniteSenderOver`].
 pub type FiniteSender<'a> = FiniteSenderOver<ManagedSlice<'a, u8>>;
 
+/// Contracts see what they see of a `Sender`; 1 or 0 for whether it is closed, and for whether the
+/// end is acknowledged; and the number after the last one that was sent.
 impl<S: Storage<u8>> Model for FiniteSenderOver<S> {
     ghost use Rattle.std.specs.Prelude.{length};
     ghost use Rattle.net_receiver.specs.FiniteSender.{FiniteSenderState, finite_sender_of};
@@ -61,6 +64,7 @@ impl<S: Storage<u8>> FiniteSenderOver<S> {
     ghost use Rattle.net_receiver.specs.SenderLends.{ends_as};
 
     /// Returns a sender of a stream that begins at position 0: `over_at` with 0.
+    #[must_use]
     pub const fn over(storage: S) -> Self
         ensures state { result ≡ fresh_finite_sender (length (S.elements storage)) 0 }
         ensures sends { Sends 0 [] result.sender }
@@ -73,6 +77,8 @@ impl<S: Storage<u8>> FiniteSenderOver<S> {
     /// # Requires
     ///
     /// `first` is not the greatest number of 64 bits: the end has a number after it.
+    #[must_use]
+    #[track_caller]
     pub const fn over_at(storage: S, first: u64) -> Self
         requires { first < no_end }
         ensures state { result ≡ fresh_finite_sender (length (S.elements storage)) first }
@@ -107,6 +113,7 @@ impl<S: Storage<u8>> FiniteSenderOver<S> {
     }
 
     /// Returns the storage, of which the bytes can be any.
+    #[must_use]
     pub fn into_storage(self) -> S
         ensures { length (S.elements result) ≡ self.sender.capacity }
     {
@@ -120,6 +127,7 @@ impl<S: Storage<u8>> FiniteSenderOver<S> {
     /// # Requires
     ///
     /// `first` is not the greatest number of 64 bits.
+    #[track_caller]
     pub fn reset_at(&mut self, first: u64)
         requires { first < no_end }
         ensures state { self.new ≡ fresh_finite_sender self.old.sender.capacity first }
@@ -131,6 +139,7 @@ impl<S: Storage<u8>> FiniteSenderOver<S> {
 
     /// Returns the first number that isn't acknowledged: TCP's SND.UNA. It is the first unacknowledged
     /// position, or the one after it once the end is acknowledged.
+    #[must_use]
     pub fn first_number(&self) -> u64
         ensures { result ≡ first_number self.now }
     {
@@ -138,6 +147,7 @@ impl<S: Storage<u8>> FiniteSenderOver<S> {
     }
 
     /// Returns the number after the last byte's, and after the end's once the sender is closed.
+    #[must_use]
     pub fn numbers_end(&self) -> u64
         ensures { result ≡ numbers_end self.now }
     {
@@ -145,13 +155,39 @@ impl<S: Storage<u8>> FiniteSenderOver<S> {
     }
 
     /// Returns the number after the last one that was ever sent: TCP's SND.MAX.
+    #[must_use]
     pub fn sent(&self) -> u64
         ensures { result ≡ self.now.sent }
     {
         self.head.sent
     }
 
+    /// Returns `first_number` and `sent`, as windows and timers take them.
+    ///
+    /// ```
+    /// # use net_base::finite::FiniteSender;
+    /// # use net_base::tcp::{Announcement, PeerWindow};
+    /// # let mut storage = [0u8; 8];
+    /// # let mut sender = FiniteSender::new_at(&mut storage[..], 100);
+    /// let mut peer = PeerWindow::new();
+    /// let it = Announcement { seq: 1, ack: 100, window: 9 };
+    /// assert!(peer.update(sender.sent_numbers(), it) && peer.edge() == 109);
+    /// ```
+    #[must_use]
+    pub fn sent_numbers(&self) -> SentNumbers
+        ensures { result ≡ record {
+          first_unacknowledged = first_number self.now;
+          sent = self.now.sent;
+        } }
+    {
+        SentNumbers {
+            first_unacknowledged: self.first_number(),
+            sent: self.sent(),
+        }
+    }
+
     /// Returns how many bytes are queued.
+    #[must_use]
     pub fn len(&self) -> usize
         ensures { result ≡ length self.now.sender.queue }
     {
@@ -159,6 +195,7 @@ impl<S: Storage<u8>> FiniteSenderOver<S> {
     }
 
     /// Returns whether all bytes that were written are acknowledged.
+    #[must_use]
     pub fn is_empty(&self) -> bool
         ensures { result ≡ (length self.now.sender.queue == 0) }
     {
@@ -166,6 +203,7 @@ impl<S: Storage<u8>> FiniteSenderOver<S> {
     }
 
     /// Returns the most bytes that are queued: the storage's length.
+    #[must_use]
     pub fn capacity(&self) -> usize
         ensures { result ≡ self.now.sender.capacity }
     {
@@ -174,6 +212,7 @@ impl<S: Storage<u8>> FiniteSenderOver<S> {
 
     /// Returns the window: how many bytes `write` would take. None once the sender is closed. A number
     /// is kept for the end.
+    #[must_use]
     pub fn window(&self) -> usize
         ensures { result ≡ finite_room self.now }
     {
@@ -205,13 +244,14 @@ impl<S: Storage<u8>> FiniteSenderOver<S> {
     }
 
     /// Lends the bytes of a segment from `pos` on, as `Sender::peek_at` does, and returns whether the
-    /// segment ends the stream (TCP's FIN): the sender is closed, and the bytes end where it does. A
-    /// segment without bytes that ends the stream is the end alone.
+    /// segment ends the stream (TCP's FIN): the sender is closed, the bytes end where it does, and the
+    /// end isn't acknowledged. A segment without bytes that ends the stream is the end alone.
     ///
     /// All its numbers, the end's among them, are below `limit`: the end of the window is one, as
     /// `PeerWindow::send_limit` gives it, and `(pos + mss).min(send_limit)` keeps a segment size too.
     ///
     /// Clause `later` says that the segment is one of the stream whatever is written later.
+    #[must_use]
     pub fn peek_at(&self, pos: u64, limit: u64) -> (&[u8], bool)
         ensures value { result.0.now ≡ take (length result.0.now)
             (drop (pos - self.now.sender.first_unacknowledged) self.now.sender.queue) }
@@ -222,7 +262,7 @@ impl<S: Storage<u8>> FiniteSenderOver<S> {
         ensures before { pos < self.now.sender.first_unacknowledged → result.0.now ≡ [] }
         ensures end { IsTrue result.1 ↔ ((self.now.closed ≡ 1)
             × (pos + length result.0.now ≡ end_of self.now.sender)
-            × (pos + length result.0.now < limit)) }
+            × (pos + length result.0.now < limit) × (self.now.finished ≡ 0)) }
         ensures room { pos ≤ limit → pos + length result.0.now + from_bool result.1 ≤ limit }
         ensures none { limit ≤ pos → (result.0.now ≡ []) × IsFalse result.1 }
         ensures numbers { pos ≤ numbers_end self.now →
@@ -268,7 +308,7 @@ impl<S: Storage<u8>> FiniteSenderOver<S> {
         ensures before { pos < self.old.sender.first_unacknowledged → result.0.now ≡ [] }
         ensures end { IsTrue result.1 ↔ ((self.old.closed ≡ 1)
             × (pos + length result.0.now ≡ end_of self.old.sender)
-            × (pos + length result.0.now < limit)) }
+            × (pos + length result.0.now < limit) × (self.old.finished ≡ 0)) }
         ensures later { (f : ℕ) (w more : List ℕ) → Sends f w self.old.sender →
             self.old.sender.first_unacknowledged ≤ pos → (self.old.closed ≡ 1 → more ≡ []) →
             MatchesFinite f (w ++ more) pos result.0.now result.1 }
@@ -313,6 +353,7 @@ impl<S: Storage<u8>> FiniteSenderOver<S> {
 
     /// Returns whether a SACK block can be right: it has a number, and none above those that were
     /// sent, of which the end's is one.
+    #[must_use]
     pub fn is_block(&self, start: u64, end: u64) -> bool
         ensures { IsTrue result ↔ ((start < end) × (end ≤ self.now.sent)) }
     {
@@ -320,6 +361,7 @@ impl<S: Storage<u8>> FiniteSenderOver<S> {
     }
 
     /// Returns whether the sender is closed.
+    #[must_use]
     pub fn is_closed(&self) -> bool
         ensures { result ≡ (self.now.closed == 1) }
     {
@@ -327,9 +369,19 @@ impl<S: Storage<u8>> FiniteSenderOver<S> {
     }
 
     /// Returns whether all bytes and the end are acknowledged. Once it is so it stays so.
+    #[must_use]
     pub fn is_closed_and_acknowledged(&self) -> bool
         ensures { result ≡ (self.now.finished == 1) }
     {
         self.head.is_closed_and_acknowledged()
+    }
+
+    /// States what is true of every sender; it does nothing. Callers use `laws::is_sound_sent`.
+    pub(crate) fn is_sound(&self)
+        ensures sent { IsSoundSent self.now }
+        ensures top { numbers_end self.now ≤ no_end }
+        ensures room { length self.now.sender.queue ≤ self.now.sender.capacity }
+    {
+        let _ = &self.head;
     }
 }

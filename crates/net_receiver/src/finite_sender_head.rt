@@ -56,7 +56,10 @@ impl FiniteSenderHead {
         }
     }
 
-    /// Returns whether this head is sound for a storage of `capacity` bytes.
+    /// Returns whether this head is sound for a storage of `capacity` bytes: `sender` is that of a
+    /// sender; `closed` and `finished` are 0 or 1, and `finished` is 1 only if `closed` is and the
+    /// queue is empty; and `sent` is from the first number that isn't acknowledged up to the number
+    /// after the last one, which fits 64 bits.
     pub fn is_sound(&self, capacity: usize) -> bool
         ensures { IsTrue result ↔ IsSoundFiniteSender capacity self.now }
     {
@@ -97,8 +100,8 @@ impl FiniteSenderHead {
         self.sender.end() + self.closed
     }
 
-    /// Returns how many bytes `write` would take: none once the sender is closed. A number is kept
-    /// for the end.
+    /// Returns how many bytes `write` would take: none once the sender is closed. The last number,
+    /// 2^64 - 1, is kept for the end.
     #[inline]
     pub fn room(&self, capacity: usize) -> usize
         requires { IsSoundFiniteSender capacity self.now }
@@ -149,8 +152,10 @@ impl FiniteSenderHead {
     }
 
     /// Returns where the bytes of a segment from `pos` on are, as `SenderHead::peek_at` does, and
-    /// whether the segment ends the stream. Its numbers, the end's among them, are below `limit`. A
-    /// segment at `pos` without bytes that ends the stream is the end alone.
+    /// whether the segment ends the stream: the sender is closed, and the bytes end where it does.
+    /// Its numbers, the end's among them, are below `limit`: the end of the window is one, and
+    /// `pos` plus the segment size another. A segment at `pos` without bytes that ends the stream
+    /// is the end alone.
     #[inline]
     pub fn peek_at(&self, capacity: usize, pos: u64, limit: u64) -> (Span, bool)
         requires { IsSoundFiniteSender capacity self.now }
@@ -168,7 +173,7 @@ impl FiniteSenderHead {
             (self.now.sender.place.length - (pos - self.now.sender.first_unacknowledged)) }
         ensures end { IsTrue result.1 ↔ ((self.now.closed ≡ 1) × (pos + result.0.contiguous
             ≡ self.now.sender.first_unacknowledged + self.now.sender.place.length)
-            × (pos + result.0.contiguous < limit)) }
+            × (pos + result.0.contiguous < limit) × (self.now.finished ≡ 0)) }
         ensures room { pos ≤ limit → pos + result.0.contiguous + from_bool result.1 ≤ limit }
         ensures none { limit ≤ pos → (result.0.contiguous ≡ 0) × IsFalse result.1 }
         ensures numbers { 0 < result.0.contiguous + from_bool result.1 →
@@ -201,9 +206,9 @@ impl FiniteSenderHead {
         requires { IsSoundFiniteSender _capacity self.now }
         ensures { IsTrue result ↔ ((self.now.closed ≡ 1) × (pos
             ≡ self.now.sender.first_unacknowledged + self.now.sender.place.length)
-            × (pos < limit)) }
+            × (pos < limit) × (self.now.finished ≡ 0)) }
     {
-        self.closed == 1 && pos == self.sender.end() && pos < limit
+        self.closed == 1 && pos == self.sender.end() && pos < limit && self.finished == 0
     }
 
     /// Returns what `peek_at` does, and notes that the segment was sent: `sent` is the number after
@@ -229,7 +234,7 @@ impl FiniteSenderHead {
             (self.old.sender.place.length - (pos - self.old.sender.first_unacknowledged)) }
         ensures end { IsTrue result.1 ↔ ((self.old.closed ≡ 1) × (pos + result.0.contiguous
             ≡ self.old.sender.first_unacknowledged + self.old.sender.place.length)
-            × (pos + result.0.contiguous < limit)) }
+            × (pos + result.0.contiguous < limit) × (self.old.finished ≡ 0)) }
         ensures bytes { (storage : List ℕ) → length storage ≡ capacity →
             take result.0.contiguous (drop result.0.from storage)
             ≡ take result.0.contiguous (drop (pos - self.old.sender.first_unacknowledged)

@@ -7,15 +7,16 @@ ghost use Rattle.net_receiver.specs.NewestRuns.{with_starts};
 use std::marker::Model;
 
 /// A held run, by absolute positions: from `start` on, up to `end`, which is not included.
-///
-/// Contracts see the pair (start, end).
 #[repr(C)]
 #[derive(Debug, Clone, Copy, PartialEq, Eq)]
 pub struct HeldRun {
+    /// The first position.
     pub start: u64,
+    /// The position after the last one.
     pub end: u64,
 }
 
+/// Contracts see the pair (start, end).
 impl Model for HeldRun {
     ghost use Rattle.std.specs.Prelude.{ℕ};
 
@@ -28,8 +29,7 @@ impl Model for HeldRun {
 
 /// An iterator over held runs, the newest first, made by `newest_runs`: at most `K`.
 ///
-/// It yields (start, end) of each run as absolute positions, the end not included. Contracts see the
-/// list of the runs that are left.
+/// It yields (start, end) of each run as absolute positions, the end not included.
 #[derive(Debug, Drop)]
 pub struct NewestRunIter<const K: usize> {
     runs: [HeldRun; K],
@@ -37,6 +37,7 @@ pub struct NewestRunIter<const K: usize> {
     count: usize,
 }
 
+/// Contracts see the list of the runs that are left.
 impl<const K: usize> Model for NewestRunIter<K> {
     ghost use Rattle.std.specs.Prelude.{◌≡◌, ◌≤◌, ℕ, List, length, take, drop};
 

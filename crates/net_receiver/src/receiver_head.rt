@@ -5,11 +5,10 @@ ghost use Rattle.std.specs.Prelude.{◌∷◌};
 ghost use Rattle.net_assembler.specs.Positions.{contains, maximal_runs, runs as run_count};
 ghost use Rattle.net_assembler.specs.RunLists.{HasSoundRuns, IsCanonical, set_of};
 ghost use Rattle.net_receiver.specs.KeptList.{piece};
-ghost use Rattle.net_receiver.specs.Rules.{verdict, state_after, numbers, Read, ReadReply};
-ghost use Rattle.net_receiver.specs.Rules.{first_three, segment_result, Segment, SegmentReply};
+ghost use Rattle.net_receiver.specs.ReceiverState.{verdict, state_after, numbers};
+ghost use Rattle.net_receiver.specs.ReceiverState.{first_three, segment_result};
 ghost use Rattle.net_receiver.specs.ReceiverState.{fresh_receiver, domain, limit_of, next_position};
-ghost use Rattle.net_receiver.specs.ReceiverState.{receiver_ops, IsSameState, receiver_after_read};
-ghost use Rattle.net_receiver.specs.ReceiverState.{StepRefines};
+ghost use Rattle.net_receiver.specs.ReceiverState.{IsSameState, receiver_after_read};
 ghost use Rattle.net_receiver.specs.OneStream.{ReceivesFrom, MatchesStream};
 ghost use Rattle.net_receiver.specs.NewHeads.{receiver_head};
 ghost use Rattle.net_receiver.specs.Head.{receiver_of, HasSoundParts, storage_after};
@@ -86,8 +85,11 @@ impl ReceiverHead {
         *self = ReceiverHead::new(first);
     }
 
-    /// Returns whether this head, a storage and runs are sound: those of a receiver. It takes a look
-    /// at each held run, and at no byte.
+    /// Returns whether this head, a storage and runs are sound: `place` is that of a ring of the
+    /// storage, whose `read_at` is `count_read` modulo the capacity; the first missing position
+    /// fits 64 bits; `held` and the runs are those of an assembler without position 0; and each
+    /// held position is in the free window, and the one after it fits 64 bits. It looks at each
+    /// held run, and at no byte.
     pub fn is_sound(&self, storage: &[u8], runs: &[Run]) -> bool
         ensures { IsTrue result ↔ HasSoundParts self.now storage.now runs.now }
     {
@@ -170,21 +172,18 @@ impl ReceiverHead {
         requires fits { pos + length bytes.now < 2 ^ 64 }
         ensures sound { HasSoundParts self.new storage.new runs.new }
         ensures state { let v = receiver_of self.old storage.old runs.old in
-            receiver_of self.new storage.new runs.new ≡ state_after receiver_ops v
-            (verdict receiver_ops (length runs.old) v (piece pos bytes.now)) }
-        ensures step { StepRefines (length runs.old) (receiver_of self.old storage.old runs.old)
-            (receiver_of self.new storage.new runs.new)
-            (Segment pos bytes.now) (SegmentReply result) }
+            receiver_of self.new storage.new runs.new ≡ state_after v
+            (verdict (length runs.old) v (piece pos bytes.now)) }
         ensures receives { (f : ℕ) (x : List ℕ) →
             ReceivesFrom f x (receiver_of self.old storage.old runs.old) →
             MatchesStream f x pos bytes.now →
             ReceivesFrom f x (receiver_of self.new storage.new runs.new) }
         ensures stored { let v = receiver_of self.old storage.old runs.old in
             storage.new ≡ storage_after self.old storage.old
-            (verdict receiver_ops (length runs.old) v (piece pos bytes.now)) }
+            (verdict (length runs.old) v (piece pos bytes.now)) }
         ensures value { let v = receiver_of self.old storage.old runs.old in
-            result ≡ segment_result receiver_ops v
-            (verdict receiver_ops (length runs.old) v (piece pos bytes.now)) }
+            result ≡ segment_result v
+            (verdict (length runs.old) v (piece pos bytes.now)) }
         ensures unchanged { OnErr result ((self.new ≡ self.old) × (storage.new ≡ storage.old)
             × (runs.new ≡ runs.old)) }
         ensures canonical { IsCanonical self.old.held → IsCanonical self.new.held }
@@ -227,14 +226,14 @@ impl ReceiverHead {
         requires fits { pos + length bytes.now < 2 ^ 64 }
         ensures sound { HasSoundParts self.new storage.new runs.new }
         ensures state { let v = receiver_of self.old storage.old runs.old in
-            receiver_of self.new storage.new runs.new ≡ state_after receiver_ops v
-            (verdict receiver_ops (length runs.old) v (piece pos bytes.now)) }
+            receiver_of self.new storage.new runs.new ≡ state_after v
+            (verdict (length runs.old) v (piece pos bytes.now)) }
         ensures stored { let v = receiver_of self.old storage.old runs.old in
             storage.new ≡ storage_after self.old storage.old
-            (verdict receiver_ops (length runs.old) v (piece pos bytes.now)) }
+            (verdict (length runs.old) v (piece pos bytes.now)) }
         ensures numbers { let v = receiver_of self.old storage.old runs.old in
-            result ≡ numbers receiver_ops v
-            (verdict receiver_ops (length runs.old) v (piece pos bytes.now)) }
+            result ≡ numbers v
+            (verdict (length runs.old) v (piece pos bytes.now)) }
         ensures unchanged { OnErr result ((self.new ≡ self.old) × (storage.new ≡ storage.old)
             × (runs.new ≡ runs.old)) }
         ensures canonical { IsCanonical self.old.held → IsCanonical self.new.held }
@@ -282,10 +281,6 @@ impl ReceiverHead {
         ensures state { (runs : List (ℕ × ℕ)) → HasSoundParts self.old storage.now runs →
             receiver_of self.new storage.now runs
             ≡ receiver_after_read (receiver_of self.old storage.now runs) (length into.old) }
-        ensures step { (runs : List (ℕ × ℕ)) → HasSoundParts self.old storage.now runs →
-            StepRefines (length runs) (receiver_of self.old storage.now runs)
-            (receiver_of self.new storage.now runs)
-            (Read (length into.old)) (ReadReply (take result into.new)) }
         ensures receives { (runs : List (ℕ × ℕ)) → HasSoundParts self.old storage.now runs →
             (f : ℕ) (x : List ℕ) → ReceivesFrom f x (receiver_of self.old storage.now runs) →
             ReceivesFrom f x (receiver_of self.new storage.now runs)
@@ -396,11 +391,6 @@ impl ReceiverHead {
         ensures state { (storage : List ℕ) (runs : List (ℕ × ℕ)) → length storage ≡ capacity →
             HasSoundParts self.old storage runs → receiver_of self.new storage runs
             ≡ receiver_after_read (receiver_of self.old storage runs) count }
-        ensures step { (storage : List ℕ) (runs : List (ℕ × ℕ)) → length storage ≡ capacity →
-            HasSoundParts self.old storage runs →
-            StepRefines (length runs) (receiver_of self.old storage runs)
-            (receiver_of self.new storage runs)
-            (Read count) (ReadReply (take count (queue (ring_at storage self.old.place)))) }
         ensures receives { (storage : List ℕ) (runs : List (ℕ × ℕ)) → length storage ≡ capacity →
             HasSoundParts self.old storage runs → (f : ℕ) (x : List ℕ) →
             ReceivesFrom f x (receiver_of self.old storage runs) →
@@ -489,9 +479,18 @@ impl ReceiverHead {
         self.held.used
     }
 
-    /// Lists held runs at the beginning of `into`, in the order of `ReceiverOver::newest_runs`, and
-    /// returns how many: as many as are held, or as `into` has elements. The rest of `into` stays as it
-    /// is. The storage is for the contract only.
+    /// Lists held runs at the beginning of `into`, the newest first, and returns how many: as many
+    /// as are held, or as `into` has elements. The rest of `into` stays as it is. The storage is
+    /// for the contract only.
+    ///
+    /// The first is the run that has `position`, that of the segment just taken, if it is held;
+    /// then come the runs that have the positions in `recent`, in their order, and then the others,
+    /// in rising order; each comes once. The call writes the starts of the runs that it lists to
+    /// the beginning of `recent`, as many as there is room for. The caller sets `recent` to zeros
+    /// before the first call, and doesn't change it afterwards. It is enough if `recent` and `into`
+    /// have as many elements in each call as the longest acknowledgement has SACK blocks; a shorter
+    /// one has the first of them. RFC 2018, section 4, wants this order. The time grows with the
+    /// number of runs times the number of runs and of elements of `recent` together.
     ///
     /// # Requires
     ///
@@ -592,9 +591,23 @@ impl ReceiverHead {
     ///
     /// # Requires
     ///
-    /// Head, storage and runs are sound, as `is_sound` tests, and the segment ends within 64 bits,
-    /// as `ReceiverOver::fits` tests.
+    /// Head, storage and runs are sound, as `is_sound` tests.
     pub fn count_new(&self, storage: &[u8], runs: &[Run], position: u64, len: usize) -> usize
+        requires sound { HasSoundParts self.now storage.now runs.now }
+        ensures { result ≡ new_count (receiver_of self.now storage.now runs.now) position
+            (min len (2 ^ 64 - 1 - position)) }
+    {
+        self.count_part(storage, runs, position, count_existing(position, len))
+    }
+
+    /// Counts those of a segment that ends within 64 bits.
+    pub(crate) fn count_part(
+        &self,
+        storage: &[u8],
+        runs: &[Run],
+        position: u64,
+        len: usize,
+    ) -> usize
         requires sound { HasSoundParts self.now storage.now runs.now }
         requires fits { position + len < 2 ^ 64 }
         ensures { result ≡ new_count (receiver_of self.now storage.now runs.now) position len }
@@ -676,4 +689,12 @@ impl ReceiverHead {
         }
         true
     }
+}
+
+/// Returns how many of `len` positions from `pos` on a stream can have.
+#[inline]
+pub(crate) fn count_existing(pos: u64, len: usize) -> usize
+    ensures { result ≡ min len (2 ^ 64 - 1 - pos) }
+{
+    (len as u64).min(u64::MAX - pos) as usize
 }

@@ -1,26 +1,27 @@
 //! A scoreboard: which positions a sender knows that the other end has.
-ghost use Rattle.std.specs.Prelude.{◌⊎◌, ◌≡◌, ◌↔◌, ◌-◌, ◌<◌, ◌≤◌, ℕ, length, true, false, Ok, IsTrue, IfOk, IsErr};
+ghost use Rattle.std.specs.Prelude.{◌⊎◌, ◌≡◌, ◌↔◌, ◌-◌, ◌<◌, ◌≤◌, ℕ, length, Err, IsTrue, OnOk, OnErr};
 ghost use Rattle.net_assembler.specs.Positions.{contains, first_missing, front, maximal_runs, nothing};
 ghost use Rattle.net_assembler.specs.Positions.{positions, with_range};
 ghost use Rattle.net_assembler.specs.RunLists.{IsCanonical};
 ghost use Rattle.net_receiver.specs.Losses.{IsHole, IsLossBound};
-ghost use Rattle.net_receiver.specs.Scoreboards.{HasNoRoom, IsBlock, IsEnd, IsSoundBoard, IsTooFar, beyond};
+ghost use Rattle.net_receiver.specs.Scoreboards.{HasNoRoom, IsBlock, IsEnd, IsReport, IsSoundBoard, beyond};
 ghost use Rattle.net_receiver.specs.Scoreboards.{reported_by};
 
 use crate::held_runs::HeldRuns;
+use crate::report_error::ReportError;
 use crate::scoreboard_head::ScoreboardHead;
 use crate::sequence_number::SequenceNumber;
-use net_assembler::{Run, TooManyHolesError};
+use net_assembler::Run;
 use std::marker::Model;
 
 /// What a sender knows of the positions that the other end has, as acknowledgements and their SACK
 /// blocks report them: a scoreboard.
 ///
-/// Positions are absolute. Contracts see the set of those that were reported. At most `N` runs are
-/// stored beyond the first position that wasn't reported; what is below that needs none. No call takes
-/// memory. `next_lost` gives what is lost, range by range, and `next_hole` all that isn't reported, of
-/// which most may only be in flight; when it is sent again is the caller's choice. smoltcp has no such
-/// type: its TCP socket sends again from the first unacknowledged position on.
+/// Positions are absolute. At most `N` runs are stored beyond the first position that wasn't reported;
+/// what is below that needs none. No call takes memory. `next_lost` gives what is lost, range by
+/// range, and `next_hole` all that isn't reported, of which most may only be in flight; when it is
+/// sent again is the caller's choice. smoltcp has no such type: its TCP socket sends again from the
+/// first unacknowledged position on.
 ///
 /// ```
 /// use net_base::scoreboard::Scoreboard;
@@ -28,7 +29,7 @@ use std::marker::Model;
 /// // Of the bytes from 100 to 199, all sent, those below 120 and those from 140 to 159 have arrived.
 /// let mut scoreboard = Scoreboard::<4>::empty();
 /// scoreboard.acknowledge(120);
-/// assert_eq!(scoreboard.report(140, 160, 200), Ok(true));
+/// assert_eq!(scoreboard.report(140, 160, 200), Ok(()));
 /// assert_eq!(scoreboard.next_hole(120, 200), Some((120, 140)));
 /// assert_eq!(scoreboard.next_hole(140, 200), Some((160, 200)));
 /// ```
@@ -41,6 +42,7 @@ pub struct Scoreboard<const N: usize> {
     runs: [Run; N],
 }
 
+/// Contracts see the set of the positions that were reported.
 impl<const N: usize> Model for Scoreboard<N> {
     ghost use Rattle.std.specs.Coded.{coded_ℕ};
     ghost use Rattle.std.specs.FinSet as set;
@@ -72,13 +74,13 @@ impl<const N: usize> Scoreboard<N> {
     /// let scoreboard = Scoreboard::<0>::empty();
     /// ```
     ///
-    /// # Requires
-    ///
-    /// `N` is at least 1.
+    /// A program in which `N` is 0 does not compile.
+    #[must_use]
     pub const fn empty() -> Self
         requires { 1 ≤ N }
         ensures { result ≡ nothing }
     {
+        prove!(N >= 1, "N is at least 1");
         Scoreboard {
             head: ScoreboardHead::new(),
             runs: [Run { start: 0, end: 0 }; N],
@@ -88,13 +90,13 @@ impl<const N: usize> Scoreboard<N> {
     /// Returns a scoreboard of a stream that begins at position `first`, to which nothing was reported.
     /// All positions below `first` count as reported.
     ///
-    /// # Requires
-    ///
-    /// `N` is at least 1.
+    /// A program in which `N` is 0 does not compile.
+    #[must_use]
     pub const fn empty_at(first: u64) -> Self
         requires { 1 ≤ N }
         ensures { result ≡ with_range nothing 0 first }
     {
+        prove!(N >= 1, "N is at least 1");
         Scoreboard {
             head: ScoreboardHead::new_at(first),
             runs: [Run { start: 0, end: 0 }; N],
@@ -144,7 +146,7 @@ impl<const N: usize> Scoreboard<N> {
     /// ```
     /// # use net_base::scoreboard::Scoreboard;
     /// # let mut scoreboard = Scoreboard::<4>::empty();
-    /// assert_eq!(scoreboard.report(5, 9, 20), Ok(true));
+    /// assert_eq!(scoreboard.report(5, 9, 20), Ok(()));
     /// scoreboard.clear();
     /// assert!(!scoreboard.contains(5));
     /// ```
@@ -155,91 +157,93 @@ impl<const N: usize> Scoreboard<N> {
     }
 
     /// Reports the positions from `start` on and below `end`, as a SACK block of an acknowledgement
-    /// does, and returns true. Blocks may overlap. `sent` is the position after the last byte that was
-    /// ever sent, as `Sender::mark_sent` keeps it.
-    ///
-    /// Returns false, and changes nothing, if it is no block of bytes that were sent: if `start`
-    /// isn't below `end`, or `end` is above `sent`.
+    /// does. Blocks may overlap. `sent` is the position after the last byte that was ever sent, as
+    /// `Sender::mark_sent` keeps it.
     ///
     /// ```
-    /// # use net_base::scoreboard::Scoreboard;
-    /// # use net_base::storage::TooManyHolesError;
+    /// # use net_base::scoreboard::{ReportError, Scoreboard};
     /// let mut scoreboard = Scoreboard::<1>::empty();
-    /// assert_eq!((scoreboard.report(5, 9, 8), scoreboard.report(9, 5, 20)), (Ok(false), Ok(false)));
-    /// assert_eq!((scoreboard.report(5, 9, 9), scoreboard.report(8, 12, 20)), (Ok(true), Ok(true)));
-    /// assert_eq!(scoreboard.report(14, 15, 20), Err(TooManyHolesError));
+    /// assert_eq!(scoreboard.report(5, 9, 8), Err(ReportError::NoBlock));
+    /// assert_eq!((scoreboard.report(5, 9, 9), scoreboard.report(8, 12, 20)), (Ok(()), Ok(())));
+    /// assert_eq!(scoreboard.report(14, 15, 20), Err(ReportError::TooManyHoles));
     /// assert!(scoreboard.contains(11) && !scoreboard.contains(14));
     /// ```
     ///
     /// # Errors
     ///
-    /// The block is refused, and nothing changes, exactly if it begins beyond the first position
-    /// that wasn't reported, and there would be more than `N` runs beyond it: then the block isn't
-    /// known, and its bytes are sent again. On a processor of 32 bits it is refused too if `end` is
-    /// 2^32 or more above the first position that wasn't reported.
-    pub fn report(&mut self, start: u64, end: u64, sent: u64) -> Result<bool, TooManyHolesError>
+    /// `NoBlock`, and nothing changes, exactly if no such block can be: if `start` isn't below `end`, `end`
+    /// is above `sent`, or it begins beyond the first position that wasn't reported, and ends 2^32 or more
+    /// above it: TCP's numbers have 32 bits.
+    ///
+    /// `TooManyHoles`, and nothing changes, exactly if such a block can be, it begins beyond the first
+    /// position that wasn't reported, and there would be more than `N` runs beyond that: then the block
+    /// isn't known, and its bytes are sent again.
+    pub fn report(&mut self, start: u64, end: u64, sent: u64) -> Result<(), ReportError>
+        ensures no_block { (result ≡ Err ReportError.NoBlock)
+            ↔ (IsReport (front self.old) sent start end → ⊥) }
+        ensures too_many { (result ≡ Err ReportError.TooManyHoles)
+            ↔ (IsReport (front self.old) sent start end × HasNoRoom N self.old start (end - start)) }
+        ensures ok { OnOk result (self.new ≡ with_range self.old start (end - start)) }
         // Guarantee.
-        ensures block { IfOk result (λ taken. IsTrue taken ↔ ((start < end) × (end ≤ sent))) }
-        // Guarantee.
-        ensures ok { result ≡ Ok true → self.new ≡ with_range self.old start (end - start) }
-        ensures unchanged { (result ≡ Ok true → ⊥) → self.new ≡ self.old }
-        ensures refused { IsErr result ↔ ((start < end) × (end ≤ sent)
-            × (HasNoRoom N self.old start (end - start) ⊎ IsTooFar self.old start (end - start))) }
+        ensures unchanged { OnErr result (self.new ≡ self.old) }
     {
-        if !ScoreboardHead::is_block(start, end, sent) {
-            return Ok(false);
+        if !ScoreboardHead::is_report(self.first_unreported(), start, end, sent) {
+            return Err(ReportError::NoBlock);
         }
-        self.head.report(&mut self.runs, start, end)?;
-        Ok(true)
+        match self.head.report(&mut self.runs, start, end) {
+            Ok(()) => Ok(()),
+            Err(_) => Err(ReportError::TooManyHoles),
+        }
     }
 
     /// Reports a SACK block as `report` does, from its numbers: of each it takes the position nearest to
     /// the first one that wasn't reported, if position 0 has the number `initial`. Call it after
     /// `acknowledge`.
     ///
-    /// Returns false, and changes nothing, also if a number has no position there, or if `start` isn't
-    /// above that first one: a block of what came twice (RFC 2883).
-    ///
     /// ```
-    /// # use net_base::scoreboard::Scoreboard;
+    /// # use net_base::scoreboard::{ReportError, Scoreboard};
     /// # use net_base::sequence_number::SequenceNumber;
     /// let [initial, start, end] = [7, 12, 16].map(SequenceNumber::new);
     /// let mut scoreboard = Scoreboard::<4>::empty();
-    /// assert_eq!(scoreboard.report_block(initial, start, end, 20), Ok(true));
+    /// assert_eq!(scoreboard.report_block(initial, start, end, 20), Ok(()));
     /// assert_eq!(scoreboard.next_hole(0, 20), Some((0, 5)));
-    /// assert_eq!(scoreboard.report_block(initial, initial, start, 20), Ok(false));
+    /// let old = scoreboard.report_block(initial, initial, start, 20);
+    /// assert_eq!(old, Err(ReportError::NoBlock));
     /// ```
     ///
     /// # Errors
     ///
-    /// The block is refused, and nothing changes, exactly if there would be more than `N` runs beyond
-    /// the first position that wasn't reported.
+    /// `NoBlock`, and nothing changes, exactly if a number has no position there, `start` isn't above that
+    /// first one, so that the block is of what came twice (RFC 2883), `start` isn't below `end`, or `end` is
+    /// above `sent`. `TooManyHoles`, and nothing changes, exactly if there would be more than `N` runs
+    /// beyond the first position that wasn't reported.
     pub fn report_block(
         &mut self,
         initial: SequenceNumber,
         start: SequenceNumber,
         end: SequenceNumber,
         sent: u64,
-    ) -> Result<bool, TooManyHolesError>
+    ) -> Result<(), ReportError>
         ensures none { ((p q : ℕ) → IsBlock initial self.old start end p q → ⊥) →
-            result ≡ Ok false }
-        ensures block { (p q : ℕ) → IsBlock initial self.old start end p q →
-            IfOk result (λ taken. IsTrue taken ↔ ((p < q) × (q ≤ sent))) }
-        ensures ok { (p q : ℕ) → IsBlock initial self.old start end p q → result ≡ Ok true →
-            self.new ≡ with_range self.old p (q - p) }
-        ensures unchanged { (result ≡ Ok true → ⊥) → self.new ≡ self.old }
-        ensures refused { (p q : ℕ) → IsBlock initial self.old start end p q →
-            IsErr result ↔ ((p < q) × (q ≤ sent) × HasNoRoom N self.old p (q - p)) }
+            result ≡ Err ReportError.NoBlock }
+        ensures no_block { (p q : ℕ) → IsBlock initial self.old start end p q →
+            ((result ≡ Err ReportError.NoBlock) ↔ ((p < q) × (q ≤ sent) → ⊥)) }
+        ensures too_many { (p q : ℕ) → IsBlock initial self.old start end p q →
+            ((result ≡ Err ReportError.TooManyHoles)
+            ↔ ((p < q) × (q ≤ sent) × HasNoRoom N self.old p (q - p))) }
+        ensures ok { (p q : ℕ) → IsBlock initial self.old start end p q →
+            OnOk result (self.new ≡ with_range self.old p (q - p)) }
+        ensures unchanged { OnErr result (self.new ≡ self.old) }
     {
         let first = self.first_unreported();
         let Some(start) = start.position(initial, first) else {
-            return Ok(false);
+            return Err(ReportError::NoBlock);
         };
         let Some(end) = end.position(initial, first) else {
-            return Ok(false);
+            return Err(ReportError::NoBlock);
         };
         if start <= first {
-            return Ok(false);
+            return Err(ReportError::NoBlock);
         }
         self.report(start, end, sent)
     }
@@ -249,7 +253,7 @@ impl<const N: usize> Scoreboard<N> {
     /// ```
     /// # use net_base::scoreboard::Scoreboard;
     /// # let mut scoreboard = Scoreboard::<4>::empty();
-    /// assert_eq!(scoreboard.report(5, 9, 20), Ok(true));
+    /// assert_eq!(scoreboard.report(5, 9, 20), Ok(()));
     /// scoreboard.acknowledge(7);
     /// assert_eq!(scoreboard.next_hole(0, 20), Some((9, 20)));
     /// ```
@@ -260,6 +264,7 @@ impl<const N: usize> Scoreboard<N> {
     }
 
     /// Returns the first position that wasn't reported.
+    #[must_use]
     pub fn first_unreported(&self) -> u64
         ensures { result ≡ front self.now }
     {
@@ -271,9 +276,10 @@ impl<const N: usize> Scoreboard<N> {
     /// ```
     /// # use net_base::scoreboard::Scoreboard;
     /// # let mut scoreboard = Scoreboard::<4>::empty();
-    /// assert_eq!(scoreboard.report(5, 9, 20), Ok(true));
+    /// assert_eq!(scoreboard.report(5, 9, 20), Ok(()));
     /// assert!(scoreboard.contains(8) && !scoreboard.contains(9));
     /// ```
+    #[must_use]
     pub fn contains(&self, pos: u64) -> bool
         ensures { result ≡ contains self.now pos }
     {
@@ -282,6 +288,7 @@ impl<const N: usize> Scoreboard<N> {
 
     /// Returns the runs beyond the first position that wasn't reported, as absolute (start, end), the end
     /// not included, in rising order, at most `N`.
+    #[must_use]
     pub fn reported(&self) -> HeldRuns<'_, N>
         ensures runs { result ≡ maximal_runs (beyond self.now) }
         ensures bound { length result ≤ N }
@@ -290,6 +297,7 @@ impl<const N: usize> Scoreboard<N> {
     }
 
     /// Returns the position after the last one that was reported; 0 if none was.
+    #[must_use]
     pub fn highest_reported(&self) -> u64
         ensures { IsEnd self.now result }
     {
@@ -297,6 +305,7 @@ impl<const N: usize> Scoreboard<N> {
     }
 
     /// Returns how many positions were reported beyond the first one that wasn't.
+    #[must_use]
     pub fn count_beyond(&self) -> usize
         ensures { result ≡ length (positions (beyond self.now)) }
     {
@@ -304,6 +313,7 @@ impl<const N: usize> Scoreboard<N> {
     }
 
     /// Returns the first position from `pos` on that wasn't reported.
+    #[must_use]
     pub fn first_missing(&self, pos: u64) -> u64
         ensures { result ≡ first_missing self.now pos }
     {
@@ -317,10 +327,11 @@ impl<const N: usize> Scoreboard<N> {
     /// ```
     /// # use net_base::scoreboard::Scoreboard;
     /// # let mut scoreboard = Scoreboard::<4>::empty();
-    /// assert_eq!((scoreboard.report(5, 9, 20), scoreboard.report(12, 20, 20)), (Ok(true), Ok(true)));
+    /// assert_eq!((scoreboard.report(5, 9, 20), scoreboard.report(12, 20, 20)), (Ok(()), Ok(())));
     /// assert_eq!(scoreboard.next_hole(6, 20), Some((9, 12)));
     /// assert_eq!(scoreboard.next_hole(12, 20), None);
     /// ```
+    #[must_use]
     pub fn next_hole(&self, pos: u64, limit: u64) -> Option<(u64, u64)>
         ensures { IsHole self.now pos limit result }
     {
@@ -337,6 +348,7 @@ impl<const N: usize> Scoreboard<N> {
     /// `duplicates - 1` segments of `segment_size` bytes have. It is 0 if nothing is lost. A run counts as
     /// above a position if it begins above it; of a position that wasn't reported that is the RFC's rule
     /// exactly.
+    #[must_use]
     pub fn lost_below(&self, duplicates: usize, segment_size: usize) -> u64
         ensures { IsLossBound duplicates segment_size self.now result }
     {
@@ -353,10 +365,11 @@ impl<const N: usize> Scoreboard<N> {
     /// # use net_base::scoreboard::Scoreboard;
     /// # let mut scoreboard = Scoreboard::<4>::empty();
     /// // Segments of 100 bytes: the first is missing, the three after it have arrived, four are in flight.
-    /// assert_eq!(scoreboard.report(100, 400, 800), Ok(true));
+    /// assert_eq!(scoreboard.report(100, 400, 800), Ok(()));
     /// assert_eq!(scoreboard.next_lost(0, 3, 100), Some((0, 100)));
     /// assert_eq!(scoreboard.next_lost(100, 3, 100), None);
     /// ```
+    #[must_use]
     pub fn next_lost(&self, pos: u64, duplicates: usize, segment_size: usize) -> Option<(u64, u64)>
         ensures { (limit : ℕ) → IsLossBound duplicates segment_size self.now limit →
             IsHole self.now pos limit result }

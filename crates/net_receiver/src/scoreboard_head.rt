@@ -1,10 +1,10 @@
 //! A scoreboard in parts: a head, and runs that are kept elsewhere.
-ghost use Rattle.std.specs.Prelude.{◌⊎◌, ◌≡◌, ◌↔◌, ◌-◌, ◌<◌, ◌≤◌, List, ℕ, length, min, nat_lt, IsTrue, IsErr, OnOk, OnErr};
-ghost use Rattle.std.specs.Prelude.{if◌then◌else◌};
+ghost use Rattle.std.specs.Prelude.{◌≡◌, ◌↔◌, ◌+◌, ◌-◌, ◌^◌, ◌<◌, ◌≤◌, List, ℕ, length, min, nat_lt, IsTrue, IsErr};
+ghost use Rattle.std.specs.Prelude.{OnOk, OnErr, if◌then◌else◌};
 ghost use Rattle.net_assembler.specs.Positions.{contains, first_missing, front, maximal_runs, nothing};
 ghost use Rattle.net_assembler.specs.Positions.{positions, with_range};
 ghost use Rattle.net_assembler.specs.RunLists.{HasSoundRuns, IsCanonical, set_of};
-ghost use Rattle.net_receiver.specs.Scoreboards.{HasNoRoom, IsEnd, IsNextHole, IsSoundBoard, IsTooFar, beyond};
+ghost use Rattle.net_receiver.specs.Scoreboards.{HasNoRoom, IsEnd, IsNextHole, IsReport, IsSoundBoard, beyond};
 ghost use Rattle.net_receiver.specs.Scoreboards.{reported_by};
 ghost use Rattle.net_receiver.specs.NewHeads.{scoreboard_head};
 ghost use Rattle.net_receiver.specs.Losses.{IsLossBound};
@@ -76,8 +76,9 @@ impl ScoreboardHead {
         *self = ScoreboardHead::new_at(first);
     }
 
-    /// Returns whether the scoreboard is sound with these runs, for any numbers in both. It looks at
-    /// each used run.
+    /// Returns whether the scoreboard is sound with these runs, for any numbers in both: `reported`
+    /// and they are those of an assembler, `base` isn't reported, and each end fits 64 bits. It
+    /// looks at each used run.
     pub fn is_sound(&self, runs: &[Run]) -> bool
         ensures { IsTrue result ↔ IsSoundBoard self.now runs.now }
     {
@@ -91,23 +92,25 @@ impl ScoreboardHead {
     }
 
     /// Returns whether a SACK block can be right: it has a position, and none from `sent` on, which
-    /// is the position after the last byte that was ever sent.
-    pub fn is_block(start: u64, end: u64, sent: u64) -> bool
-        ensures { IsTrue result ↔ ((start < end) × (end ≤ sent)) }
+    /// is the position after the last byte that was ever sent; and if it begins beyond `first`, the first
+    /// position that wasn't reported, it ends less than 2^32 above it: TCP's numbers have 32 bits.
+    pub fn is_report(first: u64, start: u64, end: u64, sent: u64) -> bool
+        ensures { IsTrue result ↔ IsReport first sent start end }
     {
-        start < end && end <= sent
+        start < end && end <= sent && (start <= first || end - first <= u64::from(u32::MAX))
     }
 
-    /// Reports the positions from `start` on and below `end`. Blocks may overlap. Those below the base
-    /// are known already.
+    /// Reports the positions from `start` on and below `end`, as a SACK block of an acknowledgement
+    /// does. Blocks may overlap. Positions below `base` are known already.
     ///
-    /// Returns an error, and changes nothing, exactly if the block begins beyond the base, and there
-    /// would be more runs than the slice has elements, or `end` is 2^32 or more above the base. Then the
-    /// block isn't known, and its bytes are sent again.
+    /// Returns `TooManyHolesError`, and changes nothing, if the block begins beyond `base`, and
+    /// there would be more runs than the slice has elements. Then the block isn't known, and its
+    /// bytes are sent again.
     ///
     /// # Requires
     ///
-    /// The scoreboard is sound with the runs, and `start` is at most `end`, as `is_block` tests.
+    /// The scoreboard is sound with the runs, `start` is at most `end`, and the block doesn't end too far
+    /// above the base, as `is_report` tests.
     pub fn report(
         &mut self,
         runs: &mut [Run],
@@ -116,22 +119,18 @@ impl ScoreboardHead {
     ) -> Result<(), TooManyHolesError>
         requires sound { IsSoundBoard self.old runs.old }
         requires block { start ≤ end }
+        requires near { self.old.base < start → end < self.old.base + 2 ^ 32 }
         ensures sound { IsSoundBoard self.new runs.new }
         ensures ok { OnOk result
             (reported_by self.new runs.new ≡ with_range (reported_by self.old runs.old) start (end - start)) }
         ensures unchanged { OnErr result ((self.new ≡ self.old) × (runs.new ≡ runs.old)) }
         ensures refused { IsErr result
-            ↔ (HasNoRoom (length runs.old) (reported_by self.old runs.old) start (end - start)
-            ⊎ IsTooFar (reported_by self.old runs.old) start (end - start)) }
+            ↔ HasNoRoom (length runs.old) (reported_by self.old runs.old) start (end - start) }
         ensures canonical { IsCanonical self.old.reported → IsCanonical self.new.reported }
     {
         if start <= self.base {
             self.acknowledge(runs, end);
             return Ok(());
-        }
-        // Each offset is a `usize`. TCP has no such block, since its numbers have 32 bits.
-        if end - self.base > u32::MAX as u64 {
-            return Err(TooManyHolesError);
         }
         prove!(end - self.base <= most() as u64, "in any `usize`");
         prove!(start - self.base <= most() as u64, "in any `usize`");
@@ -141,7 +140,7 @@ impl ScoreboardHead {
         self.reported.add(runs, offset, size)
     }
 
-    /// Reports all positions below `next`. It is never refused, whatever the number of runs.
+    /// Reports all positions below `next`, whatever the number of runs.
     ///
     /// # Requires
     ///
@@ -174,7 +173,7 @@ impl ScoreboardHead {
         self.base
     }
 
-    /// Returns whether a position was reported.
+    /// Returns whether `pos` was reported.
     ///
     /// # Requires
     ///
@@ -221,7 +220,7 @@ impl ScoreboardHead {
         self.base + highest_offset(&self.reported, runs) as u64
     }
 
-    /// Returns how many positions were reported beyond the first one that wasn't.
+    /// Returns how many positions were reported beyond the first one that wasn't, which is `base`.
     ///
     /// # Requires
     ///
@@ -257,10 +256,11 @@ impl ScoreboardHead {
     }
 
     /// Returns the position below which all that wasn't reported is lost, by the rule of RFC 6675,
-    /// section 4: from it on `duplicates` runs were reported (3 in TCP; 0 counts as 1), or more bytes than
-    /// `duplicates - 1` segments of `segment_size` bytes have. It is 0 if nothing is lost. A run counts as
-    /// above a position if it begins above it; of a position that wasn't reported that is the RFC's rule
-    /// exactly, by law `losses` of `net_receiver`.
+    /// section 4: from it on `duplicates` runs were reported (3 in TCP; 0 counts as 1), or more
+    /// bytes than `duplicates - 1` segments of `segment_size` bytes have. It is the start of a run,
+    /// the last one of which this is so, or 0 if nothing is lost. A run counts as above a position
+    /// if it begins above it; of a position that wasn't reported that is the RFC's rule exactly, by
+    /// law `losses` of `net_receiver`.
     ///
     /// # Requires
     ///
@@ -284,9 +284,10 @@ impl ScoreboardHead {
         limit
     }
 
-    /// Returns the next range that wasn't reported, as a start and an end: it begins at the first position
-    /// from `pos` on that wasn't reported, and ends at the next one that was, or at `limit`. If there
-    /// is none below `limit`, both are `limit`.
+    /// Returns the next range that wasn't reported, as a start and an end: it begins at the first
+    /// position from `pos` on that wasn't reported, and ends at the next one that was, or at
+    /// `limit`. If there is none below `limit`, both are `limit`. Most of it may be in flight:
+    /// `lost_below` gives the limit of what is lost.
     ///
     /// # Requires
     ///

@@ -19,10 +19,7 @@ use std::marker::Model;
 /// Positions are absolute and counted in bytes, as a `Receiver` counts them. The storage's length is
 /// the most bytes that are queued.
 ///
-/// Contracts see the capacity, the first unacknowledged position, which is that of the queue's head,
-/// the queue, and the position at which the storage begins again; `Sends f w` says of a sender that
-/// all bytes that were ever written to it are `w`, the first at position `f`. No call takes memory.
-/// smoltcp's TCP socket has its transmit buffer inside.
+/// No call takes memory. smoltcp's TCP socket has its transmit buffer inside.
 pub struct SenderOver<S: Storage<u8>> {
     // Invariant: the head has the numbers of a ring of the storage, and the position after the queue
     // fits 64 bits.
@@ -30,7 +27,7 @@ pub struct SenderOver<S: Storage<u8>> {
     storage: S,
 }
 
-/// The sender of a stream, over storage that is lent or owned.
+/// The sender of a stream, over storage that is lent or owned. Its calls are those of [`SenderOver`].
 ///
 /// ```
 /// use net_base::sender::Sender;
@@ -44,6 +41,9 @@ pub struct SenderOver<S: Storage<u8>> {
 /// ```
 pub type Sender<'a> = SenderOver<ManagedSlice<'a, u8>>;
 
+/// Contracts see the capacity, the first unacknowledged position, which is that of the queue's
+/// head, the queue, and the position at which the storage begins again. `Sends f w` says of a
+/// sender that all bytes that were ever written to it are `w`, the first at position `f`.
 impl<S: Storage<u8>> Model for SenderOver<S> {
     ghost use Rattle.std.specs.Prelude.{length, []};
     ghost use Rattle.net_receiver.specs.SenderState.{SenderState};
@@ -66,6 +66,7 @@ impl<S: Storage<u8> + Drop> Drop for SenderOver<S> {
 
 impl<S: Storage<u8>> SenderOver<S> {
     /// Returns a sender of a stream that begins at position 0: `over_at` with 0.
+    #[must_use]
     pub const fn over(storage: S) -> Self
         ensures state { let n = length (S.elements storage) in result ≡ sender_state n 0 [] n }
         ensures sends { Sends 0 [] result }
@@ -76,6 +77,7 @@ impl<S: Storage<u8>> SenderOver<S> {
     /// Returns a sender of a stream that begins at position `first`, to which nothing was written.
     ///
     /// Its capacity is the length of `storage` in bytes, of which 0 is allowed.
+    #[must_use]
     pub const fn over_at(storage: S, first: u64) -> Self
         ensures state { let n = length (S.elements storage) in
             result ≡ sender_state n first [] (first + n) }
@@ -109,6 +111,7 @@ impl<S: Storage<u8>> SenderOver<S> {
     }
 
     /// Returns the storage, of which the bytes can be any.
+    #[must_use]
     pub fn into_storage(self) -> S
         ensures { length (S.elements result) ≡ self.capacity }
     {
@@ -135,6 +138,7 @@ impl<S: Storage<u8>> SenderOver<S> {
     /// assert_eq!(sender.write(b"abc"), 3);
     /// assert_eq!(sender.first_unacknowledged(), 100);
     /// ```
+    #[must_use]
     pub fn first_unacknowledged(&self) -> u64
         ensures value { result ≡ self.now.first_unacknowledged }
         ensures fits { end_of self.now < 2 ^ 64 }
@@ -151,6 +155,7 @@ impl<S: Storage<u8>> SenderOver<S> {
     /// assert_eq!(sender.write(b"abc"), 3);
     /// assert_eq!(sender.end(), 103);
     /// ```
+    #[must_use]
     pub fn end(&self) -> u64
         ensures end { result ≡ end_of self.now }
         ensures fits { end_of self.now < 2 ^ 64 }
@@ -168,6 +173,7 @@ impl<S: Storage<u8>> SenderOver<S> {
     /// assert_eq!(sender.write(b"abc"), 3);
     /// assert_eq!(sender.len(), 3);
     /// ```
+    #[must_use]
     pub fn len(&self) -> usize
         ensures { result ≡ length self.now.queue }
     {
@@ -181,6 +187,7 @@ impl<S: Storage<u8>> SenderOver<S> {
     /// # let mut storage = [0u8; 4];
     /// assert!(Sender::new(&mut storage[..]).is_empty());
     /// ```
+    #[must_use]
     pub fn is_empty(&self) -> bool
         ensures { result ≡ (length self.now.queue == 0) }
     {
@@ -194,6 +201,7 @@ impl<S: Storage<u8>> SenderOver<S> {
     /// let mut storage = [0u8; 4];
     /// assert_eq!(Sender::new(&mut storage[..]).capacity(), 4);
     /// ```
+    #[must_use]
     pub fn capacity(&self) -> usize
         ensures { result ≡ self.now.capacity }
     {
@@ -208,6 +216,7 @@ impl<S: Storage<u8>> SenderOver<S> {
     /// # let mut storage = [0u8; 4];
     /// assert_eq!(Sender::new_at(&mut storage[..], u64::MAX - 3).window(), 3);
     /// ```
+    #[must_use]
     pub fn window(&self) -> usize
         ensures { result ≡ room_of self.now }
     {
@@ -245,6 +254,7 @@ impl<S: Storage<u8>> SenderOver<S> {
     /// assert_eq!(sender.write(b"abc"), 3);
     /// assert_eq!((sender.peek_at(101, 9), sender.peek_at(103, 9)), (&b"bc"[..], &b""[..]));
     /// ```
+    #[must_use]
     pub fn peek_at(&self, pos: u64, max: usize) -> &[u8]
         // Guarantee.
         ensures value { result.now
@@ -348,5 +358,13 @@ impl<S: Storage<u8>> SenderOver<S> {
         ensures refused { IsFalse result → self.new ≡ self.old }
     {
         self.head.acknowledge_sent(self.storage.count(), next, sent)
+    }
+
+    /// States what is true of every sender; it does nothing. Callers use `laws::is_sound_sender`.
+    pub(crate) fn is_sound(&self)
+        ensures room { length self.now.queue ≤ self.now.capacity }
+        ensures fits { end_of self.now < 2 ^ 64 }
+    {
+        let _ = &self.head;
     }
 }

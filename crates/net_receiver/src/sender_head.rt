@@ -48,7 +48,8 @@ impl SenderHead {
         }
     }
 
-    /// Returns whether this head is sound for a storage of `capacity` bytes.
+    /// Returns whether this head is sound for a storage of `capacity` bytes: `place` is that of a
+    /// ring of as many, and the position after the queue fits 64 bits.
     pub fn is_sound(&self, capacity: usize) -> bool
         ensures { IsTrue result ↔ IsSoundHead capacity self.now }
     {
@@ -78,7 +79,7 @@ impl SenderHead {
     }
 
     /// Returns how many bytes `write` would take: as many as have room in a storage of `capacity`
-    /// bytes and below the last position.
+    /// bytes and below the last position, 2^64 - 1.
     ///
     /// # Requires
     ///
@@ -93,7 +94,8 @@ impl SenderHead {
         free.min(u64::MAX - self.end()) as usize
     }
 
-    /// Enqueues the first of these bytes, as many as `room` says, and returns how many.
+    /// Enqueues the first of these bytes, as many as `room` says, and returns how many. An empty
+    /// queue is rewound before, also for no bytes.
     ///
     /// # Requires
     ///

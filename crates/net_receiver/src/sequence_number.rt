@@ -8,9 +8,8 @@ use std::ops::Add;
 /// The number by which TCP names a byte of a stream. It has 32 bits, and 0 follows the greatest
 /// one.
 ///
-/// A contract sees a whole number below 2^32. A receiver counts in positions of 64 bits, which do
-/// not wrap; `at` and `position` convert between the two. smoltcp's `SeqNumber` is an `i32` and has
-/// no positions.
+/// A receiver counts in positions of 64 bits, which do not wrap; `at` and `position` convert between the
+/// two. smoltcp's `SeqNumber` is an `i32` and has no positions.
 ///
 /// ```
 /// use net_base::sequence_number::SequenceNumber;
@@ -24,6 +23,7 @@ pub struct SequenceNumber {
     number: u32,
 }
 
+/// Contracts see a whole number below 2^32.
 impl Model for SequenceNumber {
     ghost Value = { ℕ };
 
@@ -40,6 +40,7 @@ impl SequenceNumber {
     /// assert_eq!(SequenceNumber::new(7).get(), 7);
     /// ```
     #[inline]
+    #[must_use]
     pub const fn new(number: u32) -> Self
         ensures { result ≡ number }
     {
@@ -53,6 +54,7 @@ impl SequenceNumber {
     /// assert_eq!(SequenceNumber::new(7).get(), 7);
     /// ```
     #[inline]
+    #[must_use]
     pub const fn get(self) -> u32
         ensures { result ≡ self }
     {
@@ -74,6 +76,7 @@ impl SequenceNumber {
     /// assert_eq!(SequenceNumber::at(initial, 3).get(), 2);
     /// ```
     #[inline]
+    #[must_use]
     pub fn at(initial: SequenceNumber, pos: u64) -> Self
         ensures { result ≡ number_at initial pos }
     {
@@ -102,6 +105,7 @@ impl SequenceNumber {
     /// assert_eq!(SequenceNumber::new(u32::MAX - 1).position(initial, 0), None);
     /// ```
     #[inline]
+    #[must_use]
     pub fn position(self, initial: SequenceNumber, next: u64) -> Option<u64>
         // Guarantee.
         ensures number { IfSome result (λ pos. number_at initial pos ≡ self) }
@@ -126,6 +130,7 @@ impl SequenceNumber {
     /// assert_eq!(SequenceNumber::new(2).ahead_of(SequenceNumber::new(u32::MAX)), 3);
     /// ```
     #[inline]
+    #[must_use]
     pub fn ahead_of(self, other: SequenceNumber) -> u32
         ensures { result ≡ ahead_of other self }
     {
@@ -141,6 +146,7 @@ impl SequenceNumber {
     /// assert!(one.is_before(other) && !other.is_before(one) && !one.is_before(one));
     /// ```
     #[inline]
+    #[must_use]
     pub fn is_before(self, other: SequenceNumber) -> bool
         ensures { IsTrue result ↔ ComesBefore self other }
     {

@@ -15,9 +15,9 @@ use base.Logic.{SProp, ent, sep, ex}
 use base.Stored.{coded_list}
 use base.Fml.{Lft, Incl, GName, Share, flft, fobs, fbor}
 use types.Logic.{Logic, sem}
-use types.Kit.{Goal, Soaks, Item, Seq, ‵, ◌⊛◌, ◌$◌, ◌∵◌, !, qed, move, drop, fsplit, fsplit3, fjoin, updating}
-use types.Kit.{await, later, some, use1, group, pick, now, show, done, split3, rewrite, feq_l, feq_i, split}
-use types.Kit.{join, use2, use3}
+use types.Kit.{Goal, Soaks, Item, Seq, ‵, ◌⊛◌, ◌$◌, ◌∵◌, !, qed, move, drop, fsplit, fsplit3, fjoin, updating, await}
+use types.Kit.{later, some, use1, group, pick, now, show, done, split3, rewrite, feq_l, feq_i, split, join, use2}
+use types.Kit.{use3}
 use types.SemTy.{cells, Arr, Body}
 use types.Follow.{takes_part}
 use types.Mut.{open_ref}
@@ -31,7 +31,7 @@ use denote.FollowSlice.{heres_id, slice_of}
 use denote.Through.{lends_inner_slice, renamed}
 use borrow.Table.Elements.{at, cut_app, join_app}
 use Rattle.std.proofs.slice.Relends.{slice_lent, SliceLent}
-use Rattle.net_ring.specs.Overwrite.{overwrite}
+use Rattle.net_ring.specs.{overwrite}
 use Rattle.net_ring.proofs.Rotations.{length-overwrite, overwrite_at}
 
 abbrev pub words_ty : Ty

@@ -1,26 +1,38 @@
 -- What the clauses of a ring's calls say, from its storage.
-use Rattle.std.proofs.Common.{◌≢◌, get_or, ◌≡◌, ℕ, ◌+◌, ◌-◌, ◌<◌, ◌≤◌, ◌⊎◌, List, [], ◌∷◌, ◌++◌, length, take}
-use Rattle.std.proofs.Common.{drop, min, refl, sym, ap, ap₂, ◌∙◌, subst, inl, inr, arith, length-drop}
-use Rattle.std.proofs.Common.{add-zero, nat_lt, if◌then◌else◌}
+-- Parts of lists by index; the queue in its two contiguous parts, and its last element.
+-- Spans of a storage, as parts of the ring of that storage and of the numbers by which they were found.
+-- One more element of a list is reset.
+use Rattle.std.proofs.Common.{◌≢◌, get_or, ◌≡◌, ℕ, ◌+◌, ◌-◌, ◌<◌, ◌≤◌, ◌⊎◌, List, [], ◌∷◌, ◌++◌, length, take, drop}
+use Rattle.std.proofs.Common.{min, refl, sym, ap, ap₂, ◌∙◌, subst, inl, inr, arith, length-drop, add-zero, nat_lt}
+use Rattle.std.proofs.Common.{if◌then◌else◌, suc, Some, length-take, set}
 use Rattle.std.proofs.lemmas.Bool.Decides.{nat_tests}
 use Rattle.std.proofs.lemmas.Bool.{false≢true, cases_lt}
-use Rattle.std.proofs.lemmas.List.{drop-drop, length-take-le, take-append-drop, take_all, drop_all}
-use Rattle.std.proofs.lemmas.List.{nil_from_length, drop_more, places, same_lists}
+use Rattle.std.proofs.lemmas.List.{drop-drop, length-take-le, take-append-drop, take_all, drop_all, nil_from_length}
+use Rattle.std.proofs.lemmas.List.{drop_more, places, same_lists, drop_at, take_more, take_more_set, drop-set-lt}
 use Rattle.std.specs.Prelude.{Result, IsOk, IsErr, is_ok, slice_get}
-use Rattle.std.proofs.lemmas.Option.{gets}
+use Rattle.std.specs.Borrow.{MutBor}
+use Rattle.std.specs.Fn.{Once, FnOnceReturnsAtMut}
+use denote.MutBor.{at_last}
+use Rattle.std.proofs.lemmas.Option.{gets, slice_get_within}
 use Rattle.std.specs.declared.result.Result.TheVariants.{Ok, Err}
-use Rattle.net_ring.specs.Overwrite.{overwrite}
-use Rattle.net_ring.specs.Ring.{RingState, rotation, ring, capacity, window, queue}
-use Rattle.net_ring.specs.Ring.{index_after, spare, storage_index, write_at, IsWellFormed, with_elements}
-use Rattle.net_ring.specs.Ring.{with_elements_wrapping, with_enqueued, with_dequeued, rewind_if_empty}
-use Rattle.net_ring.specs.Ring.{contiguous_window, contiguous_queued, spare_index, contiguous_unallocated}
-use Rattle.net_ring.specs.Ring.{queue_index, contiguous_allocated, Enqueues, Dequeues, WritesSpare}
-use Rattle.net_ring.specs.Ring.{WritesQueue, EnqueuesFrom, DequeuesFrom}
-use Rattle.net_ring.specs.RingHead.{ring_at, rewound}
+use Rattle.net_ring.specs.{overwrite, RingState, rotation, ring, capacity, window, queue, index_after, spare}
+use Rattle.net_ring.specs.{storage_index, write_at, IsWellFormed, with_elements, with_elements_wrapping}
+use Rattle.net_ring.specs.{with_enqueued, with_dequeued, rewind_if_empty, contiguous_window, contiguous_queued}
+use Rattle.net_ring.specs.{spare_index, contiguous_unallocated, queue_index, contiguous_allocated, Enqueues, Dequeues}
+use Rattle.net_ring.specs.{WritesSpare, WritesQueue, EnqueuesFrom, DequeuesFrom, contiguous_queue, ring_at, rewound}
+use Rattle.net_ring.specs.{IsSound, free_index, queued_index, written_span, elements_at}
 use Rattle.net_ring.specs.declared.head.RingHead.{RingHead}
-use Rattle.net_ring.proofs.Rotations.{IsStorageIndex, length-rotation, length-overwrite, storage_index_is}
-use Rattle.net_ring.proofs.Rotations.{read_at_le, whole, length-queue, length-spare, spare-written}
-use Rattle.net_ring.proofs.Rotations.{queue-written, with_enqueued_parts, with_dequeued_parts, take_sum}
+use Rattle.net_ring.proofs.Rotations.{IsStorageIndex, length-rotation, length-overwrite, storage_index_is, read_at_le}
+use Rattle.net_ring.proofs.Rotations.{whole, length-queue, length-spare, spare-written, queue-written}
+use Rattle.net_ring.proofs.Rotations.{with_enqueued_parts, with_dequeued_parts, take_sum}
+use Rattle.net_ring.specs.declared.head.Span.{Span}
+use Rattle.std.proofs.lemmas.List.Elements.{AllZip-push}
+use Rattle.std.specs.List.{AllZip}
+
+-- what a closure that was lent x at p left there, and gave
+pub returned : {F T R : Type 0} {g : Once F (MutBor T × Unit {0}) (R × (MutBor T × Unit {0}))} {f : F} {x : T} {r : R} (p : MutBor T) (after : T)
+    → p.now ≡ x → g.post f (p, tt) (r, (at_last p after, tt)) → FnOnceReturnsAtMut g f x r after
+returned p after is met = record { shown = p; shows = is; left = at_last p after; leaves = refl; met = met }
 
 module _ {T : Type 0} where
   -- ---- lists
@@ -105,17 +117,17 @@ module _ {T : Type 0} where
         → EnqueuesFrom g k ws (with_elements (with_enqueued k g) (write_at g) ws)
     enqueued_from k ws le room =
         let p = write_at g in
-        let fits : p + length ws ≤ capacity g = omega (arith, room, storage_index_le g.count wf.1) in
-        let w = spare_law 0 p ws (omega (arith, room)) fits write_index_is in
-        let t = with_enqueued_parts (with_elements g p ws) (written_wf p ws) k (omega (arith, room, le, length-overwrite g.storage p ws)) in
-        let f = overwrite_head (spare g) ws k le (omega (arith, room, length-spare g wf)) in
+        let fits : p + length ws ≤ capacity g = omega (arith, storage_index_le g.count wf.1) in
+        let w = spare_law 0 p ws (omega arith) fits write_index_is in
+        let t = with_enqueued_parts (with_elements g p ws) (written_wf p ws) k (omega (arith, length-overwrite g.storage p ws)) in
+        let f = overwrite_head (spare g) ws k le (omega (arith, length-spare g wf)) in
         (t.0 ∙ ap₂ ◌++◌ w.0 (ap (take k) w.1 ∙ f.0), t.1 ∙ ap (drop k) w.1, refl)
 
     pub enqueued_law : (k : ℕ) → k ≤ contiguous_window g → (ws : List T) → length ws ≡ k → Enqueues g ws (with_elements (with_enqueued k g) (write_at g) ws)
     enqueued_law k le ws e =
-        let all = enqueued_from k ws (omega (arith, e)) (omega (arith, e, le)) in
-        let f = overwrite_head (spare g) ws k (omega (arith, e)) (omega (arith, e, le, length-spare g wf)) in (
-          all.0 ∙ ap (λ (l : List T). queue g ++ l) (take_all k ws (omega (arith, e))),
+        let all = enqueued_from k ws (omega arith) (omega arith) in
+        let f = overwrite_head (spare g) ws k (omega arith) (omega (arith, length-spare g wf)) in (
+          all.0 ∙ ap (λ (l : List T). queue g ++ l) (take_all k ws (omega arith)),
           all.1
               ∙ ap (λ (n : ℕ). drop n (overwrite (spare g) 0 ws)) (sym e) ∙ f.1,
           refl,
@@ -124,7 +136,7 @@ module _ {T : Type 0} where
     pub with_enqueued_law : (k : ℕ) → k ≤ window g → Enqueues g (take k (spare g)) (with_enqueued k g)
     with_enqueued_law k le =
         let t = with_enqueued_parts g wf k le in
-        let long : length (take k (spare g)) ≡ k = length-take-le k (spare g) (omega (arith, le, length-spare g wf)) in
+        let long : length (take k (spare g)) ≡ k = length-take-le k (spare g) (omega (arith, length-spare g wf)) in
         (t.0, t.1 ∙ ap (λ (n : ℕ). drop n (spare g)) (sym long), refl)
 
     -- ---- elements that are dequeued
@@ -136,19 +148,19 @@ module _ {T : Type 0} where
         let same : with_dequeued k w ≡ with_elements (with_dequeued k g) g.read_at ws =
         ap (λ n. ring (overwrite g.storage g.read_at ws) (if nat_lt k (n - g.read_at) then g.read_at + k else k - (n - g.read_at))
         (g.count - k)) (length-overwrite g.storage g.read_at ws) in
-        let q = queue_law 0 g.read_at ws (omega (arith, room)) (omega (arith, room, read_at_le g wf)) read_index_is in
-        let f = overwrite_head (queue g) ws k le (omega (arith, room, length-queue g wf)) in
-        let t = with_dequeued_parts w wwf k (omega (arith, room, le)) in
+        let q = queue_law 0 g.read_at ws (omega arith) (omega (arith, read_at_le g wf)) read_index_is in
+        let f = overwrite_head (queue g) ws k le (omega (arith, length-queue g wf)) in
+        let t = with_dequeued_parts w wwf k (omega arith) in
         let whole : DequeuesFrom g k ws (with_dequeued k w) = (t.0 ∙ ap (drop k) q.0, t.1 ∙ ap₂ ◌++◌ q.1 (ap (take k) q.0 ∙ f.0), ap (λ o. o.read_at) same) in
         subst (DequeuesFrom g k ws) same whole
 
     pub dequeued_law : (k : ℕ) → k ≤ contiguous_queued g → (ws : List T) → length ws ≡ k → Dequeues g k ws (with_elements (with_dequeued k g) g.read_at ws)
     dequeued_law k le ws e =
-        let all = dequeued_from k ws (omega (arith, e)) (omega (arith, e, le)) in
-        let f = overwrite_head (queue g) ws k (omega (arith, e)) (omega (arith, e, le, length-queue g wf)) in (
+        let all = dequeued_from k ws (omega arith) (omega arith) in
+        let f = overwrite_head (queue g) ws k (omega arith) (omega (arith, length-queue g wf)) in (
           all.0 ∙ ap (λ (n : ℕ). drop n (overwrite (queue g) 0 ws)) (sym e) ∙ f.1 ∙ ap (λ (n : ℕ). drop n (queue g)) e,
           all.1
-              ∙ ap (λ (l : List T). spare g ++ l) (take_all k ws (omega (arith, e))),
+              ∙ ap (λ (l : List T). spare g ++ l) (take_all k ws (omega arith)),
           refl,
         )
 
@@ -168,24 +180,24 @@ module _ {T : Type 0} where
     wrapping_twice : (i p : ℕ) (a b : List T) → i + length a + length b ≤ window g → p + length a ≡ capacity g → 0 < length b
         → IsStorageIndex (capacity g) g.read_at (g.count + i) p → WritesSpare g i (a ++ b) (with_elements (with_elements g p a) 0 b)
     wrapping_twice i p a b le full some at =
-        let s = spare_law i p a (omega (arith, le)) (omega (arith, full)) at in
+        let s = spare_law i p a (omega arith) (omega arith) at in
         let w = with_elements g p a in
         let long = length-overwrite g.storage p a in
         let next = wrapped_index i p (length a) (length b) le full some at in
-        let t = spare-written w (written_wf p a) (i + length a) 0 b (omega (arith, long, le)) (omega (arith, long, le, wf.1))
+        let t = spare-written w (written_wf p a) (i + length a) 0 b (omega arith) (omega (arith, wf.1))
         (subst (λ (n : ℕ). IsStorageIndex n g.read_at (g.count + (i + length a)) 0) (sym long) next) in
-        (t.0 ∙ s.0, t.1 ∙ ap (λ (l : List T). overwrite l (i + length a) b) s.1 ∙ overwrite_twice (spare g) a b i (omega (arith, le, length-spare g wf)), refl)
+        (t.0 ∙ s.0, t.1 ∙ ap (λ (l : List T). overwrite l (i + length a) b) s.1 ∙ overwrite_twice (spare g) a b i (omega (arith, length-spare g wf)), refl)
 
     pub wrapping_law : (i p : ℕ) (ws : List T) → i + length ws ≤ window g → p ≤ capacity g
         → IsStorageIndex (capacity g) g.read_at (g.count + i) p → WritesSpare g i ws (with_elements_wrapping g p ws)
     wrapping_law i p ws le within at = elim (cases_lt (length g.storage - p) (length ws)) [
-      | inr once ↦ subst (WritesSpare g i ws) (sym (unwrapped p ws once)) (spare_law i p ws le (omega (arith, once, within)) at)
+      | inr once ↦ subst (WritesSpare g i ws) (sym (unwrapped p ws once)) (spare_law i p ws le (omega arith) at)
       | inl past ↦
           let m : ℕ = length g.storage - p in
-          let n : m ≡ min (length ws) (length g.storage - p) = omega (arith, past) in
-          let la : length (take m ws) ≡ m = length-take-le m ws (omega (arith, past)) in
+          let n : m ≡ min (length ws) (length g.storage - p) = omega arith in
+          let la : length (take m ws) ≡ m = length-take-le m ws (omega arith) in
           let lb : length (drop m ws) ≡ length ws - m = length-drop m ws in
-          let two = wrapping_twice i p (take m ws) (drop m ws) (omega (arith, le, la, lb, past)) (omega (arith, la, within)) (omega (arith, lb, past)) at in
+          let two = wrapping_twice i p (take m ws) (drop m ws) (omega arith) (omega arith) (omega arith) at in
           let same : with_elements (with_elements g p (take m ws)) 0 (drop m ws) ≡ with_elements_wrapping g p ws =
           ap (λ b. ring b g.read_at g.count) (wrapping_is g.storage ws p m within n) in
           subst (WritesSpare g i ws) same
@@ -195,12 +207,12 @@ module _ {T : Type 0} where
     -- ---- an index that is found within the window, or within the queue
     pub spare_at : (i : ℕ) → i ≤ window g → IsStorageIndex (capacity g) g.read_at (g.count + i) (spare_index g i)
     spare_at i le =
-        let same : g.count + min i (window g) ≡ g.count + i = omega (arith, le) in
+        let same : g.count + min i (window g) ≡ g.count + i = omega arith in
         subst (λ (j : ℕ). IsStorageIndex (capacity g) g.read_at j (spare_index g i)) same (storage_index_is g (g.count + min i (window g)))
 
     pub queue_at : (i : ℕ) → i ≤ g.count → IsStorageIndex (capacity g) g.read_at i (queue_index g i)
     queue_at i le =
-        let same : min i g.count ≡ i = omega (arith, le) in
+        let same : min i g.count ≡ i = omega arith in
         subst (λ (j : ℕ). IsStorageIndex (capacity g) g.read_at j (queue_index g i)) same (storage_index_is g (min i g.count))
 
     spare_index_le : (i : ℕ) → spare_index g i ≤ capacity g
@@ -212,16 +224,16 @@ module _ {T : Type 0} where
     pub spare_part_value : (i n : ℕ)
         → take (contiguous_unallocated g i n) (drop (spare_index g i) g.storage) ≡ take (contiguous_unallocated g i n) (drop i (spare g))
     spare_part_value i n = elim (cases_lt (window g) i) [
-      | inr h ↦ spare_value i (contiguous_unallocated g i n) (spare_index g i) (omega (arith, h)) (omega (arith, spare_index_le i)) (spare_at i h)
-      | inl h ↦ let none : contiguous_unallocated g i n ≡ 0 = omega (arith, h) in ap (λ (k : ℕ). take k (drop (spare_index g i) g.storage))
+      | inr h ↦ spare_value i (contiguous_unallocated g i n) (spare_index g i) (omega arith) (omega (arith, spare_index_le i)) (spare_at i h)
+      | inl h ↦ let none : contiguous_unallocated g i n ≡ 0 = omega arith in ap (λ (k : ℕ). take k (drop (spare_index g i) g.storage))
           none ∙ sym (ap (λ (k : ℕ). take k (drop i (spare g))) none)
     ]
 
     pub queue_part_value : (i n : ℕ)
         → take (contiguous_allocated g i n) (drop (queue_index g i) g.storage) ≡ take (contiguous_allocated g i n) (drop i (queue g))
     queue_part_value i n = elim (cases_lt g.count i) [
-      | inr h ↦ queue_value i (contiguous_allocated g i n) (queue_index g i) (omega (arith, h)) (omega (arith, queue_index_le i)) (queue_at i h)
-      | inl h ↦ let none : contiguous_allocated g i n ≡ 0 = omega (arith, h) in ap (λ (k : ℕ). take k (drop (queue_index g i) g.storage))
+      | inr h ↦ queue_value i (contiguous_allocated g i n) (queue_index g i) (omega arith) (omega (arith, queue_index_le i)) (queue_at i h)
+      | inl h ↦ let none : contiguous_allocated g i n ≡ 0 = omega arith in ap (λ (k : ℕ). take k (drop (queue_index g i) g.storage))
           none ∙ sym (ap (λ (k : ℕ). take k (drop i (queue g))) none)
     ]
 
@@ -232,7 +244,7 @@ module _ {T : Type 0} where
 
     pub read_parts : (i n p k : ℕ) → n ≤ g.count - i → p ≡ queue_index g i → k ≡ min n (capacity g - p)
         → take k (drop p g.storage) ++ take (n - k) g.storage ≡ take n (drop i (queue g))
-    read_parts i n p k le ep = read_around i n p k le (omega (arith, ep, queue_index_le i))
+    read_parts i n p k le ep = read_around i n p k le (omega (arith, queue_index_le i))
         (subst (IsStorageIndex (capacity g) g.read_at (min i g.count)) (sym ep) (storage_index_is g (min i g.count)))
 
     nothing_spare : (i p : ℕ) → WritesSpare g i [] (with_elements g p [])
@@ -247,53 +259,53 @@ module _ {T : Type 0} where
 
     pub queue_part_law : (i n : ℕ) (ws : List T) → length ws ≡ contiguous_allocated g i n → WritesQueue g i ws (with_elements g (queue_index g i) ws)
     queue_part_law i n ws e = elim (cases_lt g.count i) [
-      | inr h ↦ queue_law i (queue_index g i) ws (omega (arith, h, e)) (omega (arith, e, queue_index_le i)) (queue_at i h)
-      | inl h ↦ let none : ws ≡ [] = nil_from_length ws (omega (arith, e, h)) in subst
+      | inr h ↦ queue_law i (queue_index g i) ws (omega arith) (omega (arith, queue_index_le i)) (queue_at i h)
+      | inl h ↦ let none : ws ≡ [] = nil_from_length ws (omega arith) in subst
           (λ (l : List T). WritesQueue g i l (with_elements g (queue_index g i) l)) (sym none) (nothing_in_queue i (queue_index g i))
     ]
 
     -- the clause of `write_unallocated`
     pub wrapping_at : (i : ℕ) (ws : List T) → length ws ≤ window g - i → WritesSpare g i ws (with_elements_wrapping g (spare_index g i) ws)
     wrapping_at i ws le = elim (cases_lt (window g) i) [
-      | inr h ↦ wrapping_law i (spare_index g i) ws (omega (arith, h, le)) (spare_index_le i) (spare_at i h)
+      | inr h ↦ wrapping_law i (spare_index g i) ws (omega arith) (spare_index_le i) (spare_at i h)
       | inl h ↦
           let p = spare_index g i in
-          subst (λ (l : List T). WritesSpare g i l (with_elements_wrapping g p l)) (sym (nil_from_length ws (omega (arith, le, h))))
+          subst (λ (l : List T). WritesSpare g i l (with_elements_wrapping g p l)) (sym (nil_from_length ws (omega arith)))
           (subst (WritesSpare g i []) (sym (unwrapped p [] (omega arith))) (nothing_spare i p))
     ]
 
     pub spare_part_law : (i n : ℕ) (ws : List T) → length ws ≡ contiguous_unallocated g i n → WritesSpare g i ws (with_elements g (spare_index g i) ws)
-    spare_part_law i n ws e = subst (WritesSpare g i ws) (unwrapped (spare_index g i) ws (omega (arith, e))) (wrapping_at i ws (omega (arith, e)))
+    spare_part_law i n ws e = subst (WritesSpare g i ws) (unwrapped (spare_index g i) ws (omega arith)) (wrapping_at i ws (omega arith))
 
     -- ---- one element
     pub read_fits : g.count ≢ 0 → g.read_at < capacity g
-    read_fits h = elim wf.0 [ inl e ↦ omega (arith, e, wf.1, h) | inr l ↦ omega (arith, l) ]
+    read_fits h = elim wf.0 [ inl e ↦ omega (arith, wf.1) | inr l ↦ omega arith ]
 
     pub write_fits : window g ≢ 0 → write_at g < capacity g
-    write_fits h = elim (storage_index_is g g.count) [ inl p ↦ omega (arith, p.0, p.1, wf.1, h) | inr p ↦ omega (arith, p.0, p.1, wf.1, h, read_at_le g wf) ]
+    write_fits h = elim (storage_index_is g g.count) [ inl p ↦ omega (arith, p.0, p.1, wf.1) | inr p ↦ omega (arith, p.0, p.1, wf.1, read_at_le g wf) ]
 
     pub queue_head : (x : T) → x ≡ get_or g.storage g.read_at x → g.count ≢ 0 → queue g ≡ x ∷ drop 1 (queue g)
     queue_head x e h =
         let fits = read_fits h in
-        first_of (queue g) x (sym (take_one g.storage g.read_at x fits e) ∙ queue_value 0 1 g.read_at (omega (arith, h)) (omega (arith, fits)) read_index_is)
+        first_of (queue g) x (sym (take_one g.storage g.read_at x fits e) ∙ queue_value 0 1 g.read_at (omega arith) (omega arith) read_index_is)
 
     pub spare_head : (x : T) → x ≡ get_or g.storage (write_at g) x → window g ≢ 0 → spare g ≡ x ∷ drop 1 (spare g)
     spare_head x e h =
         let fits = write_fits h in
         first_of (spare g) x (sym (take_one g.storage (write_at g) x fits e)
-        ∙ spare_value 0 1 (write_at g) (omega (arith, h)) (omega (arith, fits)) write_index_is)
+        ∙ spare_value 0 1 (write_at g) (omega arith) (omega arith) write_index_is)
 
     pub enqueued_one : (w : T) → window g ≢ 0 → Enqueues g (w ∷ []) (with_elements (with_enqueued 1 g) (write_at g) (w ∷ []))
-    enqueued_one w h = enqueued_law 1 (omega (arith, write_fits h, h)) (w ∷ []) refl
+    enqueued_one w h = enqueued_law 1 (omega (arith, write_fits h)) (w ∷ []) refl
 
     pub dequeued_one : (w : T) → g.count ≢ 0 → Dequeues g 1 (w ∷ []) (with_elements (with_dequeued 1 g) g.read_at (w ∷ []))
-    dequeued_one w h = dequeued_law 1 (omega (arith, read_fits h, h)) (w ∷ []) refl
+    dequeued_one w h = dequeued_law 1 (omega (arith, read_fits h)) (w ∷ []) refl
 
     pub next_written : (w : T) → window g ≢ 0 → WritesSpare g 0 (w ∷ []) (with_elements g (write_at g) (w ∷ []))
-    next_written w h = spare_law 0 (write_at g) (w ∷ []) (omega (arith, h)) (omega (arith, write_fits h)) write_index_is
+    next_written w h = spare_law 0 (write_at g) (w ∷ []) (omega arith) (omega (arith, write_fits h)) write_index_is
 
     pub head_written : (w : T) → g.count ≢ 0 → WritesQueue g 0 (w ∷ []) (with_elements g g.read_at (w ∷ []))
-    head_written w h = queue_law 0 g.read_at (w ∷ []) (omega (arith, h)) (omega (arith, read_fits h)) read_index_is
+    head_written w h = queue_law 0 g.read_at (w ∷ []) (omega arith) (omega (arith, read_fits h)) read_index_is
 
     -- what a closure that was run on the next free element leaves, by its answer
     pub next_either : {A E : Type 0} (w : T) → window g ≢ 0 → (answer : Result A E) (h : RingState T)
@@ -344,7 +356,7 @@ module _ {T : Type 0} where
     off_wf k p m a st ep le few e =
         let long : length st ≡ length v.storage = ap length e ∙ length-overwrite v.storage v.read_at a in
         let size : length v.storage ≡ length g.storage = ap (λ o. length o.storage) is in
-        (storage_index_is_one g well k p (length st) ep le (long ∙ size), omega (arith, few, wf'.1, long))
+        (storage_index_is_one g well k p (length st) ep le (long ∙ size), omega (arith, wf'.1))
 
     -- and one after which elements were enqueued
     pub in_wf : (p n : ℕ) (a st : List T) → n ≤ window g → st ≡ overwrite v.storage p a → IsWellFormed (ring st v.read_at (v.count + n))
@@ -360,7 +372,7 @@ module _ {T : Type 0} where
     pub ahead_clause : (i n : ℕ) (src : List T) (h : RingState T) → n ≡ min (length src) (window g - i)
         → h ≡ with_elements_wrapping g (spare_index g i) (take n src) → WritesSpare g i (take n src) h
     ahead_clause i n src h en e =
-        subst (WritesSpare g i (take n src)) (sym e) (wrapping_at g well i (take n src) (omega (arith, en, length-take-le n src (omega (arith, en)))))
+        subst (WritesSpare g i (take n src)) (sym e) (wrapping_at g well i (take n src) (omega (arith, en, length-take-le n src (omega arith))))
 
     -- ---- elements that are enqueued or dequeued, and none that is written
     pub with_enqueued_is : (k m : ℕ) → k ≡ m → ring v.storage v.read_at (v.count + k) ≡ with_enqueued m g
@@ -394,7 +406,7 @@ module _ {T : Type 0} where
         → now ≡ take m (drop p v.storage)
         → (length now ≡ k) × (now ≡ take (length now) ys) × (now ≡ take (length now) (drop q g.storage))
     shown_as p q m k ys ep em le value now e =
-        let r = shown p m k em (omega (arith, ep, le)) now e in
+        let r = shown p m k em (omega arith) now e in
         let stored : now ≡ take k (drop q g.storage) = r.1 ∙ ap (λ j. take k (drop j g.storage)) ep in
         (r.0, stored ∙ value ∙ ap (λ j. take j ys) (sym r.0), stored ∙ ap (λ j. take j (drop q g.storage)) (sym r.0))
 
@@ -413,13 +425,13 @@ module _ {T : Type 0} where
         → (length now ≡ k) × (now ≡ take (length now) (spare g)) × (now ≡ take (length now) (drop (write_at g) g.storage))
     shown_next p m k ep em le =
         let fits : write_at g + k ≤ capacity g = omega (arith, le, storage_index_le g well g.count (well).1) in
-        shown_as p (write_at g) m k (spare g) ep em fits (spare_value g well 0 k (write_at g) (omega (arith, le)) fits (write_index_is g well))
+        shown_as p (write_at g) m k (spare g) ep em fits (spare_value g well 0 k (write_at g) (omega arith) fits (write_index_is g well))
 
     pub shown_head : (p m k : ℕ) → p ≡ g.read_at → m ≡ k → k ≤ contiguous_queued g → (now : List T) → now ≡ take m (drop p v.storage)
         → (length now ≡ k) × (now ≡ take (length now) (queue g)) × (now ≡ take (length now) (drop g.read_at g.storage))
     shown_head p m k ep em le =
-        let fits : g.read_at + k ≤ capacity g = omega (arith, le, read_at_le g well) in
-        shown_as p g.read_at m k (queue g) ep em fits (queue_value g well 0 k g.read_at (omega (arith, le)) fits (read_index_is g well))
+        let fits : g.read_at + k ≤ capacity g = omega (arith, read_at_le g well) in
+        shown_as p g.read_at m k (queue g) ep em fits (queue_value g well 0 k g.read_at (omega arith) fits (read_index_is g well))
 
     -- the contiguous free elements, and the contiguous ones at the head of the queue
     pub lent_next : (c p n m : ℕ) → c ≡ capacity g → p ≡ index_after c v.read_at v.count
@@ -441,14 +453,14 @@ module _ {T : Type 0} where
         → (ring st v.read_at (v.count + k) ≡ with_elements (with_enqueued n g) (write_at g) w) × EnqueuesFrom g n w (ring st v.read_at (v.count + k))
     left_in_from k n p ek ep st w e long le =
         let exact = left_in k n p ek ep st w e in
-        (exact, subst (EnqueuesFrom g n w) (sym exact) (enqueued_from g well n w (omega (arith, long, le)) (omega (arith, long))))
+        (exact, subst (EnqueuesFrom g n w) (sym exact) (enqueued_from g well n w (omega arith) (omega arith)))
 
     pub left_off_from : (k n p : ℕ) → k ≡ n → p ≡ storage_index g n → (st w : List T) → st ≡ overwrite v.storage v.read_at w
         → length w ≡ contiguous_queued g → n ≤ contiguous_queued g
         → (ring st p (v.count - k) ≡ with_elements (with_dequeued n g) g.read_at w) × DequeuesFrom g n w (ring st p (v.count - k))
     left_off_from k n p ek ep st w e long le =
         let exact = left_off k n p ek (ep ∙ ap (storage_index g) (sym ek)) st w e in
-        (exact, subst (DequeuesFrom g n w) (sym exact) (dequeued_from g well n w (omega (arith, long, le)) (omega (arith, long))))
+        (exact, subst (DequeuesFrom g n w) (sym exact) (dequeued_from g well n w (omega arith) (omega arith)))
 
   -- `enqueue_slice`: a write to the beginning of the spare part of r, which is then enqueued
   pub enqueue_clause : (r g w h : RingState T) (ws : List T) (n : ℕ) → r ≡ g → WritesSpare r 0 ws w → h ≡ with_enqueued n w
@@ -456,9 +468,9 @@ module _ {T : Type 0} where
   enqueue_clause r g w h ws n is s e l le =
       let t = subst (λ (o : RingState T). WritesSpare o 0 ws w) is s in
       let long : length (spare g) ≡ window g = omega (arith, length-drop g.count (rotation g.storage g.read_at), length-rotation g.storage g.read_at) in
-      let f = overwrite_head (spare g) ws n (omega (arith, l)) (omega (arith, l, long, le)) in
+      let f = overwrite_head (spare g) ws n (omega arith) (omega arith) in
       let q : queue (with_enqueued n w) ≡ queue g ++ ws = take_sum w.count n (rotation w.storage w.read_at)
-      ∙ ap₂ ◌++◌ t.0 (ap (take n) t.1 ∙ f.0 ∙ take_all n ws (omega (arith, l))) in
+      ∙ ap₂ ◌++◌ t.0 (ap (take n) t.1 ∙ f.0 ∙ take_all n ws (omega arith)) in
       let p : spare (with_enqueued n w) ≡ drop (length ws) (spare g) = sym (drop-drop n w.count (rotation w.storage w.read_at))
       ∙ ap (drop n) t.1 ∙ ap (λ i. drop i (overwrite (spare g) 0 ws)) (sym l) ∙ f.1 in
       subst (Enqueues g ws) (sym e) (q, p, t.2)
@@ -512,11 +524,11 @@ contiguous_in_queue_some g i n room l m = let below = storage_index_below (lengt
 -- if an element is free, some contiguous ones are
 pub contiguous_free_some : {T : Type 0} (g : RingState T) (i n : ℕ) → i < window g → 0 < n → 0 < contiguous_unallocated g i n
 contiguous_free_some g i n l m = let below =
-    storage_index_below (length g.storage) g.read_at (g.count + min i (window g)) (omega (arith, l)) in omega (arith, l, m, below)
+    storage_index_below (length g.storage) g.read_at (g.count + min i (window g)) (omega arith) in omega arith
 
 -- the same of what comes next, also after an empty ring was moved to the storage's beginning
 pub contiguous_next_some : {T : Type 0} (g : RingState T) → window g ≢ 0 → 0 < contiguous_window g
-contiguous_next_some g l = let below = storage_index_below (length g.storage) g.read_at g.count (omega (arith, l)) in omega (arith, l, below)
+contiguous_next_some g l = let below = storage_index_below (length g.storage) g.read_at g.count (omega arith) in omega arith
 
 pub contiguous_rewound_some : {T : Type 0} (g : RingState T) → window g ≢ 0 → 0 < contiguous_window (rewind_if_empty g)
 contiguous_rewound_some g l =
@@ -524,7 +536,7 @@ contiguous_rewound_some g l =
     contiguous_next_some (rewind_if_empty g) (λ none. l (ap₂ (λ (s : List _) (n : ℕ). length s - n) (sym same.2) (sym same.1) ∙ none))
 
 pub contiguous_head_some : {T : Type 0} (g : RingState T) → IsWellFormed g → g.count ≢ 0 → 0 < contiguous_queued g
-contiguous_head_some g wf l = omega (arith, l, read_fits g wf l)
+contiguous_head_some g wf l = omega (arith, read_fits g wf l)
 
 -- the first of the elements that are shown from an index on, of which some are if there are any
 first_shown : {T : Type 0} (xs now : List T) (i : ℕ) → now ≡ take (length now) (drop i xs) → (i < length xs → 0 < length now) → slice_get now 0 ≡ slice_get xs i
@@ -535,5 +547,128 @@ pub first_in_queue : {T : Type 0} (g : RingState T) → IsWellFormed g → (i n 
     → length now ≡ contiguous_allocated g i n → now ≡ take (length now) (drop i (queue g))
     → (i < g.count → 0 < n → 0 < length now) × (0 < n → slice_get now 0 ≡ slice_get (queue g) i)
 first_in_queue g wf i n now long is =
-    let some : i < g.count → 0 < n → 0 < length now = λ l m. (let h = contiguous_in_queue_some g i n wf.1 l m in omega (arith, h, long)) in
-    (some, λ m. first_shown (queue g) now i is (λ l. some (omega (arith, l, length-queue g wf)) m))
+    let some : i < g.count → 0 < n → 0 < length now = λ l m. (let h = contiguous_in_queue_some g i n wf.1 l m in omega arith) in
+    (some, λ m. first_shown (queue g) now i is (λ l. some (omega (arith, length-queue g wf)) m))
+
+-- ---- parts of lists by index; the queue in its two contiguous parts, and its last element
+module _ {X : Type 0} where
+  -- the elements of a part of a list, which begins at the index i
+  pub each_of : (xs part : List X) (i : ℕ) → part ≡ take (length part) (drop i xs) →
+      (k : ℕ) (d : X) → i ≤ k → k < i + length part → get_or xs k d ≡ get_or part (k - i) d
+  each_of xs part i is k d from below = grind (arith, places)
+
+  -- it ends within the list
+  pub end_of : (xs part : List X) (i : ℕ) → part ≡ take (length part) (drop i xs) →
+      i ≤ length xs → i + length part ≤ length xs
+  end_of xs part i is le = omega (arith, simp (length-take, length-drop) at (ap length is))
+
+  -- the elements of two lists that are one, of the first and of the second
+  pub each_head : (xs a b : List X) → a ++ b ≡ xs → (k : ℕ) (d : X) → k < length a → get_or xs k d ≡ get_or a k d
+  each_head xs a b is k d below = grind (arith, places)
+
+  pub each_behind : (xs a b : List X) → a ++ b ≡ xs →
+      (k : ℕ) (d : X) → length a ≤ k → get_or xs k d ≡ get_or b (k - length a) d
+  each_behind xs a b is k d from = grind (arith, places)
+
+module _ {T : Type 0} where
+  -- what is contiguous at the head of the queue, and what wraps
+  pub record Parts (g : RingState T) (a b : List T) : Type 0 where
+    pub cut : length a ≡ contiguous_queued g
+    pub count : length a + length b ≡ g.count
+    pub some : g.count ≢ 0 → 0 < length a
+    pub first : a ≡ contiguous_queue g
+    pub second : b ≡ drop (length a) (queue g)
+    pub queue : a ++ b ≡ queue g
+    pub stored : (a ≡ take (length a) (drop g.read_at g.storage)) × (b ≡ take (g.count - length a) g.storage)
+
+  module _ (v g : RingState T) (is : v ≡ g) (wf : IsWellFormed v) where
+    -- a is the queue up to the storage's end, and b the rest of it, at the storage's beginning
+    pub two_parts : (k p m n : ℕ) → k ≡ contiguous_queued g → p ≡ g.read_at → m ≡ k → n ≡ g.count - k →
+        (a b : List T) → a ≡ take m (drop p v.storage) → b ≡ take n v.storage → Parts g a b
+    two_parts k p m n ek ep em en a b ea eb =
+        let wg = well v g is wf in
+        let head_is = shown_head v g is wf p m k ep em (omega arith) a ea in
+        let second_is : b ≡ take (g.count - k) g.storage = eb ∙ ap₂ (λ j (o : RingState T). take j o.storage) en is in
+        let from : IsStorageIndex (capacity g) g.read_at (min 0 g.count) g.read_at =
+        subst (λ j. IsStorageIndex (capacity g) g.read_at j g.read_at) (omega arith) (read_index_is g wg) in
+        let whole : a ++ b ≡ queue g = ap₂ ◌++◌ (head_is.2 ∙ ap (λ j. take j (drop g.read_at g.storage)) head_is.0) second_is
+        ∙ read_around g wg 0 g.count g.read_at k (omega arith) (read_at_le g wg) from ek ∙ take_all g.count (queue g) (omega (arith, length-queue g wg)) in
+        let second : b ≡ drop k (queue g) = sym (drop_at a b k head_is.0) ∙ ap (drop k) whole in
+        let first : a ≡ take k (queue g) = head_is.1 ∙ ap (λ (j : ℕ). take j (queue g)) head_is.0 in
+        let long : length b ≡ g.count - k = omega (arith, ap length second, length-drop k (queue g), length-queue g wg) in
+        record {
+          cut = head_is.0 ∙ ek;
+          count = omega (arith, head_is.0);
+          some = λ l. (let h = contiguous_head_some g wg l in omega (arith, head_is.0));
+          first = first ∙ ap (λ (j : ℕ). take j (queue g)) ek;
+          second = second ∙ sym (ap (λ (j : ℕ). drop j (queue g)) head_is.0);
+          queue = whole;
+          stored = (head_is.2, second_is ∙ sym (ap (λ (j : ℕ). take (g.count - j) g.storage) head_is.0));
+        }
+
+-- the element m, after the first m and before those that follow it
+last_off : {X : Type 0} (l : List X) (m : ℕ) (x : X) → m < length l → slice_get (take (suc m) l) m ≡ Some x →
+    (take (suc m) l ≡ take m l ++ x ∷ []) × (drop m l ≡ x ∷ drop (suc m) l)
+last_off l m x fits e = (grind (arith, places, gets, take_more), grind (arith, places, gets, drop_more))
+
+-- the queue without its last element, which is the next free one
+pub off_back : {T : Type 0} (v g : RingState T) → v ≡ g → IsWellFormed g → (x : T) →
+    slice_get (queue g) (length (queue g) - 1) ≡ Some x →
+    (queue g ≡ queue (ring v.storage v.read_at (v.count - 1)) ++ x ∷ [])
+    × (spare (ring v.storage v.read_at (v.count - 1)) ≡ x ∷ spare g)
+off_back v g is wf x e =
+    let all = rotation g.storage g.read_at in
+    let m : ℕ = g.count - 1 in
+    let within = slice_get_within (queue g) (length (queue g) - 1) x e in
+    let long = length-queue g wf in
+    let one : g.count ≡ suc m = omega arith in
+    let at : length (queue g) - 1 ≡ m = omega arith in
+    let fits : m < length all = omega (arith, length-rotation g.storage g.read_at, wf.1) in
+    let here : slice_get (take (suc m) all) m ≡ Some x = ap₂ (λ n i. slice_get (take n all) i) (sym one) (sym at) ∙ e in
+    let parts = last_off all m x fits here in (
+      ap (λ n. take n all) one ∙ parts.0 ∙ ap (λ o. queue (ring o.storage o.read_at (o.count - 1)) ++ x ∷ []) (sym is),
+      ap (λ o. spare (ring o.storage o.read_at (o.count - 1))) is ∙ parts.1 ∙ ap (λ n. x ∷ drop n all) (sym one),
+    )
+
+-- ---- spans of a storage, as parts of the ring of that storage and of the numbers by which they were found
+module _ {T : Type 0} where
+  -- a write over free elements
+  pub wrapped : (xs ws : List T) (p : RingHead) (i : ℕ) (s : Span) → s.from ≡ free_index (length xs) p i → s.from ≤ length xs
+      → s.contiguous ≡ min (length ws) (length xs - s.from)
+      → ring_at (written_span xs s ws) p ≡ with_elements_wrapping (ring_at xs p) (spare_index (ring_at xs p) i) ws
+  wrapped xs ws p i s at within cut =
+      ap (λ l. ring_at l p) (wrapping_is xs ws s.from s.contiguous within cut)
+      ∙ ap (λ q. with_elements_wrapping (ring_at xs p) q ws) at
+
+  -- elements of the queue
+  pub queued_elements : (xs : List T) (p : RingHead) (i : ℕ) (s : Span) → IsSound (length xs) p → s.from ≡ queued_index (length xs) p i
+      → s.count ≤ p.length - i → s.contiguous ≡ min s.count (length xs - s.from)
+      → elements_at xs s ≡ take s.count (drop i (queue (ring_at xs p)))
+  queued_elements xs p i s sound at few cut = read_parts (ring_at xs p) sound i s.count s.from s.contiguous few at cut
+
+  -- a storage xs of n elements that was lent whole, and came back as ws
+  pub lent_whole : (n : ℕ) (xs lent ws : List T) → n ≡ length xs → lent ≡ take (n - 0) (drop 0 xs) → length ws ≡ length lent
+      → (lent ≡ xs) × (overwrite xs 0 ws ≡ ws)
+  lent_whole n xs lent ws en el ew =
+      let same : lent ≡ xs = el ∙ take_all (n - 0) xs (omega arith) in
+      (same, overwrite_whole xs ws (ew ∙ ap length same))
+
+-- ---- one more element of a list is reset
+module _ {T : Type 0} (R : T → T → Type 0) where
+  pub reset_more : (old xs : List T) (i : ℕ) (d y : T) → i < length xs → d ≡ get_or xs i d → AllZip R (take i old) (take i xs)
+      × (drop i xs ≡ drop i old) → R (get_or xs i d) y
+      → AllZip R (take (i + 1) old) (take (i + 1) (set xs i y)) × (drop (i + 1) (set xs i y) ≡ drop (i + 1) old)
+  reset_more old xs i d y h is before r =
+      let x : T = get_or xs i d in
+      let next : take (i + 1) old ≡ take i old ++ (x ∷ []) = take_sum i 1 old
+      ∙ ap (λ (l : List T). take i old ++ take 1 l) (sym before.1) ∙ ap (λ (l : List T). take i old ++ l) (take_one xs i x h (ap (get_or xs i) is)) in
+      let set_there : take (i + 1) (set xs i y) ≡ take i xs ++ (y ∷ []) = take_more_set xs i y h in
+      let pushed = AllZip-push R (take i old) (take i xs) x y before.0 r in
+      let rest : drop (i + 1) (set xs i y) ≡ drop (i + 1) xs = drop-set-lt (i + 1) xs i y (omega arith) in (
+        subst (λ (l : List T). AllZip R l (take (i + 1) (set xs i y))) (sym next) (subst (AllZip R (take i old ++ (x ∷ []))) (sym set_there) pushed),
+        rest ∙ sym (drop-drop 1 i xs) ∙ ap (drop 1) before.1 ∙ drop-drop 1 i old,
+      )
+
+  pub all_reset : (old xs : List T) (i : ℕ) → length old ≤ i → length xs ≡ length old → AllZip R (take i old) (take i xs) → AllZip R old xs
+  all_reset old xs i le long h =
+      subst (λ (l : List T). AllZip R l xs) (take_all i old le) (subst (AllZip R (take i old)) (take_all i xs (omega (arith, long, le))) h)

@@ -1,20 +1,16 @@
 -- Elements leave a ring in the order in which they came, over any calls.
-use Rattle.std.proofs.Common.{◌≡◌, ℕ, ◌+◌, ◌-◌, ◌≤◌, List, [], ◌∷◌, ◌++◌, length, take, drop, refl, sym, ap}
-use Rattle.std.proofs.Common.{ap₂, ◌∙◌, subst, inl, inr, arith, append_assoc, length-append, length-drop}
+use Rattle.std.proofs.Common.{◌≡◌, ℕ, ◌+◌, ◌-◌, ◌≤◌, List, [], ◌∷◌, ◌++◌, length, take, drop, refl, sym, ap, ap₂, ◌∙◌}
+use Rattle.std.proofs.Common.{subst, inl, inr, arith, append_assoc, length-append, length-drop}
 use Rattle.std.proofs.lemmas.List.{take_at, append-nil, nil_from_length, take-take, take_all, places, same_lists}
 use Rattle.std.proofs.lemmas.Bool.{cases_lt}
-use Rattle.net_ring.specs.Overwrite.{overwrite}
+use Rattle.net_ring.specs.{overwrite, RingState, IsWellFormed, ring, capacity, window, queue, write_at, storage_index}
+use Rattle.net_ring.specs.{contiguous_window, contiguous_queued, contiguous_queue, spare_index, queue_index}
+use Rattle.net_ring.specs.{with_elements, with_elements_wrapping, with_enqueued, rewind_if_empty, RingCall, Clear}
+use Rattle.net_ring.specs.{Reset, RewindIfEmpty, PopBack, EnqueueSlice, EnqueueUnallocated, EnqueueMany}
+use Rattle.net_ring.specs.{EnqueueManyWith, EnqueueOne, EnqueueErr, GetUnallocated, WriteUnallocated, Dequeue}
+use Rattle.net_ring.specs.{DequeueMany, DequeueManyWith, DequeueOne, DequeueErr, GetAllocatedMut, Makes, MakesAll}
+use Rattle.net_ring.specs.{log_written, log_without_last, log_after, log_after_all, history}
 use Rattle.net_ring.specs.Log.{Log, empty_log, log_accepted, log_left, log_dropped}
-use Rattle.net_ring.specs.Ring.{RingState, IsWellFormed, ring, capacity, window, queue, write_at}
-use Rattle.net_ring.specs.Ring.{storage_index, contiguous_window, contiguous_queued, contiguous_queue}
-use Rattle.net_ring.specs.Ring.{spare_index, queue_index, with_elements}
-use Rattle.net_ring.specs.Ring.{with_elements_wrapping, with_enqueued, rewind_if_empty}
-use Rattle.net_ring.specs.RingHistory.{RingCall, Clear, Reset, RewindIfEmpty, PopBack}
-use Rattle.net_ring.specs.RingHistory.{EnqueueSlice, EnqueueUnallocated, EnqueueMany, EnqueueManyWith}
-use Rattle.net_ring.specs.RingHistory.{EnqueueOne, EnqueueErr, GetUnallocated, WriteUnallocated, Dequeue}
-use Rattle.net_ring.specs.RingHistory.{DequeueMany, DequeueManyWith, DequeueOne, DequeueErr, GetAllocatedMut}
-use Rattle.net_ring.specs.RingHistory.{Makes, MakesAll, log_written, log_without_last, log_after}
-use Rattle.net_ring.specs.RingHistory.{log_after_all, history}
 use Rattle.net_ring.proofs.Rotations.{length-overwrite, overwrite-append_right, length-queue}
 use Rattle.net_ring.proofs.RingFacts as facts
 
@@ -51,12 +47,12 @@ module _ {T : Type 0} where
 
   -- a ring with k elements more, or less
   in_ok : (g : RingState T) (k : ℕ) → IsWellFormed g → k ≤ window g → IsWellFormed (with_enqueued k g)
-  in_ok g k ok le = (ok.0, omega (arith, ok.1, le))
+  in_ok g k ok le = (ok.0, omega (arith, ok.1))
 
   off_ok : (g : RingState T) (k : ℕ) (storage ws : List T) → IsWellFormed g → k ≤ g.count → storage ≡ overwrite g.storage g.read_at ws →
       IsWellFormed (ring storage (storage_index g k) (g.count - k))
   off_ok g k storage ws ok le is =
-      facts.off_wf g g refl ok k (storage_index g k) (g.count - k) ws storage refl (omega (arith, ok.1, le)) (omega arith) is
+      facts.off_wf g g refl ok k (storage_index g k) (g.count - k) ws storage refl (omega (arith, ok.1)) (omega arith) is
 
   wrapping_ok : (g : RingState T) (p : ℕ) (ws : List T) → IsWellFormed g → IsWellFormed (with_elements_wrapping g p ws)
   wrapping_ok g p ws ok =
@@ -80,7 +76,7 @@ module _ {T : Type 0} where
   in_wrapping g xs ok le =
       let o = with_elements_wrapping g (write_at g) xs in
       let within = facts.storage_index_le g ok g.count ok.1 in
-      let wrote = facts.wrapping_law g ok 0 (write_at g) xs (omega (arith, le)) within (facts.write_index_is g ok) in (
+      let wrote = facts.wrapping_law g ok 0 (write_at g) xs (omega arith) within (facts.write_index_is g ok) in (
         in_ok o (length xs) (wrapping_ok g (write_at g) xs ok) (omega (arith, le, wrapping_size g (write_at g) xs)),
         (facts.enqueue_clause g g o (with_enqueued (length xs) o) xs (length xs) refl wrote refl refl le).0,
       )
@@ -90,7 +86,7 @@ module _ {T : Type 0} where
       IsWellFormed (with_elements (with_enqueued k g) (write_at g) ws)
       × (queue (with_elements (with_enqueued k g) (write_at g) ws) ≡ queue g ++ take k ws)
   in_written g k ws ok le fits = (
-    facts.written_wf (with_enqueued k g) (in_ok g k ok (omega (arith, le, fits))) (write_at g) ws,
+    facts.written_wf (with_enqueued k g) (in_ok g k ok (omega arith)) (write_at g) ws,
     (facts.enqueued_from g ok k ws le fits).0,
   )
 
@@ -133,8 +129,8 @@ module _ {T : Type 0} where
         contiguous_queued g ≤ length (queue g) → queue o ≡ drop n (overwrite (queue g) 0 ws) →
         InTurn (log_written 0 (drop n ws) (log_left (take n xs) log)) h
     less_and_over_after n xs ws shown long le fits q =
-        let rest : queue o ≡ overwrite (drop n (queue g)) 0 (drop n ws) = q ∙ drop-overwrite (queue g) ws n le (omega (arith, long, fits)) in
-        let head_is : take n xs ≡ take n (queue g) = ap (take n) shown ∙ take-take n (contiguous_queued g) (queue g) (omega (arith, long, le)) in
+        let rest : queue o ≡ overwrite (drop n (queue g)) 0 (drop n ws) = q ∙ drop-overwrite (queue g) ws n le (omega arith) in
+        let head_is : take n xs ≡ take n (queue g) = ap (take n) shown ∙ take-take n (contiguous_queued g) (queue g) (omega arith) in
         let half = off log.left (queue g) log.accepted (drop n (queue g)) (take n xs) n before.turn head_is refl in
         let room : 0 + length (drop n ws) ≤ length (drop n (queue g)) = omega (arith, length-drop n ws, length-drop n (queue g), long, fits) in
         let turn = over (log.left ++ take n xs) (drop n (queue g)) log.accepted (queue o) (drop n ws) 0 half room rest in
@@ -202,8 +198,8 @@ module _ {T : Type 0} where
       let ok = facts.written_wf g before.ok (queue_index g i) ws in
       let law = facts.queue_part_law g before.ok i (length ws) ws does.0 in
       elim (cases_lt g.count i) [
-        | inl past ↦ nothing_after log g _ h before does.1 ok i ws (nil_from_length ws (omega (arith, does.0, past))) law.0
-        | inr within ↦ over_after log g _ h before does.1 ok i ws (omega (arith, does.0, within, length-queue g before.ok)) law.0
+        | inl past ↦ nothing_after log g _ h before does.1 ok i ws (nil_from_length ws (omega (arith, does.0))) law.0
+        | inr within ↦ over_after log g _ h before does.1 ok i ws (omega (arith, does.0, length-queue g before.ok)) law.0
       ]
 
   steps : (calls : List (RingCall T)) (log : Log T) (g h : RingState T) → InTurn log g → MakesAll calls g h → InTurn (log_after_all calls log) h

@@ -1,12 +1,15 @@
 -- What a rotated list holds after a write to the list, and how the queue and the spare part of a ring change.
-use Rattle.std.proofs.Common.{◌≡◌, ℕ, ◌+◌, ◌-◌, ◌<◌, ◌≤◌, ◌⊎◌, List, ◌++◌, length, take, drop, sym, ap, ap₂}
-use Rattle.std.proofs.Common.{◌∙◌, inl, inr, arith, append_assoc, length-append, length-take, length-drop}
-use Rattle.std.proofs.lemmas.List.{take-append-drop, length-take-le, take_at, drop_at, take-append-le}
-use Rattle.std.proofs.lemmas.List.{drop-append-le, take-take, drop-take, drop-drop, places, same_lists}
+-- Elements of a list that was written over.
+use Rattle.std.proofs.Common.{◌≡◌, ℕ, ◌+◌, ◌-◌, ◌<◌, ◌≤◌, ◌⊎◌, List, ◌++◌, length, take, drop, sym, ap, ap₂, ◌∙◌, inl}
+use Rattle.std.proofs.Common.{inr, arith, append_assoc, length-append, length-take, length-drop, ◌≢◌, Some}
+use Rattle.std.proofs.lemmas.List.{take-append-drop, length-take-le, take_at, drop_at, take-append-le, drop-append-le}
+use Rattle.std.proofs.lemmas.List.{take-take, drop-take, drop-drop, places, same_lists}
 use Rattle.std.proofs.lemmas.Bool.Decides.{nat_tests}
-use Rattle.net_ring.specs.Overwrite.{overwrite}
-use Rattle.net_ring.specs.Ring.{RingState, rotation, capacity, window, queue, spare, storage_index}
-use Rattle.net_ring.specs.Ring.{IsWellFormed, with_elements, with_enqueued, with_dequeued}
+use Rattle.net_ring.specs.{overwrite, OverwritesAt, RingState, rotation, capacity, window, queue, spare}
+use Rattle.net_ring.specs.{storage_index, IsWellFormed, with_elements, with_enqueued, with_dequeued}
+use Rattle.std.specs.Prelude.{slice_get, slice_set}
+use Rattle.std.proofs.lemmas.Grind.{common_steps}
+use Rattle.std.proofs.lemmas.Option.{gets}
 
 -- p is the index, in a list of c elements, of the element j of the list rotated by r
 abbrev pub IsStorageIndex : ℕ → ℕ → ℕ → ℕ → Type 0
@@ -53,7 +56,7 @@ module _ {T : Type 0} where
   -- ---- the queue and the spare part of a ring
   module _ (g : RingState T) (wf : IsWellFormed g) where
     pub read_at_le : g.read_at ≤ length g.storage
-    read_at_le = elim wf.0 [ inl e ↦ omega (arith, e) | inr h ↦ omega (arith, h) ]
+    read_at_le = elim wf.0 [ inl e ↦ omega arith | inr h ↦ omega arith ]
 
     pub whole : rotation g.storage g.read_at ≡ queue g ++ spare g
     whole = sym (take-append-drop g.count (rotation g.storage g.read_at))
@@ -106,3 +109,18 @@ module _ {T : Type 0} where
           ap (take (g.count - k)) turned ∙ take_at (drop k (queue g)) (spare g ++ take k (queue g)) (g.count - k) long,
           ap (drop (g.count - k)) turned ∙ drop_at (drop k (queue g)) (spare g ++ take k (queue g)) (g.count - k) long,
         )
+
+-- ---- elements of a list that was written over
+module _ {X : Type 0} where
+  pub overwritten_at : (xs ws : List X) (i k : ℕ) (x : X) → OverwritesAt xs i ws k x
+  overwritten_at xs ws i k x h = grind (arith, places, nat_tests)
+
+  pub overwrite-same : (xs : List X) (i n : ℕ) → overwrite xs i (take n (drop i xs)) ≡ xs
+  overwrite-same xs i n = same_lists _ _ (grind (arith, places)) (λ m d h. grind (arith, places))
+
+  -- ---- one element that was set
+  pub get_after_set : (xs : List X) (i : ℕ) (x : X) → i < length xs → slice_get (slice_set xs i x) i ≡ Some x
+  get_after_set xs i x h = grind (arith, common_steps, gets)
+
+  pub get_after_set_elsewhere : (xs : List X) (i k : ℕ) (x : X) → k ≢ i → slice_get (slice_set xs i x) k ≡ slice_get xs k
+  get_after_set_elsewhere xs i k x ne = grind (arith, common_steps, gets)

@@ -9,3 +9,8 @@ pub mod RingCalls
 pub mod Log
 pub mod RingHead
 pub mod RingHistory
+pub use Overwrite.*
+pub use Ring.*
+pub use RingHead.*
+pub use RingCalls.*
+unfoldable pub use RingHistory.*

@@ -1,6 +1,6 @@
 -- Lists that are written over.
-use Rattle.std.specs.Prelude.{◌≡◌, ℕ, ◌+◌, ◌-◌, ◌<◌, ◌&&◌, nat_le, nat_lt, if◌then◌else◌, List}
-use Rattle.std.specs.Prelude.{◌++◌, length, take, drop, slice_index_or}
+use Rattle.std.specs.Prelude.{◌≡◌, ℕ, ◌+◌, ◌-◌, ◌<◌, ◌&&◌, nat_le, nat_lt, if◌then◌else◌, List, ◌++◌, length, take}
+use Rattle.std.specs.Prelude.{drop, slice_index_or}
 
 module _ {X : Type 0} where
   -- xs with ws written over its elements from the index i on. What reaches past the end is cut off

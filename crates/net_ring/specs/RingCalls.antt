@@ -2,14 +2,12 @@
 --     TakesFirstOf f xs, CountsWithin f xs n      what is required of a closure
 --     CalledOnNext f old answer new, CalledOnFirst f old answer new      it was called on one element
 --     CalledOnSpare f old answer new, CalledOnQueue f old answer new      or on contiguous ones
-use Rattle.std.specs.Prelude.{◌≡◌, ◌≤◌, ℕ, List, [], ◌∷◌, length, drop, Result, IsOk, IsErr, is_ok}
-use Rattle.std.specs.Prelude.{if◌then◌else◌}
+use Rattle.std.specs.Prelude.{◌≡◌, ◌≤◌, ℕ, List, [], ◌∷◌, length, drop, Result, IsOk, IsErr, is_ok, if◌then◌else◌}
 use Rattle.std.specs.Borrow.{MutBor}
 use Rattle.std.specs.Fn.{Once, FnOnceTakesAtMut, FnOnceReturnsAtMut}
-use Rattle.net_ring.specs.Ring.{RingState, queue, spare, write_at, contiguous_window}
-use Rattle.net_ring.specs.Ring.{contiguous_queued, contiguous_spare, contiguous_queue, with_elements}
-use Rattle.net_ring.specs.Ring.{with_enqueued, with_dequeued, Enqueues, Dequeues, WritesSpare}
-use Rattle.net_ring.specs.Ring.{WritesQueue, EnqueuesFrom, DequeuesFrom}
+use Rattle.net_ring.specs.Ring.{RingState, queue, spare, write_at, contiguous_window, contiguous_queued}
+use Rattle.net_ring.specs.Ring.{contiguous_spare, contiguous_queue, with_elements, with_enqueued, with_dequeued}
+use Rattle.net_ring.specs.Ring.{Enqueues, Dequeues, WritesSpare, WritesQueue, EnqueuesFrom, DequeuesFrom}
 
 -- ---- the closure is lent one element
 module _ {F T R E : Type 0}

@@ -6,8 +6,7 @@
 --     rewound p, enqueued_place k p, dequeued_place c k p      the numbers after calls
 --     IsWithin c s      the elements of a span are in the storage
 --     written_span xs s ws, elements_at xs s      a storage that is written over at a span, and what is there
-use Rattle.std.specs.Prelude.{ℕ, ◌+◌, ◌-◌, ◌<◌, ◌≤◌, ◌≡◌, ◌⊎◌, min, nat_eq, if◌then◌else◌, List}
-use Rattle.std.specs.Prelude.{◌++◌, take, drop}
+use Rattle.std.specs.Prelude.{ℕ, ◌+◌, ◌-◌, ◌<◌, ◌≤◌, ◌≡◌, ◌⊎◌, min, nat_eq, if◌then◌else◌, List, ◌++◌, take, drop}
 use Rattle.net_ring.specs.Overwrite.{overwrite}
 use Rattle.net_ring.specs.Ring.{RingState, index_after, ring}
 use Rattle.net_ring.specs.declared.head.RingHead.{RingHead}

@@ -4,10 +4,9 @@
 use Rattle.std.specs.Prelude.{◌≡◌, ◌≢◌, ◌≤◌, ℕ, ◌+◌, ◌-◌, List, [], ◌∷◌, ◌++◌, length, take, drop}
 use Rattle.net_ring.specs.Overwrite.{overwrite}
 use Rattle.net_ring.specs.Log.{Log, empty_log, log_accepted, log_left, log_dropped}
-use Rattle.net_ring.specs.Ring.{RingState, ring, capacity, window, queue, spare, write_at}
-use Rattle.net_ring.specs.Ring.{contiguous_window, contiguous_queued, contiguous_queue}
-use Rattle.net_ring.specs.Ring.{contiguous_unallocated, contiguous_allocated, spare_index}
-use Rattle.net_ring.specs.Ring.{queue_index, with_elements, with_elements_wrapping, with_enqueued}
+use Rattle.net_ring.specs.Ring.{RingState, ring, capacity, window, queue, spare, write_at, contiguous_window}
+use Rattle.net_ring.specs.Ring.{contiguous_queued, contiguous_queue, contiguous_unallocated, contiguous_allocated}
+use Rattle.net_ring.specs.Ring.{spare_index, queue_index, with_elements, with_elements_wrapping, with_enqueued}
 use Rattle.net_ring.specs.Ring.{with_dequeued, with_one_enqueued, with_one_dequeued, rewind_if_empty}
 
 -- ---- calls

@@ -11,13 +11,13 @@ use thiserror::Error;
 /// let mut storage = [0u8; 0];
 /// assert_eq!(RingBuffer::new(&mut storage[..]).enqueue_one(), Err(Full));
 /// ```
-#[derive(Debug, Clone, Copy, PartialEq, Eq, Drop, Error)]
+#[derive(Debug, Clone, Copy, PartialEq, Eq, Hash, Drop, Error)]
 #[error("buffer full")]
 pub struct Full;
 
 /// The error of a call that dequeues: the ring or the packet queue is empty.
 ///
 /// Its text is "buffer empty".
-#[derive(Debug, Clone, Copy, PartialEq, Eq, Drop, Error)]
+#[derive(Debug, Clone, Copy, PartialEq, Eq, Hash, Drop, Error)]
 #[error("buffer empty")]
 pub struct Empty;

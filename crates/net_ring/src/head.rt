@@ -5,11 +5,11 @@
 ghost use Rattle.std.specs.Prelude.{◌≡◌, ◌↔◌, ◌≤◌, ◌-◌, ◌+◌, ◌++◌, ℕ, IsTrue, min, length, take, drop};
 ghost use Rattle.net_ring.specs.Overwrite.{overwrite};
 ghost use Rattle.net_ring.specs.Ring.{index_after, queue, window, with_elements_wrapping, with_enqueued};
-ghost use Rattle.net_ring.specs.Ring.{with_dequeued, rewind_if_empty, write_at, spare_index};
-ghost use Rattle.net_ring.specs.Ring.{WritesSpare, Enqueues, Dequeues};
+ghost use Rattle.net_ring.specs.Ring.{with_dequeued, rewind_if_empty, write_at, spare_index, WritesSpare, Enqueues};
+ghost use Rattle.net_ring.specs.Ring.{Dequeues};
 ghost use Rattle.net_ring.specs.RingHead.{place, IsSound, IsWithin, ring_at, free_index, queued_index};
-ghost use Rattle.net_ring.specs.RingHead.{contiguous_free, rewound, enqueued_place, dequeued_place};
-ghost use Rattle.net_ring.specs.RingHead.{written_span, elements_at};
+ghost use Rattle.net_ring.specs.RingHead.{contiguous_free, rewound, enqueued_place, dequeued_place, written_span};
+ghost use Rattle.net_ring.specs.RingHead.{elements_at};
 
 /// The head of a ring: its numbers without its storage.
 ///
@@ -51,7 +51,8 @@ impl RingHead {
         }
     }
 
-    /// Returns whether the head is that of a ring of `capacity` elements.
+    /// Returns whether the head is that of a ring of `capacity` elements: its read index is an
+    /// index of the storage, or 0, and it has no more elements than the storage.
     #[inline]
     pub fn is_sound(self, capacity: usize) -> bool
         ensures { IsTrue result ↔ IsSound capacity self }
@@ -210,7 +211,7 @@ impl RingHead {
         }
     }
 
-    /// Enqueues `count` elements, as they are.
+    /// Enqueues `count` elements, with what the storage has there.
     ///
     /// # Requires
     ///

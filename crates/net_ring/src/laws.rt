@@ -3,12 +3,9 @@
 //! No function here does anything. A law of `ring_buffer::laws` is about `overwrite xs i ws`
 //! itself; `element_after_overwrite` and `element_set` are about any list that is equal to it, such
 //! as a field after a call.
-ghost use Rattle.std.specs.Prelude.{◌≡◌, ◌+◌, ◌-◌, ◌<◌, ◌≤◌, ◌&&◌, nat_le, nat_lt};
-ghost use Rattle.std.specs.Prelude.{ℕ, List, length, slice_index_or, if◌then◌else◌, IsTrue};
-ghost use Rattle.std.specs.Prelude.{◌≢◌, ◌∷◌, [], slice_get, slice_set, Some};
-ghost use Rattle.net_ring.specs.Overwrite.{overwrite};
-ghost use Rattle.net_ring.specs.Ring.{ring};
-ghost use Rattle.net_ring.specs.RingHead.{place, ring_at, IsSound};
+ghost use Rattle.std.specs.Prelude.{◌≡◌, ◌+◌, ◌-◌, ◌<◌, ◌≤◌, ◌&&◌, nat_le, nat_lt, ℕ, List, length, slice_index_or};
+ghost use Rattle.std.specs.Prelude.{if◌then◌else◌, IsTrue, ◌≢◌, ◌∷◌, [], slice_get, slice_set, Some};
+ghost use Rattle.net_ring.specs.{overwrite, ring, place, ring_at, IsSound};
 
 use crate::error::{Empty, Full};
 use crate::ring_buffer::laws::overwritten;
@@ -34,7 +31,7 @@ pub fn element_after_overwrite<T>()
 
 /// States that overwriting a list with one element sets that element and leaves the others
 /// unchanged.
-#[tactic(auto, using(crate::specs::StorageLaws::element_set_written, crate::proofs::Overwrites::get_after_set))]
+#[tactic(auto, using(crate::specs::StorageLaws::element_set_written, crate::proofs::Rotations::get_after_set))]
 pub fn element_set<T>()
     ensures set { (xs ys : List T) (i : ℕ) (x : T) → ys ≡ overwrite xs i (x ∷ []) →
         ys ≡ slice_set xs i x }

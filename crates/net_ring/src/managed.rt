@@ -1,8 +1,8 @@
 //! Storage that is lent or owned.
-ghost use Rattle.std.specs.Prelude.{◌≡◌, ◌≤◌, ◌<◌, ◌-◌, length, take, drop, ◌∷◌, [], ℕ, List};
-ghost use Rattle.std.specs.Prelude.{slice_set, slice_get, slice_index_or, Some};
+ghost use Rattle.std.specs.Prelude.{◌≡◌, ◌≤◌, ◌<◌, ◌-◌, length, take, drop, ◌∷◌, [], ℕ, List, slice_set, slice_get};
+ghost use Rattle.std.specs.Prelude.{slice_index_or, Some};
 ghost use Rattle.std.specs.Borrow.{sem, Lends, Array};
-ghost use Rattle.net_ring.specs.Overwrite.{overwrite};
+ghost use Rattle.net_ring.specs.{overwrite};
 ghost use Rattle.net_ring.specs.WholeLends.{lends_lent, lends_owned};
 
 use std::ops::IndexMut;

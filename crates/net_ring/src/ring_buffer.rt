@@ -1,25 +1,20 @@
 //! A ring of elements over storage that is lent or owned.
-ghost use Rattle.std.specs.Prelude.{◌≡◌, ◌≢◌, ◌↔◌, ◌≤◌, ◌<◌, ◌==◌, ◌-◌, ◌+◌, ◌^◌, ◌∷◌, ◌++◌, []};
-ghost use Rattle.std.specs.Prelude.{ℕ, List, length, take, drop, min, slice_get, slice_index_or};
-ghost use Rattle.std.specs.Prelude.{IsTrue, IsErr, IsNone, IsSome, OnErr, OnOk, IfOk, IfSome, is_ok};
-ghost use Rattle.std.specs.Prelude.{if◌then◌else◌, option_copied};
+ghost use Rattle.std.specs.Prelude.{◌≡◌, ◌≢◌, ◌↔◌, ◌≤◌, ◌<◌, ◌==◌, ◌-◌, ◌+◌, ◌^◌, ◌∷◌, ◌++◌, [], ℕ, List, length};
+ghost use Rattle.std.specs.Prelude.{take, drop, min, slice_get, slice_index_or, IsTrue, IsErr, IsNone, IsSome, OnErr};
+ghost use Rattle.std.specs.Prelude.{OnOk, IfOk, IfSome, is_ok, if◌then◌else◌, option_copied};
 ghost use Rattle.std.specs.Borrow.{sem};
 ghost use Rattle.std.specs.Fn.{FnOnceTakesAtMut, FnOnceReturnsAtMut};
 ghost use Rattle.std.specs.List.{AllZip};
-ghost use Rattle.net_ring.specs.Ring.{ring, capacity, window, queue, spare, write_at, IsWellFormed};
-ghost use Rattle.net_ring.specs.Ring.{contiguous_window, contiguous_spare, contiguous_unallocated, spare_index};
-ghost use Rattle.net_ring.specs.Ring.{contiguous_queued, contiguous_queue, contiguous_allocated, queue_index};
-ghost use Rattle.net_ring.specs.Ring.{with_elements, with_elements_wrapping, with_enqueued, with_dequeued};
-ghost use Rattle.net_ring.specs.Ring.{with_one_enqueued, with_one_dequeued, rewind_if_empty};
-ghost use Rattle.net_ring.specs.Ring.{Enqueues, Dequeues, WritesSpare, WritesQueue};
-ghost use Rattle.net_ring.specs.RingCalls.{TakesFirstOf, CalledOnNext, CalledOnFirst};
-ghost use Rattle.net_ring.specs.RingCalls.{CountsWithin, CalledOnSpare, CalledOnQueue};
-ghost use Rattle.net_ring.specs.RingHead.{place, IsSound, ring_at};
-ghost use Rattle.net_ring.specs.RingHistory.{Makes, Clear, Reset, RewindIfEmpty, EnqueueOne, EnqueueErr};
-ghost use Rattle.net_ring.specs.RingHistory.{DequeueOne, DequeueErr, PopBack, EnqueueMany, EnqueueManyWith};
-ghost use Rattle.net_ring.specs.RingHistory.{DequeueMany, DequeueManyWith, EnqueueSlice, Dequeue};
-ghost use Rattle.net_ring.specs.RingHistory.{GetUnallocated, WriteUnallocated, EnqueueUnallocated};
-ghost use Rattle.net_ring.specs.RingHistory.{GetAllocatedMut};
+ghost use Rattle.net_ring.specs.{ring, capacity, window, queue, spare, write_at, IsWellFormed, contiguous_window};
+ghost use Rattle.net_ring.specs.{contiguous_spare, contiguous_unallocated, spare_index, contiguous_queued};
+ghost use Rattle.net_ring.specs.{contiguous_queue, contiguous_allocated, queue_index, with_elements};
+ghost use Rattle.net_ring.specs.{with_elements_wrapping, with_enqueued, with_dequeued, with_one_enqueued};
+ghost use Rattle.net_ring.specs.{with_one_dequeued, rewind_if_empty, Enqueues, Dequeues, WritesSpare, WritesQueue};
+ghost use Rattle.net_ring.specs.{TakesFirstOf, CalledOnNext, CalledOnFirst, CountsWithin, CalledOnSpare};
+ghost use Rattle.net_ring.specs.{CalledOnQueue, place, IsSound, ring_at, Makes, Clear, Reset, RewindIfEmpty};
+ghost use Rattle.net_ring.specs.{EnqueueOne, EnqueueErr, DequeueOne, DequeueErr, PopBack, EnqueueMany};
+ghost use Rattle.net_ring.specs.{EnqueueManyWith, DequeueMany, DequeueManyWith, EnqueueSlice, Dequeue};
+ghost use Rattle.net_ring.specs.{GetUnallocated, WriteUnallocated, EnqueueUnallocated, GetAllocatedMut};
 
 use crate::error::{Empty, Full};
 use crate::head::RingHead;
@@ -30,12 +25,12 @@ use std::marker::{Model, PhantomData};
 
 mod iter;
 pub mod laws;
+mod managed;
 
 /// A ring of elements over any storage; [`RingBuffer`] is the one over a [`ManagedSlice`].
 ///
-/// Contracts see a ring as its storage, the index where it is read and how many elements are
-/// queued. The queued elements, in order, are its queue; the rest of the storage is its spare part.
-/// Both wrap at the storage's end:
+/// The queued elements, in order, are its queue; the rest of the storage is its spare part. Both wrap
+/// at the storage's end:
 ///
 /// ```text
 /// index      0 1 2 3 4 5 6 7
@@ -52,7 +47,7 @@ pub struct RingOver<T, S: Storage<T>> {
     elements: PhantomData<T>,
 }
 
-/// A ring of elements over storage that is lent or owned.
+/// A ring of elements over storage that is lent or owned. Its calls are those of [`RingOver`].
 ///
 /// It serves as a queue, first in and first out, and as the buffer of a stream, which can be written
 /// ahead of what is queued.
@@ -70,13 +65,14 @@ pub struct RingOver<T, S: Storage<T>> {
 /// ```
 pub type RingBuffer<'a, T> = RingOver<T, ManagedSlice<'a, T>>;
 
+/// Contracts see a ring as its storage, the index where it is read and how many elements are
+/// queued.
 impl<T, S: Storage<T>> Model for RingOver<T, S> {
-    ghost use Rattle.net_ring.specs.Ring.{RingState};
+    ghost use Rattle.net_ring.specs.{RingState};
 
     ghost Value = { RingState T };
 
-    ghost use Rattle.net_ring.specs.Ring.{IsWellFormed};
-    ghost use Rattle.net_ring.specs.RingHead.{ring_at};
+    ghost use Rattle.net_ring.specs.{IsWellFormed, ring_at};
 
     ghost view = { λ a. ring_at (S.elements a.storage) a.head };
 
@@ -92,18 +88,6 @@ impl<T, S: Storage<T> + Drop> Drop for RingOver<T, S> {
             elements: _,
         } = self;
         drop(storage);
-    }
-}
-
-impl<'a, T> RingBuffer<'a, T> {
-    ghost use Rattle.net_ring.specs.Managed.{elements};
-
-    /// Returns an empty ring over the storage, whose elements stay as they are.
-    pub fn new(storage: ManagedSlice<'a, T>) -> Self
-        ensures ring { result ≡ ring (elements storage.entry) 0 0 }
-        ensures parts { (queue result ≡ []) × (spare result ≡ elements storage.entry) }
-    {
-        RingOver::over(storage)
     }
 }
 
@@ -343,8 +327,8 @@ impl<T, S: Storage<T>> RingOver<T, S> {
 impl<T, S: Storage<T>> RingOver<T, S> {
     ghost use Rattle.net_ring.specs.RingLends.{lends_one, lends_one_if};
 
-    /// Calls `f` on the next free element, enqueues it if `f` returns `Ok`, and returns what `f`
-    /// returned.
+    /// Calls `f` on the next free element, which `f` has to take, enqueues it if `f` returns `Ok`, and
+    /// returns what `f` returned.
     ///
     /// What `f` wrote stays in the storage in both cases.
     ///
@@ -360,10 +344,6 @@ impl<T, S: Storage<T>> RingOver<T, S> {
     /// # Errors
     ///
     /// `Full` if the ring is full. Then it stays as it is, and `f` isn't called.
-    ///
-    /// # Requires
-    ///
-    /// `f` may be called on the next free element, if there is one.
     #[tactic(auto, unfolding(crate::specs::RingHistory::Makes))]
     pub fn enqueue_one_with<R, E, F: FnOnce(&mut T) -> Result<R, E>>(
         &mut self,
@@ -439,8 +419,8 @@ impl<T, S: Storage<T>> RingOver<T, S> {
         self.storage.element_mut(at)
     }
 
-    /// Calls `f` on the first element of the queue, dequeues it if `f` returns `Ok`, and returns
-    /// what `f` returned.
+    /// Calls `f` on the first element of the queue, which `f` has to take, dequeues it if `f` returns
+    /// `Ok`, and returns what `f` returned.
     ///
     /// What `f` wrote stays in the storage in both cases.
     ///
@@ -457,10 +437,6 @@ impl<T, S: Storage<T>> RingOver<T, S> {
     /// # Errors
     ///
     /// `Empty` if the ring is empty. Then it stays as it is, and `f` isn't called.
-    ///
-    /// # Requires
-    ///
-    /// `f` may be called on the first element, if there is one.
     #[tactic(auto, unfolding(crate::specs::RingHistory::Makes))]
     pub fn dequeue_one_with<R, E, F: FnOnce(&mut T) -> Result<R, E>>(
         &mut self,
@@ -618,7 +594,8 @@ impl<T, S: Storage<T>> RingOver<T, S> {
     ///
     /// # Requires
     ///
-    /// `f` may be called on the part that it is lent, and counts at most its length.
+    /// `f` takes the part that it is lent, and counts no more elements than it has.
+    #[track_caller]
     pub fn enqueue_many_with<R, F: FnOnce(&mut [T]) -> (usize, R)>(&mut self, f: F) -> (usize, R)
         requires callable { FnOnceTakesAtMut F.FnOnce f (contiguous_spare (rewind_if_empty self.old)) }
         requires count { CountsWithin F.FnOnce f (contiguous_spare (rewind_if_empty self.old))
@@ -650,6 +627,7 @@ impl<T, S: Storage<T>> RingOver<T, S> {
     /// ring.enqueue_many(3).copy_from_slice(b"abc");
     /// assert_eq!(ring.enqueue_many(3).len(), 1);
     /// ```
+    #[must_use]
     pub fn enqueue_many(&mut self, size: usize) -> &mut [T]
         ensures* writes_back { sem 𝓛 (lends_many T.row S.row S.Storage self.entry
             (with_enqueued (min size (contiguous_window (rewind_if_empty self.old))) (rewind_if_empty self.old))
@@ -689,6 +667,7 @@ impl<T, S: Storage<T>> RingOver<T, S> {
     /// assert_eq!(ring.enqueue_slice(b"abcdef"), 4);
     /// assert_eq!(ring.get_allocated(0, 4), b"abcd");
     /// ```
+    #[must_use]
     pub fn enqueue_slice(&mut self, data: &[T]) -> usize
     where
         T: Copy,
@@ -725,7 +704,8 @@ impl<T, S: Storage<T>> RingOver<T, S> {
     ///
     /// # Requires
     ///
-    /// `f` may be called on the part that it is lent, and counts at most its length.
+    /// `f` takes the part that it is lent, and counts no more elements than it has.
+    #[track_caller]
     pub fn dequeue_many_with<R, F: FnOnce(&mut [T]) -> (usize, R)>(&mut self, f: F) -> (usize, R)
         requires callable { FnOnceTakesAtMut F.FnOnce f (contiguous_queue self.old) }
         requires count { CountsWithin F.FnOnce f (contiguous_queue self.old)
@@ -755,6 +735,7 @@ impl<T, S: Storage<T>> RingOver<T, S> {
     /// assert_eq!(ring.dequeue_many(2), b"ab");
     /// assert_eq!(ring.dequeue_many(2), b"c");
     /// ```
+    #[must_use]
     pub fn dequeue_many(&mut self, size: usize) -> &mut [T]
         ensures* writes_back { sem 𝓛 (lends_many T.row S.row S.Storage self.entry
             (with_dequeued (min size (contiguous_queued self.old)) self.old)
@@ -795,6 +776,7 @@ impl<T, S: Storage<T>> RingOver<T, S> {
     /// assert_eq!((ring.dequeue_slice(&mut into), &into), (3, b"abc--"));
     /// ```
     #[tactic(auto, unfolding(crate::specs::RingHistory::Makes))]
+    #[must_use]
     pub fn dequeue_slice(&mut self, data: &mut [T]) -> usize
     where
         T: Copy,
@@ -845,6 +827,7 @@ impl<T, S: Storage<T>> RingOver<T, S> {
     /// assert_eq!(ring.get_allocated(1, 2), b"bc");
     /// assert_eq!(ring.get_unallocated(2, 1), b"");
     /// ```
+    #[must_use]
     pub fn get_unallocated(&mut self, offset: usize, size: usize) -> &mut [T]
         ensures* writes_back { sem 𝓛 (lends_many T.row S.row S.Storage self.entry
             self.old (spare_index self.old offset) result) }
@@ -884,6 +867,7 @@ impl<T, S: Storage<T>> RingOver<T, S> {
     /// assert_eq!(ring.get_allocated(0, 4), b"abcd");
     /// ```
     #[tactic(auto, unfolding(crate::specs::RingHistory::Makes))]
+    #[must_use]
     pub fn write_unallocated(&mut self, offset: usize, data: &[T]) -> usize
     where
         T: Copy,
@@ -914,6 +898,7 @@ impl<T, S: Storage<T>> RingOver<T, S> {
     ///
     /// `count` is at most `window()`.
     #[tactic(auto, unfolding(crate::specs::RingHistory::Makes))]
+    #[track_caller]
     pub fn enqueue_unallocated(&mut self, count: usize)
         requires window { count ≤ window self.old }
         ensures ring { self.new ≡ with_enqueued count self.old }
@@ -947,6 +932,7 @@ impl<T, S: Storage<T>> RingOver<T, S> {
     /// assert_eq!(ring.enqueue_slice(b"abc"), 3);
     /// assert_eq!((ring.get_allocated(1, 9), ring.get_allocated(4, 9)), (&b"bc"[..], &b""[..]));
     /// ```
+    #[must_use]
     pub fn get_allocated(&self, offset: usize, size: usize) -> &[T]
         ensures count { length result.now ≡ contiguous_allocated self.now offset size }
         // Guarantee.
@@ -1015,6 +1001,7 @@ impl<T, S: Storage<T>> RingOver<T, S> {
     /// let mut into = *b"----";
     /// assert_eq!((ring.read_allocated(1, &mut into), &into), (2, b"bc--"));
     /// ```
+    #[must_use]
     pub fn read_allocated(&mut self, offset: usize, data: &mut [T]) -> usize
     where
         T: Copy,
@@ -1045,6 +1032,7 @@ impl<T, S: Storage<T>> RingOver<T, S> {
     ///
     /// `count` is at most `len()`.
     #[tactic(auto, unfolding(crate::specs::RingHistory::Makes))]
+    #[track_caller]
     pub fn dequeue_allocated(&mut self, count: usize)
         requires len { count ≤ self.old.count }
         ensures ring { self.new ≡ with_dequeued count self.old }
@@ -1100,7 +1088,8 @@ impl<T, S: Storage<T>> RingOver<T, S> {
         )
     }
 
-    /// Returns an iterator over the queue, which shows the elements in order.
+    /// Returns an iterator over the queue, which shows the elements in order. It doesn't tell how many
+    /// are left, and is no `ExactSizeIterator`.
     ///
     /// ```
     /// # use net_base::storage::RingBuffer;

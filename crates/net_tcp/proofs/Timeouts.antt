@@ -5,7 +5,7 @@ use Rattle.std.specs.Fn.{iterate}
 use Rattle.std.proofs.Math.Nat.{pow-suc}
 use Rattle.std.proofs.lemmas.Nat.{pow_pos, mul-le}
 use Rattle.std.proofs.lemmas.Bool.{cases_lt}
-use Rattle.net_tcp.specs.declared.retransmission.RttEstimate.{RttEstimate}
+use Rattle.net_tcp.specs.Estimate.{Estimate}
 use Rattle.net_tcp.specs.RetransmissionTimeout.{next_estimate, doubled, IsSettled, EqualSamplesSettle, DoublesToTheMost}
 
 -- two runs in a row
@@ -17,27 +17,27 @@ iterate-add h (suc n) m x = rw suc-add (iterate-add h n m (h x))
 abbrev off : ℕ → ℕ → ℕ
 off r s = (8 * r - s) + (s - (8 * r + 7))
 
-settle_srtt : (fuel : ℕ) (e : RttEstimate) (r : ℕ) → off r e.srtt_8 ≤ fuel → (n : ℕ) × ((iterate (λ e. next_estimate e r) n e).srtt_8 / 8 ≡ r)
+settle_srtt : (fuel : ℕ) (e : Estimate) (r : ℕ) → off r e.srtt_8 ≤ fuel → (n : ℕ) × ((iterate (λ e. next_estimate e r) n e).srtt_8 / 8 ≡ r)
 settle_srtt zero e r h = (0, omega arith)
 settle_srtt (suc k) e r h = elim (cases_lt 0 (off r e.srtt_8)) [
   | inl some ↦ let more = settle_srtt k (next_estimate e r) r (omega arith) in (suc more.0, more.1)
   | inr none ↦ (0, omega arith)
 ]
 
-settle_rttvar : (fuel : ℕ) (e : RttEstimate) (r : ℕ) → e.srtt_8 / 8 ≡ r → e.rttvar_4 ≤ fuel → (n : ℕ) × IsSettled r (iterate (λ e. next_estimate e r) n e)
+settle_rttvar : (fuel : ℕ) (e : Estimate) (r : ℕ) → e.srtt_8 / 8 ≡ r → e.rttvar_4 ≤ fuel → (n : ℕ) × IsSettled r (iterate (λ e. next_estimate e r) n e)
 settle_rttvar zero e r is h = (0, (is, omega arith))
 settle_rttvar (suc k) e r is h = elim (cases_lt e.rttvar_4 4) [
   | inl low ↦ (0, (is, low))
   | inr high ↦ let more = settle_rttvar k (next_estimate e r) r (omega arith) (omega arith) in (suc more.0, more.1)
 ]
 
-stays_settled : (m : ℕ) (e : RttEstimate) (r : ℕ) → IsSettled r e → IsSettled r (iterate (λ e. next_estimate e r) m e)
+stays_settled : (m : ℕ) (e : Estimate) (r : ℕ) → IsSettled r e → IsSettled r (iterate (λ e. next_estimate e r) m e)
 stays_settled zero e r is = is
 stays_settled (suc m) e r is = stays_settled m (next_estimate e r) r (omega arith, omega arith)
 
 pub equal_samples_settle : EqualSamplesSettle
 equal_samples_settle e r =
-    let f : RttEstimate → RttEstimate = λ e. next_estimate e r in
+    let f : Estimate → Estimate = λ e. next_estimate e r in
     let one = settle_srtt (off r e.srtt_8) e r (omega arith) in
     let two = settle_rttvar (iterate f one.0 e).rttvar_4 (iterate f one.0 e) r one.1 (omega arith) in (
       one.0 + two.0,

@@ -1,10 +1,10 @@
 -- Sums of words, and what folding keeps of them: the number modulo 65535, and whether it is 0.
 use Rattle.std.proofs.Common.{◌≡◌, ℕ, zero, suc, ◌+◌, ◌-◌, ◌*◌, ◌/◌, ◌%◌, ◌^◌, ◌<◌, ◌≤◌, List, [], ◌∷◌, ◌++◌}
 use Rattle.std.proofs.Common.{length, take, drop, refl, sym, ap, ◌∙◌, inl, inr, subst, arith, length-append}
-use Rattle.std.proofs.Common.{append-nil, All, true, false, cond, nat_eq}
+use Rattle.std.proofs.Common.{append-nil, All, true, false, cond, not, nat_eq}
 use Rattle.std.specs.Prelude.{◌⊎◌}
 use Rattle.std.specs.Int.{w32, from_be_bytes}
-use Rattle.std.proofs.lemmas.Bool.{cases_lt, cond_both, eqb-true, eqb-false, false_from_ne_true}
+use Rattle.std.proofs.lemmas.Bool.{cases_lt, cond_both, eqb-true, eqb-false}
 use Rattle.net_tcp.specs.InternetChecksum.{word_sum, folded, internet_checksum, updated, word_bytes, IsEven}
 use Rattle.net_tcp.specs.InternetChecksum.{add_words, carried_sum, IsCarriedSum, GroupsAdd, FoldsAdd}
 use Rattle.net_tcp.specs.InternetChecksum.{ChecksumVerifies, OnlyChecksumVerifies, UpdateIsChecksum}
@@ -228,71 +228,89 @@ times (suc n) = folded_alike (256 * folded (suc n)) (256 * suc n) (256 * (n / 65
 folded_twice : (n : ℕ) → folded (folded n) ≡ folded n
 folded_twice n = folded_small (folded n) (folded_le n)
 
-odd_of : (s : PartsSum) (xs : List ℕ) → Sums s xs → nat_eq s.odd 0 ≡ false → length xs % 2 ≡ 1
-odd_of s xs sums odd =
+odd_of : (s : PartsSum) (xs : List ℕ) → Sums s xs → s.odd ≡ true → length xs % 2 ≡ 1
+odd_of s xs sums odd = eqb-true (length xs % 2) 1 (sym sums.1 ∙ odd)
+
+even_of : (s : PartsSum) (xs : List ℕ) → Sums s xs → s.odd ≡ false → length xs % 2 ≡ 0
+even_of s xs sums even =
     elim (cases_lt 0 (length xs % 2)) [
-      | inl some ↦ omega arith
-      | inr none ↦ absurd (eqb-false s.odd 0 odd (omega (arith, sums.1)))
+      | inl some ↦ absurd (eqb-false (length xs % 2) 1 (sym sums.1 ∙ even) (omega arith))
+      | inr none ↦ omega arith
     ]
 
-even_of : (s : PartsSum) (xs : List ℕ) → Sums s xs → nat_eq s.odd 0 ≡ true → length xs % 2 ≡ 0
-even_of s xs sums even = sym sums.1 ∙ eqb-true s.odd 0 even
+sum_of : (s : PartsSum) (xs : List ℕ) → Sums s xs → folded s.sum ≡ folded (word_sum xs)
+sum_of s xs sums = ap folded sums.0 ∙ folded_twice (word_sum xs)
+
+-- the parity of one count, and its other
+same_parity : (a b : ℕ) → a % 2 ≡ b % 2 → nat_eq (a % 2) 1 ≡ nat_eq (b % 2) 1
+same_parity a b e = ap (λ k. nat_eq k 1) e
+
+turned_parity : (a b : ℕ) → a % 2 + b % 2 ≡ 1 → not (nat_eq (a % 2) 1) ≡ nat_eq (b % 2) 1
+turned_parity a b e = by (a % 2) (b % 2) e
+  where
+    by : (m n : ℕ) → m + n ≡ 1 → not (nat_eq m 1) ≡ nat_eq n 1
+    by zero n h = ap (λ k. nat_eq k 1) (let is : 1 ≡ n = omega (arith, h) in is)
+    by (suc zero) n h = ap (λ k. nat_eq k 1) (let is : 0 ≡ n = omega (arith, h) in is)
+    by (suc (suc m)) n h = absurd (omega (arith, h))
 
 low_part : (ys : List ℕ) → word_sum (0 ∷ ys) ≡ low_sum ys
 low_part ys = high_then_low 0 ys ∙ omega arith
 
 pub with_sums : (s : PartsSum) (xs ys : List ℕ) → Sums s xs → Sums (sum_with s ys) (xs ++ ys)
 with_sums s xs ys sums =
-    cond_both (nat_eq s.odd 0) ys (0 ∷ ys)
-    (λ zs. (folded (folded (s.sum + word_sum zs)) ≡ folded (word_sum (xs ++ ys))) × (length zs % 2 ≡ length (xs ++ ys) % 2))
-    (λ even. (let at = even_of s xs sums even in (
-      folded_twice (s.sum + word_sum ys) ∙ folded_more s.sum (word_sum xs) (word_sum ys) sums.0 ∙ ap folded (sym (groups_add xs ys at)),
-      omega (arith, length-append xs ys, at),
-    )))
+    cond_both s.odd (0 ∷ ys) ys
+    (λ zs. (folded (s.sum + word_sum zs) ≡ folded (word_sum (xs ++ ys))) × (nat_eq (length zs % 2) 1 ≡ nat_eq (length (xs ++ ys) % 2) 1))
     (λ odd. (let at = odd_of s xs sums odd in (
-      folded_twice (s.sum + word_sum (0 ∷ ys)) ∙ ap (λ n. folded (s.sum + n)) (low_part ys) ∙ folded_more s.sum (word_sum xs) (low_sum ys) sums.0
-          ∙ ap folded (sym (after_odd xs ys at)),
-      omega (arith, length-append xs ys, at),
+      ap (λ n. folded (s.sum + n)) (low_part ys) ∙ folded_more s.sum (word_sum xs) (low_sum ys) (sum_of s xs sums) ∙ ap folded (sym (after_odd xs ys at)),
+      same_parity (length (0 ∷ ys)) (length (xs ++ ys)) (omega (arith, length-append xs ys, at)),
+    )))
+    (λ even. (let at = even_of s xs sums even in (
+      folded_more s.sum (word_sum xs) (word_sum ys) (sum_of s xs sums) ∙ ap folded (sym (groups_add xs ys at)),
+      same_parity (length ys) (length (xs ++ ys)) (omega (arith, length-append xs ys, at)),
     )))
 
 pub joined_sums : (s t : PartsSum) (xs ys : List ℕ) → Sums s xs → Sums t ys → Sums (sum_joined s t) (xs ++ ys)
 joined_sums s t xs ys sums after =
-    cond_both (nat_eq s.odd 0) (record { sum = folded (s.sum + t.sum); odd = t.odd })
-    (record { sum = folded (s.sum + 256 * t.sum); odd = cond (nat_eq t.odd 0) 1 0 }) (λ r. Sums r (xs ++ ys))
-    (λ even. (let at = even_of s xs sums even in (
-      folded_twice (s.sum + t.sum) ∙ folded_both t.sum (word_sum ys) after.0 ∙ ap folded (sym (groups_add xs ys at)),
-      omega (arith, length-append xs ys, at, after.1),
-    )))
+    cond_both s.odd (record { sum = folded (s.sum + 256 * t.sum); odd = not t.odd }) (record { sum = folded (s.sum + t.sum); odd = t.odd })
+    (λ r. Sums r (xs ++ ys))
     (λ odd. (let at = odd_of s xs sums odd in (
-      folded_twice (s.sum + 256 * t.sum)
-          ∙ folded_both (256 * t.sum) (low_sum ys) (sym (times t.sum) ∙ ap (λ n. folded (256 * n)) after.0 ∙ times (word_sum ys) ∙ turned ys)
+      folded_both (256 * t.sum) (low_sum ys) (sym (times t.sum) ∙ ap (λ n. folded (256 * n)) (sum_of t ys after) ∙ times (word_sum ys) ∙ turned ys)
           ∙ ap folded (sym (after_odd xs ys at)),
-      (let turned_over = other t.odd (omega (arith, after.1)) in omega (arith, length-append xs ys, at, after.1, turned_over)),
+      ap not after.1 ∙ turned_parity (length ys) (length (xs ++ ys)) (omega (arith, length-append xs ys, at)),
+    )))
+    (λ even. (let at = even_of s xs sums even in (
+      folded_both t.sum (word_sum ys) (sum_of t ys after) ∙ ap folded (sym (groups_add xs ys at)),
+      after.1 ∙ same_parity (length ys) (length (xs ++ ys)) (omega (arith, length-append xs ys, at)),
     )))
   where
     folded_both : (a b : ℕ) → folded a ≡ folded b → folded (s.sum + a) ≡ folded (word_sum xs + b)
     folded_both a b e =
-        folded_more s.sum (word_sum xs) a sums.0 ∙ sym (folds_add (word_sum xs) a) ∙ ap (λ n. folded (word_sum xs + n)) e ∙ folds_add (word_sum xs) b
+        folded_more s.sum (word_sum xs) a (sum_of s xs sums) ∙ sym (folds_add (word_sum xs) a) ∙ ap (λ n. folded (word_sum xs + n)) e ∙ folds_add (word_sum xs) b
 
-    other : (n : ℕ) → n < 2 → n + cond (nat_eq n 0) 1 0 ≡ 1
-    other zero h = refl
-    other (suc zero) h = refl
-    other (suc (suc n)) h = absurd (omega arith)
-
--- a word with its bytes exchanged, in place of 256 times the number of which it is the folded one
-pub swapped_joins : (s t : ℕ) → folded (s + (folded t % 256 * 256 + folded t / 256)) ≡ folded (s + 256 * t)
+-- a word with its bytes exchanged, in place of 256 times the word
+pub swapped_joins : (s t : ℕ) → folded (s + (t % 256 * 256 + t / 256)) ≡ folded (s + 256 * t)
 swapped_joins s t =
-    let w = folded t % 256 * 256 + folded t / 256 in
-    sym (folds_add s w) ∙ ap (λ n. folded (s + n)) (swap_is (folded t) ∙ times t) ∙ folds_add s (256 * t)
+    let w = t % 256 * 256 + t / 256 in
+    sym (folds_add s w) ∙ ap (λ n. folded (s + n)) (swap_is t) ∙ folds_add s (256 * t)
 
 -- a part whose first byte is a low one
-pub low_first : (s r : PartsSum) (part words : List ℕ) (u low : ℕ) → (s.odd ≡ 0 → ⊥) → folded u ≡ folded (s.sum + low) → part ≡ low ∷ words →
-    r.sum ≡ folded (u + word_sum words) → r.odd ≡ length words % 2 → r ≡ sum_with s part
-low_first s r part words u low odd with_low cut sum rest =
-    let off : nat_eq s.odd 0 ≡ false = false_from_ne_true _ (λ e. odd (eqb-true s.odd 0 e)) in
+pub low_first : (s r : PartsSum) (part words : List ℕ) (low : ℕ) → s.odd ≡ true → part ≡ low ∷ words →
+    r.sum ≡ folded (s.sum + low + word_sum words) → r.odd ≡ nat_eq (length words % 2) 1 → r ≡ sum_with s part
+low_first s r part words low odd cut sum rest =
     let all : (s.sum + low) + word_sum words ≡ s.sum + word_sum (0 ∷ low ∷ words) = omega arith in
-    let sum_is : r.sum ≡ folded (s.sum + word_sum (0 ∷ part)) =
-    sum ∙ folded_more u (s.sum + low) (word_sum words) with_low ∙ ap folded all ∙ ap (λ l. folded (s.sum + word_sum (0 ∷ l))) (sym cut) in
-    let odd_is : r.odd ≡ length (0 ∷ part) % 2 = omega (arith, rest, ap length cut) in
+    let sum_is : r.sum ≡ folded (s.sum + word_sum (0 ∷ part)) = sum ∙ ap folded all ∙ ap (λ l. folded (s.sum + word_sum (0 ∷ l))) (sym cut) in
+    let odd_is : r.odd ≡ nat_eq (length (0 ∷ part) % 2) 1 =
+    rest ∙ same_parity (length words) (length (0 ∷ part)) (omega (arith, ap length cut)) in
     (λ i. record { sum = sum_is i; odd = odd_is i })
-    ∙ (λ i. record { sum = folded (s.sum + word_sum (cond (sym off i) part (0 ∷ part))); odd = length (cond (sym off i) part (0 ∷ part)) % 2 })
+    ∙ (λ i. record {
+      sum = folded (s.sum + word_sum (cond (sym odd i) (0 ∷ part) part));
+      odd = nat_eq (length (cond (sym odd i) (0 ∷ part) part) % 2) 1;
+    })
+
+-- no part
+pub none_last : (s : PartsSum) → s.odd ≡ true → s.sum ≤ 65535 → s ≡ sum_with s []
+none_last s odd few =
+    let same : s.sum ≡ folded (s.sum + word_sum (0 ∷ [])) =
+    sym (folded_small s.sum few) ∙ ap folded (let e : s.sum ≡ s.sum + word_sum (0 ∷ []) = omega arith in e) in
+    (λ i. record { sum = same i; odd = odd i })
+    ∙ (λ i. record { sum = folded (s.sum + word_sum (cond (sym odd i) (0 ∷ []) [])); odd = nat_eq (length {A = ℕ} (cond (sym odd i) (0 ∷ []) []) % 2) 1 })

@@ -6,7 +6,8 @@
 --     flag_at k flags      the bit k of TCP's flags, in which FIN is 0, SYN 1, RST 2 and ACK 4
 --     IsProbe      its first position is the one at which the window is shut
 --     IsAnswered, IsIgnored      nothing of it is taken, and it is answered by an acknowledgement, or by nothing
-use Rattle.std.specs.Prelude.{◌≡◌, ◌≢◌, ℕ, zero, suc, ◌+◌, ◌/◌, ◌%◌, ◌^◌, ◌<◌, ◌≤◌, ◌⊎◌, IsTrue, IsFalse}
+--     IsArrival ..answers next window s a      a is what to do with it, of five answers
+use Rattle.std.specs.Prelude.{◌≡◌, ◌≢◌, ◌↔◌, ℕ, zero, suc, ◌+◌, ◌/◌, ◌%◌, ◌^◌, ◌<◌, ◌≤◌, ◌⊎◌, IsTrue, IsFalse}
 use Rattle.net_tcp.specs.declared.arriving.Segment.{Segment}
 
 abbrev pub IsWithin : ℕ → ℕ → ℕ → Type 0
@@ -49,6 +50,15 @@ IsIgnored next window s =
     (IsTrue s.rst × (s.seq ≢ next) × (¬ IsAcceptable next window s.seq s.len))
     ⊎ (IsFalse s.rst × IsFalse s.syn × IsFalse s.ack
     × (IsAcceptable next window s.seq s.len ⊎ IsProbe next window s.seq s.len))
+
+-- each of five answers exactly where its rule says
+pub record IsArrival {A : Type 0} (takes acknowledges answers resets ignores : A) (next window : ℕ) (s : Segment) (a : A)
+    : Type 0 where
+  pub take : (a ≡ takes) ↔ (IsFalse s.rst × IsFalse s.syn × IsTrue s.ack × IsAcceptable next window s.seq s.len)
+  pub only : (a ≡ acknowledges) ↔ (IsFalse s.rst × IsFalse s.syn × IsTrue s.ack × IsProbe next window s.seq s.len)
+  pub answer : (a ≡ answers) ↔ IsAnswered next window s
+  pub reset : (a ≡ resets) ↔ (IsTrue s.rst × (s.seq ≡ next))
+  pub ignored : (a ≡ ignores) ↔ IsIgnored next window s
 
 -- ---- laws
 -- what the table accepts is acceptable

@@ -1,9 +1,13 @@
 -- The window that a receiver announces (RFC 9293, section 3.8.6; RFC 7323, section 2).
+--     shift_count scale      the scale that counts: in place of one above 14 it is 14 (RFC 7323, section 2.3)
 --     field_for scale free      the number announced if `free` positions are free
 --     announced next scale field      the right edge that it promises, with this first missing position
 --     IsScaleFor capacity scale      the least scale by which a capacity can be announced
 --     worth capacity mss      how far the edge must move for an update of its own
 use Rattle.std.specs.Prelude.{◌≡◌, ℕ, ◌+◌, ◌-◌, ◌*◌, ◌/◌, ◌^◌, ◌<◌, ◌≤◌, ◌⊎◌, min, max}
+
+abbrev pub shift_count : ℕ → ℕ
+shift_count scale = min scale 14
 
 abbrev pub field_for : ℕ → ℕ → ℕ
 field_for scale free = min (free / 2 ^ scale) 65535

@@ -3,10 +3,11 @@
 --     folded n      n as one 16-bit word of ones' complement
 --     internet_checksum xs, updated c m n      the checksum, and c after a word m became n
 --     add_words, carried_sum      the sum as RFC 1071 describes it, carry by carry
+--     is_odd xs      an odd number of bytes
 --     sum_with s xs, sum_joined s t      the running sum s after bytes xs, or after those of which t is the sum
 --     Sums s xs      the running sum s is that of the bytes xs
 use Rattle.std.specs.Prelude.{◌≡◌, ℕ, zero, suc, ◌+◌, ◌-◌, ◌*◌, ◌/◌, ◌%◌, ◌^◌, ◌<◌, ◌≤◌, ◌⊎◌}
-use Rattle.std.specs.Prelude.{List, [], ◌∷◌, ◌++◌, length, All, nat_eq, if◌then◌else◌}
+use Rattle.std.specs.Prelude.{List, [], ◌∷◌, ◌++◌, length, All, Bool, not, nat_eq, if◌then◌else◌}
 use Rattle.net_tcp.specs.declared.internet_sum.PartsSum.{PartsSum}
 
 -- the sum of the words of these bytes, the high byte first; a last odd byte is a high byte
@@ -38,21 +39,25 @@ IsEven xs = length xs % 2 ≡ 0
 
 -- bytes that follow those of the sum s, from a high byte on: a low byte comes after a high byte 0
 abbrev pub from_high : PartsSum → List ℕ → List ℕ
-from_high s xs = if nat_eq s.odd 0 then xs else 0 ∷ xs
+from_high s xs = if s.odd then 0 ∷ xs else xs
+
+-- an odd number of bytes: the next one is a low byte
+abbrev pub is_odd : List ℕ → Bool
+is_odd xs = nat_eq (length xs % 2) 1
 
 -- the sum after them
 abbrev pub sum_with : PartsSum → List ℕ → PartsSum
-sum_with s xs = record { sum = folded (s.sum + word_sum (from_high s xs)); odd = length (from_high s xs) % 2 }
+sum_with s xs = record { sum = folded (s.sum + word_sum (from_high s xs)); odd = is_odd (from_high s xs) }
 
 -- the sum after the bytes of which t is the sum; from a low byte on they sum to 256 times as much
 abbrev pub sum_joined : PartsSum → PartsSum → PartsSum
 sum_joined s t =
-    if nat_eq s.odd 0 then record { sum = folded (s.sum + t.sum); odd = t.odd }
-    else record { sum = folded (s.sum + 256 * t.sum); odd = if nat_eq t.odd 0 then 1 else 0 }
+    if s.odd then record { sum = folded (s.sum + 256 * t.sum); odd = not t.odd }
+    else record { sum = folded (s.sum + t.sum); odd = t.odd }
 
 -- s is the sum of the bytes xs, so far
 abbrev pub Sums : PartsSum → List ℕ → Type 0
-Sums s xs = (folded s.sum ≡ folded (word_sum xs)) × (s.odd ≡ length xs % 2)
+Sums s xs = (s.sum ≡ folded (word_sum xs)) × (s.odd ≡ is_odd xs)
 
 -- ---- what RFC 1071 says
 -- ones' complement addition of two words: a carry out of the high bit is added at the low end

@@ -2,6 +2,7 @@
 --     IsNewer w seq ack      the segment of these numbers is not older than the one that w is from
 --     Replaces w seq ack      it is newer, or acknowledges more
 --     window_from seq ack window      the window that a segment leaves
+--     opened_to w edge      it reaches to the edge at least
 --     with_segment w seq ack window      the window after a segment
 --     after_update w first sent seq ack window      the window that `update` leaves
 --     acknowledgement_number w first sent      the number of a segment without positions
@@ -29,6 +30,9 @@ replaces w seq ack = nat_lt w.ack ack || is_newer w seq ack
 -- its edge is a position, so it is at most the last one
 abbrev pub window_from : ℕ → ℕ → ℕ → PeerWindow
 window_from seq ack window = record { edge = min (ack + window) (2 ^ 64 - 1); seq = seq; ack = ack }
+
+abbrev pub opened_to : PeerWindow → ℕ → PeerWindow
+opened_to w edge = record w { edge = max w.edge edge }
 
 abbrev pub with_segment : PeerWindow → ℕ → ℕ → ℕ → PeerWindow
 with_segment w seq ack window = if replaces w seq ack then window_from seq ack window else w

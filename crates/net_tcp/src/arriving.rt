@@ -1,10 +1,12 @@
 //! What to do with an arriving segment.
 ghost use Rattle.std.specs.Prelude.{◌≡◌, ◌↔◌, ◌+◌, ◌-◌, ◌^◌, ◌≤◌, min, IsTrue, IsFalse};
-ghost use Rattle.net_tcp.specs.Acceptability.{IsAcceptable, IsProbe, IsAnswered, IsIgnored, flag_at};
+ghost use Rattle.net_tcp.specs.Acceptability.{IsAcceptable, IsArrival, flag_at};
+
+use net_numbers::SentNumbers;
 
 /// The positions and the flags of an arriving segment.
 #[repr(C)]
-#[derive(Copy, Clone, Debug)]
+#[derive(Copy, Clone, Debug, PartialEq, Eq, Hash)]
 pub struct Segment {
     /// The position of its first byte, or of its SYN.
     pub seq: u64,
@@ -21,6 +23,7 @@ pub struct Segment {
 impl Segment {
     /// Returns the segment of so many bytes, with the flags of a TCP header: bit 0 is FIN, bit 1 SYN, bit 2
     /// RST and bit 4 ACK, and others don't count. A SYN and a FIN have a position each.
+    #[must_use]
     pub const fn new(seq: u64, bytes: usize, flags: u8) -> Self
         ensures seq { result.seq ≡ seq }
         ensures len { result.len ≡ min (bytes + flag_at 1 flags + flag_at 0 flags) (2 ^ 64 - 1) }
@@ -60,6 +63,7 @@ pub enum Arrival {
 ///
 /// It is if it has a position within the window. If it has none at all it must be within the window
 /// itself, or at `next` if the window is empty.
+#[must_use]
 pub fn is_acceptable(next: u64, window: u64, seq: u64, len: u64) -> bool
     ensures { IsTrue result ↔ IsAcceptable next window seq len }
 {
@@ -80,15 +84,10 @@ pub fn is_acceptable(next: u64, window: u64, seq: u64, len: u64) -> bool
 /// a probe does, the acknowledgement is taken all the same: otherwise two ends that both fill the
 /// other's window never hear of one another. Whether a segment may acknowledge what it does is tested
 /// afterwards, by `is_acknowledgement`.
+#[must_use]
 pub fn classify(next: u64, window: u64, segment: Segment) -> Arrival
-    ensures take { (result ≡ Arrival.Take) ↔ (IsFalse segment.rst × IsFalse segment.syn
-        × IsTrue segment.ack × IsAcceptable next window segment.seq segment.len) }
-    ensures only { (result ≡ Arrival.AcknowledgementOnly) ↔ (IsFalse segment.rst
-        × IsFalse segment.syn × IsTrue segment.ack
-        × IsProbe next window segment.seq segment.len) }
-    ensures answer { (result ≡ Arrival.Answer) ↔ IsAnswered next window segment }
-    ensures reset { (result ≡ Arrival.Reset) ↔ (IsTrue segment.rst × (segment.seq ≡ next)) }
-    ensures ignored { (result ≡ Arrival.Ignore) ↔ IsIgnored next window segment }
+    ensures { IsArrival Arrival.Take Arrival.AcknowledgementOnly Arrival.Answer Arrival.Reset
+        Arrival.Ignore next window segment result }
 {
     let is_acceptable = is_acceptable(next, window, segment.seq, segment.len);
     let is_probe = window == 0 && segment.len > 0 && segment.seq == next;
@@ -111,17 +110,15 @@ pub fn classify(next: u64, window: u64, segment: Segment) -> Arrival
     }
 }
 
-/// Returns whether a segment may acknowledge `ack`: it isn't above `sent`, nor below
-/// `first_unacknowledged` by more than the greatest window that the peer ever announced (RFC 5961,
+/// Returns whether a segment may acknowledge `ack`: it isn't above what was sent, nor below the first
+/// unacknowledged position by more than the greatest window that the peer ever announced (RFC 5961,
 /// section 5). If it may not, nothing of the segment is taken, and it is answered.
-pub fn is_acknowledgement(
-    first_unacknowledged: u64,
-    sent: u64,
-    greatest_window: u64,
-    ack: u64,
-) -> bool
+#[must_use]
+pub fn is_acknowledgement(numbers: SentNumbers, greatest_window: u64, ack: u64) -> bool
     // Guarantee.
-    ensures { IsTrue result ↔ ((first_unacknowledged ≤ ack + greatest_window) × (ack ≤ sent)) }
+    ensures { IsTrue result ↔ ((numbers.first_unacknowledged ≤ ack + greatest_window)
+        × (ack ≤ numbers.sent)) }
 {
-    first_unacknowledged.saturating_sub(ack) <= greatest_window && ack <= sent
+    let behind = numbers.first_unacknowledged.saturating_sub(ack);
+    behind <= greatest_window && ack <= numbers.sent
 }

@@ -1,27 +1,28 @@
 //! The Internet checksum (RFC 1071), over one part or several, and its update (RFC 1624).
-ghost use Rattle.std.specs.Prelude.{◌≡◌, ◌↔◌, ℕ, ◌+◌, ◌-◌, ◌*◌, ◌%◌, ◌<◌, ◌≤◌, List, [], ◌++◌, ◌/◌, IsTrue};
-ghost use Rattle.std.specs.Prelude.{length};
+ghost use Rattle.std.specs.Prelude.{◌≡◌, ◌↔◌, ℕ, ◌+◌, ◌-◌, ◌*◌, ◌%◌, ◌<◌, ◌≤◌, List, [], ◌++◌, ◌/◌, IsTrue, IsFalse};
+ghost use Rattle.std.specs.Prelude.{◌⊎◌, length, nat_eq, if◌then◌else◌};
 ghost use Rattle.net_tcp.specs.InternetChecksum.{folded, word_sum, internet_checksum, updated};
-ghost use Rattle.net_tcp.specs.InternetChecksum.{Sums, sum_joined, sum_with, word_bytes};
+ghost use Rattle.net_tcp.specs.InternetChecksum.{Sums, is_odd, sum_joined, sum_with, word_bytes};
 
 /// The sum of the bytes of several parts of a message, one after another, of any lengths.
 /// One of zeros is that of no bytes.
 #[repr(C)]
-#[derive(Copy, Clone, Debug)]
+#[derive(Copy, Clone, Debug, PartialEq, Eq, Hash)]
 pub struct PartsSum {
     /// The sum of the words, folded to 16 bits; 0 only if that sum is 0.
-    pub sum: u64,
-    /// 1 if the next byte is the low byte of a word, 0 if it is the high one.
-    pub odd: u64,
+    sum: u16,
+    /// Whether the next byte is the low byte of a word.
+    odd: bool,
 }
 
 impl PartsSum {
     /// Returns the sum of no bytes.
+    #[must_use]
     pub const fn new() -> Self
         ensures nothing { Sums result [] }
-        ensures zeros { (result.sum ≡ 0) × (result.odd ≡ 0) }
+        ensures zeros { (result.sum ≡ 0) × IsFalse result.odd }
     {
-        PartsSum { sum: 0, odd: 0 }
+        PartsSum { sum: 0, odd: false }
     }
 
     /// Adds the bytes that follow those which were added.
@@ -33,16 +34,18 @@ impl PartsSum {
     }
 
     /// Returns the sum of the bytes that were added and of those that follow them.
+    #[must_use]
     pub fn with(self, part: &[u8]) -> Self
         ensures value { result ≡ sum_with self part.now }
         ensures bytes { (xs : List ℕ) → Sums self xs → Sums result (xs ++ part.now) }
     {
-        if self.odd == 0 {
-            return sum_from(self.sum, part);
+        let sum = u64::from(self.sum);
+        if !self.odd {
+            return sum_from(sum, part);
         }
         match part.split_first() {
-            Some((low, words)) => sum_from(add_carry(self.sum, u64::from(*low)), words),
-            None => sum_from(self.sum, &[0]),
+            Some((low, words)) => sum_from(sum + u64::from(*low), words),
+            None => self,
         }
     }
 
@@ -52,56 +55,86 @@ impl PartsSum {
     /// # Requires
     ///
     /// An even count of bytes was added.
+    #[must_use]
+    #[track_caller]
     pub fn with_word(self, word: u16) -> Self
-        requires { self.odd ≡ 0 }
+        requires { IsFalse self.odd }
         ensures value { result ≡ sum_with self (word_bytes word) }
         ensures bytes { (xs : List ℕ) → Sums self xs → Sums result (xs ++ word_bytes word) }
     {
-        prove!(self.odd == 0, "an odd count of bytes was added");
+        prove!(!self.odd, "an odd count of bytes was added");
         PartsSum {
-            sum: folded_sum(self.sum, u64::from(word)),
-            odd: 0,
+            sum: folded_sum(self.sum, word),
+            odd: false,
         }
     }
 
     /// Returns the sum of the bytes that were added, and of those of which `after` is the sum.
+    #[must_use]
     pub fn joined(self, after: PartsSum) -> Self
         ensures value { result ≡ sum_joined self after }
         ensures bytes { (xs ys : List ℕ) → Sums self xs → Sums after ys → Sums result (xs ++ ys) }
     {
-        if self.odd == 0 {
+        if self.odd {
+            PartsSum {
+                sum: folded_sum(self.sum, swapped(after.sum)),
+                odd: !after.odd,
+            }
+        } else {
             PartsSum {
                 sum: folded_sum(self.sum, after.sum),
                 odd: after.odd,
             }
-        } else {
-            PartsSum {
-                sum: folded_sum(self.sum, u64::from(swapped(fold(after.sum)))),
-                odd: u64::from(after.odd == 0),
-            }
         }
     }
 
-    /// Returns the checksum of the bytes that were added.
+    /// Returns the checksum of the bytes that were added. It is a number: in a message its high byte comes
+    /// first.
+    #[must_use]
     pub fn checksum(&self) -> u16
-        ensures value { result ≡ 65535 - folded self.now.sum }
+        ensures value { result ≡ 65535 - self.now.sum }
         ensures bytes { (xs : List ℕ) → Sums self.now xs → result ≡ internet_checksum xs }
     {
-        u16::MAX - fold(self.sum)
+        u16::MAX - self.sum
+    }
+
+    /// Returns the checksum of the bytes that were added as UDP sends it: 65535 in place of 0, which says
+    /// that there is none (RFC 768). A message with either is valid.
+    ///
+    /// ```
+    /// # use net_base::checksum::PartsSum;
+    /// let sum = PartsSum::new().with(&[0xff, 0xff]);
+    /// assert_eq!((sum.checksum(), sum.udp_checksum()), (0, 0xffff));
+    /// ```
+    #[must_use]
+    pub fn udp_checksum(&self) -> u16
+        ensures value { result ≡ (if nat_eq self.now.sum 65535 then 65535 else 65535 - self.now.sum) }
+        // Guarantee.
+        ensures some { 0 < result }
+        ensures bytes { (xs : List ℕ) → Sums self.now xs → (result ≡ internet_checksum xs)
+            ⊎ ((result ≡ 65535) × (internet_checksum xs ≡ 0)) }
+    {
+        if self.sum == u16::MAX {
+            u16::MAX
+        } else {
+            u16::MAX - self.sum
+        }
     }
 
     /// Returns whether the bytes that were added, with a checksum among them at an even offset, are
-    /// valid.
+    /// valid. No bytes are not.
+    #[must_use]
     pub fn is_valid(&self) -> bool
-        ensures value { IsTrue result ↔ (folded self.now.sum ≡ 65535) }
+        ensures value { IsTrue result ↔ (self.now.sum ≡ 65535) }
         ensures bytes { (xs : List ℕ) → Sums self.now xs
             → (IsTrue result ↔ (folded (word_sum xs) ≡ 65535)) }
     {
-        fold(self.sum) == u16::MAX
+        self.sum == u16::MAX
     }
 }
 
 /// Returns the checksum of these bytes.
+#[must_use]
 pub fn checksum(bytes: &[u8]) -> u16
     ensures { result ≡ internet_checksum bytes.now }
 {
@@ -109,14 +142,17 @@ pub fn checksum(bytes: &[u8]) -> u16
 }
 
 /// Returns whether these bytes, with their checksum among them at an even offset, are valid.
+#[must_use]
 pub fn is_valid(bytes: &[u8]) -> bool
     ensures { IsTrue result ↔ (folded (word_sum bytes.now) ≡ 65535) }
 {
     fold(sum_words(0, bytes)) == u16::MAX
 }
 
-/// Returns the checksum of a message in which the word `old`, at an even offset, became `new`, from its
-/// checksum before (RFC 1624, equation 3); of one that is all zeros then, 0 in place of 65535.
+/// Returns the checksum of a message in which the word `old`, at an even offset, became `new`, from
+/// its checksum before (RFC 1624, equation 3); of one that is all zeros then, 0 in place of 65535.
+/// Checksums and words are numbers: in a message the high byte comes first.
+#[must_use]
 pub fn updated_checksum(checksum: u16, old: u16, new: u16) -> u16
     ensures { result ≡ updated checksum old new }
 {
@@ -127,11 +163,11 @@ pub fn updated_checksum(checksum: u16, old: u16, new: u16) -> u16
 /// Returns the sum of some words and of these bytes, the first of which is a high byte.
 fn sum_from(start: u64, bytes: &[u8]) -> PartsSum
     ensures sum { result.sum ≡ folded (start + word_sum bytes.now) }
-    ensures odd { result.odd ≡ length bytes.now % 2 }
+    ensures odd { result.odd ≡ is_odd bytes.now }
 {
     PartsSum {
-        sum: u64::from(fold(sum_words(start, bytes))),
-        odd: bytes.len() as u64 % 2,
+        sum: fold(sum_words(start, bytes)),
+        odd: bytes.len() % 2 == 1,
     }
 }
 
@@ -191,12 +227,12 @@ fn add_carry(a: u64, b: u64) -> u64
     sum + carried as u64
 }
 
-/// Adds two sums, and folds theirs.
+/// Adds two words, and folds their sum.
 #[inline]
-fn folded_sum(a: u64, b: u64) -> u64
+fn folded_sum(a: u16, b: u16) -> u16
     ensures { result ≡ folded (a + b) }
 {
-    u64::from(fold(add_carry(a, b)))
+    fold(u64::from(a) + u64::from(b))
 }
 
 /// Returns a word with its bytes exchanged.

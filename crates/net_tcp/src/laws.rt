@@ -13,6 +13,7 @@ ghost use Rattle.net_tcp.specs.PeerWindow.{NoWindowIsReplaced};
 ghost use Rattle.net_tcp.specs.RetransmissionTimeout.{FollowsFormulas, EqualSamplesSettle};
 ghost use Rattle.net_tcp.specs.RetransmissionTimeout.{DoublesToTheMost};
 ghost use Rattle.net_tcp.specs.RetransmissionTimer.{TimedIsSentOnce, RunsWhileUnacknowledged};
+ghost use Rattle.net_tcp.specs.RetransmissionTimer.{RestsUnlessStarted, RunsToAnEnd, ExpiryMovesBy};
 
 /// States what the folded sum is: that of RFC 1071, which adds each carry at the low end; and that
 /// neither cuts at even offsets nor where a part is folded changes it.
@@ -80,13 +81,19 @@ pub fn timeouts()
     ensures doubles { DoublesToTheMost }
 {}
 
-/// States of a new timer, and of every list of sends, acknowledgements, reports and looks at it: a timed
-/// position was sent once, at the moment that its sample is counted from; and the timer runs exactly
-/// while something that was sent isn't acknowledged.
-#[tactic(auto, using(crate::proofs::Timers::timed_is_sent_once, crate::proofs::Timers::runs_while_unacknowledged))]
+/// States of a new timer, and of every list of sends, acknowledgements, reports, looks, starts and stops: a
+/// timed position was sent once, at the moment that its sample is counted from; unless it is stopped,
+/// the timer runs while something that was sent isn't acknowledged; and unless it is started, only
+/// then. A timer that runs, whatever started it, runs until it is stopped, or until all that was sent is
+/// acknowledged, if some of it wasn't before; and only an expiry, and what acknowledges something
+/// new, moves the moment at which it expires.
+#[tactic(auto, using(crate::proofs::Timers::timed_is_sent_once, crate::proofs::Timers::runs_while_unacknowledged, crate::proofs::Timers::rests_unless_started, crate::proofs::Timers::runs_to_an_end, crate::proofs::Timers::expiry_moves_by))]
 pub fn timers()
     ensures once { TimedIsSentOnce }
     ensures runs { RunsWhileUnacknowledged }
+    ensures rests { RestsUnlessStarted }
+    ensures ends { RunsToAnEnd }
+    ensures moves { ExpiryMovesBy }
 {}
 
 /// States that the edge of what a sender was told is not beyond what the receiver promised, now or

@@ -1,6 +1,6 @@
 //! Small machines that a TCP needs beside its two queues: the Internet checksum, the test of an
 //! arriving segment, the windows of both sides, the time until a retransmission and its timer. They
-//! are plain whole numbers, and store no bytes.
+//! store no bytes.
 #![tactic(auto)]
 
 pub mod advertised_window;
@@ -14,6 +14,6 @@ pub mod retransmission_timer;
 pub use advertised_window::{AdvertisedWindow, MAX_SCALE, scale_for};
 pub use arriving::{Arrival, Segment, classify, is_acceptable, is_acknowledgement};
 pub use internet_sum::{PartsSum, checksum, is_valid, updated_checksum};
-pub use peer_window::{PeerWindow, scaled};
+pub use peer_window::{Announcement, PeerWindow, scaled};
 pub use retransmission::{RetransmissionTimeout, RttEstimate, TimeoutBounds, Transmission};
-pub use retransmission_timer::RetransmissionTimer;
+pub use retransmission_timer::{RetransmissionTimer, TimedSegment};

@@ -1,81 +1,111 @@
 //! The window that the peer announced.
 ghost use Rattle.std.specs.Prelude.{◌≡◌, ◌↔◌, ℕ, ◌+◌, ◌-◌, ◌*◌, ◌^◌, ◌<◌, ◌≤◌, IsTrue, IsFalse};
 ghost use Rattle.std.specs.Prelude.{min, max};
+ghost use Rattle.net_tcp.specs.AdvertisedWindow.{shift_count};
 ghost use Rattle.net_tcp.specs.PeerWindow.{Replaces, replaces, window_from, after_update};
-ghost use Rattle.net_tcp.specs.PeerWindow.{acknowledgement_number};
+ghost use Rattle.net_tcp.specs.PeerWindow.{acknowledgement_number, no_window, opened_to};
 
 use crate::advertised_window::MAX_SCALE;
+use net_numbers::SentNumbers;
 
-/// The window that the peer announced, and the segment that it is from. It is kept as its right edge, a
-/// position. One of zeros lets nothing be sent but a probe, and no segment is older.
+/// What a segment announces: the window from the position that it acknowledges on, and the numbers by
+/// which its age is told.
 #[repr(C)]
-#[derive(Copy, Clone, Debug)]
-pub struct PeerWindow {
-    /// The position after the last that may be sent.
-    pub edge: u64,
+#[derive(Copy, Clone, Debug, PartialEq, Eq, Hash)]
+pub struct Announcement {
     /// The position of the segment's first byte, in the peer's stream.
     pub seq: u64,
-    /// The position that it acknowledged.
+    /// The position that it acknowledges.
     pub ack: u64,
+    /// How many bytes may be sent from there on, as `scaled` returns it.
+    pub window: u64,
 }
 
-/// Returns how many bytes the field of a segment announces.
-///
-/// # Requires
-///
-/// The scale is at most 14.
+/// The window that the peer announced, and the segment that it is from. It is kept as its right edge, a
+/// position.
+#[repr(C)]
+#[derive(Copy, Clone, Debug, PartialEq, Eq, Hash)]
+pub struct PeerWindow {
+    /// The position after the window's last one.
+    edge: u64,
+    /// The position of the segment that the window is from, by the peer's numbers.
+    seq: u64,
+    /// The position that this segment acknowledged.
+    ack: u64,
+}
+
+/// Returns how many bytes the field of a segment announces. A scale above 14 counts as 14, as RFC 7323,
+/// section 2.3, has it.
+#[must_use]
 pub fn scaled(field: u16, scale: u8) -> u64
-    requires { scale ≤ 14 }
     // Guarantee.
-    ensures value { result ≡ field * 2 ^ scale }
+    ensures value { result ≡ field * 2 ^ shift_count scale }
     // Guarantee.
     ensures few { result < 2 ^ 30 }
 {
-    prove!(scale <= MAX_SCALE, "a greater scale than 14");
-    u64::from(field) << scale
+    u64::from(field) << scale.min(MAX_SCALE)
 }
 
 impl PeerWindow {
-    /// Returns the window that a segment announced.
-    pub fn new(seq: u64, ack: u64, window: u64) -> Self
-        ensures { result ≡ window_from seq ack window }
+    /// Returns the window before any segment: nothing may be sent but a probe, and no segment is older.
+    #[must_use]
+    pub const fn new() -> Self
+        ensures { result ≡ no_window }
     {
         PeerWindow {
-            edge: ack.saturating_add(window),
-            seq,
-            ack,
+            edge: 0,
+            seq: 0,
+            ack: 0,
         }
     }
 
+    /// Returns the window that a segment announced.
+    #[must_use]
+    pub fn of(it: Announcement) -> Self
+        ensures { result ≡ window_from it.seq it.ack it.window }
+    {
+        PeerWindow {
+            edge: it.ack.saturating_add(it.window),
+            seq: it.seq,
+            ack: it.ack,
+        }
+    }
+
+    /// Returns the position after the last that may be sent.
+    #[must_use]
+    pub const fn edge(&self) -> u64
+        ensures { result ≡ self.now.edge }
+    {
+        self.edge
+    }
+
+    /// Lets all positions below `edge` be sent, unless more may be already: for a protocol that announces
+    /// a position, and no number that tells which of two segments is the older one. Such a window doesn't shrink.
+    pub fn open_to(&mut self, edge: u64)
+        ensures { self.new ≡ opened_to self.old edge }
+    {
+        self.edge = self.edge.max(edge);
+    }
+
     /// Takes over the window of an acceptable segment, unless it acknowledges a position below
-    /// `first_unacknowledged` or above `sent`, or is older than the one before and acknowledges no
-    /// more. Returns whether it did. A window may shrink.
+    /// the first unacknowledged one or above what was sent, or is older than the one before and
+    /// acknowledges no more. Returns whether it did. A window may shrink.
     ///
     /// RFC 9293 takes none of an older number. So one forged segment ahead in the window would shut out
     /// each later one. It makes no difference whether the sender takes what the segment acknowledges
     /// before this call or after it.
-    pub fn update(
-        &mut self,
-        first_unacknowledged: u64,
-        sent: u64,
-        seq: u64,
-        ack: u64,
-        window: u64,
-    ) -> bool
+    pub fn update(&mut self, numbers: SentNumbers, it: Announcement) -> bool
         // Guarantee.
-        ensures accepted { IsTrue result ↔ ((first_unacknowledged ≤ ack) × (ack ≤ sent)
-            × (Replaces self.old seq ack)) }
-        // Guarantee.
-        ensures window { IsTrue result → self.new ≡ window_from seq ack window }
-        // Guarantee.
-        ensures refused { IsFalse result → self.new ≡ self.old }
-        ensures state { self.new
-            ≡ after_update self.old first_unacknowledged sent seq ack window }
+        ensures accepted { IsTrue result ↔ ((numbers.first_unacknowledged ≤ it.ack)
+            × (it.ack ≤ numbers.sent) × (Replaces self.old it.seq it.ack)) }
+        ensures state { self.new ≡ after_update self.old
+            numbers.first_unacknowledged numbers.sent it.seq it.ack it.window }
     {
-        if ack < first_unacknowledged || ack > sent || !self.is_replaced_by(seq, ack) {
+        let is_possible = numbers.first_unacknowledged <= it.ack && it.ack <= numbers.sent;
+        if !is_possible || !self.is_replaced_by(it.seq, it.ack) {
             return false;
         }
-        *self = PeerWindow::new(seq, ack, window);
+        *self = PeerWindow::of(it);
         true
     }
 
@@ -91,6 +121,7 @@ impl PeerWindow {
 
     /// Returns how many bytes from `pos` on may be sent: none if the edge is at or below it, as it
     /// may be after the window shrank.
+    #[must_use]
     pub fn usable(&self, pos: u64) -> u64
         // Guarantee.
         ensures { result ≡ self.now.edge - pos }
@@ -99,6 +130,7 @@ impl PeerWindow {
     }
 
     /// Returns the end of what may be sent of the bytes below `end`.
+    #[must_use]
     pub fn send_limit(&self, end: u64) -> u64
         // Guarantee.
         ensures { result ≡ min self.now.edge end }
@@ -108,6 +140,7 @@ impl PeerWindow {
 
     /// Returns whether a probe may be sent, the one byte at `first_unacknowledged`: the window has
     /// closed, and there are bytes below `end` that wait.
+    #[must_use]
     pub fn is_probe_allowed(&self, first_unacknowledged: u64, end: u64) -> bool
         // Guarantee.
         ensures value { IsTrue result
@@ -118,20 +151,23 @@ impl PeerWindow {
     {
         self.edge <= first_unacknowledged && first_unacknowledged < end
     }
+
     /// Returns the number of a segment without positions, as an acknowledgement is: `sent`, or the end of
-    /// the window if that is below it, or `first_unacknowledged` if the window ends before that.
+    /// the window if that is below it, or the first unacknowledged position if the window ends before that.
     ///
     /// A peer whose window is shut takes no number beyond it, though a probe was sent there, nor what
     /// such a segment acknowledges.
-    pub fn acknowledgement_number(&self, first_unacknowledged: u64, sent: u64) -> u64
-        ensures value { result ≡ acknowledgement_number self.now first_unacknowledged sent }
+    #[must_use]
+    pub fn acknowledgement_number(&self, numbers: SentNumbers) -> u64
+        ensures value { result ≡ acknowledgement_number self.now numbers.first_unacknowledged numbers.sent }
         // Guarantee.
-        ensures sent { result ≤ sent }
+        ensures sent { result ≤ numbers.sent }
         // Guarantee.
-        ensures promised { result ≤ max self.now.edge first_unacknowledged }
+        ensures promised { result ≤ max self.now.edge numbers.first_unacknowledged }
         // Guarantee.
-        ensures first { first_unacknowledged ≤ sent → first_unacknowledged ≤ result }
+        ensures first { numbers.first_unacknowledged ≤ numbers.sent → numbers.first_unacknowledged ≤ result }
     {
-        sent.min(self.edge.max(first_unacknowledged))
+        let first = numbers.first_unacknowledged;
+        numbers.sent.min(self.edge.max(first))
     }
 }

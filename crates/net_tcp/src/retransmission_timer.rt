@@ -1,75 +1,103 @@
-//! The timer of retransmissions, in whole microseconds.
+//! The timer of retransmissions.
 ghost use Rattle.std.specs.Prelude.{◌≡◌};
-ghost use Rattle.net_tcp.specs.RetransmissionTimeout.{IsSmallIfAny, estimate_of};
-ghost use Rattle.net_tcp.specs.RetransmissionTimer.{new_timer, expiry_of, timed_of};
-ghost use Rattle.net_tcp.specs.RetransmissionTimer.{restarted, started, stopped, times, untimed};
+ghost use Rattle.net_tcp.specs.RetransmissionTimer.{new_timer};
+ghost use Rattle.net_tcp.specs.RetransmissionTimer.{restarted, started, stopped, times};
 ghost use Rattle.net_tcp.specs.RetransmissionTimer.{timed_after, after_sending, with_sample};
 ghost use Rattle.net_tcp.specs.RetransmissionTimer.{after_acknowledged, has_expired, after_expiry};
 
-use crate::retransmission::{RetransmissionTimeout, TimeoutBounds};
+use crate::retransmission::{RetransmissionTimeout, RttEstimate, TimeoutBounds};
+use net_base::time::{Duration, Instant};
+use net_numbers::SentNumbers;
+use std::ops::Range;
+
+/// A segment that is timed: it was sent once.
+#[derive(Copy, Clone, Debug, PartialEq, Eq, Hash)]
+pub struct TimedSegment {
+    /// Its first position.
+    pub pos: u64,
+    /// When it was sent.
+    pub since: Instant,
+}
 
 /// The timer of retransmissions, by the rules of RFC 6298, section 5, and the one segment that is timed
-/// for a sample. Its numbers but `timeout` are 0 at first. Moments are in microseconds of one clock.
+/// for a sample.
 ///
 /// Positions and calls are those of a sender. The timer runs while something that was sent isn't
-/// acknowledged; `start` also starts it where something else is waited for, as a window that opens.
-#[repr(C)]
-#[derive(Copy, Clone, Debug)]
+/// acknowledged; `start` also starts it where something else is waited for, as a window that opens. Then it
+/// runs until `stop`, or until all that was sent is acknowledged, if some of it wasn't before.
+#[derive(Copy, Clone, Debug, PartialEq, Eq, Hash)]
 pub struct RetransmissionTimer {
-    /// The timeout.
-    pub timeout: RetransmissionTimeout,
-    /// When it expires, while it runs.
-    pub expiry: u64,
-    /// Not 0 while it runs; this library writes 1 then.
-    pub is_running: u64,
-    /// The position of the timed segment, if there is one.
-    pub timed: u64,
-    /// When that was sent.
-    pub timed_since: u64,
-    /// Not 0 while a segment is timed; this library writes 1 then.
-    pub is_timing: u64,
+    timeout: RetransmissionTimeout,
+    expires_at: Option<Instant>,
+    timed: Option<TimedSegment>,
 }
 
 impl RetransmissionTimer {
     /// Returns a timer that doesn't run, with a timeout before any sample. The RFC has 1 second.
-    pub const fn new(timeout: u64) -> Self
+    #[must_use]
+    pub const fn new(timeout: Duration) -> Self
         ensures { result ≡ new_timer timeout }
     {
         RetransmissionTimer {
             timeout: RetransmissionTimeout::new(timeout),
-            expiry: 0,
-            is_running: 0,
-            timed: 0,
-            timed_since: 0,
-            is_timing: 0,
+            expires_at: None,
+            timed: None,
         }
+    }
+
+    /// Returns a timer with this timeout, which expires then, if at all, and times this segment, if any.
+    #[must_use]
+    pub const fn from_parts(
+        timeout: RetransmissionTimeout,
+        expires_at: Option<Instant>,
+        timed: Option<TimedSegment>,
+    ) -> Self
+        ensures { result ≡ record { timeout = timeout; expires_at = expires_at; timed = timed } }
+    {
+        RetransmissionTimer {
+            timeout,
+            expires_at,
+            timed,
+        }
+    }
+
+    /// Returns the timeout.
+    #[must_use]
+    pub fn timeout(&self) -> Duration
+        ensures { result ≡ self.now.timeout.timeout }
+    {
+        self.timeout.timeout()
+    }
+
+    /// Returns the estimate of the time of a round trip, if there was a sample.
+    #[must_use]
+    pub fn rtt(&self) -> Option<RttEstimate>
+        ensures { result ≡ self.now.timeout.estimate }
+    {
+        self.timeout.rtt()
     }
 
     /// Returns when it expires, if it runs.
-    pub fn expires_at(&self) -> Option<u64>
-        ensures { result ≡ expiry_of self.now }
+    #[must_use]
+    pub fn expires_at(&self) -> Option<Instant>
+        ensures { result ≡ self.now.expires_at }
     {
-        if self.is_running == 0 {
-            return None;
-        }
-        Some(self.expiry)
+        self.expires_at
     }
 
-    /// Returns the position of the timed segment, if there is one.
-    pub fn timed_position(&self) -> Option<u64>
-        ensures { result ≡ timed_of self.now }
+    /// Returns the segment that is timed, if there is one.
+    #[must_use]
+    pub fn timed(&self) -> Option<TimedSegment>
+        ensures { result ≡ self.now.timed }
     {
-        if self.is_timing == 0 {
-            return None;
-        }
-        Some(self.timed)
+        self.timed
     }
 
     /// Starts the timer, unless it runs: the timeout from `now` on it expires.
-    pub fn start(&mut self, now: u64)
+    pub fn start(&mut self, now: Instant)
         ensures { self.new ≡ started now self.old }
     {
-        if self.is_running == 0 {
+        if self.expires_at.is_none() {
             self.restart(now);
         }
     }
@@ -78,94 +106,75 @@ impl RetransmissionTimer {
     pub fn stop(&mut self)
         ensures { self.new ≡ stopped self.old }
     {
-        self.expiry = 0;
-        self.is_running = 0;
+        self.expires_at = None;
     }
 
-    /// Takes notice that the positions from `pos` on and below `end` are sent `now`, and starts the timer,
-    /// unless it runs. `sent` is the position after the last that was sent before. Nothing changes if
-    /// there are no positions.
+    /// Takes notice that these positions are sent `now`, and starts the timer, unless it runs. `numbers`
+    /// are the sender's before that. Nothing changes if there are no positions.
     ///
-    /// If no segment is timed, one that begins at `sent` or above is then. One that was timed is no
+    /// If no segment is timed, one of which nothing was sent before is then. One that was timed is no
     /// longer if it is sent again: which of the copies an acknowledgement is for is not known (Karn).
-    pub fn sent(&mut self, pos: u64, end: u64, sent: u64, now: u64)
-        ensures { self.new ≡ after_sending pos end sent now self.old }
+    pub fn sent(&mut self, positions: Range<u64>, numbers: SentNumbers, now: Instant)
+        ensures { self.new ≡ after_sending positions.start positions.end numbers.sent now self.old }
     {
-        if pos >= end {
+        if positions.start >= positions.end {
             return;
         }
         self.start(now);
-        self.time(pos, end, sent, now);
+        self.time(positions.start, positions.end, numbers.sent, now);
     }
 
     /// Times a range that is sent now, or no longer times one that is in it.
-    fn time(&mut self, pos: u64, end: u64, sent: u64, now: u64)
-        ensures state { self.new ≡ timed_after pos end sent now self.old }
+    fn time(&mut self, pos: u64, end: u64, sent: u64, now: Instant)
+        ensures { self.new ≡ timed_after pos end sent now self.old }
     {
         if self.times(pos, end) {
-            self.untime();
-        } else if self.is_timing == 0 && sent <= pos {
-            self.timed = pos;
-            self.timed_since = now;
-            self.is_timing = 1;
+            self.timed = None;
+        } else if self.timed.is_none() && sent <= pos {
+            self.timed = Some(TimedSegment { pos, since: now });
         }
     }
 
     /// Takes the sample of the timed segment, if there is one, since it has arrived: as `acknowledged`
     /// finds out, and as a SACK block may say.
-    ///
-    /// # Requires
-    ///
-    /// The estimate, if there is one, was made by samples, as `timeout.is_small` tests.
-    pub fn take_sample(&mut self, bounds: TimeoutBounds, now: u64)
-        requires { IsSmallIfAny (estimate_of self.old.timeout) }
-        ensures state { self.new ≡ with_sample bounds now self.old }
-        ensures small { IsSmallIfAny (estimate_of self.new.timeout) }
+    pub fn take_sample(&mut self, bounds: TimeoutBounds, now: Instant)
+        ensures { self.new ≡ with_sample bounds now self.old }
     {
-        prove!(
-            self.timeout.is_small(),
-            "an estimate that was not made by samples"
-        );
-        if self.is_timing == 0 {
-            return;
+        match self.timed {
+            Some(segment) => {
+                let time = now.saturating_duration_since(segment.since);
+                self.timeout.take_sample(bounds, time);
+                self.timed = None;
+            }
+            None => {}
         }
-        self.timeout
-            .take_sample(bounds, now.saturating_sub(self.timed_since));
-        self.untime();
     }
 
     /// Takes an acknowledgement of all positions below `next`: the sample of the timed segment, if that
-    /// is below; then, if `next` is `sent` or above, it stops the timer, and otherwise, if it is above
-    /// `first_unacknowledged`, starts it again. A repeated acknowledgement does neither.
+    /// is below; then, if it acknowledges something new, it stops the timer if all that was sent is below
+    /// `next`, and otherwise starts it again. A repeated
+    /// acknowledgement does neither, also if nothing is on the way and `start` began the timer.
     ///
-    /// `first_unacknowledged` and `sent` are the sender's before it takes the acknowledgement.
-    ///
-    /// # Requires
-    ///
-    /// The estimate, if there is one, was made by samples, as `timeout.is_small` tests.
+    /// `numbers` are the sender's before it takes the acknowledgement.
     pub fn acknowledged(
         &mut self,
         bounds: TimeoutBounds,
-        first_unacknowledged: u64,
-        sent: u64,
+        numbers: SentNumbers,
         next: u64,
-        now: u64,
+        now: Instant,
     )
-        requires { IsSmallIfAny (estimate_of self.old.timeout) }
-        ensures state { self.new
-            ≡ after_acknowledged bounds first_unacknowledged sent next now self.old }
-        ensures small { IsSmallIfAny (estimate_of self.new.timeout) }
+        ensures { self.new ≡ after_acknowledged bounds
+            numbers.first_unacknowledged numbers.sent next now self.old }
     {
-        prove!(
-            self.timeout.is_small(),
-            "an estimate that was not made by samples"
-        );
         if self.times(0, next) {
             self.take_sample(bounds, now);
         }
-        if sent <= next {
+        if next <= numbers.first_unacknowledged {
+            return;
+        }
+        if numbers.sent <= next {
             self.stop();
-        } else if first_unacknowledged < next {
+        } else {
             self.restart(now);
         }
     }
@@ -173,40 +182,43 @@ impl RetransmissionTimer {
     /// If the timer has expired, doubles the timeout within the bounds, starts it again, and times no
     /// segment any longer. Returns whether it had: then the first segment that isn't acknowledged is
     /// to be sent again. Otherwise nothing changes.
-    pub fn expire(&mut self, bounds: TimeoutBounds, now: u64) -> bool
+    pub fn expire(&mut self, bounds: TimeoutBounds, now: Instant) -> bool
         ensures result { result ≡ has_expired self.old now }
         ensures state { self.new ≡ after_expiry bounds now self.old }
     {
-        if self.is_running == 0 || now < self.expiry {
+        if !self.has_expired(now) {
             return false;
         }
         self.timeout.expired(bounds);
-        self.untime();
+        self.timed = None;
         self.restart(now);
         true
     }
 
+    /// Returns whether it runs, and it is time.
+    fn has_expired(&self, now: Instant) -> bool
+        ensures { result ≡ has_expired self.now now }
+    {
+        match self.expires_at {
+            Some(at) => at <= now,
+            None => false,
+        }
+    }
+
     /// Starts the timer, whether it runs or not.
-    fn restart(&mut self, now: u64)
+    fn restart(&mut self, now: Instant)
         ensures { self.new ≡ restarted now self.old }
     {
-        self.expiry = now.saturating_add(self.timeout.timeout);
-        self.is_running = 1;
+        self.expires_at = Some(now.saturating_add(self.timeout.timeout()));
     }
 
     /// Returns whether the timed segment is at `from` or above, and below `to`.
     fn times(&self, from: u64, to: u64) -> bool
         ensures { result ≡ times self.now from to }
     {
-        self.is_timing != 0 && from <= self.timed && self.timed < to
-    }
-
-    /// Times no segment.
-    fn untime(&mut self)
-        ensures { self.new ≡ untimed self.old }
-    {
-        self.timed = 0;
-        self.timed_since = 0;
-        self.is_timing = 0;
+        match self.timed {
+            Some(segment) => from <= segment.pos && segment.pos < to,
+            None => false,
+        }
     }
 }

@@ -3,7 +3,6 @@ use core::{array, fmt};
 
 use crate::config::ASSEMBLER_MAX_SEGMENT_COUNT;
 use crate::proved::net_assembler::Assembler as Runs;
-pub use crate::proved::net_assembler::TooManyHolesError;
 
 /// A set of positions of which data has arrived, in as many runs as the build says.
 pub type Assembler = Runs<ASSEMBLER_MAX_SEGMENT_COUNT>;
@@ -15,8 +14,13 @@ impl Assembler {
     }
 }
 
-crate::proved::rattle::error_text! {
-    TooManyHolesError, _error => "too many holes";
+impl<const N: usize> Clone for Runs<N> {
+    fn clone(&self) -> Self {
+        match crate::proved::rattle::Clone::clone(self) {
+            Ok(same) => same,
+            Err(_) => unreachable!(),
+        }
+    }
 }
 
 /// A hole and the data after it, as they are printed.

@@ -13,7 +13,6 @@ pub use crate::proved::net_ring::{Empty, Full, Resettable, RingBuffer};
 // Documentation shows the methods of an alias only where it shows the type.
 #[cfg(doc)]
 pub use crate::proved::{
-    contracts,
     net_assembler::Assembler as AssemblerOf,
     net_packets::PacketsOver,
     net_ring::{RingOver, Storage},

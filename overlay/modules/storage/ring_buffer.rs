@@ -1,7 +1,16 @@
-//! What Rattle has no words for in a ring: its text.
+//! What Rattle has no words for in a ring: storage that is converted, and its text.
 use core::fmt;
 
-use crate::proved::net_ring::{RingBuffer, RingHead, Storage};
+use managed::ManagedSlice;
+
+use crate::proved::net_ring::{RingBuffer, RingHead, RingOver, Storage};
+
+impl<'a, T> RingBuffer<'a, T> {
+    /// Returns an empty ring over the storage, whose elements stay as they are.
+    pub fn new<S: Into<ManagedSlice<'a, T>>>(storage: S) -> Self {
+        RingOver::over(storage.into())
+    }
+}
 
 /// What is printed of a ring: its storage and its head.
 pub(super) struct Shown<'s, S>(pub(super) &'s S, pub(super) RingHead);
@@ -16,7 +25,7 @@ impl<S: fmt::Debug> fmt::Debug for Shown<'_, S> {
     }
 }
 
-impl<T, S: Storage<T> + fmt::Debug> fmt::Debug for RingBuffer<'_, T, S> {
+impl<T, S: Storage<T> + fmt::Debug> fmt::Debug for RingOver<T, S> {
     fn fmt(&self, f: &mut fmt::Formatter) -> fmt::Result {
         Shown(&self.storage, self.head).fmt(f)
     }

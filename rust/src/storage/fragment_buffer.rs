@@ -1,7 +1,7 @@
 //! By hand, of a buffer of fragments: storage that is converted, and what is printed.
 use core::fmt;
 
-use super::FragmentBuffer;
+use super::{FragmentBuffer, FragmentsOver};
 use crate::managed::ManagedSlice;
 use crate::proved::net_ring::Storage;
 use crate::time::Instant;
@@ -36,7 +36,7 @@ impl<'a, const N: usize> FragmentBuffer<'a, N> {
     }
 }
 
-impl<B: Storage<u8>, const N: usize> fmt::Debug for FragmentBuffer<'_, N, B> {
+impl<B: Storage<u8>, const N: usize> fmt::Debug for FragmentsOver<B, N> {
     fn fmt(&self, f: &mut fmt::Formatter) -> fmt::Result {
         f.debug_struct("FragmentBuffer")
             .field("capacity", &self.capacity())

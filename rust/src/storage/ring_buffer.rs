@@ -1,10 +1,19 @@
-//! By hand, of a ring: what is printed, since Rattle would print its storage, and traits that Rattle hasn't.
+//! By hand, of a ring: storage that is converted, what is printed, since Rattle would print its storage, and traits that
+//! Rattle hasn't.
 use core::fmt;
 
-use super::{RingBuffer, Storage};
+use super::{RingBuffer, RingOver, Storage};
+use crate::managed::ManagedSlice;
 use crate::proved::net_ring::ring_buffer::Iter;
 
-impl<'a, T, S: Storage<T>> IntoIterator for &'a RingBuffer<'_, T, S> {
+impl<'a, T> RingBuffer<'a, T> {
+    /// Returns an empty ring over the storage, whose elements stay as they are.
+    pub fn new<S: Into<ManagedSlice<'a, T>>>(storage: S) -> Self {
+        RingOver::over(storage.into())
+    }
+}
+
+impl<'a, T, S: Storage<T>> IntoIterator for &'a RingOver<T, S> {
     type Item = &'a T;
     type IntoIter = Iter<'a, T>;
 
@@ -14,7 +23,7 @@ impl<'a, T, S: Storage<T>> IntoIterator for &'a RingBuffer<'_, T, S> {
 }
 
 /// Panics if there is no room for an element: those before it are queued.
-impl<T, S: Storage<T>> Extend<T> for RingBuffer<'_, T, S> {
+impl<T, S: Storage<T>> Extend<T> for RingOver<T, S> {
     fn extend<I: IntoIterator<Item = T>>(&mut self, elements: I) {
         for element in elements {
             self.push_one(element).expect("room for an element");
@@ -23,7 +32,7 @@ impl<T, S: Storage<T>> Extend<T> for RingBuffer<'_, T, S> {
 }
 
 /// A text for which there is no room isn't queued, nor a part of it.
-impl<S: Storage<u8>> fmt::Write for RingBuffer<'_, u8, S> {
+impl<S: Storage<u8>> fmt::Write for RingOver<u8, S> {
     fn write_str(&mut self, text: &str) -> fmt::Result {
         if text.len() > self.window() {
             return Err(fmt::Error);
@@ -33,7 +42,7 @@ impl<S: Storage<u8>> fmt::Write for RingBuffer<'_, u8, S> {
     }
 }
 
-impl<T, S: Storage<T>> fmt::Debug for RingBuffer<'_, T, S> {
+impl<T, S: Storage<T>> fmt::Debug for RingOver<T, S> {
     fn fmt(&self, f: &mut fmt::Formatter) -> fmt::Result {
         f.debug_struct("RingBuffer")
             .field("capacity", &self.capacity())

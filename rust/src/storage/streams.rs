@@ -2,30 +2,30 @@
 //! be none.
 use std::io::{Read, Result, Write};
 
-use super::{RingBuffer, Storage};
-use crate::finite::{FiniteReceiver, FiniteSender};
-use crate::receiver::Receiver;
-use crate::sender::Sender;
+use super::{RingOver, Storage};
+use crate::finite::{FiniteReceiverOver, FiniteSenderOver};
+use crate::receiver::ReceiverOver;
+use crate::sender::SenderOver;
 
-impl<S: Storage<u8>> Read for RingBuffer<'_, u8, S> {
+impl<S: Storage<u8>> Read for RingOver<u8, S> {
     fn read(&mut self, into: &mut [u8]) -> Result<usize> {
         Ok(self.dequeue_slice(into))
     }
 }
 
-impl<S: Storage<u8>, const N: usize> Read for Receiver<'_, N, S> {
+impl<S: Storage<u8>, const N: usize> Read for ReceiverOver<S, N> {
     fn read(&mut self, into: &mut [u8]) -> Result<usize> {
-        Ok(Receiver::read(self, into))
+        Ok(ReceiverOver::read(self, into))
     }
 }
 
-impl<S: Storage<u8>, const N: usize> Read for FiniteReceiver<'_, N, S> {
+impl<S: Storage<u8>, const N: usize> Read for FiniteReceiverOver<S, N> {
     fn read(&mut self, into: &mut [u8]) -> Result<usize> {
-        Ok(FiniteReceiver::read(self, into))
+        Ok(FiniteReceiverOver::read(self, into))
     }
 }
 
-impl<S: Storage<u8>> Write for RingBuffer<'_, u8, S> {
+impl<S: Storage<u8>> Write for RingOver<u8, S> {
     fn write(&mut self, bytes: &[u8]) -> Result<usize> {
         Ok(self.enqueue_slice(bytes))
     }
@@ -35,9 +35,9 @@ impl<S: Storage<u8>> Write for RingBuffer<'_, u8, S> {
     }
 }
 
-impl<S: Storage<u8>> Write for Sender<'_, S> {
+impl<S: Storage<u8>> Write for SenderOver<S> {
     fn write(&mut self, bytes: &[u8]) -> Result<usize> {
-        Ok(Sender::write(self, bytes))
+        Ok(SenderOver::write(self, bytes))
     }
 
     fn flush(&mut self) -> Result<()> {
@@ -45,9 +45,9 @@ impl<S: Storage<u8>> Write for Sender<'_, S> {
     }
 }
 
-impl<S: Storage<u8>> Write for FiniteSender<'_, S> {
+impl<S: Storage<u8>> Write for FiniteSenderOver<S> {
     fn write(&mut self, bytes: &[u8]) -> Result<usize> {
-        Ok(FiniteSender::write(self, bytes))
+        Ok(FiniteSenderOver::write(self, bytes))
     }
 
     fn flush(&mut self) -> Result<()> {

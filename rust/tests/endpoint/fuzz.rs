@@ -227,13 +227,13 @@ impl Model {
     }
 
     fn wait(&mut self) {
-        let timer = self.talk.endpoint.timer.expires().map(|timer| timer - self.talk.now);
+        let timer = self.talk.endpoint.timer.expires_at().map(|timer| timer - self.talk.now);
         let rest = timer.map_or(0, |timer| timer.total_micros());
         let micros = self.any([0, 0, 1, 1_000, rest as i64]) as u64;
         let said = self.talk.wait(micros);
         self.judge_all(&said);
         let waits = self.acked < self.written + i64::from(self.closed);
-        assert!(self.talk.endpoint.timer.expires().is_some() || !waits, "nothing wakes it");
+        assert!(self.talk.endpoint.timer.expires_at().is_some() || !waits, "nothing wakes it");
     }
 }
 

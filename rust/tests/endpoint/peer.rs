@@ -232,7 +232,7 @@ impl<const N: usize> Talk<N> {
 
     /// Waits for the timer, and returns after how many microseconds it ended, and what is sent.
     pub fn expire(&mut self) -> (u64, Vec<Packet>) {
-        let micros = (self.endpoint.timer.expires().expect("a timer") - self.now).total_micros();
+        let micros = (self.endpoint.timer.expires_at().expect("a timer") - self.now).total_micros();
         (micros, self.wait(micros))
     }
 

@@ -357,9 +357,9 @@ fn windows_open_and_close() {
     talk.say(&peer(0, 0).text(&[7; 64]));
     assert_eq!(challenge(&talk.wait(0), 64).window, 0);
     assert_eq!(challenge(&talk.say(&peer(65, 10).text(b"x")), 64).window, 0);
-    assert!(talk.endpoint.timer.expires().is_some());
+    assert!(talk.endpoint.timer.expires_at().is_some());
     assert_eq!(challenge(&talk.say(&peer(64, 10).text(b"x")), 64).window, 0);
-    assert!(talk.endpoint.timer.expires().is_none() && talk.endpoint.sender.is_empty());
+    assert!(talk.endpoint.timer.expires_at().is_none() && talk.endpoint.sender.is_empty());
     assert_eq!(talk.read(100), [7; 64]);
     // A few bytes that are read are no reason for an update, nor do they move the edge.
     let mut talk = Talk::<4>::open(4_000, OPTIONS);

@@ -132,7 +132,7 @@ fn timeouts() {
     assert_eq!(other.expire().0, 200_000);
     // Nothing is on the way: no timer. And 200 ms at least.
     talk.say(&peer(0, 1005));
-    assert_eq!(talk.endpoint.timer.expires(), None);
+    assert_eq!(talk.endpoint.timer.expires_at(), None);
     for at in 1_005..1_060 {
         write(&mut talk, at, at + 1);
         talk.wait(0);
@@ -230,7 +230,7 @@ fn the_own_end() {
     talk.say(&peer(0, 1002));
     assert!(
         talk.endpoint.sender.is_closed_and_acknowledged()
-            && talk.endpoint.timer.expires().is_none()
+            && talk.endpoint.timer.expires_at().is_none()
     );
     // It is sent again like text, and with the last bytes where the segment has room.
     let mut talk = self::talk(999);

@@ -32,11 +32,11 @@ impl<S: Storage<u8>, const N: usize> Subject for Ending<S, N> {
         match call.name {
             "keep" => {
                 let data = pattern(call.size(1), call.at(2));
-                unless_panics("forbidden", || match receiver.keep(one, &data, call.at(3) == 1) {
+                match receiver.keep(one, &data, call.at(3) == 1) {
                     Ok(kept) => format!("{} {}", kept.kept, kept.queued),
                     Err(FiniteError::TooManyHoles) => "refused".to_string(),
                     Err(FiniteError::OtherEnd) => "other_end".to_string(),
-                })
+                }
             }
             "read" => {
                 let mut into = vec![0; call.size(0)];

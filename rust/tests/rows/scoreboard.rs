@@ -1,7 +1,7 @@
 //! Scoreboards.
 use crate::show::{digest, mix, truth, START};
 use crate::{Call, Subject};
-use net_base::scoreboard::Scoreboard;
+use net_base::scoreboard::{ReportError, Scoreboard};
 use net_base::sequence_number::SequenceNumber;
 
 /// A scoreboard, and its stream's first position.
@@ -22,16 +22,24 @@ fn range(hole: Option<(u64, u64)>) -> String {
     hole.map_or("none".to_string(), |(start, end)| format!("{start}-{end}"))
 }
 
+fn answer(report: Result<(), ReportError>) -> String {
+    match report {
+        Ok(()) => "1",
+        Err(ReportError::NoBlock) => "0",
+        Err(ReportError::TooManyHoles) => "refused",
+    }
+    .to_string()
+}
+
 impl<const N: usize> Subject for Board<N> {
     fn make(&mut self, call: &Call) -> String {
         let (board, one, two) = (&mut self.board, call.at(0), call.at(1));
         match call.name {
-            "report" => board.report(one, two, call.at(2)).map_or("refused", truth).to_string(),
+            "report" => answer(board.report(one, two, call.at(2))),
             "report_block" => {
                 let [initial, start, end] =
                     [0, 1, 2].map(|index| SequenceNumber::new(call.at(index) as u32));
-                let known = board.report_block(initial, start, end, call.at(3));
-                known.map_or("refused", truth).to_string()
+                answer(board.report_block(initial, start, end, call.at(3)))
             }
             "acknowledge" => {
                 board.acknowledge(one);

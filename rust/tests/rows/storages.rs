@@ -9,7 +9,7 @@ pub enum Stored {
     Slice,
     /// Owned, and not converted.
     Vector,
-    /// An array of 0, 1, 257 or 70,000 bytes.
+    /// An array of 0, 1, 257 or 70,000 bytes; another count is lent.
     Array,
 }
 
@@ -34,7 +34,6 @@ macro_rules! with_storage {
         use crate::storages::{array, lent};
         let bytes: Vec<u8> = $bytes;
         match ($stored, bytes.len()) {
-            (Stored::Lent, _) => with_storage!($make lent(&bytes), $new, $f),
             (Stored::Owned, _) => with_storage!($make bytes.clone(), $new, $f),
             (Stored::Slice, _) => with_storage!($make lent(&bytes), $over, $f),
             (Stored::Vector, _) => with_storage!($make bytes.clone(), $over, $f),
@@ -42,7 +41,7 @@ macro_rules! with_storage {
             (Stored::Array, 1) => with_storage!($make array::<1>(&bytes), $over, $f),
             (Stored::Array, 257) => with_storage!($make array::<257>(&bytes), $over, $f),
             (Stored::Array, 70_000) => with_storage!($make array::<70_000>(&bytes), $over, $f),
-            (Stored::Array, size) => panic!("no array of {size} bytes"),
+            (Stored::Lent | Stored::Array, _) => with_storage!($make lent(&bytes), $new, $f),
         }
     }};
     ($make:ident $one:expr, $subject:expr, $f:expr) => {{

@@ -3,9 +3,10 @@ use crate::show::{pattern, truth};
 use crate::{unless_panics, Call, Subject};
 use net_base::tcp::{
     checksum, classify, is_acceptable, is_acknowledgement, is_valid, scale_for, scaled,
-    updated_checksum, AdvertisedWindow, Arrival, PartsSum, PeerWindow, RetransmissionTimeout,
-    RttEstimate, Segment, TimeoutBounds,
+    updated_checksum, AdvertisedWindow, Announcement, Arrival, PartsSum, PeerWindow,
+    RetransmissionTimeout, RttEstimate, Segment, SentNumbers, TimeoutBounds,
 };
+use net_base::time::Duration;
 
 pub struct Tcp;
 
@@ -15,42 +16,41 @@ impl Subject for Tcp {
         match call.name {
             "is_acceptable" => truth(is_acceptable(one, two, three, four)).to_string(),
             "classify" => arrival(call).to_string(),
-            "is_acknowledgement" => truth(is_acknowledgement(one, two, three, four)).to_string(),
+            "is_acknowledgement" => {
+                truth(is_acknowledgement(sent_numbers(one, two), three, four)).to_string()
+            }
             "scale_for" => scale_for(one).to_string(),
             "announce" | "announce_in_steps" | "is_update_due" => {
                 unless_panics("forbidden", || announce(call))
             }
             "peer_update" => peer_update(call),
             "peer_room" => {
-                let peer = PeerWindow { edge: one, seq: 0, ack: 0 };
+                let peer = peer_window(one);
                 format!("{} {}", peer.usable(two), truth(peer.is_probe_allowed(two, three)))
             }
             "acknowledgement_number" => {
-                let peer = PeerWindow { edge: one, seq: 0, ack: 0 };
-                peer.acknowledgement_number(two, three).to_string()
+                peer_window(one).acknowledgement_number(sent_numbers(two, three)).to_string()
             }
-            "scaled" => unless_panics("forbidden", || scaled(one as u16, two as u8).to_string()),
+            "scaled" => scaled(one as u16, two as u8).to_string(),
             "checksum" => checksum(&pattern(call.size(0), two)).to_string(),
             "checksum_parts" => parts(&pattern(call.size(0), two), call.size(2), call.size(3)),
             "is_valid" => valid(&mut pattern(call.size(0), two), call.size(2)),
             "updated_checksum" => {
                 updated_checksum(one as u16, two as u16, three as u16).to_string()
             }
-            "first_sample" => estimate(RttEstimate::first(one)),
-            "next_sample" => unless_panics("forbidden", || {
-                let before = RttEstimate { srtt_8: one, rttvar_4: two };
-                let after = before.with_sample(three);
-                assert!(before.is_small());
-                estimate(after)
-            }),
+            "first_sample" => estimate(RttEstimate::first(Duration::from_micros(one))),
+            "next_sample" => {
+                let before = RttEstimate::from_scaled(one, two);
+                estimate(before.with_sample(Duration::from_micros(three)))
+            }
             "timeout" => {
-                let bounds = TimeoutBounds { least: three, most: four, tick: call.at(4) };
-                RttEstimate { srtt_8: one, rttvar_4: two }.timeout(bounds).to_string()
+                let bounds = bounds(three, four, call.at(4));
+                RttEstimate::from_scaled(one, two).timeout(bounds).total_micros().to_string()
             }
             "expired" => {
-                let mut timer = RetransmissionTimeout::new(one);
-                timer.expired(TimeoutBounds { least: two, most: three, tick: 0 });
-                timer.timeout.to_string()
+                let mut timer = RetransmissionTimeout::new(Duration::from_micros(one));
+                timer.expired(bounds(two, three, 0));
+                timer.timeout().total_micros().to_string()
             }
             name => panic!("no call {name}"),
         }
@@ -75,7 +75,7 @@ fn arrival(call: &Call) -> &'static str {
 
 /// The calls of a window of which numbers were announced.
 fn announce(call: &Call) -> String {
-    let mut window = AdvertisedWindow { edge: call.at(0) };
+    let mut window = AdvertisedWindow::new(call.at(0));
     let (scale, next, end) = (call.at(1) as u8, call.at(2), call.at(3));
     let (capacity, mss) = (call.at(4), call.at(5) as u16);
     let field = match call.name {
@@ -83,13 +83,26 @@ fn announce(call: &Call) -> String {
         "announce_in_steps" => window.announce_in_steps(scale, next, end, capacity, mss),
         _ => return truth(window.is_update_due(scale, next, end, capacity, mss)).to_string(),
     };
-    format!("{field} {}", window.edge)
+    format!("{field} {}", window.edge())
 }
 
 fn peer_update(call: &Call) -> String {
-    let mut peer = PeerWindow { edge: call.at(0), seq: call.at(1), ack: call.at(2) };
-    let is_new = peer.update(call.at(3), call.at(4), call.at(5), call.at(6), call.at(7));
-    format!("{} {} {} {}", truth(is_new), peer.edge, peer.seq, peer.ack)
+    let [edge, seq, ack] = [0, 1, 2].map(|index| call.at(index));
+    let mut peer = PeerWindow::of(Announcement { seq, ack, window: edge - ack });
+    let [seq, ack, window] = [5, 6, 7].map(|index| call.at(index));
+    let it = Announcement { seq, ack, window };
+    let is_new = peer.update(sent_numbers(call.at(3), call.at(4)), it);
+    format!("{} {}", truth(is_new), peer.edge())
+}
+
+fn peer_window(edge: u64) -> PeerWindow {
+    let mut peer = PeerWindow::new();
+    peer.open_to(edge);
+    peer
+}
+
+fn sent_numbers(first_unacknowledged: u64, sent: u64) -> SentNumbers {
+    SentNumbers { first_unacknowledged, sent }
 }
 
 fn parts(bytes: &[u8], one: usize, other: usize) -> String {
@@ -109,5 +122,11 @@ fn valid(bytes: &mut [u8], at: usize) -> String {
 }
 
 fn estimate(estimate: RttEstimate) -> String {
-    format!("{} {}", estimate.srtt_8, estimate.rttvar_4)
+    let (srtt_8, rttvar_4) = estimate.scaled();
+    format!("{srtt_8} {rttvar_4}")
+}
+
+fn bounds(least: u64, most: u64, tick: u64) -> TimeoutBounds {
+    let [least, most, tick] = [least, most, tick].map(Duration::from_micros);
+    TimeoutBounds { least, most, tick }
 }

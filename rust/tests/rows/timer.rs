@@ -1,7 +1,8 @@
 //! Timers of retransmissions.
 use crate::show::truth;
 use crate::{Call, Subject};
-use net_base::tcp::{RetransmissionTimer, TimeoutBounds};
+use net_base::tcp::{RetransmissionTimer, SentNumbers, TimeoutBounds};
+use net_base::time::{Duration, Instant};
 
 /// A timer, and the bounds of its timeout.
 pub struct Timer {
@@ -12,8 +13,12 @@ pub struct Timer {
 impl Timer {
     pub fn new(first: &Call) -> Self {
         Timer {
-            timer: RetransmissionTimer::new(first.at(0)),
-            bounds: TimeoutBounds { least: first.at(1), most: first.at(2), tick: 1 },
+            timer: RetransmissionTimer::new(Duration::from_micros(first.at(0))),
+            bounds: TimeoutBounds {
+                least: Duration::from_micros(first.at(1)),
+                most: Duration::from_micros(first.at(2)),
+                tick: Duration::from_micros(1),
+            },
         }
     }
 }
@@ -23,12 +28,15 @@ impl Subject for Timer {
         let (timer, bounds) = (&mut self.timer, self.bounds);
         let [one, two, three, four] = [0, 1, 2, 3].map(|index| call.at(index));
         match call.name {
-            "start" => timer.start(one),
+            "start" => timer.start(moment(one)),
             "stop" => timer.stop(),
-            "sent" => timer.sent(one, two, three, four),
-            "take_sample" => timer.take_sample(bounds, one),
-            "acknowledged" => timer.acknowledged(bounds, one, two, three, four),
-            "expire" => return truth(timer.expire(bounds, one)).to_string(),
+            "sent" => timer.sent(one..two, SentNumbers { first_unacknowledged: 0, sent: three }, moment(four)),
+            "take_sample" => timer.take_sample(bounds, moment(one)),
+            "acknowledged" => {
+                let numbers = SentNumbers { first_unacknowledged: one, sent: two };
+                timer.acknowledged(bounds, numbers, three, moment(four))
+            }
+            "expire" => return truth(timer.expire(bounds, moment(one))).to_string(),
             name => panic!("no call {name}"),
         }
         "done".to_string()
@@ -36,9 +44,14 @@ impl Subject for Timer {
 
     /// The timeout, when it expires and the timed position, or a dash where there is none.
     fn show(&mut self) -> String {
-        let word = |number: Option<u64>| number.map_or("-".to_string(), |it| it.to_string());
         let timer = &self.timer;
-        let (expiry, timed) = (timer.expires_at(), timer.timed_position());
-        format!("{} {} {}", timer.timeout.timeout, word(expiry), word(timed))
+        let expiry = timer.expires_at().map_or("-".to_string(), |it| it.total_micros().to_string());
+        let timed = timer.timed().map_or("-".to_string(), |it| it.pos.to_string());
+        format!("{} {expiry} {timed}", timer.timeout().total_micros())
     }
+}
+
+/// A moment so many microseconds after moment 0.
+fn moment(micros: u64) -> Instant {
+    Instant::from_micros(micros as i64)
 }

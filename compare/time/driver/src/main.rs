@@ -1,11 +1,10 @@
-//! Times the port and smoltcp over placements of their code, in turns in one process; with `--peers` the port,
-//! a type of std, and smoltcp; with `--count` runs each row for a counter of instructions.
+//! Times the port and smoltcp over placements of their code, in turns in one process; with
+//! `--count` runs each row for a counter of instructions.
 //!
-//! `driver PORT.so[:..] ORIGINAL.so[:..] [--peers | --count] [--samples N] [--milliseconds N] [--only WORD]`: a
+//! `driver PORT.so[:..] ORIGINAL.so[:..] [--count] [--samples N] [--milliseconds N] [--only WORD]`: a
 //! line of words, separated by tabs, for each row. Status 1 if a checksum, the storage or the sink differs.
 mod rows;
 
-use peers::PEERS;
 use rows::Row;
 use std::ffi::{CString, c_char, c_int, c_void};
 use std::hint::black_box;
@@ -15,6 +14,9 @@ use workloads::{COUNT, Memory, NAMES, Part, Workload};
 
 /// The rounds of the two runs that are counted: what the longer one takes beyond the shorter is what is counted.
 const COUNTED: [u64; 2] = [40, 140];
+/// Those of a row of more than `MANY` calls a round.
+const FEWER: [u64; 2] = [4, 14];
+const MANY: usize = 200;
 
 unsafe extern "C" {
     fn dlopen(path: *const c_char, flags: c_int) -> *mut c_void;
@@ -152,15 +154,6 @@ fn time(group: &str, row: &Row, ports: &[Workload], originals: &[Workload], samp
     print(group, &row.name, &numbers);
 }
 
-/// Times a row, and the same calls on a type of std: nanoseconds a call of std and of the port, and the ratios of the
-/// port and of smoltcp to it.
-fn time_beside(group: &str, name: &str, row: &Row, sides: [Workload; 3], samples: usize, nanoseconds: f64) {
-    let (times, calls) = times(row, &sides, samples, nanoseconds);
-    let call = |at: usize| median(&times[at]) / calls;
-    let ratio = |at: usize| ratios(std::iter::once((at, 2)), &times)[0];
-    print(group, name, &[call(2), call(0), ratio(0), ratio(1)]);
-}
-
 /// What a counter begins at. It differs from the next function, so that the compiler keeps both.
 #[unsafe(no_mangle)]
 #[inline(never)]
@@ -178,14 +171,15 @@ extern "C" fn count_end() -> u32 {
 /// Runs a row twice on each side between the two functions above.
 fn count(row: &Row, sides: [Workload; 2]) {
     let mut buffers = Buffers::new(row);
+    let counted = if row.calls > MANY { FEWER } else { COUNTED };
     for side in sides {
-        for rounds in COUNTED {
+        for rounds in counted {
             count_begin();
             black_box(buffers.run(side, rounds));
             count_end();
         }
     }
-    println!("{}\t{}", row.name, (COUNTED[1] - COUNTED[0]) * row.calls as u64);
+    println!("{}\t{}", row.name, (counted[1] - counted[0]) * row.calls as u64);
 }
 
 fn main() -> ExitCode {
@@ -215,16 +209,6 @@ fn main() -> ExitCode {
         } else if !others.into_iter().all(|&side| agree(&mut buffers, originals[0], side, true)) {
             println!("DIFFER\t{}", row.name);
             status = ExitCode::FAILURE;
-        } else if has("--peers") {
-            for (peer, workload) in PEERS.iter().filter_map(|peer| Some((peer, peer.workload(group)?))) {
-                let (group, name) = (format!("{group}: {}", peer.name), format!("{}: {}", row.name, peer.name));
-                if agree(&mut buffers, workload, originals[0], false) {
-                    time_beside(&group, &name, &row, [ports[0], originals[0], workload], samples, nanoseconds);
-                } else {
-                    println!("DIFFER\t{name}");
-                    status = ExitCode::FAILURE;
-                }
-            }
         } else {
             time(group, &row, &ports, &originals, samples, nanoseconds);
         }

@@ -47,6 +47,28 @@ pub fn rows() -> Vec<Row> {
             all.push(Row { number: runs as u64, calls: 44, ops, ..memory });
         }
     }
+    for runs in [4, 32, 256, 1_024] {
+        let ranges = |what: &str| format!("{runs} {what}");
+        let back = flat((0..runs).rev().map(|at| (2 * at * SEGMENT, SEGMENT)));
+        all.push(Row {
+            number: runs as u64,
+            calls: runs,
+            ops: back,
+            ..row("asm_add", &ranges("holes, from above"))
+        });
+        let window = flat(random(4_096, 32, 1).chunks_exact(2).map(|op| (op[0] * SEGMENT, SEGMENT)));
+        let calls = window.len() / 2;
+        all.push(Row {
+            number: runs as u64,
+            calls,
+            ops: window,
+            ..row("asm_front", &ranges("window of 32 segments"))
+        });
+        // Each second segment is lost: those after are there, and the first is sent again.
+        let waiting = (1..runs).map(|at| ((2 * at - 1) * SEGMENT, SEGMENT));
+        let slide = flat(waiting.chain([(0, SEGMENT), ((2 * runs - 3) * SEGMENT, SEGMENT)]));
+        all.push(Row { number: runs as u64, ops: slide, ..row("asm_slide", &ranges("recovery")) });
+    }
     for size in [64, 1_460] {
         let more = format!("size {size}");
         all.push(Row { storage: RING, source: size, calls: 5, ..row("stream_lent", &more) });

@@ -5,7 +5,7 @@ use original4::doors::Rand;
 use original4::phy::{Device, Loopback, Medium, RxToken, TxToken};
 use original4::storage::{PacketBuffer, PacketMetadata, RingBuffer};
 use original4::time::Instant;
-use receiver::{Assembler, Assembler4, Assembler32, Receiver, Stream};
+use receiver::{Assembler, Assembler4, Assembler32, Assembler256, Assembler1024, Receiver, Stream};
 
 /// A slice that crosses the border of a library.
 #[repr(C)]
@@ -37,18 +37,18 @@ pub struct Memory {
 pub type Workload = extern "C" fn(&Memory) -> u64;
 
 /// How many workloads there are.
-pub const COUNT: usize = 12;
+pub const COUNT: usize = 13;
 
 /// Their names, `np_` of `perf` left out.
 pub const NAMES: [&str; COUNT] = [
-    "ring_slice", "ring_many", "ring_ahead", "ring_one", "packet", "asm_add", "asm_front", "stream",
-    "stream_lent", "rand", "port", "loopback",
+    "ring_slice", "ring_many", "ring_ahead", "ring_one", "packet", "asm_add", "asm_front", "asm_slide",
+    "stream", "stream_lent", "rand", "port", "loopback",
 ];
 
 /// The workloads over smoltcp, in the order of their names.
 pub static ORIGINAL: [Workload; COUNT] = [
-    ring_slice, ring_many, ring_ahead, ring_one, packet, asm_add, asm_front, stream, stream_lent, rand, port,
-    loopback,
+    ring_slice, ring_many, ring_ahead, ring_one, packet, asm_add, asm_front, asm_slide, stream, stream_lent,
+    rand, port, loopback,
 ];
 
 /// The checksum of nothing.
@@ -193,8 +193,20 @@ extern "C" fn packet(m: &Memory) -> u64 {
     sum
 }
 
+/// Runs a workload over an assembler of as many runs as a number says.
+macro_rules! sized {
+    ($workload:ident, $m:ident) => {
+        match $m.number {
+            4 => $workload::<Assembler4>($m),
+            32 => $workload::<Assembler32>($m),
+            256 => $workload::<Assembler256>($m),
+            _ => $workload::<Assembler1024>($m),
+        }
+    };
+}
+
 extern "C" fn asm_add(m: &Memory) -> u64 {
-    if m.number == 4 { add::<Assembler4>(m) } else { add::<Assembler32>(m) }
+    sized!(add, m)
 }
 
 /// Adds each range to an empty assembler, in each round.
@@ -212,7 +224,7 @@ pub fn add<A: Assembler>(m: &Memory) -> u64 {
 }
 
 extern "C" fn asm_front(m: &Memory) -> u64 {
-    if m.number == 4 { front::<Assembler4>(m) } else { front::<Assembler32>(m) }
+    sized!(front, m)
 }
 
 /// Adds each range to an empty assembler and removes the front, in each round.
@@ -228,6 +240,25 @@ pub fn front<A: Assembler>(m: &Memory) -> u64 {
             }
         }
         sum = mix(sum, refused);
+    }
+    mix_runs(sum, &assembler)
+}
+
+extern "C" fn asm_slide(m: &Memory) -> u64 {
+    sized!(slide, m)
+}
+
+/// Adds all ranges but the last two, and then these two, in each round, each time removing the front.
+pub fn slide<A: Assembler>(m: &Memory) -> u64 {
+    let (mut sum, mut assembler) = (START, A::new());
+    let mut add = |op: &[usize]| {
+        let front = assembler.add_then_remove_front(op[0], op[1]);
+        sum = mix(sum, front.map_or(u64::MAX, |front| front as u64));
+    };
+    let (waiting, round) = m.ops.slice().split_at(m.ops.len - 4);
+    waiting.chunks_exact(2).for_each(&mut add);
+    for _ in 0..m.rounds {
+        round.chunks_exact(2).for_each(&mut add);
     }
     mix_runs(sum, &assembler)
 }

@@ -15,6 +15,8 @@ pub trait Assembler {
 
 pub use original4::storage::Assembler as Assembler4;
 pub use original32::storage::Assembler as Assembler32;
+pub use original256::storage::Assembler as Assembler256;
+pub use original1024::storage::Assembler as Assembler1024;
 
 macro_rules! assembler {
     ($type:ty) => {
@@ -53,6 +55,8 @@ macro_rules! assembler {
 
 assembler!(Assembler4);
 assembler!(Assembler32);
+assembler!(Assembler256);
+assembler!(Assembler1024);
 
 /// What became of a segment: how many of its bytes were kept, and how many were queued by it.
 pub struct Segment {

@@ -1,11 +1,12 @@
 //! An assembler in parts: a head of two numbers, and runs that are kept elsewhere.
 //!
 //! What is inline, and what is a call of its own, was chosen by counted instructions and bytes.
-ghost use Rattle.std.specs.Prelude.{◌≡◌, ℕ, List, ◌+◌, ◌-◌, ◌*◌, ◌<◌, ◌≤◌, ◌++◌, ◌∷◌, ◌^◌, ◌↔◌, drop, get_or};
-ghost use Rattle.std.specs.Prelude.{length, take, IsTrue, IfSome, OnErr};
+ghost use Rattle.std.specs.Prelude.{◌≡◌, ℕ, List, ◌+◌, ◌-◌, ◌*◌, ◌<◌, ◌≤◌, ◌++◌, ◌∷◌, ◌^◌, ◌↔◌, drop, get_or, max};
+ghost use Rattle.std.specs.Prelude.{length, take, IsTrue, IfSome, MatchResult, OnErr};
+ghost use Rattle.net_assembler.specs.Assembler.{MakesTooManyRuns};
 ghost use Rattle.std.specs.List.{slice_get};
 ghost use Rattle.net_assembler.specs.AssemblerLaws.{Adds, AddsThenRemovesFront, RemovesFront};
-ghost use Rattle.net_assembler.specs.Heads.{AddsInPlace};
+ghost use Rattle.net_assembler.specs.Heads.{AddsInPlace, FrontEnds};
 ghost use Rattle.net_assembler.specs.Positions.{RangeFits, are_same, contains, front, holes, holes_before};
 ghost use Rattle.net_assembler.specs.Positions.{maximal_runs, nothing, runs as run_count, runs_shifted_up};
 ghost use Rattle.net_assembler.specs.Positions.{shift_down};
@@ -37,7 +38,9 @@ use crate::width::most;
 #[repr(C)]
 #[derive(Debug, Clone, Copy)]
 pub struct AssemblerHead {
+    /// How many runs are stored.
     pub used: usize,
+    /// The position at which the first run starts, or 0 if there is none.
     pub first_start: usize,
 }
 
@@ -55,8 +58,9 @@ impl AssemblerHead {
         }
     }
 
-    /// Returns whether the head is sound with these runs, for any numbers in both. It looks at each
-    /// used run.
+    /// Returns whether the head is sound with these runs, for any numbers in both: there are `used`
+    /// runs, which rise, with a hole between neighbours; the first starts at 0; and each end is a
+    /// `usize` with `first_start` added, too. It looks at each used run.
     pub fn is_sound(&self, runs: &[Run]) -> bool
         ensures { IsTrue result ↔ HasSoundRuns self.now runs.now }
     {
@@ -128,15 +132,16 @@ impl AssemblerHead {
         offset <= most() && size <= most() - offset
     }
 
-    /// Adds a range as `Assembler::add` does, with the slice's length in place of `N`.
+    /// Adds the positions from `offset` to `offset + size - 1`; none if `size` is 0. Ranges that
+    /// touch form one run.
     ///
-    /// If it is refused, head and runs stay as they were.
+    /// Returns `TooManyHolesError`, and changes nothing, if there would be more runs than the slice
+    /// has elements.
     ///
     /// # Requires
     ///
     /// The head is sound with the runs, as `is_sound` tests, and the range ends at a `usize`, as
     /// `fits` tests.
-    #[inline(always)]
     pub fn add(
         &mut self,
         runs: &mut [Run],
@@ -179,7 +184,7 @@ impl AssemblerHead {
         ensures turns { let n = length runs.old in
             TurnsWithin (2 * binary_digits n) n turns.old turns.new }
     {
-        self.add_range(runs, offset, size, false, turns)
+        self.add_range(runs, offset, size, turns)
     }
 
     /// Removes the run at position 0, counts all later positions from its end, and returns its
@@ -245,10 +250,12 @@ impl AssemblerHead {
         self.drop_front(runs, last, by);
     }
 
-    /// Adds a range and then removes the front, as `Assembler::add_then_remove_front` does with the
-    /// slice's length in place of `N`.
+    /// Adds the positions from `offset` to `offset + size - 1`, and then removes the run at
+    /// position 0, returns its length, and counts all later positions from its end. If position 0
+    /// is missing, it removes nothing, and the length is 0.
     ///
-    /// A range at 0 is never refused. If one is refused, head and runs stay as they were.
+    /// Returns `TooManyHolesError`, and changes nothing, if `offset` isn't 0 and there would be
+    /// more runs than the slice has elements.
     ///
     /// # Requires
     ///
@@ -281,17 +288,15 @@ impl AssemblerHead {
                 self.first_start -= size;
                 return Ok(size);
             }
-            //  0 |=== range ===|
-            //             |--- only run ---|             all is the front, nothing remains
-            if self.used == 1 {
-                let end = self.first_start + end_of(runs, 0);
-                prove!(end <= most(), "in any `usize`");
-                *self = AssemblerHead::new();
-                return Ok(size.max(end));
-            }
         }
-        self.add_apart(runs, offset, size, &mut Turns::new())?;
-        Ok(self.remove_front(runs))
+        let end = self.reach_front(runs, offset, size)?;
+        if end == 0 {
+            return Ok(0);
+        }
+        let front = self.first_start + end;
+        prove!(front <= most(), "in any `usize`");
+        self.drop_front(runs, 1, end);
+        Ok(front)
     }
 
     /// Returns the maximal runs as (start, end), the end not included, in rising order.
@@ -409,8 +414,7 @@ impl AssemblerHead {
         self.first_start == other.first_start && runs[..self.used] == other_runs[..other.used]
     }
 
-    /// Adds a range as `add_counted` does. If `apart`, the rule for a range that starts in or before
-    /// the runs is a call.
+    /// Adds a range as `add_counted` does.
     ///
     /// The most frequent cases are tested first and take no loop: a range after all runs, and one
     /// that starts in the last run.
@@ -420,7 +424,6 @@ impl AssemblerHead {
         runs: &mut [Run],
         offset: usize,
         size: usize,
-        apart: bool,
         turns: &mut Turns,
     ) -> Result<(), TooManyHolesError>
         requires sound { HasSoundRuns self.old runs.old }
@@ -461,58 +464,12 @@ impl AssemblerHead {
                 return Ok(());
             }
         }
-        self.join(runs, offset, size, apart, turns)
-    }
-
-    /// Adds a range as `add_counted` does. It isn't marked inline: where several places call it, it is a
-    /// call.
-    fn add_apart(
-        &mut self,
-        runs: &mut [Run],
-        offset: usize,
-        size: usize,
-        turns: &mut Turns,
-    ) -> Result<(), TooManyHolesError>
-        requires sound { HasSoundRuns self.old runs.old }
-        requires range { RangeFits offset size }
-        ensures { AddsInPlace self.old runs.old offset size result self.new runs.new turns.old turns.new }
-    {
-        self.add_range(runs, offset, size, true, turns)
+        self.join(runs, offset, size, turns)
     }
 
     /// Joins a range that isn't empty with the runs. There are some, and the range isn't after the last.
-    /// If `apart`, it is a call.
     #[inline(always)]
     fn join(
-        &mut self,
-        runs: &mut [Run],
-        offset: usize,
-        size: usize,
-        apart: bool,
-        turns: &mut Turns,
-    ) -> Result<(), TooManyHolesError>
-        requires sound { HasSoundRuns self.old runs.old }
-        requires some { 0 < self.old.used }
-        requires range { RangeFits offset size }
-        requires size { 0 < size }
-        requires last { offset ≤ self.old.first_start + end_at runs.old (self.old.used - 1) }
-        ensures { AddsInPlace self.old runs.old offset size result self.new runs.new turns.old turns.new }
-    {
-        if apart {
-            self.join_apart(runs, offset, size, turns)
-        } else if offset < self.first_start {
-            let by = self.first_start - offset;
-            self.join_here(runs, 0, by, 0, size, turns)
-        } else {
-            let start = offset - self.first_start;
-            let first = runs_ending_before(runs, self.used, start, turns);
-            self.join_here(runs, first, 0, start, size, turns)
-        }
-    }
-
-    /// Does what `join` does, with one copy of the rule. It isn't marked inline: where several places
-    /// call it, it is a call.
-    fn join_apart(
         &mut self,
         runs: &mut [Run],
         offset: usize,
@@ -529,18 +486,21 @@ impl AssemblerHead {
         let mut by = 0;
         let mut start = 0;
         let mut first = 0;
+        let begin;
         if offset < self.first_start {
             by = self.first_start - offset;
+            begin = by;
         } else {
             start = offset - self.first_start;
             first = runs_ending_before(runs, self.used, start, turns);
+            begin = start_of(runs, first);
         }
-        self.join_here(runs, first, by, start, size, turns)
+        self.join_here(runs, first, by, begin, start, size, turns)
     }
 
     /// Joins a range with the runs that it meets or touches. `first` is the first run that doesn't end
     /// before it. `start` is counted from `by` positions before the first run of all, and so are the
-    /// runs then; `by` is 0 unless the range starts there.
+    /// runs then; `by` is 0 unless the range starts there. The first run starts at `begin`, counted so.
     ///
     /// One rule: the runs from `first` up to `next` become one with the range, and those after them
     /// move up or down, or stay.
@@ -550,6 +510,7 @@ impl AssemblerHead {
         runs: &mut [Run],
         first: usize,
         by: usize,
+        begin: usize,
         start: usize,
         size: usize,
         turns: &mut Turns,
@@ -559,6 +520,7 @@ impl AssemblerHead {
         requires before { (k : ℕ) → k < first → end_at runs.old k < start }
         requires reached { start ≤ end_at runs.old first }
         requires by { by ≤ self.old.first_start }
+        requires begin { begin ≡ by + start_at runs.old first }
         requires one_way { 0 < by → start ≡ 0 }
         requires size { 0 < size }
         requires fits { IsUsize (self.old.first_start - by + start + size) }
@@ -569,37 +531,82 @@ impl AssemblerHead {
         let used = self.used;
         let end = start + size;
         prove!(end <= most(), "in any `usize`");
-        let first_start = by + start_of(runs, first);
-        prove!(first_start <= most(), "in any `usize`");
         prove!(first + 1 <= used, "in any `usize`");
-        let mut low = start;
-        let mut high = end;
-        let mut next = first;
-        if end < first_start {
+        if end < begin {
             //  |--- first - 1 ---|    |=== range ===|    |--- first ---|      it is a run of its own
-            if used == runs.len() {
+            if used >= runs.len() {
                 return Err(TooManyHolesError);
             }
-        } else {
-            //  |--- first ---|  ..  |--- next - 1 ---|    |--- next ---|
-            //         |====== range ======|                                    they become one with it
-            next = runs_starting_by(runs, used, first + 1, end - by, turns);
-            low = low.min(first_start);
-            let last_end = by + end_of(runs, next - 1);
-            prove!(last_end <= most(), "in any `usize`");
-            high = high.max(last_end);
-        }
-        let entry = Run {
-            start: low,
-            end: high,
-        };
-        if by == 0 && next == first + 1 {
-            runs[first] = entry;
+            insert_run(runs, used, first, Run { start, end }, by, turns);
+            self.used = used + 1;
+            prove!(self.used <= runs.len(), "in any `usize`");
+            self.first_start -= by;
             return Ok(());
         }
-        self.used = move_runs(runs, used, first, next, entry, by, turns);
+        //  |--- first ---|  ..  |--- next - 1 ---|    |--- next ---|
+        //         |====== range ======|                                    they become one with it
+        let next = runs_starting_by(runs, used, first + 1, end - by, turns);
+        let last_end = by + end_of(runs, next - 1);
+        prove!(last_end <= most(), "in any `usize`");
+        runs[first] = Run {
+            start: start.min(begin),
+            end: end.max(last_end),
+        };
+        if by == 0 && next == first + 1 {
+            return Ok(());
+        }
+        self.used = take_out(runs, used, first + 1, next, by, turns);
         self.first_start -= by;
         Ok(())
+    }
+
+    /// Adds a range, if it can't be removed with the first run alone, and returns where the front ends then,
+    /// counted as the runs are; 0 if there is none. A range at 0 reaches the first run.
+    #[inline(always)]
+    fn reach_front(
+        &mut self,
+        runs: &mut [Run],
+        offset: usize,
+        size: usize,
+    ) -> Result<usize, TooManyHolesError>
+        requires sound { HasSoundRuns self.old runs.old }
+        requires range { RangeFits offset size }
+        requires some { offset ≡ 0 → 0 < self.old.used }
+        requires reached { offset ≡ 0 → self.old.first_start ≤ size }
+        ensures front { MatchResult result
+            (λ end. FrontEnds self.old runs.old offset size self.new runs.new end)
+            (λ _. (0 < offset) × MakesTooManyRuns (length runs.old) (set_of self.old runs.old) offset size) }
+        ensures unchanged { OnErr result ((self.new ≡ self.old) × (runs.new ≡ runs.old)) }
+        ensures canonical { IsCanonical self.old → IsCanonical self.new }
+    {
+        if offset == 0 {
+            //  0 |=== range ===|
+            //             |--- first ---|    |--- second ---|      both are the front, the others remain
+            let end = self.end_with_first(runs, size);
+            if end > 0 {
+                return Ok(end);
+            }
+        }
+        self.add(runs, offset, size)?;
+        Ok(self.peek_front(runs))
+    }
+
+    /// Returns where the front ends, counted as the runs are, if a range of `size` positions at 0 reaches
+    /// the first run and not the second; otherwise 0.
+    #[inline(always)]
+    fn end_with_first(&self, runs: &[Run], size: usize) -> usize
+        requires sound { HasSoundRuns self.now runs.now }
+        requires some { 0 < self.now.used }
+        requires reached { self.now.first_start ≤ size }
+        ensures end { 0 < result → result ≡ max (end_at runs.now 0) (size - self.now.first_start) }
+        ensures second { 0 < result → 1 < self.now.used →
+            size - self.now.first_start < start_at runs.now 1 }
+    {
+        let by = size - self.first_start;
+        if self.used > 1 && start_of(runs, 1) <= by {
+            return 0;
+        }
+        end_of(runs, 0).max(by)
     }
 
     /// Removes the first `count` runs and all positions below `end`, and counts the others from
@@ -622,10 +629,16 @@ impl AssemblerHead {
         } else {
             end
         };
-        self.used = used - count;
         self.first_start = start - end;
         // A sum that wraps lowers their numbers.
-        remove_runs(runs, used, count, start.wrapping_neg(), &mut Turns::new());
+        self.used = take_out(
+            runs,
+            used,
+            0,
+            count,
+            start.wrapping_neg(),
+            &mut Turns::new(),
+        );
     }
 
     /// Returns the hole after the run `k`, if there is a run after it.
@@ -775,59 +788,56 @@ fn wrapped(runs: &[Run], k: usize, by: usize) -> Run
     Run { start, end }
 }
 
-/// Writes `entry` at `at`, and moves the used runs from `from` on to the indices after it, each
-/// counted `by` higher. Returns how many runs there are then.
+/// Makes `entry` the run with number `at`, and moves the later ones up by one, each counted `by`
+/// higher. There is room for one more.
 #[inline(always)]
-fn move_runs(
+fn insert_run(runs: &mut [Run], used: usize, at: usize, entry: Run, by: usize, turns: &mut Turns)
+    requires at { at ≤ used }
+    requires room { used < length runs.old }
+    requires fits { AreUsize (runs_wrapped by (drop at (take used runs.old))) }
+    ensures runs { take (used + 1) runs.new
+        ≡ take at runs.old ++ entry ∷ runs_wrapped by (drop at (take used runs.old)) }
+    ensures looks { turns.new.0 ≡ turns.old.0 }
+    ensures moves { turns.new.1 + at ≡ turns.old.1 + used }
+{
+    let mut k = used;
+    while k > at {
+        runs[k] = wrapped(runs, k - 1, by);
+        k -= 1;
+        turns.step();
+    }
+    runs[at] = entry;
+}
+
+/// Takes out the runs from `at` up to `from`, and moves the later ones down, each counted `by`
+/// higher. Returns how many runs there are then.
+#[inline(always)]
+fn take_out(
     runs: &mut [Run],
     used: usize,
     at: usize,
     from: usize,
-    entry: Run,
     by: usize,
     turns: &mut Turns,
 ) -> usize
     requires at { at ≤ from }
     requires from { from ≤ used }
     requires used { used ≤ length runs.old }
-    requires room { at + used < length runs.old + from }
     requires fits { AreUsize (runs_wrapped by (drop from (take used runs.old))) }
-    ensures count { result + from ≡ at + used + 1 }
+    ensures count { result + from ≡ at + used }
     ensures runs { let all = take used runs.old in
-        take result runs.new ≡ take at runs.old ++ entry ∷ runs_wrapped by (drop from all) }
+        take result runs.new ≡ take at runs.old ++ runs_wrapped by (drop from all) }
     ensures looks { turns.new.0 ≡ turns.old.0 }
     ensures moves { turns.new.1 + from ≡ turns.old.1 + used }
 {
     let mut to = at;
-    let mut carried = entry;
     for k in from..used.min(runs.len()) {
-        let run = wrapped(runs, k, by);
-        runs[to] = carried;
-        carried = run;
+        runs[to] = wrapped(runs, k, by);
         to += 1;
         prove!(to <= used, "in any `usize`");
         turns.step();
     }
-    runs[to] = carried;
-    prove!(to + 1 <= runs.len(), "in any `usize`");
-    to + 1
-}
-
-/// Takes out the first `count` runs, and moves the later ones down, each counted `by` higher.
-#[inline(always)]
-fn remove_runs(runs: &mut [Run], used: usize, count: usize, by: usize, turns: &mut Turns)
-    requires count { count ≤ used }
-    requires used { used ≤ length runs.old }
-    requires fits { AreUsize (runs_wrapped by (drop count (take used runs.old))) }
-    ensures runs { let all = take used runs.old in
-        take (used - count) runs.new ≡ runs_wrapped by (drop count all) }
-    ensures looks { turns.new.0 ≡ turns.old.0 }
-    ensures moves { turns.new.1 + count ≡ turns.old.1 + used }
-{
-    for k in count..used.min(runs.len()) {
-        runs[k - count] = wrapped(runs, k, by);
-        turns.step();
-    }
+    to
 }
 
 /// Returns whether `position` is present: whether the last run that starts at or before it, if

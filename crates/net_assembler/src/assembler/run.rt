@@ -7,15 +7,17 @@ use std::marker::Model;
 /// A range of positions that is stored as a run: from `start` on, up to `end`, which is not
 /// included.
 ///
-/// An assembler counts both from where its first run starts. Contracts see the pair (start, end).
-/// smoltcp stores a hole's size and the size of the data after it.
+/// An assembler counts both from where its first run starts. smoltcp stores a hole's size and the size of the data after it.
 #[repr(C)]
 #[derive(Debug, Clone, Copy, PartialEq, Eq)]
 pub struct Run {
+    /// The first position.
     pub start: usize,
+    /// The position after the last one.
     pub end: usize,
 }
 
+/// Contracts see the pair (start, end).
 impl Model for Run {
     ghost use Rattle.std.specs.Prelude.{ℕ};
 

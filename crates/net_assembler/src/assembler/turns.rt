@@ -14,14 +14,14 @@ enum Count {
 
 /// How often loops looked at a run, and how often they moved one.
 ///
-/// Contracts see the two counts as whole numbers with no greatest value, looks first. The type
-/// takes no bytes when the program runs, and no code can read the counts.
+/// The type takes no bytes when the program runs, and no code can read the counts.
 #[derive(Drop)]
 pub struct Turns {
     looks: Snapshot<Count>,
     moves: Snapshot<Count>,
 }
 
+/// Contracts see the two counts as whole numbers with no greatest value, looks first.
 impl Model for Turns {
     ghost use Rattle.std.specs.Prelude.{ℕ};
     ghost use Rattle.net_assembler.specs.Turns.{number};

@@ -6,28 +6,33 @@ ghost use Rattle.net_assembler.specs.Positions.{nothing};
 ghost use Rattle.net_assembler.specs.Assembler.{MakesTooManyRuns};
 ghost use Rattle.net_base.specs.FragmentParts.{fragments_of, HasSoundParts, IsExact};
 ghost use Rattle.net_base.specs.Fragments.{with_fragment, limit_of, IsBelow, IsComplete, Contradicts};
-ghost use Rattle.net_base.specs.Fragments.{Differs, Meets};
+ghost use Rattle.net_base.specs.Fragments.{Differs, HasOtherEnd, Meets, begun, with_piece};
 
 use crate::time::Instant;
 use net_assembler::Run;
 use net_ring::{ManagedSlice, Storage};
 use std::marker::Model;
+use thiserror::Error;
 
 mod head;
 pub mod laws;
+mod managed;
 pub mod table;
 
 pub use head::FragmentsHead;
 
 /// Why a fragment or a size is refused.
-#[derive(Debug, Clone, Copy, PartialEq, Eq, Drop)]
+#[derive(Debug, Clone, Copy, PartialEq, Eq, Hash, Drop, Error)]
 pub enum FragmentError {
     /// It reaches past the end of the buffer.
+    #[error("past the end of the buffer")]
     TooLong,
     /// It would leave more maximal runs of bytes, with holes between them, than there is room for.
+    #[error("too many holes")]
     TooManyHoles,
     /// It contradicts the packet's size: another size is known, or a byte at that size or above has arrived; or the
     /// fragment reaches past a known size.
+    #[error("contradicts the packet's size")]
     OtherSize,
 }
 
@@ -41,9 +46,6 @@ pub enum FragmentError {
 /// add(7, "hij")      abcde..hij
 /// add(3, "DEFG")     abcDEFGhij
 /// ```
-///
-/// Contracts see the bytes of the storage, the set of the positions that arrived, the packet's
-/// size, once it is known, and the moment up to which the packet is waited for.
 #[derive(Drop)]
 pub struct FragmentsOver<B: Storage<u8>, const N: usize> {
     // Invariant: the runs are those of an assembler, the positions of the bytes that arrived. They end
@@ -54,9 +56,12 @@ pub struct FragmentsOver<B: Storage<u8>, const N: usize> {
     runs: [Run; N],
 }
 
-/// A packet that arrives in fragments, in any order, as those of IPv4 do, over lent or owned bytes.
+/// A packet that arrives in fragments, in any order, as those of IPv4 do, over lent or owned bytes. Its
+/// calls are those of [`FragmentsOver`].
 pub type FragmentBuffer<'a, const N: usize> = FragmentsOver<ManagedSlice<'a, u8>, N>;
 
+/// Contracts see the bytes of the storage, the set of the positions that arrived, the packet's
+/// size, once it is known, and the moment up to which the packet is waited for.
 impl<B: Storage<u8>, const N: usize> Model for FragmentsOver<B, N> {
     ghost use Rattle.std.specs.Prelude.{◌≡◌, length};
     ghost use Rattle.net_base.specs.Fragments.{FragmentsState, state_code};
@@ -72,36 +77,17 @@ impl<B: Storage<u8>, const N: usize> Model for FragmentsOver<B, N> {
         HasSoundParts b.head (B.elements b.bytes) b.runs × (length b.runs ≡ N) × IsExact b.head };
 }
 
-impl<'a, const N: usize> FragmentBuffer<'a, N> {
-    ghost use Rattle.net_ring.specs.Managed.{elements};
-
-    /// Returns an empty buffer that expires after `expires_at`.
-    ///
-    /// # Requires
-    ///
-    /// `N` is at least 1.
-    pub fn new(bytes: ManagedSlice<'a, u8>, expires_at: Instant) -> Self
-        requires { 1 ≤ N }
-        ensures bytes { result.bytes ≡ elements bytes.entry }
-        ensures nothing { (result.present ≡ nothing) × (result.total ≡ None) }
-        ensures expires { result.expires_at ≡ expires_at }
-    {
-        FragmentsOver::over(bytes, expires_at)
-    }
-}
-
 impl<B: Storage<u8>, const N: usize> FragmentsOver<B, N> {
     /// Returns an empty buffer over storage of any type, which expires after `expires_at`.
     ///
-    /// # Requires
-    ///
-    /// `N` is at least 1.
+    /// A program in which `N` is 0 does not compile.
     pub const fn over(bytes: B, expires_at: Instant) -> Self
         requires { 1 ≤ N }
         ensures bytes { result.bytes ≡ B.elements bytes }
         ensures nothing { (result.present ≡ nothing) × (result.total ≡ None) }
         ensures expires { result.expires_at ≡ expires_at }
     {
+        prove!(N >= 1, "N is at least 1");
         FragmentsOver {
             head: FragmentsHead::new(expires_at.total_micros()),
             bytes,
@@ -232,6 +218,95 @@ impl<B: Storage<u8>, const N: usize> FragmentsOver<B, N> {
         let count = self.bytes.count();
         let bytes = self.bytes.part_mut(0, count);
         self.head.add(bytes, &mut self.runs, offset, data)
+    }
+
+    /// Adds a fragment, as `add` does, and takes its end as the packet's if it is the last one.
+    ///
+    /// ```
+    /// # use net_base::storage::{FragmentBuffer, FragmentError};
+    /// # use net_base::time::Instant;
+    /// # let mut bytes = [0u8; 8];
+    /// # let mut buffer = FragmentBuffer::new(&mut bytes[..], Instant::ZERO);
+    /// buffer.add_fragment(3, b"de", true)?;
+    /// assert_eq!(buffer.add_fragment(0, b"abc", true), Err(FragmentError::OtherSize));
+    /// buffer.add_fragment(0, b"abc", false)?;
+    /// assert_eq!(buffer.assemble(), Some(&b"abcde"[..]));
+    /// # Ok::<(), FragmentError>(())
+    /// ```
+    ///
+    /// # Errors
+    ///
+    /// It is refused, and nothing changes, exactly if it reaches past the buffer's end, which is
+    /// `TooLong`, or else past the packet's, or is the last one and the packet can't end there, which is
+    /// `OtherSize`, or else would leave more than `N` maximal runs, which is `TooManyHoles`.
+    pub fn add_fragment(
+        &mut self,
+        offset: usize,
+        data: &[u8],
+        is_last: bool,
+    ) -> Result<(), FragmentError>
+        ensures ok { OnOk result (self.new ≡ with_piece self.old offset «data».now is_last) }
+        ensures unchanged { OnErr result (self.new ≡ self.old) }
+        ensures too_long { (result ≡ Err FragmentError.TooLong)
+            ↔ (length self.old.bytes < offset + length «data».now) }
+        ensures other_size { (result ≡ Err FragmentError.OtherSize)
+            ↔ ((offset + length «data».now ≤ length self.old.bytes)
+            × HasOtherEnd self.old (offset + length «data».now) is_last) }
+        ensures too_many { (result ≡ Err FragmentError.TooManyHoles)
+            ↔ ((offset + length «data».now ≤ length self.old.bytes)
+            × (HasOtherEnd self.old (offset + length «data».now) is_last → ⊥)
+            × MakesTooManyRuns N self.old.present offset (length «data».now)) }
+    {
+        let count = self.bytes.count();
+        let bytes = self.bytes.part_mut(0, count);
+        self.head
+            .add_fragment(bytes, &mut self.runs, offset, data, is_last)
+    }
+
+    /// Starts over for another packet, which is waited for up to `expires_at`, with this fragment of it.
+    /// If it is refused, nothing changes.
+    ///
+    /// ```
+    /// # use net_base::storage::{FragmentBuffer, FragmentError};
+    /// # use net_base::time::Instant;
+    /// # let mut bytes = [0u8; 8];
+    /// # let mut buffer = FragmentBuffer::new(&mut bytes[..], Instant::ZERO);
+    /// buffer.add(0, b"abc")?;
+    /// let refused = buffer.reset_with(7, b"de", true, Instant::ZERO);
+    /// assert_eq!(refused, Err(FragmentError::TooLong));
+    /// buffer.reset_with(0, b"de", true, Instant::ZERO)?;
+    /// assert_eq!(buffer.assemble(), Some(&b"de"[..]));
+    /// # Ok::<(), FragmentError>(())
+    /// ```
+    ///
+    /// # Errors
+    ///
+    /// It is refused as `add_fragment` refuses it in an empty buffer.
+    pub fn reset_with(
+        &mut self,
+        offset: usize,
+        data: &[u8],
+        is_last: bool,
+        expires_at: Instant,
+    ) -> Result<(), FragmentError>
+        ensures ok { OnOk result
+            (self.new ≡ with_piece (begun self.old expires_at) offset «data».now is_last) }
+        ensures unchanged { OnErr result (self.new ≡ self.old) }
+        ensures too_long { (result ≡ Err FragmentError.TooLong)
+            ↔ (length self.old.bytes < offset + length «data».now) }
+        ensures other_size { (result ≡ Err FragmentError.OtherSize)
+            ↔ ((offset + length «data».now ≤ length self.old.bytes)
+            × HasOtherEnd (begun self.old expires_at) (offset + length «data».now) is_last) }
+        ensures too_many { (result ≡ Err FragmentError.TooManyHoles)
+            ↔ ((offset + length «data».now ≤ length self.old.bytes)
+            × (HasOtherEnd (begun self.old expires_at) (offset + length «data».now) is_last → ⊥)
+            × MakesTooManyRuns N (begun self.old expires_at).present offset (length «data».now)) }
+    {
+        let until = expires_at.total_micros();
+        let count = self.bytes.count();
+        let bytes = self.bytes.part_mut(0, count);
+        self.head
+            .reset_with(bytes, &mut self.runs, offset, data, is_last, until)
     }
 
     /// Sets the packet's size to `size` bytes.

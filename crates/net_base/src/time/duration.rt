@@ -15,7 +15,7 @@ use std::ops::{
 /// A length of time, in microseconds. By default it is zero. It serves for timeouts, and for the
 /// distance between two moments.
 ///
-/// Contracts see the microseconds, a number from 0 to 2^64 - 1. Quotients are cut to whole numbers.
+/// It has 0 to 2^64 - 1 microseconds. Quotients are cut to whole numbers.
 ///
 /// ```
 /// use net_base::time::Duration;
@@ -23,11 +23,12 @@ use std::ops::{
 /// let timeout = Duration::from_millis(13) * 22;
 /// assert_eq!((timeout.total_micros(), timeout.to_string()), (286_000, "0.286s".into()));
 /// ```
-#[derive(Debug, Default, Copy, Clone, PartialEq, Eq, PartialOrd, Ord)]
+#[derive(Debug, Default, Copy, Clone, PartialEq, Eq, PartialOrd, Ord, Hash)]
 pub struct Duration {
     micros: u64,
 }
 
+/// Contracts see the microseconds.
 impl Model for Duration {
     ghost use Rattle.std.specs.Prelude.{ℕ};
 
@@ -87,6 +88,7 @@ impl Duration {
     ///
     /// The microseconds fit 64 bits, as `fits_millis` tests.
     #[inline]
+    #[track_caller]
     pub const fn from_millis(millis: u64) -> Duration
         requires fits_millis { IsLength (millis * 1_000) }
         ensures { result ≡ millis * 1_000 }
@@ -119,6 +121,7 @@ impl Duration {
     ///
     /// The microseconds fit 64 bits, as `fits_secs` tests.
     #[inline]
+    #[track_caller]
     pub const fn from_secs(secs: u64) -> Duration
         requires fits_secs { IsLength (secs * 1_000_000) }
         ensures { result ≡ secs * 1_000_000 }
@@ -207,6 +210,7 @@ impl Duration {
     /// # Requires
     ///
     /// So many microseconds fit 64 bits, as `fits_core` tests.
+    #[track_caller]
     pub fn from_core(duration: std::time::Duration) -> Duration
         requires fits_core { IsLength (as_nanos duration / 1_000) }
         ensures { result ≡ as_nanos duration / 1_000 }
@@ -382,6 +386,7 @@ impl Add for Duration {
     ghost add_gives = { λ d e r. r ≡ d + e };
 
     #[inline]
+    #[track_caller]
     fn add(self, rhs: Duration) -> Duration {
         prove!(self.can_add(rhs), "attempt to add with overflow");
         Duration {
@@ -397,6 +402,7 @@ impl AddAssign for Duration {
     ghost add_assign_gives = { λ d e r. r ≡ d + e };
 
     #[inline]
+    #[track_caller]
     fn add_assign(&mut self, rhs: Duration) {
         prove!(self.can_add(rhs), "attempt to add with overflow");
         self.micros += rhs.micros;
@@ -412,6 +418,7 @@ impl Sub for Duration {
     ghost sub_gives = { λ d e r. r ≡ d - e };
 
     #[inline]
+    #[track_caller]
     fn sub(self, rhs: Duration) -> Duration {
         prove!(self.can_sub(rhs), "overflow when subtracting durations");
         Duration {
@@ -427,6 +434,7 @@ impl SubAssign for Duration {
     ghost sub_assign_gives = { λ d e r. r ≡ d - e };
 
     #[inline]
+    #[track_caller]
     fn sub_assign(&mut self, rhs: Duration) {
         prove!(self.can_sub(rhs), "overflow when subtracting durations");
         self.micros -= rhs.micros;
@@ -442,6 +450,7 @@ impl Mul<u32> for Duration {
     ghost mul_gives = { λ d k r. r ≡ d * k };
 
     #[inline]
+    #[track_caller]
     fn mul(self, rhs: u32) -> Duration {
         prove!(self.can_mul(rhs), "attempt to multiply with overflow");
         Duration {
@@ -457,6 +466,7 @@ impl MulAssign<u32> for Duration {
     ghost mul_assign_gives = { λ d k r. r ≡ d * k };
 
     #[inline]
+    #[track_caller]
     fn mul_assign(&mut self, rhs: u32) {
         prove!(self.can_mul(rhs), "attempt to multiply with overflow");
         self.micros *= u64::from(rhs);
@@ -472,6 +482,7 @@ impl Div<u32> for Duration {
     ghost div_gives = { λ d k r. r ≡ d / k };
 
     #[inline]
+    #[track_caller]
     fn div(self, rhs: u32) -> Duration {
         prove!(rhs > 0, "attempt to divide by zero");
         Duration {
@@ -487,6 +498,7 @@ impl DivAssign<u32> for Duration {
     ghost div_assign_gives = { λ d k r. r ≡ d / k };
 
     #[inline]
+    #[track_caller]
     fn div_assign(&mut self, rhs: u32) {
         prove!(rhs > 0, "attempt to divide by zero");
         self.micros /= u64::from(rhs);
@@ -502,6 +514,7 @@ impl Shl<u32> for Duration {
     ghost shl_gives = { λ d k r. r ≡ d * 2 ^ k % 2 ^ 64 };
 
     #[inline]
+    #[track_caller]
     fn shl(self, rhs: u32) -> Duration {
         prove!(rhs < 64, "attempt to shift left with overflow");
         Duration {
@@ -517,6 +530,7 @@ impl ShlAssign<u32> for Duration {
     ghost shl_assign_gives = { λ d k r. r ≡ d * 2 ^ k % 2 ^ 64 };
 
     #[inline]
+    #[track_caller]
     fn shl_assign(&mut self, rhs: u32) {
         prove!(rhs < 64, "attempt to shift left with overflow");
         self.micros <<= rhs;
@@ -532,6 +546,7 @@ impl Shr<u32> for Duration {
     ghost shr_gives = { λ d k r. r ≡ d / 2 ^ k };
 
     #[inline]
+    #[track_caller]
     fn shr(self, rhs: u32) -> Duration {
         prove!(rhs < 64, "attempt to shift right with overflow");
         Duration {
@@ -547,6 +562,7 @@ impl ShrAssign<u32> for Duration {
     ghost shr_assign_gives = { λ d k r. r ≡ d / 2 ^ k };
 
     #[inline]
+    #[track_caller]
     fn shr_assign(&mut self, rhs: u32) {
         prove!(rhs < 64, "attempt to shift right with overflow");
         self.micros >>= rhs;

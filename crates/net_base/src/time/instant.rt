@@ -4,19 +4,20 @@ ghost use Rattle.std.specs.Prelude.{int_div};
 ghost use Rattle.std.specs.Prelude.{negsuc, SomeIff, IfOk};
 ghost use Rattle.std.specs.Fmt.InlineText.{inline_text};
 ghost use Rattle.net_base.specs.Time.{IsMoment, moment_secs, moment_micros, moment_millis};
-ghost use Rattle.net_base.specs.Time.{moment_text, distance};
+ghost use Rattle.net_base.specs.Time.{moment_text, distance, elapsed, moment_after};
 
 use crate::time::{Duration, LONGEST_TEXT};
 use std::fmt::{self, InlineText, Write};
 use std::marker::Model;
 use std::ops::{Add, AddAssign, Sub, SubAssign};
 
+mod numbers;
+
 /// A moment, in microseconds since an origin of the user's own, such as the start of the system. A
 /// moment below zero is before the origin. With it a caller says what time it is, in timeouts and
 /// to a device that it polls.
 ///
-/// Contracts see the microseconds, a whole number from -2^63 to 2^63 - 1. Quotients are cut towards
-/// zero.
+/// It has -2^63 to 2^63 - 1 microseconds. Quotients are cut towards zero.
 ///
 /// ```
 /// use net_base::time::{Duration, Instant};
@@ -25,11 +26,12 @@ use std::ops::{Add, AddAssign, Sub, SubAssign};
 /// let end = start + Duration::from_secs(2);
 /// assert_eq!((end - start, end.to_string()), (Duration::from_millis(2_000), "3.500s".into()));
 /// ```
-#[derive(Debug, Copy, Clone, PartialEq, Eq, PartialOrd, Ord)]
+#[derive(Debug, Copy, Clone, PartialEq, Eq, PartialOrd, Ord, Hash)]
 pub struct Instant {
     micros: i64,
 }
 
+/// Contracts see the microseconds.
 impl Model for Instant {
     ghost use Rattle.std.specs.Prelude.{ℤ};
 
@@ -48,19 +50,6 @@ impl Instant {
     /// assert_eq!(Instant::ZERO.total_micros(), 0);
     /// ```
     pub const ZERO: Instant = Instant { micros: 0 };
-
-    /// Returns the moment `micros` microseconds after the origin.
-    ///
-    /// ```
-    /// # use net_base::time::Instant;
-    /// assert_eq!(Instant::from_micros(1_500).total_millis(), 1);
-    /// ```
-    #[inline]
-    pub fn from_micros(micros: i64) -> Instant
-        ensures { result ≡ micros }
-    {
-        Instant { micros }
-    }
 
     /// Returns the same as `from_micros`, for code that was written for smoltcp.
     ///
@@ -84,30 +73,6 @@ impl Instant {
         matches!(millis.checked_mul(1_000), Some(_))
     }
 
-    /// Returns the moment `millis` milliseconds after the origin.
-    ///
-    /// ```
-    /// # use net_base::time::Instant;
-    /// assert_eq!(Instant::from_millis(-5).total_micros(), -5_000);
-    /// ```
-    ///
-    /// # Requires
-    ///
-    /// So many microseconds fit 64 bits with a sign, as `fits_millis` tests.
-    #[inline]
-    pub fn from_millis(millis: i64) -> Instant
-        requires fits_millis { IsMoment (millis *ℤ pos 1_000) }
-        ensures { result ≡ millis *ℤ pos 1_000 }
-    {
-        prove!(
-            Self::fits_millis(millis),
-            "attempt to multiply with overflow"
-        );
-        Instant {
-            micros: millis * 1_000,
-        }
-    }
-
     /// Returns the same as `from_millis`, for code that was written for smoltcp.
     ///
     /// ```
@@ -120,6 +85,7 @@ impl Instant {
     ///
     /// So many microseconds fit 64 bits with a sign, as `fits_millis` tests.
     #[inline]
+    #[track_caller]
     pub const fn from_millis_const(millis: i64) -> Instant
         requires fits_millis { IsMoment (millis *ℤ pos 1_000) }
         ensures { result ≡ millis *ℤ pos 1_000 }
@@ -141,18 +107,20 @@ impl Instant {
         matches!(secs.checked_mul(1_000_000), Some(_))
     }
 
-    /// Returns the moment `secs` seconds after the origin.
+    /// Returns the same as `from_secs`, in a constant too. smoltcp has no such call.
     ///
     /// ```
     /// # use net_base::time::Instant;
-    /// assert_eq!(Instant::from_secs(5).total_millis(), 5_000);
+    /// const LATER: Instant = Instant::from_secs_const(5);
+    /// assert_eq!(LATER, Instant::from_secs(5));
     /// ```
     ///
     /// # Requires
     ///
     /// So many microseconds fit 64 bits with a sign, as `fits_secs` tests.
     #[inline]
-    pub fn from_secs(secs: i64) -> Instant
+    #[track_caller]
+    pub const fn from_secs_const(secs: i64) -> Instant
         requires fits_secs { IsMoment (secs *ℤ pos 1_000_000) }
         ensures { result ≡ secs *ℤ pos 1_000_000 }
     {
@@ -293,6 +261,7 @@ impl Instant {
     pub fn saturating_add(&self, duration: Duration) -> Instant
         ensures exact { IsMoment (self.now +ℤ pos duration) → result ≡ self.now +ℤ pos duration }
         ensures last { (IsMoment (self.now +ℤ pos duration) → ⊥) → result ≡ pos (2 ^ 63 - 1) }
+        ensures value { result ≡ moment_after self.now duration }
     {
         let micros = self.micros.wrapping_add_unsigned(duration.total_micros());
         if micros < self.micros {
@@ -318,6 +287,24 @@ impl Instant {
             return Instant::from_micros(i64::MIN);
         }
         Instant { micros }
+    }
+
+    /// Returns how long after `earlier` this moment is, or no time if it is before it.
+    ///
+    /// ```
+    /// # use net_base::time::{Duration, Instant};
+    /// let (sent, answered) = (Instant::from_millis(3), Instant::from_millis(5));
+    /// assert_eq!(answered.saturating_duration_since(sent), Duration::from_millis(2));
+    /// assert_eq!(sent.saturating_duration_since(answered), Duration::ZERO);
+    /// ```
+    #[inline]
+    pub fn saturating_duration_since(&self, earlier: Instant) -> Duration
+        ensures { result ≡ elapsed self.now earlier }
+    {
+        if self.micros < earlier.micros {
+            return Duration::ZERO;
+        }
+        Duration::from_micros(self.micros.abs_diff(earlier.micros))
     }
 
     /// Returns the text of the moment, whatever the options.

@@ -7,11 +7,9 @@ mod echo;
 mod loopback;
 mod non_zero_u16;
 mod non_zero_usize;
-mod packet_meta;
 mod rx_token;
 
-use crate::assertions::assert_holds;
-use net_base::phy::{Device, Loopback, Medium, NonZeroU16, NonZeroUsize, PacketMeta, RxToken};
+use net_base::phy::{Device, Loopback, RxToken};
 use net_base::time::Instant;
 use std::alloc::{AllocError, Allocator};
 
@@ -68,41 +66,4 @@ fn has_length(frame: &[u8], length: usize) -> bool {
     let marks = length.to_le_bytes();
     let count = length.min(8);
     frame.len() == length && frame.starts_with(&marks[..count])
-}
-
-/// Returns whether `==` finds a value equal to itself and not to the other one.
-fn tells_apart<T: Eq>(value: &T, other: &T) -> bool {
-    value == value && value != other
-}
-
-/// Returns metadata that asks for segments of `size` bytes.
-fn cut_to(size: u16) -> PacketMeta {
-    PacketMeta {
-        id: 7,
-        segmentation_offload_size: NonZeroU16::new(size),
-    }
-}
-
-#[test]
-fn what_differs_is_not_equal(rt: HostRuntime) {
-    assert_holds(
-        &rt,
-        tells_apart(&Medium::Ip, &Medium::Ethernet),
-        ("step", 1),
-    );
-    assert_holds(
-        &rt,
-        tells_apart(&cut_to(1_448), &cut_to(1_449)) && tells_apart(&cut_to(1), &cut_to(0)),
-        ("step", 2),
-    );
-    assert_holds(
-        &rt,
-        tells_apart(&NonZeroU16::new(256), &NonZeroU16::new(257)),
-        ("step", 3),
-    );
-    assert_holds(
-        &rt,
-        tells_apart(&NonZeroUsize::new(1 << 32), &NonZeroUsize::new(1)),
-        ("step", 4),
-    );
 }

@@ -89,12 +89,11 @@ impl<A: Allocator + Copy> Device for TwoLists<A> {
     }
 
     fn capabilities(&self) -> DeviceCapabilities {
-        DeviceCapabilities {
-            medium: Medium::Ip,
-            max_transmission_unit: 65535,
-            checksum: ChecksumCapabilities::ignored(),
-            ..DeviceCapabilities::default()
-        }
+        let mut capabilities = DeviceCapabilities::default();
+        capabilities.medium = Medium::Ip;
+        capabilities.max_transmission_unit = 65535;
+        capabilities.checksum = ChecksumCapabilities::ignored();
+        capabilities
     }
 
     fn send<R, F: FnOnce(&mut [u8]) -> R + Drop>(

@@ -1,6 +1,6 @@
-//! Receivers in parts: a head, a storage and runs.
+//! Receivers, senders and scoreboards in parts: a head, and a storage, runs or both.
 use crate::assertions::assert_holds;
-use net_receiver::ReceiverOver;
+use net_receiver::{FiniteReceiverOver, FiniteSenderOver, ReceiverOver, Scoreboard, SenderOver};
 
 /// A receiver over a slice of bytes is put together from its parts again.
 #[test]
@@ -15,4 +15,54 @@ fn a_receiver_goes_on_from_its_parts(rt: HostRuntime) {
     let mut into = [0u8; 9];
     assert_holds(&rt, receiver.read(&mut into) == 4, ("count", 4));
     assert_holds(&rt, into.starts_with(b"abcd"), ("bytes", 4));
+}
+
+/// A receiver of a stream that ends keeps what was held, and the end.
+#[test]
+fn a_finite_receiver_goes_on_from_its_parts(rt: HostRuntime) {
+    let mut storage = *b"........";
+    let mut receiver = FiniteReceiverOver::<&mut [u8], 2>::over_at(&mut storage, 5);
+    let held = receiver.keep(7, b"cd", true).is_ok();
+    let (head, bytes, runs) = receiver.into_parts();
+    let mut receiver = FiniteReceiverOver::<&mut [u8], 2>::from_parts(head, bytes, runs);
+    let joined = receiver.keep(5, b"ab", false).is_ok();
+    assert_holds(&rt, held && joined, ("segments", 2));
+    assert_holds(&rt, receiver.is_complete(), ("end", 9));
+}
+
+/// A sender keeps the bytes that nobody acknowledged.
+#[test]
+fn a_sender_goes_on_from_its_parts(rt: HostRuntime) {
+    let mut storage = *b"........";
+    let mut sender = SenderOver::<&mut [u8]>::over_at(&mut storage, 5);
+    let taken = sender.write(b"abcd") == 4 && sender.acknowledge(7);
+    let (head, bytes) = sender.into_parts();
+    let sender = SenderOver::<&mut [u8]>::from_parts(head, bytes);
+    assert_holds(&rt, taken, ("bytes", 4));
+    assert_holds(&rt, sender.peek_at(7, 99) == b"cd".as_slice(), ("bytes", 2));
+}
+
+/// A sender of a stream that ends keeps its bytes, and its end.
+#[test]
+fn a_finite_sender_goes_on_from_its_parts(rt: HostRuntime) {
+    let mut storage = *b"........";
+    let mut sender = FiniteSenderOver::<&mut [u8]>::over_at(&mut storage, 5);
+    let taken = sender.write(b"ab") == 2;
+    sender.close();
+    let (head, bytes) = sender.into_parts();
+    let sender = FiniteSenderOver::<&mut [u8]>::from_parts(head, bytes);
+    let (shown, is_last) = sender.peek_at(5, 99);
+    assert_holds(&rt, taken && shown == b"ab".as_slice(), ("bytes", 2));
+    assert_holds(&rt, is_last && sender.numbers_end() == 8, ("end", 7));
+}
+
+/// A scoreboard keeps what was reported.
+#[test]
+fn a_scoreboard_goes_on_from_its_parts(rt: HostRuntime) {
+    let mut scoreboard = Scoreboard::<2>::empty_at(5);
+    let reported = scoreboard.report(7, 9, 20).is_ok();
+    let (head, runs) = scoreboard.into_parts();
+    let scoreboard = Scoreboard::<2>::from_parts(head, runs);
+    assert_holds(&rt, reported && scoreboard.contains(8), ("reported", 8));
+    assert_holds(&rt, scoreboard.first_unreported() == 5, ("unreported", 5));
 }

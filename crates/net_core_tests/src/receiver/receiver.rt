@@ -1,17 +1,7 @@
-//! What the rows of `net_cases` don't show: two receivers of streams that begin at different positions, and what
-//! storage has once its receiver is gone.
+//! What storage has once its receiver is gone.
 use crate::assertions::assert_holds;
 use net_receiver::Receiver;
 use net_ring::ManagedSlice;
-
-#[test]
-fn first_positions_are_compared(rt: HostRuntime) {
-    let mut buffer = [0u8; 16];
-    let mut other = [0u8; 16];
-    let late = Receiver::<4>::new_at(ManagedSlice::Borrowed(&mut buffer), 1);
-    let early = Receiver::<4>::new(ManagedSlice::Borrowed(&mut other));
-    assert_holds(&rt, !early.same_state(&late), ("same", 0));
-}
 
 /// Gives segments to a receiver of one run over this storage, of which one is refused and one is beyond the free
 /// window, and reads two bytes. Returns whether each call did so.

@@ -11,9 +11,11 @@ use std::process::Abort;
 
 /// A command, with the reply that it must have.
 #[derive(Clone, Copy, Drop)]
-enum Step<'a> {
+pub enum Step<'a> {
     /// A segment by its position and bytes: how many are kept and queued, and the listed runs.
     Keeps(u64, &'a [u8], usize, usize, &'a [(u64, u64)]),
+    /// A segment that is refused.
+    Refuses(u64, &'a [u8]),
     /// A read of at most this number of bytes, and those that are read.
     Reads(u64, &'a [u8]),
     /// The first missing position, the lengths of queue and window, and the held runs.
@@ -38,7 +40,7 @@ fn command_of<A: Allocator + Copy>(alloc: A, step: &Step<'_>) -> Result<Command<
     ensures { IfOk result CommandFits }
 {
     match step {
-        Step::Keeps(pos, bytes, _, _, _) => segment(alloc, *pos, bytes),
+        Step::Keeps(pos, bytes, _, _, _) | Step::Refuses(pos, bytes) => segment(alloc, *pos, bytes),
         Step::Reads(count, _) => Ok(Command::Read(*count)),
         Step::Shows(_, _, _, _) => Ok(Command::Show),
     }
@@ -73,6 +75,7 @@ fn is_reply<A: Allocator + Copy>(step: &Step<'_>, reply: &Reply<A>) -> bool {
         (Step::Keeps(_, _, kept, queued, runs), Reply::Segment(Ok(result))) => {
             result.kept == *kept && result.queued == *queued && lists(&result.sack, runs)
         }
+        (Step::Refuses(_, _), Reply::Segment(result)) => result.is_err(),
         (Step::Reads(_, bytes), Reply::Read(read)) => read.as_slice() == *bytes,
         (
             Step::Shows(next, queued, window, runs),
@@ -102,10 +105,10 @@ fn are_replies<A: Allocator + Copy>(steps: &[Step<'_>], replies: &[Reply<A>]) ->
 
 /// A schedule: how many bytes a receiver of four runs has room for, the stream's first position, and
 /// the steps.
-type Schedule<'a> = (usize, u64, &'a [Step<'a>]);
+pub type Schedule<'a> = (usize, u64, &'a [Step<'a>]);
 
 /// Returns whether a receiver replies to a schedule as its steps say.
-fn runs_as(alloc: Global, schedule: &Schedule<'_>) -> Result<bool, AllocError> {
+pub fn runs_as(alloc: Global, schedule: &Schedule<'_>) -> Result<bool, AllocError> {
     let (capacity, first, steps) = *schedule;
     let commands = commands_of(alloc, steps)?;
     let storage = vec![in alloc; 0u8; capacity]?;

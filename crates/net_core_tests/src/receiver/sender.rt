@@ -1,4 +1,4 @@
-//! Senders: long bytes, and what their storage has. Rows of `net_cases` show the calls of senders of few bytes.
+//! Senders: long bytes, and what their storage has. Rows of `rust/tests` show the calls of senders of few bytes.
 
 use crate::assertions::assert_holds;
 use net_receiver::Sender;

@@ -1,7 +1,7 @@
-//! An assembler that is taken into its parts, a head and runs, and is made of them again.
+//! An assembler that is taken into its parts, a head and runs, and is made of them again; and the counts of its turns.
 use crate::assertions::assert_holds;
 use net_assembler::laws::is_usize;
-use net_assembler::{Assembler, AssemblerHead, Run};
+use net_assembler::{Assembler, AssemblerHead, Run, Turns};
 
 /// Returns whether an assembler has these two runs, and its parts show the same.
 fn has_two(assembler: &Assembler<2>) -> bool {
@@ -47,4 +47,34 @@ fn an_assembler_in_parts(rt: HostRuntime) {
     let mut head = AssemblerHead::new();
     let mut runs = [Run { start: 0, end: 0 }; 2];
     assert_holds(&rt, adds_in_parts(&mut head, &mut runs), ("parts", 2));
+}
+
+/// Adds a range to an assembler and to one in parts, with counts that were raised before. Returns whether both took it.
+fn adds_counted(
+    assembler: &mut Assembler<2>,
+    head: &mut AssemblerHead,
+    runs: &mut [Run; 2],
+) -> bool {
+    let mut turns = Turns::new();
+    turns.look();
+    turns.step();
+    *head = AssemblerHead::new();
+    is_usize(9);
+    assembler.add_counted(7, 2, &mut turns).is_ok()
+        && head.add_counted(runs, 7, 2, &mut turns).is_ok()
+}
+
+/// A range whose turns are counted is added as others are.
+#[test]
+fn counted_ranges_are_added(rt: HostRuntime) {
+    let mut assembler = Assembler::<2>::empty();
+    let mut head = AssemblerHead::new();
+    let mut runs = [Run { start: 0, end: 0 }; 2];
+    let added = adds_counted(&mut assembler, &mut head, &mut runs);
+    assert_holds(
+        &rt,
+        added && assembler.run_at(0) == Some((7, 9)),
+        ("run", 7),
+    );
+    assert_holds(&rt, head.first_start == 7 && head.used == 1, ("parts", 7));
 }

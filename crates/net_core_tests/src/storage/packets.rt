@@ -3,5 +3,4 @@
 mod clones;
 mod drops;
 mod head;
-mod lengths;
 mod packet_buffer;

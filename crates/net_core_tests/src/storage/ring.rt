@@ -1,7 +1,6 @@
 //! The tests of rings and of their storage.
 
 mod drops;
-mod ends;
 mod head;
 mod managed;
 mod resets;

@@ -2,7 +2,7 @@
 use crate::assertions::assert_holds;
 use net_receiver::{FiniteReceiver, SequenceNumber};
 use net_ring::ManagedSlice;
-use net_tcp::{AdvertisedWindow, MAX_SCALE};
+use net_tcp::AdvertisedWindow;
 
 /// Takes a segment, whose first byte has this number.
 fn arrives(
@@ -13,9 +13,7 @@ fn arrives(
     is_fin: bool,
 ) {
     if let Some(pos) = number.position(initial, receiver.acknowledged()) {
-        if FiniteReceiver::<4>::fits(pos, text.len()) {
-            let _kept = receiver.keep(pos, text, is_fin).is_ok();
-        }
+        let _kept = receiver.keep(pos, text, is_fin).is_ok();
     }
 }
 
@@ -29,9 +27,7 @@ fn acknowledgement(
     let number = SequenceNumber::at(initial, receiver.acknowledged()).get();
     let next = receiver.next();
     if let Some(end) = receiver.window_end() {
-        if scale <= MAX_SCALE {
-            return (number, window.announce(scale, next, end));
-        }
+        return (number, window.announce(scale, next, end));
     }
     (number, 0)
 }

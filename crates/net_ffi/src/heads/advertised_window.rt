@@ -1,48 +1,50 @@
 //! What a receiver has announced.
 //!
-//! A head of zeros, but for `edge`, is new: nothing was announced, before the stream's byte at
-//! position `edge`.
+//! A head of zeros is new, before the stream's byte at position 0: nothing was announced.
 // Written by tools/ffi.py.
-ghost use Rattle.net_tcp.specs.Acceptability.{IsAcceptable, IsAnswered, IsIgnored, IsProbe};
-ghost use Rattle.net_tcp.specs.AdvertisedWindow.{announced, field_for, gain, worth};
+ghost use Rattle.net_tcp.specs.Acceptability.{IsArrival};
+ghost use Rattle.net_tcp.specs.AdvertisedWindow.{announced, field_for, gain, shift_count, worth};
 ghost use Rattle.std.specs.Prelude.{IsFalse, IsTrue, max, min, ℕ, ◌+◌, ◌-◌, ◌<◌, ◌^◌, ◌↔◌, ◌≡◌, ◌≤◌, ◌⊎◌};
 
 use crate::refusals::{
-    NET_BASE_ACKNOWLEDGEMENT_ONLY, NET_BASE_ANSWER, NET_BASE_IGNORE, NET_BASE_MISSING,
-    NET_BASE_PRESENT, NET_BASE_REFUSED, NET_BASE_RESET, NET_BASE_TAKE,
+    NET_BASE_ACKNOWLEDGEMENT_ONLY, NET_BASE_ANSWER, NET_BASE_IGNORE, NET_BASE_RESET, NET_BASE_TAKE,
+    Status,
 };
-use crate::results::{number_of, presence_of};
-use net_tcp::{AdvertisedWindow, MAX_SCALE, Segment};
+use crate::results::number_of;
+use net_tcp::{AdvertisedWindow, Segment};
 
-/// Returns what to do with a segment, as `net_base_tcp_classify` does, in the window that was
-/// announced: from `next`, the first missing position, up to `edge`, whatever is free now.
+/// Makes `advertised` a window of which nothing was announced, before the byte at `first`.
+#[unsafe(no_mangle)]
+pub extern "C" fn net_base_advertised_window_init(advertised: &mut AdvertisedWindow, first: u64)
+    ensures { advertised.new.edge ≡ first }
+{
+    *advertised = AdvertisedWindow::new(first);
+}
+
+/// Returns what to do with a segment, as `net_base_tcp_classify` says, in the window that was
+/// announced: from `next`, the first missing position, up to the edge, whatever is free now.
 #[unsafe(no_mangle)]
 pub extern "C" fn net_base_advertised_window_classify(
     advertised: &AdvertisedWindow,
     next: u64,
     segment: &Segment,
-) -> u32
-    ensures take { (result ≡ NET_BASE_TAKE) ↔ (IsFalse segment.now.rst × IsFalse segment.now.syn × IsTrue
-        segment.now.ack × IsAcceptable next (advertised.now.edge - next) segment.now.seq segment.now.len) }
-    ensures only { (result ≡ NET_BASE_ACKNOWLEDGEMENT_ONLY) ↔ (IsFalse segment.now.rst × IsFalse segment.now.syn ×
-        IsTrue segment.now.ack × IsProbe next (advertised.now.edge - next) segment.now.seq segment.now.len) }
-    ensures answer { (result ≡ NET_BASE_ANSWER) ↔ IsAnswered next (advertised.now.edge - next) segment.now }
-    ensures reset { (result ≡ NET_BASE_RESET) ↔ (IsTrue segment.now.rst × (segment.now.seq ≡ next)) }
-    ensures ignored { (result ≡ NET_BASE_IGNORE) ↔ IsIgnored next (advertised.now.edge - next) segment.now }
+) -> Status
+    ensures { IsArrival NET_BASE_TAKE NET_BASE_ACKNOWLEDGEMENT_ONLY NET_BASE_ANSWER NET_BASE_RESET NET_BASE_IGNORE
+        next (advertised.now.edge - next) segment.now result }
 {
     number_of(advertised.classify(next, *segment))
 }
 
-/// Writes the number to announce to `number`, in units of 2^`scale`, and returns true; `next` is
-/// the first missing position, and `window_end` the end of the free room. It is the greatest that
-/// doesn't promise more than there is. In a segment with a SYN the scale is 0.
+/// Writes to `number` the number to announce, in units of 2^`scale`, if `next` is the first missing
+/// position and `window_end` the end of the free room: the greatest that doesn't promise more than
+/// there is. In a segment with a SYN the scale is 0. A scale above 14 counts as 14 (RFC 7323,
+/// section 2.3).
 ///
-/// No number keeps a promise whose rest isn't a multiple of the unit, unless there is room up to
+/// No number keeps a promise whose rest is not a multiple of the unit, unless there is room up to
 /// the next multiple: at one scale the number may then be less than what was promised, by less than
 /// a unit. What was promised is still acceptable, and `edge` stays.
 ///
-/// It is refused if `scale` is above 14, or if `window_end` is below `next`: false, and nothing
-/// changes.
+/// It is refused if `window_end` is below `next`: false, and nothing changes.
 #[unsafe(no_mangle)]
 pub extern "C" fn net_base_advertised_window_announce(
     advertised: &mut AdvertisedWindow,
@@ -51,31 +53,33 @@ pub extern "C" fn net_base_advertised_window_announce(
     window_end: u64,
     number: &mut u16,
 ) -> bool
-    ensures done { IsTrue result ↔ ((scale ≤ 14) × (next ≤ window_end)) }
-    ensures field { IsTrue result → number.new ≡ field_for scale (window_end - next) }
-    ensures edge { IsTrue result → advertised.new.edge ≡ max advertised.old.edge (announced next scale number.new) }
+    ensures done { IsTrue result ↔ (next ≤ window_end) }
+    ensures field { IsTrue result → number.new ≡ field_for (shift_count scale) (window_end - next) }
+    ensures edge { IsTrue result → advertised.new.edge ≡ max advertised.old.edge (announced next (shift_count scale)
+        number.new) }
     ensures never_back { IsTrue result → advertised.old.edge ≤ advertised.new.edge }
-    ensures within { IsTrue result → announced next scale number.new ≤ window_end }
+    ensures within { IsTrue result → announced next (shift_count scale) number.new ≤ window_end }
     ensures room { IsTrue result → advertised.old.edge ≤ window_end → advertised.new.edge ≤ window_end }
-    ensures most { IsTrue result → (f : ℕ) → f ≤ 65535 → announced next scale f ≤ window_end → f ≤ number.new }
-    ensures lost { IsTrue result → advertised.old.edge ≤ window_end → advertised.old.edge ≤ announced next scale
-        65535 → advertised.old.edge < announced next scale number.new + 2 ^ scale }
+    ensures most { IsTrue result → (f : ℕ) → f ≤ 65535 → announced next (shift_count scale) f ≤ window_end → f ≤
+        number.new }
+    ensures lost { IsTrue result → advertised.old.edge ≤ window_end → advertised.old.edge ≤ announced next
+        (shift_count scale) 65535 → advertised.old.edge < announced next (shift_count scale) number.new + 2 ^
+        shift_count scale }
     ensures unchanged { IsFalse result → (advertised.new ≡ advertised.old) × (number.new ≡ number.old) }
 {
-    if scale > MAX_SCALE || window_end < next {
+    if window_end < next {
         return false;
     }
     *number = advertised.announce(scale, next, window_end);
     true
 }
 
-/// Writes the number to announce in a segment that is sent anyway, as
+/// Writes to `number` the number to announce in a segment that is sent anyway, as
 /// `net_base_advertised_window_announce` does, but moves the edge beyond `next` only if an update
 /// would be due: otherwise it announces what was promised before, rounded down. So the edge grows
 /// by what is worth an update, or only up to `next` (RFC 9293, section 3.8.6.2.2).
 ///
-/// It is refused if `scale` is above 14, or if `window_end` is below `next`: false, and nothing
-/// changes.
+/// It is refused if `window_end` is below `next`: false, and nothing changes.
 #[unsafe(no_mangle)]
 pub extern "C" fn net_base_advertised_window_announce_in_steps(
     advertised: &mut AdvertisedWindow,
@@ -86,30 +90,31 @@ pub extern "C" fn net_base_advertised_window_announce_in_steps(
     mss: u16,
     number: &mut u16,
 ) -> bool
-    ensures done { IsTrue result ↔ ((scale ≤ 14) × (next ≤ window_end)) }
-    ensures due { IsTrue result → worth capacity mss ≤ gain advertised.old.edge scale next window_end → number.new ≡
-        field_for scale (window_end - next) }
-    ensures held { IsTrue result → gain advertised.old.edge scale next window_end < worth capacity mss → number.new
-        ≡ field_for scale (min advertised.old.edge window_end - next) }
-    ensures edge { IsTrue result → advertised.new.edge ≡ max advertised.old.edge (announced next scale number.new) }
-    ensures within { IsTrue result → announced next scale number.new ≤ window_end }
+    ensures done { IsTrue result ↔ (next ≤ window_end) }
+    ensures due { IsTrue result → worth capacity mss ≤ gain advertised.old.edge (shift_count scale) next window_end
+        → number.new ≡ field_for (shift_count scale) (window_end - next) }
+    ensures held { IsTrue result → gain advertised.old.edge (shift_count scale) next window_end < worth capacity mss
+        → number.new ≡ field_for (shift_count scale) (min advertised.old.edge window_end - next) }
+    ensures edge { IsTrue result → advertised.new.edge ≡ max advertised.old.edge (announced next (shift_count scale)
+        number.new) }
+    ensures within { IsTrue result → announced next (shift_count scale) number.new ≤ window_end }
     ensures room { IsTrue result → advertised.old.edge ≤ window_end → advertised.new.edge ≤ window_end }
     ensures steps { IsTrue result → advertised.old.edge + worth capacity mss ≤ advertised.new.edge ⊎
         (advertised.new.edge ≡ max advertised.old.edge next) }
     ensures unchanged { IsFalse result → (advertised.new ≡ advertised.old) × (number.new ≡ number.old) }
 {
-    if scale > MAX_SCALE || window_end < next {
+    if window_end < next {
         return false;
     }
     *number = advertised.announce_in_steps(scale, next, window_end, capacity, mss);
     true
 }
 
-/// Returns `NET_BASE_PRESENT` if an update is worth a segment of its own, and `NET_BASE_MISSING` if
-/// it isn't: whether the edge would move, from where it is, below `next` too, by half of the
-/// receiver's capacity, rounded up, or by one segment of `mss` bytes, and by 1 at least.
+/// Returns whether an update is worth a segment of its own: whether the edge would move, from where
+/// it is, below `next` too, by half of the receiver's capacity, rounded up, or by one segment of
+/// `mss` bytes, and by 1 at least.
 ///
-/// It is refused if `scale` is above 14, or if `window_end` is below `next`: `NET_BASE_REFUSED`.
+/// It is refused if `window_end` is below `next`: false.
 #[unsafe(no_mangle)]
 pub extern "C" fn net_base_advertised_window_is_update_due(
     advertised: &AdvertisedWindow,
@@ -118,15 +123,13 @@ pub extern "C" fn net_base_advertised_window_is_update_due(
     window_end: u64,
     capacity: u64,
     mss: u16,
-) -> u32
-    ensures present { (scale ≤ 14) × (next ≤ window_end) → (worth capacity mss ≤ gain advertised.now.edge scale next
-        window_end) → result ≡ NET_BASE_PRESENT }
-    ensures missing { (scale ≤ 14) × (next ≤ window_end) → ((worth capacity mss ≤ gain advertised.now.edge scale
-        next window_end) → ⊥) → result ≡ NET_BASE_MISSING }
-    ensures refused { ((scale ≤ 14) × (next ≤ window_end) → ⊥) → result ≡ NET_BASE_REFUSED }
+) -> bool
+    ensures value { next ≤ window_end → (IsTrue result ↔ (worth capacity mss ≤ gain advertised.now.edge (shift_count
+        scale) next window_end)) }
+    ensures refused { (next ≤ window_end → ⊥) → IsFalse result }
 {
-    if scale > MAX_SCALE || window_end < next {
-        return NET_BASE_REFUSED;
+    if window_end < next {
+        return false;
     }
-    presence_of(advertised.is_update_due(scale, next, window_end, capacity, mss))
+    advertised.is_update_due(scale, next, window_end, capacity, mss)
 }

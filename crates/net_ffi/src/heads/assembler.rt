@@ -1,6 +1,6 @@
 //! Assemblers: sets of positions, stored as runs in memory that the caller keeps.
 //!
-//! At most as many runs are stored as the slice has elements.
+//! A head of zeros is new. At most as many runs are stored as the slice has elements.
 // Written by tools/ffi.py.
 ghost use Rattle.net_assembler.specs.AssemblerLaws.{Adds, AddsThenRemovesFront, RemovesFront};
 ghost use Rattle.net_assembler.specs.Positions.{RangeFits, contains, front, holes, maximal_runs, nothing};
@@ -9,18 +9,26 @@ ghost use Rattle.net_assembler.specs.RunLists.{HasSoundRuns, IsCanonical, set_of
 ghost use Rattle.net_ffi.specs.Refusals.{no_number};
 ghost use Rattle.net_ffi.specs.Results.{done_or_many, length_or_many};
 ghost use Rattle.std.specs.List.{slice_get};
-ghost use Rattle.std.specs.Prelude.{IsFalse, IsTrue, List, OnErr, if◌then◌else◌, length, unwrap_or, ℕ, ◌+◌, ◌<◌};
-ghost use Rattle.std.specs.Prelude.{◌↔◌, ◌≡◌, ◌≤◌};
+ghost use Rattle.std.specs.Prelude.{IsFalse, IsTrue, List, OnErr, length, unwrap_or, ℕ, ◌+◌, ◌<◌, ◌↔◌, ◌≡◌, ◌≤◌};
 
-use crate::refusals::{
-    NET_BASE_DONE, NET_BASE_MISSING, NET_BASE_PRESENT, NET_BASE_REFUSED, NO_FRONT, no_run,
-};
-use crate::results::{FrontLength, front_length, presence_of, run_of, status_of};
+use crate::refusals::{NET_BASE_DONE, NET_BASE_REFUSED, Status, refused_front_length, refused_run};
+use crate::results::{FrontLength, front_length, run_of, status_of};
 use net_assembler::{AssemblerHead, Run};
 
-/// Returns whether `assembler` and `runs` are those of an assembler: there are `used` runs, which
-/// rise, with a hole between neighbours; the first starts at 0; and each end fits a `size_t` also
-/// with `first_start` added. It looks at each run.
+/// Makes `assembler` the head of an assembler with no position, whatever its runs.
+#[unsafe(no_mangle)]
+pub extern "C" fn net_base_assembler_init(assembler: &mut AssemblerHead)
+    ensures no_run { assembler.new.used ≡ 0 }
+    ensures no_start { assembler.new.first_start ≡ 0 }
+    ensures sound { (runs : List (ℕ × ℕ)) → HasSoundRuns assembler.new runs }
+    ensures empty { (runs : List (ℕ × ℕ)) → set_of assembler.new runs ≡ nothing }
+{
+    *assembler = AssemblerHead::new();
+}
+
+/// Returns whether the head is sound with these runs, for any numbers in both: there are `used`
+/// runs, which rise, with a hole between neighbours; the first starts at 0; and each end is a
+/// `usize` with `first_start` added, too. It looks at each used run.
 #[unsafe(no_mangle)]
 pub extern "C" fn net_base_assembler_is_sound(assembler: &AssemblerHead, runs: &[Run]) -> bool
     ensures { IsTrue result ↔ HasSoundRuns assembler.now runs.now }
@@ -28,26 +36,11 @@ pub extern "C" fn net_base_assembler_is_sound(assembler: &AssemblerHead, runs: &
     assembler.is_sound(runs)
 }
 
-/// Removes every position: `used` and `first_start` are 0 then. Nothing is refused: this makes an
-/// assembler of any memory.
-///
-/// `first_start` is 0 whenever there is no run, as long as the head is changed only by calls. Runs
-/// that aren't in use aren't read, and may be anything.
-#[unsafe(no_mangle)]
-pub extern "C" fn net_base_assembler_clear(assembler: &mut AssemblerHead)
-    ensures no_run { assembler.new.used ≡ 0 }
-    ensures no_start { assembler.new.first_start ≡ 0 }
-    ensures sound { (runs : List (ℕ × ℕ)) → HasSoundRuns assembler.new runs }
-    ensures empty { (runs : List (ℕ × ℕ)) → set_of assembler.new runs ≡ nothing }
-{
-    assembler.clear();
-}
-
 /// Adds the positions from `offset` to `offset + size - 1`; none if `size` is 0. Ranges that touch
 /// form one run.
 ///
-/// Returns `NET_BASE_DONE`, or `NET_BASE_TOO_MANY_RUNS`, and nothing changes, if there would be
-/// more runs than the slice has elements.
+/// Returns `NET_BASE_TOO_MANY_RUNS`, and changes nothing, if there would be more runs than the
+/// slice has elements.
 ///
 /// It is refused if `used` is above `runs.len()`, or if `offset + size` doesn't fit a `size_t`:
 /// `NET_BASE_REFUSED`, and nothing changes.
@@ -61,7 +54,7 @@ pub extern "C" fn net_base_assembler_add(
     runs: &mut [Run],
     offset: usize,
     size: usize,
-) -> u32
+) -> Status
     requires sound { assembler.old.used ≤ length runs.old → HasSoundRuns assembler.old runs.old }
     ensures sound { assembler.old.used ≤ length runs.old → HasSoundRuns assembler.new runs.new }
     ensures added { (assembler.old.used ≤ length runs.old) × (RangeFits offset size) → Adds (length runs.old)
@@ -79,12 +72,12 @@ pub extern "C" fn net_base_assembler_add(
     status_of(assembler.add(runs, offset, size))
 }
 
-/// Adds the positions from `offset` to `offset + size - 1`, then removes the run at position 0,
-/// returns its length, and counts all later positions from its end. If position 0 is missing,
-/// nothing is removed, and the length is 0.
+/// Adds the positions from `offset` to `offset + size - 1`, and then removes the run at position 0,
+/// returns its length, and counts all later positions from its end. If position 0 is missing, it
+/// removes nothing, and the length is 0.
 ///
-/// The status is `NET_BASE_DONE`, or `NET_BASE_TOO_MANY_RUNS` if `offset` isn't 0 and there would
-/// be more runs than the slice has elements: then the length is 0, and nothing changes.
+/// Returns `NET_BASE_TOO_MANY_RUNS`, and changes nothing, if `offset` isn't 0 and there would be
+/// more runs than the slice has elements.
 ///
 /// It is refused if `used` is above `runs.len()`, or if `offset + size` doesn't fit a `size_t`: the
 /// status is `NET_BASE_REFUSED`, and the length 0, and nothing changes.
@@ -116,13 +109,14 @@ pub extern "C" fn net_base_assembler_add_then_remove_front(
         NET_BASE_REFUSED) × (result.length ≡ 0) × (assembler.new ≡ assembler.old) × (runs.new ≡ runs.old) }
 {
     if assembler.used > runs.len() || !AssemblerHead::fits(offset, size) {
-        return NO_FRONT;
+        return refused_front_length();
     }
     front_length(assembler.add_then_remove_front(runs, offset, size))
 }
 
-/// Removes the run at position 0, returns its length, and counts all later positions from its end.
-/// If position 0 is missing, nothing is removed, and the length is 0.
+/// Removes the run at position 0, counts all later positions from its end, and returns its length.
+///
+/// If position 0 is missing it returns 0, and head and runs stay as they were.
 ///
 /// It is refused if `used` is above `runs.len()`: the status is `NET_BASE_REFUSED`, and length 0,
 /// and nothing changes.
@@ -151,10 +145,7 @@ pub extern "C" fn net_base_assembler_remove_front(
         (result.length ≡ 0) × (assembler.new ≡ assembler.old) × (runs.new ≡ runs.old) }
 {
     if assembler.used > runs.len() {
-        return FrontLength {
-            status: NET_BASE_REFUSED,
-            length: 0,
-        };
+        return refused_front_length();
     }
     let length = assembler.remove_front(runs);
     FrontLength {
@@ -163,8 +154,8 @@ pub extern "C" fn net_base_assembler_remove_front(
     }
 }
 
-/// Removes the positions below `count`, counts the others from there, so that position `count` is
-/// position 0 then, and returns true. A run that `count` cuts keeps what is at or after it.
+/// Removes the positions below `count`, and counts the others from there, so that position `count`
+/// is position 0 then. A run that `count` cuts keeps what is at or after it.
 ///
 /// It is refused if `used` is above `runs.len()`: false, and nothing changes.
 ///
@@ -193,7 +184,7 @@ pub extern "C" fn net_base_assembler_shift(
     true
 }
 
-/// Returns the length of the run at position 0, which is 0 if position 0 is missing.
+/// Returns the length of the run at position 0, or 0 if position 0 is missing.
 ///
 /// It is refused if `used` is above `runs.len()`: the status is `NET_BASE_REFUSED`, and length 0.
 ///
@@ -212,10 +203,7 @@ pub extern "C" fn net_base_assembler_peek_front(
         (result.length ≡ 0) }
 {
     if assembler.used > runs.len() {
-        return FrontLength {
-            status: NET_BASE_REFUSED,
-            length: 0,
-        };
+        return refused_front_length();
     }
     let length = assembler.peek_front(runs);
     FrontLength {
@@ -224,9 +212,9 @@ pub extern "C" fn net_base_assembler_peek_front(
     }
 }
 
-/// Returns `NET_BASE_PRESENT` if `position` is present, and `NET_BASE_MISSING` if it isn't.
+/// Returns whether `position` is present.
 ///
-/// It is refused if `used` is above `runs.len()`: `NET_BASE_REFUSED`.
+/// It is refused if `used` is above `runs.len()`: false.
 ///
 /// # Requires
 ///
@@ -236,20 +224,20 @@ pub extern "C" fn net_base_assembler_contains(
     assembler: &AssemblerHead,
     runs: &[Run],
     position: usize,
-) -> u32
+) -> bool
     requires sound { assembler.now.used ≤ length runs.now → HasSoundRuns assembler.now runs.now }
-    ensures done { assembler.now.used ≤ length runs.now → result ≡ (if contains (set_of assembler.now runs.now)
-        position then NET_BASE_PRESENT else NET_BASE_MISSING) }
-    ensures refused { (assembler.now.used ≤ length runs.now → ⊥) → result ≡ NET_BASE_REFUSED }
+    ensures value { assembler.now.used ≤ length runs.now → result ≡ contains (set_of assembler.now runs.now)
+        position }
+    ensures refused { (assembler.now.used ≤ length runs.now → ⊥) → IsFalse result }
 {
     if assembler.used > runs.len() {
-        return NET_BASE_REFUSED;
+        return false;
     }
-    presence_of(assembler.contains(runs, position))
+    assembler.contains(runs, position)
 }
 
-/// Returns the run with number `index`, counted from 0 in rising order: its start, and its end,
-/// which isn't included. If there are no more than `index` runs, both are 0.
+/// Returns the maximal run with number `index`, counted from 0 in rising order, as (start, end),
+/// the end not included; zeros exactly if there are no more than `index`.
 ///
 /// It is refused if `used` is above `runs.len()`: both are `NET_BASE_NONE`.
 ///
@@ -268,14 +256,14 @@ pub extern "C" fn net_base_assembler_run_at(
     ensures refused { (assembler.now.used ≤ length runs.now → ⊥) → result ≡ (no_number, no_number) }
 {
     if assembler.used > runs.len() {
-        return no_run();
+        return refused_run();
     }
     run_of(assembler.run_at(runs, index))
 }
 
-/// Returns the hole with number `index`, counted from 0 in rising order: its start, and its end,
-/// which isn't included. Holes are the missing ranges below the end of the last run. If there are
-/// no more than `index` holes, both are 0.
+/// Returns the hole with number `index`, counted from 0 in rising order, as (start, end), the end
+/// not included; zeros exactly if there are no more than `index`. Holes are the missing ranges
+/// below the end of the last run.
 ///
 /// It is refused if `used` is above `runs.len()`: both are `NET_BASE_NONE`.
 ///
@@ -294,7 +282,7 @@ pub extern "C" fn net_base_assembler_hole_at(
     ensures refused { (assembler.now.used ≤ length runs.now → ⊥) → result ≡ (no_number, no_number) }
 {
     if assembler.used > runs.len() {
-        return no_run();
+        return refused_run();
     }
     run_of(assembler.hole_at(runs, index))
 }

@@ -1,33 +1,59 @@
-//! Receivers of a stream that ends. The end is the position after the last byte. It has a number,
-//! as TCP's FIN has, and needs no room; `end` of the head is it, or `UINT64_MAX` while it isn't
-//! known.
+//! Receivers of a stream of bytes, which ends or not. The end is the position after the last byte.
+//! It has a number, as TCP's FIN has, and needs no room. It is known once a segment has said so; a
+//! stream whose segments never say so doesn't end.
 //!
-//! A new head has `end` set to `UINT64_MAX`, and is zeros but for `receiver.first` otherwise, which
-//! is below that. `receiver` is a receiver, whose calls that only look may be made on it.
+//! A head of zeros is new, of a stream that begins at position 0. The calls of a receiver look at
+//! `receiver`.
 // Written by tools/ffi.py.
+ghost use Rattle.net_assembler.specs.RunLists.{IsCanonical};
 ghost use Rattle.net_ffi.specs.ReceiverParts.{IsPlausible};
 ghost use Rattle.net_ffi.specs.Refusals.{no_number};
-ghost use Rattle.net_receiver.specs.Finite.{acknowledged, can_end, finite_after_read, has_read_all, is_complete};
-ghost use Rattle.net_receiver.specs.Finite.{no_end};
-ghost use Rattle.net_receiver.specs.FiniteHead.{HasSoundFinite, finite_of, next_of};
+ghost use Rattle.net_receiver.specs.Finite.{acknowledged, bytes_end, can_end, finite_after_read, fresh_finite};
+ghost use Rattle.net_receiver.specs.Finite.{has_read_all, is_complete, no_end};
+ghost use Rattle.net_receiver.specs.FiniteHead.{HasSoundFinite, end_of, finite_of, next_of};
 ghost use Rattle.net_receiver.specs.FiniteLaws.{ReceivesFinite};
 ghost use Rattle.net_receiver.specs.Head.{head_after_read, receiver_of};
+ghost use Rattle.net_receiver.specs.NewHeads.{finite_receiver_head};
 ghost use Rattle.net_receiver.specs.Segments.{new_count};
 ghost use Rattle.net_ring.specs.Ring.{queue};
 ghost use Rattle.net_ring.specs.RingHead.{IsSound as IsSoundPlace, ring_at};
-ghost use Rattle.std.specs.Prelude.{IsFalse, IsTrue, List, drop, if◌then◌else◌, length, min, nat_lt, slice_range};
-ghost use Rattle.std.specs.Prelude.{take, ℕ, ◌&&◌, ◌++◌, ◌+◌, ◌-◌, ◌<◌, ◌==◌, ◌^◌, ◌↔◌, ◌≡◌, ◌≤◌};
+ghost use Rattle.std.specs.Prelude.{IsFalse, IsTrue, List, drop, if◌then◌else◌, length, min, slice_range, take, ℕ};
+ghost use Rattle.std.specs.Prelude.{◌++◌, ◌+◌, ◌-◌, ◌<◌, ◌==◌, ◌^◌, ◌↔◌, ◌≡◌, ◌≤◌};
 
 use crate::finite_receiver::has_number;
 use crate::receiver::{has_next, is_plausible};
-use crate::refusals::{NET_BASE_MISSING, NET_BASE_PRESENT, NET_BASE_REFUSED, no_number};
-use crate::results::presence_of;
+use crate::refusals::no_number;
 use net_assembler::Run;
 use net_receiver::FiniteReceiverHead;
 
-/// Returns whether `receiver`, the storage and the runs are those of a receiver, and the position
-/// after its last byte, held ones too, is at most `end` and below 2^64 - 1. It looks at each run,
-/// and at no byte.
+/// Makes `receiver` the head of a receiver of a stream that begins at position `first`; nothing has
+/// arrived. It is sound with every storage and all runs.
+///
+/// It is refused if `first` is `u64::MAX`: false, and nothing changes.
+#[unsafe(no_mangle)]
+pub extern "C" fn net_base_finite_receiver_init(
+    receiver: &mut FiniteReceiverHead,
+    first: u64,
+) -> bool
+    ensures done { IsTrue result ↔ (first < no_end) }
+    ensures sound { IsTrue result → (storage : List ℕ) (runs : List (ℕ × ℕ)) → HasSoundFinite receiver.new storage
+        runs }
+    ensures state { IsTrue result → (storage : List ℕ) (runs : List (ℕ × ℕ)) → finite_of receiver.new storage runs ≡
+        fresh_finite first (length storage) }
+    ensures canonical { IsTrue result → IsCanonical receiver.new.receiver.held }
+    ensures numbers { IsTrue result → receiver.new ≡ finite_receiver_head first }
+    ensures unchanged { IsFalse result → (receiver.new ≡ receiver.old) }
+{
+    if first == u64::MAX {
+        return false;
+    }
+    *receiver = FiniteReceiverHead::new(first);
+    true
+}
+
+/// Returns whether this head, a storage and runs are sound: they are those of a receiver, and the
+/// position after its last byte, held ones too, is at most the end, if that is known, and below
+/// 2^64 - 1. It looks at each held run, and at no byte.
 #[unsafe(no_mangle)]
 pub extern "C" fn net_base_finite_receiver_is_sound(
     receiver: &FiniteReceiverHead,
@@ -39,12 +65,11 @@ pub extern "C" fn net_base_finite_receiver_is_sound(
     receiver.is_sound(storage, runs)
 }
 
-/// Returns `NET_BASE_PRESENT` if the stream can end at `position`: it is the end that is known, or
-/// none is, and it isn't below the first missing position or a held run's end. Otherwise
-/// `NET_BASE_MISSING`, as of `UINT64_MAX`, which is no end.
+/// Returns whether the stream can end at `position`: it is the end that is known, or none is, and
+/// it isn't below the first missing position or a held run's end. 2^64 - 1 is no end.
 ///
 /// It is refused if `place` isn't that of a ring of `storage.len()` bytes, `next` doesn't fit 64
-/// bits, or `held.used` is above `runs.len()`: `NET_BASE_REFUSED`.
+/// bits, or `held.used` is above `runs.len()`: false.
 ///
 /// # Requires
 ///
@@ -55,44 +80,38 @@ pub extern "C" fn net_base_finite_receiver_can_end(
     storage: &[u8],
     runs: &[Run],
     position: u64,
-) -> u32
+) -> bool
     requires sound { IsPlausible (length storage.now) (length runs.now) receiver.now.receiver → HasSoundFinite
         receiver.now storage.now runs.now }
-    ensures value { IsPlausible (length storage.now) (length runs.now) receiver.now.receiver → result ≡ (if (nat_lt
-        position no_end && can_end (finite_of receiver.now storage.now runs.now) position) then NET_BASE_PRESENT
-        else NET_BASE_MISSING) }
-    ensures fits { IsPlausible (length storage.now) (length runs.now) receiver.now.receiver → position < no_end →
-        result ≡ (if can_end (finite_of receiver.now storage.now runs.now) position then NET_BASE_PRESENT else
-        NET_BASE_MISSING) }
-    ensures refused { (IsPlausible (length storage.now) (length runs.now) receiver.now.receiver → ⊥) → result ≡
-        NET_BASE_REFUSED }
+    ensures value { IsPlausible (length storage.now) (length runs.now) receiver.now.receiver → result ≡ can_end
+        (finite_of receiver.now storage.now runs.now) position }
+    ensures refused { (IsPlausible (length storage.now) (length runs.now) receiver.now.receiver → ⊥) → IsFalse
+        result }
 {
     if !is_plausible(&receiver.receiver, storage.len(), runs.len()) {
-        return NET_BASE_REFUSED;
+        return false;
     }
-    presence_of(receiver.can_end(storage, runs, position))
+    receiver.can_end(storage, runs, position)
 }
 
-/// Returns `NET_BASE_PRESENT` if all bytes and the end have arrived, and `NET_BASE_MISSING` if not.
+/// Returns whether all bytes and the end have arrived. Once it is so it stays so.
 ///
-/// It is refused if the number after `next` doesn't fit 64 bits: `NET_BASE_REFUSED`.
+/// It is refused if the number after `next` doesn't fit 64 bits: false.
 #[unsafe(no_mangle)]
-pub extern "C" fn net_base_finite_receiver_is_complete(receiver: &FiniteReceiverHead) -> u32
-    ensures value { next_of receiver.now < no_end → result ≡ (if (next_of receiver.now == receiver.now.end) then
-        NET_BASE_PRESENT else NET_BASE_MISSING) }
+pub extern "C" fn net_base_finite_receiver_is_complete(receiver: &FiniteReceiverHead) -> bool
+    ensures value { next_of receiver.now < no_end → result ≡ (next_of receiver.now == end_of receiver.now) }
     ensures state { next_of receiver.now < no_end → (storage : List ℕ) (runs : List (ℕ × ℕ)) → HasSoundFinite
-        receiver.now storage runs → result ≡ (if is_complete (finite_of receiver.now storage runs) then
-        NET_BASE_PRESENT else NET_BASE_MISSING) }
-    ensures refused { (next_of receiver.now < no_end → ⊥) → result ≡ NET_BASE_REFUSED }
+        receiver.now storage runs → result ≡ is_complete (finite_of receiver.now storage runs) }
+    ensures refused { (next_of receiver.now < no_end → ⊥) → IsFalse result }
 {
     if !has_number(receiver) {
-        return NET_BASE_REFUSED;
+        return false;
     }
-    presence_of(receiver.is_complete())
+    receiver.is_complete()
 }
 
-/// Writes the number that an acknowledgement carries to `number`, and returns true: the first
-/// missing position, or, once all bytes and the end have arrived, the end plus 1.
+/// Writes to `number` the number that an acknowledgement carries: the first missing position, or,
+/// once all bytes and the end have arrived, the end plus 1, since the end has a number.
 ///
 /// It is refused if the number after `next` doesn't fit 64 bits: false, and nothing changes.
 #[unsafe(no_mangle)]
@@ -103,7 +122,7 @@ pub extern "C" fn net_base_finite_receiver_acknowledged(
     ensures done { IsTrue result ↔ (next_of receiver.now < no_end) }
     ensures state { IsTrue result → (storage : List ℕ) (runs : List (ℕ × ℕ)) → HasSoundFinite receiver.now storage
         runs → number.new ≡ acknowledged (finite_of receiver.now storage runs) }
-    ensures value { IsTrue result → number.new ≡ (if next_of receiver.now == receiver.now.end then next_of
+    ensures value { IsTrue result → number.new ≡ (if next_of receiver.now == end_of receiver.now then next_of
         receiver.now + 1 else next_of receiver.now) }
     ensures unchanged { IsFalse result → (number.new ≡ number.old) }
 {
@@ -114,19 +133,19 @@ pub extern "C" fn net_base_finite_receiver_acknowledged(
     true
 }
 
-/// Returns `NET_BASE_PRESENT` if all bytes were read, up to the end, and `NET_BASE_MISSING` if not.
+/// Returns whether all bytes were read, up to the end. Once it is so it stays so.
 ///
-/// It is refused if the number after `next` doesn't fit 64 bits: `NET_BASE_REFUSED`.
+/// It is refused if the number after `next` doesn't fit 64 bits: false.
 #[unsafe(no_mangle)]
-pub extern "C" fn net_base_finite_receiver_has_read_all(receiver: &FiniteReceiverHead) -> u32
-    ensures state { next_of receiver.now < no_end → (storage : List ℕ) (runs : List (ℕ × ℕ)) → result ≡ (if
-        has_read_all (finite_of receiver.now storage runs) then NET_BASE_PRESENT else NET_BASE_MISSING) }
-    ensures refused { (next_of receiver.now < no_end → ⊥) → result ≡ NET_BASE_REFUSED }
+pub extern "C" fn net_base_finite_receiver_has_read_all(receiver: &FiniteReceiverHead) -> bool
+    ensures state { next_of receiver.now < no_end → (storage : List ℕ) (runs : List (ℕ × ℕ)) → result ≡ has_read_all
+        (finite_of receiver.now storage runs) }
+    ensures refused { (next_of receiver.now < no_end → ⊥) → IsFalse result }
 {
     if !has_number(receiver) {
-        return NET_BASE_REFUSED;
+        return false;
     }
-    presence_of(receiver.has_read_all())
+    receiver.has_read_all()
 }
 
 /// Moves bytes from the head of the queue to the beginning of `into`, and returns how many: as many
@@ -148,7 +167,7 @@ pub extern "C" fn net_base_finite_receiver_read(
     ensures head { (IsSoundPlace (length storage.now) receiver.old.receiver.place) × (next_of receiver.old < 2 ^ 64)
         → receiver.new.receiver ≡ head_after_read (length storage.now) result receiver.old.receiver }
     ensures end { (IsSoundPlace (length storage.now) receiver.old.receiver.place) × (next_of receiver.old < 2 ^ 64)
-        → receiver.new.end ≡ receiver.old.end }
+        → receiver.new.after_end ≡ receiver.old.after_end }
     ensures sound { (IsSoundPlace (length storage.now) receiver.old.receiver.place) × (next_of receiver.old < 2 ^
         64) → (runs : List (ℕ × ℕ)) → HasSoundFinite receiver.old storage.now runs → HasSoundFinite receiver.new
         storage.now runs }
@@ -169,9 +188,8 @@ pub extern "C" fn net_base_finite_receiver_read(
     receiver.read(storage, into)
 }
 
-/// Removes `count` bytes from the head of the queue, as `net_base_finite_receiver_read` does, but
-/// copies none, and returns true; `net_base_ring_allocated` of `receiver.place` tells before where
-/// they are.
+/// Removes the first `count` bytes of the queue, as `net_base_finite_receiver_read` does, and
+/// copies none. `capacity` is how many bytes the storage has.
 ///
 /// It is refused if `receiver.receiver.place` isn't that of a ring of `capacity` elements, or if
 /// fewer than `count` elements are queued, or if `next` doesn't fit 64 bits: false, and nothing
@@ -185,7 +203,7 @@ pub extern "C" fn net_base_finite_receiver_remove(
     ensures done { IsTrue result ↔ ((IsSoundPlace capacity receiver.old.receiver.place) × (count ≤
         receiver.old.receiver.place.length) × (next_of receiver.old < 2 ^ 64)) }
     ensures head { IsTrue result → receiver.new.receiver ≡ head_after_read capacity count receiver.old.receiver }
-    ensures end { IsTrue result → receiver.new.end ≡ receiver.old.end }
+    ensures end { IsTrue result → receiver.new.after_end ≡ receiver.old.after_end }
     ensures sound { IsTrue result → (storage : List ℕ) (runs : List (ℕ × ℕ)) → length storage ≡ capacity →
         HasSoundFinite receiver.old storage runs → HasSoundFinite receiver.new storage runs }
     ensures state { IsTrue result → (storage : List ℕ) (runs : List (ℕ × ℕ)) → length storage ≡ capacity →
@@ -209,11 +227,13 @@ pub extern "C" fn net_base_finite_receiver_remove(
 }
 
 /// Returns how many bytes of a segment of `len` bytes at `position` would be new: those in the free
-/// window and below the end whose positions are not held. It looks at each run.
+/// window and below the end whose positions are not held. It is asked before the segment is kept,
+/// since the bytes whose positions are held are kept again, and counted. The result is 0 for a
+/// duplicate, which TCP may report, for a segment that is beyond the free window, and for one
+/// without bytes. It looks at each held run.
 ///
 /// It is refused if `place` isn't that of a ring of `storage.len()` bytes, `next` doesn't fit 64
-/// bits, or `held.used` is above `runs.len()`, or if the segment and an end after it don't fit 64
-/// bits: `NET_BASE_NONE`.
+/// bits, or `held.used` is above `runs.len()`: `NET_BASE_NONE`.
 ///
 /// # Requires
 ///
@@ -228,15 +248,13 @@ pub extern "C" fn net_base_finite_receiver_count_new(
 ) -> usize
     requires sound { IsPlausible (length storage.now) (length runs.now) receiver.now.receiver → HasSoundFinite
         receiver.now storage.now runs.now }
-    ensures value { (IsPlausible (length storage.now) (length runs.now) receiver.now.receiver) × (position + len <
-        no_end) → result ≡ new_count (receiver_of receiver.now.receiver storage.now runs.now) position (min len
-        (receiver.now.end - position)) }
-    ensures refused { ((IsPlausible (length storage.now) (length runs.now) receiver.now.receiver) × (position + len
-        < no_end) → ⊥) → result ≡ no_number }
+    ensures value { IsPlausible (length storage.now) (length runs.now) receiver.now.receiver → result ≡ new_count
+        (receiver_of receiver.now.receiver storage.now runs.now) position (min len (bytes_end (finite_of
+        receiver.now storage.now runs.now) - position)) }
+    ensures refused { (IsPlausible (length storage.now) (length runs.now) receiver.now.receiver → ⊥) → result ≡
+        no_number }
 {
-    if !is_plausible(&receiver.receiver, storage.len(), runs.len())
-        || !FiniteReceiverHead::fits(position, len)
-    {
+    if !is_plausible(&receiver.receiver, storage.len(), runs.len()) {
         return no_number();
     }
     receiver.count_new(storage, runs, position, len)

@@ -1,14 +1,18 @@
-//! Senders of a stream that ends. Once one is closed nothing can be written, and the end has the
-//! number after the last byte's: it is sent and acknowledged as a byte is, and takes no room.
+//! Senders of a stream of bytes, which ends or not. Once one is closed nothing can be written, and
+//! the end has the number after the last byte's: it is sent and acknowledged as a byte is, and
+//! takes no room.
 //!
-//! A head of zeros, but for `sender.first_unacknowledged` and `sent`, which are equal then and
-//! below 2^64 - 1, is new. A number is kept for the end.
+//! A head of zeros is new, of a stream that begins at position 0. The queue, of bytes that are not
+//! acknowledged, is the ring of `sender.place`. What SACK blocks report is kept in a scoreboard. A
+//! number is kept for the end.
 // Written by tools/ffi.py.
 ghost use Rattle.net_ffi.specs.Refusals.{no_number};
 ghost use Rattle.net_receiver.specs.Finite.{no_end};
 ghost use Rattle.net_receiver.specs.FiniteLaws.{MatchesFinite};
 ghost use Rattle.net_receiver.specs.FiniteSender.{IsSoundFiniteSender, acknowledged_below, closed_sender};
-ghost use Rattle.net_receiver.specs.FiniteSender.{finite_room, finite_sender_of, head_after_sending, with_bytes};
+ghost use Rattle.net_receiver.specs.FiniteSender.{finite_room, finite_sender_of, fresh_finite_sender};
+ghost use Rattle.net_receiver.specs.FiniteSender.{head_after_sending, with_bytes};
+ghost use Rattle.net_receiver.specs.NewHeads.{finite_sender_head};
 ghost use Rattle.net_receiver.specs.SenderState.{Sends, contiguous_end};
 ghost use Rattle.net_ring.specs.Ring.{queue, rewind_if_empty, with_elements_wrapping, with_enqueued, write_at};
 ghost use Rattle.net_ring.specs.RingHead.{queued_index, ring_at};
@@ -16,14 +20,34 @@ ghost use Rattle.std.specs.Int.{from_bool};
 ghost use Rattle.std.specs.Prelude.{IsFalse, IsTrue, List, drop, length, max, min, take, ℕ, ◌++◌, ◌+◌, ◌-◌, ◌<◌};
 ghost use Rattle.std.specs.Prelude.{◌==◌, ◌↔◌, ◌≡◌, ◌≢◌, ◌≤◌};
 
-use crate::refusals::{no_number, no_segment};
+use crate::refusals::{no_number, refused_segment_span};
 use crate::results::{SegmentSpan, segment_span};
 use net_receiver::FiniteSenderHead;
 
-/// Returns whether this is the head of a sender of a stream that ends over a storage of `capacity`
-/// bytes: `sender` is that of a sender; `closed` and `finished` are 0 or 1, and `finished` is 1
-/// only if `closed` is and the queue is empty; and `sent` is from the first number that isn't
-/// acknowledged up to the number after the last one, which fits 64 bits.
+/// Makes `sender` the head of a sender of a stream that begins at position `first`; nothing was
+/// written. It is sound for every storage.
+///
+/// It is refused if `first` is `u64::MAX`: false, and nothing changes.
+#[unsafe(no_mangle)]
+pub extern "C" fn net_base_finite_sender_init(sender: &mut FiniteSenderHead, first: u64) -> bool
+    ensures done { IsTrue result ↔ (first < no_end) }
+    ensures sound { IsTrue result → (capacity : ℕ) → IsSoundFiniteSender capacity sender.new }
+    ensures state { IsTrue result → (storage : List ℕ) → finite_sender_of sender.new storage ≡ fresh_finite_sender
+        (length storage) first }
+    ensures numbers { IsTrue result → sender.new ≡ finite_sender_head first }
+    ensures unchanged { IsFalse result → (sender.new ≡ sender.old) }
+{
+    if first == u64::MAX {
+        return false;
+    }
+    *sender = FiniteSenderHead::new(first);
+    true
+}
+
+/// Returns whether this head is sound for a storage of `capacity` bytes: `sender` is that of a
+/// sender; `closed` and `finished` are 0 or 1, and `finished` is 1 only if `closed` is and the
+/// queue is empty; and `sent` is from the first number that isn't acknowledged up to the number
+/// after the last one, which fits 64 bits.
 #[unsafe(no_mangle)]
 pub extern "C" fn net_base_finite_sender_is_sound(
     sender: &FiniteSenderHead,
@@ -34,7 +58,7 @@ pub extern "C" fn net_base_finite_sender_is_sound(
     sender.is_sound(capacity)
 }
 
-/// Writes the first number that isn't acknowledged to `number`, and returns true.
+/// Writes to `number` the first number that isn't acknowledged.
 ///
 /// It is refused if `sender` isn't that of a sender over `capacity` bytes: false, and nothing
 /// changes.
@@ -55,8 +79,8 @@ pub extern "C" fn net_base_finite_sender_first_number(
     true
 }
 
-/// Writes the number after the last byte's, and after the end's once the sender is closed, to
-/// `number`, and returns true.
+/// Writes to `number` the number after the last byte's, and after the end's once the sender is
+/// closed.
 ///
 /// It is refused if `sender` isn't that of a sender over `capacity` bytes: false, and nothing
 /// changes.
@@ -96,7 +120,7 @@ pub extern "C" fn net_base_finite_sender_room(sender: &FiniteSenderHead, capacit
 }
 
 /// Enqueues the first of these bytes, as many as `net_base_finite_sender_room` says, and returns
-/// how many; once the sender is closed none, and nothing changes.
+/// how many.
 ///
 /// It is refused if `sender` isn't that of a sender over `storage.len()` bytes: `NET_BASE_NONE`,
 /// and nothing changes.
@@ -129,7 +153,7 @@ pub extern "C" fn net_base_finite_sender_write(
     sender.write(storage, bytes)
 }
 
-/// Ends the stream after what was written, and returns true. A second call changes nothing.
+/// Ends the stream after what was written. A second call changes nothing.
 ///
 /// It is refused if `sender` isn't that of a sender over `capacity` bytes: false, and nothing
 /// changes.
@@ -154,8 +178,8 @@ pub extern "C" fn net_base_finite_sender_close(
 /// Returns where the bytes of a segment from `position` on are, as `net_base_sender_peek_at` does,
 /// and whether the segment ends the stream: the sender is closed, and the bytes end where it does.
 /// Its numbers, the end's among them, are below `limit`: the end of the window is one, and
-/// `position` plus the segment size another. A segment without bytes that ends the stream is the
-/// end alone.
+/// `position` plus the segment size another. A segment at `position` without bytes that ends the
+/// stream is the end alone.
 ///
 /// It is refused if `sender` isn't that of a sender over `capacity` bytes: `from` is
 /// `NET_BASE_NONE`, `count` and `contiguous` are 0, `is_last` is false.
@@ -180,7 +204,7 @@ pub extern "C" fn net_base_finite_sender_peek_at(
         sender.now.sender.first_unacknowledged)) }
     ensures end { IsSoundFiniteSender capacity sender.now → (IsTrue result.is_last ↔ ((sender.now.closed ≡ 1) ×
         (position + result.contiguous ≡ sender.now.sender.first_unacknowledged + sender.now.sender.place.length) ×
-        (position + result.contiguous < limit))) }
+        (position + result.contiguous < limit) × (sender.now.finished ≡ 0))) }
     ensures room { IsSoundFiniteSender capacity sender.now → position ≤ limit → position + result.contiguous +
         from_bool result.is_last ≤ limit }
     ensures none { IsSoundFiniteSender capacity sender.now → limit ≤ position → (result.contiguous ≡ 0) × IsFalse
@@ -201,14 +225,14 @@ pub extern "C" fn net_base_finite_sender_peek_at(
         × (result.contiguous ≡ 0) × IsFalse result.is_last }
 {
     if !sender.is_sound(capacity) {
-        return no_segment();
+        return refused_segment_span();
     }
     segment_span(sender.peek_at(capacity, position, limit))
 }
 
 /// Returns what `net_base_finite_sender_peek_at` does, and notes that the segment was sent: `sent`
-/// becomes the number after its last one, the end's counted, unless `sent` is above that. A segment
-/// without numbers changes nothing.
+/// is the number after its last one, the end's counted, unless that is below. It changes nothing if
+/// the segment has no number.
 ///
 /// It is refused if `sender` isn't that of a sender over `capacity` bytes: `from` is
 /// `NET_BASE_NONE`, `count` and `contiguous` are 0, `is_last` is false, and nothing changes.
@@ -236,7 +260,7 @@ pub extern "C" fn net_base_finite_sender_send_at(
         sender.old.sender.first_unacknowledged)) }
     ensures end { IsSoundFiniteSender capacity sender.old → (IsTrue result.is_last ↔ ((sender.old.closed ≡ 1) ×
         (position + result.contiguous ≡ sender.old.sender.first_unacknowledged + sender.old.sender.place.length) ×
-        (position + result.contiguous < limit))) }
+        (position + result.contiguous < limit) × (sender.old.finished ≡ 0))) }
     ensures bytes { IsSoundFiniteSender capacity sender.old → (storage : List ℕ) → length storage ≡ capacity → take
         result.contiguous (drop result.from storage) ≡ take result.contiguous (drop (position -
         sender.old.sender.first_unacknowledged) (queue (ring_at storage sender.old.sender.place))) }
@@ -248,14 +272,14 @@ pub extern "C" fn net_base_finite_sender_send_at(
         × (result.contiguous ≡ 0) × IsFalse result.is_last × (sender.new ≡ sender.old) }
 {
     if !sender.is_sound(capacity) {
-        return no_segment();
+        return refused_segment_span();
     }
     segment_span(sender.send_at(capacity, position, limit))
 }
 
 /// Notes that all numbers below `position` were sent, the end's among them if `position` is past
-/// it, and returns true; false, and nothing changes, if `position` is above the number after the
-/// last one.
+/// it. Returns false, and changes nothing, if `position` is above
+/// `net_base_finite_sender_numbers_end`.
 ///
 /// It is refused if `sender` isn't that of a sender over `capacity` bytes: false, and nothing
 /// changes.
@@ -278,9 +302,9 @@ pub extern "C" fn net_base_finite_sender_mark_sent(
     sender.mark_sent(capacity, position)
 }
 
-/// Drops the bytes below `next`, notes that the end is acknowledged if `next` is past it, and
-/// returns true; false, and nothing changes, if `next` is below the first number that isn't
-/// acknowledged or above what was sent.
+/// Drops the bytes below `next`, and notes that the end is acknowledged if `next` is past it.
+/// Returns false, and changes nothing, if `next` is below `net_base_finite_sender_first_number` or
+/// above what was sent.
 ///
 /// It is refused if `sender` isn't that of a sender over `capacity` bytes: false, and nothing
 /// changes.
@@ -320,7 +344,7 @@ pub extern "C" fn net_base_finite_sender_is_block(
     sender.is_block(start, end)
 }
 
-/// Returns whether the sender is closed: whether `closed` is 1.
+/// Returns whether the sender is closed.
 #[unsafe(no_mangle)]
 pub extern "C" fn net_base_finite_sender_is_closed(sender: &FiniteSenderHead) -> bool
     ensures { result ≡ (sender.now.closed == 1) }
@@ -328,7 +352,7 @@ pub extern "C" fn net_base_finite_sender_is_closed(sender: &FiniteSenderHead) ->
     sender.is_closed()
 }
 
-/// Returns whether all bytes and the end are acknowledged: whether `finished` is 1.
+/// Returns whether all bytes and the end are acknowledged. Once it is so it stays so.
 #[unsafe(no_mangle)]
 pub extern "C" fn net_base_finite_sender_is_closed_and_acknowledged(
     sender: &FiniteSenderHead,

@@ -1,9 +1,9 @@
 //! Packets that arrive in fragments, as those of IPv4 do, over bytes and runs that the caller
 //! keeps.
 //!
-//! A head of zeros, but for `expires_at`, is that of an empty buffer. The longest packet has as
-//! many bytes as the storage. Fragments may overlap: at each position the byte is that of the last
-//! fragment there. `present` is an assembler.
+//! A head of zeros is that of an empty buffer, whose packet is waited for up to moment 0. The
+//! longest packet has as many bytes as the storage. Fragments may overlap: at each position the
+//! byte is that of the last fragment there. `present` is an assembler.
 // Written by tools/ffi.py.
 ghost use Rattle.net_assembler.specs.Assembler.{MakesTooManyRuns};
 ghost use Rattle.net_assembler.specs.Positions.{nothing};
@@ -13,19 +13,34 @@ ghost use Rattle.net_base.specs.Fragments.{Contradicts, Differs, Meets, limit_of
 ghost use Rattle.net_base.specs.declared.storage.fragments.FragmentError.TheVariants.{OtherSize, TooLong};
 ghost use Rattle.net_base.specs.declared.storage.fragments.FragmentError.TheVariants.{TooManyHoles};
 ghost use Rattle.net_ffi.specs.Results.{IsStatus, done_or_error};
-ghost use Rattle.std.specs.Prelude.{Err, IsErr, IsTrue, List, OnErr, OnOk, length, ℕ, ◌+◌, ◌<ℤ◌, ◌<◌, ◌↔◌, ◌≡◌};
-ghost use Rattle.std.specs.Prelude.{◌≤◌, ◌⊎◌};
+ghost use Rattle.std.specs.Prelude.{Err, IsErr, IsFalse, IsTrue, List, OnErr, OnOk, length, ℕ, ◌+◌, ◌<ℤ◌, ◌<◌, ◌↔◌};
+ghost use Rattle.std.specs.Prelude.{◌≡◌, ◌≤◌, ◌⊎◌};
 ghost use Rattle.std.specs.declared.option.Option.TheVariants.{None, Some};
 
 use crate::fragments::is_plausible;
-use crate::refusals::{NET_BASE_MISSING, NET_BASE_PRESENT, NET_BASE_REFUSED};
-use crate::results::{presence_of, status_of_fragment};
+use crate::refusals::{NET_BASE_REFUSED, Status};
+use crate::results::status_of_fragment;
 use net_assembler::Run;
 use net_base::storage::FragmentsHead;
 
-/// Returns whether `present` and the runs are those of an assembler, whose last run ends at
-/// `capacity` or below, and at a known size or below, which is at most `capacity`. It looks at each
-/// run.
+/// Makes `fragments` the head of an empty buffer, whose packet is waited for up to `expires_at`, in
+/// microseconds. It is sound for any memory.
+#[unsafe(no_mangle)]
+pub extern "C" fn net_base_fragments_init(fragments: &mut FragmentsHead, expires_at: i64)
+    ensures sound { (storage : List ℕ) (runs : List (ℕ × ℕ)) → HasSoundParts fragments.new storage runs }
+    ensures nothing { (runs : List (ℕ × ℕ)) → set_of fragments.new.present runs ≡ nothing }
+    ensures total { total_of fragments.new ≡ None }
+    ensures expires { fragments.new.expires_at ≡ expires_at }
+    ensures zeros { (fragments.new.present.used ≡ 0) × (fragments.new.present.first_start ≡ 0) ×
+        (fragments.new.has_total ≡ 0) × (fragments.new.total ≡ 0) }
+    ensures exact { IsExact fragments.new }
+{
+    *fragments = FragmentsHead::new(expires_at);
+}
+
+/// Returns whether head and runs are those of a buffer of `capacity` bytes, for any numbers:
+/// `present` and the runs are those of an assembler, which end at `capacity` or below, and at a
+/// known size or below, which is at most `capacity`. It looks at each used run.
 #[unsafe(no_mangle)]
 pub extern "C" fn net_base_fragments_is_sound(
     fragments: &FragmentsHead,
@@ -38,27 +53,10 @@ pub extern "C" fn net_base_fragments_is_sound(
     fragments.is_sound(capacity, runs)
 }
 
-/// Starts over for a packet that is waited for up to `expires_at`, in microseconds: the other
-/// numbers are 0 then. No head is refused: this makes one sound for any memory.
-#[unsafe(no_mangle)]
-pub extern "C" fn net_base_fragments_reset(fragments: &mut FragmentsHead, expires_at: i64)
-    ensures sound { (storage : List ℕ) (runs : List (ℕ × ℕ)) → HasSoundParts fragments.new storage runs }
-    ensures nothing { (runs : List (ℕ × ℕ)) → set_of fragments.new.present runs ≡ nothing }
-    ensures total { total_of fragments.new ≡ None }
-    ensures expires { fragments.new.expires_at ≡ expires_at }
-    ensures zeros { (fragments.new.present.used ≡ 0) × (fragments.new.present.first_start ≡ 0) ×
-        (fragments.new.has_total ≡ 0) × (fragments.new.total ≡ 0) }
-    ensures exact { IsExact fragments.new }
-{
-    fragments.reset(expires_at);
-}
-
-/// Sets the packet's size to `size` bytes, in a storage of `capacity` bytes: `has_total` is 1 then,
-/// whatever it was.
+/// Sets the packet's size to `size` bytes, of a buffer of `capacity` bytes.
 ///
-/// Returns `NET_BASE_DONE`; or, and nothing changes, `NET_BASE_TOO_LONG` if the storage has fewer
-/// bytes, or else `NET_BASE_OTHER_SIZE` if another size is known, or a byte at `size` or above has
-/// arrived.
+/// Returns `NET_BASE_TOO_LONG`, and changes nothing, if the buffer has fewer bytes, or else
+/// `NET_BASE_OTHER_SIZE` if another size is known, or a byte at `size` or above has arrived.
 ///
 /// It is refused if `present.used` is above `runs.len()`: `NET_BASE_REFUSED`, and nothing changes.
 ///
@@ -71,7 +69,7 @@ pub extern "C" fn net_base_fragments_set_total_size(
     capacity: usize,
     runs: &[Run],
     size: usize,
-) -> u32
+) -> Status
     requires sound { fragments.old.present.used ≤ length runs.now → HasSoundRuns fragments.old.present runs.now }
     ensures ok { fragments.old.present.used ≤ length runs.now → OnOk (done_or_error result)
         ((fragments.new.has_total ≡ 1) × (fragments.new.total ≡ size) × (fragments.new.present ≡
@@ -100,12 +98,12 @@ pub extern "C" fn net_base_fragments_set_total_size(
     status_of_fragment(fragments.set_total_size(capacity, runs, size))
 }
 
-/// Adds a fragment, whose first byte is that of the packet at `offset`.
+/// Adds a fragment, whose first byte is that of the packet at `offset`. One without bytes has its
+/// end at `offset`, and adds nothing.
 ///
-/// Returns `NET_BASE_DONE`; or, and nothing changes, `NET_BASE_TOO_LONG` if the fragment reaches
-/// past the storage's end, or else `NET_BASE_OTHER_SIZE` if it reaches past a known size, or else
-/// `NET_BASE_TOO_MANY_RUNS` if there would be more runs than the slice has elements. A fragment
-/// without bytes changes nothing, and has its end at `offset`.
+/// Returns `NET_BASE_TOO_LONG`, and changes nothing, if the fragment reaches past the buffer's end,
+/// or else `NET_BASE_OTHER_SIZE` if it reaches past a known size, or else `NET_BASE_TOO_MANY_RUNS`
+/// if there would be more runs than the slice has elements.
 ///
 /// It is refused if `present.used` is above `runs.len()`, or a known size above `storage.len()`:
 /// `NET_BASE_REFUSED`, and nothing changes.
@@ -120,7 +118,7 @@ pub extern "C" fn net_base_fragments_add(
     runs: &mut [Run],
     offset: usize,
     data: &[u8],
-) -> u32
+) -> Status
     requires sound { IsPlausible (length storage.old) (length runs.old) fragments.old → HasSoundParts fragments.old
         storage.old runs.old }
     ensures sound { IsPlausible (length storage.old) (length runs.old) fragments.old → HasSoundParts fragments.new
@@ -155,12 +153,11 @@ pub extern "C" fn net_base_fragments_add(
     status_of_fragment(fragments.add(storage, runs, offset, data))
 }
 
-/// Returns `NET_BASE_PRESENT` if a byte that arrived differs from that of the fragment whose first
-/// byte is that of the packet at `offset`, and `NET_BASE_MISSING` if none does. The fragment need
-/// not be within the storage.
+/// Returns whether a byte that arrived differs from that of the fragment whose first byte is that
+/// of the packet at `offset`. The fragment need not be within the buffer.
 ///
 /// It is refused if `present.used` is above `runs.len()`, or a known size above `storage.len()`:
-/// `NET_BASE_REFUSED`.
+/// false.
 ///
 /// # Requires
 ///
@@ -172,27 +169,26 @@ pub extern "C" fn net_base_fragments_differs(
     runs: &[Run],
     offset: usize,
     data: &[u8],
-) -> u32
+) -> bool
     requires sound { IsPlausible (length storage.now) (length runs.now) fragments.now → HasSoundParts fragments.now
         storage.now runs.now }
-    ensures present { IsPlausible (length storage.now) (length runs.now) fragments.now → Differs (fragments_of
-        fragments.now storage.now runs.now) offset «data».now → result ≡ NET_BASE_PRESENT }
-    ensures missing { IsPlausible (length storage.now) (length runs.now) fragments.now → (Differs (fragments_of
-        fragments.now storage.now runs.now) offset «data».now → ⊥) → result ≡ NET_BASE_MISSING }
-    ensures refused { (IsPlausible (length storage.now) (length runs.now) fragments.now → ⊥) → result ≡
-        NET_BASE_REFUSED }
+    ensures value { IsPlausible (length storage.now) (length runs.now) fragments.now → (IsTrue result ↔ Differs
+        (fragments_of fragments.now storage.now runs.now) offset «data».now) }
+    ensures refused { (IsPlausible (length storage.now) (length runs.now) fragments.now → ⊥) → IsFalse result }
 {
     if !is_plausible(fragments, storage.len(), runs.len()) {
-        return NET_BASE_REFUSED;
+        return false;
     }
-    presence_of(fragments.differs(storage, runs, offset, data))
+    fragments.differs(storage, runs, offset, data)
 }
 
-/// Returns `NET_BASE_PRESENT` if one of the `count` positions from `offset` on has arrived, so that
-/// a fragment there overlaps bytes that are present, and `NET_BASE_MISSING` if none has. If `offset
-/// + count` doesn't fit a `size_t`, these are all positions from `offset` on.
+/// Returns whether one of the `count` positions from `offset` on has arrived: whether a fragment
+/// there overlaps bytes that are present. They need not be within the buffer.
 ///
-/// It is refused if `present.used` is above `runs.len()`: `NET_BASE_REFUSED`.
+/// It is asked before `net_base_fragments_add`, by callers who refuse a packet whose fragments
+/// overlap (RFC 5722). A fragment that arrives twice overlaps too.
+///
+/// It is refused if `present.used` is above `runs.len()`: false.
 ///
 /// # Requires
 ///
@@ -203,18 +199,16 @@ pub extern "C" fn net_base_fragments_overlaps(
     runs: &[Run],
     offset: usize,
     count: usize,
-) -> u32
+) -> bool
     requires sound { fragments.now.present.used ≤ length runs.now → HasSoundRuns fragments.now.present runs.now }
-    ensures present { fragments.now.present.used ≤ length runs.now → Meets (set_of fragments.now.present runs.now)
-        offset count → result ≡ NET_BASE_PRESENT }
-    ensures missing { fragments.now.present.used ≤ length runs.now → (Meets (set_of fragments.now.present runs.now)
-        offset count → ⊥) → result ≡ NET_BASE_MISSING }
-    ensures refused { (fragments.now.present.used ≤ length runs.now → ⊥) → result ≡ NET_BASE_REFUSED }
+    ensures value { fragments.now.present.used ≤ length runs.now → (IsTrue result ↔ Meets (set_of
+        fragments.now.present runs.now) offset count) }
+    ensures refused { (fragments.now.present.used ≤ length runs.now → ⊥) → IsFalse result }
 {
     if fragments.present.used > runs.len() {
-        return NET_BASE_REFUSED;
+        return false;
     }
-    presence_of(fragments.overlaps(runs, offset, count))
+    fragments.overlaps(runs, offset, count)
 }
 
 /// Returns whether `now` is after the last moment at which the packet is waited for.

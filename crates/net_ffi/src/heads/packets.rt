@@ -1,18 +1,25 @@
 //! Packet queues: where a packet has its slots and its bytes, in storages that the caller keeps.
 //!
-//! A packet's bytes are contiguous. If it doesn't fit before the storage's end, it is placed at its
-//! beginning, and the bytes before the end are a gap. A packet uses one slot, and a gap before it
-//! one more. `enqueue`, `dequeue`, `peek` and `shorten_last` take the slots, which `enqueue` and
-//! `shorten_last` write; `take_slot` takes one. What is refused changes nothing.
+//! A head of zeros is new. A packet's bytes are contiguous. If it doesn't fit before the storage's
+//! end, it is placed at its beginning, and the bytes before the end are a gap. A packet uses one
+//! slot, and a gap before it one more. The slots, which calls write, are beside what the program
+//! has for each packet. What is refused changes nothing.
 // Written by tools/ffi.py.
-ghost use Rattle.net_packets.specs.HeadQueue.{CanShorten, HasSoundSlots, last_slot, last_slot_index, packet_slot};
-ghost use Rattle.net_packets.specs.HeadQueue.{queue_of};
 ghost use Rattle.net_packets.specs.Packets.{with_last_size};
-ghost use Rattle.net_packets.specs.PacketsHead.{IsSoundHead, packets_head};
+ghost use Rattle.net_packets.specs.PacketsHead.{CanShorten, HasSoundSlots, IsSoundHead, last_slot, last_slot_index};
+ghost use Rattle.net_packets.specs.PacketsHead.{packet_slot, packets_head, queue_of};
 ghost use Rattle.net_ring.specs.RingHead.{place};
 ghost use Rattle.std.specs.Prelude.{IsFalse, IsTrue, List, length, set, ℕ, ◌-◌, ◌↔◌, ◌≡◌};
 
 use net_packets::{PacketSlot, PacketsHead};
+
+/// Makes `packets` the head of a queue with no packets.
+#[unsafe(no_mangle)]
+pub extern "C" fn net_base_packets_init(packets: &mut PacketsHead)
+    ensures { packets.new ≡ packets_head (place 0 0) (place 0 0) }
+{
+    *packets = PacketsHead::new();
+}
 
 /// Returns whether head and slots are those of a queue over `capacity` bytes: the numbers are those
 /// of a ring of the slots and of one of the bytes; the packets and gaps of the slots in use take
@@ -29,18 +36,11 @@ pub extern "C" fn net_base_packets_is_sound(
     packets.has_sound_slots(slots, capacity)
 }
 
-/// Empties the queue. No head is refused: this makes one sound for all storages.
-#[unsafe(no_mangle)]
-pub extern "C" fn net_base_packets_clear(packets: &mut PacketsHead)
-    ensures { packets.new ≡ packets_head (place 0 0) (place 0 0) }
-{
-    packets.clear();
-}
-
-/// Takes the last `count` bytes off the last packet, lowers the size in its slot, and returns true;
-/// false, and nothing changes, if no slot is in use, if the last one is a gap's, or if its size is
-/// below `count` or above the number of bytes in use. It is for a caller that wrote fewer bytes
-/// than it placed.
+/// Takes the last `count` bytes off the last packet, lowers the size in its slot, and returns true.
+/// It is for a caller that wrote fewer bytes than it placed.
+///
+/// Returns false, and changes nothing, if no slot is in use, if the last one is a gap's, or if its
+/// size is below `count` or above the number of bytes in use.
 ///
 /// It is refused if the numbers of `packets` aren't those of rings of `slots.len()` slots and of
 /// `capacity` bytes: false, and nothing changes.

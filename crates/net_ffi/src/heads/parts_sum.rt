@@ -3,9 +3,18 @@
 //! A head of zeros is new: no bytes were added.
 // Written by tools/ffi.py.
 ghost use Rattle.net_tcp.specs.InternetChecksum.{Sums, folded, internet_checksum, sum_with, word_sum};
-ghost use Rattle.std.specs.Prelude.{IsTrue, List, ℕ, ◌++◌, ◌-◌, ◌↔◌, ◌≡◌};
+ghost use Rattle.std.specs.Prelude.{IsFalse, IsTrue, List, [], ℕ, ◌++◌, ◌-◌, ◌↔◌, ◌≡◌};
 
 use net_tcp::PartsSum;
+
+/// Makes `sum` the sum of no bytes.
+#[unsafe(no_mangle)]
+pub extern "C" fn net_base_parts_sum_init(sum: &mut PartsSum)
+    ensures nothing { Sums sum.new [] }
+    ensures zeros { (sum.new.sum ≡ 0) × IsFalse sum.new.odd }
+{
+    *sum = PartsSum::new();
+}
 
 /// Adds the bytes that follow those which were added.
 #[unsafe(no_mangle)]
@@ -16,20 +25,21 @@ pub extern "C" fn net_base_parts_sum_add(sum: &mut PartsSum, part: &[u8])
     sum.add(part);
 }
 
-/// Returns the checksum of the bytes that were added.
+/// Returns the checksum of the bytes that were added. It is a number: in a message its high byte
+/// comes first.
 #[unsafe(no_mangle)]
 pub extern "C" fn net_base_parts_sum_checksum(sum: &PartsSum) -> u16
-    ensures value { result ≡ 65535 - folded sum.now.sum }
+    ensures value { result ≡ 65535 - sum.now.sum }
     ensures bytes { (xs : List ℕ) → Sums sum.now xs → result ≡ internet_checksum xs }
 {
     sum.checksum()
 }
 
 /// Returns whether the bytes that were added, with a checksum among them at an even offset, are
-/// valid. No bytes aren't.
+/// valid. No bytes are not.
 #[unsafe(no_mangle)]
 pub extern "C" fn net_base_parts_sum_is_valid(sum: &PartsSum) -> bool
-    ensures value { IsTrue result ↔ (folded sum.now.sum ≡ 65535) }
+    ensures value { IsTrue result ↔ (sum.now.sum ≡ 65535) }
     ensures bytes { (xs : List ℕ) → Sums sum.now xs → (IsTrue result ↔ (folded (word_sum xs) ≡ 65535)) }
 {
     sum.is_valid()

@@ -1,32 +1,42 @@
-//! The window that the peer announced.
+//! The window that the peer announced, and the segment that it is from.
 //!
 //! A head of zeros is that before any segment: nothing may be sent but a probe, and no segment is
 //! older.
 // Written by tools/ffi.py.
-ghost use Rattle.net_tcp.specs.PeerWindow.{Replaces, acknowledgement_number, after_update, window_from};
+ghost use Rattle.net_tcp.specs.PeerWindow.{Replaces, acknowledgement_number, after_update, no_window};
 ghost use Rattle.std.specs.Prelude.{IsFalse, IsTrue, max, min, ◌-◌, ◌<◌, ◌↔◌, ◌≡◌, ◌≤◌};
 
-use net_tcp::PeerWindow;
+use net_numbers::SentNumbers;
+use net_tcp::{Announcement, PeerWindow};
 
-/// Takes over the window of an acceptable segment, unless that is older than the one before, or
-/// acknowledges a position below `first_unacknowledged` or above `sent`. Returns whether it did. A
-/// window may shrink. It is older if its `seq` is below that of the head, or equal and its `ack`
-/// is. The new edge is `ack + window`, or `UINT64_MAX` if that is above it.
+/// Makes `peer` the window before any segment: nothing may be sent but a probe, and no segment is
+/// older.
+#[unsafe(no_mangle)]
+pub extern "C" fn net_base_peer_window_init(peer: &mut PeerWindow)
+    ensures { peer.new ≡ no_window }
+{
+    *peer = PeerWindow::new();
+}
+
+/// Takes over the window of an acceptable segment, unless it acknowledges a position below the
+/// first unacknowledged one or above what was sent, or is older than the one before and
+/// acknowledges no more. Returns whether it did. A window may shrink.
+///
+/// RFC 9293 takes none of an older number. So one forged segment ahead in the window would shut out
+/// each later one. It makes no difference whether the sender takes what the segment acknowledges
+/// before this call or after it.
 #[unsafe(no_mangle)]
 pub extern "C" fn net_base_peer_window_update(
     peer: &mut PeerWindow,
-    first_unacknowledged: u64,
-    sent: u64,
-    seq: u64,
-    ack: u64,
-    window: u64,
+    numbers: &SentNumbers,
+    it: &Announcement,
 ) -> bool
-    ensures accepted { IsTrue result ↔ ((first_unacknowledged ≤ ack) × (ack ≤ sent) × (Replaces peer.old seq ack)) }
-    ensures window { IsTrue result → peer.new ≡ window_from seq ack window }
-    ensures refused { IsFalse result → peer.new ≡ peer.old }
-    ensures state { peer.new ≡ after_update peer.old first_unacknowledged sent seq ack window }
+    ensures accepted { IsTrue result ↔ ((numbers.now.first_unacknowledged ≤ it.now.ack) × (it.now.ack ≤
+        numbers.now.sent) × (Replaces peer.old it.now.seq it.now.ack)) }
+    ensures state { peer.new ≡ after_update peer.old numbers.now.first_unacknowledged numbers.now.sent it.now.seq
+        it.now.ack it.now.window }
 {
-    peer.update(first_unacknowledged, sent, seq, ack, window)
+    peer.update(*numbers, *it)
 }
 
 /// Returns how many bytes from `position` on may be sent: none if the edge is at or below it, as it
@@ -61,20 +71,20 @@ pub extern "C" fn net_base_peer_window_is_probe_allowed(
 }
 
 /// Returns the number of a segment without positions, as an acknowledgement is: `sent`, or the end
-/// of the window if that is below it, or `first_unacknowledged` if the window ends before that.
+/// of the window if that is below it, or the first unacknowledged position if the window ends
+/// before that.
 ///
 /// A peer whose window is shut takes no number beyond it, though a probe was sent there, nor what
 /// such a segment acknowledges.
 #[unsafe(no_mangle)]
 pub extern "C" fn net_base_peer_window_acknowledgement_number(
     peer: &PeerWindow,
-    first_unacknowledged: u64,
-    sent: u64,
+    numbers: &SentNumbers,
 ) -> u64
-    ensures value { result ≡ acknowledgement_number peer.now first_unacknowledged sent }
-    ensures sent { result ≤ sent }
-    ensures promised { result ≤ max peer.now.edge first_unacknowledged }
-    ensures first { first_unacknowledged ≤ sent → first_unacknowledged ≤ result }
+    ensures value { result ≡ acknowledgement_number peer.now numbers.now.first_unacknowledged numbers.now.sent }
+    ensures sent { result ≤ numbers.now.sent }
+    ensures promised { result ≤ max peer.now.edge numbers.now.first_unacknowledged }
+    ensures first { numbers.now.first_unacknowledged ≤ numbers.now.sent → numbers.now.first_unacknowledged ≤ result }
 {
-    peer.acknowledgement_number(first_unacknowledged, sent)
+    peer.acknowledgement_number(*numbers)
 }

@@ -1,10 +1,10 @@
 //! Rings: where elements are in a storage that the caller keeps, and the numbers after a call.
 //!
-//! If the elements aren't bytes, pass only the capacity: the call returns indices, and you copy
-//! before the next call. A head that doesn't fit the capacity is refused. An empty queue may begin
-//! at any index; `read_at` is 0 if the capacity is. A call that takes the last element off leaves
-//! `read_at` after it, and doesn't rewind. In a span of no elements `from` is where the first would
-//! be.
+//! A head of zeros is new. If the elements aren't bytes, pass only the capacity: the call returns
+//! indices, and you copy before the next call. A head that doesn't fit the capacity is refused. An
+//! empty queue may begin at any index; `read_at` is 0 if the capacity is. A call that takes the
+//! last element off leaves `read_at` after it, and doesn't rewind. In a span of no elements `from`
+//! is where the first would be.
 // Written by tools/ffi.py.
 ghost use Rattle.net_ffi.specs.Refusals.{no_number, nowhere};
 ghost use Rattle.net_ring.specs.Ring.{Dequeues, Enqueues, WritesSpare, queue, rewind_if_empty, spare_index, window};
@@ -13,10 +13,18 @@ ghost use Rattle.net_ring.specs.RingHead.{IsSound, IsWithin, dequeued_place, enq
 ghost use Rattle.net_ring.specs.RingHead.{place as place_of, queued_index, rewound, ring_at};
 ghost use Rattle.std.specs.Prelude.{IsFalse, IsTrue, drop, length, min, take, ℕ, ◌++◌, ◌+◌, ◌-◌, ◌↔◌, ◌≡◌, ◌≤◌};
 
-use crate::refusals::{no_number, no_span};
+use crate::refusals::{no_number, refused_span};
 use net_ring::{RingHead, Span};
 
-/// Returns whether `place` is that of a ring of `capacity` elements: its read index is an index of
+/// Makes `place` the head of an empty ring, which is sound for each storage.
+#[unsafe(no_mangle)]
+pub extern "C" fn net_base_ring_init(place: &mut RingHead)
+    ensures { place.new ≡ place_of 0 0 }
+{
+    *place = RingHead::new();
+}
+
+/// Returns whether the head is that of a ring of `capacity` elements: its read index is an index of
 /// the storage, or 0, and it has no more elements than the storage.
 #[unsafe(no_mangle)]
 pub extern "C" fn net_base_ring_is_sound(place: &RingHead, capacity: usize) -> bool
@@ -44,7 +52,7 @@ pub extern "C" fn net_base_ring_unallocated(
     ensures refused { (IsSound capacity place.now → ⊥) → result ≡ nowhere }
 {
     if !place.is_sound(capacity) {
-        return no_span();
+        return refused_span();
     }
     place.unallocated(capacity, offset, size)
 }
@@ -68,17 +76,9 @@ pub extern "C" fn net_base_ring_allocated(
     ensures refused { (IsSound capacity place.now → ⊥) → result ≡ nowhere }
 {
     if !place.is_sound(capacity) {
-        return no_span();
+        return refused_span();
     }
     place.allocated(capacity, offset, size)
-}
-
-/// Empties the queue, and moves the read index to the storage's beginning.
-#[unsafe(no_mangle)]
-pub extern "C" fn net_base_ring_clear(place: &mut RingHead)
-    ensures { place.new ≡ place_of 0 0 }
-{
-    place.clear();
 }
 
 /// Moves the read index of an empty ring to the storage's beginning: then all its free elements are
@@ -91,7 +91,7 @@ pub extern "C" fn net_base_ring_rewind_if_empty(place: &mut RingHead)
     place.rewind_if_empty();
 }
 
-/// Enqueues `count` elements, with what the storage holds there, and returns true.
+/// Enqueues `count` elements, with what the storage has there.
 ///
 /// It is refused if `place` isn't that of a ring of `capacity` elements, or if fewer than `count`
 /// elements are free: false, and nothing changes.
@@ -109,7 +109,7 @@ pub extern "C" fn net_base_ring_enqueue(place: &mut RingHead, capacity: usize, c
     true
 }
 
-/// Dequeues `count` elements, and returns true.
+/// Dequeues `count` elements.
 ///
 /// It is refused if `place` isn't that of a ring of `capacity` elements, or if fewer than `count`
 /// elements are queued: false, and nothing changes.
@@ -127,8 +127,7 @@ pub extern "C" fn net_base_ring_dequeue(place: &mut RingHead, capacity: usize, c
     true
 }
 
-/// Takes the last `count` elements off the queue, so that they are the first free ones, and returns
-/// true.
+/// Takes the last `count` elements off the queue: they are then the first free ones.
 ///
 /// It is refused if fewer than `count` elements are queued: false, and nothing changes.
 #[unsafe(no_mangle)]
@@ -166,37 +165,9 @@ pub extern "C" fn net_base_ring_enqueue_span(
     ensures refused { (IsSound capacity place.old → ⊥) → (result ≡ nowhere) × (place.new ≡ place.old) }
 {
     if !place.is_sound(capacity) {
-        return no_span();
+        return refused_span();
     }
     place.enqueue_span(capacity, size)
-}
-
-/// Enqueues contiguous elements, at most `size`, and returns where they are: the span has no
-/// others.
-///
-/// An empty ring first moves its read index to the storage's beginning.
-///
-/// It is refused if `place` isn't that of a ring of `capacity` elements: `from` is `NET_BASE_NONE`,
-/// `count` and `contiguous` are 0, and nothing changes.
-#[unsafe(no_mangle)]
-pub extern "C" fn net_base_ring_enqueue_many(
-    place: &mut RingHead,
-    capacity: usize,
-    size: usize,
-) -> Span
-    ensures from { IsSound capacity place.old → result.from ≡ free_index capacity (rewound place.old) 0 }
-    ensures count { IsSound capacity place.old → result.count ≡ min size (min (capacity - place.old.length)
-        (capacity - result.from)) }
-    ensures contiguous { IsSound capacity place.old → result.contiguous ≡ result.count }
-    ensures within { IsSound capacity place.old → (result.from ≤ capacity) × IsWithin capacity result }
-    ensures place { IsSound capacity place.old → place.new ≡ enqueued_place result.count (rewound place.old) }
-    ensures sound { IsSound capacity place.old → IsSound capacity place.new }
-    ensures refused { (IsSound capacity place.old → ⊥) → (result ≡ nowhere) × (place.new ≡ place.old) }
-{
-    if !place.is_sound(capacity) {
-        return no_span();
-    }
-    place.enqueue_many(capacity, size)
 }
 
 /// Dequeues as many elements as are queued, at most `size`, and returns where they are.
@@ -218,35 +189,9 @@ pub extern "C" fn net_base_ring_dequeue_span(
     ensures refused { (IsSound capacity place.old → ⊥) → (result ≡ nowhere) × (place.new ≡ place.old) }
 {
     if !place.is_sound(capacity) {
-        return no_span();
+        return refused_span();
     }
     place.dequeue_span(capacity, size)
-}
-
-/// Dequeues contiguous elements, at most `size`, and returns where they are: the span has no
-/// others.
-///
-/// It is refused if `place` isn't that of a ring of `capacity` elements: `from` is `NET_BASE_NONE`,
-/// `count` and `contiguous` are 0, and nothing changes.
-#[unsafe(no_mangle)]
-pub extern "C" fn net_base_ring_dequeue_many(
-    place: &mut RingHead,
-    capacity: usize,
-    size: usize,
-) -> Span
-    ensures from { IsSound capacity place.old → result.from ≡ place.old.read_at }
-    ensures count { IsSound capacity place.old → result.count ≡ min size (min place.old.length (capacity -
-        place.old.read_at)) }
-    ensures contiguous { IsSound capacity place.old → result.contiguous ≡ result.count }
-    ensures within { IsSound capacity place.old → (result.from ≤ capacity) × IsWithin capacity result }
-    ensures place { IsSound capacity place.old → place.new ≡ dequeued_place capacity result.count place.old }
-    ensures sound { IsSound capacity place.old → IsSound capacity place.new }
-    ensures refused { (IsSound capacity place.old → ⊥) → (result ≡ nowhere) × (place.new ≡ place.old) }
-{
-    if !place.is_sound(capacity) {
-        return no_span();
-    }
-    place.dequeue_many(capacity, size)
 }
 
 /// Writes as many elements of `data` as there is room for to the free elements from the one at

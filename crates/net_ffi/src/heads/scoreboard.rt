@@ -1,30 +1,43 @@
 //! Scoreboards: what a sender knows of the positions that the other end has, in runs that the
 //! caller keeps.
 //!
-//! A head of zeros, but for `base`, is new: all positions below `base` count as reported. At most
-//! as many runs are stored, beyond the first position that wasn't reported, as the slice has
-//! elements. Each call but `net_base_scoreboard_reset` looks at each run, and refuses a scoreboard
-//! that isn't sound.
+//! A head of zeros is new, of a stream that begins at position 0: all positions below `base` count
+//! as reported. At most as many runs are stored, beyond the first position that wasn't reported, as
+//! the slice has elements. Each call but `net_base_scoreboard_init` looks at each run, and refuses
+//! a scoreboard that isn't sound.
 // Written by tools/ffi.py.
 ghost use Rattle.net_assembler.specs.Positions.{contains, nothing, positions, with_range};
 ghost use Rattle.net_assembler.specs.RunLists.{IsCanonical};
 ghost use Rattle.net_ffi.specs.Refusals.{no_number};
 ghost use Rattle.net_ffi.specs.Results.{done_or_many};
 ghost use Rattle.net_receiver.specs.Losses.{IsLossBound};
-ghost use Rattle.net_receiver.specs.Scoreboards.{HasNoRoom, IsEnd, IsNextHole, IsSoundBoard, IsTooFar, beyond};
+ghost use Rattle.net_receiver.specs.NewHeads.{scoreboard_head};
+ghost use Rattle.net_receiver.specs.Scoreboards.{HasNoRoom, IsEnd, IsNextHole, IsReport, IsSoundBoard, beyond};
 ghost use Rattle.net_receiver.specs.Scoreboards.{reported_by};
-ghost use Rattle.std.specs.Prelude.{IsErr, IsFalse, IsTrue, List, OnErr, OnOk, if◌then◌else◌, length, ℕ, ◌-◌, ◌<◌};
-ghost use Rattle.std.specs.Prelude.{◌↔◌, ◌≡◌, ◌≤◌, ◌⊎◌};
+ghost use Rattle.std.specs.Prelude.{IsErr, IsFalse, IsTrue, List, OnErr, OnOk, length, ℕ, ◌-◌, ◌<◌, ◌↔◌, ◌≡◌};
 
-use crate::refusals::{
-    NET_BASE_DONE, NET_BASE_MISSING, NET_BASE_PRESENT, NET_BASE_REFUSED, no_number,
-};
-use crate::results::{Hole, presence_of, status_of};
+use crate::refusals::{NET_BASE_DONE, NET_BASE_REFUSED, Status, no_number, refused_hole};
+use crate::results::{Hole, status_of};
 use net_assembler::Run;
 use net_receiver::ScoreboardHead;
 
-/// Returns whether the scoreboard is sound with these runs: `reported` and they are those of an
-/// assembler, `base` isn't reported, and each end fits 64 bits.
+/// Makes `scoreboard` a scoreboard of a stream that begins at position `first`, to which nothing
+/// was reported, whatever its runs. All positions below `first` count as reported.
+#[unsafe(no_mangle)]
+pub extern "C" fn net_base_scoreboard_init(scoreboard: &mut ScoreboardHead, first: u64)
+    ensures base { scoreboard.new.base ≡ first }
+    ensures no_run { scoreboard.new.reported.used ≡ 0 }
+    ensures no_start { scoreboard.new.reported.first_start ≡ 0 }
+    ensures sound { (runs : List (ℕ × ℕ)) → IsSoundBoard scoreboard.new runs }
+    ensures empty { (runs : List (ℕ × ℕ)) → reported_by scoreboard.new runs ≡ with_range nothing 0 first }
+    ensures numbers { scoreboard.new ≡ scoreboard_head first }
+{
+    *scoreboard = ScoreboardHead::new_at(first);
+}
+
+/// Returns whether the scoreboard is sound with these runs, for any numbers in both: `reported` and
+/// they are those of an assembler, `base` isn't reported, and each end fits 64 bits. It looks at
+/// each used run.
 #[unsafe(no_mangle)]
 pub extern "C" fn net_base_scoreboard_is_sound(scoreboard: &ScoreboardHead, runs: &[Run]) -> bool
     ensures { IsTrue result ↔ IsSoundBoard scoreboard.now runs.now }
@@ -32,28 +45,16 @@ pub extern "C" fn net_base_scoreboard_is_sound(scoreboard: &ScoreboardHead, runs
     scoreboard.is_sound(runs)
 }
 
-/// Forgets all that was reported, for a stream that begins at position `first`: all positions below
-/// it count as reported. Nothing is refused: this makes a scoreboard of any memory.
-#[unsafe(no_mangle)]
-pub extern "C" fn net_base_scoreboard_reset(scoreboard: &mut ScoreboardHead, first: u64)
-    ensures base { scoreboard.new.base ≡ first }
-    ensures no_run { scoreboard.new.reported.used ≡ 0 }
-    ensures no_start { scoreboard.new.reported.first_start ≡ 0 }
-    ensures sound { (runs : List (ℕ × ℕ)) → IsSoundBoard scoreboard.new runs }
-    ensures empty { (runs : List (ℕ × ℕ)) → reported_by scoreboard.new runs ≡ with_range nothing 0 first }
-{
-    scoreboard.reset_at(first);
-}
-
 /// Reports the positions from `start` on and below `end`, as a SACK block of an acknowledgement
-/// does. Blocks may overlap. `sent` is the position after the last byte that was ever sent.
+/// does. Blocks may overlap. Positions below `base` are known already.
 ///
-/// Returns `NET_BASE_DONE`, or `NET_BASE_TOO_MANY_RUNS`, and nothing changes, if the block begins
-/// beyond the first position that wasn't reported, and there would be more runs beyond it than the
-/// slice has elements, or it ends 2^32 or more above that position.
+/// Returns `NET_BASE_TOO_MANY_RUNS`, and changes nothing, if the block begins beyond `base`, and
+/// there would be more runs than the slice has elements. Then the block isn't known, and its bytes
+/// are sent again.
 ///
-/// It is refused if `start` isn't below `end`, or `end` is above `sent`, or if `scoreboard` isn't
-/// sound with `runs`: `NET_BASE_REFUSED`, and nothing changes.
+/// It is refused if `start` isn't below `end`, `end` is above `sent`, or the block begins beyond
+/// `base` and ends 2^32 or more above it, or if `scoreboard` isn't sound with `runs`:
+/// `NET_BASE_REFUSED`, and nothing changes.
 #[unsafe(no_mangle)]
 pub extern "C" fn net_base_scoreboard_report(
     scoreboard: &mut ScoreboardHead,
@@ -61,29 +62,30 @@ pub extern "C" fn net_base_scoreboard_report(
     start: u64,
     end: u64,
     sent: u64,
-) -> u32
-    ensures sound { ((start < end) × (end ≤ sent)) × (IsSoundBoard scoreboard.old runs.old) → IsSoundBoard
-        scoreboard.new runs.new }
-    ensures ok { ((start < end) × (end ≤ sent)) × (IsSoundBoard scoreboard.old runs.old) → OnOk (done_or_many
-        result) (reported_by scoreboard.new runs.new ≡ with_range (reported_by scoreboard.old runs.old) start (end -
-        start)) }
-    ensures unchanged { ((start < end) × (end ≤ sent)) × (IsSoundBoard scoreboard.old runs.old) → OnErr
-        (done_or_many result) ((scoreboard.new ≡ scoreboard.old) × (runs.new ≡ runs.old)) }
-    ensures refused { ((start < end) × (end ≤ sent)) × (IsSoundBoard scoreboard.old runs.old) → (IsErr (done_or_many
-        result) ↔ (HasNoRoom (length runs.old) (reported_by scoreboard.old runs.old) start (end - start) ⊎ IsTooFar
-        (reported_by scoreboard.old runs.old) start (end - start))) }
+) -> Status
+    ensures sound { (IsReport scoreboard.old.base sent start end) × (IsSoundBoard scoreboard.old runs.old) →
+        IsSoundBoard scoreboard.new runs.new }
+    ensures ok { (IsReport scoreboard.old.base sent start end) × (IsSoundBoard scoreboard.old runs.old) → OnOk
+        (done_or_many result) (reported_by scoreboard.new runs.new ≡ with_range (reported_by scoreboard.old
+        runs.old) start (end - start)) }
+    ensures unchanged { (IsReport scoreboard.old.base sent start end) × (IsSoundBoard scoreboard.old runs.old) →
+        OnErr (done_or_many result) ((scoreboard.new ≡ scoreboard.old) × (runs.new ≡ runs.old)) }
+    ensures refused { (IsReport scoreboard.old.base sent start end) × (IsSoundBoard scoreboard.old runs.old) →
+        (IsErr (done_or_many result) ↔ HasNoRoom (length runs.old) (reported_by scoreboard.old runs.old) start (end
+        - start)) }
     ensures canonical { IsCanonical scoreboard.old.reported → IsCanonical scoreboard.new.reported }
-    ensures status { ((start < end) × (end ≤ sent)) × (IsSoundBoard scoreboard.old runs.old) → result < 2 }
-    ensures unsound { (((start < end) × (end ≤ sent)) × (IsSoundBoard scoreboard.old runs.old) → ⊥) → (result ≡
-        NET_BASE_REFUSED) × (scoreboard.new ≡ scoreboard.old) × (runs.new ≡ runs.old) }
+    ensures status { (IsReport scoreboard.old.base sent start end) × (IsSoundBoard scoreboard.old runs.old) → result
+        < 2 }
+    ensures unsound { ((IsReport scoreboard.old.base sent start end) × (IsSoundBoard scoreboard.old runs.old) → ⊥) →
+        (result ≡ NET_BASE_REFUSED) × (scoreboard.new ≡ scoreboard.old) × (runs.new ≡ runs.old) }
 {
-    if !ScoreboardHead::is_block(start, end, sent) || !scoreboard.is_sound(runs) {
+    if !ScoreboardHead::is_report(scoreboard.base, start, end, sent) || !scoreboard.is_sound(runs) {
         return NET_BASE_REFUSED;
     }
     status_of(scoreboard.report(runs, start, end))
 }
 
-/// Reports all positions below `next`, whatever the number of runs, and returns true.
+/// Reports all positions below `next`, whatever the number of runs.
 ///
 /// It is refused if `scoreboard` isn't sound with `runs`: false, and nothing changes.
 #[unsafe(no_mangle)]
@@ -106,28 +108,28 @@ pub extern "C" fn net_base_scoreboard_acknowledge(
     true
 }
 
-/// Returns `NET_BASE_PRESENT` if `position` was reported, and `NET_BASE_MISSING` if it wasn't.
+/// Returns whether `position` was reported.
 ///
-/// It is refused if `scoreboard` isn't sound with `runs`: `NET_BASE_REFUSED`.
+/// It is refused if `scoreboard` isn't sound with `runs`: false.
 #[unsafe(no_mangle)]
 pub extern "C" fn net_base_scoreboard_contains(
     scoreboard: &ScoreboardHead,
     runs: &[Run],
     position: u64,
-) -> u32
-    ensures done { IsSoundBoard scoreboard.now runs.now → result ≡ (if contains (reported_by scoreboard.now
-        runs.now) position then NET_BASE_PRESENT else NET_BASE_MISSING) }
-    ensures refused { (IsSoundBoard scoreboard.now runs.now → ⊥) → result ≡ NET_BASE_REFUSED }
+) -> bool
+    ensures value { IsSoundBoard scoreboard.now runs.now → result ≡ contains (reported_by scoreboard.now runs.now)
+        position }
+    ensures refused { (IsSoundBoard scoreboard.now runs.now → ⊥) → IsFalse result }
 {
     if !scoreboard.is_sound(runs) {
-        return NET_BASE_REFUSED;
+        return false;
     }
-    presence_of(scoreboard.contains(runs, position))
+    scoreboard.contains(runs, position)
 }
 
 /// Returns the next range that wasn't reported, as a start and an end: it begins at the first
-/// position from `position` on that wasn't, and ends at the next one that was, or at `limit`. If
-/// there is none below `limit`, both are `limit`. Most of it may be in flight:
+/// position from `position` on that wasn't reported, and ends at the next one that was, or at
+/// `limit`. If there is none below `limit`, both are `limit`. Most of it may be in flight:
 /// `net_base_scoreboard_lost_below` gives the limit of what is lost.
 ///
 /// It is refused if `scoreboard` isn't sound with `runs`: the status is `NET_BASE_REFUSED`, and
@@ -146,11 +148,7 @@ pub extern "C" fn net_base_scoreboard_next_hole(
         (result.start ≡ 0) × (result.end ≡ 0) }
 {
     if !scoreboard.is_sound(runs) {
-        return Hole {
-            status: NET_BASE_REFUSED,
-            start: 0,
-            end: 0,
-        };
+        return refused_hole();
     }
     let (start, end) = scoreboard.next_hole(runs, position, limit);
     Hole {
@@ -160,8 +158,7 @@ pub extern "C" fn net_base_scoreboard_next_hole(
     }
 }
 
-/// Writes the position after the last one that was reported to `end`, which is `base` if no run is
-/// stored, and returns true.
+/// Writes to `end` the position after the last one that was reported; 0 if none was.
 ///
 /// It is refused if `scoreboard` isn't sound with `runs`: false, and nothing changes.
 #[unsafe(no_mangle)]
@@ -200,9 +197,11 @@ pub extern "C" fn net_base_scoreboard_count_beyond(
 }
 
 /// Writes to `limit` the position below which all that wasn't reported is lost, by the rule of RFC
-/// 6675, section 4, and returns true: from it on `duplicates` runs were reported (3 in TCP; 0
-/// counts as 1), or more bytes than `duplicates - 1` segments of `segment_size` bytes have. It is
-/// the start of a stored run, the last one of which this holds, or 0 if nothing is lost.
+/// 6675, section 4: from it on `duplicates` runs were reported (3 in TCP; 0 counts as 1), or more
+/// bytes than `duplicates - 1` segments of `segment_size` bytes have. It is the start of a run, the
+/// last one of which this is so, or 0 if nothing is lost. A run counts as above a position if it
+/// begins above it; of a position that wasn't reported that is the RFC's rule exactly, by law
+/// `losses` of `net_receiver`.
 ///
 /// It is refused if `scoreboard` isn't sound with `runs`: false, and nothing changes.
 #[unsafe(no_mangle)]

@@ -1,24 +1,37 @@
-//! Senders of one stream of bytes, over a storage that the caller keeps.
+//! Senders of a stream of bytes that doesn't end.
 //!
-//! A head of zeros, but for `first_unacknowledged`, is that of a sender of a stream that begins
-//! there, to which nothing was written. The queue, of bytes that are not acknowledged, is the ring
-//! of `place`. What SACK blocks report is kept in a scoreboard.
+//! A head of zeros is new, of a stream that begins at position 0. The queue, of bytes that are not
+//! acknowledged, is the ring of `place`. What SACK blocks report is kept in a scoreboard.
 // Written by tools/ffi.py.
 ghost use Rattle.net_ffi.specs.Refusals.{no_number, nowhere};
+ghost use Rattle.net_receiver.specs.NewHeads.{sender_head};
 ghost use Rattle.net_receiver.specs.OneStream.{MatchesStream};
 ghost use Rattle.net_receiver.specs.SenderHeads.{IsSoundHead, sender_of};
-ghost use Rattle.net_receiver.specs.SenderState.{Sends, contiguous_end, room_of, sender_from, with_written};
+ghost use Rattle.net_receiver.specs.SenderState.{Sends, contiguous_end, room_of, sender_from, sender_state};
+ghost use Rattle.net_receiver.specs.SenderState.{with_written};
 ghost use Rattle.net_ring.specs.Ring.{queue, rewind_if_empty, with_elements_wrapping, with_enqueued, write_at};
 ghost use Rattle.net_ring.specs.RingHead.{dequeued_place, queued_index, ring_at};
-ghost use Rattle.std.specs.Prelude.{IsFalse, IsTrue, List, drop, length, max, min, take, ℕ, ◌++◌, ◌+◌, ◌-◌, ◌<◌};
-ghost use Rattle.std.specs.Prelude.{◌^◌, ◌↔◌, ◌≡◌, ◌≢◌, ◌≤◌};
+ghost use Rattle.std.specs.Prelude.{IsFalse, IsTrue, List, [], drop, length, max, min, take, ℕ, ◌++◌, ◌+◌, ◌-◌};
+ghost use Rattle.std.specs.Prelude.{◌<◌, ◌^◌, ◌↔◌, ◌≡◌, ◌≢◌, ◌≤◌};
 
-use crate::refusals::{no_number, no_span};
+use crate::refusals::{no_number, refused_span};
 use net_receiver::SenderHead;
 use net_ring::Span;
 
-/// Returns whether this is the head of a sender over a storage of `capacity` bytes: `place` is that
-/// of a ring of as many, and the position after the queue fits 64 bits.
+/// Makes `sender` the head of a sender of a stream that begins at position `first`, to which
+/// nothing was written. It is sound for every storage.
+#[unsafe(no_mangle)]
+pub extern "C" fn net_base_sender_init(sender: &mut SenderHead, first: u64)
+    ensures sound { (capacity : ℕ) → IsSoundHead capacity sender.new }
+    ensures state { (storage : List ℕ) → sender_of sender.new storage ≡ sender_state (length storage) first []
+        (first + length storage) }
+    ensures numbers { sender.new ≡ sender_head first }
+{
+    *sender = SenderHead::new(first);
+}
+
+/// Returns whether this head is sound for a storage of `capacity` bytes: `place` is that of a ring
+/// of as many, and the position after the queue fits 64 bits.
 #[unsafe(no_mangle)]
 pub extern "C" fn net_base_sender_is_sound(sender: &SenderHead, capacity: usize) -> bool
     ensures { IsTrue result ↔ IsSoundHead capacity sender.now }
@@ -26,7 +39,7 @@ pub extern "C" fn net_base_sender_is_sound(sender: &SenderHead, capacity: usize)
     sender.is_sound(capacity)
 }
 
-/// Writes the position after the last byte that was written to `end`, and returns true.
+/// Writes to `end` the position after the last byte that was written.
 ///
 /// It is refused if the position after the queue doesn't fit 64 bits: false, and nothing changes.
 #[unsafe(no_mangle)]
@@ -59,8 +72,8 @@ pub extern "C" fn net_base_sender_room(sender: &SenderHead, capacity: usize) -> 
     sender.room(capacity)
 }
 
-/// Enqueues the first of these bytes, as many as there is room for, and returns how many. An empty
-/// queue is rewound before, also for no bytes: `place.read_at` becomes 0.
+/// Enqueues the first of these bytes, as many as `net_base_sender_room` says, and returns how many.
+/// An empty queue is rewound before, also for no bytes.
 ///
 /// It is refused if `sender` isn't that of a sender over `storage.len()` bytes: `NET_BASE_NONE`,
 /// and nothing changes.
@@ -89,9 +102,8 @@ pub extern "C" fn net_base_sender_write(
     sender.write(storage, bytes)
 }
 
-/// Returns where at most `max` queued bytes are, from the one at `position` on. The caller copies
-/// or sends them. If that byte isn't queued, `count` and `contiguous` are 0, and `from` is any
-/// index.
+/// Returns where at most `max` queued bytes are, from the one at `position` on; none if the byte at
+/// `position` isn't queued. The storage has `capacity` bytes.
 ///
 /// It is refused if `sender` isn't that of a sender over `capacity` bytes: `from` is
 /// `NET_BASE_NONE`, `count` and `contiguous` are 0.
@@ -123,13 +135,14 @@ pub extern "C" fn net_base_sender_peek_at(
     ensures refused { (IsSoundHead capacity sender.now → ⊥) → result ≡ nowhere }
 {
     if !sender.is_sound(capacity) {
-        return no_span();
+        return refused_span();
     }
     sender.peek_at(capacity, position, max)
 }
 
 /// Drops the bytes below `next`, and returns whether it did: false, and nothing changes, if `next`
-/// is below `first_unacknowledged` or above the position after the last byte.
+/// is below `first_unacknowledged` or above `net_base_sender_end`. The storage has `capacity`
+/// bytes.
 ///
 /// It is refused if `sender` isn't that of a sender over `capacity` bytes: false, and nothing
 /// changes.
@@ -158,10 +171,11 @@ pub extern "C" fn net_base_sender_acknowledge(
     sender.acknowledge(capacity, next)
 }
 
-/// Moves the mark `sent`, the position after the last byte that was ever sent, up to `position`, if
-/// that is above it, and returns true; false, and nothing changes, if `sent` or `position` is above
-/// the position after the last byte that was written. The caller keeps the mark, which begins as
-/// the position of the stream's first byte.
+/// Moves `sent`, the position after the last byte that was ever sent, up to `position`, if that is
+/// above it. Returns false, and changes nothing, if `sent` or `position` is above
+/// `net_base_sender_end`: no such byte was written.
+///
+/// The caller keeps this mark. It begins as the position of the stream's first byte.
 ///
 /// It is refused if the position after the queue doesn't fit 64 bits: false, and nothing changes.
 #[unsafe(no_mangle)]
@@ -184,10 +198,10 @@ pub extern "C" fn net_base_sender_mark_sent(
     sender.mark_sent(sent, position)
 }
 
-/// Drops the bytes below `next`, if they were sent, and returns whether it did: false, and nothing
-/// changes, if `next` is below `first_unacknowledged` or above `sent`, or `sent` is above the
-/// position after the last byte. `sent` is the position after the last byte that was ever sent, as
-/// `net_base_sender_mark_sent` keeps it.
+/// Drops the bytes below `next`, as `net_base_sender_acknowledge` does, if they were sent: `sent`
+/// is the position after the last byte that was ever sent, as `net_base_sender_mark_sent` keeps it.
+/// Returns false, and changes nothing, if `next` is below `first_unacknowledged` or above `sent`,
+/// or `sent` is above `net_base_sender_end`.
 ///
 /// It is refused if `sender` isn't that of a sender over `capacity` bytes: false, and nothing
 /// changes.

@@ -1,17 +1,13 @@
 //! Laws of packet queues. No function here does anything: each is called for its contract.
-ghost use Rattle.std.specs.Prelude.{◌≡◌, ◌≢◌, ◌≤◌, ◌<◌, ◌+◌, ◌++◌, ◌∷◌, ◌↔◌, [], ℕ, List, Bool};
-ghost use Rattle.std.specs.Prelude.{length, take, drop, if◌then◌else◌};
+ghost use Rattle.std.specs.Prelude.{◌≡◌, ◌≢◌, ◌≤◌, ◌<◌, ◌+◌, ◌++◌, ◌∷◌, ◌↔◌, [], ℕ, List, Bool, length, take, drop};
+ghost use Rattle.std.specs.Prelude.{if◌then◌else◌};
 ghost use Rattle.std.specs.declared.option.Option.TheVariants.{Some, None};
-ghost use Rattle.net_packets.specs.Packets.{PacketsState, IsWellPlaced, no_packets, IsFirst};
-ghost use Rattle.net_packets.specs.Drops.{after_drops, without_oldest, HasNoRoom, HasNoRoomBefore};
-ghost use Rattle.net_packets.specs.Packets.{placement, with_packet_if_room};
-ghost use Rattle.net_packets.specs.Packets.{with_last_bytes, with_last_size, without_gap};
-ghost use Rattle.net_packets.specs.Packets.{first_size, with_first_bytes, without_first, after_hand_out};
-ghost use Rattle.net_packets.specs.Packets.{without_first_and_gap};
+ghost use Rattle.net_packets.specs.{PacketsState, IsWellPlaced, no_packets, IsFirst, after_drops, without_oldest};
+ghost use Rattle.net_packets.specs.{HasNoRoom, HasNoRoomBefore, placement, with_packet_if_room, with_last_bytes};
+ghost use Rattle.net_packets.specs.{with_last_size, without_gap, first_size, with_first_bytes, without_first};
+ghost use Rattle.net_packets.specs.{after_hand_out, without_first_and_gap, packets_at, IsSoundHead, packets_head};
+ghost use Rattle.net_packets.specs.{contents, QueueCall, MakesAll, history};
 ghost use Rattle.net_ring.specs.RingHead.{place};
-ghost use Rattle.net_packets.specs.PacketSlots.{packets_at};
-ghost use Rattle.net_packets.specs.PacketsHead.{IsSoundHead, packets_head};
-ghost use Rattle.net_packets.specs.PacketHistory.{contents, QueueCall, MakesAll, history};
 
 use crate::packet_buffer::PacketsOver;
 use crate::packet_metadata::PacketMetadata;
@@ -46,7 +42,7 @@ pub fn contents_are_packets<H>()
 /// States that a queue with no packets takes a packet exactly if it has a slot, and at least as
 /// many bytes as the packet. The packet is placed without a gap, even if the last packet to leave
 /// was in the middle of the storage.
-#[tactic(auto, using(crate::proofs::EmptyQueue::empty_taken, crate::proofs::EmptyQueue::empty_no_slot, crate::proofs::EmptyQueue::empty_too_long))]
+#[tactic(auto, using(crate::proofs::PacketRuns::empty_taken, crate::proofs::PacketRuns::empty_no_slot, crate::proofs::PacketRuns::empty_too_long))]
 pub fn empty_queue_takes_what_fits<H>()
     ensures taken { (q : PacketsState H) (size : ℕ) → contents q ≡ []
         → 0 < q.slot_count → size ≤ length q.storage → placement q size ≡ Some 0 }
@@ -113,7 +109,8 @@ pub fn accepted_packets_leave_in_turn<H>()
 {}
 
 /// States how a queue changes in a loop that drops its oldest packets until a new one has room, for the
-/// invariant of that loop: by contents, and by states, in words of `Drops.antt` that a caller's proof keeps as names.
+/// invariant of that loop: by contents, and by states, in words of `PacketHistory.antt` that a caller's
+/// proof keeps as names.
 pub fn drops<H>()
     ensures contents { (k : ℕ) (p q r : PacketsState H) → contents q ≡ drop k (contents p)
         → contents r ≡ drop 1 (contents q) → contents r ≡ drop (k + 1) (contents p) }

@@ -2,14 +2,13 @@
 use std::marker::Model;
 
 /// An iterator over the elements of a queue, the first one first, made by `RingOver::iter`.
-///
-/// A contract sees the list of the elements that are left.
 #[derive(Drop)]
 pub struct Iter<'a, T> {
     pub(super) first: &'a [T],
     pub(super) second: &'a [T],
 }
 
+/// Contracts see the list of the elements that are left.
 impl<'a, T> Model for Iter<'a, T> {
     ghost use Rattle.std.specs.Prelude.{◌+◌, ◌^◌, ◌<◌, List, ◌++◌, length};
 

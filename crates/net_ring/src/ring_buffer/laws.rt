@@ -1,11 +1,8 @@
 //! Laws of rings and of their storage, over the definitions alone: the functions do nothing.
-ghost use Rattle.std.specs.Prelude.{◌≡◌, ◌+◌, ◌++◌, ◌∷◌, [], List, length, take, drop, ℕ};
-ghost use Rattle.std.specs.Prelude.{slice_set};
+ghost use Rattle.std.specs.Prelude.{◌≡◌, ◌+◌, ◌++◌, ◌∷◌, [], List, length, take, drop, ℕ, slice_set};
 ghost use Rattle.net_ring.specs.Managed.{elements, with_part};
-ghost use Rattle.net_ring.specs.Overwrite.{overwrite, OverwritesAt};
-ghost use Rattle.net_ring.specs.Ring.{RingState, ring, capacity, window, queue, spare, rewind_if_empty};
-ghost use Rattle.net_ring.specs.Ring.{IsWellFormed};
-ghost use Rattle.net_ring.specs.RingHistory.{RingCall, MakesAll, history};
+ghost use Rattle.net_ring.specs.{overwrite, OverwritesAt, RingState, ring, capacity, window, queue, spare};
+ghost use Rattle.net_ring.specs.{rewind_if_empty, IsWellFormed, RingCall, MakesAll, history};
 
 use crate::managed::ManagedSlice;
 

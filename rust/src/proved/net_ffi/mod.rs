@@ -1,61 +1,14 @@
-//! Functions for C over memory that the caller keeps: rings, packet queues, assemblers, buffers of fragments,
-//! receivers, senders and their scoreboards, windows, timeouts and sums of TCP, sequence numbers, time and random
-//! words.
-//!
-//! There is no heap and no global state. Each export, but for the version, calls a function of a library here, and tests
-//! what that function needs, but for the duties below.
-//!
-//! # Memory
-//!
-//! A head is a struct of numbers, which the caller keeps beside a storage and, for some heads, runs or slots. A head of
-//! zeros is new, but for what the comment of its kind says. Storage, runs and slots need no particular values. Lengths
-//! are in elements; a length of 0 is allowed, of runs too: then no run is held. A length, an index or a count is a
-//! `size_t`, a position or a time a `uint64_t` or an `int64_t` on every processor. A flag of a head or a slot is as
-//! wide as the number beside it, so that they have no padding.
-//!
-//! Fields of a head may be read: `length` is how many elements are queued, `used` how many runs are stored. `start`
-//! and `end` of a stored run are offsets from `first_start` of the head, so the first one starts at 0. A run that a
-//! call returns is counted from position 0 of the assembler, or has positions of the receiver's stream.
-//!
-//! # Duties
-//!
-//! Nothing checks these. A call that breaks one of the first four can touch any memory. The others are about answers, and
-//! the proofs assume them: a call that breaks one touches no other memory than it was passed, but may answer anything,
-//! or trap.
-//!
-//! 1. A pointer that isn't null is aligned, and valid: that of a slice, such as `data`, for as many elements as the
-//!    parameter after it says, here `data_length`, of at most `PTRDIFF_MAX` bytes together; any other for one value. If
-//!    the length is 0, the pointer may be any. A `bool` is 0 or 1. If program and library are optimized together when
-//!    they are linked, the program has written before what it passes, with any values.
-//! 2. What a call may write overlaps nothing else that it is passed.
-//! 3. Two calls that share memory aren't made at once, in threads or in an interrupt and what it interrupts, unless
-//!    both take it by `const`. So mask the interrupt around each call, with what copies its elements, and around what
-//!    reads fields.
-//! 4. There is stack enough for a call.
-//! 5. A storage, its runs and its slots have the same lengths in each call on a head.
-//! 6. A head, its runs and its slots are written by calls of its own kind alone, those of a receiver by
-//!    `net_base_receiver_..`, not its `place` by `net_base_ring_..` or its `held` by `net_base_assembler_..`. The
-//!    caller may set a head to zeros, and then what the comment of its kind names, as `first` of a receiver.
-//! 7. Where a comment says `Requires`, head and runs are sound, as a call whose name ends in `_is_sound` tests. What
-//!    calls of its own kind wrote, from a new head on, is sound, if each slot that `net_base_packets_take_slot` was given
-//!    was the first one.
-//!
-//! # Refusals
-//!
-//! All else that a call needs is tested, but that a taken slot is the first one. Nonsense in arguments, as a null pointer
-//! but to a slice of length 0, is refused before anything else. A refused call changes nothing. It returns `false` where
-//! it returns a `bool`; where it returns one of these alone or as the first field of a struct, `NET_BASE_REFUSED` of a
-//! status, `NET_BASE_NONE` of a `size_t`, `UINT64_MAX` of a `uint64_t`; and 0 of another number, which is refused for
-//! null alone. `NET_BASE_REFUSED` always means a refusal; the others can also be results of calls that are done.
-
+use crate::rattle::prelude::*;
 pub mod finite_receiver;
 pub mod fragments;
 pub mod heads;
 pub mod packets;
+pub mod parts_sum;
 pub mod rand;
 pub mod receiver;
 pub mod refusals;
 pub mod results;
+pub mod retransmission;
 pub mod ring;
 pub mod sequence_number;
 pub mod time;

@@ -1,10 +1,6 @@
-//! Random words, drawn from a state that the caller keeps. Any state is allowed; the words are not fit for
-//! cryptography. The generator is smoltcp's, sPCG32: a step multiplies the state by 0xbb2efcec3c39611d and adds
-//! 0x7590ef39, and the word of a state is the low 32 bits of `state >> (29 - (state >> 61))`.
-
+use crate::rattle::prelude::*;
 use crate::proved::net_base::rand::Rand;
 
-/// Steps `state` to the next one, and returns its random word, of 32 bits.
 #[inline(always)]
 pub fn net_base_rand_u32(state: &mut u64) -> u32 {
     let mut rand = Rand::new(*state);
@@ -13,7 +9,6 @@ pub fn net_base_rand_u32(state: &mut u64) -> u32 {
     word
 }
 
-/// Draws 16 bits until a draw is above 1024, and returns it. It returns from every state, after at most 2^64 draws.
 #[inline(always)]
 pub fn net_base_rand_source_port(state: &mut u64) -> u16 {
     let mut rand = Rand::new(*state);
@@ -22,10 +17,6 @@ pub fn net_base_rand_source_port(state: &mut u64) -> u16 {
     port
 }
 
-/// Steps `state` to the next one, and returns its random word times `bound`, divided by 2^32 and rounded down: a
-/// number below `bound`. Each number below `bound` is the result for equally many words, or for one more.
-///
-/// If `bound` is 0, it is refused: it returns 2^64 - 1, and `state` stays as it is.
 #[inline(always)]
 pub fn net_base_rand_below(state: &mut u64, bound: u32) -> u64 {
     if bound == 0 {

@@ -1,63 +1,46 @@
-//! Results of methods, as exports return them.
-
+use crate::rattle::prelude::*;
 use crate::proved::net_ffi::refusals::{
     NET_BASE_ACKNOWLEDGEMENT_ONLY, NET_BASE_ANSWER, NET_BASE_DONE, NET_BASE_IGNORE,
-    NET_BASE_MISSING, NET_BASE_OTHER_SIZE, NET_BASE_PRESENT, NET_BASE_RESET, NET_BASE_TAKE,
-    NET_BASE_TOO_LONG, NET_BASE_TOO_MANY_RUNS,
+    NET_BASE_OTHER_SIZE, NET_BASE_RESET, NET_BASE_TAKE, NET_BASE_TOO_LONG, NET_BASE_TOO_MANY_RUNS,
+    Status,
 };
 use crate::proved::net_assembler::{Run, TooManyHolesError};
 use crate::proved::net_base::storage::FragmentError;
 use crate::proved::net_ring::Span;
 use crate::proved::net_tcp::Arrival;
 
-/// The length of the run at position 0, and whether the call was done.
 #[repr(C)]
 #[derive(Debug, Clone, Copy)]
 pub struct FrontLength {
-    /// `NET_BASE_DONE`, `NET_BASE_TOO_MANY_RUNS` or `NET_BASE_REFUSED`, and of `net_base_fragments_complete` also
-    /// `NET_BASE_MISSING`.
-    pub status: u32,
-    /// How many positions the run has, 0 if position 0 is missing; of `net_base_fragments_complete` the packet's size.
-    /// It is 0 if the call wasn't done.
+    pub status: Status,
     pub length: usize,
 }
 
-/// A range of positions that weren't reported, and whether the call was done.
 #[repr(C)]
 #[derive(Debug, Clone, Copy)]
 pub struct Hole {
-    /// `NET_BASE_DONE` or `NET_BASE_REFUSED`.
-    pub status: u32,
-    /// The first position; 0 if the call was refused.
+    pub status: Status,
     pub start: u64,
-    /// The position after the last one; 0 if the call was refused.
     pub end: u64,
 }
 
-/// Where the bytes of a segment are, and whether it ends the stream.
 #[repr(C)]
 #[derive(Debug, Clone, Copy)]
 pub struct SegmentSpan {
-    /// The index of the first byte; `NET_BASE_NONE` if the call was refused.
     pub from: usize,
-    /// How many bytes are queued from the segment's position on, below its limit.
     pub count: usize,
-    /// How many of these are contiguous in the storage: the bytes of the segment.
     pub contiguous: usize,
-    /// Whether the segment ends the stream.
     pub is_last: bool,
 }
 
-/// Returns the status of a call that adds positions.
 #[inline(always)]
-pub(crate) fn status_of(done: Result<(), TooManyHolesError>) -> u32 {
+pub(crate) fn status_of(done: Result<(), TooManyHolesError>) -> Status {
     match done {
         Ok(()) => NET_BASE_DONE,
         Err(_) => NET_BASE_TOO_MANY_RUNS,
     }
 }
 
-/// Returns status and length of a call that adds positions and removes the front.
 #[inline(always)]
 pub(crate) fn front_length(front: Result<usize, TooManyHolesError>) -> FrontLength {
     match front {
@@ -72,9 +55,8 @@ pub(crate) fn front_length(front: Result<usize, TooManyHolesError>) -> FrontLeng
     }
 }
 
-/// Returns the status of a call that takes a fragment or a size.
 #[inline(always)]
-pub(crate) fn status_of_fragment(done: Result<(), FragmentError>) -> u32 {
+pub(crate) fn status_of_fragment(done: Result<(), FragmentError>) -> Status {
     match done {
         Ok(()) => NET_BASE_DONE,
         Err(FragmentError::TooManyHoles) => NET_BASE_TOO_MANY_RUNS,
@@ -83,9 +65,8 @@ pub(crate) fn status_of_fragment(done: Result<(), FragmentError>) -> u32 {
     }
 }
 
-/// Returns the number of what to do with a segment.
 #[inline(always)]
-pub(crate) fn number_of(arrival: Arrival) -> u32 {
+pub(crate) fn number_of(arrival: Arrival) -> Status {
     match arrival {
         Arrival::Take => NET_BASE_TAKE,
         Arrival::AcknowledgementOnly => NET_BASE_ACKNOWLEDGEMENT_ONLY,
@@ -95,7 +76,6 @@ pub(crate) fn number_of(arrival: Arrival) -> u32 {
     }
 }
 
-/// Returns the bytes of a segment, and whether it is the last one, as one struct.
 #[inline(always)]
 pub(crate) fn segment_span(segment: (Span, bool)) -> SegmentSpan {
     let (span, is_last) = segment;
@@ -107,21 +87,10 @@ pub(crate) fn segment_span(segment: (Span, bool)) -> SegmentSpan {
     }
 }
 
-/// Returns the run that was found; both ends are 0 if none was.
 #[inline(always)]
 pub(crate) fn run_of(found: Option<(usize, usize)>) -> Run {
     match found {
         Some((start, end)) => Run { start, end },
         None => Run { start: 0, end: 0 },
-    }
-}
-
-/// Returns the number of an answer that is yes or no.
-#[inline(always)]
-pub(crate) fn presence_of(is_present: bool) -> u32 {
-    if is_present {
-        NET_BASE_PRESENT
-    } else {
-        NET_BASE_MISSING
     }
 }

@@ -1,11 +1,7 @@
-//! Single elements of rings.
-
+use crate::rattle::prelude::*;
 use crate::proved::net_ffi::refusals::no_number;
 use crate::proved::net_ring::RingHead;
 
-/// Enqueues one element, and returns its index in the storage.
-///
-/// If none is free, or the place isn't sound: `NET_BASE_NONE`, and nothing changes.
 #[inline(always)]
 pub fn net_base_ring_enqueue_one(place: &mut RingHead, capacity: usize) -> usize {
     if place.read_at >= capacity || place.length >= capacity {
@@ -16,9 +12,6 @@ pub fn net_base_ring_enqueue_one(place: &mut RingHead, capacity: usize) -> usize
     index
 }
 
-/// Dequeues one element, and returns its index in the storage.
-///
-/// If none is queued, or the place isn't sound: `NET_BASE_NONE`, and nothing changes.
 #[inline(always)]
 pub fn net_base_ring_dequeue_one(place: &mut RingHead, capacity: usize) -> usize {
     if place.read_at >= capacity || place.length == 0 || place.length > capacity {

@@ -1,15 +1,6 @@
-//! Sequence numbers of 32 bits, which wrap, and the positions of 64 bits, which don't.
-//!
-//! A receiver and a sender count in positions; TCP's segments have numbers. If position 0 has the number `initial`,
-//! each position has one number, and a number has at most one position near a given one. In TCP segments with numbers
-//! before that of the first byte arrive too, as old duplicates. If the first byte has position 0, no position near 0
-//! has such a number. If it has the position 2^32 + its number, each has one: then `initial` is 0, and the low 32 bits
-//! of a position are its number.
-
+use crate::rattle::prelude::*;
 use crate::proved::net_receiver::SequenceNumber;
 
-/// Returns whether a position near `next` has a number, if position 0 has the number `initial`, and if so writes it to
-/// `position`: it is less than 2^31 after `next`, or at most 2^31 before it.
 #[inline(always)]
 pub fn net_base_sequence_number_position(
     number: u32,

@@ -1,10 +1,11 @@
 //! The head of a packet queue, which is a queue without its storages: where packets are placed, and how
 //! they are taken off.
 //!
-//! [`PacketBuffer`](crate::proved::net_packets::PacketBuffer) places packets by the rule here. A caller that has slots and bytes
+//! [`PacketsOver`](crate::proved::net_packets::PacketsOver) places packets by the rule here. A caller that has slots and bytes
 //! elsewhere, as a program in C, calls these functions with the number of slots, or the slots, and with
 //! the number of bytes.
 
+use crate::rattle::prelude::*;
 use crate::proved::net_packets::packet_slot::PacketSlot;
 use crate::proved::net_ring::RingHead;
 
@@ -87,10 +88,16 @@ impl PacketsHead {
         let gap = self.placement(slot_count, capacity, size)?;
         let used = slots_for(gap);
         let gap_slot = self.slots.index(slot_count, self.slots.length);
+        prove!(
+            self.slots.length + (used - 1) <= slot_count,
+            "in any `usize`"
+        );
         let slot = self.slots.index(slot_count, self.slots.length + (used - 1));
         self.slots.enqueue(slot_count, used);
         self.bytes.rewind_if_empty();
+        prove!(self.bytes.length + gap <= capacity, "in any `usize`");
         let from = self.bytes.index(capacity, self.bytes.length + gap);
+        prove!(gap + size <= capacity, "in any `usize`");
         self.bytes.enqueue(capacity, gap + size);
         Some(PacketPlace {
             gap,
@@ -103,7 +110,7 @@ impl PacketsHead {
     /// Takes the first slot and its `size` bytes off, and returns the index of the first of these
     /// bytes: of a gap before the first packet, or of the first packet.
     ///
-    /// # Requires
+    /// # Panics, unless
     ///
     /// The head is sound, a slot is used, and at least `size` bytes are.
     #[inline]
@@ -117,27 +124,21 @@ impl PacketsHead {
     /// Takes the last `count` bytes off the last packet, after a closure or another program wrote
     /// fewer bytes than were placed. The caller lowers the size in the packet's slot.
     ///
-    /// # Requires
+    /// # Panics, unless
     ///
     /// At least `count` bytes are used.
     #[inline]
     pub fn shorten_last(&mut self, count: usize) {
         self.bytes.drop_last(count);
     }
-
-    /// Empties the queue.
-    #[inline]
-    pub fn clear(&mut self) {
-        self.slots.clear();
-        self.bytes.clear();
-    }
 }
 
 /// The calls that take slots without headers, as a slice or one of them.
 impl PacketsHead {
-    /// Returns whether head and slots are those of a queue over `capacity` bytes: the head is sound; the
-    /// packets and gaps of the slots in use take the bytes in use; each packet is contiguous; and a gap
-    /// has bytes, ends at the storage's end and has a packet after it. It looks at each slot in use.
+    /// Returns whether head and slots are those of a queue over `capacity` bytes: the numbers are
+    /// those of a ring of the slots and of one of the bytes; the packets and gaps of the slots in
+    /// use take the bytes in use; each packet is contiguous; and a gap has bytes, ends at the
+    /// storage's end and has a packet after it. It looks at each slot in use.
     pub fn has_sound_slots(self, slots: &[PacketSlot], capacity: usize) -> bool {
         if !self.is_sound(slots.len(), capacity) {
             return false;
@@ -159,11 +160,19 @@ impl PacketsHead {
         if slot.size > self.bytes.length - done.offset - done.gap {
             return None;
         }
+        prove!(
+            done.offset + done.gap <= self.bytes.length,
+            "in any `usize`"
+        );
         let from = self.bytes.index(capacity, done.offset + done.gap);
         if slot.size > capacity - from {
             return None;
         }
         if slot.is_gap == 0 {
+            prove!(
+                done.offset + done.gap + slot.size <= self.bytes.length,
+                "in any `usize`"
+            );
             return Some(Progress {
                 offset: done.offset + done.gap + slot.size,
                 gap: 0,
@@ -190,7 +199,7 @@ impl PacketsHead {
     /// Takes the first slot in use, `first`, off with its bytes, and returns the index of the first of
     /// these bytes: of the gap before the first packet, or of the first packet.
     ///
-    /// # Requires
+    /// # Panics, unless
     ///
     /// The head is sound, and [`can_take`](PacketsHead::can_take) returns true.
     #[inline]
@@ -216,10 +225,10 @@ impl PacketsHead {
     }
 
     /// Takes the last `count` bytes off the last packet, lowers the size in its slot, and returns
-    /// true.
+    /// true. It is for a caller that wrote fewer bytes than it placed.
     ///
-    /// Returns false, and changes nothing, if the last slot in use can't be that of a packet of at
-    /// least `count` bytes, or none is in use.
+    /// Returns false, and changes nothing, if no slot is in use, if the last one is a gap's, or if
+    /// its size is below `count` or above the number of bytes in use.
     #[inline]
     pub fn shorten_last_in(
         &mut self,

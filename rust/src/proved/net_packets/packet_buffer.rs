@@ -1,11 +1,41 @@
 //! A queue of packets, each with a header, over storage that is lent or owned.
 
+use crate::rattle::prelude::*;
 use crate::proved::net_packets::head::{PacketPlace, PacketsHead};
 use crate::proved::net_packets::packet_metadata::PacketMetadata;
 use crate::proved::net_ring::{Empty, Full, ManagedSlice, Storage};
-use core::marker::PhantomData;
+use crate::rattle::std::marker::{Model, PhantomData};
 
-/// A queue of packets over lent or owned storage.
+pub mod laws;
+
+/// A [`PacketBuffer`] over any storage: `M` has the slots and `B` the bytes.
+///
+/// A packet has a header and bytes that are contiguous in the storage. If a packet does not fit
+/// before the storage's end, it is placed at the storage's beginning, and the bytes before the end
+/// are skipped as its gap. A packet uses one slot, and a gap, which never has 0 bytes, one more.
+/// Packets leave in the order in which they were put in.
+///
+/// ```text
+/// bytes    y y y y y y x x x x x x x x - -     x of 8 bytes, then y of 6 after a gap of 2
+/// slots    x, gap, y
+/// ```
+///
+/// Which packets are refused depends on the number of slots, the number of bytes, the read index, and
+/// the sizes and gaps of the packets.
+///
+/// Contracts: `crates/net_packets/src/packet_buffer.rt`.
+#[derive(Clone)]
+pub struct PacketsOver<H, M: Storage<PacketMetadata<H>>, B: Storage<u8>> {
+    // Invariant: the head is sound for the storages. The slots in use are packets and gaps, whose sizes
+    // add up to the bytes in use. A packet is contiguous; a gap has bytes, ends at the storage's end, and
+    // has a packet after it.
+    head: PacketsHead,
+    slots: M,
+    bytes: B,
+    headers: PhantomData<H>,
+}
+
+/// A queue of packets over lent or owned storage. Its calls are those of [`PacketsOver`].
 ///
 /// It serves sockets that send and receive whole packets, such as those of UDP and ICMP.
 ///
@@ -20,74 +50,23 @@ use core::marker::PhantomData;
 /// assert_eq!(queue.dequeue(), Ok((53, &mut b"abc"[..].to_vec()[..])));
 /// # Ok::<(), Full>(())
 /// ```
-///
-/// A packet has a header and bytes that are contiguous in the storage. If a packet does not fit
-/// before the storage's end, it is placed at the storage's beginning, and the bytes before the end
-/// are skipped as its gap. A packet uses one slot, and a gap, which never has 0 bytes, one more.
-/// Packets leave in the order in which they were put in.
-///
-/// ```text
-/// bytes    y y y y y y x x x x x x x x - -     x of 8 bytes, then y of 6 after a gap of 2
-/// slots    x, gap, y
-/// ```
-///
-/// Contracts lead with `contents q`, the list of the headers and bytes of a queue's packets. The
-/// number of slots, the storage, the read index and the list of packets (header, size, gap)
-/// determine which packets are refused.
-#[derive(Clone)]
-pub struct PacketBuffer<'a, H, M: Storage<PacketMetadata<H>> = ManagedSlice<'a, PacketMetadata<H>>, B: Storage<u8> = ManagedSlice<'a, u8>> {
-    lent: core::marker::PhantomData<&'a ()>,
-    // Invariant: the head is sound for the storages. The slots in use are packets and gaps, whose sizes
-    // add up to the bytes in use. A packet is contiguous; a gap has bytes, ends at the storage's end, and
-    // has a packet after it.
-    head: PacketsHead,
-    slots: M,
-    bytes: B,
-    headers: PhantomData<H>,
-}
+pub type PacketBuffer<'a, H> = PacketsOver<
+    H,
+    ManagedSlice<'a, PacketMetadata<H>>,
+    ManagedSlice<'a, u8>,
+>;
 
-/// A [`PacketBuffer`] over any storage: `M` has the slots and `B` the bytes.
-pub type PacketsOver<H, M, B> = PacketBuffer<'static, H, M, B>;
-
-impl<'a, H> PacketBuffer<'a, H> {
-    /// Returns a queue with no packets, which has as many slots as `slots` has elements, and room
-    /// for as many bytes as `bytes` has.
-    ///
-    /// <details><summary>Contract</summary>
-    ///
-    /// In the words of [`contracts`](crate::contracts):
-    ///
-    /// ```text
-    /// ensures empty { contents result ≡ [] }
-    /// ensures made { result ≡ no_packets (length (elements slots.entry)) (elements bytes.entry) }
-    /// ```
-    ///
-    /// </details>
-    pub fn new<A: Into<ManagedSlice<'a, PacketMetadata<H>>>, B: Into<ManagedSlice<'a, u8>>>(slots: A, bytes: B) -> Self {
-        let slots = slots.into();
-        let bytes = bytes.into();
-        PacketBuffer::over(slots, bytes)
-    }
+/// Contracts see the number of slots, the storage, the read index and the list of packets (header,
+/// size, gap). They lead with `contents q`, the list of the headers and bytes of a queue's packets.
+impl<H, M: Storage<PacketMetadata<H>>, B: Storage<u8>> Model for PacketsOver<H, M, B> {
 }
 
 /// Making, emptying and measuring a queue.
-impl<H, M: Storage<PacketMetadata<H>>, B: Storage<u8>> PacketBuffer<'_, H, M, B> {
+impl<H, M: Storage<PacketMetadata<H>>, B: Storage<u8>> PacketsOver<H, M, B> {
     /// Returns a queue with no packets over storages of any type. smoltcp has no such call:
     /// [`PacketBuffer::new`] is the one for two [`ManagedSlice`].
-    ///
-    /// <details><summary>Contract</summary>
-    ///
-    /// In the words of [`contracts`](crate::contracts):
-    ///
-    /// ```text
-    /// ensures empty { contents result ≡ [] }
-    /// ensures made { result ≡ no_packets (length (M.elements slots)) (B.elements bytes) }
-    /// ```
-    ///
-    /// </details>
     pub const fn over(slots: M, bytes: B) -> Self {
-        PacketBuffer {
-            lent: core::marker::PhantomData,
+        PacketsOver {
             head: PacketsHead::new(),
             slots,
             bytes,
@@ -106,17 +85,6 @@ impl<H, M: Storage<PacketMetadata<H>>, B: Storage<u8>> PacketBuffer<'_, H, M, B>
     /// assert!(queue.enqueue(0, ()).is_ok());
     /// assert!(!queue.is_empty());
     /// ```
-    ///
-    /// <details><summary>Contract</summary>
-    ///
-    /// In the words of [`contracts`](crate::contracts):
-    ///
-    /// ```text
-    /// ensures empty { IsTrue result ↔ (contents self.now ≡ []) }
-    /// ensures packets { result ≡ (length self.now.packets == 0) }
-    /// ```
-    ///
-    /// </details>
     #[inline]
     pub fn is_empty(&self) -> bool {
         self.head.slots.length == 0
@@ -133,16 +101,6 @@ impl<H, M: Storage<PacketMetadata<H>>, B: Storage<u8>> PacketBuffer<'_, H, M, B>
     /// assert!(queue.enqueue(2, ()).is_ok());
     /// assert!(queue.is_full());
     /// ```
-    ///
-    /// <details><summary>Contract</summary>
-    ///
-    /// In the words of [`contracts`](crate::contracts):
-    ///
-    /// ```text
-    /// ensures { result ≡ (self.now.slot_count - slots_used self.now.packets == 0) }
-    /// ```
-    ///
-    /// </details>
     #[inline]
     pub fn is_full(&self) -> bool {
         self.head.slots.length == self.slots.count()
@@ -158,16 +116,6 @@ impl<H, M: Storage<PacketMetadata<H>>, B: Storage<u8>> PacketBuffer<'_, H, M, B>
     /// assert!(queue.enqueue(3, ()).is_ok());
     /// assert!(queue.has_room(13) && !queue.has_room(14));
     /// ```
-    ///
-    /// <details><summary>Contract</summary>
-    ///
-    /// In the words of [`contracts`](crate::contracts):
-    ///
-    /// ```text
-    /// ensures { IsTrue result ↔ IsSome (placement self.now size) }
-    /// ```
-    ///
-    /// </details>
     #[inline]
     pub fn has_room(&self, size: usize) -> bool {
         self.placement(size).is_some()
@@ -181,16 +129,6 @@ impl<H, M: Storage<PacketMetadata<H>>, B: Storage<u8>> PacketBuffer<'_, H, M, B>
     /// # let mut bytes = [0u8; 16];
     /// assert_eq!(PacketBuffer::new(&mut slots[..], &mut bytes[..]).packet_capacity(), 4);
     /// ```
-    ///
-    /// <details><summary>Contract</summary>
-    ///
-    /// In the words of [`contracts`](crate::contracts):
-    ///
-    /// ```text
-    /// ensures { result ≡ self.now.slot_count }
-    /// ```
-    ///
-    /// </details>
     #[inline]
     pub fn packet_capacity(&self) -> usize {
         self.slots.count()
@@ -204,16 +142,6 @@ impl<H, M: Storage<PacketMetadata<H>>, B: Storage<u8>> PacketBuffer<'_, H, M, B>
     /// # let mut bytes = [0u8; 16];
     /// assert_eq!(PacketBuffer::new(&mut slots[..], &mut bytes[..]).payload_capacity(), 16);
     /// ```
-    ///
-    /// <details><summary>Contract</summary>
-    ///
-    /// In the words of [`contracts`](crate::contracts):
-    ///
-    /// ```text
-    /// ensures { result ≡ length self.now.storage }
-    /// ```
-    ///
-    /// </details>
     #[inline]
     pub fn payload_capacity(&self) -> usize {
         self.bytes.count()
@@ -230,16 +158,6 @@ impl<H, M: Storage<PacketMetadata<H>>, B: Storage<u8>> PacketBuffer<'_, H, M, B>
     /// assert!(queue.enqueue(3, ()).is_ok());
     /// assert_eq!(queue.payload_bytes_count(), 3);
     /// ```
-    ///
-    /// <details><summary>Contract</summary>
-    ///
-    /// In the words of [`contracts`](crate::contracts):
-    ///
-    /// ```text
-    /// ensures { result ≡ bytes_used self.now.packets }
-    /// ```
-    ///
-    /// </details>
     #[inline]
     pub fn payload_bytes_count(&self) -> usize {
         self.head.bytes.length
@@ -256,16 +174,6 @@ impl<H, M: Storage<PacketMetadata<H>>, B: Storage<u8>> PacketBuffer<'_, H, M, B>
     /// assert!(queue.enqueue(3, ()).is_ok());
     /// assert_eq!(queue.slots_used(), 1);
     /// ```
-    ///
-    /// <details><summary>Contract</summary>
-    ///
-    /// In the words of [`contracts`](crate::contracts):
-    ///
-    /// ```text
-    /// ensures { result ≡ slots_used self.now.packets }
-    /// ```
-    ///
-    /// </details>
     #[inline]
     pub fn slots_used(&self) -> usize {
         self.head.slots.length
@@ -282,23 +190,13 @@ impl<H, M: Storage<PacketMetadata<H>>, B: Storage<u8>> PacketBuffer<'_, H, M, B>
     /// assert!(queue.enqueue(3, ()).is_ok());
     /// assert_eq!(queue.len(), 1);
     /// ```
-    ///
-    /// <details><summary>Contract</summary>
-    ///
-    /// In the words of [`contracts`](crate::contracts):
-    ///
-    /// ```text
-    /// ensures contents { result ≡ length (contents self.now) }
-    /// ensures packets { result ≡ length self.now.packets }
-    /// ```
-    ///
-    /// </details>
     pub fn len(&self) -> usize {
         let from = self.head.slots.read_at;
         let cut = self.head.slots.contiguous_queue(self.slots.count());
         let first = self.slots.part(from, from + cut);
         let second = self.slots.part(0, self.head.slots.length - cut);
         let count = count_packets(first) + count_packets(second);
+        prove!(count <= self.head.slots.length, "in any `usize`");
         count
     }
 
@@ -316,25 +214,13 @@ impl<H, M: Storage<PacketMetadata<H>>, B: Storage<u8>> PacketBuffer<'_, H, M, B>
     /// queue.reset();
     /// assert!(queue.is_empty());
     /// ```
-    ///
-    /// <details><summary>Contract</summary>
-    ///
-    /// In the words of [`contracts`](crate::contracts):
-    ///
-    /// ```text
-    /// ensures empty { contents self.new ≡ [] }
-    /// ensures made { self.new ≡ no_packets self.old.slot_count self.old.storage }
-    /// ensures call { Makes Reset self.old self.new }
-    /// ```
-    ///
-    /// </details>
     pub fn reset(&mut self) {
-        self.head.clear();
+        self.head = PacketsHead::new();
     }
 }
 
 /// Packets that are appended.
-impl<H, M: Storage<PacketMetadata<H>>, B: Storage<u8>> PacketBuffer<'_, H, M, B> {
+impl<H: Sized, M: Storage<PacketMetadata<H>>, B: Storage<u8>> PacketsOver<H, M, B> {
     /// Appends a packet of `size` bytes and lends them. Until they are written they are those that
     /// were in the storage. An empty queue begins at the storage's beginning.
     ///
@@ -354,29 +240,9 @@ impl<H, M: Storage<PacketMetadata<H>>, B: Storage<u8>> PacketBuffer<'_, H, M, B>
     /// Then the header is dropped, and nothing changes. If smoltcp refuses, it can leave a gap with
     /// no packet.
     ///
-    /// # [Guarantees](crate::contracts#guarantees)
+    /// # [Guarantees](crate#guarantees)
     ///
     /// - on `Ok(r)`: `r.len() == size`
-    ///
-    /// <details><summary>Contract</summary>
-    ///
-    /// In the words of [`contracts`](crate::contracts):
-    ///
-    /// ```text
-    /// ensures* writes_back { sem 𝓛 (lends_bytes_if H.row M.row B.row M.Storage B.Storage
-    ///     self.entry result (with_last_bytes (with_packet_if_room self.old size header))) }
-    /// ensures accepted { IfOk result (λ r. (ws : List ℕ) → length ws ≡ size
-    ///     → contents (with_last_bytes (with_packet_if_room self.old size header) ws)
-    ///     ≡ contents self.old ++ (header, ws) ∷ []) }
-    /// ensures full { IsErr result ↔ (placement self.old size ≡ None) }
-    /// ensures value { IfOk result
-    ///     (λ r. r.now ≡ last_bytes (with_packet_if_room self.old size header)) }
-    /// ensures size { IfOk result (λ r. length r.now ≡ size) }
-    /// ensures call { IfOk result (λ r. (ws : List ℕ) → length ws ≡ size → Makes (Enqueue header ws)
-    ///     self.old (with_last_bytes (with_packet_if_room self.old size header) ws)) }
-    /// ```
-    ///
-    /// </details>
     pub fn enqueue(&mut self, size: usize, header: H) -> Result<&mut [u8], Full> {
         let Ok(()) = self.place(size, header) else {
             return Err(Full);
@@ -384,8 +250,8 @@ impl<H, M: Storage<PacketMetadata<H>>, B: Storage<u8>> PacketBuffer<'_, H, M, B>
         Ok(self.last_part_mut(size))
     }
 
-    /// Appends a packet of `size` bytes, as [`PacketBuffer::enqueue`] does, of which this is the
-    /// first step: [`PacketBuffer::last_mut`] lends the bytes. Each step has an exact contract.
+    /// Appends a packet of `size` bytes, as [`PacketsOver::enqueue`] does, of which this is the
+    /// first step: [`PacketsOver::last_mut`] lends the bytes.
     ///
     /// ```
     /// # use net_base::storage::{PacketBuffer, PacketMetadata};
@@ -399,33 +265,13 @@ impl<H, M: Storage<PacketMetadata<H>>, B: Storage<u8>> PacketBuffer<'_, H, M, B>
     ///
     /// # Errors
     ///
-    /// `Full` if [`PacketBuffer::enqueue`] returns it. Then the header is dropped, and nothing
+    /// `Full` if [`PacketsOver::enqueue`] returns it. Then the header is dropped, and nothing
     /// changes.
     ///
-    /// # [Guarantees](crate::contracts#guarantees)
+    /// # [Guarantees](crate#guarantees)
     ///
     /// - on `Ok`: `self.contents == old(self).contents ++ [(header, self.last_bytes)]`
     /// - on `Err`: `self == old(self)`
-    ///
-    /// <details><summary>Contract</summary>
-    ///
-    /// In the words of [`contracts`](crate::contracts):
-    ///
-    /// ```text
-    /// ensures accepted { OnOk result ((ws : List ℕ) → length ws ≡ size
-    ///     → contents (with_last_bytes self.new ws) ≡ contents self.old ++ (header, ws) ∷ []) }
-    /// ensures stands { OnOk result
-    ///     (contents self.new ≡ contents self.old ++ (header, last_bytes self.new) ∷ []) }
-    /// ensures unchanged { OnErr result (self.new ≡ self.old) }
-    /// ensures full { IsErr result ↔ (placement self.old size ≡ None) }
-    /// ensures placed { self.new ≡ with_packet_if_room self.old size header }
-    /// ensures size { OnOk result (first_size (only_last self.new.packets) ≡ size) }
-    /// ensures capacity { (self.new.slot_count ≡ self.old.slot_count)
-    ///     × (length self.new.storage ≡ length self.old.storage) }
-    /// ensures call { OnOk result (Makes (Place header (last_bytes self.new)) self.old self.new) }
-    /// ```
-    ///
-    /// </details>
     pub fn place(&mut self, size: usize, header: H) -> Result<(), Full> {
         let slot_count = self.slots.count();
         let capacity = self.bytes.count();
@@ -441,59 +287,23 @@ impl<H, M: Storage<PacketMetadata<H>>, B: Storage<u8>> PacketBuffer<'_, H, M, B>
     }
 
     /// Lends the bytes of the last packet, or none if the queue has no packets.
-    ///
-    /// <details><summary>Contract</summary>
-    ///
-    /// In the words of [`contracts`](crate::contracts):
-    ///
-    /// ```text
-    /// ensures* writes_back { sem 𝓛 (lends_bytes H.row M.row B.row M.Storage B.Storage
-    ///     self.entry result (with_last_bytes self.old)) }
-    /// ensures written { (ws : List ℕ) → length ws ≡ length result.now
-    ///     → contents (with_last_bytes self.old ws) ≡ with_bytes_in_last_entry ws (contents self.old) }
-    /// ensures value { result.now ≡ last_bytes self.old }
-    /// ensures size { length result.now ≡ first_size (only_last self.old.packets) }
-    /// ensures capacity { (ws : List ℕ) → length (with_last_bytes self.old ws).storage
-    ///     ≡ length self.old.storage }
-    /// ensures call { (ws : List ℕ) → self.old.packets ≢ [] → length ws ≡ length result.now
-    ///     → Makes (WriteLast ws) self.old (with_last_bytes self.old ws) }
-    /// ```
-    ///
-    /// </details>
     pub fn last_mut(&mut self) -> &mut [u8] {
         let size = self.last_size();
         self.last_part_mut(size)
     }
 
-    /// Appends a packet whose bytes are `data`, as [`PacketBuffer::enqueue`] does. smoltcp has no
+    /// Appends a packet whose bytes are `data`, as [`PacketsOver::enqueue`] does. smoltcp has no
     /// such call.
     ///
     /// # Errors
     ///
-    /// `Full` if [`PacketBuffer::enqueue`] returns it. Then the header is dropped, and nothing
+    /// `Full` if [`PacketsOver::enqueue`] returns it. Then the header is dropped, and nothing
     /// changes.
     ///
-    /// # [Guarantees](crate::contracts#guarantees)
+    /// # [Guarantees](crate#guarantees)
     ///
     /// - on `Ok`: `self.contents == old(self).contents ++ [(header, data)]`
     /// - on `Err`: `self == old(self)`
-    ///
-    /// <details><summary>Contract</summary>
-    ///
-    /// In the words of [`contracts`](crate::contracts):
-    ///
-    /// ```text
-    /// ensures pushed { OnOk result
-    ///     (contents self.new ≡ contents self.old ++ (header, «data».now) ∷ []) }
-    /// ensures full { IsErr result ↔ (placement self.old (length «data».now) ≡ None) }
-    /// ensures unchanged { OnErr result (self.new ≡ self.old) }
-    /// ensures made { OnOk result (self.new ≡ with_packet_of self.old header «data».now) }
-    /// ensures capacity { (self.new.slot_count ≡ self.old.slot_count)
-    ///     × (length self.new.storage ≡ length self.old.storage) }
-    /// ensures call { OnOk result (Makes (Enqueue header «data».now) self.old self.new) }
-    /// ```
-    ///
-    /// </details>
     pub fn push_slice(&mut self, header: H, data: &[u8]) -> Result<(), Full> {
         self.place(data.len(), header)?;
         self.last_part_mut(data.len()).copy_from_slice(data);
@@ -520,29 +330,12 @@ impl<H, M: Storage<PacketMetadata<H>>, B: Storage<u8>> PacketBuffer<'_, H, M, B>
     ///
     /// # Errors
     ///
-    /// `Full` if [`PacketBuffer::enqueue`] returns it for `max_size` bytes. Then the header is
+    /// `Full` if [`PacketsOver::enqueue`] returns it for `max_size` bytes. Then the header is
     /// dropped, `f` isn't called, and nothing changes.
     ///
-    /// # Panics
+    /// # Panics, unless
     ///
-    /// Unless `f` returns at most `max_size`.
-    ///
-    /// <details><summary>Contract</summary>
-    ///
-    /// In the words of [`contracts`](crate::contracts):
-    ///
-    /// ```text
-    /// requires callable { TakesRoom F.FnOnce f self.old max_size header }
-    /// requires count { CountsAtMost F.FnOnce f self.old max_size header }
-    /// ensures full { IsErr result ↔ (placement self.old max_size ≡ None) }
-    /// ensures unchanged { OnErr result (self.new ≡ self.old) }
-    /// ensures wrote { IfOk result
-    ///     (λ k. WritesPacket F.FnOnce f self.old max_size header k self.new) }
-    /// ensures capacity { (self.new.slot_count ≡ self.old.slot_count)
-    ///     × (length self.new.storage ≡ length self.old.storage) }
-    /// ```
-    ///
-    /// </details>
+    /// `f` takes the `max_size` bytes that it is lent, and returns at most `max_size`.
     #[track_caller]
     pub fn enqueue_with_infallible<'b, F: FnOnce(&'b mut [u8]) -> usize>(
         &'b mut self,
@@ -557,7 +350,7 @@ impl<H, M: Storage<PacketMetadata<H>>, B: Storage<u8>> PacketBuffer<'_, H, M, B>
             return Err(Full);
         };
         let count = f(self.bytes.part_mut(place.from, place.from + max_size));
-        assert!(count <= max_size, "more bytes than were lent");
+        prove!(count <= max_size, "more bytes than were lent");
         head.shorten_last(max_size - count);
         // The head is written last, as in `place`.
         write_slots(&mut self.slots, place, count, header);
@@ -567,10 +360,10 @@ impl<H, M: Storage<PacketMetadata<H>>, B: Storage<u8>> PacketBuffer<'_, H, M, B>
 }
 
 /// The first packet, shown and taken off.
-impl<H, M: Storage<PacketMetadata<H>>, B: Storage<u8>> PacketBuffer<'_, H, M, B> {
-    /// Calls `f` on the header and the bytes of the first packet, and drops its gap. If `f` returns
-    /// `Ok`, the packet is taken off; if it returns `Err`, the packet stays first, with what `f`
-    /// wrote to its header and bytes.
+impl<H: Sized, M: Storage<PacketMetadata<H>>, B: Storage<u8>> PacketsOver<H, M, B> {
+    /// Calls `f` on the header and the bytes of the first packet, which `f` has to take, and drops its
+    /// gap. If `f` returns `Ok`, the packet is taken off; if it returns `Err`, the packet stays first,
+    /// with what `f` wrote to its header and bytes.
     ///
     /// ```
     /// # use net_base::storage::{Full, PacketBuffer, PacketMetadata};
@@ -587,22 +380,6 @@ impl<H, M: Storage<PacketMetadata<H>>, B: Storage<u8>> PacketBuffer<'_, H, M, B>
     /// # Errors
     ///
     /// `Empty` if the queue has no packets. Then `f` isn't called, and nothing changes.
-    ///
-    /// <details><summary>Contract</summary>
-    ///
-    /// In the words of [`contracts`](crate::contracts):
-    ///
-    /// ```text
-    /// requires { TakesFirstPacket F.FnOnce f self.old }
-    /// ensures empty { IsErr result ↔ (contents self.old ≡ []) }
-    /// ensures no_packet { IsErr result ↔ (length self.old.packets ≡ 0) }
-    /// ensures unchanged { OnErr result (self.new ≡ self.old) }
-    /// ensures handed { IfOk result (λ answer. HandsPacket F.FnOnce f self.old answer self.new) }
-    /// ensures capacity { (self.new.slot_count ≡ self.old.slot_count)
-    ///     × (length self.new.storage ≡ length self.old.storage) }
-    /// ```
-    ///
-    /// </details>
     pub fn dequeue_with<'c, R, E, F: FnOnce(&mut H, &'c mut [u8]) -> Result<R, E>>(
         &'c mut self,
         f: F,
@@ -611,15 +388,14 @@ impl<H, M: Storage<PacketMetadata<H>>, B: Storage<u8>> PacketBuffer<'_, H, M, B>
         if self.head.slots.length == 0 {
             return Err(Empty);
         }
-        let at = self.head.slots.read_at;
         let slot_count = self.slots.count();
         let capacity = self.bytes.count();
-        let slot = self.slots.element_mut(at);
+        let from = self.head.bytes.read_at;
+        let slot = self.slots.element_mut(self.head.slots.read_at);
         let size = slot.size;
         let Some(header) = slot.header.as_mut() else {
             return Err(Empty);
         };
-        let from = self.head.bytes.read_at;
         let answer = f(header, self.bytes.part_mut(from, from + size));
         if answer.is_ok() {
             self.head.take(slot_count, capacity, size);
@@ -645,31 +421,9 @@ impl<H, M: Storage<PacketMetadata<H>>, B: Storage<u8>> PacketBuffer<'_, H, M, B>
     ///
     /// `Empty` if the queue has no packets. Then nothing changes.
     ///
-    /// # [Guarantees](crate::contracts#guarantees)
+    /// # [Guarantees](crate#guarantees)
     ///
     /// - on `Ok(r)`: `old(self).contents == [(r.0, r.1)] ++ old(self).contents[1..]`
-    ///
-    /// <details><summary>Contract</summary>
-    ///
-    /// In the words of [`contracts`](crate::contracts):
-    ///
-    /// ```text
-    /// ensures* writes_back { sem 𝓛 (lends_packet_if H.row M.row B.row M.Storage B.Storage
-    ///     self.entry result (with_bytes (without_first_and_gap self.old) (without_gap self.old).read_at)) }
-    /// ensures empty { IsErr result ↔ (contents self.old ≡ []) }
-    /// ensures shown { IfOk result
-    ///     (λ r. contents self.old ≡ (r.0, r.1.now) ∷ drop 1 (contents self.old)) }
-    /// ensures left { IfOk result (λ r. (ws : List ℕ) → length ws ≡ length r.1.now
-    ///     → contents (with_bytes (without_first_and_gap self.old) (without_gap self.old).read_at ws)
-    ///     ≡ drop 1 (contents self.old)) }
-    /// ensures no_packet { IsErr result ↔ (length self.old.packets ≡ 0) }
-    /// ensures first { IfOk result (λ r. IsFirst self.old r.0 r.1.now) }
-    /// ensures call { IfOk result (λ r. (ws : List ℕ) → length ws ≡ length r.1.now
-    ///     → Makes (Dequeue r.0 r.1.now ws) self.old
-    ///     (with_bytes (without_first_and_gap self.old) (without_gap self.old).read_at ws)) }
-    /// ```
-    ///
-    /// </details>
     pub fn dequeue(&mut self) -> Result<(H, &mut [u8]), Empty> {
         let Ok((header, size)) = self.take() else {
             return Err(Empty);
@@ -678,8 +432,8 @@ impl<H, M: Storage<PacketMetadata<H>>, B: Storage<u8>> PacketBuffer<'_, H, M, B>
     }
 
     /// Takes the first packet and its gap off, and returns its header and how many bytes it has, as
-    /// [`PacketBuffer::dequeue`] does, of which this is the first step:
-    /// [`PacketBuffer::last_dequeued_mut`] lends the bytes. Each step has an exact contract.
+    /// [`PacketsOver::dequeue`] does, of which this is the first step:
+    /// [`PacketsOver::last_dequeued_mut`] lends the bytes.
     ///
     /// ```
     /// # use net_base::storage::{PacketBuffer, PacketMetadata};
@@ -695,33 +449,10 @@ impl<H, M: Storage<PacketMetadata<H>>, B: Storage<u8>> PacketBuffer<'_, H, M, B>
     ///
     /// `Empty` if the queue has no packets. Then nothing changes.
     ///
-    /// # [Guarantees](crate::contracts#guarantees)
+    /// # [Guarantees](crate#guarantees)
     ///
     /// - on `Ok(r)`: `old(self).contents == [(r.0, last_dequeued_bytes(self, r.1))] ++ self.contents`
     /// - on `Ok`: `self.contents == old(self).contents[1..]`
-    ///
-    /// <details><summary>Contract</summary>
-    ///
-    /// In the words of [`contracts`](crate::contracts):
-    ///
-    /// ```text
-    /// ensures empty { IsErr result ↔ (contents self.old ≡ []) }
-    /// ensures taken { IfOk result
-    ///     (λ r. contents self.old ≡ (r.0, last_dequeued_bytes self.new r.1) ∷ contents self.new) }
-    /// ensures left { OnOk result (contents self.new ≡ drop 1 (contents self.old)) }
-    /// ensures no_packet { IsErr result ↔ (length self.old.packets ≡ 0) }
-    /// ensures unchanged { OnErr result (self.new ≡ self.old) }
-    /// ensures first { IfOk result (λ r. IsFirstSized self.old.packets r.0 r.1) }
-    /// ensures dequeued { OnOk result (self.new ≡ without_first_and_gap self.old) }
-    /// ensures last_dequeued { IfOk result
-    ///     (λ r. AreLastDequeuedAt self.new r.1 (without_gap self.old).read_at) }
-    /// ensures capacity { (self.new.slot_count ≡ self.old.slot_count)
-    ///     × (length self.new.storage ≡ length self.old.storage) }
-    /// ensures call { IfOk result
-    ///     (λ r. Makes (Take r.0 (last_dequeued_bytes self.new r.1)) self.old self.new) }
-    /// ```
-    ///
-    /// </details>
     pub fn take(&mut self) -> Result<(H, usize), Empty> {
         self.skip();
         let Some((header, size)) = self.take_first() else {
@@ -732,40 +463,19 @@ impl<H, M: Storage<PacketMetadata<H>>, B: Storage<u8>> PacketBuffer<'_, H, M, B>
 
     /// Lends the `size` bytes before the read index: those of the packet that was taken off last.
     ///
-    /// # Panics
+    /// # Panics, unless
     ///
-    /// Unless the `size` bytes before the read index are contiguous and none is a packet's, as after a
-    /// call of [`PacketBuffer::take`] that returned `size`.
-    ///
-    /// <details><summary>Contract</summary>
-    ///
-    /// In the words of [`contracts`](crate::contracts):
-    ///
-    /// ```text
-    /// requires { AreLastDequeued self.old size }
-    /// ensures* writes_back { sem 𝓛 (lends_bytes H.row M.row B.row M.Storage B.Storage
-    ///     self.entry result (with_bytes self.old (last_dequeued_bytes_index self.old size))) }
-    /// ensures unseen { (ws : List ℕ) → length ws ≡ size
-    ///     → contents (with_bytes self.old (last_dequeued_bytes_index self.old size) ws)
-    ///     ≡ contents self.old }
-    /// ensures value { result.now ≡ last_dequeued_bytes self.old size }
-    /// ensures size { length result.now ≡ size }
-    /// ensures capacity { (ws : List ℕ) → length (with_bytes self.old
-    ///     (last_dequeued_bytes_index self.old size) ws).storage ≡ length self.old.storage }
-    /// ensures call { (ws : List ℕ) → length ws ≡ size → Makes (WriteLastDequeued ws) self.old
-    ///     (with_bytes self.old (last_dequeued_bytes_index self.old size) ws) }
-    /// ```
-    ///
-    /// </details>
+    /// The `size` bytes before the read index are contiguous and none is a packet's, as after a
+    /// call of [`PacketsOver::take`] that returned `size`.
     #[track_caller]
     pub fn last_dequeued_mut(&mut self, size: usize) -> &mut [u8] {
         let capacity = self.bytes.count();
-        assert!(
+        prove!(
             size <= capacity - self.head.bytes.length,
             "the bytes are not free"
         );
         let from = self.head.bytes.last_dequeued_index(capacity, size);
-        assert!(size <= capacity - from, "the bytes are not contiguous");
+        prove!(size <= capacity - from, "the bytes are not contiguous");
         self.bytes.part_mut(from, from + size)
     }
 
@@ -788,37 +498,11 @@ impl<H, M: Storage<PacketMetadata<H>>, B: Storage<u8>> PacketBuffer<'_, H, M, B>
     ///
     /// `Empty` if the queue has no packets. Then nothing changes.
     ///
-    /// # [Guarantees](crate::contracts#guarantees)
+    /// # [Guarantees](crate#guarantees)
     ///
     /// - on `Ok(r)`: `r.1 == min(head_bytes(old(self).contents).len(), into.len())`
     /// - on `Ok(r)`: `into == head_bytes(old(self).contents)[..r.1] ++ old(into)[r.1..]`
     /// - on `Ok`: `self.contents == old(self).contents[1..]`
-    ///
-    /// <details><summary>Contract</summary>
-    ///
-    /// In the words of [`contracts`](crate::contracts):
-    ///
-    /// ```text
-    /// ensures empty { IsErr result ↔ (contents self.old ≡ []) }
-    /// ensures popped { IfOk result
-    ///     (λ r. CopiesOut (contents self.old) r.0 into.old r.1 (contents self.new) into.new) }
-    /// ensures count { IfOk result
-    ///     (λ r. r.1 ≡ min (length (head_bytes (contents self.old))) (length into.old)) }
-    /// ensures bytes { IfOk result
-    ///     (λ r. into.new ≡ take r.1 (head_bytes (contents self.old)) ++ drop r.1 into.old) }
-    /// ensures whole { length (head_bytes (contents self.old)) ≡ length into.old
-    ///     → OnOk result (into.new ≡ head_bytes (contents self.old)) }
-    /// ensures left { OnOk result (contents self.new ≡ drop 1 (contents self.old)) }
-    /// ensures no_packet { IsErr result ↔ (length self.old.packets ≡ 0) }
-    /// ensures unchanged { OnErr result ((self.new ≡ self.old) × (into.new ≡ into.old)) }
-    /// ensures made { OnOk result (self.new ≡ without_first_and_gap self.old) }
-    /// ensures capacity { (self.new.slot_count ≡ self.old.slot_count)
-    ///     × (length self.new.storage ≡ length self.old.storage) }
-    /// ensures call { IfOk result
-    ///     (λ r. Makes (Take r.0 (head_bytes (contents self.old))) self.old self.new) }
-    /// ```
-    ///
-    /// </details>
     pub fn pop_slice(&mut self, into: &mut [u8]) -> Result<(H, usize), Empty> {
         let (header, size) = self.take()?;
         let count = copy(into, self.last_dequeued_mut(size));
@@ -842,29 +526,9 @@ impl<H, M: Storage<PacketMetadata<H>>, B: Storage<u8>> PacketBuffer<'_, H, M, B>
     ///
     /// `Empty` if the queue has no packets. Then nothing changes.
     ///
-    /// # [Guarantees](crate::contracts#guarantees)
+    /// # [Guarantees](crate#guarantees)
     ///
     /// - on `Ok(r)`: `old(self).contents == [(r.0, r.1)] ++ old(self).contents[1..]`
-    ///
-    /// <details><summary>Contract</summary>
-    ///
-    /// In the words of [`contracts`](crate::contracts):
-    ///
-    /// ```text
-    /// ensures* skips { sem 𝓛 (ends_as H.row M.row B.row M.Storage B.Storage
-    ///     self.entry (without_gap self.old)) }
-    /// ensures empty { IsErr result ↔ (contents self.old ≡ []) }
-    /// ensures shown { IfOk result
-    ///     (λ r. contents self.old ≡ (r.0.now, r.1.now) ∷ drop 1 (contents self.old)) }
-    /// ensures same { contents (without_gap self.old) ≡ contents self.old }
-    /// ensures no_packet { IsErr result ↔ (length self.old.packets ≡ 0) }
-    /// ensures unchanged { OnErr result (without_gap self.old ≡ self.old) }
-    /// ensures first { IfOk result (λ r. IsFirstSized self.old.packets r.0.now (length r.1.now)) }
-    /// ensures bytes { IfOk result (λ r. r.1.now ≡ first_bytes (without_gap self.old)) }
-    /// ensures call { Makes Peek self.old (without_gap self.old) }
-    /// ```
-    ///
-    /// </details>
     pub fn peek(&mut self) -> Result<(&H, &[u8]), Empty> {
         self.skip();
         self.first()
@@ -872,7 +536,7 @@ impl<H, M: Storage<PacketMetadata<H>>, B: Storage<u8>> PacketBuffer<'_, H, M, B>
 }
 
 /// Steps that the calls share.
-impl<H, M: Storage<PacketMetadata<H>>, B: Storage<u8>> PacketBuffer<'_, H, M, B> {
+impl<H, M: Storage<PacketMetadata<H>>, B: Storage<u8>> PacketsOver<H, M, B> {
     /// Returns the gap before a packet of `size` bytes, if it can be placed.
     #[inline]
     fn placement(&self, size: usize) -> Option<usize> {
@@ -930,7 +594,7 @@ impl<H, M: Storage<PacketMetadata<H>>, B: Storage<u8>> PacketBuffer<'_, H, M, B>
     }
 }
 
-impl<H, M: Storage<PacketMetadata<H>>, B: Storage<u8>> PacketBuffer<'_, H, M, B> {
+impl<H: Sized, M: Storage<PacketMetadata<H>>, B: Storage<u8>> PacketsOver<H, M, B> {
     /// Lends the last `size` bytes, which are those of the last packet.
     fn last_part_mut(&mut self, size: usize) -> &mut [u8] {
         let before = self.head.bytes.length - size;
@@ -967,7 +631,7 @@ fn copy(into: &mut [u8], bytes: &[u8]) -> usize {
 
 /// Writes the slots of a packet of `size` bytes and of its gap, if that has one.
 #[inline]
-fn write_slots<H, M: Storage<PacketMetadata<H>>>(
+fn write_slots<H: Sized, M: Storage<PacketMetadata<H>>>(
     slots: &mut M,
     place: PacketPlace,
     size: usize,
@@ -987,7 +651,7 @@ fn write_slots<H, M: Storage<PacketMetadata<H>>>(
 
 /// Takes the header out of the slot at the index `at`, and returns the slot's size and the header;
 /// `None`, and nothing changes, if it has none.
-fn lift_header<H, M: Storage<PacketMetadata<H>>>(
+fn lift_header<H: Sized, M: Storage<PacketMetadata<H>>>(
     slots: &mut M,
     at: usize,
 ) -> Option<(usize, H)> {
@@ -995,17 +659,4 @@ fn lift_header<H, M: Storage<PacketMetadata<H>>>(
     let size = slot.size;
     let header = slot.header.take()?;
     Some((size, header))
-}
-
-/// Writes size and header of a packet to the slot at the index `at`.
-fn put_header<H, M: Storage<PacketMetadata<H>>>(
-    slots: &mut M,
-    at: usize,
-    size: usize,
-    header: H,
-) {
-    *slots.element_mut(at) = PacketMetadata {
-        size,
-        header: Some(header),
-    };
 }

@@ -1,5 +1,6 @@
 //! A receiver of a stream that ends.
 
+use crate::rattle::prelude::*;
 use crate::proved::net_receiver::finite_error::FiniteError;
 use crate::proved::net_receiver::finite_receiver_head::FiniteReceiverHead;
 use crate::proved::net_receiver::held_runs::HeldRuns;
@@ -9,18 +10,18 @@ use crate::proved::net_receiver::receiver::whole;
 use crate::proved::net_receiver::receiver_head::ReceiverHead;
 use crate::proved::net_assembler::{AssemblerHead, Run};
 use crate::proved::net_ring::{ManagedSlice, Storage};
+use crate::rattle::std::marker::Model;
 
-/// A receiver of one stream of bytes that ends, over storage that is lent or owned.
+/// A [`FiniteReceiver`] over any storage.
 ///
 /// It is a `Receiver` that knows where the stream ends, once a segment has said so. The end is the
 /// position after the last byte. It has a number, as a byte has (that of TCP's FIN), and needs no room.
 /// Segments may arrive in any order, the last one too. The held runs that a selective acknowledgement
 /// lists are of bytes alone: an end that came out of order is sent again.
 ///
-/// Contracts see what the receiver of the bytes stores, and the end, `no_end` while it isn't known.
+/// Contracts: `crates/net_receiver/src/finite_receiver.rt`.
 #[derive(Clone)]
-pub struct FiniteReceiver<'a, const N: usize = { crate::rattle::ASSEMBLER_MAX_SEGMENT_COUNT }, S: Storage<u8> = ManagedSlice<'a, u8>> {
-    lent: core::marker::PhantomData<&'a ()>,
+pub struct FiniteReceiverOver<S: Storage<u8>, const N: usize> {
     // Invariant: the head is sound with the storage and the runs, as `FiniteReceiverHead::is_sound`
     // tests. If there is no run, the head of the runs is 0 in both numbers.
     head: FiniteReceiverHead,
@@ -28,58 +29,49 @@ pub struct FiniteReceiver<'a, const N: usize = { crate::rattle::ASSEMBLER_MAX_SE
     runs: [Run; N],
 }
 
-/// A [`FiniteReceiver`] over any storage.
-pub type FiniteReceiverOver<S, const N: usize> = FiniteReceiver<'static, N, S>;
+/// A receiver of one stream of bytes that ends, over storage that is lent or owned. Its calls are those
+/// of [`FiniteReceiverOver`].
+pub type FiniteReceiver<'a, const N: usize = ASSEMBLER_MAX_SEGMENT_COUNT> = FiniteReceiverOver<ManagedSlice<'a, u8>, N>;
 
-impl<S: Storage<u8>, const N: usize> FiniteReceiver<'_, N, S> {
+/// Contracts see what the receiver of the bytes stores, and the end, `no_end` while it isn't known.
+impl<S: Storage<u8>, const N: usize> Model for FiniteReceiverOver<S, N> {
+}
+
+/// Written by hand, so that storage that isn't `Drop` can be used too.
+impl<S: Storage<u8> + Sized, const N: usize> crate::rattle::Drop for FiniteReceiverOver<S, N> {
+    fn drop(self) {
+        let FiniteReceiverOver {
+            head: _,
+            storage,
+            runs: _,
+        } = self;
+        drop(storage);
+    }
+}
+
+impl<S: Storage<u8>, const N: usize> FiniteReceiverOver<S, N> {
     /// Returns a receiver of a stream that begins at position 0: `over_at` with 0.
     ///
-    /// # Requires, else it doesn't compile
-    ///
-    /// `N` is at least 1.
-    ///
-    /// <details><summary>Contract</summary>
-    ///
-    /// In the words of [`contracts`](crate::contracts):
-    ///
-    /// ```text
-    /// requires { 1 ≤ N }
-    /// ensures state { result ≡ fresh_finite 0 (length (S.elements storage)) }
-    /// ensures receives { (x : List ℕ) → ReceivesFinite 0 x result }
-    /// ```
-    ///
-    /// </details>
+    /// A program in which `N` is 0 does not compile.
     #[must_use]
     pub const fn over(storage: S) -> Self {
-        const { assert!(N >= 1, "N is at least 1") };
+        prove!(N >= 1, "N is at least 1");
         Self::over_at(storage, 0)
     }
 
     /// Returns a receiver of a stream that begins at position `first`; nothing has arrived.
     ///
-    /// # Panics
+    /// A program in which `N` is 0 does not compile.
     ///
-    /// Unless `N` is at least 1, and `first` is not the greatest number of 64 bits.
+    /// # Panics, unless
     ///
-    /// <details><summary>Contract</summary>
-    ///
-    /// In the words of [`contracts`](crate::contracts):
-    ///
-    /// ```text
-    /// requires runs { 1 ≤ N }
-    /// requires number { first < no_end }
-    /// ensures state { result ≡ fresh_finite first (length (S.elements storage)) }
-    /// ensures receives { (x : List ℕ) → ReceivesFinite first x result }
-    /// ```
-    ///
-    /// </details>
+    /// `first` is not the greatest number of 64 bits.
     #[must_use]
     #[track_caller]
     pub const fn over_at(storage: S, first: u64) -> Self {
-        const { assert!(N >= 1, "N is at least 1") };
-        assert!(first < u64::MAX, "no number is left for an end");
-        FiniteReceiver {
-            lent: core::marker::PhantomData,
+        prove!(N >= 1, "N is at least 1");
+        prove!(first < u64::MAX, "no number is left for an end");
+        FiniteReceiverOver {
             head: FiniteReceiverHead::new(first),
             storage,
             runs: [Run { start: 0, end: 0 }; N],
@@ -88,24 +80,12 @@ impl<S: Storage<u8>, const N: usize> FiniteReceiver<'_, N, S> {
 
     /// Returns the receiver that a head, a storage and runs represent.
     ///
-    /// # Panics
+    /// # Panics, unless
     ///
-    /// Unless they are sound, as `FiniteReceiverHead::is_sound` tests.
-    ///
-    /// <details><summary>Contract</summary>
-    ///
-    /// In the words of [`contracts`](crate::contracts):
-    ///
-    /// ```text
-    /// requires { HasSoundFinite head (S.elements storage) runs }
-    /// ensures { result ≡ finite_of head (S.elements storage) runs.entry }
-    /// ```
-    ///
-    /// </details>
+    /// They are sound, as `FiniteReceiverHead::is_sound` tests.
     pub(crate) fn from_parts(head: FiniteReceiverHead, storage: S, runs: [Run; N]) -> Self {
         if head.receiver.held.used == 0 {
-            return FiniteReceiver {
-                lent: core::marker::PhantomData,
+            return FiniteReceiverOver {
                 head: FiniteReceiverHead {
                     receiver: ReceiverHead {
                         held: AssemblerHead::new(),
@@ -117,8 +97,7 @@ impl<S: Storage<u8>, const N: usize> FiniteReceiver<'_, N, S> {
                 runs,
             };
         }
-        FiniteReceiver {
-            lent: core::marker::PhantomData,
+        FiniteReceiverOver {
             head,
             storage,
             runs,
@@ -126,22 +105,8 @@ impl<S: Storage<u8>, const N: usize> FiniteReceiver<'_, N, S> {
     }
 
     /// Returns the head, the storage and the runs, which represent the receiver.
-    ///
-    /// <details><summary>Contract</summary>
-    ///
-    /// In the words of [`contracts`](crate::contracts):
-    ///
-    /// ```text
-    /// ensures sound { HasSoundFinite result.0 (S.elements result.1) result.2 }
-    /// ensures state { finite_of result.0 (S.elements result.1) result.2 ≡ self }
-    /// ensures runs { length result.2 ≡ N }
-    /// ensures canonical { IsCanonical result.0.receiver.held }
-    /// ```
-    ///
-    /// </details>
     pub(crate) fn into_parts(self) -> (FiniteReceiverHead, S, [Run; N]) {
-        let FiniteReceiver {
-            lent: core::marker::PhantomData,
+        let FiniteReceiverOver {
             head,
             storage,
             runs,
@@ -150,16 +115,6 @@ impl<S: Storage<u8>, const N: usize> FiniteReceiver<'_, N, S> {
     }
 
     /// Returns the storage, of which the bytes can be any.
-    ///
-    /// <details><summary>Contract</summary>
-    ///
-    /// In the words of [`contracts`](crate::contracts):
-    ///
-    /// ```text
-    /// ensures { length (S.elements result) ≡ self.receiver.capacity }
-    /// ```
-    ///
-    /// </details>
     #[must_use]
     pub fn into_storage(self) -> S {
         let (_head, storage, _runs) = self.into_parts();
@@ -169,64 +124,26 @@ impl<S: Storage<u8>, const N: usize> FiniteReceiver<'_, N, S> {
     /// Begins again over the same storage: a receiver of a stream that begins at position `first`;
     /// nothing has arrived.
     ///
-    /// # Panics
+    /// # Panics, unless
     ///
-    /// Unless `first` is not the greatest number of 64 bits.
-    ///
-    /// <details><summary>Contract</summary>
-    ///
-    /// In the words of [`contracts`](crate::contracts):
-    ///
-    /// ```text
-    /// requires { first < no_end }
-    /// ensures state { self.new ≡ fresh_finite first self.old.receiver.capacity }
-    /// ensures receives { (x : List ℕ) → ReceivesFinite first x self.new }
-    /// ```
-    ///
-    /// </details>
+    /// `first` is not the greatest number of 64 bits.
     #[track_caller]
     pub fn reset_at(&mut self, first: u64) {
-        assert!(first < u64::MAX, "no number is left for an end");
+        prove!(first < u64::MAX, "no number is left for an end");
         self.head.reset_at(first);
-    }
-
-    /// Returns whether a segment fits, as `keep` requires: `pos + len` is below `u64::MAX`, so that an end
-    /// after its bytes has a number.
-    ///
-    /// <details><summary>Contract</summary>
-    ///
-    /// In the words of [`contracts`](crate::contracts):
-    ///
-    /// ```text
-    /// ensures { IsTrue result ↔ (pos + len < no_end) }
-    /// ```
-    ///
-    /// </details>
-    #[must_use]
-    pub fn fits(pos: u64, len: usize) -> bool {
-        FiniteReceiverHead::fits(pos, len)
     }
 
     /// Returns whether the stream can end at a position: it is the end that is known, or none is,
     /// and no byte is queued or held at it or above. No stream ends at `u64::MAX`, after which there is
     /// no number for an end.
-    ///
-    /// <details><summary>Contract</summary>
-    ///
-    /// In the words of [`contracts`](crate::contracts):
-    ///
-    /// ```text
-    /// ensures { result ≡ (nat_lt pos no_end && can_end self.now pos) }
-    /// ```
-    ///
-    /// </details>
     #[must_use]
     pub fn can_end(&self, pos: u64) -> bool {
         self.head.can_end(whole(&self.storage), &self.runs, pos)
     }
 
     /// Keeps the bytes of a segment that are in the free window and below the end, as
-    /// `Receiver::keep` does. `is_last` says that the stream ends after the segment.
+    /// `ReceiverOver::keep` does. `is_last` says that the stream ends after the segment. Any segment may
+    /// arrive: bytes after which an end has no number, which no stream has, are left out.
     ///
     /// The end is taken if it is at most the end of the free window: an end beyond that is cut off,
     /// as the bytes before it are, and is sent again. An end alone at the first missing position is
@@ -237,32 +154,10 @@ impl<S: Storage<u8>, const N: usize> FiniteReceiver<'_, N, S> {
     /// `OtherEnd` if the segment says that the stream ends where it can't (`can_end`), else
     /// `TooManyHoles` if its bytes are refused. Then nothing changes.
     ///
-    /// # Panics
-    ///
-    /// Unless the segment fits, as `fits` tests.
-    ///
-    /// # [Guarantees](crate::contracts#guarantees)
+    /// # [Guarantees](crate#guarantees)
     ///
     /// - `old(self).acknowledged() <= self.acknowledged()`
-    ///
-    /// <details><summary>Contract</summary>
-    ///
-    /// In the words of [`contracts`](crate::contracts):
-    ///
-    /// ```text
-    /// requires { pos + length bytes.now < no_end }
-    /// ensures state { self.new ≡ finite_after N self.old pos bytes.now is_last }
-    /// ensures value { result ≡ finite_result N self.old pos bytes.now is_last }
-    /// ensures receives { (f : ℕ) (x : List ℕ) → ReceivesFinite f x self.old →
-    ///     MatchesFinite f x pos bytes.now is_last → ReceivesFinite f x self.new }
-    /// ensures read { self.new.receiver.read ≡ self.old.receiver.read }
-    /// ensures grows { acknowledged self.old ≤ acknowledged self.new }
-    /// ```
-    ///
-    /// </details>
-    #[track_caller]
     pub fn keep(&mut self, pos: u64, bytes: &[u8], is_last: bool) -> Result<KeptBytes, FiniteError> {
-        assert!(Self::fits(pos, bytes.len()), "the segment ends too high");
         let count = self.storage.count();
         let storage = self.storage.part_mut(0, count);
         self.head.keep(storage, &mut self.runs, pos, bytes, is_last)
@@ -271,27 +166,10 @@ impl<S: Storage<u8>, const N: usize> FiniteReceiver<'_, N, S> {
     /// Moves bytes from the head of the queue to the beginning of `into`, and returns how many: as
     /// many as are queued and as `into` has room for. The rest of `into` stays as it is.
     ///
-    /// # [Guarantees](crate::contracts#guarantees)
+    /// # [Guarantees](crate#guarantees)
     ///
     /// - `result == min(into.len(), old(self).len())`
     /// - `into == old(self).queue[..into.len()] ++ old(into)[old(self).len()..]`
-    ///
-    /// <details><summary>Contract</summary>
-    ///
-    /// In the words of [`contracts`](crate::contracts):
-    ///
-    /// ```text
-    /// ensures state { self.new ≡ finite_after_read self.old (length into.old) }
-    /// ensures count { result ≡ min (length into.old) (length self.old.receiver.queue) }
-    /// ensures into { into.new ≡ take (length into.old) self.old.receiver.queue
-    ///     ++ drop (length self.old.receiver.queue) into.old }
-    /// ensures receives { (f : ℕ) (x : List ℕ) → ReceivesFinite f x self.old →
-    ///     ReceivesFinite f x self.new }
-    /// ensures bytes { (f : ℕ) (x : List ℕ) → ReceivesFinite f x self.old → take result into.new
-    ///     ≡ slice_range x self.old.receiver.read (self.old.receiver.read + result) }
-    /// ```
-    ///
-    /// </details>
     pub fn read(&mut self, into: &mut [u8]) -> usize {
         self.head.read(whole(&self.storage), into)
     }
@@ -299,24 +177,9 @@ impl<S: Storage<u8>, const N: usize> FiniteReceiver<'_, N, S> {
     /// Shows the queue, in order, in two parts: the bytes up to the storage's end, and those from its
     /// beginning on. The second part is empty unless the queue wraps.
     ///
-    /// # [Guarantees](crate::contracts#guarantees)
+    /// # [Guarantees](crate#guarantees)
     ///
     /// - `result.0 ++ result.1 == self.queue`
-    ///
-    /// <details><summary>Contract</summary>
-    ///
-    /// In the words of [`contracts`](crate::contracts):
-    ///
-    /// ```text
-    /// ensures queue { result.0.now ++ result.1.now ≡ self.now.receiver.queue }
-    /// ensures value { (result.0.now ≡ first_part self.now.receiver)
-    ///     × (result.1.now ≡ second_part self.now.receiver) }
-    /// ensures bytes { (f : ℕ) (x : List ℕ) → ReceivesFinite f x self.now →
-    ///     result.0.now ++ result.1.now ≡ slice_range x self.now.receiver.read
-    ///     (self.now.receiver.read + length self.now.receiver.queue) }
-    /// ```
-    ///
-    /// </details>
     #[must_use]
     pub fn as_slices(&self) -> (&[u8], &[u8]) {
         self.head.receiver.as_slices(whole(&self.storage))
@@ -324,8 +187,6 @@ impl<S: Storage<u8>, const N: usize> FiniteReceiver<'_, N, S> {
 
     /// Calls `f` on the first part of the queue, as `as_slices` shows it, takes as many bytes off the
     /// queue as `f` counts, and returns what `f` returned. The part is empty only if the queue is.
-    ///
-    /// `f` must take that part, and count no more bytes than it is lent.
     ///
     /// ```
     /// # use net_base::finite::FiniteReceiver;
@@ -336,64 +197,27 @@ impl<S: Storage<u8>, const N: usize> FiniteReceiver<'_, N, S> {
     /// assert_eq!((receiver.len(), receiver.has_read_all()), (1, false));
     /// ```
     ///
-    /// # Panics
+    /// # Panics, unless
     ///
-    /// Unless `f` counts at most its length.
-    ///
-    /// <details><summary>Contract</summary>
-    ///
-    /// In the words of [`contracts`](crate::contracts):
-    ///
-    /// ```text
-    /// requires callable { FnOnceTakesAt F.FnOnce f (first_part self.old.receiver) }
-    /// requires count { (r : ℕ × R) → FnOnceReturnsAt F.FnOnce f (first_part self.old.receiver) r →
-    ///     r.0 ≤ length (first_part self.old.receiver) }
-    /// ensures called { FnOnceReturnsAt F.FnOnce f (first_part self.old.receiver) result }
-    /// ensures count { result.0 ≤ contiguous_count self.old.receiver }
-    /// ensures not_empty { 0 < length self.old.receiver.queue → 0 < contiguous_count self.old.receiver }
-    /// ensures state { self.new ≡ finite_after_read self.old result.0 }
-    /// ensures receives { (f : ℕ) (x : List ℕ) → ReceivesFinite f x self.old →
-    ///     ReceivesFinite f x self.new }
-    /// ensures bytes { (f : ℕ) (x : List ℕ) → ReceivesFinite f x self.old →
-    ///     take result.0 self.old.receiver.queue
-    ///     ≡ slice_range x self.old.receiver.read (self.old.receiver.read + result.0) }
-    /// ```
-    ///
-    /// </details>
+    /// `f` takes that part, and counts no more bytes than it is lent.
     #[track_caller]
     pub fn read_with<R, F: FnOnce(&[u8]) -> (usize, R)>(&mut self, f: F) -> (usize, R) {
         let part = self.first_slice();
         let lent = part.len();
         let answer = f(part);
-        assert!(answer.0 <= lent, "more bytes than were lent");
+        prove!(answer.0 <= lent, "more bytes than were lent");
         self.head.remove(self.storage.count(), answer.0);
         answer
     }
 
-    /// Takes the first `count` bytes off the queue and copies none, as `Receiver::remove` does.
+    /// Takes the first `count` bytes off the queue and copies none, as `ReceiverOver::remove` does.
     ///
-    /// # Panics
+    /// # Panics, unless
     ///
-    /// Unless at least `count` bytes are queued.
-    ///
-    /// <details><summary>Contract</summary>
-    ///
-    /// In the words of [`contracts`](crate::contracts):
-    ///
-    /// ```text
-    /// requires { count ≤ length self.old.receiver.queue }
-    /// ensures state { self.new ≡ finite_after_read self.old count }
-    /// ensures receives { (f : ℕ) (x : List ℕ) → ReceivesFinite f x self.old →
-    ///     ReceivesFinite f x self.new }
-    /// ensures bytes { (f : ℕ) (x : List ℕ) → ReceivesFinite f x self.old →
-    ///     take count self.old.receiver.queue
-    ///     ≡ slice_range x self.old.receiver.read (self.old.receiver.read + count) }
-    /// ```
-    ///
-    /// </details>
+    /// At least `count` bytes are queued.
     #[track_caller]
     pub fn remove(&mut self, count: usize) {
-        assert!(count <= self.len(), "more bytes than are queued");
+        prove!(count <= self.len(), "more bytes than are queued");
         self.head.remove(self.storage.count(), count);
     }
 
@@ -404,35 +228,12 @@ impl<S: Storage<u8>, const N: usize> FiniteReceiver<'_, N, S> {
     }
 
     /// Returns the position after the last byte, once it is known.
-    ///
-    /// <details><summary>Contract</summary>
-    ///
-    /// In the words of [`contracts`](crate::contracts):
-    ///
-    /// ```text
-    /// ensures some { self.now.end < no_end → result ≡ Some self.now.end }
-    /// ensures none { no_end ≤ self.now.end → result ≡ None }
-    /// ```
-    ///
-    /// </details>
     #[must_use]
     pub fn end(&self) -> Option<u64> {
         self.head.end()
     }
 
     /// Returns whether all bytes and the end have arrived. Once it is so it stays so.
-    ///
-    /// <details><summary>Contract</summary>
-    ///
-    /// In the words of [`contracts`](crate::contracts):
-    ///
-    /// ```text
-    /// ensures value { result ≡ is_complete self.now }
-    /// ensures whole { (f : ℕ) (x : List ℕ) → ReceivesFinite f x self.now → IsTrue result →
-    ///     self.now.receiver.read + length self.now.receiver.queue ≡ length x }
-    /// ```
-    ///
-    /// </details>
     #[must_use]
     pub fn is_complete(&self) -> bool {
         self.head.is_complete()
@@ -440,116 +241,43 @@ impl<S: Storage<u8>, const N: usize> FiniteReceiver<'_, N, S> {
 
     /// Returns the number that an acknowledgement carries: the first missing position, or, once all
     /// bytes and the end have arrived, the end plus 1, since the end has a number.
-    ///
-    /// <details><summary>Contract</summary>
-    ///
-    /// In the words of [`contracts`](crate::contracts):
-    ///
-    /// ```text
-    /// ensures { result ≡ acknowledged self.now }
-    /// ```
-    ///
-    /// </details>
     #[must_use]
     pub fn acknowledged(&self) -> u64 {
         self.head.acknowledged()
     }
 
     /// Returns whether all bytes were read, up to the end. Once it is so it stays so.
-    ///
-    /// <details><summary>Contract</summary>
-    ///
-    /// In the words of [`contracts`](crate::contracts):
-    ///
-    /// ```text
-    /// ensures value { result ≡ has_read_all self.now }
-    /// ensures whole { (f : ℕ) (x : List ℕ) → ReceivesFinite f x self.now → IsTrue result →
-    ///     self.now.receiver.read ≡ length x }
-    /// ```
-    ///
-    /// </details>
     #[must_use]
     pub fn has_read_all(&self) -> bool {
         self.head.has_read_all()
     }
 
-    /// Returns the first missing position, as `Receiver::next` does. It doesn't count the end:
+    /// Returns the first missing position, as `ReceiverOver::next` does. It doesn't count the end:
     /// `acknowledged` does.
-    ///
-    /// <details><summary>Contract</summary>
-    ///
-    /// In the words of [`contracts`](crate::contracts):
-    ///
-    /// ```text
-    /// ensures { result ≡ next_position self.now.receiver }
-    /// ```
-    ///
-    /// </details>
     #[must_use]
     pub fn next(&self) -> u64 {
         self.head.receiver.next()
     }
 
     /// Returns how many bytes are queued.
-    ///
-    /// <details><summary>Contract</summary>
-    ///
-    /// In the words of [`contracts`](crate::contracts):
-    ///
-    /// ```text
-    /// ensures { result ≡ length self.now.receiver.queue }
-    /// ```
-    ///
-    /// </details>
     #[must_use]
     pub fn len(&self) -> usize {
         self.head.receiver.queued()
     }
 
     /// Returns whether no byte is queued; bytes may be held.
-    ///
-    /// <details><summary>Contract</summary>
-    ///
-    /// In the words of [`contracts`](crate::contracts):
-    ///
-    /// ```text
-    /// ensures { IsTrue result ↔ (self.now.receiver.queue ≡ []) }
-    /// ```
-    ///
-    /// </details>
     #[must_use]
     pub fn is_empty(&self) -> bool {
         self.len() == 0
     }
 
     /// Returns how many bytes have room, queued and held ones included: the storage's length.
-    ///
-    /// <details><summary>Contract</summary>
-    ///
-    /// In the words of [`contracts`](crate::contracts):
-    ///
-    /// ```text
-    /// ensures { result ≡ self.now.receiver.capacity }
-    /// ```
-    ///
-    /// </details>
     #[must_use]
     pub fn capacity(&self) -> usize {
         self.storage.count()
     }
 
     /// Returns the window: how many bytes have room after the queue, held ones among them.
-    ///
-    /// <details><summary>Contract</summary>
-    ///
-    /// In the words of [`contracts`](crate::contracts):
-    ///
-    /// ```text
-    /// ensures window { result ≡ self.now.receiver.capacity - length self.now.receiver.queue }
-    /// ensures room { length self.now.receiver.queue + result ≡ self.now.receiver.capacity }
-    /// ```
-    ///
-    /// </details>
     #[must_use]
     pub fn window(&self) -> usize {
         self.head.receiver.window(self.storage.count())
@@ -568,71 +296,24 @@ impl<S: Storage<u8>, const N: usize> FiniteReceiver<'_, N, S> {
     /// assert!(receiver.keep(3, b"", true).is_ok());
     /// assert_eq!((receiver.acknowledged(), receiver.window_end()), (4, Some(4)));
     /// ```
-    ///
-    /// <details><summary>Contract</summary>
-    ///
-    /// In the words of [`contracts`](crate::contracts):
-    ///
-    /// ```text
-    /// ensures some { limit_of self.now.receiver < 2 ^ 64 →
-    ///     result ≡ Some (max (limit_of self.now.receiver) (acknowledged self.now)) }
-    /// ensures none { 2 ^ 64 ≤ limit_of self.now.receiver → result ≡ None }
-    /// ensures after_next { next_position self.now.receiver ≤ limit_of self.now.receiver }
-    /// ```
-    ///
-    /// </details>
     #[must_use]
     pub fn window_end(&self) -> Option<u64> {
         self.head.window_end(self.storage.count())
     }
 
-    /// Returns the held runs as absolute (start, end), as `Receiver::held` does: of bytes alone.
-    ///
-    /// <details><summary>Contract</summary>
-    ///
-    /// In the words of [`contracts`](crate::contracts):
-    ///
-    /// ```text
-    /// ensures runs { result ≡ maximal_runs (domain self.now.receiver.held) }
-    /// ensures bound { length result ≤ N }
-    /// ```
-    ///
-    /// </details>
+    /// Returns the held runs as absolute (start, end), as `ReceiverOver::held` does: of bytes alone.
     #[must_use]
     pub fn held(&self) -> HeldRuns<'_, N> {
         self.head.receiver.held(whole(&self.storage), &self.runs)
     }
 
     /// Returns how many runs are held, without a look at them: as many as `held` yields, at most `N`.
-    ///
-    /// <details><summary>Contract</summary>
-    ///
-    /// In the words of [`contracts`](crate::contracts):
-    ///
-    /// ```text
-    /// ensures count { result ≡ run_count (domain self.now.receiver.held) }
-    /// ensures bound { result ≤ N }
-    /// ```
-    ///
-    /// </details>
     #[must_use]
     pub fn held_count(&self) -> usize {
         self.head.receiver.held_count()
     }
 
-    /// Returns at most `K` held runs, the newest first, as `Receiver::newest_runs` does.
-    ///
-    /// <details><summary>Contract</summary>
-    ///
-    /// In the words of [`contracts`](crate::contracts):
-    ///
-    /// ```text
-    /// ensures listed { result ≡ newest_runs K (domain self.now.receiver.held) (position ∷ recent.old) }
-    /// ensures count { length result ≤ K }
-    /// ensures recent { recent.new ≡ with_starts recent.old result }
-    /// ```
-    ///
-    /// </details>
+    /// Returns at most `K` held runs, the newest first, as `ReceiverOver::newest_runs` does.
     pub fn newest_runs<const K: usize>(
         &self,
         position: u64,
@@ -646,44 +327,18 @@ impl<S: Storage<u8>, const N: usize> FiniteReceiver<'_, N, S> {
     }
 
     /// Returns how many bytes of a segment of `len` bytes at `position` would be new: those in the
-    /// free window and below the end whose positions are not held.
-    ///
-    /// # Panics
-    ///
-    /// Unless the segment fits, as `fits` tests.
-    ///
-    /// <details><summary>Contract</summary>
-    ///
-    /// In the words of [`contracts`](crate::contracts):
-    ///
-    /// ```text
-    /// requires { position + len < no_end }
-    /// ensures { result ≡ new_count self.now.receiver position (min len (self.now.end - position)) }
-    /// ```
-    ///
-    /// </details>
+    /// free window and below the end whose positions are not held. Positions that leave no number for an end
+    /// after them, which no stream has, aren't counted.
     #[must_use]
-    #[track_caller]
     pub fn count_new(&self, position: u64, len: usize) -> usize {
-        assert!(Self::fits(position, len), "the segment ends too high");
         self.head
             .count_new(whole(&self.storage), &self.runs, position, len)
     }
 
     /// Returns whether two receivers of a stream that ends are equal in first position, count of
     /// bytes read, queued bytes, held runs and end.
-    ///
-    /// <details><summary>Contract</summary>
-    ///
-    /// In the words of [`contracts`](crate::contracts):
-    ///
-    /// ```text
-    /// ensures { IsTrue result ↔ IsSameFinite self.now other.now }
-    /// ```
-    ///
-    /// </details>
     #[must_use]
-    pub fn same_state<O: Storage<u8>>(&self, other: &FiniteReceiver<'_, N, O>) -> bool {
+    pub fn same_state<O: Storage<u8>>(&self, other: &FiniteReceiverOver<O, N>) -> bool {
         let storage = whole(&self.storage);
         let other_storage = whole(&other.storage);
         self.head.is_same_state(storage, &self.runs, &other.head, other_storage, &other.runs)

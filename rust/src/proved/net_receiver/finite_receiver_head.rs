@@ -1,5 +1,6 @@
 //! A receiver of a stream that ends, in parts.
 
+use crate::rattle::prelude::*;
 use crate::proved::net_receiver::finite_error::FiniteError;
 use crate::proved::net_receiver::kept::KeptBytes;
 use crate::proved::net_receiver::receiver_head::ReceiverHead;
@@ -15,15 +16,21 @@ pub(crate) const NO_END: u64 = u64::MAX;
 /// segment has said so, in whatever order the segments arrive; then no byte at or above it is kept.
 ///
 /// Head, storage and runs are *sound* if they are those of such a receiver, as `is_sound` tests:
-/// `HasSoundFinite` in contracts, where `finite_of` is what is stored. A head of zeros is that of a stream
-/// that ends at position 0, and not a new one. smoltcp has no such type.
+/// `HasSoundFinite` in contracts, where `finite_of` is what is stored. A head of zeros is new, of a stream
+/// that begins at position 0. smoltcp has no such type.
 #[repr(C)]
 #[derive(Debug, Clone, Copy)]
 pub struct FiniteReceiverHead {
     /// The receiver of the bytes.
     pub receiver: ReceiverHead,
-    /// The position after the last byte, or the greatest number of 64 bits while it isn't known.
-    pub end: u64,
+    /// The number after the end's, which is acknowledged once all has arrived, or 0 while the end isn't known.
+    pub after_end: u64,
+}
+
+/// Returns the number after that of an end, or 0 if that is none.
+#[inline(always)]
+fn number_after(end: u64) -> u64 {
+    if end == NO_END { 0 } else { end + 1 }
 }
 
 // A parameter `_runs` is there for the contract.
@@ -31,20 +38,20 @@ impl FiniteReceiverHead {
     /// Returns the head of a receiver of a stream that begins at position `first`; nothing has
     /// arrived. It is sound with every storage and all runs.
     ///
-    /// # Requires
+    /// # Panics, unless
     ///
     /// `first` is not the greatest number of 64 bits.
     pub const fn new(first: u64) -> Self {
         FiniteReceiverHead {
             receiver: ReceiverHead::new(first),
-            end: NO_END,
+            after_end: 0,
         }
     }
 
     /// Begins again: the head of a receiver of a stream that begins at position `first`, as `new`
     /// returns it.
     ///
-    /// # Requires
+    /// # Panics, unless
     ///
     /// `first` is not the greatest number of 64 bits.
     #[inline]
@@ -52,39 +59,45 @@ impl FiniteReceiverHead {
         *self = FiniteReceiverHead::new(first);
     }
 
-    /// Returns whether this head, a storage and runs are sound. It takes a look at each held run,
-    /// and at no byte.
+    /// Returns whether this head, a storage and runs are sound: they are those of a receiver, and
+    /// the position after its last byte, held ones too, is at most the end, if that is known, and
+    /// below 2^64 - 1. It looks at each held run, and at no byte.
     pub fn is_sound(&self, storage: &[u8], runs: &[Run]) -> bool {
         self.receiver.is_sound(storage, runs)
             && self
                 .receiver
-                .has_all_below(storage, runs, self.end.min(NO_END - 1))
+                .has_all_below(storage, runs, self.end_or_none().min(NO_END - 1))
     }
 
-    /// Returns whether a segment fits, as `keep` requires: `pos + len` is below `u64::MAX`, so that an end
-    /// after its bytes has a number.
-    pub fn fits(pos: u64, len: usize) -> bool {
-        pos < NO_END && (len as u64) < NO_END - pos
+    /// Returns the position after the last byte, or the greatest number of 64 bits while it isn't known.
+    #[inline(always)]
+    fn end_or_none(&self) -> u64 {
+        if self.after_end == 0 {
+            NO_END
+        } else {
+            self.after_end - 1
+        }
     }
 
     /// Returns whether the end is known.
     #[inline]
     pub fn knows_end(&self) -> bool {
-        self.end < NO_END
+        self.end_or_none() < NO_END
     }
 
     /// Returns the position after the last byte, once it is known.
     pub fn end(&self) -> Option<u64> {
         if self.knows_end() {
-            Some(self.end)
+            Some(self.end_or_none())
         } else {
             None
         }
     }
 
-    /// Returns whether the stream can end at a position, as `FiniteReceiver::can_end` does.
+    /// Returns whether the stream can end at `pos`: it is the end that is known, or none is, and it
+    /// isn't below the first missing position or a held run's end. 2^64 - 1 is no end.
     ///
-    /// # Requires
+    /// # Panics, unless
     ///
     /// Head, storage and runs are sound, as `is_sound` tests.
     pub fn can_end(&self, storage: &[u8], runs: &[Run], pos: u64) -> bool {
@@ -92,7 +105,7 @@ impl FiniteReceiverHead {
             return false;
         }
         if self.knows_end() {
-            return pos == self.end;
+            return pos == self.end_or_none();
         }
         self.receiver.has_all_below(storage, runs, pos)
     }
@@ -105,22 +118,24 @@ impl FiniteReceiverHead {
         if is_last && ahead <= self.receiver.window(storage.len()) as u64 {
             pos
         } else {
-            self.end
+            self.end_or_none()
         }
     }
 
-    /// Returns how many of `len` bytes at `pos` are below the end.
+    /// Returns how many of `len` bytes at `pos` are below the end, or while that isn't known below the
+    /// greatest number that an end can have.
     #[inline]
     fn count_below(&self, pos: u64, len: usize) -> usize {
-        (len as u64).min(self.end.saturating_sub(pos)) as usize
+        let end = self.end_or_none().min(NO_END - 1);
+        (len as u64).min(end.saturating_sub(pos)) as usize
     }
 
     /// Keeps the bytes of a segment that are in the free window and below the end, and takes the end, as
-    /// `FiniteReceiver::keep` does. If it is refused, head, storage and runs stay as they were.
+    /// `FiniteReceiverOver::keep` does. If it is refused, head, storage and runs stay as they were.
     ///
-    /// # Requires
+    /// # Panics, unless
     ///
-    /// Head, storage and runs are sound, as `is_sound` tests, and the segment fits, as `fits` tests.
+    /// Head, storage and runs are sound, as `is_sound` tests.
     #[inline]
     pub fn keep(
         &mut self,
@@ -130,15 +145,17 @@ impl FiniteReceiverHead {
         bytes: &[u8],
         is_last: bool,
     ) -> Result<KeptBytes, FiniteError> {
-        let last = pos + bytes.len() as u64;
+        // No stream ends at the greatest number.
+        let last = pos.saturating_add(bytes.len() as u64);
         if is_last && !self.can_end(storage, runs, last) {
             return Err(FiniteError::OtherEnd);
         }
         let end = self.end_after(storage, runs, last, is_last);
+        let after_end = number_after(end);
         let count = self.count_below(pos, bytes.len());
         match self.receiver.keep(storage, runs, pos, &bytes[..count]) {
             Ok(kept) => {
-                self.end = end;
+                self.after_end = after_end;
                 Ok(kept)
             }
             Err(_) => Err(FiniteError::TooManyHoles),
@@ -147,43 +164,43 @@ impl FiniteReceiverHead {
 
     /// Returns whether all bytes and the end have arrived. Once it is so it stays so.
     ///
-    /// # Requires
+    /// # Panics, unless
     ///
     /// The first missing position and the one after it fit 64 bits, as they do where head, storage
     /// and runs are sound.
     #[inline]
     pub fn is_complete(&self) -> bool {
-        self.receiver.next() == self.end
+        self.receiver.next() == self.end_or_none()
     }
 
     /// Returns the number that an acknowledgement carries: the first missing position, or, once all
     /// bytes and the end have arrived, the end plus 1, since the end has a number.
     ///
-    /// # Requires
+    /// # Panics, unless
     ///
     /// The first missing position and the one after it fit 64 bits, as they do where head, storage
     /// and runs are sound.
     #[inline]
     pub fn acknowledged(&self) -> u64 {
-        let next = self.receiver.next();
-        if next == self.end { next + 1 } else { next }
+        let (next, end) = (self.receiver.next(), self.end_or_none());
+        if next == end { next + 1 } else { next }
     }
 
     /// Returns whether all bytes were read, up to the end. Once it is so it stays so.
     ///
-    /// # Requires
+    /// # Panics, unless
     ///
     /// The first missing position fits 64 bits, as it does where head, storage and runs are sound.
     #[inline]
     pub fn has_read_all(&self) -> bool {
-        self.receiver.first + self.receiver.count_read == self.end
+        self.receiver.first + self.receiver.count_read == self.end_or_none()
     }
 
     /// Returns the end of the free window, where the storage has `capacity` bytes, for what is announced:
     /// never below `acknowledged`, which is one above the free window's end where the end is counted and
     /// the storage is full. `None` if the free window's end doesn't fit 64 bits.
     ///
-    /// # Requires
+    /// # Panics, unless
     ///
     /// The first missing position and the one after it fit 64 bits, as they do where head, storage
     /// and runs are sound.
@@ -196,7 +213,7 @@ impl FiniteReceiverHead {
     /// Moves bytes from the head of the queue to the beginning of `into`, and returns how many: as
     /// many as are queued and as `into` has room for. The rest of `into` stays as it is.
     ///
-    /// # Requires
+    /// # Panics, unless
     ///
     /// The queue is in the storage, and the first missing position fits 64 bits, as they do where
     /// head, storage and runs are sound.
@@ -208,7 +225,7 @@ impl FiniteReceiverHead {
     /// Removes the first `count` bytes of the queue, as `read` does, and copies none. `capacity` is
     /// how many bytes the storage has.
     ///
-    /// # Requires
+    /// # Panics, unless
     ///
     /// The queue is in the storage, it has `count` bytes, and the first missing position fits 64
     /// bits, as they do where head, storage and runs are sound.
@@ -217,9 +234,9 @@ impl FiniteReceiverHead {
         self.receiver.remove(capacity, count);
     }
 
-    /// Compares two receivers, as `FiniteReceiver::same_state` does.
+    /// Compares two receivers, as `FiniteReceiverOver::same_state` does.
     ///
-    /// # Requires
+    /// # Panics, unless
     ///
     /// Both heads are sound with their storages and runs, as `is_sound` tests.
     pub fn is_same_state(
@@ -230,20 +247,23 @@ impl FiniteReceiverHead {
         other_storage: &[u8],
         other_runs: &[Run],
     ) -> bool {
-        self.end == other.end
+        self.end_or_none() == other.end_or_none()
             && self
                 .receiver
                 .is_same_state(storage, runs, &other.receiver, other_storage, other_runs)
     }
 
-    /// Returns how many bytes of a segment of `len` bytes at `position` would be new, as
-    /// `FiniteReceiver::count_new` does.
+    /// Returns how many bytes of a segment of `len` bytes at `position` would be new: those in the
+    /// free window and below the end whose positions are not held. It is asked before the segment
+    /// is kept, since the bytes whose positions are held are kept again, and counted. The result is
+    /// 0 for a duplicate, which TCP may report, for a segment that is beyond the free window, and
+    /// for one without bytes. It looks at each held run.
     ///
-    /// # Requires
+    /// # Panics, unless
     ///
-    /// Head, storage and runs are sound, as `is_sound` tests, and the segment fits, as `fits` tests.
+    /// Head, storage and runs are sound, as `is_sound` tests.
     pub fn count_new(&self, storage: &[u8], runs: &[Run], position: u64, len: usize) -> usize {
         let count = self.count_below(position, len);
-        self.receiver.count_new(storage, runs, position, count)
+        self.receiver.count_part(storage, runs, position, count)
     }
 }

@@ -1,21 +1,24 @@
 //! A sender of a stream that ends.
 
+use crate::rattle::prelude::*;
 use crate::proved::net_receiver::finite_sender_head::FiniteSenderHead;
+use crate::proved::net_receiver::laws;
+use crate::proved::net_numbers::SentNumbers;
 use crate::proved::net_ring::{ManagedSlice, Storage};
+use crate::rattle::std::marker::Model;
 
-/// A sender of a stream that ends, over storage that is lent or owned.
+/// A [`FiniteSender`] over any storage.
 ///
 /// It is a `Sender` that can be closed. Once it is closed nothing can be written, and the end has the
 /// number after the last byte's (that of TCP's FIN): it is sent, reported and acknowledged as a byte
 /// is, and takes no room. A number is kept for it, so that it can always be closed. The sender keeps
 /// the mark of what was sent itself, which counts the end.
 ///
-/// Contracts see what they see of a `Sender`; 1 or 0 for whether it is closed, and for whether the end
-/// is acknowledged; and the number after the last one that was sent. No call takes memory. smoltcp has
-/// no such type.
+/// No call takes memory. smoltcp has no such type.
+///
+/// Contracts: `crates/net_receiver/src/finite_sender.rt`.
 #[derive(Clone)]
-pub struct FiniteSender<'a, S: Storage<u8> = ManagedSlice<'a, u8>> {
-    lent: core::marker::PhantomData<&'a ()>,
+pub struct FiniteSenderOver<S: Storage<u8>> {
     // Invariant: the end is acknowledged only once the sender is closed and its queue is empty. What
     // was sent ends between what is acknowledged and what was written, the end counted. The end's
     // number fits 64 bits.
@@ -23,22 +26,25 @@ pub struct FiniteSender<'a, S: Storage<u8> = ManagedSlice<'a, u8>> {
     storage: S,
 }
 
-/// A [`FiniteSender`] over any storage.
-pub type FiniteSenderOver<S> = FiniteSender<'static, S>;
+/// A sender of a stream that ends, over storage that is lent or owned. Its calls are those of
+/// [`FiniteSenderOver`].
+pub type FiniteSender<'a> = FiniteSenderOver<ManagedSlice<'a, u8>>;
 
-impl<S: Storage<u8>> FiniteSender<'_, S> {
+/// Contracts see what they see of a `Sender`; 1 or 0 for whether it is closed, and for whether the
+/// end is acknowledged; and the number after the last one that was sent.
+impl<S: Storage<u8>> Model for FiniteSenderOver<S> {
+}
+
+/// Written by hand, so that storage that isn't `Drop` can be used too.
+impl<S: Storage<u8> + Sized> crate::rattle::Drop for FiniteSenderOver<S> {
+    fn drop(self) {
+        let FiniteSenderOver { head: _, storage } = self;
+        drop(storage);
+    }
+}
+
+impl<S: Storage<u8>> FiniteSenderOver<S> {
     /// Returns a sender of a stream that begins at position 0: `over_at` with 0.
-    ///
-    /// <details><summary>Contract</summary>
-    ///
-    /// In the words of [`contracts`](crate::contracts):
-    ///
-    /// ```text
-    /// ensures state { result ≡ fresh_finite_sender (length (S.elements storage)) 0 }
-    /// ensures sends { Sends 0 [] result.sender }
-    /// ```
-    ///
-    /// </details>
     #[must_use]
     pub const fn over(storage: S) -> Self {
         Self::over_at(storage, 0)
@@ -46,27 +52,14 @@ impl<S: Storage<u8>> FiniteSender<'_, S> {
 
     /// Returns a sender of a stream that begins at position `first`, to which nothing was written.
     ///
-    /// # Panics
+    /// # Panics, unless
     ///
-    /// Unless `first` is not the greatest number of 64 bits: the end has a number after it.
-    ///
-    /// <details><summary>Contract</summary>
-    ///
-    /// In the words of [`contracts`](crate::contracts):
-    ///
-    /// ```text
-    /// requires { first < no_end }
-    /// ensures state { result ≡ fresh_finite_sender (length (S.elements storage)) first }
-    /// ensures sends { Sends first [] result.sender }
-    /// ```
-    ///
-    /// </details>
+    /// `first` is not the greatest number of 64 bits: the end has a number after it.
     #[must_use]
     #[track_caller]
     pub const fn over_at(storage: S, first: u64) -> Self {
-        assert!(first < u64::MAX, "no number is left for an end");
-        FiniteSender {
-            lent: core::marker::PhantomData,
+        prove!(first < u64::MAX, "no number is left for an end");
+        FiniteSenderOver {
             head: FiniteSenderHead::new(first),
             storage,
         }
@@ -74,174 +67,89 @@ impl<S: Storage<u8>> FiniteSender<'_, S> {
 
     /// Returns the sender that a head and a storage represent.
     ///
-    /// # Panics
+    /// # Panics, unless
     ///
-    /// Unless the head is sound for the storage, as `FiniteSenderHead::is_sound` tests.
-    ///
-    /// <details><summary>Contract</summary>
-    ///
-    /// In the words of [`contracts`](crate::contracts):
-    ///
-    /// ```text
-    /// requires { IsSoundFiniteSender (length (S.elements storage)) head }
-    /// ensures { result ≡ finite_sender_of head (S.elements storage) }
-    /// ```
-    ///
-    /// </details>
+    /// The head is sound for the storage, as `FiniteSenderHead::is_sound` tests.
     pub(crate) fn from_parts(head: FiniteSenderHead, storage: S) -> Self {
-        FiniteSender { lent: core::marker::PhantomData, head, storage }
+        FiniteSenderOver { head, storage }
     }
 
     /// Returns the head and the storage, which represent the sender.
-    ///
-    /// <details><summary>Contract</summary>
-    ///
-    /// In the words of [`contracts`](crate::contracts):
-    ///
-    /// ```text
-    /// ensures sound { IsSoundFiniteSender (length (S.elements result.1)) result.0 }
-    /// ensures state { finite_sender_of result.0 (S.elements result.1) ≡ self }
-    /// ```
-    ///
-    /// </details>
     pub(crate) fn into_parts(self) -> (FiniteSenderHead, S) {
-        let FiniteSender { lent: core::marker::PhantomData, head, storage } = self;
+        let FiniteSenderOver { head, storage } = self;
         (head, storage)
     }
 
     /// Returns the storage, of which the bytes can be any.
-    ///
-    /// <details><summary>Contract</summary>
-    ///
-    /// In the words of [`contracts`](crate::contracts):
-    ///
-    /// ```text
-    /// ensures { length (S.elements result) ≡ self.sender.capacity }
-    /// ```
-    ///
-    /// </details>
     #[must_use]
     pub fn into_storage(self) -> S {
-        let FiniteSender { lent: core::marker::PhantomData, head: _, storage } = self;
+        let FiniteSenderOver { head: _, storage } = self;
         storage
     }
 
     /// Begins again over the same storage: a stream that begins at position `first`, to which nothing
     /// was written.
     ///
-    /// # Panics
+    /// # Panics, unless
     ///
-    /// Unless `first` is not the greatest number of 64 bits.
-    ///
-    /// <details><summary>Contract</summary>
-    ///
-    /// In the words of [`contracts`](crate::contracts):
-    ///
-    /// ```text
-    /// requires { first < no_end }
-    /// ensures state { self.new ≡ fresh_finite_sender self.old.sender.capacity first }
-    /// ensures sends { Sends first [] self.new.sender }
-    /// ```
-    ///
-    /// </details>
+    /// `first` is not the greatest number of 64 bits.
     #[track_caller]
     pub fn reset_at(&mut self, first: u64) {
-        assert!(first < u64::MAX, "no number is left for an end");
+        prove!(first < u64::MAX, "no number is left for an end");
         self.head = FiniteSenderHead::new(first);
     }
 
     /// Returns the first number that isn't acknowledged: TCP's SND.UNA. It is the first unacknowledged
     /// position, or the one after it once the end is acknowledged.
-    ///
-    /// <details><summary>Contract</summary>
-    ///
-    /// In the words of [`contracts`](crate::contracts):
-    ///
-    /// ```text
-    /// ensures { result ≡ first_number self.now }
-    /// ```
-    ///
-    /// </details>
     #[must_use]
     pub fn first_number(&self) -> u64 {
         self.head.first_number(self.storage.count())
     }
 
     /// Returns the number after the last byte's, and after the end's once the sender is closed.
-    ///
-    /// <details><summary>Contract</summary>
-    ///
-    /// In the words of [`contracts`](crate::contracts):
-    ///
-    /// ```text
-    /// ensures { result ≡ numbers_end self.now }
-    /// ```
-    ///
-    /// </details>
     #[must_use]
     pub fn numbers_end(&self) -> u64 {
         self.head.numbers_end(self.storage.count())
     }
 
     /// Returns the number after the last one that was ever sent: TCP's SND.MAX.
-    ///
-    /// <details><summary>Contract</summary>
-    ///
-    /// In the words of [`contracts`](crate::contracts):
-    ///
-    /// ```text
-    /// ensures { result ≡ self.now.sent }
-    /// ```
-    ///
-    /// </details>
     #[must_use]
     pub fn sent(&self) -> u64 {
         self.head.sent
     }
 
-    /// Returns how many bytes are queued.
+    /// Returns `first_number` and `sent`, as windows and timers take them.
     ///
-    /// <details><summary>Contract</summary>
-    ///
-    /// In the words of [`contracts`](crate::contracts):
-    ///
-    /// ```text
-    /// ensures { result ≡ length self.now.sender.queue }
     /// ```
-    ///
-    /// </details>
+    /// # use net_base::finite::FiniteSender;
+    /// # use net_base::tcp::{Announcement, PeerWindow};
+    /// # let mut storage = [0u8; 8];
+    /// # let mut sender = FiniteSender::new_at(&mut storage[..], 100);
+    /// let mut peer = PeerWindow::new();
+    /// let it = Announcement { seq: 1, ack: 100, window: 9 };
+    /// assert!(peer.update(sender.sent_numbers(), it) && peer.edge() == 109);
+    /// ```
+    #[must_use]
+    pub fn sent_numbers(&self) -> SentNumbers {
+        SentNumbers {
+            first_unacknowledged: self.first_number(),
+            sent: self.sent(),
+        }
+    }
+
+    /// Returns how many bytes are queued.
     #[must_use]
     pub fn len(&self) -> usize {
         self.head.sender.place.length
     }
 
     /// Returns whether all bytes that were written are acknowledged.
-    ///
-    /// <details><summary>Contract</summary>
-    ///
-    /// In the words of [`contracts`](crate::contracts):
-    ///
-    /// ```text
-    /// ensures { result ≡ (length self.now.sender.queue == 0) }
-    /// ```
-    ///
-    /// </details>
     #[must_use]
     pub fn is_empty(&self) -> bool {
         self.len() == 0
     }
 
     /// Returns the most bytes that are queued: the storage's length.
-    ///
-    /// <details><summary>Contract</summary>
-    ///
-    /// In the words of [`contracts`](crate::contracts):
-    ///
-    /// ```text
-    /// ensures { result ≡ self.now.sender.capacity }
-    /// ```
-    ///
-    /// </details>
     #[must_use]
     pub fn capacity(&self) -> usize {
         self.storage.count()
@@ -249,16 +157,6 @@ impl<S: Storage<u8>> FiniteSender<'_, S> {
 
     /// Returns the window: how many bytes `write` would take. None once the sender is closed. A number
     /// is kept for the end.
-    ///
-    /// <details><summary>Contract</summary>
-    ///
-    /// In the words of [`contracts`](crate::contracts):
-    ///
-    /// ```text
-    /// ensures { result ≡ finite_room self.now }
-    /// ```
-    ///
-    /// </details>
     #[must_use]
     pub fn window(&self) -> usize {
         self.head.room(self.storage.count())
@@ -266,23 +164,9 @@ impl<S: Storage<u8>> FiniteSender<'_, S> {
 
     /// Enqueues the first of these bytes, as many as `window` says, and returns how many.
     ///
-    /// # [Guarantees](crate::contracts#guarantees)
+    /// # [Guarantees](crate#guarantees)
     ///
     /// - `result == min(bytes.len(), old(self).window())`
-    ///
-    /// <details><summary>Contract</summary>
-    ///
-    /// In the words of [`contracts`](crate::contracts):
-    ///
-    /// ```text
-    /// ensures count { result ≡ min (length bytes.now) (finite_room self.old) }
-    /// ensures state { self.new ≡ with_bytes self.old (take result bytes.now) }
-    /// ensures sends { (f : ℕ) (w : List ℕ) → Sends f w self.old.sender
-    ///     → Sends f (w ++ take result bytes.now) self.new.sender }
-    /// ensures number { first_number self.new ≡ first_number self.old }
-    /// ```
-    ///
-    /// </details>
     #[must_use]
     pub fn write(&mut self, bytes: &[u8]) -> usize {
         let capacity = self.storage.count();
@@ -290,65 +174,21 @@ impl<S: Storage<u8>> FiniteSender<'_, S> {
     }
 
     /// Ends the stream after what was written. A second call changes nothing.
-    ///
-    /// <details><summary>Contract</summary>
-    ///
-    /// In the words of [`contracts`](crate::contracts):
-    ///
-    /// ```text
-    /// ensures state { self.new ≡ closed_sender self.old }
-    /// ensures sends { (f : ℕ) (w : List ℕ) → Sends f w self.old.sender →
-    ///     Sends f w self.new.sender }
-    /// ensures number { first_number self.new ≡ first_number self.old }
-    /// ```
-    ///
-    /// </details>
     pub fn close(&mut self) {
         self.head.close(self.storage.count());
     }
 
     /// Lends the bytes of a segment from `pos` on, as `Sender::peek_at` does, and returns whether the
-    /// segment ends the stream (TCP's FIN): the sender is closed, and the bytes end where it does. A
-    /// segment without bytes that ends the stream is the end alone.
+    /// segment ends the stream (TCP's FIN): the sender is closed, the bytes end where it does, and the
+    /// end isn't acknowledged. A segment without bytes that ends the stream is the end alone.
     ///
     /// All its numbers, the end's among them, are below `limit`: the end of the window is one, as
     /// `PeerWindow::send_limit` gives it, and `(pos + mss).min(send_limit)` keeps a segment size too.
     ///
     /// Clause `later` says that the segment is one of the stream whatever is written later.
-    ///
-    /// <details><summary>Contract</summary>
-    ///
-    /// In the words of [`contracts`](crate::contracts):
-    ///
-    /// ```text
-    /// ensures value { result.0.now ≡ take (length result.0.now)
-    ///     (drop (pos - self.now.sender.first_unacknowledged) self.now.sender.queue) }
-    /// ensures count { self.now.sender.first_unacknowledged ≤ pos → length result.0.now
-    ///     ≡ min (limit - pos) (contiguous_end self.now.sender pos - pos) }
-    /// ensures some { self.now.sender.first_unacknowledged ≤ pos → pos < end_of self.now.sender →
-    ///     pos < limit → 0 < length result.0.now }
-    /// ensures before { pos < self.now.sender.first_unacknowledged → result.0.now ≡ [] }
-    /// ensures end { IsTrue result.1 ↔ ((self.now.closed ≡ 1)
-    ///     × (pos + length result.0.now ≡ end_of self.now.sender)
-    ///     × (pos + length result.0.now < limit)) }
-    /// ensures room { pos ≤ limit → pos + length result.0.now + from_bool result.1 ≤ limit }
-    /// ensures none { limit ≤ pos → (result.0.now ≡ []) × IsFalse result.1 }
-    /// ensures numbers { pos ≤ numbers_end self.now →
-    ///     pos + length result.0.now + from_bool result.1 ≤ numbers_end self.now }
-    /// ensures beyond { numbers_end self.now < pos → (result.0.now ≡ []) × IsFalse result.1 }
-    /// ensures fits { pos ≤ end_of self.now.sender → pos + length result.0.now < no_end }
-    /// ensures top { numbers_end self.now ≤ no_end }
-    /// ensures says { (f : ℕ) (w : List ℕ) → Sends f w self.now.sender →
-    ///     self.now.sender.first_unacknowledged ≤ pos →
-    ///     MatchesFinite f w pos result.0.now result.1 }
-    /// ensures later { (f : ℕ) (w more : List ℕ) → Sends f w self.now.sender →
-    ///     self.now.sender.first_unacknowledged ≤ pos → (self.now.closed ≡ 1 → more ≡ []) →
-    ///     MatchesFinite f (w ++ more) pos result.0.now result.1 }
-    /// ```
-    ///
-    /// </details>
     #[must_use]
     pub fn peek_at(&self, pos: u64, limit: u64) -> (&[u8], bool) {
+        laws::matches_stream();
         let lent = self.head.peek_at(self.storage.count(), pos, limit);
         let from = lent.0.from;
         (self.storage.part(from, from + lent.0.contiguous), lent.1)
@@ -368,30 +208,8 @@ impl<S: Storage<u8>> FiniteSender<'_, S> {
     /// assert_eq!(sender.send_at(105, 106), (&b""[..], true));
     /// assert_eq!(sender.sent(), 106);
     /// ```
-    ///
-    /// <details><summary>Contract</summary>
-    ///
-    /// In the words of [`contracts`](crate::contracts):
-    ///
-    /// ```text
-    /// ensures* marks { sem 𝓛 (ends_as S.row S.Storage self.entry (record self.old {
-    ///   sent = sent_after self.old.sent pos (length result.0.now + from_bool result.1);
-    /// })) }
-    /// ensures value { result.0.now ≡ take (length result.0.now)
-    ///     (drop (pos - self.old.sender.first_unacknowledged) self.old.sender.queue) }
-    /// ensures count { self.old.sender.first_unacknowledged ≤ pos → length result.0.now
-    ///     ≡ min (limit - pos) (contiguous_end self.old.sender pos - pos) }
-    /// ensures before { pos < self.old.sender.first_unacknowledged → result.0.now ≡ [] }
-    /// ensures end { IsTrue result.1 ↔ ((self.old.closed ≡ 1)
-    ///     × (pos + length result.0.now ≡ end_of self.old.sender)
-    ///     × (pos + length result.0.now < limit)) }
-    /// ensures later { (f : ℕ) (w more : List ℕ) → Sends f w self.old.sender →
-    ///     self.old.sender.first_unacknowledged ≤ pos → (self.old.closed ≡ 1 → more ≡ []) →
-    ///     MatchesFinite f (w ++ more) pos result.0.now result.1 }
-    /// ```
-    ///
-    /// </details>
     pub fn send_at(&mut self, pos: u64, limit: u64) -> (&[u8], bool) {
+        laws::matches_stream();
         let lent = self.head.send_at(self.storage.count(), pos, limit);
         let from = lent.0.from;
         (self.storage.part(from, from + lent.0.contiguous), lent.1)
@@ -399,21 +217,6 @@ impl<S: Storage<u8>> FiniteSender<'_, S> {
 
     /// Notes that all numbers below `pos` were sent, the end's among them if `pos` is past it, and
     /// returns true. Returns false, and changes nothing, if `pos` is above `numbers_end`.
-    ///
-    /// <details><summary>Contract</summary>
-    ///
-    /// In the words of [`contracts`](crate::contracts):
-    ///
-    /// ```text
-    /// ensures accepted { IsTrue result ↔ (pos ≤ numbers_end self.old) }
-    /// ensures mark { IsTrue result → self.new ≡ record self.old { sent = max self.old.sent pos } }
-    /// ensures sends { (f : ℕ) (w : List ℕ) → Sends f w self.old.sender →
-    ///     Sends f w self.new.sender }
-    /// ensures number { first_number self.new ≡ first_number self.old }
-    /// ensures refused { IsFalse result → self.new ≡ self.old }
-    /// ```
-    ///
-    /// </details>
     #[must_use]
     pub fn mark_sent(&mut self, pos: u64) -> bool {
         self.head.mark_sent(self.storage.count(), pos)
@@ -423,26 +226,10 @@ impl<S: Storage<u8>> FiniteSender<'_, S> {
     /// returns true. Returns false, and changes nothing, if `next` is below `first_number` or above
     /// `sent`.
     ///
-    /// # [Guarantees](crate::contracts#guarantees)
+    /// # [Guarantees](crate#guarantees)
     ///
     /// - `result` exactly if `old(self).first_number() <= next` and `next <= old(self).sent()`
     /// - if `result`, then `self.first_number() == next`
-    ///
-    /// <details><summary>Contract</summary>
-    ///
-    /// In the words of [`contracts`](crate::contracts):
-    ///
-    /// ```text
-    /// ensures accepted { IsTrue result
-    ///     ↔ ((first_number self.old ≤ next) × (next ≤ self.old.sent)) }
-    /// ensures state { IsTrue result → self.new ≡ acknowledged_below self.old next }
-    /// ensures sends { (f : ℕ) (w : List ℕ) → Sends f w self.old.sender →
-    ///     Sends f w self.new.sender }
-    /// ensures number { IsTrue result → first_number self.new ≡ next }
-    /// ensures refused { IsFalse result → self.new ≡ self.old }
-    /// ```
-    ///
-    /// </details>
     #[must_use]
     pub fn acknowledge(&mut self, next: u64) -> bool {
         self.head.acknowledge(self.storage.count(), next)
@@ -450,50 +237,25 @@ impl<S: Storage<u8>> FiniteSender<'_, S> {
 
     /// Returns whether a SACK block can be right: it has a number, and none above those that were
     /// sent, of which the end's is one.
-    ///
-    /// <details><summary>Contract</summary>
-    ///
-    /// In the words of [`contracts`](crate::contracts):
-    ///
-    /// ```text
-    /// ensures { IsTrue result ↔ ((start < end) × (end ≤ self.now.sent)) }
-    /// ```
-    ///
-    /// </details>
     #[must_use]
     pub fn is_block(&self, start: u64, end: u64) -> bool {
         self.head.is_block(start, end)
     }
 
     /// Returns whether the sender is closed.
-    ///
-    /// <details><summary>Contract</summary>
-    ///
-    /// In the words of [`contracts`](crate::contracts):
-    ///
-    /// ```text
-    /// ensures { result ≡ (self.now.closed == 1) }
-    /// ```
-    ///
-    /// </details>
     #[must_use]
     pub fn is_closed(&self) -> bool {
         self.head.is_closed()
     }
 
     /// Returns whether all bytes and the end are acknowledged. Once it is so it stays so.
-    ///
-    /// <details><summary>Contract</summary>
-    ///
-    /// In the words of [`contracts`](crate::contracts):
-    ///
-    /// ```text
-    /// ensures { result ≡ (self.now.finished == 1) }
-    /// ```
-    ///
-    /// </details>
     #[must_use]
     pub fn is_closed_and_acknowledged(&self) -> bool {
         self.head.is_closed_and_acknowledged()
+    }
+
+    /// States what is true of every sender; it does nothing. Callers use `laws::is_sound_sent`.
+    pub(crate) fn is_sound(&self) {
+        let _ = &self.head;
     }
 }

@@ -1,5 +1,6 @@
 //! A sender of a stream that ends, in parts.
 
+use crate::rattle::prelude::*;
 use crate::proved::net_receiver::sender_head::SenderHead;
 use crate::proved::net_ring::Span;
 
@@ -25,7 +26,7 @@ impl FiniteSenderHead {
     /// Returns the head of a sender of a stream that begins at position `first`; nothing was
     /// written. It is sound for every storage.
     ///
-    /// # Requires
+    /// # Panics, unless
     ///
     /// `first` is not the greatest number of 64 bits.
     pub const fn new(first: u64) -> Self {
@@ -37,7 +38,10 @@ impl FiniteSenderHead {
         }
     }
 
-    /// Returns whether this head is sound for a storage of `capacity` bytes.
+    /// Returns whether this head is sound for a storage of `capacity` bytes: `sender` is that of a
+    /// sender; `closed` and `finished` are 0 or 1, and `finished` is 1 only if `closed` is and the
+    /// queue is empty; and `sent` is from the first number that isn't acknowledged up to the number
+    /// after the last one, which fits 64 bits.
     pub fn is_sound(&self, capacity: usize) -> bool {
         if !self.sender.is_sound(capacity) || self.closed > 1 || self.finished > self.closed {
             return false;
@@ -55,7 +59,7 @@ impl FiniteSenderHead {
 
     /// Returns the first number that isn't acknowledged.
     ///
-    /// # Requires
+    /// # Panics, unless
     ///
     /// The head is sound for a storage of `capacity` bytes, as in each call below.
     #[inline]
@@ -69,8 +73,8 @@ impl FiniteSenderHead {
         self.sender.end() + self.closed
     }
 
-    /// Returns how many bytes `write` would take: none once the sender is closed. A number is kept
-    /// for the end.
+    /// Returns how many bytes `write` would take: none once the sender is closed. The last number,
+    /// 2^64 - 1, is kept for the end.
     #[inline]
     pub fn room(&self, capacity: usize) -> usize {
         if self.closed != 0 {
@@ -97,8 +101,10 @@ impl FiniteSenderHead {
     }
 
     /// Returns where the bytes of a segment from `pos` on are, as `SenderHead::peek_at` does, and
-    /// whether the segment ends the stream. Its numbers, the end's among them, are below `limit`. A
-    /// segment at `pos` without bytes that ends the stream is the end alone.
+    /// whether the segment ends the stream: the sender is closed, and the bytes end where it does.
+    /// Its numbers, the end's among them, are below `limit`: the end of the window is one, and
+    /// `pos` plus the segment size another. A segment at `pos` without bytes that ends the stream
+    /// is the end alone.
     #[inline]
     pub fn peek_at(&self, capacity: usize, pos: u64, limit: u64) -> (Span, bool) {
         let room = limit
@@ -112,7 +118,7 @@ impl FiniteSenderHead {
     /// Returns whether a segment whose bytes end at `pos` ends the stream, with an end below `limit`.
     #[inline]
     fn ends_below(&self, _capacity: usize, pos: u64, limit: u64) -> bool {
-        self.closed == 1 && pos == self.sender.end() && pos < limit
+        self.closed == 1 && pos == self.sender.end() && pos < limit && self.finished == 0
     }
 
     /// Returns what `peek_at` does, and notes that the segment was sent: `sent` is the number after

@@ -1,6 +1,8 @@
 //! The held runs of a receiver, one after another.
 
+use crate::rattle::prelude::*;
 use crate::proved::net_assembler::RunIter;
+use crate::rattle::std::marker::Model;
 
 /// An iterator over the held runs of a receiver, made by `held`.
 ///
@@ -12,7 +14,10 @@ pub struct HeldRunIter<'a> {
 }
 
 /// The iterator of a `Receiver<N>`, which yields at most `N` runs.
-pub type HeldRuns<'a, const N: usize = { crate::rattle::ASSEMBLER_MAX_SEGMENT_COUNT }> = HeldRunIter<'a>;
+pub type HeldRuns<'a, const N: usize = ASSEMBLER_MAX_SEGMENT_COUNT> = HeldRunIter<'a>;
+
+impl<'a> Model for HeldRunIter<'a> {
+}
 
 impl<'a> HeldRunIter<'a> {
     /// Returns these runs, counted from the position `from`.
@@ -22,21 +27,17 @@ impl<'a> HeldRunIter<'a> {
     }
 }
 
-impl<'a> ExactSizeIterator for HeldRunIter<'a> {}
-
-impl<'a> core::iter::FusedIterator for HeldRunIter<'a> {}
-
 impl<'a> Iterator for HeldRunIter<'a> {
-    fn size_hint(&self) -> (usize, Option<usize>) {
-        let count = self.runs.len();
-        (count, Some(count))
-    }
-
     type Item = (u64, u64);
 
     #[inline]
     fn next(&mut self) -> Option<(u64, u64)> {
         let (start, end) = self.runs.next()?;
         Some((self.from + start as u64, self.from + end as u64))
+    }
+
+    #[inline]
+    fn size_hint(&self) -> (usize, Option<usize>) {
+        self.runs.size_hint()
     }
 }

@@ -1,5 +1,6 @@
 //! The results of a segment that a receiver accepts.
 
+use crate::rattle::prelude::*;
 /// How many bytes of a segment were kept, by how many `next` moved, and the first held runs: what
 /// `segment` returns.
 ///

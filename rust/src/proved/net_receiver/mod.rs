@@ -1,6 +1,6 @@
 //! The two ends of a stream of bytes: a receiver, at which segments arrive in any order and bytes are
 //! read in order, and a sender, which stores bytes until they are acknowledged.
-
+use crate::rattle::prelude::*;
 mod finite_error;
 mod finite_receiver;
 mod finite_receiver_head;
@@ -8,9 +8,11 @@ mod finite_sender;
 mod finite_sender_head;
 mod held_runs;
 mod kept;
+pub mod laws;
 mod newest_runs;
 mod receiver;
 mod receiver_head;
+mod report_error;
 mod scoreboard;
 mod scoreboard_head;
 mod sender;
@@ -27,6 +29,7 @@ pub use kept::{Kept, KeptBytes};
 pub use newest_runs::{HeldRun, NewestRunIter};
 pub use receiver::{Receiver, ReceiverOver};
 pub use receiver_head::ReceiverHead;
+pub use report_error::ReportError;
 pub use scoreboard::Scoreboard;
 pub use scoreboard_head::ScoreboardHead;
 pub use sender::{Sender, SenderOver};

@@ -1,24 +1,34 @@
 //! Held runs in the order in which a selective acknowledgement lists them.
 
+use crate::rattle::prelude::*;
+use crate::rattle::std::marker::Model;
+
 /// A held run, by absolute positions: from `start` on, up to `end`, which is not included.
-///
-/// Contracts see the pair (start, end).
 #[repr(C)]
 #[derive(Debug, Clone, Copy, PartialEq, Eq)]
 pub struct HeldRun {
+    /// The first position.
     pub start: u64,
+    /// The position after the last one.
     pub end: u64,
+}
+
+/// Contracts see the pair (start, end).
+impl Model for HeldRun {
 }
 
 /// An iterator over held runs, the newest first, made by `newest_runs`: at most `K`.
 ///
-/// It yields (start, end) of each run as absolute positions, the end not included. Contracts see the
-/// list of the runs that are left.
+/// It yields (start, end) of each run as absolute positions, the end not included.
 #[derive(Debug)]
 pub struct NewestRunIter<const K: usize> {
     runs: [HeldRun; K],
     from: usize,
     count: usize,
+}
+
+/// Contracts see the list of the runs that are left.
+impl<const K: usize> Model for NewestRunIter<K> {
 }
 
 impl<const K: usize> NewestRunIter<K> {
@@ -32,16 +42,7 @@ impl<const K: usize> NewestRunIter<K> {
     }
 }
 
-impl<const K: usize> ExactSizeIterator for NewestRunIter<K> {}
-
-impl<const K: usize> core::iter::FusedIterator for NewestRunIter<K> {}
-
 impl<const K: usize> Iterator for NewestRunIter<K> {
-    fn size_hint(&self) -> (usize, Option<usize>) {
-        let count = self.count - self.from;
-        (count, Some(count))
-    }
-
     type Item = (u64, u64);
 
     #[inline]
@@ -52,6 +53,7 @@ impl<const K: usize> Iterator for NewestRunIter<K> {
         let run = &self.runs[self.from];
         let item = (run.start, run.end);
         self.from += 1;
+        prove!(self.from <= self.count, "in any `usize`");
         Some(item)
     }
 }

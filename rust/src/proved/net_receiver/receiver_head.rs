@@ -1,8 +1,11 @@
 //! A receiver in parts: a head of numbers, a storage, and runs that are kept elsewhere.
 
+use crate::rattle::prelude::*;
 use crate::proved::net_receiver::held_runs::HeldRunIter;
 use crate::proved::net_receiver::kept::{Kept, KeptBytes};
 use crate::proved::net_receiver::newest_runs::{HeldRun, is_listed, remember};
+use crate::proved::net_assembler::assembler::laws;
+use crate::proved::net_assembler::width::most;
 use crate::proved::net_assembler::{AssemblerHead, Run, TooManyHolesError};
 use crate::proved::net_ring::RingHead;
 
@@ -51,8 +54,11 @@ impl ReceiverHead {
         *self = ReceiverHead::new(first);
     }
 
-    /// Returns whether this head, a storage and runs are sound: those of a receiver. It takes a look
-    /// at each held run, and at no byte.
+    /// Returns whether this head, a storage and runs are sound: `place` is that of a ring of the
+    /// storage, whose `read_at` is `count_read` modulo the capacity; the first missing position
+    /// fits 64 bits; `held` and the runs are those of an assembler without position 0; and each
+    /// held position is in the free window, and the one after it fits 64 bits. It looks at each
+    /// held run, and at no byte.
     pub fn is_sound(&self, storage: &[u8], runs: &[Run]) -> bool {
         let capacity = storage.len();
         if !self.place.is_sound(capacity) {
@@ -100,16 +106,17 @@ impl ReceiverHead {
         }
         let last = &runs[used - 1];
         let end = self.held.first_start + last.end;
+        prove!(end <= most(), "in any `usize`");
         end as u64 <= limit
     }
 
     /// Keeps the bytes of a segment that are in the free window, as `keep` does, and lists the
     /// first three held runs.
     ///
-    /// # Requires
+    /// # Panics, unless
     ///
     /// Head, storage and runs are sound, as `is_sound` tests, and the segment ends within 64 bits,
-    /// as `Receiver::fits` tests.
+    /// as `ReceiverOver::fits` tests.
     #[inline(always)]
     pub fn segment(
         &mut self,
@@ -134,13 +141,13 @@ impl ReceiverHead {
         [held.next(), held.next(), held.next()]
     }
 
-    /// Keeps the bytes of a segment that are in the free window, as `Receiver::keep` does. If it is
+    /// Keeps the bytes of a segment that are in the free window, as `ReceiverOver::keep` does. If it is
     /// refused, head, storage and runs stay as they were, with the runs that aren't in use.
     ///
-    /// # Requires
+    /// # Panics, unless
     ///
     /// Head, storage and runs are sound, as `is_sound` tests, and the segment ends within 64 bits,
-    /// as `Receiver::fits` tests.
+    /// as `ReceiverOver::fits` tests.
     #[inline(always)]
     pub fn keep(
         &mut self,
@@ -156,9 +163,12 @@ impl ReceiverHead {
         if late >= bytes.len() as u64 || ahead >= window as u64 {
             return Ok(KeptBytes { kept: 0, queued: 0 });
         }
+        prove!(late <= bytes.len() as u64, "in any `usize`");
         let rest = &bytes[late as usize..];
+        prove!(ahead <= window as u64, "in any `usize`");
         let offset = ahead as usize;
         let kept = rest.len().min(window - offset);
+        crate::proved::net_assembler::laws::is_usize(window);
         let queued = self.held.add_then_remove_front(runs, offset, kept)?;
         self.place.write_unallocated(storage, offset, &rest[..kept]);
         self.place.enqueue(storage.len(), queued);
@@ -168,7 +178,7 @@ impl ReceiverHead {
     /// Moves bytes from the head of the queue to the beginning of `into`, and returns how many: as
     /// many as are queued and as `into` has room for. The rest of `into` stays as it is.
     ///
-    /// # Requires
+    /// # Panics, unless
     ///
     /// The queue is in the storage, and the first missing position fits 64 bits, as they do where
     /// head, storage and runs are sound.
@@ -183,7 +193,7 @@ impl ReceiverHead {
     /// many as are queued and as `into` has room for. The rest of `into` stays as it is, and the
     /// queue too.
     ///
-    /// # Requires
+    /// # Panics, unless
     ///
     /// The queue is in the storage.
     #[inline]
@@ -194,7 +204,7 @@ impl ReceiverHead {
     /// Shows bytes of the queue that are contiguous, from its byte `offset` on: `size`, or as many
     /// as there are up to the end of the queue or of the storage.
     ///
-    /// # Requires
+    /// # Panics, unless
     ///
     /// The queue is in the storage.
     #[inline]
@@ -206,7 +216,7 @@ impl ReceiverHead {
     /// Shows at most `size` bytes of the queue, from its byte `offset` on, in two parts: those up to the
     /// storage's end, and those from its beginning on. The second part is empty unless the bytes wrap.
     ///
-    /// # Requires
+    /// # Panics, unless
     ///
     /// The queue is in the storage.
     #[inline]
@@ -226,7 +236,7 @@ impl ReceiverHead {
     /// Shows the queue, in order, in two parts: the bytes up to the storage's end, and those from
     /// its beginning on. The second part is empty unless the queue wraps.
     ///
-    /// # Requires
+    /// # Panics, unless
     ///
     /// The queue is in the storage.
     #[inline]
@@ -241,7 +251,7 @@ impl ReceiverHead {
     /// Removes the first `count` bytes of the queue, as `read` does, and copies none. `capacity` is
     /// how many bytes the storage has.
     ///
-    /// # Requires
+    /// # Panics, unless
     ///
     /// The queue is in the storage, it has `count` bytes, and the first missing position fits 64
     /// bits.
@@ -254,7 +264,7 @@ impl ReceiverHead {
     /// Returns the first missing position: the first position, plus the count of bytes read, plus
     /// those queued.
     ///
-    /// # Requires
+    /// # Panics, unless
     ///
     /// The sum fits 64 bits, as it does where head, storage and runs are sound.
     #[inline(always)]
@@ -271,7 +281,7 @@ impl ReceiverHead {
     /// Returns the window, where the storage has `capacity` bytes: how many bytes have room after
     /// the queue, held ones among them.
     ///
-    /// # Requires
+    /// # Panics, unless
     ///
     /// No more is queued than the capacity, as is so where head, storage and runs are sound.
     #[inline(always)]
@@ -287,13 +297,14 @@ impl ReceiverHead {
         read.checked_add(capacity as u64)
     }
 
-    /// Returns the held runs, as `Receiver::held` does: at most as many as `runs` has elements.
+    /// Returns the held runs, as `ReceiverOver::held` does: at most as many as `runs` has elements.
     ///
-    /// # Requires
+    /// # Panics, unless
     ///
     /// Head, storage and runs are sound, as `is_sound` tests.
     #[inline(always)]
     pub fn held<'a>(&self, _storage: &[u8], runs: &'a [Run]) -> HeldRunIter<'a> {
+        laws::maximal_runs();
         HeldRunIter::over(self.held.iter_data(runs), self.next())
     }
 
@@ -303,11 +314,20 @@ impl ReceiverHead {
         self.held.used
     }
 
-    /// Lists held runs at the beginning of `into`, in the order of `Receiver::newest_runs`, and
-    /// returns how many: as many as are held, or as `into` has elements. The rest of `into` stays as it
-    /// is. The storage is for the contract only.
+    /// Lists held runs at the beginning of `into`, the newest first, and returns how many: as many
+    /// as are held, or as `into` has elements. The rest of `into` stays as it is. The storage is
+    /// for the contract only.
     ///
-    /// # Requires
+    /// The first is the run that has `position`, that of the segment just taken, if it is held;
+    /// then come the runs that have the positions in `recent`, in their order, and then the others,
+    /// in rising order; each comes once. The call writes the starts of the runs that it lists to
+    /// the beginning of `recent`, as many as there is room for. The caller sets `recent` to zeros
+    /// before the first call, and doesn't change it afterwards. It is enough if `recent` and `into`
+    /// have as many elements in each call as the longest acknowledgement has SACK blocks; a shorter
+    /// one has the first of them. RFC 2018, section 4, wants this order. The time grows with the
+    /// number of runs times the number of runs and of elements of `recent` together.
+    ///
+    /// # Panics, unless
     ///
     /// Head, storage and runs are sound, as `is_sound` tests.
     pub fn newest_runs(
@@ -358,6 +378,7 @@ impl ReceiverHead {
         match self.run_at(storage, runs, position) {
             Some((start, end)) => {
                 into[count] = HeldRun { start, end };
+                prove!(count + 1 <= into.len(), "in any `usize`");
                 count + 1
             }
             None => count,
@@ -376,13 +397,24 @@ impl ReceiverHead {
     }
 
     /// Returns how many bytes of a segment of `len` bytes at `position` would be new, as
-    /// `Receiver::count_new` does.
+    /// `ReceiverOver::count_new` does.
     ///
-    /// # Requires
+    /// # Panics, unless
     ///
-    /// Head, storage and runs are sound, as `is_sound` tests, and the segment ends within 64 bits,
-    /// as `Receiver::fits` tests.
+    /// Head, storage and runs are sound, as `is_sound` tests.
     pub fn count_new(&self, storage: &[u8], runs: &[Run], position: u64, len: usize) -> usize {
+        self.count_part(storage, runs, position, count_existing(position, len))
+    }
+
+    /// Counts those of a segment that ends within 64 bits.
+    pub(crate) fn count_part(
+        &self,
+        storage: &[u8],
+        runs: &[Run],
+        position: u64,
+        len: usize,
+    ) -> usize {
+        laws::maximal_runs();
         let next = self.next();
         let limit = next.saturating_add(self.window(storage.len()) as u64);
         let end = limit.min(position + len as u64);
@@ -393,12 +425,13 @@ impl ReceiverHead {
             at = at.max(past);
         }
         let all = count + end.saturating_sub(at);
+        prove!(all <= len as u64, "in any `usize`");
         all as usize
     }
 
     /// Returns whether all bytes that are queued or held are below a position.
     ///
-    /// # Requires
+    /// # Panics, unless
     ///
     /// Head, storage and runs are sound, as `is_sound` tests.
     pub fn has_all_below(&self, _storage: &[u8], runs: &[Run], pos: u64) -> bool {
@@ -406,9 +439,9 @@ impl ReceiverHead {
         next <= pos && self.is_held_below(pos - next, runs)
     }
 
-    /// Compares two receivers, as `Receiver::same_state` does.
+    /// Compares two receivers, as `ReceiverOver::same_state` does.
     ///
-    /// # Requires
+    /// # Panics, unless
     ///
     /// Both heads are sound with their storages and runs, as `is_sound` tests.
     pub fn is_same_state(
@@ -419,6 +452,7 @@ impl ReceiverHead {
         other_storage: &[u8],
         other_runs: &[Run],
     ) -> bool {
+        laws::equal_maximal_runs();
         self.first == other.first
             && self.count_read == other.count_read
             && self.is_same_queue(storage, other, other_storage)
@@ -440,7 +474,14 @@ impl ReceiverHead {
                 return false;
             }
             at += there.len();
+            prove!(at <= length, "in any `usize`");
         }
         true
     }
+}
+
+/// Returns how many of `len` positions from `pos` on a stream can have.
+#[inline]
+pub(crate) fn count_existing(pos: u64, len: usize) -> usize {
+    (len as u64).min(u64::MAX - pos) as usize
 }

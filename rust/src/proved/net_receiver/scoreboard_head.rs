@@ -1,6 +1,8 @@
 //! A scoreboard in parts: a head, and runs that are kept elsewhere.
 
+use crate::rattle::prelude::*;
 use crate::proved::net_receiver::held_runs::HeldRunIter;
+use crate::proved::net_assembler::assembler::laws;
 use crate::proved::net_assembler::width::most;
 use crate::proved::net_assembler::{AssemblerHead, Run, TooManyHolesError};
 
@@ -44,8 +46,9 @@ impl ScoreboardHead {
         *self = ScoreboardHead::new_at(first);
     }
 
-    /// Returns whether the scoreboard is sound with these runs, for any numbers in both. It looks at
-    /// each used run.
+    /// Returns whether the scoreboard is sound with these runs, for any numbers in both: `reported`
+    /// and they are those of an assembler, `base` isn't reported, and each end fits 64 bits. It
+    /// looks at each used run.
     pub fn is_sound(&self, runs: &[Run]) -> bool {
         if !self.reported.is_sound(runs) {
             return false;
@@ -57,21 +60,23 @@ impl ScoreboardHead {
     }
 
     /// Returns whether a SACK block can be right: it has a position, and none from `sent` on, which
-    /// is the position after the last byte that was ever sent.
-    pub fn is_block(start: u64, end: u64, sent: u64) -> bool {
-        start < end && end <= sent
+    /// is the position after the last byte that was ever sent; and if it begins beyond `first`, the first
+    /// position that wasn't reported, it ends less than 2^32 above it: TCP's numbers have 32 bits.
+    pub fn is_report(first: u64, start: u64, end: u64, sent: u64) -> bool {
+        start < end && end <= sent && (start <= first || end - first <= u64::from(u32::MAX))
     }
 
-    /// Reports the positions from `start` on and below `end`. Blocks may overlap. Those below the base
-    /// are known already.
+    /// Reports the positions from `start` on and below `end`, as a SACK block of an acknowledgement
+    /// does. Blocks may overlap. Positions below `base` are known already.
     ///
-    /// Returns an error, and changes nothing, exactly if the block begins beyond the base, and there
-    /// would be more runs than the slice has elements, or `end` is 2^32 or more above the base. Then the
-    /// block isn't known, and its bytes are sent again.
+    /// Returns `TooManyHolesError`, and changes nothing, if the block begins beyond `base`, and
+    /// there would be more runs than the slice has elements. Then the block isn't known, and its
+    /// bytes are sent again.
     ///
-    /// # Requires
+    /// # Panics, unless
     ///
-    /// The scoreboard is sound with the runs, and `start` is at most `end`, as `is_block` tests.
+    /// The scoreboard is sound with the runs, `start` is at most `end`, and the block doesn't end too far
+    /// above the base, as `is_report` tests.
     pub fn report(
         &mut self,
         runs: &mut [Run],
@@ -82,18 +87,17 @@ impl ScoreboardHead {
             self.acknowledge(runs, end);
             return Ok(());
         }
-        // Each offset is a `usize`. TCP has no such block, since its numbers have 32 bits.
-        if end - self.base > u32::MAX as u64 {
-            return Err(TooManyHolesError);
-        }
+        prove!(end - self.base <= most() as u64, "in any `usize`");
+        prove!(start - self.base <= most() as u64, "in any `usize`");
+        prove!(end - start <= most() as u64, "in any `usize`");
         let offset = (start - self.base) as usize;
         let size = (end - start) as usize;
         self.reported.add(runs, offset, size)
     }
 
-    /// Reports all positions below `next`. It is never refused, whatever the number of runs.
+    /// Reports all positions below `next`, whatever the number of runs.
     ///
-    /// # Requires
+    /// # Panics, unless
     ///
     /// The scoreboard is sound with the runs.
     pub fn acknowledge(&mut self, runs: &mut [Run], next: u64) {
@@ -109,16 +113,16 @@ impl ScoreboardHead {
 
     /// Returns the first position that wasn't reported.
     ///
-    /// # Requires
+    /// # Panics, unless
     ///
     /// The scoreboard is sound with the runs.
     pub fn first_unreported(&self, _runs: &[Run]) -> u64 {
         self.base
     }
 
-    /// Returns whether a position was reported.
+    /// Returns whether `pos` was reported.
     ///
-    /// # Requires
+    /// # Panics, unless
     ///
     /// The scoreboard is sound with the runs.
     pub fn contains(&self, runs: &[Run], pos: u64) -> bool {
@@ -129,44 +133,47 @@ impl ScoreboardHead {
         if offset > most() as u64 {
             return false;
         }
+        prove!(offset <= most() as u64, "in any `usize`");
         self.reported.contains(runs, offset as usize)
     }
 
     /// Returns the runs beyond the first position that wasn't reported, as absolute (start, end), the end
     /// not included, in rising order.
     ///
-    /// # Requires
+    /// # Panics, unless
     ///
     /// The scoreboard is sound with the runs.
     pub fn reported<'a>(&self, runs: &'a [Run]) -> HeldRunIter<'a> {
+        laws::maximal_runs();
         HeldRunIter::over(self.reported.iter_data(runs), self.base)
     }
 
     /// Returns the position after the last one that was reported; 0 if none was.
     ///
-    /// # Requires
+    /// # Panics, unless
     ///
     /// The scoreboard is sound with the runs.
     pub fn highest_reported(&self, runs: &[Run]) -> u64 {
         self.base + highest_offset(&self.reported, runs) as u64
     }
 
-    /// Returns how many positions were reported beyond the first one that wasn't.
+    /// Returns how many positions were reported beyond the first one that wasn't, which is `base`.
     ///
-    /// # Requires
+    /// # Panics, unless
     ///
     /// The scoreboard is sound with the runs.
     pub fn count_beyond(&self, runs: &[Run]) -> usize {
         let mut count = 0;
         for (start, end) in self.reported.iter_data(runs) {
             count += end.saturating_sub(start);
+            prove!(count <= most(), "in any `usize`");
         }
         count
     }
 
     /// Returns the first position from `pos` on that wasn't reported.
     ///
-    /// # Requires
+    /// # Panics, unless
     ///
     /// The scoreboard is sound with the runs.
     pub fn first_missing(&self, runs: &[Run], pos: u64) -> u64 {
@@ -180,12 +187,13 @@ impl ScoreboardHead {
     }
 
     /// Returns the position below which all that wasn't reported is lost, by the rule of RFC 6675,
-    /// section 4: from it on `duplicates` runs were reported (3 in TCP; 0 counts as 1), or more bytes than
-    /// `duplicates - 1` segments of `segment_size` bytes have. It is 0 if nothing is lost. A run counts as
-    /// above a position if it begins above it; of a position that wasn't reported that is the RFC's rule
-    /// exactly, by law `losses` of `net_receiver`.
+    /// section 4: from it on `duplicates` runs were reported (3 in TCP; 0 counts as 1), or more
+    /// bytes than `duplicates - 1` segments of `segment_size` bytes have. It is the start of a run,
+    /// the last one of which this is so, or 0 if nothing is lost. A run counts as above a position
+    /// if it begins above it; of a position that wasn't reported that is the RFC's rule exactly, by
+    /// law `losses` of `net_receiver`.
     ///
-    /// # Requires
+    /// # Panics, unless
     ///
     /// The scoreboard is sound with the runs.
     pub fn lost_below(&self, runs: &[Run], duplicates: usize, segment_size: usize) -> u64 {
@@ -204,11 +212,12 @@ impl ScoreboardHead {
         limit
     }
 
-    /// Returns the next range that wasn't reported, as a start and an end: it begins at the first position
-    /// from `pos` on that wasn't reported, and ends at the next one that was, or at `limit`. If there
-    /// is none below `limit`, both are `limit`.
+    /// Returns the next range that wasn't reported, as a start and an end: it begins at the first
+    /// position from `pos` on that wasn't reported, and ends at the next one that was, or at
+    /// `limit`. If there is none below `limit`, both are `limit`. Most of it may be in flight:
+    /// `lost_below` gives the limit of what is lost.
     ///
-    /// # Requires
+    /// # Panics, unless
     ///
     /// The scoreboard is sound with the runs.
     pub fn next_hole(&self, runs: &[Run], pos: u64, limit: u64) -> (u64, u64) {

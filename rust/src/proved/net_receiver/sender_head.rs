@@ -1,5 +1,7 @@
 //! A sender in parts: a head of numbers, and a storage that is kept elsewhere.
 
+use crate::rattle::prelude::*;
+use crate::proved::net_receiver::laws;
 use crate::proved::net_ring::{RingHead, Span};
 
 /// What a sender has besides its storage: numbers.
@@ -32,7 +34,8 @@ impl SenderHead {
         }
     }
 
-    /// Returns whether this head is sound for a storage of `capacity` bytes.
+    /// Returns whether this head is sound for a storage of `capacity` bytes: `place` is that of a
+    /// ring of as many, and the position after the queue fits 64 bits.
     pub fn is_sound(&self, capacity: usize) -> bool {
         self.place.is_sound(capacity) && self.end_fits()
     }
@@ -45,7 +48,7 @@ impl SenderHead {
 
     /// Returns the position after the last byte that was written.
     ///
-    /// # Requires
+    /// # Panics, unless
     ///
     /// It fits 64 bits, as `end_fits` tests, and as it does where the head is sound for a storage.
     #[inline]
@@ -54,9 +57,9 @@ impl SenderHead {
     }
 
     /// Returns how many bytes `write` would take: as many as have room in a storage of `capacity`
-    /// bytes and below the last position.
+    /// bytes and below the last position, 2^64 - 1.
     ///
-    /// # Requires
+    /// # Panics, unless
     ///
     /// The head is sound for such a storage.
     #[inline]
@@ -65,9 +68,10 @@ impl SenderHead {
         free.min(u64::MAX - self.end()) as usize
     }
 
-    /// Enqueues the first of these bytes, as many as `room` says, and returns how many.
+    /// Enqueues the first of these bytes, as many as `room` says, and returns how many. An empty
+    /// queue is rewound before, also for no bytes.
     ///
-    /// # Requires
+    /// # Panics, unless
     ///
     /// The head is sound for the storage.
     #[inline]
@@ -79,11 +83,12 @@ impl SenderHead {
     /// Returns where at most `max` queued bytes are, from the one at `pos` on; none if the byte at
     /// `pos` isn't queued. The storage has `capacity` bytes.
     ///
-    /// # Requires
+    /// # Panics, unless
     ///
     /// The head is sound for such a storage.
     #[inline]
     pub fn peek_at(&self, capacity: usize, pos: u64, max: usize) -> Span {
+        laws::matches_stream();
         if pos < self.first_unacknowledged {
             return Span {
                 from: 0,
@@ -98,7 +103,7 @@ impl SenderHead {
     /// Drops the bytes below `next`, and returns whether it did: false, and nothing changes, if
     /// `next` is below `first_unacknowledged` or above `end`. The storage has `capacity` bytes.
     ///
-    /// # Requires
+    /// # Panics, unless
     ///
     /// The head is sound for such a storage.
     #[inline]
@@ -106,6 +111,10 @@ impl SenderHead {
         if !is_acknowledgeable(self.first_unacknowledged, self.end(), next) {
             return false;
         }
+        prove!(
+            next - self.first_unacknowledged <= self.place.length as u64,
+            "in any `usize`"
+        );
         let count = (next - self.first_unacknowledged) as usize;
         self.place.dequeue(capacity, count);
         self.first_unacknowledged = next;
@@ -118,7 +127,7 @@ impl SenderHead {
     ///
     /// The caller keeps this mark. It begins as the position of the stream's first byte.
     ///
-    /// # Requires
+    /// # Panics, unless
     ///
     /// The position after the last byte that was written fits 64 bits, as `end_fits` tests.
     #[inline]
@@ -135,7 +144,7 @@ impl SenderHead {
     /// after the last byte that was ever sent, as `mark_sent` keeps it. Returns false, and changes
     /// nothing, if `next` is below `first_unacknowledged` or above `sent`, or `sent` is above `end`.
     ///
-    /// # Requires
+    /// # Panics, unless
     ///
     /// The head is sound for such a storage.
     #[inline]

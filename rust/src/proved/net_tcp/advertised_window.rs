@@ -1,5 +1,6 @@
 //! The window that a receiver announces.
 
+use crate::rattle::prelude::*;
 use crate::proved::net_tcp::arriving::{Arrival, Segment, classify};
 
 /// The greatest window scale (RFC 7323, section 2.3).
@@ -7,16 +8,6 @@ pub const MAX_SCALE: u8 = 14;
 
 /// Returns the least scale by which this capacity, rounded down to a unit, can be announced, or 14 if
 /// none can.
-///
-/// <details><summary>Contract</summary>
-///
-/// In the words of [`contracts`](crate::contracts):
-///
-/// ```text
-/// ensures { IsScaleFor capacity result }
-/// ```
-///
-/// </details>
 #[must_use]
 pub fn scale_for(capacity: u64) -> u8 {
     for scale in 0..MAX_SCALE {
@@ -28,53 +19,31 @@ pub fn scale_for(capacity: u64) -> u8 {
 }
 
 /// What a receiver has announced: how far its promise reaches.
+///
+/// Contracts: `crates/net_tcp/src/advertised_window.rt`.
 #[repr(C)]
 #[derive(Copy, Clone, Debug, PartialEq, Eq, Hash)]
 pub struct AdvertisedWindow {
-    /// The position after the last one that was ever promised. All from the first missing one up to it
-    /// is acceptable.
-    pub edge: u64,
+    /// The position after the last one that was ever promised.
+    edge: u64,
 }
 
 impl AdvertisedWindow {
     /// Returns a window of which nothing was announced, before the byte at `first`.
-    ///
-    /// <details><summary>Contract</summary>
-    ///
-    /// In the words of [`contracts`](crate::contracts):
-    ///
-    /// ```text
-    /// ensures { result.edge ≡ first }
-    /// ```
-    ///
-    /// </details>
     #[must_use]
     pub const fn new(first: u64) -> Self {
         AdvertisedWindow { edge: first }
     }
 
-    /// Returns what to do with a segment, as the function `classify` says, in the window that was announced: from
+    /// Returns the position after the last one that was ever promised. All from the first missing one up
+    /// to it is acceptable.
+    #[must_use]
+    pub const fn edge(&self) -> u64 {
+        self.edge
+    }
+
+    /// Returns what to do with a segment, as `net_tcp::classify` says, in the window that was announced: from
     /// `next`, the first missing position, up to the edge, whatever is free now.
-    ///
-    /// <details><summary>Contract</summary>
-    ///
-    /// In the words of [`contracts`](crate::contracts):
-    ///
-    /// ```text
-    /// ensures take { (result ≡ Arrival.Take) ↔ (IsFalse segment.rst × IsFalse segment.syn
-    ///     × IsTrue segment.ack
-    ///     × IsAcceptable next (self.now.edge - next) segment.seq segment.len) }
-    /// ensures only { (result ≡ Arrival.AcknowledgementOnly) ↔ (IsFalse segment.rst
-    ///     × IsFalse segment.syn × IsTrue segment.ack
-    ///     × IsProbe next (self.now.edge - next) segment.seq segment.len) }
-    /// ensures answer { (result ≡ Arrival.Answer)
-    ///     ↔ IsAnswered next (self.now.edge - next) segment }
-    /// ensures reset { (result ≡ Arrival.Reset) ↔ (IsTrue segment.rst × (segment.seq ≡ next)) }
-    /// ensures ignored { (result ≡ Arrival.Ignore)
-    ///     ↔ IsIgnored next (self.now.edge - next) segment }
-    /// ```
-    ///
-    /// </details>
     #[must_use]
     pub fn classify(&self, next: u64, segment: Segment) -> Arrival {
         classify(next, self.edge.saturating_sub(next), segment)
@@ -82,49 +51,30 @@ impl AdvertisedWindow {
 
     /// Returns the number to announce, in units of 2^`scale`, if `next` is the first missing position
     /// and `window_end` the end of the free room: the greatest that doesn't promise more than there
-    /// is. In a segment with a SYN the scale is 0.
+    /// is. In a segment with a SYN the scale is 0. A scale above 14 counts as 14 (RFC 7323, section 2.3).
     ///
     /// No number keeps a promise whose rest is not a multiple of the unit, unless there is room up to the
     /// next multiple: at one scale the number may then be less than what was promised, by less than a
     /// unit. What was promised is still acceptable, and `edge` stays.
     ///
-    /// # Panics
+    /// # Panics, unless
     ///
-    /// Unless the scale is at most 14, and the window doesn't end before `next`.
+    /// The window doesn't end before `next`.
     ///
-    /// # [Guarantees](crate::contracts#guarantees)
+    /// # [Guarantees](crate#guarantees)
     ///
-    /// - `old(self).edge <= self.edge`
-    /// - `announced(next, scale, result) <= window_end`
-    /// - for each `f`: if `f <= 65535` and `announced(next, scale, f) <= window_end`, then `f <= result`
-    ///
-    /// <details><summary>Contract</summary>
-    ///
-    /// In the words of [`contracts`](crate::contracts):
-    ///
-    /// ```text
-    /// requires scale { scale ≤ 14 }
-    /// requires room { next ≤ window_end }
-    /// ensures field { result ≡ field_for scale (window_end - next) }
-    /// ensures edge { self.new.edge ≡ max self.old.edge (announced next scale result) }
-    /// ensures never_back { self.old.edge ≤ self.new.edge }
-    /// ensures within { announced next scale result ≤ window_end }
-    /// ensures room { self.old.edge ≤ window_end → self.new.edge ≤ window_end }
-    /// ensures most { (f : ℕ) → f ≤ 65535 → announced next scale f ≤ window_end → f ≤ result }
-    /// ensures lost { self.old.edge ≤ window_end → self.old.edge ≤ announced next scale 65535 →
-    ///     self.old.edge < announced next scale result + 2 ^ scale }
-    /// ```
-    ///
-    /// </details>
+    /// - `old(self).edge() <= self.edge()`
+    /// - `announced(next, shift_count(scale), result) <= window_end`
+    /// - for each `f`: if `f <= 65535` and `announced(next, shift_count(scale), f) <= window_end`, then `f <= result`
     #[track_caller]
     pub fn announce(&mut self, scale: u8, next: u64, window_end: u64) -> u16 {
-        assert!(scale <= MAX_SCALE, "a greater scale than 14");
-        assert!(
+        prove!(
             next <= window_end,
             "the window ends before the first missing position"
         );
-        let field = field(scale, next, window_end);
-        let edge = next + (u64::from(field) << scale);
+        let shift = scale.min(MAX_SCALE);
+        let field = field(shift, next, window_end);
+        let edge = next + (u64::from(field) << shift);
         self.edge = self.edge.max(edge);
         field
     }
@@ -134,35 +84,15 @@ impl AdvertisedWindow {
     /// before, rounded down. So the edge grows by what is worth an update, or only up to `next` (RFC
     /// 9293, section 3.8.6.2.2).
     ///
-    /// # Panics
+    /// # Panics, unless
     ///
-    /// Unless the scale is at most 14, and the window doesn't end before `next`.
+    /// The window doesn't end before `next`.
     ///
-    /// # [Guarantees](crate::contracts#guarantees)
+    /// # [Guarantees](crate#guarantees)
     ///
-    /// - `announced(next, scale, result) <= window_end`
-    /// - if `old(self).edge <= window_end`, then `self.edge <= window_end`
-    /// - `old(self).edge + worth(capacity, mss) <= self.edge` or `self.edge == max(old(self).edge, next)`
-    ///
-    /// <details><summary>Contract</summary>
-    ///
-    /// In the words of [`contracts`](crate::contracts):
-    ///
-    /// ```text
-    /// requires scale { scale ≤ 14 }
-    /// requires room { next ≤ window_end }
-    /// ensures due { worth capacity mss ≤ gain self.old.edge scale next window_end →
-    ///     result ≡ field_for scale (window_end - next) }
-    /// ensures held { gain self.old.edge scale next window_end < worth capacity mss →
-    ///     result ≡ field_for scale (min self.old.edge window_end - next) }
-    /// ensures edge { self.new.edge ≡ max self.old.edge (announced next scale result) }
-    /// ensures within { announced next scale result ≤ window_end }
-    /// ensures room { self.old.edge ≤ window_end → self.new.edge ≤ window_end }
-    /// ensures steps { self.old.edge + worth capacity mss ≤ self.new.edge
-    ///     ⊎ (self.new.edge ≡ max self.old.edge next) }
-    /// ```
-    ///
-    /// </details>
+    /// - `announced(next, shift_count(scale), result) <= window_end`
+    /// - if `old(self).edge() <= window_end`, then `self.edge() <= window_end`
+    /// - `old(self).edge() + worth(capacity, mss) <= self.edge()` or `self.edge() == max(old(self).edge(), next)`
     #[track_caller]
     pub fn announce_in_steps(
         &mut self,
@@ -172,8 +102,7 @@ impl AdvertisedWindow {
         capacity: u64,
         mss: u16,
     ) -> u16 {
-        assert!(scale <= MAX_SCALE, "a greater scale than 14");
-        assert!(
+        prove!(
             next <= window_end,
             "the window ends before the first missing position"
         );
@@ -185,29 +114,17 @@ impl AdvertisedWindow {
         }
     }
 
-    /// Returns whether an update is worth a segment of its own: whether the edge would move by half
-    /// of the receiver's capacity, or by one segment of `mss` bytes.
+    /// Returns whether an update is worth a segment of its own: whether the edge would move, from
+    /// where it is, below `next` too, by half of the receiver's capacity, rounded up, or by one
+    /// segment of `mss` bytes, and by 1 at least.
     ///
-    /// # Panics
+    /// # Panics, unless
     ///
-    /// Unless the scale is at most 14, and the window doesn't end before `next`.
+    /// The window doesn't end before `next`.
     ///
-    /// # [Guarantees](crate::contracts#guarantees)
+    /// # [Guarantees](crate#guarantees)
     ///
-    /// - `result` exactly if `worth(capacity, mss) <= gain(self.edge, scale, next, window_end)`
-    ///
-    /// <details><summary>Contract</summary>
-    ///
-    /// In the words of [`contracts`](crate::contracts):
-    ///
-    /// ```text
-    /// requires scale { scale ≤ 14 }
-    /// requires room { next ≤ window_end }
-    /// ensures { IsTrue result
-    ///     ↔ (worth capacity mss ≤ gain self.now.edge scale next window_end) }
-    /// ```
-    ///
-    /// </details>
+    /// - `result` exactly if `worth(capacity, mss) <= gain(self.edge(), shift_count(scale), next, window_end)`
     #[must_use]
     #[track_caller]
     pub fn is_update_due(
@@ -218,12 +135,12 @@ impl AdvertisedWindow {
         capacity: u64,
         mss: u16,
     ) -> bool {
-        assert!(scale <= MAX_SCALE, "a greater scale than 14");
-        assert!(
+        prove!(
             next <= window_end,
             "the window ends before the first missing position"
         );
-        let edge = next + (u64::from(field(scale, next, window_end)) << scale);
+        let shift = scale.min(MAX_SCALE);
+        let edge = next + (u64::from(field(shift, next, window_end)) << shift);
         let worth = (capacity - capacity / 2).min(u64::from(mss)).max(1);
         edge.saturating_sub(self.edge) >= worth
     }

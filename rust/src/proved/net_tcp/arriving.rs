@@ -1,6 +1,11 @@
 //! What to do with an arriving segment.
 
+use crate::rattle::prelude::*;
+use crate::proved::net_numbers::SentNumbers;
+
 /// The positions and the flags of an arriving segment.
+///
+/// Contracts: `crates/net_tcp/src/arriving.rt`.
 #[repr(C)]
 #[derive(Copy, Clone, Debug, PartialEq, Eq, Hash)]
 pub struct Segment {
@@ -19,20 +24,6 @@ pub struct Segment {
 impl Segment {
     /// Returns the segment of so many bytes, with the flags of a TCP header: bit 0 is FIN, bit 1 SYN, bit 2
     /// RST and bit 4 ACK, and others don't count. A SYN and a FIN have a position each.
-    ///
-    /// <details><summary>Contract</summary>
-    ///
-    /// In the words of [`contracts`](crate::contracts):
-    ///
-    /// ```text
-    /// ensures seq { result.seq ≡ seq }
-    /// ensures len { result.len ≡ min (bytes + flag_at 1 flags + flag_at 0 flags) (2 ^ 64 - 1) }
-    /// ensures syn { IsTrue result.syn ↔ (flag_at 1 flags ≡ 1) }
-    /// ensures ack { IsTrue result.ack ↔ (flag_at 4 flags ≡ 1) }
-    /// ensures rst { IsTrue result.rst ↔ (flag_at 2 flags ≡ 1) }
-    /// ```
-    ///
-    /// </details>
     #[must_use]
     pub const fn new(seq: u64, bytes: usize, flags: u8) -> Self {
         Segment {
@@ -46,6 +37,8 @@ impl Segment {
 }
 
 /// What to do with a segment that arrives on a connection that both ends have opened.
+///
+/// Contracts: `crates/net_tcp/src/arriving.rt`.
 #[derive(Copy, Clone, Debug, PartialEq, Eq)]
 pub enum Arrival {
     /// Take what it acknowledges, its window, its bytes and its end.
@@ -67,16 +60,6 @@ pub enum Arrival {
 ///
 /// It is if it has a position within the window. If it has none at all it must be within the window
 /// itself, or at `next` if the window is empty.
-///
-/// <details><summary>Contract</summary>
-///
-/// In the words of [`contracts`](crate::contracts):
-///
-/// ```text
-/// ensures { IsTrue result ↔ IsAcceptable next window seq len }
-/// ```
-///
-/// </details>
 #[must_use]
 pub fn is_acceptable(next: u64, window: u64, seq: u64, len: u64) -> bool {
     if seq < next {
@@ -96,23 +79,6 @@ pub fn is_acceptable(next: u64, window: u64, seq: u64, len: u64) -> bool {
 /// a probe does, the acknowledgement is taken all the same: otherwise two ends that both fill the
 /// other's window never hear of one another. Whether a segment may acknowledge what it does is tested
 /// afterwards, by `is_acknowledgement`.
-///
-/// <details><summary>Contract</summary>
-///
-/// In the words of [`contracts`](crate::contracts):
-///
-/// ```text
-/// ensures take { (result ≡ Arrival.Take) ↔ (IsFalse segment.rst × IsFalse segment.syn
-///     × IsTrue segment.ack × IsAcceptable next window segment.seq segment.len) }
-/// ensures only { (result ≡ Arrival.AcknowledgementOnly) ↔ (IsFalse segment.rst
-///     × IsFalse segment.syn × IsTrue segment.ack
-///     × IsProbe next window segment.seq segment.len) }
-/// ensures answer { (result ≡ Arrival.Answer) ↔ IsAnswered next window segment }
-/// ensures reset { (result ≡ Arrival.Reset) ↔ (IsTrue segment.rst × (segment.seq ≡ next)) }
-/// ensures ignored { (result ≡ Arrival.Ignore) ↔ IsIgnored next window segment }
-/// ```
-///
-/// </details>
 #[must_use]
 pub fn classify(next: u64, window: u64, segment: Segment) -> Arrival {
     let is_acceptable = is_acceptable(next, window, segment.seq, segment.len);
@@ -136,29 +102,15 @@ pub fn classify(next: u64, window: u64, segment: Segment) -> Arrival {
     }
 }
 
-/// Returns whether a segment may acknowledge `ack`: it isn't above `sent`, nor below
-/// `first_unacknowledged` by more than the greatest window that the peer ever announced (RFC 5961,
+/// Returns whether a segment may acknowledge `ack`: it isn't above what was sent, nor below the first
+/// unacknowledged position by more than the greatest window that the peer ever announced (RFC 5961,
 /// section 5). If it may not, nothing of the segment is taken, and it is answered.
 ///
-/// # [Guarantees](crate::contracts#guarantees)
+/// # [Guarantees](crate#guarantees)
 ///
-/// - `result` exactly if `first_unacknowledged <= ack + greatest_window` and `ack <= sent`
-///
-/// <details><summary>Contract</summary>
-///
-/// In the words of [`contracts`](crate::contracts):
-///
-/// ```text
-/// ensures { IsTrue result ↔ ((first_unacknowledged ≤ ack + greatest_window) × (ack ≤ sent)) }
-/// ```
-///
-/// </details>
+/// - `result` exactly if `numbers.first_unacknowledged <= ack + greatest_window` and `ack <= numbers.sent`
 #[must_use]
-pub fn is_acknowledgement(
-    first_unacknowledged: u64,
-    sent: u64,
-    greatest_window: u64,
-    ack: u64,
-) -> bool {
-    first_unacknowledged.saturating_sub(ack) <= greatest_window && ack <= sent
+pub fn is_acknowledgement(numbers: SentNumbers, greatest_window: u64, ack: u64) -> bool {
+    let behind = numbers.first_unacknowledged.saturating_sub(ack);
+    behind <= greatest_window && ack <= numbers.sent
 }

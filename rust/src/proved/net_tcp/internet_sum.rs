@@ -1,209 +1,127 @@
 //! The Internet checksum (RFC 1071), over one part or several, and its update (RFC 1624).
 
+use crate::rattle::prelude::*;
 /// The sum of the bytes of several parts of a message, one after another, of any lengths.
 /// One of zeros is that of no bytes.
+///
+/// Contracts: `crates/net_tcp/src/internet_sum.rt`.
 #[repr(C)]
 #[derive(Copy, Clone, Debug, PartialEq, Eq, Hash)]
 pub struct PartsSum {
     /// The sum of the words, folded to 16 bits; 0 only if that sum is 0.
-    pub sum: u64,
-    /// 1 if the next byte is the low byte of a word, 0 if it is the high one.
-    pub odd: u64,
+    sum: u16,
+    /// Whether the next byte is the low byte of a word.
+    odd: bool,
 }
 
 impl PartsSum {
     /// Returns the sum of no bytes.
-    ///
-    /// <details><summary>Contract</summary>
-    ///
-    /// In the words of [`contracts`](crate::contracts):
-    ///
-    /// ```text
-    /// ensures nothing { Sums result [] }
-    /// ensures zeros { (result.sum ≡ 0) × (result.odd ≡ 0) }
-    /// ```
-    ///
-    /// </details>
     #[must_use]
     pub const fn new() -> Self {
-        PartsSum { sum: 0, odd: 0 }
+        PartsSum { sum: 0, odd: false }
     }
 
     /// Adds the bytes that follow those which were added.
-    ///
-    /// <details><summary>Contract</summary>
-    ///
-    /// In the words of [`contracts`](crate::contracts):
-    ///
-    /// ```text
-    /// ensures value { self.new ≡ sum_with self.old part.now }
-    /// ensures bytes { (xs : List ℕ) → Sums self.old xs → Sums self.new (xs ++ part.now) }
-    /// ```
-    ///
-    /// </details>
     pub fn add(&mut self, part: &[u8]) {
         *self = self.with(part);
     }
 
     /// Returns the sum of the bytes that were added and of those that follow them.
-    ///
-    /// <details><summary>Contract</summary>
-    ///
-    /// In the words of [`contracts`](crate::contracts):
-    ///
-    /// ```text
-    /// ensures value { result ≡ sum_with self part.now }
-    /// ensures bytes { (xs : List ℕ) → Sums self xs → Sums result (xs ++ part.now) }
-    /// ```
-    ///
-    /// </details>
     #[must_use]
     pub fn with(self, part: &[u8]) -> Self {
-        if self.odd == 0 {
-            return sum_from(self.sum, part);
+        let sum = u64::from(self.sum);
+        if !self.odd {
+            return sum_from(sum, part);
         }
         match part.split_first() {
-            Some((low, words)) => sum_from(add_carry(self.sum, u64::from(*low)), words),
-            None => sum_from(self.sum, &[0]),
+            Some((low, words)) => sum_from(sum + u64::from(*low), words),
+            None => self,
         }
     }
 
     /// Returns the sum of the bytes that were added and of a word that follows them, as one of a
     /// pseudo-header.
     ///
-    /// # Panics
+    /// # Panics, unless
     ///
-    /// Unless an even count of bytes was added.
-    ///
-    /// <details><summary>Contract</summary>
-    ///
-    /// In the words of [`contracts`](crate::contracts):
-    ///
-    /// ```text
-    /// requires { self.odd ≡ 0 }
-    /// ensures value { result ≡ sum_with self (word_bytes word) }
-    /// ensures bytes { (xs : List ℕ) → Sums self xs → Sums result (xs ++ word_bytes word) }
-    /// ```
-    ///
-    /// </details>
+    /// An even count of bytes was added.
     #[must_use]
     #[track_caller]
     pub fn with_word(self, word: u16) -> Self {
-        assert!(self.odd == 0, "an odd count of bytes was added");
+        prove!(!self.odd, "an odd count of bytes was added");
         PartsSum {
-            sum: folded_sum(self.sum, u64::from(word)),
-            odd: 0,
+            sum: folded_sum(self.sum, word),
+            odd: false,
         }
     }
 
     /// Returns the sum of the bytes that were added, and of those of which `after` is the sum.
-    ///
-    /// <details><summary>Contract</summary>
-    ///
-    /// In the words of [`contracts`](crate::contracts):
-    ///
-    /// ```text
-    /// ensures value { result ≡ sum_joined self after }
-    /// ensures bytes { (xs ys : List ℕ) → Sums self xs → Sums after ys → Sums result (xs ++ ys) }
-    /// ```
-    ///
-    /// </details>
     #[must_use]
     pub fn joined(self, after: PartsSum) -> Self {
-        if self.odd == 0 {
+        if self.odd {
+            PartsSum {
+                sum: folded_sum(self.sum, swapped(after.sum)),
+                odd: !after.odd,
+            }
+        } else {
             PartsSum {
                 sum: folded_sum(self.sum, after.sum),
                 odd: after.odd,
             }
-        } else {
-            PartsSum {
-                sum: folded_sum(self.sum, u64::from(swapped(fold(after.sum)))),
-                odd: u64::from(after.odd == 0),
-            }
         }
     }
 
-    /// Returns the checksum of the bytes that were added.
-    ///
-    /// <details><summary>Contract</summary>
-    ///
-    /// In the words of [`contracts`](crate::contracts):
-    ///
-    /// ```text
-    /// ensures value { result ≡ 65535 - folded self.now.sum }
-    /// ensures bytes { (xs : List ℕ) → Sums self.now xs → result ≡ internet_checksum xs }
-    /// ```
-    ///
-    /// </details>
+    /// Returns the checksum of the bytes that were added. It is a number: in a message its high byte comes
+    /// first.
     #[must_use]
     pub fn checksum(&self) -> u16 {
-        u16::MAX - fold(self.sum)
+        u16::MAX - self.sum
+    }
+
+    /// Returns the checksum of the bytes that were added as UDP sends it: 65535 in place of 0, which says
+    /// that there is none (RFC 768). A message with either is valid.
+    ///
+    /// ```
+    /// # use net_base::checksum::PartsSum;
+    /// let sum = PartsSum::new().with(&[0xff, 0xff]);
+    /// assert_eq!((sum.checksum(), sum.udp_checksum()), (0, 0xffff));
+    /// ```
+    ///
+    /// # [Guarantees](crate#guarantees)
+    ///
+    /// - `0 < result`
+    #[must_use]
+    pub fn udp_checksum(&self) -> u16 {
+        if self.sum == u16::MAX {
+            u16::MAX
+        } else {
+            u16::MAX - self.sum
+        }
     }
 
     /// Returns whether the bytes that were added, with a checksum among them at an even offset, are
-    /// valid.
-    ///
-    /// <details><summary>Contract</summary>
-    ///
-    /// In the words of [`contracts`](crate::contracts):
-    ///
-    /// ```text
-    /// ensures value { IsTrue result ↔ (folded self.now.sum ≡ 65535) }
-    /// ensures bytes { (xs : List ℕ) → Sums self.now xs
-    ///     → (IsTrue result ↔ (folded (word_sum xs) ≡ 65535)) }
-    /// ```
-    ///
-    /// </details>
+    /// valid. No bytes are not.
     #[must_use]
     pub fn is_valid(&self) -> bool {
-        fold(self.sum) == u16::MAX
+        self.sum == u16::MAX
     }
 }
 
 /// Returns the checksum of these bytes.
-///
-/// <details><summary>Contract</summary>
-///
-/// In the words of [`contracts`](crate::contracts):
-///
-/// ```text
-/// ensures { result ≡ internet_checksum bytes.now }
-/// ```
-///
-/// </details>
 #[must_use]
 pub fn checksum(bytes: &[u8]) -> u16 {
     u16::MAX - fold(sum_words(0, bytes))
 }
 
 /// Returns whether these bytes, with their checksum among them at an even offset, are valid.
-///
-/// <details><summary>Contract</summary>
-///
-/// In the words of [`contracts`](crate::contracts):
-///
-/// ```text
-/// ensures { IsTrue result ↔ (folded (word_sum bytes.now) ≡ 65535) }
-/// ```
-///
-/// </details>
 #[must_use]
 pub fn is_valid(bytes: &[u8]) -> bool {
     fold(sum_words(0, bytes)) == u16::MAX
 }
 
-/// Returns the checksum of a message in which the word `old`, at an even offset, became `new`, from its
-/// checksum before (RFC 1624, equation 3); of one that is all zeros then, 0 in place of 65535.
-///
-/// <details><summary>Contract</summary>
-///
-/// In the words of [`contracts`](crate::contracts):
-///
-/// ```text
-/// ensures { result ≡ updated checksum old new }
-/// ```
-///
-/// </details>
+/// Returns the checksum of a message in which the word `old`, at an even offset, became `new`, from
+/// its checksum before (RFC 1624, equation 3); of one that is all zeros then, 0 in place of 65535.
+/// Checksums and words are numbers: in a message the high byte comes first.
 #[must_use]
 pub fn updated_checksum(checksum: u16, old: u16, new: u16) -> u16 {
     let without = u64::from(u16::MAX - checksum) + u64::from(u16::MAX - old);
@@ -213,8 +131,8 @@ pub fn updated_checksum(checksum: u16, old: u16, new: u16) -> u16 {
 /// Returns the sum of some words and of these bytes, the first of which is a high byte.
 fn sum_from(start: u64, bytes: &[u8]) -> PartsSum {
     PartsSum {
-        sum: u64::from(fold(sum_words(start, bytes))),
-        odd: bytes.len() as u64 % 2,
+        sum: fold(sum_words(start, bytes)),
+        odd: bytes.len() % 2 == 1,
     }
 }
 
@@ -265,10 +183,10 @@ fn add_carry(a: u64, b: u64) -> u64 {
     sum + carried as u64
 }
 
-/// Adds two sums, and folds theirs.
+/// Adds two words, and folds their sum.
 #[inline]
-fn folded_sum(a: u64, b: u64) -> u64 {
-    u64::from(fold(add_carry(a, b)))
+fn folded_sum(a: u16, b: u16) -> u16 {
+    fold(u64::from(a) + u64::from(b))
 }
 
 /// Returns a word with its bytes exchanged.

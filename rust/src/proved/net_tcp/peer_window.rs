@@ -1,110 +1,101 @@
 //! The window that the peer announced.
 
+use crate::rattle::prelude::*;
 use crate::proved::net_tcp::advertised_window::MAX_SCALE;
+use crate::proved::net_numbers::SentNumbers;
+
+/// What a segment announces: the window from the position that it acknowledges on, and the numbers by
+/// which its age is told.
+///
+/// Contracts: `crates/net_tcp/src/peer_window.rt`.
+#[repr(C)]
+#[derive(Copy, Clone, Debug, PartialEq, Eq, Hash)]
+pub struct Announcement {
+    /// The position of the segment's first byte, in the peer's stream.
+    pub seq: u64,
+    /// The position that it acknowledges.
+    pub ack: u64,
+    /// How many bytes may be sent from there on, as `scaled` returns it.
+    pub window: u64,
+}
 
 /// The window that the peer announced, and the segment that it is from. It is kept as its right edge, a
-/// position. One of zeros lets nothing be sent but a probe, and no segment is older.
+/// position.
+///
+/// Contracts: `crates/net_tcp/src/peer_window.rt`.
 #[repr(C)]
 #[derive(Copy, Clone, Debug, PartialEq, Eq, Hash)]
 pub struct PeerWindow {
-    /// The position after the last that may be sent.
-    pub edge: u64,
-    /// The position of the segment's first byte, in the peer's stream.
-    pub seq: u64,
-    /// The position that it acknowledged.
-    pub ack: u64,
+    /// The position after the window's last one.
+    edge: u64,
+    /// The position of the segment that the window is from, by the peer's numbers.
+    seq: u64,
+    /// The position that this segment acknowledged.
+    ack: u64,
 }
 
-/// Returns how many bytes the field of a segment announces.
+/// Returns how many bytes the field of a segment announces. A scale above 14 counts as 14, as RFC 7323,
+/// section 2.3, has it.
 ///
-/// # Panics
+/// # [Guarantees](crate#guarantees)
 ///
-/// Unless the scale is at most 14.
-///
-/// # [Guarantees](crate::contracts#guarantees)
-///
-/// - `result == field * 2^scale`
+/// - `result == field * 2^shift_count(scale)`
 /// - `result < 2^30`
-///
-/// <details><summary>Contract</summary>
-///
-/// In the words of [`contracts`](crate::contracts):
-///
-/// ```text
-/// requires { scale ≤ 14 }
-/// ensures value { result ≡ field * 2 ^ scale }
-/// ensures few { result < 2 ^ 30 }
-/// ```
-///
-/// </details>
 #[must_use]
-#[track_caller]
 pub fn scaled(field: u16, scale: u8) -> u64 {
-    assert!(scale <= MAX_SCALE, "a greater scale than 14");
-    u64::from(field) << scale
+    u64::from(field) << scale.min(MAX_SCALE)
 }
 
 impl PeerWindow {
-    /// Returns the window that a segment announced.
-    ///
-    /// <details><summary>Contract</summary>
-    ///
-    /// In the words of [`contracts`](crate::contracts):
-    ///
-    /// ```text
-    /// ensures { result ≡ window_from seq ack window }
-    /// ```
-    ///
-    /// </details>
+    /// Returns the window before any segment: nothing may be sent but a probe, and no segment is older.
     #[must_use]
-    pub fn new(seq: u64, ack: u64, window: u64) -> Self {
+    pub const fn new() -> Self {
         PeerWindow {
-            edge: ack.saturating_add(window),
-            seq,
-            ack,
+            edge: 0,
+            seq: 0,
+            ack: 0,
         }
     }
 
+    /// Returns the window that a segment announced.
+    #[must_use]
+    pub fn of(it: Announcement) -> Self {
+        PeerWindow {
+            edge: it.ack.saturating_add(it.window),
+            seq: it.seq,
+            ack: it.ack,
+        }
+    }
+
+    /// Returns the position after the last that may be sent.
+    #[must_use]
+    pub const fn edge(&self) -> u64 {
+        self.edge
+    }
+
+    /// Lets all positions below `edge` be sent, unless more may be already: for a protocol that announces
+    /// a position, and no number that tells which of two segments is the older one. Such a window doesn't shrink.
+    pub fn open_to(&mut self, edge: u64) {
+        self.edge = self.edge.max(edge);
+    }
+
     /// Takes over the window of an acceptable segment, unless it acknowledges a position below
-    /// `first_unacknowledged` or above `sent`, or is older than the one before and acknowledges no
-    /// more. Returns whether it did. A window may shrink.
+    /// the first unacknowledged one or above what was sent, or is older than the one before and
+    /// acknowledges no more. Returns whether it did. A window may shrink.
     ///
     /// RFC 9293 takes none of an older number. So one forged segment ahead in the window would shut out
     /// each later one. It makes no difference whether the sender takes what the segment acknowledges
     /// before this call or after it.
     ///
-    /// # [Guarantees](crate::contracts#guarantees)
+    /// # [Guarantees](crate#guarantees)
     ///
-    /// - `result` exactly if `first_unacknowledged <= ack` and `ack <= sent` and `Replaces(old(self), seq, ack)`
-    /// - if `result`, then `self == PeerWindow::new(seq, ack, window)`
-    /// - if `!result`, then `self == old(self)`
-    ///
-    /// <details><summary>Contract</summary>
-    ///
-    /// In the words of [`contracts`](crate::contracts):
-    ///
-    /// ```text
-    /// ensures accepted { IsTrue result ↔ ((first_unacknowledged ≤ ack) × (ack ≤ sent)
-    ///     × (Replaces self.old seq ack)) }
-    /// ensures window { IsTrue result → self.new ≡ window_from seq ack window }
-    /// ensures refused { IsFalse result → self.new ≡ self.old }
-    /// ensures state { self.new
-    ///     ≡ after_update self.old first_unacknowledged sent seq ack window }
-    /// ```
-    ///
-    /// </details>
-    pub fn update(
-        &mut self,
-        first_unacknowledged: u64,
-        sent: u64,
-        seq: u64,
-        ack: u64,
-        window: u64,
-    ) -> bool {
-        if ack < first_unacknowledged || ack > sent || !self.is_replaced_by(seq, ack) {
+    /// - `result` exactly if `numbers.first_unacknowledged <= it.ack` and `it.ack <= numbers.sent` and `Replaces(old(self), it.seq, it.ack)`
+    pub fn update(&mut self, numbers: SentNumbers, it: Announcement) -> bool {
+        let is_possible = numbers.first_unacknowledged <= it.ack && it.ack <= numbers.sent;
+        if !is_possible || !self.is_replaced_by(it.seq, it.ack) {
             return false;
         }
-        *self = PeerWindow::new(seq, ack, window);
+        *self = PeerWindow::of(it);
         true
     }
 
@@ -118,19 +109,9 @@ impl PeerWindow {
     /// Returns how many bytes from `pos` on may be sent: none if the edge is at or below it, as it
     /// may be after the window shrank.
     ///
-    /// # [Guarantees](crate::contracts#guarantees)
+    /// # [Guarantees](crate#guarantees)
     ///
-    /// - `result == self.edge.saturating_sub(pos)`
-    ///
-    /// <details><summary>Contract</summary>
-    ///
-    /// In the words of [`contracts`](crate::contracts):
-    ///
-    /// ```text
-    /// ensures { result ≡ self.now.edge - pos }
-    /// ```
-    ///
-    /// </details>
+    /// - `result == self.edge().saturating_sub(pos)`
     #[must_use]
     pub fn usable(&self, pos: u64) -> u64 {
         self.edge.saturating_sub(pos)
@@ -138,19 +119,9 @@ impl PeerWindow {
 
     /// Returns the end of what may be sent of the bytes below `end`.
     ///
-    /// # [Guarantees](crate::contracts#guarantees)
+    /// # [Guarantees](crate#guarantees)
     ///
-    /// - `result == min(self.edge, end)`
-    ///
-    /// <details><summary>Contract</summary>
-    ///
-    /// In the words of [`contracts`](crate::contracts):
-    ///
-    /// ```text
-    /// ensures { result ≡ min self.now.edge end }
-    /// ```
-    ///
-    /// </details>
+    /// - `result == min(self.edge(), end)`
     #[must_use]
     pub fn send_limit(&self, end: u64) -> u64 {
         self.edge.min(end)
@@ -159,53 +130,29 @@ impl PeerWindow {
     /// Returns whether a probe may be sent, the one byte at `first_unacknowledged`: the window has
     /// closed, and there are bytes below `end` that wait.
     ///
-    /// # [Guarantees](crate::contracts#guarantees)
+    /// # [Guarantees](crate#guarantees)
     ///
-    /// - `result` exactly if `self.edge <= first_unacknowledged` and `first_unacknowledged < end`
-    /// - if `first_unacknowledged < end` and `!result`, then `first_unacknowledged < self.send_limit(end)`
-    ///
-    /// <details><summary>Contract</summary>
-    ///
-    /// In the words of [`contracts`](crate::contracts):
-    ///
-    /// ```text
-    /// ensures value { IsTrue result
-    ///     ↔ ((self.now.edge ≤ first_unacknowledged) × (first_unacknowledged < end)) }
-    /// ensures progress { first_unacknowledged < end → IsFalse result →
-    ///     first_unacknowledged < min self.now.edge end }
-    /// ```
-    ///
-    /// </details>
+    /// - `result` exactly if `self.edge() <= first_unacknowledged` and `first_unacknowledged < end`
+    /// - if `first_unacknowledged < end` and `!result`, then `first_unacknowledged < min(self.edge(), end)`
     #[must_use]
     pub fn is_probe_allowed(&self, first_unacknowledged: u64, end: u64) -> bool {
         self.edge <= first_unacknowledged && first_unacknowledged < end
     }
+
     /// Returns the number of a segment without positions, as an acknowledgement is: `sent`, or the end of
-    /// the window if that is below it, or `first_unacknowledged` if the window ends before that.
+    /// the window if that is below it, or the first unacknowledged position if the window ends before that.
     ///
     /// A peer whose window is shut takes no number beyond it, though a probe was sent there, nor what
     /// such a segment acknowledges.
     ///
-    /// # [Guarantees](crate::contracts#guarantees)
+    /// # [Guarantees](crate#guarantees)
     ///
-    /// - `result <= sent`
-    /// - `result <= max(self.edge, first_unacknowledged)`
-    /// - if `first_unacknowledged <= sent`, then `first_unacknowledged <= result`
-    ///
-    /// <details><summary>Contract</summary>
-    ///
-    /// In the words of [`contracts`](crate::contracts):
-    ///
-    /// ```text
-    /// ensures value { result ≡ acknowledgement_number self.now first_unacknowledged sent }
-    /// ensures sent { result ≤ sent }
-    /// ensures promised { result ≤ max self.now.edge first_unacknowledged }
-    /// ensures first { first_unacknowledged ≤ sent → first_unacknowledged ≤ result }
-    /// ```
-    ///
-    /// </details>
+    /// - `result <= numbers.sent`
+    /// - `result <= max(self.edge(), numbers.first_unacknowledged)`
+    /// - if `numbers.first_unacknowledged <= numbers.sent`, then `numbers.first_unacknowledged <= result`
     #[must_use]
-    pub fn acknowledgement_number(&self, first_unacknowledged: u64, sent: u64) -> u64 {
-        sent.min(self.edge.max(first_unacknowledged))
+    pub fn acknowledgement_number(&self, numbers: SentNumbers) -> u64 {
+        let first = numbers.first_unacknowledged;
+        numbers.sent.min(self.edge.max(first))
     }
 }

@@ -1,56 +1,55 @@
-//! The time until a retransmission, in whole microseconds.
+//! The time until a retransmission.
+
+use crate::rattle::prelude::*;
+use crate::proved::net_base::time::{Duration, Instant};
+use crate::rattle::std::marker::Model;
 
 /// The longest round trip that counts, in microseconds: 2^60, some 36,000 years.
 const LONGEST_SAMPLE: u64 = 1 << 60;
 
-/// An estimate of the time of a round trip.
-#[repr(C)]
+/// An estimate of the time of a round trip: the smoothed time, in eighths of a microsecond, and its
+/// variation, in quarters.
+///
+/// Contracts: `crates/net_tcp/src/retransmission.rt`.
 #[derive(Copy, Clone, Debug, PartialEq, Eq, Hash)]
 pub struct RttEstimate {
-    /// Eight times the smoothed time.
-    pub srtt_8: u64,
-    /// Four times its variation.
-    pub rttvar_4: u64,
+    srtt_8: u64,
+    rttvar_4: u64,
+}
+
+impl Model for RttEstimate {
 }
 
 /// The bounds of a timeout, and the tick of the clock that the samples are read from.
-#[repr(C)]
+///
+/// Contracts: `crates/net_tcp/src/retransmission.rt`.
 #[derive(Copy, Clone, Debug, PartialEq, Eq, Hash)]
 pub struct TimeoutBounds {
     /// The least timeout.
-    pub least: u64,
+    pub least: Duration,
     /// The greatest, unless `least` is above it.
-    pub most: u64,
+    pub most: Duration,
     /// The time between two ticks of the clock.
-    pub tick: u64,
+    pub tick: Duration,
 }
 
 /// When an acknowledged segment was sent. A segment that was sent again gives no sample: which of
 /// the copies was acknowledged is not known (Karn).
+///
+/// Contracts: `crates/net_tcp/src/retransmission.rt`.
 #[derive(Copy, Clone, Debug, PartialEq, Eq, Hash)]
 pub enum Transmission {
-    /// Once, at this time.
-    Once(u64),
+    /// Once, at this moment.
+    Once(Instant),
     /// More than once.
     Repeated,
 }
 
 impl RttEstimate {
     /// Returns the estimate after the first sample.
-    ///
-    /// <details><summary>Contract</summary>
-    ///
-    /// In the words of [`contracts`](crate::contracts):
-    ///
-    /// ```text
-    /// ensures value { result ≡ first_estimate (sample time) }
-    /// ensures small { IsSmall result }
-    /// ```
-    ///
-    /// </details>
     #[must_use]
-    pub fn first(time: u64) -> Self {
-        let time = time.min(LONGEST_SAMPLE);
+    pub fn first(time: Duration) -> Self {
+        let time = time.total_micros().min(LONGEST_SAMPLE);
         RttEstimate {
             srtt_8: time * 8,
             rttvar_4: time * 2,
@@ -58,236 +57,116 @@ impl RttEstimate {
     }
 
     /// Returns the estimate after one more sample.
-    ///
-    /// # Panics
-    ///
-    /// Unless the estimate was made by samples, as `is_small` tests.
-    ///
-    /// <details><summary>Contract</summary>
-    ///
-    /// In the words of [`contracts`](crate::contracts):
-    ///
-    /// ```text
-    /// requires { IsSmall self }
-    /// ensures value { result ≡ next_estimate self (sample time) }
-    /// ensures small { IsSmall result }
-    /// ```
-    ///
-    /// </details>
     #[must_use]
-    #[track_caller]
-    pub fn with_sample(self, time: u64) -> Self {
-        assert!(self.is_small(), "an estimate that was not made by samples");
-        let time = time.min(LONGEST_SAMPLE);
+    pub fn with_sample(self, time: Duration) -> Self {
+        let time = time.total_micros().min(LONGEST_SAMPLE);
         RttEstimate {
             srtt_8: self.srtt_8 - (self.srtt_8 >> 3) + time,
             rttvar_4: self.rttvar_4 - (self.rttvar_4 >> 2) + (self.srtt_8 >> 3).abs_diff(time),
         }
     }
 
-    /// Returns whether this estimate has room for a sample, as any has that was made by samples.
-    ///
-    /// <details><summary>Contract</summary>
-    ///
-    /// In the words of [`contracts`](crate::contracts):
-    ///
-    /// ```text
-    /// ensures { IsTrue result ↔ IsSmall self }
-    /// ```
-    ///
-    /// </details>
+    /// Returns the estimate of these numbers: eight times the smoothed time, of which no more than 2^63
+    /// count, and four times its variation, of which no more than 2^62 do. Samples give no more.
     #[must_use]
-    pub const fn is_small(self) -> bool {
-        self.srtt_8 <= 1 << 63 && self.rttvar_4 <= 1 << 62
+    pub fn from_scaled(srtt_8: u64, rttvar_4: u64) -> Self {
+        RttEstimate {
+            srtt_8: srtt_8.min(1 << 63),
+            rttvar_4: rttvar_4.min(1 << 62),
+        }
+    }
+
+    /// Returns eight times the smoothed time, and four times its variation, in microseconds.
+    #[must_use]
+    pub fn scaled(self) -> (u64, u64) {
+        (self.srtt_8, self.rttvar_4)
     }
 
     /// Returns the smoothed time.
-    ///
-    /// <details><summary>Contract</summary>
-    ///
-    /// In the words of [`contracts`](crate::contracts):
-    ///
-    /// ```text
-    /// ensures { result ≡ self.srtt_8 / 8 }
-    /// ```
-    ///
-    /// </details>
     #[must_use]
-    pub fn srtt(self) -> u64 {
-        self.srtt_8 >> 3
+    pub fn srtt(self) -> Duration {
+        Duration::from_micros(self.srtt_8 >> 3)
     }
 
     /// Returns the timeout that it gives: at least the smoothed time, but for the greatest timeout.
-    ///
-    /// <details><summary>Contract</summary>
-    ///
-    /// In the words of [`contracts`](crate::contracts):
-    ///
-    /// ```text
-    /// ensures value { result ≡ timeout_of bounds self }
-    /// ensures least { bounds.least ≤ result }
-    /// ensures most { bounds.least ≤ bounds.most → result ≤ bounds.most }
-    /// ensures long { min bounds.most (self.srtt_8 / 8) ≤ result }
-    /// ```
-    ///
-    /// </details>
     #[must_use]
-    pub fn timeout(self, bounds: TimeoutBounds) -> u64 {
-        let time = (self.srtt_8 >> 3).saturating_add(bounds.tick.max(self.rttvar_4));
-        bounds.least.max(bounds.most.min(time))
+    pub fn timeout(self, bounds: TimeoutBounds) -> Duration {
+        let variation = bounds.tick.total_micros().max(self.rttvar_4);
+        let time = (self.srtt_8 >> 3).saturating_add(variation);
+        bounded(bounds, time)
     }
 }
 
-/// The time until a retransmission. Its numbers but `timeout` are 0 before any sample.
-#[repr(C)]
+/// The time until a retransmission.
+///
+/// Contracts: `crates/net_tcp/src/retransmission.rt`.
 #[derive(Copy, Clone, Debug, PartialEq, Eq, Hash)]
 pub struct RetransmissionTimeout {
-    /// The estimate, once there was a sample.
-    pub estimate: RttEstimate,
-    /// Not 0 once there was a sample; this library writes 1 then.
-    pub has_estimate: u64,
-    /// The timeout.
-    pub timeout: u64,
+    estimate: Option<RttEstimate>,
+    timeout: Duration,
 }
 
 impl RetransmissionTimeout {
     /// Returns a timeout before any sample. The RFC has 1 second.
-    ///
-    /// <details><summary>Contract</summary>
-    ///
-    /// In the words of [`contracts`](crate::contracts):
-    ///
-    /// ```text
-    /// ensures value { result ≡ before_samples timeout }
-    /// ensures none { estimate_of result ≡ None }
-    /// ensures small { IsSmallIfAny (estimate_of result) }
-    /// ```
-    ///
-    /// </details>
     #[must_use]
-    pub const fn new(timeout: u64) -> Self {
+    pub const fn new(timeout: Duration) -> Self {
         RetransmissionTimeout {
-            estimate: RttEstimate {
-                srtt_8: 0,
-                rttvar_4: 0,
-            },
-            has_estimate: 0,
+            estimate: None,
             timeout,
         }
     }
 
+    /// Returns a timeout with the estimate of the samples so far, if there were any.
+    #[must_use]
+    pub const fn from_parts(estimate: Option<RttEstimate>, timeout: Duration) -> Self {
+        RetransmissionTimeout { estimate, timeout }
+    }
+
     /// Returns the estimate, if there was a sample.
-    ///
-    /// <details><summary>Contract</summary>
-    ///
-    /// In the words of [`contracts`](crate::contracts):
-    ///
-    /// ```text
-    /// ensures { result ≡ estimate_of self.now }
-    /// ```
-    ///
-    /// </details>
     #[must_use]
     pub fn rtt(&self) -> Option<RttEstimate> {
-        if self.has_estimate == 0 {
-            return None;
-        }
-        Some(self.estimate)
+        self.estimate
+    }
+
+    /// Returns the timeout.
+    #[must_use]
+    pub fn timeout(&self) -> Duration {
+        self.timeout
     }
 
     /// Takes over the sample of a segment that was acknowledged now, if it was sent once.
-    ///
-    /// # Panics
-    ///
-    /// Unless the estimate, if there is one, was made by samples, as `is_small` tests.
-    ///
-    /// <details><summary>Contract</summary>
-    ///
-    /// In the words of [`contracts`](crate::contracts):
-    ///
-    /// ```text
-    /// requires { IsSmallIfAny (estimate_of self.old) }
-    /// ensures state { self.new ≡ after_acknowledgement bounds sent now self.old }
-    /// ensures small { IsSmallIfAny (estimate_of self.new) }
-    /// ```
-    ///
-    /// </details>
-    #[track_caller]
-    pub fn acknowledged(&mut self, bounds: TimeoutBounds, sent: Transmission, now: u64) {
-        assert!(self.is_small(), "an estimate that was not made by samples");
+    pub fn acknowledged(&mut self, bounds: TimeoutBounds, sent: Transmission, now: Instant) {
         match sent {
-            Transmission::Once(at) => self.take_sample(bounds, now.saturating_sub(at)),
+            Transmission::Once(at) => self.take_sample(bounds, now.saturating_duration_since(at)),
             Transmission::Repeated => {}
         }
-    }
-
-    /// Returns whether the estimate, if there is one, has room for a sample, as any has that was made
-    /// by samples.
-    ///
-    /// <details><summary>Contract</summary>
-    ///
-    /// In the words of [`contracts`](crate::contracts):
-    ///
-    /// ```text
-    /// ensures { IsTrue result ↔ IsSmallIfAny (estimate_of self.now) }
-    /// ```
-    ///
-    /// </details>
-    #[must_use]
-    pub fn is_small(&self) -> bool {
-        self.has_estimate == 0 || self.estimate.is_small()
     }
 
     /// Takes over a sample, the time from when a segment was sent until it was acknowledged. The
     /// segment was sent once: of one that was sent again it is not known which of the copies was
     /// acknowledged.
-    ///
-    /// # Panics
-    ///
-    /// Unless the estimate, if there is one, was made by samples, as `is_small` tests.
-    ///
-    /// <details><summary>Contract</summary>
-    ///
-    /// In the words of [`contracts`](crate::contracts):
-    ///
-    /// ```text
-    /// requires { IsSmallIfAny (estimate_of self.old) }
-    /// ensures state { self.new ≡ after_sample bounds time self.old }
-    /// ensures small { IsSmallIfAny (estimate_of self.new) }
-    /// ```
-    ///
-    /// </details>
-    #[track_caller]
-    pub fn take_sample(&mut self, bounds: TimeoutBounds, time: u64) {
-        assert!(self.is_small(), "an estimate that was not made by samples");
-        self.estimate = updated(self.rtt(), time);
-        self.has_estimate = 1;
-        self.timeout = self.estimate.timeout(bounds);
+    pub fn take_sample(&mut self, bounds: TimeoutBounds, time: Duration) {
+        let estimate = updated(self.estimate, time);
+        self.estimate = Some(estimate);
+        self.timeout = estimate.timeout(bounds);
     }
 
     /// Doubles the timeout within the bounds, after it passed.
-    ///
-    /// <details><summary>Contract</summary>
-    ///
-    /// In the words of [`contracts`](crate::contracts):
-    ///
-    /// ```text
-    /// ensures timeout { self.new.timeout ≡ doubled bounds self.old.timeout }
-    /// ensures estimate { self.new.estimate ≡ self.old.estimate }
-    /// ensures has_estimate { self.new.has_estimate ≡ self.old.has_estimate }
-    /// ```
-    ///
-    /// </details>
     pub fn expired(&mut self, bounds: TimeoutBounds) {
-        let timeout = self.timeout.saturating_mul(2);
-        self.timeout = bounds.least.max(bounds.most.min(timeout));
+        self.timeout = bounded(bounds, self.timeout.total_micros().saturating_mul(2));
     }
 }
 
 /// Returns the estimate after a sample.
-fn updated(estimate: Option<RttEstimate>, time: u64) -> RttEstimate {
+fn updated(estimate: Option<RttEstimate>, time: Duration) -> RttEstimate {
     match estimate {
         Some(estimate) => estimate.with_sample(time),
         None => RttEstimate::first(time),
     }
+}
+
+/// Returns a time within the bounds.
+fn bounded(bounds: TimeoutBounds, time: u64) -> Duration {
+    let most = bounds.most.total_micros().min(time);
+    Duration::from_micros(bounds.least.total_micros().max(most))
 }

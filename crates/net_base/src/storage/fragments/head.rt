@@ -6,6 +6,7 @@ ghost use Rattle.net_assembler.specs.Assembler.{MakesTooManyRuns};
 ghost use Rattle.net_assembler.specs.Positions.{nothing};
 ghost use Rattle.net_assembler.specs.RunLists.{set_of, HasSoundRuns};
 ghost use Rattle.net_base.specs.Fragments.{with_fragment, limit_of, IsComplete, IsBelow, Contradicts};
+ghost use Rattle.net_base.specs.Fragments.{begun, with_piece, HasOtherEnd};
 ghost use Rattle.net_base.specs.Fragments.{Differs, HasOther, Meets};
 ghost use Rattle.net_base.specs.FragmentParts.{total_of, fragments_of, HasSoundParts, IsExact};
 
@@ -39,7 +40,8 @@ pub struct FragmentsHead {
 }
 
 impl FragmentsHead {
-    /// Returns the head of an empty buffer that expires after `expires_at`.
+    /// Returns the head of an empty buffer, whose packet is waited for up to `expires_at`, in
+    /// microseconds. It is sound for any memory.
     pub const fn new(expires_at: i64) -> Self
         ensures sound { (bytes : List ℕ) (runs : List (ℕ × ℕ)) → HasSoundParts result bytes runs }
         ensures nothing { (runs : List (ℕ × ℕ)) → set_of result.present runs ≡ nothing }
@@ -128,11 +130,12 @@ impl FragmentsHead {
         head
     }
 
-    /// Adds a fragment, whose first byte is that of the packet at `offset`.
+    /// Adds a fragment, whose first byte is that of the packet at `offset`. One without bytes has
+    /// its end at `offset`, and adds nothing.
     ///
-    /// It is refused, and nothing changes, exactly if it reaches past the buffer's end, which is
-    /// `TooLong`, or else past the packet's, which is `OtherSize`, or else would leave more maximal runs
-    /// than there is room for, which is `TooManyHoles`.
+    /// Returns `TooLong`, and changes nothing, if the fragment reaches past the buffer's end, or
+    /// else `OtherSize` if it reaches past a known size, or else `TooManyHoles` if there would be
+    /// more runs than the slice has elements.
     ///
     /// # Requires
     ///
@@ -183,10 +186,104 @@ impl FragmentsHead {
         Ok(())
     }
 
+    /// Adds a fragment, as `add` does, and takes its end as the packet's if it is the last one. If it is
+    /// refused, nothing changes.
+    ///
+    /// # Requires
+    ///
+    /// Head, bytes and runs are those of a buffer.
+    pub fn add_fragment(
+        &mut self,
+        bytes: &mut [u8],
+        runs: &mut [Run],
+        offset: usize,
+        data: &[u8],
+        is_last: bool,
+    ) -> Result<(), FragmentError>
+        requires { HasSoundParts self.old bytes.old runs.old }
+        ensures sound { HasSoundParts self.new bytes.new runs.new }
+        ensures ok { OnOk result (fragments_of self.new bytes.new runs.new
+            ≡ with_piece (fragments_of self.old bytes.old runs.old) offset «data».now is_last) }
+        ensures unchanged { OnErr result
+            ((self.new ≡ self.old) × (bytes.new ≡ bytes.old) × (runs.new ≡ runs.old)) }
+        ensures too_long { (result ≡ Err FragmentError.TooLong)
+            ↔ (length bytes.old < offset + length «data».now) }
+        ensures other_size { (result ≡ Err FragmentError.OtherSize)
+            ↔ ((offset + length «data».now ≤ length bytes.old)
+            × HasOtherEnd (fragments_of self.old bytes.old runs.old)
+            (offset + length «data».now) is_last) }
+        ensures too_many { (result ≡ Err FragmentError.TooManyHoles)
+            ↔ ((offset + length «data».now ≤ length bytes.old)
+            × (HasOtherEnd (fragments_of self.old bytes.old runs.old)
+            (offset + length «data».now) is_last → ⊥)
+            × MakesTooManyRuns (length runs.old) (set_of self.old.present runs.old)
+            offset (length «data».now)) }
+        ensures exact { IsExact self.old → IsExact self.new }
+    {
+        if !is_last {
+            return self.add(bytes, runs, offset, data);
+        }
+        let capacity = bytes.len();
+        if ends_above(capacity, offset, data.len()) {
+            return Err(FragmentError::TooLong);
+        }
+        prove!(offset + data.len() <= capacity, "in any `usize`");
+        let mut head = *self;
+        head.set_total_size(capacity, runs, offset + data.len())?;
+        head.add(bytes, runs, offset, data)?;
+        *self = head;
+        Ok(())
+    }
+
+    /// Begins again, for a packet that expires after `expires_at`, with this fragment of it. If it is
+    /// refused, nothing changes.
+    ///
+    /// # Errors
+    ///
+    /// It is refused as `add_fragment` refuses it in an empty buffer.
+    ///
+    /// # Requires
+    ///
+    /// Head, bytes and runs are those of a buffer.
+    pub fn reset_with(
+        &mut self,
+        bytes: &mut [u8],
+        runs: &mut [Run],
+        offset: usize,
+        data: &[u8],
+        is_last: bool,
+        expires_at: i64,
+    ) -> Result<(), FragmentError>
+        requires { HasSoundParts self.old bytes.old runs.old }
+        ensures sound { HasSoundParts self.new bytes.new runs.new }
+        ensures ok { OnOk result (fragments_of self.new bytes.new runs.new
+            ≡ with_piece (begun (fragments_of self.old bytes.old runs.old) expires_at) offset
+            «data».now is_last) }
+        ensures unchanged { OnErr result
+            ((self.new ≡ self.old) × (bytes.new ≡ bytes.old) × (runs.new ≡ runs.old)) }
+        ensures too_long { (result ≡ Err FragmentError.TooLong)
+            ↔ (length bytes.old < offset + length «data».now) }
+        ensures other_size { (result ≡ Err FragmentError.OtherSize)
+            ↔ ((offset + length «data».now ≤ length bytes.old)
+            × HasOtherEnd (begun (fragments_of self.old bytes.old runs.old) expires_at)
+            (offset + length «data».now) is_last) }
+        ensures too_many { (result ≡ Err FragmentError.TooManyHoles)
+            ↔ ((offset + length «data».now ≤ length bytes.old)
+            × (HasOtherEnd (begun (fragments_of self.old bytes.old runs.old) expires_at)
+            (offset + length «data».now) is_last → ⊥)
+            × MakesTooManyRuns (length runs.old) nothing offset (length «data».now)) }
+        ensures exact { IsExact self.old → IsExact self.new }
+    {
+        let mut head = FragmentsHead::new(expires_at);
+        head.add_fragment(bytes, runs, offset, data, is_last)?;
+        *self = head;
+        Ok(())
+    }
+
     /// Sets the packet's size to `size` bytes, of a buffer of `capacity` bytes.
     ///
-    /// It is refused, and nothing changes, exactly if the buffer has fewer bytes, which is `TooLong`, or
-    /// else if another size is known, or a byte at `size` or above has arrived, which is `OtherSize`.
+    /// Returns `TooLong`, and changes nothing, if the buffer has fewer bytes, or else `OtherSize`
+    /// if another size is known, or a byte at `size` or above has arrived.
     ///
     /// # Requires
     ///

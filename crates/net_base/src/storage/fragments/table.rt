@@ -2,17 +2,77 @@
 //!
 //! The slots are lent: as many packets are reassembled at a time. smoltcp has such a table of its own
 //! buffers, `PacketAssemblerSet`.
+//!
+//! ```
+//! use net_base::storage::fragment_table::{claim, take_complete, FragmentSlot};
+//! use net_base::storage::FragmentError;
+//! use net_base::time::Instant;
+//!
+//! let mut bytes = [[0u8; 8]; 2];
+//! let mut slots = bytes.each_mut().map(|bytes| FragmentSlot::<_, _, 4>::over(&mut bytes[..]));
+//! let (until, one, other) = (Instant::from_secs(60), ("10.0.0.1", 7), ("10.0.0.2", 7));
+//! for (key, offset, data) in [(one, 2, b"cd"), (other, 0, b"xy"), (one, 0, b"ab")] {
+//!     let at = claim(&mut slots, key, until).expect("two keys");
+//!     slots[at].buffer.add(offset, data)?;
+//! }
+//! assert!(claim(&mut slots, ("10.0.0.3", 7), until).is_err()); // no slot is left
+//! let at = claim(&mut slots, one, until).expect("its slot");
+//! slots[at].buffer.set_total_size(4)?;
+//! assert_eq!(slots[at].buffer.assemble(), Some(&b"abcd"[..]));
+//! # Ok::<(), FragmentError>(())
+//! ```
 ghost use Rattle.std.specs.Prelude.{◌≡◌, ◌↔◌, ◌<◌, ◌≤◌, ◌<ℤ◌, ℕ, length, set, is_none, slice_get};
-ghost use Rattle.std.specs.Prelude.{pos, [], IsErr, IsNone, IfOk, IfSome, OnErr};
+ghost use Rattle.std.specs.Prelude.{pos, [], IsErr, IsNone, IfOk, IfSome, OnErr, OnOk, Ok, Err, ◌≢◌};
 ghost use Rattle.std.specs.declared.option.Option.TheVariants.{Some, None};
 ghost use Rattle.std.specs.List.{position, AllZip};
 ghost use Rattle.net_assembler.specs.Positions.{nothing};
-ghost use Rattle.net_base.specs.Fragments.{IsComplete};
-ghost use Rattle.net_base.specs.FragmentTable.{is_for, begun, ExpiresFirst};
+ghost use Rattle.net_base.specs.Fragments.{IsComplete, begun};
+ghost use Rattle.net_base.specs.FragmentTable.{is_for, ExpiresFirst, IsSlotFor};
+ghost use Rattle.net_base.specs.FragmentTable.{Accepts, buffer_for, key_for};
 
-use super::FragmentsOver;
+use super::{FragmentError, FragmentsOver};
 use crate::time::Instant;
 use net_ring::{Full, Storage};
+use thiserror::Error;
+
+/// Why a fragment is refused. Nothing changes then.
+#[derive(Debug, Clone, Copy, PartialEq, Eq, Hash, Drop, Error)]
+pub enum AcceptError {
+    /// It has no bytes.
+    #[error("no bytes")]
+    NoBytes,
+    /// There are no slots.
+    #[error("no slots")]
+    NoSlot,
+    /// A byte of the packet that has arrived is another one.
+    #[error("contradicts bytes that have arrived")]
+    OtherBytes,
+    /// It reaches past the end of the buffer.
+    #[error("past the end of the buffer")]
+    TooLong,
+    /// It would leave more maximal runs of bytes, with holes between them, than there is room for.
+    #[error("too many holes")]
+    TooManyHoles,
+    /// It reaches past the packet's end, or is the last one, and the packet can't end there.
+    #[error("contradicts the packet's size")]
+    OtherSize,
+}
+
+/// Returns the same refusal, of a table.
+fn refusal(error: FragmentError) -> AcceptError
+    ensures too_long { (result ≡ AcceptError.TooLong) ↔ (error ≡ FragmentError.TooLong) }
+    ensures too_many { (result ≡ AcceptError.TooManyHoles) ↔ (error ≡ FragmentError.TooManyHoles) }
+    ensures other_size { (result ≡ AcceptError.OtherSize) ↔ (error ≡ FragmentError.OtherSize) }
+    ensures other_bytes { result ≢ AcceptError.OtherBytes }
+    ensures no_bytes { result ≢ AcceptError.NoBytes }
+    ensures no_slot { result ≢ AcceptError.NoSlot }
+{
+    match error {
+        FragmentError::TooLong => AcceptError::TooLong,
+        FragmentError::TooManyHoles => AcceptError::TooManyHoles,
+        FragmentError::OtherSize => AcceptError::OtherSize,
+    }
+}
 
 /// A buffer of fragments, and the key of the packet that it is for, if it is for one.
 #[derive(Drop)]
@@ -26,9 +86,7 @@ pub struct FragmentSlot<K, B: Storage<u8>, const N: usize> {
 impl<K: Copy + Eq, B: Storage<u8>, const N: usize> FragmentSlot<K, B, N> {
     /// Returns a free slot over the bytes, whose buffer is empty and expires after the origin.
     ///
-    /// # Requires
-    ///
-    /// `N` is at least 1.
+    /// A program in which `N` is 0 does not compile.
     pub fn over(bytes: B) -> Self
         requires { 1 ≤ N }
         ensures key { result.key ≡ None }
@@ -36,6 +94,7 @@ impl<K: Copy + Eq, B: Storage<u8>, const N: usize> FragmentSlot<K, B, N> {
         ensures nothing { (result.buffer.present ≡ nothing) × (result.buffer.total ≡ None) }
         ensures expires { result.buffer.expires_at ≡ pos 0 }
     {
+        prove!(N >= 1, "N is at least 1");
         FragmentSlot {
             key: None,
             buffer: FragmentsOver::over(bytes, Instant::ZERO),
@@ -59,6 +118,43 @@ impl<K: Copy + Eq, B: Storage<u8>, const N: usize> FragmentSlot<K, B, N> {
     {
         self.key = Some(key);
         self.buffer.reset(expires_at);
+    }
+
+    /// Adds a fragment of the packet of this key, for which it begins if it isn't for that packet already, and
+    /// returns `at`. If it is refused, nothing changes.
+    fn accept(
+        &mut self,
+        at: usize,
+        key: K,
+        offset: usize,
+        data: &[u8],
+        is_last: bool,
+        expires_at: Instant,
+    ) -> Result<usize, AcceptError>
+        ensures key { OnOk result (self.new.key ≡ key_for K.PartialEq.eq key self.old.key) }
+        ensures at { OnOk result (result ≡ Ok at) }
+        ensures buffer { Accepts N (buffer_for K.PartialEq.eq key expires_at self.old.key self.old.buffer)
+            offset «data».now is_last result self.new.buffer }
+        ensures unchanged { OnErr result (self.new ≡ self.old) }
+        ensures no_bytes { result ≢ Err AcceptError.NoBytes }
+        ensures no_slot { result ≢ Err AcceptError.NoSlot }
+    {
+        if !self.is_for(key) {
+            return match self.buffer.reset_with(offset, data, is_last, expires_at) {
+                Ok(()) => {
+                    self.key = Some(key);
+                    Ok(at)
+                }
+                Err(error) => Err(refusal(error)),
+            };
+        }
+        if self.buffer.differs(offset, data) {
+            return Err(AcceptError::OtherBytes);
+        }
+        match self.buffer.add_fragment(offset, data, is_last) {
+            Ok(()) => Ok(at),
+            Err(error) => Err(refusal(error)),
+        }
     }
 
     /// Frees the slot if its packet is waited for up to a moment before `now`.
@@ -175,6 +271,68 @@ pub fn claim_or_evict<K: Copy + Eq, B: Storage<u8>, const N: usize>(
     let at = first_to_expire(slots);
     slots[at].begin(key, expires_at);
     Ok(at)
+}
+
+/// Adds a fragment of the packet of this key, whose first byte is that of the packet at `offset`, and returns
+/// the packet's slot; `is_last` says that the packet ends after it. The slot is that of `claim_or_evict`: a
+/// packet that is begun is waited for up to `expires_at`. `take_complete` hands out a packet that is whole.
+///
+/// Bytes that have arrived stay: a fragment that has another byte at one of their positions is refused, and
+/// one that has the same bytes there, as a copy has, is taken. RFC 5722 gives up a packet whose fragments
+/// overlap. Here it isn't given up, since who knows the key of a packet could then end it by one fragment.
+///
+/// # Errors
+///
+/// It is refused, and nothing changes, exactly if it has no bytes, or else there are no slots, or else a byte
+/// that has arrived differs, or else the buffer refuses it: as `FragmentBuffer::add_fragment` does, in an empty
+/// one if the packet isn't begun. So a fragment that can't be kept takes no slot from another packet.
+pub fn accept<K: Copy + Eq, B: Storage<u8>, const N: usize>(
+    slots: &mut [FragmentSlot<K, B, N>],
+    key: K,
+    offset: usize,
+    data: &[u8],
+    is_last: bool,
+    expires_at: Instant,
+) -> Result<usize, AcceptError>
+    ensures no_bytes { (result ≡ Err AcceptError.NoBytes) ↔ («data».now ≡ []) }
+    ensures no_slot { (result ≡ Err AcceptError.NoSlot) ↔ ((«data».now ≢ []) × (slots.old ≡ [])) }
+    ensures unchanged { OnErr result (slots.new ≡ slots.old) }
+    ensures slot { «data».now ≢ [] → slots.old ≢ [] → (at : ℕ) × (s : _) × (t : _)
+        × IsSlotFor K.PartialEq.eq (λ x. x.key) (λ x. x.buffer.expires_at) key slots.old at
+        × (slice_get slots.old at ≡ Some s) × (slots.new ≡ set slots.old at t)
+        × OnOk result ((result ≡ Ok at) × (t.key ≡ key_for K.PartialEq.eq key s.key))
+        × Accepts N (buffer_for K.PartialEq.eq key expires_at s.key s.buffer) offset «data».now
+        is_last result t.buffer }
+{
+    if data.is_empty() {
+        return Err(AcceptError::NoBytes);
+    }
+    match slot_for(slots, key) {
+        Some(at) => slots[at].accept(at, key, offset, data, is_last, expires_at),
+        None => Err(AcceptError::NoSlot),
+    }
+}
+
+/// Returns the slot for the packet of this key: the first that is for it, or else the first free one, or else
+/// the first of those that expire before all others.
+fn slot_for<K: Copy + Eq, B: Storage<u8>, const N: usize>(
+    slots: &[FragmentSlot<K, B, N>],
+    key: K,
+) -> Option<usize>
+    ensures none { (result ≡ None) ↔ (slots.now ≡ []) }
+    ensures some { IfSome result (λ at. (at < length slots.now)
+        × IsSlotFor K.PartialEq.eq (λ x. x.key) (λ x. x.buffer.expires_at) key slots.now at) }
+{
+    if slots.is_empty() {
+        return None;
+    }
+    if let Some(at) = find(slots, key) {
+        return Some(at);
+    }
+    if let Some(at) = find_free(slots) {
+        return Some(at);
+    }
+    Some(first_to_expire(slots))
 }
 
 /// Returns the first of the slots that expire before all others.

@@ -6,11 +6,10 @@ use std::alloc::AllocError;
 /// Returns capabilities with this medium and this greatest size of a frame, and otherwise the
 /// default ones.
 fn with_size(medium: Medium, max_transmission_unit: usize) -> DeviceCapabilities {
-    DeviceCapabilities {
-        medium,
-        max_transmission_unit,
-        ..DeviceCapabilities::default()
-    }
+    let mut capabilities = DeviceCapabilities::default();
+    capabilities.medium = medium;
+    capabilities.max_transmission_unit = max_transmission_unit;
+    capabilities
 }
 
 /// Returns the greatest size of an IP packet, if there is one.

@@ -51,11 +51,9 @@ fn echoes_on_a_loopback_device(rt: HostRuntime) {
 #[test]
 fn finds_nothing_on_an_empty_device(rt: HostRuntime) {
     let mut device = Loopback::new(rt.alloc(), Medium::Ethernet);
-    assert_holds(
-        &rt,
-        finds_nothing(&mut device) && is_over(&mut device),
-        ("step", 1),
-    );
+    assert_holds(&rt, finds_nothing(&mut device), ("step", 1));
+    let is_dropped = device.transmit(Instant::ZERO).is_some();
+    assert_holds(&rt, is_dropped && is_over(&mut device), ("step", 2));
 }
 
 /// Sends a frame of that length, and returns whether there was memory for it.

@@ -85,10 +85,9 @@ fn sends_frames_beyond_its_longest(rt: HostRuntime) {
 
 /// Returns metadata with this identifier and nothing else.
 fn marked(id: u32) -> PacketMeta {
-    PacketMeta {
-        id,
-        ..PacketMeta::default()
-    }
+    let mut meta = PacketMeta::default();
+    meta.id = id;
+    meta
 }
 
 /// Takes the next frame off, gives metadata to the token to send with, and returns whether there

@@ -4,7 +4,7 @@ ghost use Rattle.net_base.specs.PacketMeta.{no_metadata};
 
 use super::sends;
 use crate::assertions::assert_holds;
-use net_base::phy::{Device, Loopback, Medium, PacketMeta, RxToken};
+use net_base::phy::{Device, Loopback, Medium, NonZeroU16, PacketMeta, RxToken};
 use net_base::time::Instant;
 
 /// A token whose frame has metadata.
@@ -44,10 +44,9 @@ fn first_byte_and_meta<T: RxToken>(token: T) -> (Option<u8>, PacketMeta)
 
 #[test]
 fn a_token_can_carry_metadata(rt: HostRuntime) {
-    let meta = PacketMeta {
-        id: 7,
-        ..PacketMeta::default()
-    };
+    let mut meta = PacketMeta::default();
+    meta.id = 7;
+    meta.segmentation_offload_size = NonZeroU16::new(1_448);
     let token = Marked {
         frame: *b"ab",
         meta,

@@ -1,4 +1,4 @@
-//! What the rows of `net_cases` don't show: storage that is lent, closures that mustn't run, and headers that
+//! What the rows of `rust/tests` don't show: storage that is lent, closures that mustn't run, and headers that
 //! are dropped.
 use crate::storage::counted::Counted;
 use net_packets::{PacketBuffer, PacketMetadata};

@@ -29,10 +29,10 @@ fn drops_of_ring(
 ) -> Result<(u32, u32), Fail> {
     let drops = Cell::new(0);
     let mut ring = RingBuffer::from(many(alloc, &drops, count)?);
-    ring.enqueue_many(first);
-    ring.dequeue_many(taken);
-    ring.enqueue_many(more);
-    ring.enqueue_many(more);
+    let _ = ring.enqueue_many(first);
+    let _ = ring.dequeue_many(taken);
+    let _ = ring.enqueue_many(more);
+    let _ = ring.enqueue_many(more);
     let before = drops.get();
     drop(ring);
     Ok((drops.get(), before))
@@ -70,7 +70,7 @@ fn a_ring_drops_its_storage(rt: HostRuntime) -> Result<(), Fail> {
 fn drops_of_vector(alloc: Global, count: u32, first: usize) -> Result<u32, Fail> {
     let drops = Cell::new(0);
     let mut ring = RingOver::<Counted<'_>, Vec<Counted<'_>>>::over(many(alloc, &drops, count)?);
-    ring.enqueue_many(first);
+    let _ = ring.enqueue_many(first);
     drop(ring);
     Ok(drops.get())
 }
@@ -110,8 +110,8 @@ fn drops_what_it_pushes<'c, S: Storage<Counted<'c>> + Drop>(
     read_at: usize,
 ) -> bool {
     let mut ring = ring;
-    ring.enqueue_many(read_at);
-    ring.dequeue_many(read_at);
+    let _ = ring.enqueue_many(read_at);
+    let _ = ring.dequeue_many(read_at);
     let mut pushed = true;
     for _ in 0..count {
         pushed = pushed && pushes(&mut ring, drops);
@@ -192,11 +192,11 @@ fn makes_call<'c>(ring: &mut RingBuffer<'_, Counted<'c>>, drops: &'c Cell<u32>, 
             1
         }
         8 => {
-            ring.dequeue_many(1);
+            let _ = ring.dequeue_many(1);
             0
         }
         _ => {
-            ring.enqueue_many(1);
+            let _ = ring.enqueue_many(1);
             0
         }
     }
@@ -254,13 +254,13 @@ fn first_is_refused(ring: &mut RingBuffer<'_, u8>, drops: &Cell<u32>) -> bool {
 fn ring_refuses(alloc: Global, count: usize, drops: &Cell<u32>) -> Result<bool, Fail> {
     let mut ring = RingBuffer::from(vec![in alloc; 0u8; count]?);
     let empty = first_is_refused(&mut ring, drops);
-    ring.enqueue_many(count);
+    let _ = ring.enqueue_many(count);
     let full = next_is_refused(&mut ring, drops);
-    ring.dequeue_many(1);
-    ring.enqueue_many(1);
+    let _ = ring.dequeue_many(1);
+    let _ = ring.enqueue_many(1);
     let full = full && next_is_refused(&mut ring, drops);
-    ring.dequeue_many(count);
-    ring.dequeue_many(count);
+    let _ = ring.dequeue_many(count);
+    let _ = ring.dequeue_many(count);
     Ok(empty && full && first_is_refused(&mut ring, drops))
 }
 

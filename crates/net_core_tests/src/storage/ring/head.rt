@@ -34,9 +34,9 @@ fn a_ring_and_its_parts(rt: HostRuntime) {
     let mut buffer = [0u8; 4];
     let mut into = [0u8; 4];
     let mut ring = RingBuffer::from(&mut buffer);
-    ring.enqueue_slice(b"abcd");
+    let _ = ring.enqueue_slice(b"abcd");
     ring.dequeue_allocated(3);
-    ring.enqueue_slice(b"e");
+    let _ = ring.enqueue_slice(b"e");
     assert_holds(&rt, parts(RingBuffer::head(&ring)) == (3, 2), ("step", 1));
     let (head, count) = through_parts(ring, &mut into);
     assert_holds(

@@ -1,4 +1,4 @@
-//! Storage that is lent, at a concrete type. Rows of `net_cases` show storage that is owned.
+//! Storage that is lent, at a concrete type. Rows of `rust/tests` show storage that is owned.
 use crate::assertions::assert_holds;
 use net_ring::{ManagedSlice, Storage};
 
@@ -11,7 +11,9 @@ fn turns_into(storage: &mut ManagedSlice<'_, u8>, elements: &[u8]) -> bool {
 
 /// Returns whether a storage has three elements, of which the last two are these.
 fn shows_last(storage: &ManagedSlice<'_, u8>, last: &[u8; 2]) -> bool {
-    storage.count() == 3 && *storage.part(1, 3) == *last.as_slice()
+    storage.count() == 3
+        && *storage.part(1, 3) == *last.as_slice()
+        && *storage.element(2) == last[1]
 }
 
 /// Fills the first two of three elements, and returns whether there are three.

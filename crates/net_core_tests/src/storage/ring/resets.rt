@@ -45,8 +45,8 @@ fn resets_in_order(alloc: Global, count: u32) -> Result<bool, Fail> {
         })?;
     }
     let mut ring = RingBuffer::from(elements);
-    ring.enqueue_many(2);
-    ring.dequeue_many(1);
+    let _ = ring.enqueue_many(2);
+    let _ = ring.dequeue_many(1);
     ring.reset();
     let in_order = are_in_order(ring.get_unallocated(0, count as usize));
     Ok(in_order && resets.get() == count)

@@ -1,4 +1,4 @@
-//! What the rows of `net_cases` don't show: storage that is lent, elements without a size, closures
+//! What the rows of `rust/tests` don't show: storage that is lent, elements without a size, closures
 //! that mustn't run, and callers that are proved only from contracts.
 ghost use Rattle.std.specs.Prelude.{◌≡◌};
 
@@ -45,45 +45,6 @@ fn lent_and_owned_storage_are_alike(rt: HostRuntime) -> Result<(), Fail> {
         ("step", 4),
     );
     Ok(())
-}
-
-/// Returns whether this is the first element of a ring.
-fn begins_with(ring: &RingBuffer<'_, u8>, shown: Option<u8>) -> bool {
-    ring.front().copied() == shown
-}
-
-/// Takes `count` elements off, and returns whether as many were contiguous.
-fn takes_off(ring: &mut RingBuffer<'_, u8>, count: usize) -> bool {
-    ring.dequeue_many(count).len() == count
-}
-
-/// Returns whether the first element of a ring of four is its oldest one, whatever `rewind_if_empty`
-/// does. One element is left, at the storage's beginning.
-fn keeps_its_first(ring: &mut RingBuffer<'_, u8>) -> bool {
-    let none = begins_with(ring, None) && ring.enqueue_slice(b"abcd") == 4;
-    let third = takes_off(ring, 2) && begins_with(ring, Some(b'c'));
-    ring.rewind_if_empty();
-    let same = begins_with(ring, Some(b'c')) && ring.enqueue_slice(b"e") == 1;
-    none && third && same && takes_off(ring, 2) && begins_with(ring, Some(b'e'))
-}
-
-/// Returns whether a ring of four, once that element is off, is read from the storage's beginning on only after
-/// `rewind_if_empty`.
-fn rewinds(ring: &mut RingBuffer<'_, u8>) -> bool {
-    let apart = takes_off(ring, 1) && ring.contiguous_window() == 3;
-    ring.rewind_if_empty();
-    apart && ring.contiguous_window() == 4
-}
-
-#[test]
-fn the_first_element_is_shown(rt: HostRuntime) {
-    let mut buffer = [0u8; 4];
-    let mut ring = RingBuffer::from(&mut buffer);
-    assert_holds(
-        &rt,
-        keeps_its_first(&mut ring) && rewinds(&mut ring),
-        ("step", 1),
-    );
 }
 
 /// Returns whether `enqueue_many` of five elements that have no size enqueues `count`.
@@ -287,6 +248,11 @@ static PASSAGES: [Passage; 6] = [
         storage: b"efcd",
     },
 ];
+
+/// Takes `count` elements off, and returns whether as many were contiguous.
+fn takes_off(ring: &mut RingBuffer<'_, u8>, count: usize) -> bool {
+    ring.dequeue_many(count).len() == count
+}
 
 /// Makes a ring over this storage, moves elements through it, and drops it. Returns whether each call did so.
 fn passes_through(storage: &mut [u8], passage: &Passage) -> bool {

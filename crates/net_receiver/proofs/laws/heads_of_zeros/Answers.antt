@@ -1,5 +1,6 @@
 use Rattle.std.proofs.Common.{◌≡◌, ◌+◌, arith, ◌∙◌, [], length, ap, sym, subst}
 use Rattle.net_receiver.specs.Head.{receiver_of, HasSoundParts}
+use Rattle.net_receiver.specs.FiniteHead.{finite_of, HasSoundFinite}
 use Rattle.net_receiver.specs.SenderState.{sender_state}
 use Rattle.net_receiver.specs.SenderHeads.{sender_of, IsSoundHead}
 use Rattle.net_receiver.specs.Scoreboards.{reported_by, IsSoundBoard}
@@ -10,6 +11,11 @@ pub returns-clause-receiver : goal.returns-clause-receiver
 returns-clause-receiver c = λ xs rs.
     let made = c.new-receiver.ensures in
     (subst (λ h. HasSoundParts h xs rs) made.numbers (made.sound xs rs), ap (λ h. receiver_of h xs rs) (sym made.numbers) ∙ made.state xs rs)
+
+pub returns-clause-finite_receiver : goal.returns-clause-finite_receiver
+returns-clause-finite_receiver c = λ xs rs.
+    let made = c.new-finite_receiver.ensures in
+    (subst (λ h. HasSoundFinite h xs rs) made.numbers (made.sound xs rs), ap (λ h. finite_of h xs rs) (sym made.numbers) ∙ made.state xs rs)
 
 pub returns-clause-sender : goal.returns-clause-sender
 returns-clause-sender c = λ xs.

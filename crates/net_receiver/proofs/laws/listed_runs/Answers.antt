@@ -1,4 +1,4 @@
-use Rattle.net_receiver.proofs.KeptLists.{lists_held_runs}
+use Rattle.net_receiver.proofs.Theorems.{lists_held_runs}
 use Rattle.net_receiver.proofs.laws.listed_runs.Goals as goal
 
 pub returns : goal.returns

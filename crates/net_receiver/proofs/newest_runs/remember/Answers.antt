@@ -1,5 +1,5 @@
-use Rattle.std.proofs.Common.{◌≡◌, ◌∙◌, ◌++◌, ◌+◌, ◌≤◌, ◌<◌, ℕ, zero, suc, List, [], ◌∷◌, length, map, take}
-use Rattle.std.proofs.Common.{drop, get_or, slice_set, refl, sym, ap, arith, ⊎_elim, take_all}
+use Rattle.std.proofs.Common.{◌≡◌, ◌∙◌, ◌++◌, ◌+◌, ◌≤◌, ◌<◌, ℕ, zero, suc, List, [], ◌∷◌, length, map, take, drop}
+use Rattle.std.proofs.Common.{get_or, slice_set, refl, sym, ap, arith, ⊎_elim, take_all}
 use Rattle.std.specs.List.{take-map}
 use Rattle.std.proofs.lemmas.Bool.{cases_lt}
 use Rattle.std.proofs.lemmas.List.{drop_all, length-map}

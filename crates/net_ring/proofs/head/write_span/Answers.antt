@@ -1,6 +1,6 @@
 use Rattle.std.proofs.Common.{◌≡◌, ◌-◌, take, drop, sym, ap, ap₂, ◌∙◌, rules, arith}
 use Rattle.std.proofs.lemmas.List.{take-take, drop-take}
-use Rattle.net_ring.specs.Overwrite.{overwrite}
+use Rattle.net_ring.specs.{overwrite}
 use Rattle.net_ring.proofs.head.write_span.Goals as goal
 
 pub returns-then-contiguous-count : goal.returns-then-contiguous-count

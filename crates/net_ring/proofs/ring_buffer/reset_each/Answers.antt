@@ -1,5 +1,5 @@
 use Rattle.std.proofs.Common.{rules, arith}
-use Rattle.net_ring.proofs.ResetFacts.{reset_more, all_reset}
+use Rattle.net_ring.proofs.RingFacts.{reset_more, all_reset}
 use Rattle.net_ring.proofs.ring_buffer.reset_each.Goals as goal
 
 pub loop-element-preserved : goal.loop-element-preserved

@@ -3,4 +3,4 @@ use Rattle.net_tcp.proofs.Scales.{scaled_few}
 use Rattle.net_tcp.proofs.peer_window.scaled.Goals as goal
 
 pub returns-clause-few : goal.returns-clause-few
-returns-clause-few c = omega (arith, scaled_few c.from.result c.args.scale (omega arith) c.requires)
+returns-clause-few c = omega (arith, scaled_few c.from.result c.min.result (omega arith) (omega (arith, c.min.ensures)))

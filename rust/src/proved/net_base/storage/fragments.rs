@@ -1,16 +1,21 @@
 //! A packet that arrives in fragments: a buffer of its bytes and runs, its head, and a table of such buffers.
 
+use crate::rattle::prelude::*;
 use crate::proved::net_base::time::Instant;
 use crate::proved::net_assembler::Run;
 use crate::proved::net_ring::{ManagedSlice, Storage};
+use crate::rattle::std::marker::Model;
 
 mod head;
+pub mod laws;
 pub mod table;
 
 pub use head::FragmentsHead;
 
 /// Why a fragment or a size is refused.
-#[derive(Debug, Clone, Copy, PartialEq, Eq)]
+///
+/// Contracts: `crates/net_base/src/storage/fragments.rt`.
+#[derive(Debug, Clone, Copy, PartialEq, Eq, Hash)]
 pub enum FragmentError {
     /// It reaches past the end of the buffer.
     TooLong,
@@ -21,7 +26,7 @@ pub enum FragmentError {
     OtherSize,
 }
 
-/// A packet that arrives in fragments, in any order, as those of IPv4 do, over lent or owned bytes.
+/// A [`FragmentBuffer`] over any storage.
 ///
 /// `N` is how many maximal runs of bytes it has room for. Fragments may overlap: at each position the
 /// byte is that of the last fragment there.
@@ -32,11 +37,9 @@ pub enum FragmentError {
 /// add(3, "DEFG")     abcDEFGhij
 /// ```
 ///
-/// Contracts see the bytes of the storage, the set of the positions that arrived, the packet's
-/// size, once it is known, and the moment up to which the packet is waited for.
+/// Contracts: `crates/net_base/src/storage/fragments.rt`.
 #[derive(Clone)]
-pub struct FragmentBuffer<'a, const N: usize = { crate::rattle::ASSEMBLER_MAX_SEGMENT_COUNT }, B: Storage<u8> = ManagedSlice<'a, u8>> {
-    lent: core::marker::PhantomData<&'a ()>,
+pub struct FragmentsOver<B: Storage<u8>, const N: usize> {
     // Invariant: the runs are those of an assembler, the positions of the bytes that arrived. They end
     // within the storage and, if the total is known, within that, for which the storage has room. The
     // head is exact.
@@ -45,35 +48,22 @@ pub struct FragmentBuffer<'a, const N: usize = { crate::rattle::ASSEMBLER_MAX_SE
     runs: [Run; N],
 }
 
-/// A [`FragmentBuffer`] over any storage.
-pub type FragmentsOver<B, const N: usize> = FragmentBuffer<'static, N, B>;
+/// A packet that arrives in fragments, in any order, as those of IPv4 do, over lent or owned bytes. Its
+/// calls are those of [`FragmentsOver`].
+pub type FragmentBuffer<'a, const N: usize = ASSEMBLER_MAX_SEGMENT_COUNT> = FragmentsOver<ManagedSlice<'a, u8>, N>;
 
-impl<'a, const N: usize> FragmentBuffer<'a, N> {
+/// Contracts see the bytes of the storage, the set of the positions that arrived, the packet's
+/// size, once it is known, and the moment up to which the packet is waited for.
+impl<B: Storage<u8>, const N: usize> Model for FragmentsOver<B, N> {
 }
 
-impl<B: Storage<u8>, const N: usize> FragmentBuffer<'_, N, B> {
+impl<B: Storage<u8>, const N: usize> FragmentsOver<B, N> {
     /// Returns an empty buffer over storage of any type, which expires after `expires_at`.
     ///
-    /// # Requires, else it doesn't compile
-    ///
-    /// `N` is at least 1.
-    ///
-    /// <details><summary>Contract</summary>
-    ///
-    /// In the words of [`contracts`](crate::contracts):
-    ///
-    /// ```text
-    /// requires { 1 ≤ N }
-    /// ensures bytes { result.bytes ≡ B.elements bytes }
-    /// ensures nothing { (result.present ≡ nothing) × (result.total ≡ None) }
-    /// ensures expires { result.expires_at ≡ expires_at }
-    /// ```
-    ///
-    /// </details>
+    /// A program in which `N` is 0 does not compile.
     pub const fn over(bytes: B, expires_at: Instant) -> Self {
-        const { assert!(N >= 1, "N is at least 1") };
-        FragmentBuffer {
-            lent: core::marker::PhantomData,
+        prove!(N >= 1, "N is at least 1");
+        FragmentsOver {
             head: FragmentsHead::new(expires_at.total_micros()),
             bytes,
             runs: [Run { start: 0, end: 0 }; N],
@@ -82,23 +72,11 @@ impl<B: Storage<u8>, const N: usize> FragmentBuffer<'_, N, B> {
 
     /// Returns the buffer that a head, bytes and runs represent. smoltcp has no such call.
     ///
-    /// # Panics
+    /// # Panics, unless
     ///
-    /// Unless they are sound, as `FragmentsHead::is_sound` tests.
-    ///
-    /// <details><summary>Contract</summary>
-    ///
-    /// In the words of [`contracts`](crate::contracts):
-    ///
-    /// ```text
-    /// requires { HasSoundParts head (B.elements bytes) runs }
-    /// ensures { result ≡ fragments_of head (B.elements bytes) runs.entry }
-    /// ```
-    ///
-    /// </details>
+    /// They are sound, as `FragmentsHead::is_sound` tests.
     pub(crate) fn from_parts(head: FragmentsHead, bytes: B, runs: [Run; N]) -> Self {
-        FragmentBuffer {
-            lent: core::marker::PhantomData,
+        FragmentsOver {
             head: head.exact(),
             bytes,
             runs,
@@ -106,38 +84,14 @@ impl<B: Storage<u8>, const N: usize> FragmentBuffer<'_, N, B> {
     }
 
     /// Returns the head, the bytes and the runs, which represent the buffer. smoltcp has no such call.
-    ///
-    /// <details><summary>Contract</summary>
-    ///
-    /// In the words of [`contracts`](crate::contracts):
-    ///
-    /// ```text
-    /// ensures sound { HasSoundParts result.0 (B.elements result.1) result.2 }
-    /// ensures state { fragments_of result.0 (B.elements result.1) result.2 ≡ self }
-    /// ensures runs { length result.2 ≡ N }
-    /// ensures exact { IsExact result.0 }
-    /// ```
-    ///
-    /// </details>
     pub(crate) fn into_parts(self) -> (FragmentsHead, B, [Run; N]) {
-        let FragmentBuffer { lent: core::marker::PhantomData, head, bytes, runs } = self;
+        let FragmentsOver { head, bytes, runs } = self;
         (head, bytes, runs)
     }
 
     /// Returns the bytes, as fragments were written to them. smoltcp has no such call.
-    ///
-    /// <details><summary>Contract</summary>
-    ///
-    /// In the words of [`contracts`](crate::contracts):
-    ///
-    /// ```text
-    /// ensures { B.elements result ≡ self.bytes }
-    /// ```
-    ///
-    /// </details>
     pub fn into_storage(self) -> B {
-        let FragmentBuffer {
-            lent: core::marker::PhantomData,
+        let FragmentsOver {
             head: _,
             bytes,
             runs: _,
@@ -153,16 +107,6 @@ impl<B: Storage<u8>, const N: usize> FragmentBuffer<'_, N, B> {
     /// # let mut bytes = [0u8; 8];
     /// assert_eq!(FragmentBuffer::new(&mut bytes[..], Instant::ZERO).capacity(), 8);
     /// ```
-    ///
-    /// <details><summary>Contract</summary>
-    ///
-    /// In the words of [`contracts`](crate::contracts):
-    ///
-    /// ```text
-    /// ensures { result ≡ length self.now.bytes }
-    /// ```
-    ///
-    /// </details>
     pub fn capacity(&self) -> usize {
         self.bytes.count()
     }
@@ -178,16 +122,6 @@ impl<B: Storage<u8>, const N: usize> FragmentBuffer<'_, N, B> {
     /// assert!(buffer.add(2, b"").is_ok() && buffer.is_empty());
     /// assert!(buffer.add(2, b"c").is_ok() && !buffer.is_empty());
     /// ```
-    ///
-    /// <details><summary>Contract</summary>
-    ///
-    /// In the words of [`contracts`](crate::contracts):
-    ///
-    /// ```text
-    /// ensures { IsTrue result ↔ (self.now.present ≡ nothing) }
-    /// ```
-    ///
-    /// </details>
     pub fn is_empty(&self) -> bool {
         self.head.present.is_empty()
     }
@@ -202,16 +136,6 @@ impl<B: Storage<u8>, const N: usize> FragmentBuffer<'_, N, B> {
     /// let buffer = FragmentBuffer::new(&mut bytes[..], Instant::from_millis(5));
     /// assert_eq!(buffer.expires_at(), Instant::from_millis(5));
     /// ```
-    ///
-    /// <details><summary>Contract</summary>
-    ///
-    /// In the words of [`contracts`](crate::contracts):
-    ///
-    /// ```text
-    /// ensures { result ≡ self.now.expires_at }
-    /// ```
-    ///
-    /// </details>
     pub fn expires_at(&self) -> Instant {
         moment_of(&self.head)
     }
@@ -235,32 +159,74 @@ impl<B: Storage<u8>, const N: usize> FragmentBuffer<'_, N, B> {
     /// It is refused, and nothing changes, exactly if it reaches past the buffer's end, which is
     /// `TooLong`, or else past the packet's, which is `OtherSize`, or else would leave more than `N`
     /// maximal runs, which is `TooManyHoles`. A fragment without bytes has its end at `offset`.
-    ///
-    /// <details><summary>Contract</summary>
-    ///
-    /// In the words of [`contracts`](crate::contracts):
-    ///
-    /// ```text
-    /// ensures ok { OnOk result (self.new ≡ with_fragment self.old offset «data».now) }
-    /// ensures unchanged { OnErr result (self.new ≡ self.old) }
-    /// ensures fits { OnOk result (offset + length «data».now < 2 ^ 64) }
-    /// ensures too_long { (result ≡ Err FragmentError.TooLong)
-    ///     ↔ (length self.old.bytes < offset + length «data».now) }
-    /// ensures other_size { (result ≡ Err FragmentError.OtherSize)
-    ///     ↔ ((offset + length «data».now ≤ length self.old.bytes)
-    ///     × (limit_of self.old < offset + length «data».now)) }
-    /// ensures too_many { (result ≡ Err FragmentError.TooManyHoles)
-    ///     ↔ ((offset + length «data».now ≤ limit_of self.old)
-    ///     × MakesTooManyRuns N self.old.present offset (length «data».now)) }
-    /// ensures refused { IsErr result ↔ ((limit_of self.old < offset + length «data».now)
-    ///     ⊎ MakesTooManyRuns N self.old.present offset (length «data».now)) }
-    /// ```
-    ///
-    /// </details>
     pub fn add(&mut self, offset: usize, data: &[u8]) -> Result<(), FragmentError> {
         let count = self.bytes.count();
         let bytes = self.bytes.part_mut(0, count);
         self.head.add(bytes, &mut self.runs, offset, data)
+    }
+
+    /// Adds a fragment, as `add` does, and takes its end as the packet's if it is the last one.
+    ///
+    /// ```
+    /// # use net_base::storage::{FragmentBuffer, FragmentError};
+    /// # use net_base::time::Instant;
+    /// # let mut bytes = [0u8; 8];
+    /// # let mut buffer = FragmentBuffer::new(&mut bytes[..], Instant::ZERO);
+    /// buffer.add_fragment(3, b"de", true)?;
+    /// assert_eq!(buffer.add_fragment(0, b"abc", true), Err(FragmentError::OtherSize));
+    /// buffer.add_fragment(0, b"abc", false)?;
+    /// assert_eq!(buffer.assemble(), Some(&b"abcde"[..]));
+    /// # Ok::<(), FragmentError>(())
+    /// ```
+    ///
+    /// # Errors
+    ///
+    /// It is refused, and nothing changes, exactly if it reaches past the buffer's end, which is
+    /// `TooLong`, or else past the packet's, or is the last one and the packet can't end there, which is
+    /// `OtherSize`, or else would leave more than `N` maximal runs, which is `TooManyHoles`.
+    pub fn add_fragment(
+        &mut self,
+        offset: usize,
+        data: &[u8],
+        is_last: bool,
+    ) -> Result<(), FragmentError> {
+        let count = self.bytes.count();
+        let bytes = self.bytes.part_mut(0, count);
+        self.head
+            .add_fragment(bytes, &mut self.runs, offset, data, is_last)
+    }
+
+    /// Starts over for another packet, which is waited for up to `expires_at`, with this fragment of it.
+    /// If it is refused, nothing changes.
+    ///
+    /// ```
+    /// # use net_base::storage::{FragmentBuffer, FragmentError};
+    /// # use net_base::time::Instant;
+    /// # let mut bytes = [0u8; 8];
+    /// # let mut buffer = FragmentBuffer::new(&mut bytes[..], Instant::ZERO);
+    /// buffer.add(0, b"abc")?;
+    /// let refused = buffer.reset_with(7, b"de", true, Instant::ZERO);
+    /// assert_eq!(refused, Err(FragmentError::TooLong));
+    /// buffer.reset_with(0, b"de", true, Instant::ZERO)?;
+    /// assert_eq!(buffer.assemble(), Some(&b"de"[..]));
+    /// # Ok::<(), FragmentError>(())
+    /// ```
+    ///
+    /// # Errors
+    ///
+    /// It is refused as `add_fragment` refuses it in an empty buffer.
+    pub fn reset_with(
+        &mut self,
+        offset: usize,
+        data: &[u8],
+        is_last: bool,
+        expires_at: Instant,
+    ) -> Result<(), FragmentError> {
+        let until = expires_at.total_micros();
+        let count = self.bytes.count();
+        let bytes = self.bytes.part_mut(0, count);
+        self.head
+            .reset_with(bytes, &mut self.runs, offset, data, is_last, until)
     }
 
     /// Sets the packet's size to `size` bytes.
@@ -284,40 +250,12 @@ impl<B: Storage<u8>, const N: usize> FragmentBuffer<'_, N, B> {
     /// It is refused, and nothing changes, exactly if the buffer has fewer bytes, which is
     /// `TooLong`, or else if another size is known, or a byte at `size` or above has arrived, which is
     /// `OtherSize`.
-    ///
-    /// <details><summary>Contract</summary>
-    ///
-    /// In the words of [`contracts`](crate::contracts):
-    ///
-    /// ```text
-    /// ensures ok { OnOk result (self.new ≡ record self.old { total = Some size }) }
-    /// ensures unchanged { OnErr result (self.new ≡ self.old) }
-    /// ensures too_long { (result ≡ Err FragmentError.TooLong) ↔ (length self.old.bytes < size) }
-    /// ensures other_size { (result ≡ Err FragmentError.OtherSize)
-    ///     ↔ ((size ≤ length self.old.bytes) × Contradicts self.old.present self.old.total size) }
-    /// ensures refused { IsErr result ↔ ((length self.old.bytes < size)
-    ///     ⊎ Contradicts self.old.present self.old.total size) }
-    /// ```
-    ///
-    /// </details>
     pub fn set_total_size(&mut self, size: usize) -> Result<(), FragmentError> {
         self.head
             .set_total_size(self.bytes.count(), &self.runs, size)
     }
 
     /// Returns the packet's size, once it is known. smoltcp has no such call.
-    ///
-    /// <details><summary>Contract</summary>
-    ///
-    /// In the words of [`contracts`](crate::contracts):
-    ///
-    /// ```text
-    /// ensures size { result ≡ self.now.total }
-    /// ensures room { limit_of self.now ≤ length self.now.bytes }
-    /// ensures below { IsBelow self.now.present (limit_of self.now) }
-    /// ```
-    ///
-    /// </details>
     pub fn total_size(&self) -> Option<usize> {
         self.head.total_size()
     }
@@ -327,16 +265,6 @@ impl<B: Storage<u8>, const N: usize> FragmentBuffer<'_, N, B> {
     ///
     /// It is asked before `add`, by callers who refuse a packet whose fragments overlap (RFC 5722). A
     /// fragment that arrives twice overlaps too: to allow that, ask `differs`. smoltcp has no such call.
-    ///
-    /// <details><summary>Contract</summary>
-    ///
-    /// In the words of [`contracts`](crate::contracts):
-    ///
-    /// ```text
-    /// ensures { IsTrue result ↔ Meets self.now.present offset len }
-    /// ```
-    ///
-    /// </details>
     pub fn overlaps(&self, offset: usize, len: usize) -> bool {
         self.head.overlaps(&self.runs, offset, len)
     }
@@ -357,16 +285,6 @@ impl<B: Storage<u8>, const N: usize> FragmentBuffer<'_, N, B> {
     /// assert!(buffer.differs(3, b"De") && !buffer.differs(4, b"De"));
     /// # Ok::<(), FragmentError>(())
     /// ```
-    ///
-    /// <details><summary>Contract</summary>
-    ///
-    /// In the words of [`contracts`](crate::contracts):
-    ///
-    /// ```text
-    /// ensures { IsTrue result ↔ Differs self.now offset «data».now }
-    /// ```
-    ///
-    /// </details>
     pub fn differs(&self, offset: usize, data: &[u8]) -> bool {
         let bytes = self.bytes.part(0, self.bytes.count());
         self.head.differs(bytes, &self.runs, offset, data)
@@ -386,18 +304,6 @@ impl<B: Storage<u8>, const N: usize> FragmentBuffer<'_, N, B> {
     /// assert_eq!(buffer.assemble(), Some(&b"abc"[..]));
     /// # Ok::<(), FragmentError>(())
     /// ```
-    ///
-    /// <details><summary>Contract</summary>
-    ///
-    /// In the words of [`contracts`](crate::contracts):
-    ///
-    /// ```text
-    /// ensures complete { IsSome result ↔ ((size : ℕ) × IsComplete self.now size) }
-    /// ensures bytes { IfSome result
-    ///     (λ r. (size : ℕ) × IsComplete self.now size × (r.now ≡ take size self.now.bytes)) }
-    /// ```
-    ///
-    /// </details>
     pub fn assemble(&self) -> Option<&[u8]> {
         match self.head.complete(&self.runs) {
             Some(size) => Some(self.bytes.part(0, size)),
@@ -415,16 +321,6 @@ impl<B: Storage<u8>, const N: usize> FragmentBuffer<'_, N, B> {
     /// assert!(!buffer.is_expired(Instant::from_millis(5)));
     /// assert!(buffer.is_expired(Instant::from_micros(5_001)));
     /// ```
-    ///
-    /// <details><summary>Contract</summary>
-    ///
-    /// In the words of [`contracts`](crate::contracts):
-    ///
-    /// ```text
-    /// ensures { IsTrue result ↔ (self.now.expires_at <ℤ now) }
-    /// ```
-    ///
-    /// </details>
     pub fn is_expired(&self, now: Instant) -> bool {
         self.head.is_expired(now.total_micros())
     }
@@ -442,18 +338,6 @@ impl<B: Storage<u8>, const N: usize> FragmentBuffer<'_, N, B> {
     /// assert!(buffer.is_empty() && buffer.assemble().is_none());
     /// # Ok::<(), FragmentError>(())
     /// ```
-    ///
-    /// <details><summary>Contract</summary>
-    ///
-    /// In the words of [`contracts`](crate::contracts):
-    ///
-    /// ```text
-    /// ensures bytes { self.new.bytes ≡ self.old.bytes }
-    /// ensures nothing { (self.new.present ≡ nothing) × (self.new.total ≡ None) }
-    /// ensures expires { self.new.expires_at ≡ expires_at }
-    /// ```
-    ///
-    /// </details>
     pub fn reset(&mut self, expires_at: Instant) {
         self.head.reset(expires_at.total_micros());
     }
@@ -463,3 +347,5 @@ impl<B: Storage<u8>, const N: usize> FragmentBuffer<'_, N, B> {
 fn moment_of(head: &FragmentsHead) -> Instant {
     Instant::from_micros(head.expires_at)
 }
+
+crate::rattle::error_text!(FragmentError, FragmentError::TooLong => "past the end of the buffer", FragmentError::TooManyHoles => "too many holes", FragmentError::OtherSize => "contradicts the packet's size");

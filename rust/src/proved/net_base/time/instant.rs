@@ -1,17 +1,16 @@
 //! Moments, in whole microseconds from an origin.
 
+use crate::rattle::prelude::*;
 use crate::proved::net_base::time::{Duration, LONGEST_TEXT};
-use core::fmt;
-use crate::rattle::InlineText;
-use core::fmt::Write;
-use core::ops::{Add, AddAssign, Sub, SubAssign};
+use crate::rattle::std::fmt::{self, InlineText, Write};
+use crate::rattle::std::marker::Model;
+use crate::rattle::std::ops::{Add, AddAssign, Sub, SubAssign};
 
 /// A moment, in microseconds since an origin of the user's own, such as the start of the system. A
 /// moment below zero is before the origin. With it a caller says what time it is, in timeouts and
 /// to a device that it polls.
 ///
-/// Contracts see the microseconds, a whole number from -2^63 to 2^63 - 1. Quotients are cut towards
-/// zero.
+/// It has -2^63 to 2^63 - 1 microseconds. Quotients are cut towards zero.
 ///
 /// ```
 /// use net_base::time::{Duration, Instant};
@@ -20,9 +19,15 @@ use core::ops::{Add, AddAssign, Sub, SubAssign};
 /// let end = start + Duration::from_secs(2);
 /// assert_eq!((end - start, end.to_string()), (Duration::from_millis(2_000), "3.500s".into()));
 /// ```
-#[derive(Debug, Copy, Clone, PartialEq, Eq, PartialOrd, Ord)]
+///
+/// Contracts: `crates/net_base/src/time/instant.rt`.
+#[derive(Debug, Copy, Clone, PartialEq, Eq, PartialOrd, Ord, Hash)]
 pub struct Instant {
     micros: i64,
+}
+
+/// Contracts see the microseconds.
+impl Model for Instant {
 }
 
 impl Instant {
@@ -34,28 +39,6 @@ impl Instant {
     /// ```
     pub const ZERO: Instant = Instant { micros: 0 };
 
-    /// Returns the moment `micros` microseconds after the origin.
-    ///
-    /// ```
-    /// # use net_base::time::Instant;
-    /// assert_eq!(Instant::from_micros(1_500).total_millis(), 1);
-    /// ```
-    ///
-    /// <details><summary>Contract</summary>
-    ///
-    /// In the words of [`contracts`](crate::contracts):
-    ///
-    /// ```text
-    /// ensures { result ≡ micros }
-    /// ```
-    ///
-    /// </details>
-    #[inline]
-    pub fn from_micros<A: Into<i64>>(micros: A) -> Instant {
-        let micros = micros.into();
-        Instant { micros }
-    }
-
     /// Returns the same as `from_micros`, for code that was written for smoltcp.
     ///
     /// ```
@@ -63,69 +46,15 @@ impl Instant {
     /// const LATER: Instant = Instant::from_micros_const(1_500);
     /// assert_eq!(LATER, Instant::from_micros(1_500));
     /// ```
-    ///
-    /// <details><summary>Contract</summary>
-    ///
-    /// In the words of [`contracts`](crate::contracts):
-    ///
-    /// ```text
-    /// ensures { result ≡ micros }
-    /// ```
-    ///
-    /// </details>
     #[inline]
     pub const fn from_micros_const(micros: i64) -> Instant {
         Instant { micros }
     }
 
     /// Returns whether the value fits; precondition of `from_millis`.
-    ///
-    /// <details><summary>Contract</summary>
-    ///
-    /// In the words of [`contracts`](crate::contracts):
-    ///
-    /// ```text
-    /// ensures { IsTrue result ↔ IsMoment (millis *ℤ pos 1_000) }
-    /// ```
-    ///
-    /// </details>
     #[inline]
     pub const fn fits_millis(millis: i64) -> bool {
         matches!(millis.checked_mul(1_000), Some(_))
-    }
-
-    /// Returns the moment `millis` milliseconds after the origin.
-    ///
-    /// ```
-    /// # use net_base::time::Instant;
-    /// assert_eq!(Instant::from_millis(-5).total_micros(), -5_000);
-    /// ```
-    ///
-    /// # Panics
-    ///
-    /// Unless so many microseconds fit 64 bits with a sign, as `fits_millis` tests.
-    ///
-    /// <details><summary>Contract</summary>
-    ///
-    /// In the words of [`contracts`](crate::contracts):
-    ///
-    /// ```text
-    /// requires fits_millis { IsMoment (millis *ℤ pos 1_000) }
-    /// ensures { result ≡ millis *ℤ pos 1_000 }
-    /// ```
-    ///
-    /// </details>
-    #[inline]
-    #[track_caller]
-    pub fn from_millis<A: Into<i64>>(millis: A) -> Instant {
-        let millis = millis.into();
-        assert!(
-            Self::fits_millis(millis),
-            "attempt to multiply with overflow"
-        );
-        Instant {
-            micros: millis * 1_000,
-        }
     }
 
     /// Returns the same as `from_millis`, for code that was written for smoltcp.
@@ -136,24 +65,13 @@ impl Instant {
     /// assert_eq!(LATER, Instant::from_micros(5_000));
     /// ```
     ///
-    /// # Panics
+    /// # Panics, unless
     ///
-    /// Unless so many microseconds fit 64 bits with a sign, as `fits_millis` tests.
-    ///
-    /// <details><summary>Contract</summary>
-    ///
-    /// In the words of [`contracts`](crate::contracts):
-    ///
-    /// ```text
-    /// requires fits_millis { IsMoment (millis *ℤ pos 1_000) }
-    /// ensures { result ≡ millis *ℤ pos 1_000 }
-    /// ```
-    ///
-    /// </details>
+    /// So many microseconds fit 64 bits with a sign, as `fits_millis` tests.
     #[inline]
     #[track_caller]
     pub const fn from_millis_const(millis: i64) -> Instant {
-        assert!(
+        prove!(
             Self::fits_millis(millis),
             "attempt to multiply with overflow"
         );
@@ -163,47 +81,26 @@ impl Instant {
     }
 
     /// Returns whether the value fits; precondition of `from_secs`.
-    ///
-    /// <details><summary>Contract</summary>
-    ///
-    /// In the words of [`contracts`](crate::contracts):
-    ///
-    /// ```text
-    /// ensures { IsTrue result ↔ IsMoment (secs *ℤ pos 1_000_000) }
-    /// ```
-    ///
-    /// </details>
     #[inline]
     pub const fn fits_secs(secs: i64) -> bool {
         matches!(secs.checked_mul(1_000_000), Some(_))
     }
 
-    /// Returns the moment `secs` seconds after the origin.
+    /// Returns the same as `from_secs`, in a constant too. smoltcp has no such call.
     ///
     /// ```
     /// # use net_base::time::Instant;
-    /// assert_eq!(Instant::from_secs(5).total_millis(), 5_000);
+    /// const LATER: Instant = Instant::from_secs_const(5);
+    /// assert_eq!(LATER, Instant::from_secs(5));
     /// ```
     ///
-    /// # Panics
+    /// # Panics, unless
     ///
-    /// Unless so many microseconds fit 64 bits with a sign, as `fits_secs` tests.
-    ///
-    /// <details><summary>Contract</summary>
-    ///
-    /// In the words of [`contracts`](crate::contracts):
-    ///
-    /// ```text
-    /// requires fits_secs { IsMoment (secs *ℤ pos 1_000_000) }
-    /// ensures { result ≡ secs *ℤ pos 1_000_000 }
-    /// ```
-    ///
-    /// </details>
+    /// So many microseconds fit 64 bits with a sign, as `fits_secs` tests.
     #[inline]
     #[track_caller]
-    pub fn from_secs<A: Into<i64>>(secs: A) -> Instant {
-        let secs = secs.into();
-        assert!(Self::fits_secs(secs), "attempt to multiply with overflow");
+    pub const fn from_secs_const(secs: i64) -> Instant {
+        prove!(Self::fits_secs(secs), "attempt to multiply with overflow");
         Instant {
             micros: secs * 1_000_000,
         }
@@ -215,16 +112,6 @@ impl Instant {
     /// # use net_base::time::Instant;
     /// assert_eq!(Instant::from_millis(5_674).millis(), 674);
     /// ```
-    ///
-    /// <details><summary>Contract</summary>
-    ///
-    /// In the words of [`contracts`](crate::contracts):
-    ///
-    /// ```text
-    /// ensures { result ≡ moment_millis self.now }
-    /// ```
-    ///
-    /// </details>
     #[inline]
     pub const fn millis(&self) -> i64 {
         self.micros() / 1_000
@@ -236,16 +123,6 @@ impl Instant {
     /// # use net_base::time::Instant;
     /// assert_eq!(Instant::from_millis(5_674).micros(), 674_000);
     /// ```
-    ///
-    /// <details><summary>Contract</summary>
-    ///
-    /// In the words of [`contracts`](crate::contracts):
-    ///
-    /// ```text
-    /// ensures { result ≡ moment_micros self.now }
-    /// ```
-    ///
-    /// </details>
     #[inline]
     pub const fn micros(&self) -> i64 {
         self.micros % 1_000_000
@@ -257,16 +134,6 @@ impl Instant {
     /// # use net_base::time::Instant;
     /// assert_eq!(Instant::from_millis(5_674).secs(), 5);
     /// ```
-    ///
-    /// <details><summary>Contract</summary>
-    ///
-    /// In the words of [`contracts`](crate::contracts):
-    ///
-    /// ```text
-    /// ensures { result ≡ moment_secs self.now }
-    /// ```
-    ///
-    /// </details>
     #[inline]
     pub const fn secs(&self) -> i64 {
         self.micros / 1_000_000
@@ -278,16 +145,6 @@ impl Instant {
     /// # use net_base::time::Instant;
     /// assert_eq!(Instant::from_micros(5_674).total_millis(), 5);
     /// ```
-    ///
-    /// <details><summary>Contract</summary>
-    ///
-    /// In the words of [`contracts`](crate::contracts):
-    ///
-    /// ```text
-    /// ensures { result ≡ int_div self.now (pos 1_000) }
-    /// ```
-    ///
-    /// </details>
     #[inline]
     pub const fn total_millis(&self) -> i64 {
         self.micros / 1_000
@@ -299,48 +156,18 @@ impl Instant {
     /// # use net_base::time::Instant;
     /// assert_eq!(Instant::from_millis(5).total_micros(), 5_000);
     /// ```
-    ///
-    /// <details><summary>Contract</summary>
-    ///
-    /// In the words of [`contracts`](crate::contracts):
-    ///
-    /// ```text
-    /// ensures { result ≡ self.now }
-    /// ```
-    ///
-    /// </details>
     #[inline]
     pub const fn total_micros(&self) -> i64 {
         self.micros
     }
 
     /// Returns whether the sum fits: whether `+` and `+=` don't saturate.
-    ///
-    /// <details><summary>Contract</summary>
-    ///
-    /// In the words of [`contracts`](crate::contracts):
-    ///
-    /// ```text
-    /// ensures { IsTrue result ↔ IsMoment (self.now +ℤ pos duration) }
-    /// ```
-    ///
-    /// </details>
     #[inline]
     pub fn can_add(&self, duration: Duration) -> bool {
         self.checked_add(duration).is_some()
     }
 
     /// Returns whether the difference fits: whether `-` and `-=` don't saturate.
-    ///
-    /// <details><summary>Contract</summary>
-    ///
-    /// In the words of [`contracts`](crate::contracts):
-    ///
-    /// ```text
-    /// ensures { IsTrue result ↔ IsMoment (self.now -ℤ pos duration) }
-    /// ```
-    ///
-    /// </details>
     #[inline]
     pub fn can_sub(&self, duration: Duration) -> bool {
         self.checked_sub(duration).is_some()
@@ -353,16 +180,6 @@ impl Instant {
     /// let last = Instant::from_micros(i64::MAX);
     /// assert_eq!(last.checked_add(Duration::from_micros(1)), None);
     /// ```
-    ///
-    /// <details><summary>Contract</summary>
-    ///
-    /// In the words of [`contracts`](crate::contracts):
-    ///
-    /// ```text
-    /// ensures { SomeIff result (IsMoment (self.now +ℤ pos duration)) (self.now +ℤ pos duration) }
-    /// ```
-    ///
-    /// </details>
     #[inline]
     pub fn checked_add(&self, duration: Duration) -> Option<Instant> {
         match self.micros.checked_add_unsigned(duration.total_micros()) {
@@ -378,16 +195,6 @@ impl Instant {
     /// let first = Instant::from_micros(i64::MIN);
     /// assert_eq!(first.checked_sub(Duration::from_micros(1)), None);
     /// ```
-    ///
-    /// <details><summary>Contract</summary>
-    ///
-    /// In the words of [`contracts`](crate::contracts):
-    ///
-    /// ```text
-    /// ensures { SomeIff result (IsMoment (self.now -ℤ pos duration)) (self.now -ℤ pos duration) }
-    /// ```
-    ///
-    /// </details>
     #[inline]
     pub fn checked_sub(&self, duration: Duration) -> Option<Instant> {
         match self.micros.checked_sub_unsigned(duration.total_micros()) {
@@ -398,22 +205,16 @@ impl Instant {
 
     /// Returns the moment `duration` later, or the last moment if that is after it.
     ///
+    /// ```text
+    /// self.timeout = self.timeout.saturating_mul(2);
+    /// self.deadline = now.saturating_add(self.timeout);
+    /// ```
+    ///
     /// ```
     /// # use net_base::time::{Duration, Instant};
     /// let moment = Instant::ZERO.saturating_add(Duration::MAX);
     /// assert_eq!(moment, Instant::from_micros(i64::MAX));
     /// ```
-    ///
-    /// <details><summary>Contract</summary>
-    ///
-    /// In the words of [`contracts`](crate::contracts):
-    ///
-    /// ```text
-    /// ensures exact { IsMoment (self.now +ℤ pos duration) → result ≡ self.now +ℤ pos duration }
-    /// ensures last { (IsMoment (self.now +ℤ pos duration) → ⊥) → result ≡ pos (2 ^ 63 - 1) }
-    /// ```
-    ///
-    /// </details>
     #[inline]
     pub fn saturating_add(&self, duration: Duration) -> Instant {
         let micros = self.micros.wrapping_add_unsigned(duration.total_micros());
@@ -430,17 +231,6 @@ impl Instant {
     /// let moment = Instant::ZERO.saturating_sub(Duration::MAX);
     /// assert_eq!(moment, Instant::from_micros(i64::MIN));
     /// ```
-    ///
-    /// <details><summary>Contract</summary>
-    ///
-    /// In the words of [`contracts`](crate::contracts):
-    ///
-    /// ```text
-    /// ensures exact { IsMoment (self.now -ℤ pos duration) → result ≡ self.now -ℤ pos duration }
-    /// ensures first { (IsMoment (self.now -ℤ pos duration) → ⊥) → result ≡ negsuc (2 ^ 63 - 1) }
-    /// ```
-    ///
-    /// </details>
     #[inline]
     pub fn saturating_sub(&self, duration: Duration) -> Instant {
         let micros = self.micros.wrapping_sub_unsigned(duration.total_micros());
@@ -448,6 +238,22 @@ impl Instant {
             return Instant::from_micros(i64::MIN);
         }
         Instant { micros }
+    }
+
+    /// Returns how long after `earlier` this moment is, or no time if it is before it.
+    ///
+    /// ```
+    /// # use net_base::time::{Duration, Instant};
+    /// let (sent, answered) = (Instant::from_millis(3), Instant::from_millis(5));
+    /// assert_eq!(answered.saturating_duration_since(sent), Duration::from_millis(2));
+    /// assert_eq!(sent.saturating_duration_since(answered), Duration::ZERO);
+    /// ```
+    #[inline]
+    pub fn saturating_duration_since(&self, earlier: Instant) -> Duration {
+        if self.micros < earlier.micros {
+            return Duration::ZERO;
+        }
+        Duration::from_micros(self.micros.abs_diff(earlier.micros))
     }
 
     /// Returns the text of the moment, whatever the options.

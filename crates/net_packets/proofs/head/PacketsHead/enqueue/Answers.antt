@@ -1,6 +1,7 @@
 use Rattle.std.proofs.Common.{◌≡◌, length, ◌∙◌, ap, rules}
-use Rattle.net_packets.specs.HeadQueue.{queue_of}
-use Rattle.net_packets.proofs.HeadQueue.{packet_enqueued, sound_enqueued, none_enqueued, place_is}
+use Rattle.net_packets.specs.{queue_of}
+use Rattle.net_packets.proofs.HeadParts.{place_is}
+use Rattle.net_packets.proofs.HeadQueue.{packet_enqueued, sound_enqueued, none_enqueued}
 use Rattle.net_packets.proofs.head.PacketsHead.enqueue.Goals as goal
 
 pub returns-in_err-place-clause-state : goal.returns-in_err-place-clause-state

@@ -1,7 +1,7 @@
 use Rattle.std.proofs.Common.{false, sym, subst, refl, length, drop, ◌+◌}
 use Rattle.std.proofs.lemmas.Bool.{both_ways}
 use Rattle.net_ring.specs.Ring.{queue}
-use Rattle.net_packets.specs.HeadQueue.{AreSlotsAfter, slot_ring}
+use Rattle.net_packets.specs.{AreSlotsAfter, slot_ring}
 use Rattle.net_packets.proofs.HeadQueue.{next_slot, from_start}
 use Rattle.net_packets.proofs.head.PacketsHead.has_sound_slots.Goals as goal
 

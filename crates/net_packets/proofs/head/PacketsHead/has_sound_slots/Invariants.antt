@@ -1,6 +1,6 @@
 use Rattle.std.proofs.Common.{◌≡◌, ◌≢◌, ◌+◌, ◌≤◌, drop}
 use Rattle.net_ring.specs.Ring.{index_after, queue}
-use Rattle.net_packets.specs.HeadQueue.{AreSlotsAfter, slot_ring}
+use Rattle.net_packets.specs.{AreSlotsAfter, slot_ring}
 use Rattle.net_packets.proofs.head.PacketsHead.has_sound_slots.Given as goal
 
 -- what is left to test

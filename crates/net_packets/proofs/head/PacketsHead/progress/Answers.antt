@@ -7,7 +7,7 @@ returns-then-slot-self-clause-none c e ms a =
     let sound = c.requires.sound in
     let can = follows c.args.capacity c.args.self.bytes c.args.done.offset c.args.done.gap c.args.slot.now ms sound.0 c.requires.within sound.1 a in
     let over = c.if-slot-self.true in
-    absurd (omega (arith, can.0, over))
+    absurd (omega (arith, can.0))
 
 pub returns-then-slot-capacity-clause-none : goal.returns-then-slot-capacity-clause-none
 returns-then-slot-capacity-clause-none c e ms a =
@@ -15,7 +15,7 @@ returns-then-slot-capacity-clause-none c e ms a =
     let can = follows c.args.capacity c.args.self.bytes c.args.done.offset c.args.done.gap c.args.slot.now ms sound.0 c.requires.within sound.1 a in
     let over = c.if-slot-capacity.true in
     let from = c.index-from.ensures.index in
-    absurd (omega (arith, can.1, over, from))
+    absurd (omega (arith, can.1))
 
 pub returns-then-done-gt0-clause-none : goal.returns-then-done-gt0-clause-none
 returns-then-done-gt0-clause-none c e ms a =

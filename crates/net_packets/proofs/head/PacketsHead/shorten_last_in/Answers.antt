@@ -1,5 +1,5 @@
 use Rattle.std.proofs.Common.{◌≡◌, ◌-◌, ◌∙◌, ap, sym, subst, set, rules}
-use Rattle.net_packets.specs.HeadQueue.{CanShorten, HasSoundSlots, last_slot, packet_slot, queue_of}
+use Rattle.net_packets.specs.{CanShorten, HasSoundSlots, last_slot, packet_slot, queue_of}
 use Rattle.net_packets.proofs.HeadQueue.{last_shortened, sound_shortened, last_at}
 use Rattle.net_packets.proofs.head.PacketsHead.shorten_last_in.Goals as goal
 

@@ -18,9 +18,9 @@ use contract.BorrowLft.{◌⊑◌, ⊑_trans, meet_⊑_right}
 use contract.Lifetimes.{Lfts, Shares, AllOutlive}
 use contract.Monad.{fact, fact_i}
 use contract.Running.{Running, MachineTables, tables}
-use types.Kit.{mean, any_q, Post as After, rewrite, frame, ‵, raw, ◌⊛◌, some, later, at_ret, ◌$◌, ◌∵◌, !, qed}
-use types.Kit.{by, move, keep, drop, split, split3, join, fsplit, fsplit3, fjoin, feq_i, fpack, pick}
-use types.Kit.{suffices, use0, use1, use2, use3, await, done}
+use types.Kit.{mean, any_q, Post as After, rewrite, frame, ‵, raw, ◌⊛◌, some, later, at_ret, ◌$◌, ◌∵◌, !, qed, by}
+use types.Kit.{move, keep, drop, split, split3, join, fsplit, fsplit3, fjoin, feq_i, fpack, pick, suffices, use0}
+use types.Kit.{use1, use2, use3, await, done}
 use types.Run.{stop, fld, addr, lit, of_opd, no_more, and_then, first, skips, switches_on, exec, returns}
 use types.Run.{returns_within, enter}
 use types.ByLocal.{lands_as, alloc_all, pass_all, free_all, look_at, get, get_tag, through, sets, env}
@@ -54,10 +54,9 @@ use Rattle.std.proofs.ResultValues.{ok_of, err_of}
 use Rattle.std.specs.Prelude.{Ok, Err, IsErr, OnOk, OnErr, ◌↔◌}
 use Rattle.std.specs.declared.option.Option.TheVariants.{None}
 use Rattle.std.specs.contracts.result.Result as RS
-use Rattle.net_packets.specs.Packets.{placement, with_packet_if, with_packet_if_room, only_last as last-of}
-use Rattle.net_packets.specs.Packets.{first_size, last_bytes, with_last_bytes}
+use Rattle.net_packets.specs.{placement, with_packet_if, with_packet_if_room, only_last as last-of, first_size}
+use Rattle.net_packets.specs.{last_bytes, with_last_bytes, contents, Makes, Place as Placed}
 use Rattle.net_ring.specs.contracts.error.Full as FU
-use Rattle.net_packets.specs.PacketHistory.{contents, Makes, Place as Placed}
 use Rattle.net_packets.proofs.PacketRuns.{enqueue_call}
 use Rattle.net_packets.proofs.LendInside.{lent, Back, lends_inside, comes_inside}
 use Rattle.net_packets.proofs.ResultParts.{no_fields, alone, ok_or_err, ok_had, err_had, and_fact, says_all}

@@ -1,18 +1,18 @@
 use Rattle.std.proofs.Common.{length, ap, ◌∙◌, arith}
 use Rattle.std.proofs.lemmas.Bool.{false≢true}
 use Rattle.std.specs.declared.option.Option.TheVariants.{Some}
-use Rattle.net_packets.specs.Packets.{first_gap}
-use Rattle.net_packets.specs.PacketSlots.{slot}
-use Rattle.net_packets.proofs.HeadParts.{parts_some, parts_gap, parts_first_fits, parts_first_sized, parts_first_bytes}
+use Rattle.net_packets.specs.{first_gap, slot}
+use Rattle.net_packets.proofs.HeadParts.{parts_some, parts_gap, parts_first_fits, parts_first_sized}
+use Rattle.net_packets.proofs.HeadParts.{parts_first_bytes}
 use Rattle.net_packets.proofs.packet_buffer.PacketsOver.first.Goals as goal
 
 pub overflow_add-from : goal.overflow_add-from
 overflow_add-from g c =
     let fits = parts_first_fits _ _ _ c.self.invariant (ap (λ o. first_gap o.packets) c.self.view_is ∙ c.requires) c.element-slot.result.now.size c.in-Some.header (omega (arith, c.if-self-eq0.false)) (c.element-slot.ensures ∙ ap (λ o. Some (slot c.element-slot.result.now.size o)) c.in-Some.is) in
-    omega (arith, fits, c.count-capacity.ensures, c.count-capacity.type_inv)
+    omega (arith, c.count-capacity.ensures, c.count-capacity.type_inv)
 
 pub part-requires : goal.part-requires
-part-requires g c = let fits = parts_first_fits _ _ _ c.self.invariant (ap (λ o. first_gap o.packets) c.self.view_is ∙ c.requires) c.element-slot.result.now.size c.in-Some.header (omega (arith, c.if-self-eq0.false)) (c.element-slot.ensures ∙ ap (λ o. Some (slot c.element-slot.result.now.size o)) c.in-Some.is) in record { count = (omega arith, omega (arith, fits)) }
+part-requires g c = let fits = parts_first_fits _ _ _ c.self.invariant (ap (λ o. first_gap o.packets) c.self.view_is ∙ c.requires) c.element-slot.result.now.size c.in-Some.header (omega (arith, c.if-self-eq0.false)) (c.element-slot.ensures ∙ ap (λ o. Some (slot c.element-slot.result.now.size o)) c.in-Some.is) in record { count = (omega arith, omega arith) }
 
 pub returns-in-Some-clause-no_packet : goal.returns-in-Some-clause-no_packet
 returns-in-Some-clause-no_packet g c =

@@ -1,7 +1,6 @@
 use Rattle.std.proofs.Common.{sym, ap, ◌∙◌, arith}
 use Rattle.std.specs.declared.option.Option.TheVariants.{Some}
-use Rattle.net_packets.specs.Packets.{first_gap}
-use Rattle.net_packets.specs.PacketSlots.{slot}
+use Rattle.net_packets.specs.{first_gap, slot}
 use Rattle.net_packets.proofs.PacketSteps.{well_placed}
 use Rattle.net_packets.proofs.HeadParts.{parts_gap, parts_no_gap}
 use Rattle.net_packets.proofs.packet_buffer.PacketsOver.first_gap.Goals as goal

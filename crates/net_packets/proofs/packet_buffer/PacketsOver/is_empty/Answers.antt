@@ -1,5 +1,5 @@
 use Rattle.std.proofs.Common.{ap, ◌∙◌, length, ◌==◌}
-use Rattle.net_packets.proofs.PacketFacts.{empty_is}
+use Rattle.net_packets.proofs.PacketSteps.{empty_is}
 use Rattle.net_packets.proofs.PacketRuns.{is_empty_none}
 use Rattle.net_packets.proofs.packet_buffer.PacketsOver.is_empty.Goals as goal
 

@@ -1,5 +1,5 @@
 use Rattle.std.proofs.Common.{ap, ◌∙◌, ◌==◌, ◌-◌, nat_eq}
-use Rattle.net_packets.specs.Packets.{slots_used}
+use Rattle.net_packets.specs.{slots_used}
 use Rattle.net_packets.proofs.HeadParts.{parts_full_slots}
 use Rattle.net_packets.proofs.packet_buffer.PacketsOver.is_full.Goals as goal
 

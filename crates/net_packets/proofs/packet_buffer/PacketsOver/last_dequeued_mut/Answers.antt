@@ -1,5 +1,5 @@
 use Rattle.std.proofs.Common.{refl}
-use Rattle.net_packets.specs.Packets.{last_dequeued_bytes_index}
+use Rattle.net_packets.specs.{last_dequeued_bytes_index}
 use Rattle.net_packets.proofs.PacketSteps.{well_placed}
 use Rattle.net_packets.proofs.PacketRuns.{last_dequeued_unseen, last_dequeued_call}
 use Rattle.net_packets.proofs.HeadParts.{parts_dequeued_shown, parts_dequeued_size, parts_dequeued_sound}

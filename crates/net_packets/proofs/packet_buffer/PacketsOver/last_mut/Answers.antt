@@ -1,6 +1,6 @@
 use Rattle.std.proofs.Common.{◌∙◌, refl}
 use Rattle.net_ring.proofs.Rotations.{length-overwrite}
-use Rattle.net_packets.specs.Packets.{last_index}
+use Rattle.net_packets.specs.{last_index}
 use Rattle.net_packets.proofs.PacketRuns.{last_shown}
 use Rattle.net_packets.proofs.packet_buffer.PacketsOver.last_mut.Goals as goal
 

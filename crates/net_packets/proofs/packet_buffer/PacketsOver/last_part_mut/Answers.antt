@@ -9,12 +9,12 @@ overflow_sub-before g c = parts_last_in _ _ _ c.self.invariant c.args.self.now c
 pub overflow_add-from : goal.overflow_add-from
 overflow_add-from g c =
     let fits = parts_last_fits _ _ _ c.self.invariant c.args.self.now c.self.view_is c.count.result c.count.ensures c.args.size c.requires in
-    omega (arith, fits, c.index-from.ensures.index, c.count.ensures, c.count.type_inv)
+    omega (arith, c.index-from.ensures.index, c.count.ensures, c.count.type_inv)
 
 pub part_mut-requires : goal.part_mut-requires
 part_mut-requires g c =
     let fits = parts_last_fits _ _ _ c.self.invariant c.args.self.now c.self.view_is c.count.result c.count.ensures c.args.size c.requires in
-    record { count = (omega arith, omega (arith, fits, c.index-from.ensures.index)) }
+    record { count = (omega arith, omega (arith, c.index-from.ensures.index)) }
 
 pub invariant_of-self-lent : goal.invariant_of-self-lent
 invariant_of-self-lent g c = λ w.
@@ -29,6 +29,6 @@ returns g c =
       record {
         writes_back = tt;
         value = parts_last_shown _ _ _ c.self.invariant c.args.self.now c.self.view_is c.count.result c.count.ensures c.args.size c.requires from at _ c.part_mut.ensures.value;
-        size = parts_last_size _ _ _ c.self.invariant c.args.self.now c.self.view_is c.count.result c.count.ensures c.args.size c.requires from (omega (arith, fits, c.index-from.ensures.index)) _ c.part_mut.ensures.value;
+        size = parts_last_size _ _ _ c.self.invariant c.args.self.now c.self.view_is c.count.result c.count.ensures c.args.size c.requires from (omega (arith, c.index-from.ensures.index)) _ c.part_mut.ensures.value;
       },
     )

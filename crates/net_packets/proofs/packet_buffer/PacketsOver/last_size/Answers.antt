@@ -1,7 +1,7 @@
 use Rattle.std.proofs.Common.{sym, ap, ◌∙◌, ◌-◌, arith}
 use Rattle.std.specs.List.{slice_get}
 use Rattle.net_ring.specs.Ring.{index_after}
-use Rattle.net_packets.specs.Packets.{first_size, only_last}
+use Rattle.net_packets.specs.{first_size, only_last}
 use Rattle.net_packets.proofs.PacketSteps.{well_placed}
 use Rattle.net_packets.proofs.HeadParts.{parts_last}
 use Rattle.net_packets.proofs.packet_buffer.PacketsOver.last_size.Goals as goal

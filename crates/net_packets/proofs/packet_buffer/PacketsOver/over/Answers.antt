@@ -1,6 +1,5 @@
 use Rattle.std.proofs.Common.{◌∙◌, ap}
-use Rattle.net_packets.specs.PacketSlots.{packets_at}
-use Rattle.net_packets.specs.PacketHistory.{contents}
+use Rattle.net_packets.specs.{packets_at, contents}
 use Rattle.net_packets.proofs.PacketRuns.{no_contents}
 use Rattle.net_packets.proofs.packet_buffer.PacketsOver.over.Goals as goal
 

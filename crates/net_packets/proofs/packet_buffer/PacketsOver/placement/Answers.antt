@@ -1,6 +1,5 @@
 use Rattle.std.proofs.Common.{ap, ◌∙◌}
-use Rattle.net_packets.specs.Packets.{placement}
-use Rattle.net_packets.specs.PacketsHead.{placement_in}
+use Rattle.net_packets.specs.{placement, placement_in}
 use Rattle.net_packets.proofs.PacketSteps.{well_placed}
 use Rattle.net_packets.proofs.HeadParts.{parts_placement}
 use Rattle.net_packets.proofs.packet_buffer.PacketsOver.placement.Goals as goal

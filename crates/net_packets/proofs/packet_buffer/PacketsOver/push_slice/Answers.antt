@@ -1,5 +1,5 @@
 use Rattle.std.proofs.Common.{◌∙◌}
-use Rattle.net_packets.specs.Packets.{last_index}
+use Rattle.net_packets.specs.{last_index}
 use Rattle.net_ring.proofs.Rotations.{length-overwrite}
 use Rattle.net_packets.proofs.packet_buffer.PacketsOver.push_slice.Goals as goal
 

@@ -1,6 +1,5 @@
 use Rattle.std.proofs.Common.{ℕ, sym, ap, ap₂, ◌∙◌, arith}
-use Rattle.net_packets.specs.Packets.{first_gap, without_gap}
-use Rattle.net_packets.specs.PacketsHead.{with_slot_taken}
+use Rattle.net_packets.specs.{first_gap, without_gap, with_slot_taken}
 use Rattle.net_packets.proofs.HeadParts.{parts_skipped}
 use Rattle.net_packets.proofs.packet_buffer.PacketsOver.skip.Goals as goal
 

@@ -1,5 +1,5 @@
 use Rattle.std.proofs.Common.{ap, ◌∙◌}
-use Rattle.net_packets.specs.Packets.{slots_used}
+use Rattle.net_packets.specs.{slots_used}
 use Rattle.net_packets.proofs.HeadParts.{parts_count}
 use Rattle.net_packets.proofs.packet_buffer.PacketsOver.slots_used.Goals as goal
 

@@ -1,10 +1,9 @@
 use Rattle.std.proofs.Common.{ℕ, length, refl, sym, ap, ap₂, subst, ◌∙◌, arith}
 use Rattle.std.proofs.lemmas.Bool.{false≢true}
 use Rattle.std.proofs.lemmas.List.{length-set}
-use Rattle.net_packets.specs.Packets.{PacketsState, first_gap, without_first, IsFirstSized}
-use Rattle.net_packets.specs.PacketsHead.{with_slot_taken}
-use Rattle.net_packets.proofs.HeadParts.{parts_none, parts_some, parts_has_header, parts_sized}
-use Rattle.net_packets.proofs.HeadParts.{parts_first_in, parts_taken}
+use Rattle.net_packets.specs.{PacketsState, first_gap, without_first, IsFirstSized, with_slot_taken}
+use Rattle.net_packets.proofs.HeadParts.{parts_none, parts_some, parts_has_header, parts_sized, parts_first_in}
+use Rattle.net_packets.proofs.HeadParts.{parts_taken}
 use Rattle.net_packets.proofs.packet_buffer.PacketsOver.take_first.Goals as goal
 
 pub returns-then-self-eq0-clause-none : goal.returns-then-self-eq0-clause-none

@@ -1,7 +1,6 @@
 use Rattle.std.proofs.Common.{◌≡◌, ℕ, ◌+◌, ap, sym, ◌∙◌, refl, subst, add-one, below_more, arith, drop}
 use Rattle.std.proofs.lemmas.List.{drop-drop}
-use Rattle.net_packets.specs.Packets.{PacketsState}
-use Rattle.net_packets.specs.Drops.{after_drops, without_oldest, HasNoRoom, HasNoRoomBefore}
+use Rattle.net_packets.specs.{PacketsState, after_drops, without_oldest, HasNoRoom, HasNoRoomBefore}
 use Rattle.net_packets.proofs.packet_buffer.laws.drops.Goals as goal
 
 one_more_is : {H : Type 0} (k : ℕ) (q : PacketsState H) → after_drops (k + 1) q ≡ without_oldest (after_drops k q)

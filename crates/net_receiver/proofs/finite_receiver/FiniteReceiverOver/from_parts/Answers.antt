@@ -5,6 +5,7 @@ use Rattle.net_assembler.proofs.Heads.{length-runs_of}
 use Rattle.net_ring.specs.Ring.{queue, spare}
 use Rattle.net_ring.specs.RingHead.{ring_at}
 use Rattle.net_receiver.specs.Parts.{parts}
+use Rattle.net_receiver.specs.FiniteHead.{end_of}
 use Rattle.net_receiver.proofs.finite_receiver.FiniteReceiverOver.from_parts.Goals as goal
 
 pub returns-then-head-eq0 : goal.returns-then-head-eq0
@@ -12,5 +13,5 @@ returns-then-head-eq0 g c =
     let h = c.args.head.receiver in
     let xs = g.S.Storage.elements c.args.storage in
     let rs = c.args.runs in
-    ap (λ held. record { receiver = parts h.first h.count_read (queue (ring_at xs h.place)) (spare (ring_at xs h.place)) held; end = c.args.head.end })
+    ap (λ held. record { receiver = parts h.first h.count_read (queue (ring_at xs h.place)) (spare (ring_at xs h.place)) held; end = end_of c.args.head })
     (c.new.ensures.empty rs ∙ sym (no_runs (runs_of h.held rs) (length-runs_of h.held rs c.requires.parts.runs ∙ c.if-head-eq0.true)))

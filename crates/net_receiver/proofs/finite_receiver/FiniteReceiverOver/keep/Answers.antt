@@ -7,8 +7,8 @@ use Rattle.net_receiver.proofs.Heads.{part_is, whole_written}
 use Rattle.net_receiver.proofs.finite_receiver.FiniteReceiverOver.keep.Given as given
 use Rattle.net_receiver.proofs.finite_receiver.FiniteReceiverOver.keep.Goals as goal
 
-pub keep-requires-clause-sound : goal.keep-requires-clause-sound
-keep-requires-clause-sound g c =
+pub keep-requires : goal.keep-requires
+keep-requires g c =
     let i = c.self.inside in
     subst (λ xs. HasSoundFinite i.head xs i.runs) (sym (part_is _ _ _ c.count-count.ensures c.part_mut-storage.ensures.value)) c.self.invariant.0
 
@@ -55,4 +55,4 @@ returns-clause-read g c =
 pub returns-clause-grows : goal.returns-clause-grows
 returns-clause-grows g c =
     subst (λ t. acknowledged c.args.self.now ≤ acknowledged t) (sym (returns-clause-state g c))
-    (one_acknowledged g.row.N c.args.self.now (Arrives c.args.pos c.args.bytes.now c.args.is_last) (sound_end g c) c.requires)
+    (one_acknowledged g.row.N c.args.self.now (Arrives c.args.pos c.args.bytes.now c.args.is_last) (sound_end g c))

@@ -1,10 +1,9 @@
 use Rattle.std.proofs.Common.{◌∙◌, ◌++◌, min, ap, sym, subst, length, take, drop}
 use Rattle.net_assembler.specs.RunLists.{IsCanonical}
-use Rattle.net_receiver.specs.Rules.{Read, ReadReply}
-use Rattle.net_receiver.specs.ReceiverState.{ReceiverState, receiver_after_read}
+use Rattle.net_receiver.specs.ReceiverState.{Read, ReadReply, ReceiverState, receiver_after_read}
 use Rattle.net_receiver.proofs.CallClauses.{stays}
 use Rattle.net_receiver.proofs.Heads.{lent_view, lent_sound, back_view, back_sound, queue_size, sound_for}
-use Rattle.net_receiver.proofs.Schedules.{steps, read_prefix}
+use Rattle.net_receiver.proofs.Schedules.{read_prefix}
 use Rattle.net_receiver.proofs.receiver.ReceiverOver.read.Goals as goal
 
 pub invariant_of-self : goal.invariant_of-self
@@ -32,12 +31,10 @@ returns-clause-into g c =
     ∙ ap (λ (v : ReceiverState). take (length c.args.into.now) v.queue ++ drop (length v.queue) c.args.into.now)
     (lent_view _ _ _ _ c.whole.ensures c.args.self.now c.self.view_is)
 
-pub returns-clause-step : goal.returns-clause-step
-returns-clause-step g c = λ s d.
-    steps g.row.N c.args.self.now _ (Read (length c.args.into.now)) (ReadReply (take c.read.result c.read.new.into)) (returns-clause-state g c)
-    (ap (λ xs. ReadReply xs)
-    (read_prefix c.args.self.now.queue c.read.new.into c.args.into.now c.read.result (returns-clause-count g c) (returns-clause-into g c)))
-    s d
+pub returns-clause-reply : goal.returns-clause-reply
+returns-clause-reply g c =
+    ap (λ xs. ReadReply xs)
+    (read_prefix c.args.self.now.queue c.read.new.into c.args.into.now c.read.result (returns-clause-count g c) (returns-clause-into g c))
 
 pub returns-clause-setting : goal.returns-clause-setting
 returns-clause-setting g c =

@@ -1,11 +1,9 @@
 -- `f` was run on the queue's first part; what it counts is taken off, as by a read of that many bytes.
-use Rattle.std.proofs.Common.{refl, sym, ap, subst, ◌∙◌, length, take, arith}
+use Rattle.std.proofs.Common.{sym, ap, subst, ◌∙◌, length, arith}
 use Rattle.net_assembler.specs.RunLists.{IsCanonical}
-use Rattle.net_receiver.specs.Rules.{Read, ReadReply}
-use Rattle.net_receiver.specs.ReceiverState.{receiver_after_read}
+use Rattle.net_receiver.specs.ReceiverState.{Read, receiver_after_read}
 use Rattle.net_receiver.proofs.CallClauses.{stays}
 use Rattle.net_receiver.proofs.Heads.{sound_for}
-use Rattle.net_receiver.proofs.Schedules.{steps}
 use Rattle.net_receiver.proofs.receiver.ReceiverOver.read_with.Goals as goal
 
 pub f-answer-requires : goal.f-answer-requires
@@ -22,10 +20,6 @@ pub returns-clause-state : goal.returns-clause-state
 returns-clause-state g c =
     c.remove.ensures.state (g.S.Storage.elements c.self.inside.storage) c.self.inside.runs (sym c.count.ensures) c.self.invariant.0
     ∙ ap (λ v. receiver_after_read v c.f-answer.result.0) c.self.view_is
-
-pub returns-clause-step : goal.returns-clause-step
-returns-clause-step g c = λ s d.
-    steps g.row.N c.args.self.now _ (Read c.f-answer.result.0) (ReadReply (take c.f-answer.result.0 c.args.self.now.queue)) (returns-clause-state g c) refl s d
 
 pub returns-clause-setting : goal.returns-clause-setting
 returns-clause-setting g c =

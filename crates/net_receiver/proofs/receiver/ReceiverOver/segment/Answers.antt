@@ -1,11 +1,9 @@
 use Rattle.std.proofs.Common.{◌≡◌, ◌∙◌, ap, subst, sym, length}
 use Rattle.net_receiver.specs.KeptList.{piece}
-use Rattle.net_receiver.specs.Rules.{Segment, SegmentReply, verdict, segment_result}
-use Rattle.net_receiver.specs.ReceiverState.{receiver_ops, receiver_after_command}
+use Rattle.net_receiver.specs.ReceiverState.{Segment, SegmentReply, verdict, segment_result, receiver_after_command}
 use Rattle.net_receiver.specs.Head.{receiver_of, HasSoundParts}
 use Rattle.net_receiver.proofs.CallClauses.{segment_receives, in_order, any_order, stays}
 use Rattle.net_receiver.proofs.Heads.{lent_view, lent_sound, part_is, whole_written, sound_for}
-use Rattle.net_receiver.proofs.Schedules.{steps}
 use Rattle.net_receiver.proofs.receiver.ReceiverOver.segment.Given as given
 use Rattle.net_receiver.proofs.receiver.ReceiverOver.segment.Goals as goal
 
@@ -38,11 +36,11 @@ state_is g c =
     ∙ (λ k. receiver_after_command (c.self.invariant.1 k) (before k) (Segment c.args.pos c.args.bytes.now))
 
 result_is : (g : given.Over) (c : goal.After-self-2-1 g) →
-    c.segment.result ≡ segment_result receiver_ops c.args.self.now (verdict receiver_ops g.row.N c.args.self.now (piece c.args.pos c.args.bytes.now))
+    c.segment.result ≡ segment_result c.args.self.now (verdict g.row.N c.args.self.now (piece c.args.pos c.args.bytes.now))
 result_is g c =
     let before = lent_view _ _ _ _ (part_is _ _ _ c.count-count.ensures c.part_mut-storage.ensures.value) c.args.self.now c.self.view_is in
     c.segment.ensures.value
-    ∙ (λ k. segment_result receiver_ops (before k) (verdict receiver_ops (c.self.invariant.1 k) (before k) (piece c.args.pos c.args.bytes.now)))
+    ∙ (λ k. segment_result (before k) (verdict (c.self.invariant.1 k) (before k) (piece c.args.pos c.args.bytes.now)))
 
 pub invariant_of-self : goal.invariant_of-self
 invariant_of-self g c = (sound_is g c, runs_are g c, c.segment.ensures.canonical c.self.invariant.2)
@@ -52,10 +50,6 @@ returns-clause-state g c = state_is g c
 
 pub returns-clause-reply : goal.returns-clause-reply
 returns-clause-reply g c = ap (λ r. SegmentReply r) (result_is g c)
-
-pub returns-clause-step : goal.returns-clause-step
-returns-clause-step g c =
-    steps g.row.N _ _ (Segment c.args.pos c.args.bytes.now) (SegmentReply c.segment.result) (state_is g c) (ap (λ r. SegmentReply r) (result_is g c))
 
 pub returns-clause-setting : goal.returns-clause-setting
 returns-clause-setting g c =

@@ -3,7 +3,7 @@ use Rattle.std.proofs.lemmas.Bool.{both_ways}
 use Rattle.net_ring.specs.RingHead.{ring_at}
 use Rattle.net_ring.specs.Ring.{queue}
 use Rattle.net_ring.proofs.Rotations.{length-queue}
-use Rattle.net_receiver.proofs.SameBytes.{differ, go_on}
+use Rattle.net_receiver.proofs.Theorems.{differ, go_on}
 use Rattle.net_receiver.proofs.receiver_head.ReceiverHead.is_same_queue.Goals as goal
 
 pub returns-then-length-other : goal.returns-then-length-other

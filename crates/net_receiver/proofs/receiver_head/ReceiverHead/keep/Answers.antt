@@ -7,8 +7,7 @@ use Rattle.net_assembler.specs.Positions.{with_range, runs}
 use Rattle.net_assembler.specs.RunLists.{set_of}
 use Rattle.net_assembler.proofs.Positions.{too_many}
 use Rattle.net_receiver.specs.KeptList.{piece}
-use Rattle.net_receiver.specs.Rules.{verdict, state_after, numbers}
-use Rattle.net_receiver.specs.ReceiverState.{receiver_ops}
+use Rattle.net_receiver.specs.ReceiverState.{verdict, state_after, numbers}
 use Rattle.net_receiver.specs.Head.{receiver_of, HasSoundParts}
 use Rattle.net_receiver.proofs.CallClauses.{segment_receives}
 use Rattle.net_receiver.proofs.Heads.{cut_of, refused, refused_stores, joined_fits, kept_is, kept_stores}
@@ -64,9 +63,9 @@ all : (c : goal.After-enqueue) →
       held = c.add_then_remove_front.new.self;
     } in
     let v = receiver_of c.args.self.now c.args.storage.now c.args.runs.now in
-    let x = verdict receiver_ops (length c.args.runs.now) v (piece c.args.pos c.args.bytes.now) in
-    (receiver_of h c.write_unallocated.new.storage c.add_then_remove_front.new.runs ≡ state_after receiver_ops v x)
-    × (Ok (record { kept = c.min-kept.result; queued = c.in_ok-queued.queued }) ≡ numbers receiver_ops v x)
+    let x = verdict (length c.args.runs.now) v (piece c.args.pos c.args.bytes.now) in
+    (receiver_of h c.write_unallocated.new.storage c.add_then_remove_front.new.runs ≡ state_after v x)
+    × (Ok (record { kept = c.min-kept.result; queued = c.in_ok-queued.queued }) ≡ numbers v x)
     × HasSoundParts h c.write_unallocated.new.storage c.add_then_remove_front.new.runs
 all c =
     let cut = cut_of c.requires.sound c.next-next.ensures c.window-window.ensures c.saturating_sub-late.ensures c.saturating_sub-ahead.ensures

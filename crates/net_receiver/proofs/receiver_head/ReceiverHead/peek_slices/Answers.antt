@@ -2,7 +2,7 @@ use Rattle.std.proofs.Common.{◌≡◌, ◌∙◌, ◌+◌, ◌-◌, ◌++◌, 
 use Rattle.std.proofs.lemmas.List.{take_min}
 use Rattle.net_ring.specs.RingHead.{ring_at}
 use Rattle.net_ring.specs.Ring.{queue}
-use Rattle.net_ring.proofs.HeadFacts.{queued_elements}
+use Rattle.net_ring.proofs.RingFacts.{queued_elements}
 use Rattle.net_ring.proofs.Rotations.{length-queue}
 use Rattle.net_receiver.proofs.receiver_head.ReceiverHead.peek_slices.Goals as goal
 

@@ -1,13 +1,11 @@
-use Rattle.std.proofs.Common.{◌≡◌, ◌∙◌, ◌+◌, ℕ, min, length, take, sym, ap, subst}
+use Rattle.std.proofs.Common.{◌≡◌, ◌∙◌, ◌+◌, ℕ, min, length, sym, ap, subst}
 use Rattle.net_ring.specs.RingHead.{IsSound as IsSoundPlace, ring_at, dequeued_place}
 use Rattle.net_ring.specs.Ring.{RingState, queue}
 use Rattle.net_ring.specs.declared.head.RingHead.{RingHead}
 use Rattle.net_ring.proofs.Rotations.{length-queue}
 use Rattle.net_receiver.specs.Head.{receiver_of, HasSoundParts}
-use Rattle.net_receiver.specs.Rules.{Read, ReadReply}
 use Rattle.net_receiver.proofs.CallClauses.{read_receives, read_bytes}
 use Rattle.net_receiver.proofs.Heads.{after_read}
-use Rattle.net_receiver.proofs.Schedules.{steps, read_prefix}
 use Rattle.net_receiver.proofs.Segment.{given_is}
 use Rattle.net_receiver.proofs.receiver_head.ReceiverHead.read.Goals as goal
 
@@ -52,14 +50,6 @@ count_is : (c : goal.After-self-1) → c.dequeue_slice-count.result
 count_is c =
     c.dequeue_slice-count.ensures.count
     ∙ ap (min (length c.args.into.now)) (sym (length-queue (ring_at c.args.storage.now c.args.self.now.place) c.requires.place))
-
-pub returns-clause-step : goal.returns-clause-step
-returns-clause-step c = λ rs s.
-    steps (length rs) _ _ (Read (length c.args.into.now)) (ReadReply (take c.dequeue_slice-count.result c.dequeue_slice-count.new.into))
-    (returns-clause-state c rs s)
-    (ap (λ xs. ReadReply xs)
-    (read_prefix (queue (ring_at c.args.storage.now c.args.self.now.place)) c.dequeue_slice-count.new.into c.args.into.now
-    c.dequeue_slice-count.result (count_is c) (returns-clause-into c)))
 
 pub returns-clause-receives : goal.returns-clause-receives
 returns-clause-receives c = λ rs s f x r. (

@@ -1,11 +1,8 @@
-use Rattle.std.proofs.Common.{◌∙◌, ◌+◌, length, take, refl, sym, ap, subst, arith}
-use Rattle.net_ring.specs.Ring.{queue}
-use Rattle.net_ring.specs.RingHead.{IsSound as IsSoundPlace, ring_at, dequeued_place}
-use Rattle.net_receiver.specs.Rules.{Read, ReadReply}
+use Rattle.std.proofs.Common.{◌∙◌, ◌+◌, sym, ap, subst, arith}
+use Rattle.net_ring.specs.RingHead.{IsSound as IsSoundPlace, dequeued_place}
 use Rattle.net_receiver.specs.Head.{receiver_of, HasSoundParts, head_after_read}
 use Rattle.net_receiver.proofs.CallClauses.{read_receives, head_bytes}
 use Rattle.net_receiver.proofs.Heads.{after_read, queue_size}
-use Rattle.net_receiver.proofs.Schedules.{steps}
 use Rattle.net_receiver.proofs.receiver_head.ReceiverHead.remove.Goals as goal
 
 pub returns-clause-head : goal.returns-clause-head
@@ -30,11 +27,6 @@ returns-clause-state c = λ xs rs size s.
     (subst (IsSoundPlace c.args.capacity) c.dequeue.ensures.place c.dequeue.ensures.sound) in
     ap (λ h. receiver_of h xs rs) (returns-clause-head c ∙ ap (λ n. head_after_read n c.args.count c.args.self.now) (sym size))
     ∙ (after_read s c.args.count c.args.count (omega (arith, c.requires.queued)) place).0
-
-pub returns-clause-step : goal.returns-clause-step
-returns-clause-step c = λ xs rs size s.
-    steps (length rs) _ _ (Read c.args.count) (ReadReply (take c.args.count (queue (ring_at xs c.args.self.now.place))))
-    (returns-clause-state c xs rs size s) refl
 
 pub returns-clause-receives : goal.returns-clause-receives
 returns-clause-receives c = λ xs rs size s f x r. (

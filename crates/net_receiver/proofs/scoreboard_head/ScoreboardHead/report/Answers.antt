@@ -1,11 +1,10 @@
-use Rattle.std.proofs.Common.{◌≡◌, ◌+◌, ◌-◌, ◌∙◌, length, ap, arith, inl, inr, refl}
+use Rattle.std.proofs.Common.{◌≡◌, ◌+◌, ◌-◌, ◌∙◌, length, ap, arith}
 use Rattle.std.proofs.lemmas.Bool.{false≢true}
 use Rattle.net_assembler.specs.Positions.{with_range}
-use Rattle.net_assembler.proofs.Positions.{either}
 use Rattle.net_assembler.specs.RunLists.{set_of}
 use Rattle.net_receiver.specs.Scoreboards.{reported_by, board}
-use Rattle.net_receiver.proofs.Scoreboards.{front_board, with_range_below, with_range_beyond, no_room}
-use Rattle.net_receiver.proofs.Scoreboards.{added_begins, added_fits, on_ok}
+use Rattle.net_receiver.proofs.Scoreboards.{front_board, with_range_below, with_range_beyond, no_room, added_begins}
+use Rattle.net_receiver.proofs.Scoreboards.{added_fits, on_ok}
 use Rattle.net_receiver.proofs.scoreboard_head.ScoreboardHead.report.Goals as goal
 
 pub returns-then-start-self-clause-ok : goal.returns-then-start-self-clause-ok
@@ -19,17 +18,8 @@ returns-then-start-self-clause-ok c =
 pub returns-then-start-self-clause-refused : goal.returns-then-start-self-clause-refused
 returns-then-start-self-clause-refused c =
     let s = set_of c.args.self.now.reported c.args.runs.now in
-    let at = front_board c.args.self.now.base s c.requires.sound.begins in (
-      λ e. absurd (false≢true e),
-      λ why. either why (λ none. absurd (omega (arith, at, none.0, c.if-start-self.true)))
-          (λ far. absurd (omega (arith, at, far.0, c.if-start-self.true))),
-    )
-
-pub returns-then-end-self-clause-refused : goal.returns-then-end-self-clause-refused
-returns-then-end-self-clause-refused c =
-    let s = set_of c.args.self.now.reported c.args.runs.now in
     let at = front_board c.args.self.now.base s c.requires.sound.begins in
-    (λ e. inr (omega (arith, at, c.if-start-self.false), omega (arith, at, c.if-start-self.false, c.if-end-self.true, c.requires.block)), λ why. refl)
+    (λ e. absurd (false≢true e), λ none. absurd (omega (arith, at, none.0, c.if-start-self.true)))
 
 pub returns-clause-sound : goal.returns-clause-sound
 returns-clause-sound c =
@@ -57,8 +47,4 @@ pub returns-clause-refused : goal.returns-clause-refused
 returns-clause-refused c =
     let s = set_of c.args.self.now.reported c.args.runs.now in
     let same = no_room (length c.args.runs.now) c.args.self.now.base s c.args.start (c.args.end - c.args.start) c.requires.sound.begins (omega (arith, c.if-start-self.false)) in
-    let at = front_board c.args.self.now.base s c.requires.sound.begins in (
-      λ e. inl (same.0 (c.add.ensures.added.refused.0 e)),
-      λ why. either why (λ none. c.add.ensures.added.refused.1 (same.1 none))
-          (λ far. absurd (omega (arith, at, far.1, c.if-end-self.false, c.if-start-self.false, c.requires.block))),
-    )
+    (λ e. same.0 (c.add.ensures.added.refused.0 e), λ none. c.add.ensures.added.refused.1 (same.1 none))

@@ -1,5 +1,5 @@
 use Rattle.std.proofs.Common.{◌≡◌, ◌++◌, ◌∙◌, length, take, min, sym, ap, subst}
-use Rattle.net_ring.proofs.HeadFacts.{lent_whole}
+use Rattle.net_ring.proofs.RingFacts.{lent_whole}
 use Rattle.net_receiver.specs.SenderState.{room_of, with_written, Sends}
 use Rattle.net_receiver.proofs.Senders.{sends_written}
 use Rattle.net_receiver.specs.SenderHeads.{sender_of, IsSoundHead}

@@ -1,6 +1,5 @@
 use Rattle.std.proofs.Common.{◌≡◌, take, sym, ap, subst, arith}
-use Rattle.net_ring.specs.Ring.{queue, with_dequeued, Dequeues}
-use Rattle.net_ring.specs.RingHead.{ring_at}
+use Rattle.net_ring.specs.{queue, with_dequeued, Dequeues, ring_at}
 use Rattle.net_ring.proofs.RingFacts.{with_dequeued_law}
 use Rattle.net_ring.proofs.head.RingHead.dequeue_slice.Goals as goal
 

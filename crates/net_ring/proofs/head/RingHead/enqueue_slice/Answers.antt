@@ -1,7 +1,6 @@
 use Rattle.std.proofs.Common.{◌≡◌, ◌-◌, ◌++◌, length, take, min, ap, ◌∙◌, arith}
 use Rattle.std.proofs.lemmas.List.{length-take-le}
-use Rattle.net_ring.specs.Ring.{rewind_if_empty, window}
-use Rattle.net_ring.specs.RingHead.{ring_at}
+use Rattle.net_ring.specs.{rewind_if_empty, window, ring_at}
 use Rattle.net_ring.proofs.RingFacts.{enqueue_clause, rewound_is, rewound_ring}
 use Rattle.net_ring.proofs.head.RingHead.enqueue_slice.Goals as goal
 
@@ -17,7 +16,7 @@ returns-clause-enqueued g c =
     enqueue_clause (ring_at s before) (rewind_if_empty (ring_at s c.args.self.now)) (ring_at c.write_unallocated-count.new.storage before) _
     (take n c.args.«data».now) n same c.write_unallocated-count.ensures.written
     (ap (ring_at c.write_unallocated-count.new.storage) c.enqueue.ensures.place)
-    (length-take-le n c.args.«data».now (omega (arith, bound))) (omega (arith, bound))
+    (length-take-le n c.args.«data».now (omega arith)) (omega arith)
 
 pub returns-clause-queue : goal.returns-clause-queue
 returns-clause-queue g c = (returns-clause-enqueued g c).0

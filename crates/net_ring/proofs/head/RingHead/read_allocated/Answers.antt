@@ -1,5 +1,5 @@
 use Rattle.std.proofs.Common.{◌++◌, drop, ap, ◌∙◌, arith}
-use Rattle.net_ring.proofs.HeadFacts.{queued_elements}
+use Rattle.net_ring.proofs.RingFacts.{queued_elements}
 use Rattle.net_ring.proofs.head.RingHead.read_allocated.Goals as goal
 
 pub returns-clause-given : goal.returns-clause-given

@@ -1,18 +1,16 @@
 -- `element_mut` at a `&mut [T]` lends an element of what the reference points at, for every T.
-use Rattle.net_ring.proofs.Walks.{refl, sym, ℕ, List, [], ◌∷◌, length, named, a_type, inst_fn, Val, vptr}
-use Rattle.net_ring.proofs.Walks.{full_share, GName, ftrue, fat, flft, ◌⊑◌, ‵, ◌⊛◌, given, some, later, ◌$◌}
-use Rattle.net_ring.proofs.Walks.{◌∵◌, !, qed, move, keep, drop, split, split3, join, fsplit, fsplit3, fjoin}
-use Rattle.net_ring.proofs.Walks.{rewrite, use1, use2, use3, await, pick, suffices, frame, done, whole, sub}
-use Rattle.net_ring.proofs.Walks.{look_in, stop, fld, addr, load, returns, enter, alloc_all, pass_all}
-use Rattle.net_ring.proofs.Walks.{free_all, look_at, get, through, sets, no, follows, follows_then}
-use Rattle.net_ring.proofs.Walks.{lends_inner_slice, renamed, Array, shows, param, layouts, RattleType, owns}
-use Rattle.net_ring.proofs.Walks.{MutBor, MutRef, at_last, mut_vals, mut_Tells, cell_at, plain, mut_slice_of}
-use Rattle.net_ring.proofs.Walks.{MutSlice, slice_val, mut_slice_vals, nothing, opens, closes, peeks, says}
-use Rattle.net_ring.proofs.Walks.{Stays, stay_dropped, walk_of, ends_at, Goes-spent_ref, subst, ap, ◌+◌, ◌^◌}
-use Rattle.net_ring.proofs.Walks.{◌<◌, w64, vint, learn, usize, yes, mem, uint_vals, uint_Tells, Goes-dropped}
-use Rattle.net_ring.proofs.Walks.{◌*◌, arith, size, bin, size_word, is, layout, at_mul, uncapped, set}
-use Rattle.net_ring.proofs.Walks.{coded_list, fobs, fbor, fjoin3, feq_i, Body, heres_id, proved, takes_at}
-use Rattle.net_ring.proofs.Walks.{bare}
+use Rattle.net_ring.proofs.Walks.{refl, sym, ℕ, List, [], ◌∷◌, length, named, a_type, inst_fn, Val, vptr, full_share}
+use Rattle.net_ring.proofs.Walks.{GName, ftrue, fat, flft, ◌⊑◌, ‵, ◌⊛◌, given, some, later, ◌$◌, ◌∵◌, !, qed, move}
+use Rattle.net_ring.proofs.Walks.{keep, drop, split, split3, join, fsplit, fsplit3, fjoin, rewrite, use1, use2, use3}
+use Rattle.net_ring.proofs.Walks.{await, pick, suffices, frame, done, whole, sub, look_in, stop, fld, addr, load}
+use Rattle.net_ring.proofs.Walks.{returns, enter, alloc_all, pass_all, free_all, look_at, get, through, sets, no}
+use Rattle.net_ring.proofs.Walks.{follows, follows_then, lends_inner_slice, renamed, Array, shows, param, layouts}
+use Rattle.net_ring.proofs.Walks.{RattleType, owns, MutBor, MutRef, at_last, mut_vals, mut_Tells, cell_at, plain}
+use Rattle.net_ring.proofs.Walks.{mut_slice_of, MutSlice, slice_val, mut_slice_vals, nothing, opens, closes, peeks}
+use Rattle.net_ring.proofs.Walks.{says, Stays, stay_dropped, walk_of, ends_at, Goes-spent_ref, subst, ap, ◌+◌, ◌^◌}
+use Rattle.net_ring.proofs.Walks.{◌<◌, w64, vint, learn, usize, yes, mem, uint_vals, uint_Tells, Goes-dropped, ◌*◌}
+use Rattle.net_ring.proofs.Walks.{arith, size, bin, size_word, is, layout, at_mul, uncapped, set, coded_list, fobs}
+use Rattle.net_ring.proofs.Walks.{fbor, fjoin3, feq_i, Body, heres_id, proved, takes_at, bare}
 use Rattle.net_ring.proofs.Relend.{words_ty, run_fits, element_at}
 use Rattle.net_ring.specs.contracts.managed.RefMutSliceStorage.element_mut as f
 use Rattle.net_ring.proofs.managed.RefMutSliceStorage.element_mut.Statement.{statement}

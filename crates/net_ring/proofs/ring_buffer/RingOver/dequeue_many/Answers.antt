@@ -1,10 +1,7 @@
 use Rattle.std.proofs.Common.{List, ◌≡◌, ◌∙◌, refl, sym, ap, min, arith}
-use Rattle.net_ring.specs.Overwrite.{overwrite}
-use Rattle.net_ring.specs.Ring.{capacity, contiguous_queued, with_elements, with_dequeued}
-use Rattle.net_ring.specs.RingHead.{ring_at}
+use Rattle.net_ring.specs.{overwrite, capacity, contiguous_queued, with_elements, with_dequeued, ring_at, Makes}
 use Rattle.net_ring.proofs.RingFacts.{well, found, left_off, shown_head, dequeued_law, contiguous_head_some}
 use Rattle.net_ring.proofs.Rotations.{length-overwrite}
-use Rattle.net_ring.specs.RingHistory.{Makes}
 use Rattle.net_ring.proofs.ring_buffer.RingOver.dequeue_many.Goals as goal
 
 pub returns : goal.returns
@@ -18,20 +15,20 @@ returns g c =
     let size = c.count.ensures ∙ ap capacity is in
     let counts = ap (λ o. o.count) is in
     let read = ap (λ o. o.read_at) is in
-    let count : k ≡ min c.args.size (contiguous_queued old) = omega (arith, span.count, size, counts, read) in
+    let count : k ≡ min c.args.size (contiguous_queued old) = omega (arith, span.count) in
     let next = found _ _ is c.self.invariant c.count.result k _ size refl in
     let st : List _ → List _ = λ w. g.S.Storage.elements (g.S.Storage.with_part c.self.inside.storage p w) in
     let left : (w : List _) → st w ≡ overwrite (g.S.Storage.elements c.self.inside.storage) c.self.inside.head.read_at w = λ w. g.met.S.Storage.part_written c.self.inside.storage p w ∙ ap (λ i. overwrite (g.S.Storage.elements c.self.inside.storage) i w) span.from in
-    let lent = shown_head _ _ is c.self.invariant _ _ k (span.from ∙ read) (omega arith) (omega (arith, count)) _ c.part_mut.ensures.value in (
+    let lent = shown_head _ _ is c.self.invariant _ _ k (span.from ∙ read) (omega arith) (omega arith) _ c.part_mut.ensures.value in (
       (refl, λ w. ap (ring_at (st w)) span.place ∙ left_off _ _ is c.self.invariant k _ _ count next (st w) w (left w)),
       record {
         writes_back = tt;
         count = lent.0 ∙ count;
-        not_empty = λ l m. (let h = contiguous_head_some old (well _ _ is c.self.invariant) l in omega (arith, h, m, lent.0, count));
+        not_empty = λ l m. (let h = contiguous_head_some old (well _ _ is c.self.invariant) l in omega (arith, lent.0));
         value = lent.1;
         stored = lent.2;
         dequeued = dequeued_law _ (well _ _ is c.self.invariant) _ (omega arith);
-        call = λ w long. (omega (arith, lent.0, count), lent.1, omega (arith, long, lent.0, count), ap (λ j. with_elements (with_dequeued j old) old.read_at w) (sym (lent.0 ∙ count)));
+        call = λ w long. (omega (arith, lent.0), lent.1, omega (arith, lent.0), ap (λ j. with_elements (with_dequeued j old) old.read_at w) (sym (lent.0 ∙ count)));
         room = λ w. (let long = length-overwrite old.storage old.read_at w in omega (arith, long, (well _ _ is c.self.invariant).1));
         capacity = λ w. length-overwrite old.storage old.read_at w;
       },

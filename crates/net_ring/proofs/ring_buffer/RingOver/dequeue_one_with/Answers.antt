@@ -1,11 +1,8 @@
 use Rattle.std.proofs.Common.{rules, Bool, length, true, false, ◌≡◌, ◌≢◌, ◌∷◌, [], refl, ap, sym, ◌∙◌, is_ok}
 use Rattle.std.proofs.Common.{if◌then◌else◌, slice_index_or, drop, arith}
-use denote.MutBor.{at_last}
-use Rattle.net_ring.specs.Ring.{RingState, queue, with_dequeued, with_elements}
-use Rattle.net_ring.specs.Overwrite.{overwrite}
+use Rattle.net_ring.specs.{RingState, queue, with_dequeued, with_elements, overwrite, Makes, DequeueOne, DequeueErr}
 use Rattle.net_ring.proofs.Rotations.{length-overwrite}
-use Rattle.net_ring.proofs.RingFacts.{well, found, queue_head, head_either, ring_is}
-use Rattle.net_ring.specs.RingHistory.{Makes, DequeueOne, DequeueErr}
+use Rattle.net_ring.proofs.RingFacts.{returned, well, found, queue_head, head_either, ring_is}
 use Rattle.net_ring.proofs.ring_buffer.RingOver.dequeue_one_with.Goals as goal
 use Rattle.net_ring.proofs.ring_buffer.RingOver.dequeue_one_with.Goals.{then-is_ok, else-is_ok}
 
@@ -62,7 +59,7 @@ returns-clause-called g c =
     let by_answer = head_either old wf y (some g c) c.f-answer.result _ left in (
       x,
       y,
-      record { shown = c.element_mut.result; shows = refl; left = at_last c.element_mut.result y; leaves = refl; met = c.f-answer.ensures },
+      returned c.element_mut.result y refl c.f-answer.ensures,
       queue_head old wf x here (some g c),
       left,
       by_answer.0,

@@ -1,11 +1,9 @@
 use Rattle.std.proofs.Common.{List, ◌≡◌, ◌∙◌, refl, sym, subst, ap, length, min, arith}
-use Rattle.net_ring.specs.Ring.{IsWellFormed, index_after, capacity, rewind_if_empty, contiguous_window}
-use Rattle.net_ring.specs.Ring.{write_at, with_enqueued, with_elements}
-use Rattle.net_ring.specs.RingHead.{ring_at, rewound}
-use Rattle.net_ring.proofs.RingFacts.{well, found_next, rewind_wf, rewound_ring, left_in, shown_next}
-use Rattle.net_ring.proofs.RingFacts.{enqueued_law, contiguous_rewound_some, rewound_is}
+use Rattle.net_ring.specs.{IsWellFormed, index_after, capacity, rewind_if_empty, contiguous_window, write_at}
+use Rattle.net_ring.specs.{with_enqueued, with_elements, ring_at, rewound, Makes}
+use Rattle.net_ring.proofs.RingFacts.{well, found_next, rewind_wf, rewound_ring, left_in, shown_next, enqueued_law}
+use Rattle.net_ring.proofs.RingFacts.{contiguous_rewound_some, rewound_is}
 use Rattle.net_ring.proofs.Rotations.{length-overwrite}
-use Rattle.net_ring.specs.RingHistory.{Makes}
 use Rattle.net_ring.proofs.ring_buffer.RingOver.enqueue_many.Goals as goal
 
 pub returns : goal.returns
@@ -24,19 +22,19 @@ returns g c =
     let counts = ap (λ o. o.count) c.self.view_is in
     let at : p ≡ write_at old = found_next _ _ is wf c.count.result p size
     (span.from ∙ ap (index_after c.count.result (rewound c.self.inside.head).read_at) (omega arith)) in
-    let count : k ≡ min c.args.size (contiguous_window old) = omega (arith, span.count, size, counts, at, same.1) in
+    let count : k ≡ min c.args.size (contiguous_window old) = omega (arith, span.count, same.1) in
     let st : List _ → List _ = λ w. g.S.Storage.elements (g.S.Storage.with_part c.self.inside.storage p w) in
-    let lent = shown_next _ _ is wf _ _ k at (omega arith) (omega (arith, count)) _ c.part_mut.ensures.value in (
+    let lent = shown_next _ _ is wf _ _ k at (omega arith) (omega arith) _ c.part_mut.ensures.value in (
       (refl, λ w. ap (ring_at (st w)) span.place ∙ left_in _ _ is wf k _ _ count at (st w) w (g.met.S.Storage.part_written c.self.inside.storage p w)),
       record {
         writes_back = tt;
         count = lent.0 ∙ count;
-        not_empty = λ l m. (let h = contiguous_rewound_some c.args.self.now l in omega (arith, h, m, lent.0, count));
+        not_empty = λ l m. (let h = contiguous_rewound_some c.args.self.now l in omega (arith, lent.0));
         value = lent.1;
         stored = lent.2;
         enqueued = enqueued_law _ (well _ _ is wf) _ (omega arith);
-        call = λ w long. (omega (arith, long), ap (λ k. with_elements (with_enqueued k old) (write_at old) w) (sym long));
-        room = λ w. (let long = length-overwrite old.storage (write_at old) w in let counts = same.1 in let size = ap length same.2 in omega (arith, long, counts, size));
+        call = λ w long. (omega arith, ap (λ k. with_elements (with_enqueued k old) (write_at old) w) (sym long));
+        room = λ w. (let long = length-overwrite old.storage (write_at old) w in let counts = same.1 in let size = ap length same.2 in omega arith);
         capacity = λ w. length-overwrite old.storage (write_at old) w ∙ ap length same.2;
       },
     )

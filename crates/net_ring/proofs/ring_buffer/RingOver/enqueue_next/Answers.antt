@@ -1,9 +1,7 @@
 use Rattle.std.proofs.Common.{List, ◌∷◌, [], ◌∙◌, refl, ap, slice_index_or, arith}
-use Rattle.net_ring.specs.Ring.{capacity, write_at}
-use Rattle.net_ring.specs.RingHead.{ring_at}
+use Rattle.net_ring.specs.{capacity, write_at, ring_at, Makes}
 use Rattle.net_ring.proofs.RingFacts.{well, found_next, left_in, spare_head, enqueued_one}
 use Rattle.net_ring.proofs.Rotations.{length-overwrite}
-use Rattle.net_ring.specs.RingHistory.{Makes}
 use Rattle.net_ring.proofs.ring_buffer.RingOver.enqueue_next.Goals as goal
 
 pub returns : goal.returns

@@ -1,10 +1,8 @@
-use Rattle.std.proofs.Common.{rules, Bool, true, false, ◌≡◌, ◌≢◌, ◌∷◌, [], refl, ap, sym, ◌∙◌, is_ok}
-use Rattle.std.proofs.Common.{if◌then◌else◌, slice_index_or, arith}
-use denote.MutBor.{at_last}
-use Rattle.net_ring.specs.Ring.{RingState, write_at, window, with_enqueued, with_elements}
-use Rattle.net_ring.specs.Overwrite.{overwrite}
-use Rattle.net_ring.proofs.RingFacts.{well, found_next, spare_head, next_either, ring_is}
-use Rattle.net_ring.specs.RingHistory.{Makes, EnqueueOne, EnqueueErr}
+use Rattle.std.proofs.Common.{rules, Bool, true, false, ◌≡◌, ◌≢◌, ◌∷◌, [], refl, ap, sym, ◌∙◌, is_ok, if◌then◌else◌}
+use Rattle.std.proofs.Common.{slice_index_or, arith}
+use Rattle.net_ring.specs.{RingState, write_at, window, with_enqueued, with_elements, overwrite, Makes, EnqueueOne}
+use Rattle.net_ring.specs.{EnqueueErr}
+use Rattle.net_ring.proofs.RingFacts.{returned, well, found_next, spare_head, next_either, ring_is}
 use Rattle.net_ring.proofs.ring_buffer.RingOver.enqueue_one_with.Goals as goal
 use Rattle.net_ring.proofs.ring_buffer.RingOver.enqueue_one_with.Goals.{then-is_ok, else-is_ok}
 
@@ -45,7 +43,7 @@ returns-clause-called g c =
     let by_answer = next_either old wf y (some g c) c.f-answer.result _ left in (
       x,
       y,
-      record { shown = c.element_mut.result; shows = refl; left = at_last c.element_mut.result y; leaves = refl; met = c.f-answer.ensures },
+      returned c.element_mut.result y refl c.f-answer.ensures,
       spare_head old wf x here (some g c),
       left,
       by_answer.0,

@@ -1,9 +1,7 @@
 use Rattle.std.proofs.Common.{◌≡◌, ◌+◌, ◌++◌, length, take, min, sym, ap, subst, ◌∙◌, arith, length-take}
-use Rattle.net_ring.specs.Ring.{IsWellFormed, Enqueues, capacity, window, queue, write_at, rewind_if_empty}
-use Rattle.net_ring.specs.Ring.{with_enqueued, with_elements_wrapping}
-use Rattle.net_ring.specs.RingHead.{ring_at}
-use Rattle.net_ring.proofs.HeadFacts.{lent_whole}
-use Rattle.net_ring.specs.RingHistory.{Makes}
+use Rattle.net_ring.specs.{IsWellFormed, Enqueues, capacity, window, queue, write_at, rewind_if_empty, with_enqueued}
+use Rattle.net_ring.specs.{with_elements_wrapping, ring_at, Makes}
+use Rattle.net_ring.proofs.RingFacts.{lent_whole}
 use Rattle.net_ring.proofs.ring_buffer.RingOver.enqueue_slice.Goals as goal
 
 pub invariant_of-self : goal.invariant_of-self
@@ -31,12 +29,12 @@ returns g c =
     let count = met.count ∙ ap (λ o. min (length c.args.«data».now) (window o)) before in
     let ring = after ∙ met.ring
     ∙ ap (λ o. with_enqueued n (with_elements_wrapping (rewind_if_empty o) (write_at (rewind_if_empty o)) d)) before in
-    let long : length d ≡ n = omega (arith, length-take n c.args.«data».now, count) in
+    let long : length d ≡ n = omega (arith, length-take n c.args.«data».now) in
     record {
       count = count;
       ring = ring;
       call =
-          (omega (arith, long, count), subst (λ k. new ≡ with_enqueued k (with_elements_wrapping (rewind_if_empty c.args.self.now) (write_at (rewind_if_empty c.args.self.now)) d)) (sym long) ring);
+          (omega arith, subst (λ k. new ≡ with_enqueued k (with_elements_wrapping (rewind_if_empty c.args.self.now) (write_at (rewind_if_empty c.args.self.now)) d)) (sym long) ring);
       enqueued =
           subst (λ o. Enqueues (rewind_if_empty o) d new) before
           (subst (Enqueues (rewind_if_empty (ring_at c.part_mut.result.now p)) d) (sym after) met.enqueued);

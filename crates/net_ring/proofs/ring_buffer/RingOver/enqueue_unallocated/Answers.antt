@@ -1,6 +1,5 @@
 use Rattle.std.proofs.Common.{ap, sym, subst, take, refl, ◌∙◌}
-use Rattle.net_ring.specs.Ring.{spare, Enqueues}
-use Rattle.net_ring.specs.RingHead.{ring_at}
+use Rattle.net_ring.specs.{spare, Enqueues, ring_at}
 use Rattle.net_ring.proofs.Rotations.{with_enqueued_parts}
 use Rattle.net_ring.proofs.RingFacts.{well, with_enqueued_is, with_enqueued_law}
 use Rattle.net_ring.proofs.ring_buffer.RingOver.enqueue_unallocated.Goals as goal

@@ -1,6 +1,6 @@
 use Rattle.std.proofs.Common.{rules}
 use Rattle.std.proofs.lemmas.List.{nil_from_length}
-use Rattle.net_ring.specs.Ring.{spare}
+use Rattle.net_ring.specs.{spare}
 use Rattle.net_ring.proofs.Rotations.{length-spare}
 use Rattle.net_ring.proofs.ring_buffer.RingOver.is_full.Goals as goal
 

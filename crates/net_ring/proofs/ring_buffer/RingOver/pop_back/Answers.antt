@@ -1,9 +1,6 @@
 use Rattle.std.proofs.Common.{rules, ◌≡◌, ◌-◌, ◌++◌, ◌∷◌, [], length, slice_get, Some, sym, ap, ◌∙◌}
-use Rattle.net_ring.specs.Ring.{queue, spare}
-use Rattle.net_ring.specs.RingHead.{ring_at}
-use Rattle.net_ring.proofs.RingFacts.{well}
-use Rattle.net_ring.proofs.QueueParts.{off_back}
-use Rattle.net_ring.specs.RingHistory.{Makes}
+use Rattle.net_ring.specs.{queue, spare, ring_at, Makes}
+use Rattle.net_ring.proofs.RingFacts.{well, off_back}
 use Rattle.net_ring.proofs.ring_buffer.RingOver.pop_back.Goals as goal
 
 pub returns-clause-queue : goal.returns-clause-queue

@@ -1,5 +1,6 @@
 //! The head of a buffer of fragments: what it has besides its bytes and runs, which each call takes as slices.
 
+use crate::rattle::prelude::*;
 use super::FragmentError;
 use crate::proved::net_assembler::{AssemblerHead, Run, assembler};
 
@@ -30,7 +31,8 @@ pub struct FragmentsHead {
 }
 
 impl FragmentsHead {
-    /// Returns the head of an empty buffer that expires after `expires_at`.
+    /// Returns the head of an empty buffer, whose packet is waited for up to `expires_at`, in
+    /// microseconds. It is sound for any memory.
     pub const fn new(expires_at: i64) -> Self {
         FragmentsHead {
             present: AssemblerHead::new(),
@@ -67,6 +69,7 @@ impl FragmentsHead {
 
     /// Returns whether all bytes that arrived are below `limit`.
     fn is_below(&self, runs: &[Run], limit: usize) -> bool {
+        assembler::laws::maximal_runs();
         let last = self.present.run_count().saturating_sub(1);
         match self.present.run_at(runs, last) {
             Some((_, end)) => end <= limit,
@@ -87,13 +90,14 @@ impl FragmentsHead {
         head
     }
 
-    /// Adds a fragment, whose first byte is that of the packet at `offset`.
+    /// Adds a fragment, whose first byte is that of the packet at `offset`. One without bytes has
+    /// its end at `offset`, and adds nothing.
     ///
-    /// It is refused, and nothing changes, exactly if it reaches past the buffer's end, which is
-    /// `TooLong`, or else past the packet's, which is `OtherSize`, or else would leave more maximal runs
-    /// than there is room for, which is `TooManyHoles`.
+    /// Returns `TooLong`, and changes nothing, if the fragment reaches past the buffer's end, or
+    /// else `OtherSize` if it reaches past a known size, or else `TooManyHoles` if there would be
+    /// more runs than the slice has elements.
     ///
-    /// # Requires
+    /// # Panics, unless
     ///
     /// Head, bytes and runs are those of a buffer.
     pub fn add(
@@ -103,6 +107,7 @@ impl FragmentsHead {
         offset: usize,
         data: &[u8],
     ) -> Result<(), FragmentError> {
+        assembler::laws::members();
         let capacity = bytes.len();
         if ends_above(capacity, offset, data.len()) {
             return Err(FragmentError::TooLong);
@@ -110,6 +115,7 @@ impl FragmentsHead {
         if ends_above(self.limit(capacity), offset, data.len()) {
             return Err(FragmentError::OtherSize);
         }
+        crate::proved::net_assembler::laws::is_usize(capacity);
         let Ok(()) = self.present.add(runs, offset, data.len()) else {
             return Err(FragmentError::TooManyHoles);
         };
@@ -117,12 +123,66 @@ impl FragmentsHead {
         Ok(())
     }
 
+    /// Adds a fragment, as `add` does, and takes its end as the packet's if it is the last one. If it is
+    /// refused, nothing changes.
+    ///
+    /// # Panics, unless
+    ///
+    /// Head, bytes and runs are those of a buffer.
+    pub fn add_fragment(
+        &mut self,
+        bytes: &mut [u8],
+        runs: &mut [Run],
+        offset: usize,
+        data: &[u8],
+        is_last: bool,
+    ) -> Result<(), FragmentError> {
+        if !is_last {
+            return self.add(bytes, runs, offset, data);
+        }
+        let capacity = bytes.len();
+        if ends_above(capacity, offset, data.len()) {
+            return Err(FragmentError::TooLong);
+        }
+        prove!(offset + data.len() <= capacity, "in any `usize`");
+        let mut head = *self;
+        head.set_total_size(capacity, runs, offset + data.len())?;
+        head.add(bytes, runs, offset, data)?;
+        *self = head;
+        Ok(())
+    }
+
+    /// Begins again, for a packet that expires after `expires_at`, with this fragment of it. If it is
+    /// refused, nothing changes.
+    ///
+    /// # Errors
+    ///
+    /// It is refused as `add_fragment` refuses it in an empty buffer.
+    ///
+    /// # Panics, unless
+    ///
+    /// Head, bytes and runs are those of a buffer.
+    pub fn reset_with(
+        &mut self,
+        bytes: &mut [u8],
+        runs: &mut [Run],
+        offset: usize,
+        data: &[u8],
+        is_last: bool,
+        expires_at: i64,
+    ) -> Result<(), FragmentError> {
+        let mut head = FragmentsHead::new(expires_at);
+        head.add_fragment(bytes, runs, offset, data, is_last)?;
+        *self = head;
+        Ok(())
+    }
+
     /// Sets the packet's size to `size` bytes, of a buffer of `capacity` bytes.
     ///
-    /// It is refused, and nothing changes, exactly if the buffer has fewer bytes, which is `TooLong`, or
-    /// else if another size is known, or a byte at `size` or above has arrived, which is `OtherSize`.
+    /// Returns `TooLong`, and changes nothing, if the buffer has fewer bytes, or else `OtherSize`
+    /// if another size is known, or a byte at `size` or above has arrived.
     ///
-    /// # Requires
+    /// # Panics, unless
     ///
     /// The runs are sound.
     pub fn set_total_size(
@@ -162,10 +222,11 @@ impl FragmentsHead {
     /// It is asked before `add`, by callers who refuse a packet whose fragments overlap (RFC 5722). A
     /// fragment that arrives twice overlaps too.
     ///
-    /// # Requires
+    /// # Panics, unless
     ///
     /// The runs are sound.
     pub fn overlaps(&self, runs: &[Run], offset: usize, len: usize) -> bool {
+        assembler::laws::maximal_runs();
         for (start, end) in self.present.iter_data(runs) {
             if start.saturating_sub(offset) < len && offset < end {
                 return true;
@@ -177,10 +238,11 @@ impl FragmentsHead {
     /// Returns whether a byte that arrived differs from that of the fragment whose first byte is that of the packet at
     /// `offset`. The fragment need not be within the buffer.
     ///
-    /// # Requires
+    /// # Panics, unless
     ///
     /// Head, bytes and runs are those of a buffer.
     pub fn differs(&self, bytes: &[u8], runs: &[Run], offset: usize, data: &[u8]) -> bool {
+        assembler::laws::maximal_runs();
         for (start, end) in self.present.iter_data(runs) {
             if run_differs(bytes, start, end, offset, data) {
                 return true;
@@ -192,10 +254,11 @@ impl FragmentsHead {
     /// Returns the packet's size, if it is known and all its bytes have arrived: they are the first
     /// ones of the buffer.
     ///
-    /// # Requires
+    /// # Panics, unless
     ///
     /// The runs are sound.
     pub fn complete(&self, runs: &[Run]) -> Option<usize> {
+        assembler::laws::front();
         if self.has_total == 0 || self.present.peek_front(runs) < self.total {
             return None;
         }

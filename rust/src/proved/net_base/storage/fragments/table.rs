@@ -2,58 +2,82 @@
 //!
 //! The slots are lent: as many packets are reassembled at a time. smoltcp has such a table of its own
 //! buffers, `PacketAssemblerSet`.
+//!
+//! ```
+//! use net_base::storage::fragment_table::{claim, take_complete, FragmentSlot};
+//! use net_base::storage::FragmentError;
+//! use net_base::time::Instant;
+//!
+//! let mut bytes = [[0u8; 8]; 2];
+//! let mut slots = bytes.each_mut().map(|bytes| FragmentSlot::<_, _, 4>::over(&mut bytes[..]));
+//! let (until, one, other) = (Instant::from_secs(60), ("10.0.0.1", 7), ("10.0.0.2", 7));
+//! for (key, offset, data) in [(one, 2, b"cd"), (other, 0, b"xy"), (one, 0, b"ab")] {
+//!     let at = claim(&mut slots, key, until).expect("two keys");
+//!     slots[at].buffer.add(offset, data)?;
+//! }
+//! assert!(claim(&mut slots, ("10.0.0.3", 7), until).is_err()); // no slot is left
+//! let at = claim(&mut slots, one, until).expect("its slot");
+//! slots[at].buffer.set_total_size(4)?;
+//! assert_eq!(slots[at].buffer.assemble(), Some(&b"abcd"[..]));
+//! # Ok::<(), FragmentError>(())
+//! ```
 
-use super::FragmentBuffer;
+use crate::rattle::prelude::*;
+use super::{FragmentError, FragmentsOver};
 use crate::proved::net_base::time::Instant;
 use crate::proved::net_ring::{Full, Storage};
 
+/// Why a fragment is refused. Nothing changes then.
+///
+/// Contracts: `crates/net_base/src/storage/fragments/table.rt`.
+#[derive(Debug, Clone, Copy, PartialEq, Eq, Hash)]
+pub enum AcceptError {
+    /// It has no bytes.
+    NoBytes,
+    /// There are no slots.
+    NoSlot,
+    /// A byte of the packet that has arrived is another one.
+    OtherBytes,
+    /// It reaches past the end of the buffer.
+    TooLong,
+    /// It would leave more maximal runs of bytes, with holes between them, than there is room for.
+    TooManyHoles,
+    /// It reaches past the packet's end, or is the last one, and the packet can't end there.
+    OtherSize,
+}
+
+/// Returns the same refusal, of a table.
+fn refusal(error: FragmentError) -> AcceptError {
+    match error {
+        FragmentError::TooLong => AcceptError::TooLong,
+        FragmentError::TooManyHoles => AcceptError::TooManyHoles,
+        FragmentError::OtherSize => AcceptError::OtherSize,
+    }
+}
+
 /// A buffer of fragments, and the key of the packet that it is for, if it is for one.
+///
+/// Contracts: `crates/net_base/src/storage/fragments/table.rt`.
 pub struct FragmentSlot<K, B: Storage<u8>, const N: usize> {
     /// The key of the packet, such as its source, destination, protocol and identification.
     pub key: Option<K>,
     /// Its fragments. Where there is no key, they are those of an earlier packet.
-    pub buffer: FragmentBuffer<'static, N, B>,
+    pub buffer: FragmentsOver<B, N>,
 }
 
 impl<K: Copy + Eq, B: Storage<u8>, const N: usize> FragmentSlot<K, B, N> {
     /// Returns a free slot over the bytes, whose buffer is empty and expires after the origin.
     ///
-    /// # Requires, else it doesn't compile
-    ///
-    /// `N` is at least 1.
-    ///
-    /// <details><summary>Contract</summary>
-    ///
-    /// In the words of [`contracts`](crate::contracts):
-    ///
-    /// ```text
-    /// requires { 1 ≤ N }
-    /// ensures key { result.key ≡ None }
-    /// ensures bytes { result.buffer.bytes ≡ B.elements bytes }
-    /// ensures nothing { (result.buffer.present ≡ nothing) × (result.buffer.total ≡ None) }
-    /// ensures expires { result.buffer.expires_at ≡ pos 0 }
-    /// ```
-    ///
-    /// </details>
+    /// A program in which `N` is 0 does not compile.
     pub fn over(bytes: B) -> Self {
-        const { assert!(N >= 1, "N is at least 1") };
+        prove!(N >= 1, "N is at least 1");
         FragmentSlot {
             key: None,
-            buffer: FragmentBuffer::over(bytes, Instant::ZERO),
+            buffer: FragmentsOver::over(bytes, Instant::ZERO),
         }
     }
 
     /// Returns whether the slot is for the packet of this key.
-    ///
-    /// <details><summary>Contract</summary>
-    ///
-    /// In the words of [`contracts`](crate::contracts):
-    ///
-    /// ```text
-    /// ensures { result ≡ is_for K.PartialEq.eq key self.now.key }
-    /// ```
-    ///
-    /// </details>
     pub fn is_for(&self, key: K) -> bool {
         match &self.key {
             Some(own) => *own == key,
@@ -62,35 +86,41 @@ impl<K: Copy + Eq, B: Storage<u8>, const N: usize> FragmentSlot<K, B, N> {
     }
 
     /// Begins with the packet of this key, which is waited for up to `expires_at`.
-    ///
-    /// <details><summary>Contract</summary>
-    ///
-    /// In the words of [`contracts`](crate::contracts):
-    ///
-    /// ```text
-    /// ensures key { self.new.key ≡ Some key }
-    /// ensures buffer { self.new.buffer ≡ begun self.old.buffer expires_at }
-    /// ```
-    ///
-    /// </details>
     pub fn begin(&mut self, key: K, expires_at: Instant) {
         self.key = Some(key);
         self.buffer.reset(expires_at);
     }
 
+    /// Adds a fragment of the packet of this key, for which it begins if it isn't for that packet already, and
+    /// returns `at`. If it is refused, nothing changes.
+    fn accept(
+        &mut self,
+        at: usize,
+        key: K,
+        offset: usize,
+        data: &[u8],
+        is_last: bool,
+        expires_at: Instant,
+    ) -> Result<usize, AcceptError> {
+        if !self.is_for(key) {
+            return match self.buffer.reset_with(offset, data, is_last, expires_at) {
+                Ok(()) => {
+                    self.key = Some(key);
+                    Ok(at)
+                }
+                Err(error) => Err(refusal(error)),
+            };
+        }
+        if self.buffer.differs(offset, data) {
+            return Err(AcceptError::OtherBytes);
+        }
+        match self.buffer.add_fragment(offset, data, is_last) {
+            Ok(()) => Ok(at),
+            Err(error) => Err(refusal(error)),
+        }
+    }
+
     /// Frees the slot if its packet is waited for up to a moment before `now`.
-    ///
-    /// <details><summary>Contract</summary>
-    ///
-    /// In the words of [`contracts`](crate::contracts):
-    ///
-    /// ```text
-    /// ensures expired { self.old.buffer.expires_at <ℤ now → self.new.key ≡ None }
-    /// ensures kept { (self.old.buffer.expires_at <ℤ now → ⊥) → self.new.key ≡ self.old.key }
-    /// ensures buffer { self.new.buffer ≡ self.old.buffer }
-    /// ```
-    ///
-    /// </details>
     pub fn expire(&mut self, now: Instant) {
         if self.buffer.is_expired(now) {
             self.key = None;
@@ -99,17 +129,6 @@ impl<K: Copy + Eq, B: Storage<u8>, const N: usize> FragmentSlot<K, B, N> {
 }
 
 /// Returns the first slot for the packet of this key.
-///
-/// <details><summary>Contract</summary>
-///
-/// In the words of [`contracts`](crate::contracts):
-///
-/// ```text
-/// ensures first { result ≡ position (λ s. is_for K.PartialEq.eq key s.key) slots.now }
-/// ensures within { IfSome result (λ at. at < length slots.now) }
-/// ```
-///
-/// </details>
 pub fn find<K: Copy + Eq, B: Storage<u8>, const N: usize>(
     slots: &[FragmentSlot<K, B, N>],
     key: K,
@@ -123,17 +142,6 @@ pub fn find<K: Copy + Eq, B: Storage<u8>, const N: usize>(
 }
 
 /// Returns the first slot without a key.
-///
-/// <details><summary>Contract</summary>
-///
-/// In the words of [`contracts`](crate::contracts):
-///
-/// ```text
-/// ensures first { result ≡ position (λ s. is_none s.key) slots.now }
-/// ensures within { IfSome result (λ at. at < length slots.now) }
-/// ```
-///
-/// </details>
 pub fn find_free<K: Copy + Eq, B: Storage<u8>, const N: usize>(
     slots: &[FragmentSlot<K, B, N>],
 ) -> Option<usize> {
@@ -151,26 +159,6 @@ pub fn find_free<K: Copy + Eq, B: Storage<u8>, const N: usize>(
 /// # Errors
 ///
 /// `Full` exactly if no slot is for it and none is free; then nothing changes.
-///
-/// <details><summary>Contract</summary>
-///
-/// In the words of [`contracts`](crate::contracts):
-///
-/// ```text
-/// ensures full { IsErr result ↔ ((position (λ s. is_for K.PartialEq.eq key s.key) slots.old ≡ None)
-///     × (position (λ s. is_none s.key) slots.old ≡ None)) }
-/// ensures unchanged { OnErr result (slots.new ≡ slots.old) }
-/// ensures found { IfOk result (λ at. (k : ℕ) →
-///     position (λ s. is_for K.PartialEq.eq key s.key) slots.old ≡ Some k →
-///     (at ≡ k) × (slots.new ≡ slots.old)) }
-/// ensures begun { IfOk result (λ at.
-///     position (λ s. is_for K.PartialEq.eq key s.key) slots.old ≡ None →
-///     (position (λ s. is_none s.key) slots.old ≡ Some at)
-///     × ((s : _) → slice_get slots.old at ≡ Some s → slots.new
-///     ≡ set slots.old at (record { key = Some key; buffer = begun s.buffer expires_at }))) }
-/// ```
-///
-/// </details>
 pub fn claim<K: Copy + Eq, B: Storage<u8>, const N: usize>(
     slots: &mut [FragmentSlot<K, B, N>],
     key: K,
@@ -193,31 +181,6 @@ pub fn claim<K: Copy + Eq, B: Storage<u8>, const N: usize>(
 /// # Errors
 ///
 /// `Full` exactly if there are no slots.
-///
-/// <details><summary>Contract</summary>
-///
-/// In the words of [`contracts`](crate::contracts):
-///
-/// ```text
-/// ensures full { IsErr result ↔ (slots.old ≡ []) }
-/// ensures unchanged { OnErr result (slots.new ≡ slots.old) }
-/// ensures found { IfOk result (λ at. (k : ℕ) →
-///     position (λ s. is_for K.PartialEq.eq key s.key) slots.old ≡ Some k →
-///     (at ≡ k) × (slots.new ≡ slots.old)) }
-/// ensures free { IfOk result (λ at. (k : ℕ) →
-///     position (λ s. is_for K.PartialEq.eq key s.key) slots.old ≡ None →
-///     position (λ s. is_none s.key) slots.old ≡ Some k → at ≡ k) }
-/// ensures first { IfOk result (λ at.
-///     position (λ s. is_for K.PartialEq.eq key s.key) slots.old ≡ None →
-///     position (λ s. is_none s.key) slots.old ≡ None →
-///     ExpiresFirst (λ s. s.buffer.expires_at) slots.old at) }
-/// ensures begun { IfOk result (λ at.
-///     position (λ s. is_for K.PartialEq.eq key s.key) slots.old ≡ None →
-///     (s : _) → slice_get slots.old at ≡ Some s → slots.new
-///     ≡ set slots.old at (record { key = Some key; buffer = begun s.buffer expires_at })) }
-/// ```
-///
-/// </details>
 pub fn claim_or_evict<K: Copy + Eq, B: Storage<u8>, const N: usize>(
     slots: &mut [FragmentSlot<K, B, N>],
     key: K,
@@ -234,6 +197,54 @@ pub fn claim_or_evict<K: Copy + Eq, B: Storage<u8>, const N: usize>(
     Ok(at)
 }
 
+/// Adds a fragment of the packet of this key, whose first byte is that of the packet at `offset`, and returns
+/// the packet's slot; `is_last` says that the packet ends after it. The slot is that of `claim_or_evict`: a
+/// packet that is begun is waited for up to `expires_at`. `take_complete` hands out a packet that is whole.
+///
+/// Bytes that have arrived stay: a fragment that has another byte at one of their positions is refused, and
+/// one that has the same bytes there, as a copy has, is taken. RFC 5722 gives up a packet whose fragments
+/// overlap. Here it isn't given up, since who knows the key of a packet could then end it by one fragment.
+///
+/// # Errors
+///
+/// It is refused, and nothing changes, exactly if it has no bytes, or else there are no slots, or else a byte
+/// that has arrived differs, or else the buffer refuses it: as `FragmentBuffer::add_fragment` does, in an empty
+/// one if the packet isn't begun. So a fragment that can't be kept takes no slot from another packet.
+pub fn accept<K: Copy + Eq, B: Storage<u8>, const N: usize>(
+    slots: &mut [FragmentSlot<K, B, N>],
+    key: K,
+    offset: usize,
+    data: &[u8],
+    is_last: bool,
+    expires_at: Instant,
+) -> Result<usize, AcceptError> {
+    if data.is_empty() {
+        return Err(AcceptError::NoBytes);
+    }
+    match slot_for(slots, key) {
+        Some(at) => slots[at].accept(at, key, offset, data, is_last, expires_at),
+        None => Err(AcceptError::NoSlot),
+    }
+}
+
+/// Returns the slot for the packet of this key: the first that is for it, or else the first free one, or else
+/// the first of those that expire before all others.
+fn slot_for<K: Copy + Eq, B: Storage<u8>, const N: usize>(
+    slots: &[FragmentSlot<K, B, N>],
+    key: K,
+) -> Option<usize> {
+    if slots.is_empty() {
+        return None;
+    }
+    if let Some(at) = find(slots, key) {
+        return Some(at);
+    }
+    if let Some(at) = find_free(slots) {
+        return Some(at);
+    }
+    Some(first_to_expire(slots))
+}
+
 /// Returns the first of the slots that expire before all others.
 fn first_to_expire<K: Copy + Eq, B: Storage<u8>, const N: usize>(
     slots: &[FragmentSlot<K, B, N>],
@@ -248,18 +259,6 @@ fn first_to_expire<K: Copy + Eq, B: Storage<u8>, const N: usize>(
 }
 
 /// Frees the slots of packets that are waited for up to a moment before `now`.
-///
-/// <details><summary>Contract</summary>
-///
-/// In the words of [`contracts`](crate::contracts):
-///
-/// ```text
-/// ensures each { AllZip (λ s t. (s.buffer.expires_at <ℤ now → t.key ≡ None)
-///     × ((s.buffer.expires_at <ℤ now → ⊥) → t.key ≡ s.key)
-///     × (t.buffer ≡ s.buffer)) slots.old slots.new }
-/// ```
-///
-/// </details>
 pub fn remove_expired<K: Copy + Eq, B: Storage<u8>, const N: usize>(
     slots: &mut [FragmentSlot<K, B, N>],
     now: Instant,
@@ -273,24 +272,6 @@ pub fn remove_expired<K: Copy + Eq, B: Storage<u8>, const N: usize>(
 /// claimed again, `assemble` of its buffer shows the packet. So a packet is handed out once.
 ///
 /// `None`, and nothing changes, exactly if no slot is for the packet, or a byte of it is missing.
-///
-/// <details><summary>Contract</summary>
-///
-/// In the words of [`contracts`](crate::contracts):
-///
-/// ```text
-/// ensures found { IfSome result (λ at.
-///     position (λ s. is_for K.PartialEq.eq key s.key) slots.old ≡ Some at) }
-/// ensures complete { IfSome result (λ at. (s : _) → slice_get slots.old at ≡ Some s →
-///     ((size : ℕ) × IsComplete s.buffer size)
-///     × (slots.new ≡ set slots.old at (record { key = None; buffer = s.buffer }))) }
-/// ensures missing { IsNone result → (at : ℕ) (s : _) →
-///     position (λ s. is_for K.PartialEq.eq key s.key) slots.old ≡ Some at →
-///     slice_get slots.old at ≡ Some s → (size : ℕ) → IsComplete s.buffer size → ⊥ }
-/// ensures unchanged { IsNone result → slots.new ≡ slots.old }
-/// ```
-///
-/// </details>
 #[must_use]
 pub fn take_complete<K: Copy + Eq, B: Storage<u8>, const N: usize>(
     slots: &mut [FragmentSlot<K, B, N>],
@@ -303,3 +284,5 @@ pub fn take_complete<K: Copy + Eq, B: Storage<u8>, const N: usize>(
     slots[at].key = None;
     Some(at)
 }
+
+crate::rattle::error_text!(AcceptError, AcceptError::NoBytes => "no bytes", AcceptError::NoSlot => "no slots", AcceptError::OtherBytes => "contradicts bytes that have arrived", AcceptError::TooLong => "past the end of the buffer", AcceptError::TooManyHoles => "too many holes", AcceptError::OtherSize => "contradicts the packet's size");

@@ -1,18 +1,52 @@
-use Rattle.std.proofs.Common.{◌≡◌, ◌+◌, ◌-◌, length, subst, arith}
+use Rattle.std.proofs.Common.{◌≡◌, ◌+◌, ◌-◌, ◌≤◌, ℕ, ap, length, subst, arith}
 use Rattle.net_assembler.specs.Heads.{AddsInPlace}
+use Rattle.net_assembler.specs.RunLists.{start_at}
 use Rattle.net_assembler.specs.Turns.{binary_digits}
 use Rattle.net_assembler.proofs.AssemblerLaws.{below_binary_digits}
-use Rattle.net_assembler.proofs.Heads.{searched}
+use Rattle.net_assembler.proofs.Heads.{first_pair, searched}
 use Rattle.net_assembler.proofs.assembler.head.AssemblerHead.join.Goals as goal
+use Rattle.net_assembler.proofs.assembler.head.AssemblerHead.join.Goals.{then-offset-self, else-offset-self}
 
-pub returns-else-offset-self : goal.returns-else-offset-self
-returns-else-offset-self c =
+pub join_here-requires-clause-begin : goal.join_here-requires-clause-begin
+join_here-requires-clause-begin c =
     let h = c.args.self.now in
     let xs = c.args.runs.now in
-    let first = c.runs_ending_before-first.ensures in
-    let d = below_binary_digits (length xs) in
-    let left = c.join_here-else-offset-self in
-    let at : h.first_start - 0 + (c.args.offset - h.first_start) ≡ c.args.offset = omega (arith, c.if-offset-self.false) in
+    let met = c.if-offset-self in
+    elim met.branch [
+      | then-offset-self w ↦
+          (let zeroth : met.first ≡ 0 = w.first-is in
+          omega (arith, w.begin-is, w.by-is, ap (start_at xs) zeroth, first_pair h xs c.requires.sound c.requires.some))
+      | else-offset-self w ↦ omega (arith, w.begin-is, w.by-is, w.start_of-begin.ensures, ap (start_at xs) w.first-is)
+    ]
+
+pub returns : goal.returns
+returns c =
+    let h = c.args.self.now in
+    let xs = c.args.runs.now in
+    let n = length xs in
+    let d = below_binary_digits n in
+    let met = c.if-offset-self in
+    let left = c.join_here in
+    let at : h.first_start - met.by + met.start ≡ c.args.offset = elim met.branch [
+      | then-offset-self w ↦ omega (arith, w.by-is, w.start-is, w.if-offset-self.true)
+      | else-offset-self w ↦ omega (arith, w.by-is, w.start-is, w.if-offset-self.false)
+    ] in
+    let some : c.args.turns.now.0 ≤ met.turns.0 = elim met.branch [
+      | then-offset-self w ↦ omega (arith, ap (λ (t : ℕ × ℕ). t.0) w.turns-is)
+      | else-offset-self w ↦ omega (arith, ap (λ (t : ℕ × ℕ). t.0) w.turns-is, w.runs_ending_before-first.ensures.no_look_lost)
+    ] in
+    let few : met.turns.0 ≤ c.args.turns.now.0 + binary_digits n = elim met.branch [
+      | then-offset-self w ↦ omega (arith, ap (λ (t : ℕ × ℕ). t.0) w.turns-is)
+      | else-offset-self w ↦
+          omega (
+            arith,
+            ap (λ (t : ℕ × ℕ). t.0) w.turns-is,
+            w.runs_ending_before-first.ensures.looks (binary_digits n) (omega (arith, c.requires.sound.room)),
+          )
+    ] in
+    let moves : met.turns.1 ≡ c.args.turns.now.1 = elim met.branch [
+      | then-offset-self w ↦ ap (λ (t : ℕ × ℕ). t.1) w.turns-is
+      | else-offset-self w ↦ omega (arith, ap (λ (t : ℕ × ℕ). t.1) w.turns-is, w.runs_ending_before-first.ensures.moves)
+    ] in
     subst (λ o. AddsInPlace h xs o c.args.size left.result left.new.self left.new.runs c.args.turns.now left.new.turns) at
-    (searched h xs _ _ _ _ _ _ _ _ left.ensures.added first.no_look_lost
-    (first.looks (binary_digits (length xs)) (omega (arith, c.requires.sound.room))) first.moves left.ensures.looks)
+    (searched h xs _ _ _ _ _ _ _ _ left.ensures.added some few moves left.ensures.looks)

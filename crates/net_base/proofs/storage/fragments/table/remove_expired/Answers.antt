@@ -1,6 +1,6 @@
 use Rattle.std.proofs.Common.{◌≡◌, ◌<ℤ◌, arith}
 use Rattle.std.specs.declared.option.Option.TheVariants.{None}
-use Rattle.net_ring.proofs.ResetFacts.{reset_more}
+use Rattle.net_ring.proofs.RingFacts.{reset_more}
 use Rattle.net_base.proofs.storage.fragments.table.remove_expired.Goals as goal
 
 pub loop-slot-preserved : goal.loop-slot-preserved

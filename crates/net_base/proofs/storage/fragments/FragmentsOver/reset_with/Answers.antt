@@ -1,0 +1,76 @@
+use Rattle.std.proofs.Common.{◌≡◌, ◌↔◌, ◌∙◌, ◌+◌, ◌≤◌, ℕ, ℤ, Bool, List, OnErr, OnOk, Result, Ok, Err, ap, length, subst, sym, to_z, of_z, w64, FitsSigned, rules}
+use Rattle.std.proofs.lemmas.Int.{to_z-of_z}
+use Rattle.net_assembler.specs.Assembler.{MakesTooManyRuns}
+use Rattle.net_assembler.specs.Positions.{nothing}
+use Rattle.net_base.specs.FragmentParts.{fragments_of, HasSoundParts}
+use Rattle.net_base.specs.Fragments.{FragmentsState, begun, with_piece, HasOtherEnd}
+use Rattle.net_base.specs.declared.storage.fragments.FragmentError.{FragmentError}
+use Rattle.net_base.specs.declared.storage.fragments.FragmentError.TheVariants as fragment
+use Rattle.net_base.proofs.LentBytes.{part_is, whole_written}
+use Rattle.net_base.proofs.storage.fragments.FragmentsOver.reset_with.Given as given
+use Rattle.net_base.proofs.storage.fragments.FragmentsOver.reset_with.Goals as goal
+
+-- what was lent is the storage, and what is stored is what was written
+lent : (g : given.Over) (c : goal.After-self-2-1 g) → c.part_mut-bytes.result.now ≡ g.B.Storage.elements c.self.inside.bytes
+lent g c = part_is _ _ _ c.count-count.ensures c.part_mut-bytes.ensures.value
+
+stored : (g : given.Over) (c : goal.After-self-2-1 g) →
+    g.B.Storage.elements (g.B.Storage.with_part c.self.inside.bytes 0 c.reset_with.new.bytes) ≡ c.reset_with.new.bytes
+stored g c =
+    whole_written (g.B.Storage.elements c.self.inside.bytes) _ c.reset_with.new.bytes
+    (c.reset_with.auto.bytes ∙ ap length (lent g c))
+    (g.met.B.Storage.part_written c.self.inside.bytes 0 c.reset_with.new.bytes)
+
+-- what follows from an error
+on_err : {T E P Q : Type 0} (r : Result T E) → (P → Q) → OnErr r P → OnErr r Q
+on_err (Ok t) f p = tt
+on_err (Err e) f p = f p
+
+pub invariant_of-self : goal.invariant_of-self
+invariant_of-self g c = (
+  subst (λ xs. HasSoundParts c.reset_with.new.self xs c.reset_with.new.runs) (sym (stored g c)) c.reset_with.ensures.sound,
+  c.reset_with.auto.runs ∙ c.self.invariant.1,
+  c.reset_with.ensures.exact c.self.invariant.2,
+)
+
+pub returns-clause-unchanged : goal.returns-clause-unchanged
+returns-clause-unchanged g c =
+    on_err c.reset_with.result
+    (λ same.
+    (λ i. fragments_of (same.0 i) ((stored g c ∙ same.1 ∙ lent g c) i) (same.2 i)) ∙ c.self.view_is)
+    c.reset_with.ensures.unchanged
+
+-- what follows from a value
+on_ok : {T E : Type 0} (P Q : Type 0) (r : Result T E) → (P → Q) → OnOk r P → OnOk r Q
+on_ok P Q (Ok t) f p = f p
+on_ok P Q (Err e) f p = tt
+
+-- when there are too many runs in an empty buffer
+abbrev HasTooMany : Result (Unit {0}) FragmentError → ℕ → ℕ → Bool → FragmentsState → ℤ → ℕ → Type 0
+HasTooMany r o k last b e n =
+    (r ≡ Err fragment.TooManyHoles) ↔ ((o + k ≤ length b.bytes) × (HasOtherEnd (begun b e) (o + k) last → ⊥) × MakesTooManyRuns n nothing o k)
+
+-- the head's buffer is the one that is shown
+shown : (g : given.Over) (c : goal.After-self-2-1 g) → fragments_of c.self.inside.head c.part_mut-bytes.result.now c.self.inside.runs ≡ c.args.self.now
+shown g c = ap (λ (xs : List ℕ). fragments_of c.self.inside.head xs c.self.inside.runs) (lent g c) ∙ c.self.view_is
+
+-- the moment as the head reads it
+until : (g : given.Over) (c : goal.After-self-2-1 g) → to_z w64 (of_z w64 c.total_micros-until.result) ≡ c.args.expires_at
+until g c = let fits : FitsSigned w64 c.total_micros-until.result = search rules in to_z-of_z w64 _ fits ∙ c.total_micros-until.ensures
+
+pub returns-clause-ok : goal.returns-clause-ok
+returns-clause-ok g c =
+    on_ok _ _ c.reset_with.result
+    (λ is.
+    ap (λ (xs : List ℕ). fragments_of c.reset_with.new.self xs c.reset_with.new.runs) (stored g c) ∙ is
+    ∙ ap (λ (b : FragmentsState). with_piece (begun b (to_z w64 (of_z w64 c.total_micros-until.result))) c.args.offset c.args.data.now c.args.is_last) (shown g c)
+    ∙ ap (λ (e : ℤ). with_piece (begun c.args.self.now e) c.args.offset c.args.data.now c.args.is_last) (until g c))
+    c.reset_with.ensures.ok
+
+pub returns-clause-too_many : goal.returns-clause-too_many
+returns-clause-too_many g c =
+    let r = c.reset_with.result in let o = c.args.offset in let k = length c.args.data.now in let last = c.args.is_last in
+    let runs = length c.self.inside.runs in
+    let at_b = subst (λ (x : FragmentsState). HasTooMany r o k last x (to_z w64 (of_z w64 c.total_micros-until.result)) runs) (shown g c) c.reset_with.ensures.too_many in
+    let at_e = subst (λ (e : ℤ). HasTooMany r o k last c.args.self.now e runs) (until g c) at_b in
+    subst (HasTooMany r o k last c.args.self.now c.args.expires_at) c.self.invariant.1 at_e

@@ -1,0 +1,15 @@
+//! Worked rows: calls with the answers that they must have. Each row has a plain name, which is that of smoltcp's test
+//! if there is one. The names of these rows and of the program's are printed by
+//!
+//! ```text
+//! grep -rnoE '\(?"[a-z][a-z_0-9]{5,}",' crates/net_core_tests/src/worked crates/net_program_tests/src/{modes,rows}.rt
+//! ```
+//!
+//! The tests of devices have no table: they are functions of `base`.
+
+mod assembler;
+mod packets;
+mod random;
+mod receiver;
+mod ring;
+mod times;

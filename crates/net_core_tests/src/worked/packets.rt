@@ -1,0 +1,370 @@
+//! Rows of packet queues whose headers are bytes.
+use crate::assertions::assert_holds;
+use net_packets::{PacketBuffer, PacketMetadata};
+use net_ring::ManagedSlice;
+use std::alloc::AllocError;
+use std::cell::Cell;
+
+/// A call with its answer, or what is then seen.
+#[derive(Clone, Copy, Drop)]
+enum Step {
+    /// `enqueue` of a size with the header 0, and what is written to the packet's beginning.
+    Enqueue(usize, &'static [u8]),
+    /// `enqueue` of a size, which is refused.
+    Refuse(usize),
+    /// `enqueue` of two bytes with a header.
+    EnqueueHeader(u8, &'static [u8]),
+    /// `enqueue_with_infallible` of a greatest size, and the length that the closure answers.
+    EnqueueWith(usize, usize),
+    /// `enqueue_with_infallible` of a size, which is refused; its closure isn't called.
+    RefuseWith(usize),
+    /// `dequeue`, and the packet's length.
+    DequeueLength(usize),
+    /// `dequeue`, the header and the packet.
+    Dequeue(u8, &'static [u8]),
+    /// `dequeue_with`: the packet that the closure gets, what it writes to header and bytes, and that it refuses.
+    Keep(&'static [u8], u8, &'static [u8]),
+    /// `dequeue_with`: the packet that the closure gets, which it takes off.
+    Take(&'static [u8]),
+    /// `peek`, the header and the packet.
+    Peek(u8, &'static [u8]),
+    /// `peek` and `dequeue` are refused.
+    Nothing,
+    /// How many slots are used, and how many bytes.
+    Uses(usize, usize),
+    /// Whether there are no packets, and whether no slot is free.
+    Is(bool, bool),
+    /// `reset`.
+    Reset,
+}
+
+use Step::{
+    Dequeue, DequeueLength, Enqueue, EnqueueHeader, EnqueueWith, Is, Keep, Nothing, Peek, Refuse,
+    RefuseWith, Reset, Take, Uses,
+};
+
+/// A name, how many slots and bytes there are, and the steps on a new queue over zeros.
+type Row = (&'static str, usize, usize, &'static [Step]);
+
+/// Packets that come and leave, before which there is a gap or none.
+static ROWS: [Row; 18] = [
+    (
+        "test_simple",
+        4,
+        16,
+        &[
+            Enqueue(6, b"abcdef"),
+            Refuse(16),
+            Uses(1, 6),
+            Dequeue(0, b"abcdef"),
+            Nothing,
+        ],
+    ),
+    (
+        "test_peek",
+        4,
+        16,
+        &[
+            Nothing,
+            Enqueue(6, b"abcdef"),
+            Peek(0, b"abcdef"),
+            Dequeue(0, b"abcdef"),
+            Nothing,
+        ],
+    ),
+    (
+        "test_contiguous_window_too_small",
+        4,
+        16,
+        &[
+            Enqueue(4, b""),
+            Enqueue(8, b""),
+            DequeueLength(4),
+            Refuse(8),
+            Uses(1, 8),
+        ],
+    ),
+    (
+        "test_contiguous_window_wrap",
+        4,
+        16,
+        &[Enqueue(15, b""), DequeueLength(15), Enqueue(16, b"")],
+    ),
+    ("test_capacity_too_small", 4, 16, &[Refuse(32)]),
+    (
+        "test_metadata_full_empty",
+        4,
+        16,
+        &[
+            Enqueue(1, b""),
+            Enqueue(1, b""),
+            Enqueue(1, b""),
+            Enqueue(1, b""),
+            Is(false, true),
+            Refuse(1),
+        ],
+    ),
+    (
+        "test_padding",
+        4,
+        16,
+        &[
+            Enqueue(6, b""),
+            Enqueue(8, b""),
+            DequeueLength(6),
+            Enqueue(4, b"abcd"),
+            Uses(3, 14),
+            DequeueLength(8),
+            Uses(2, 6),
+            Peek(0, b"abcd"),
+            Uses(1, 4),
+            Dequeue(0, b"abcd"),
+            Uses(0, 0),
+        ],
+    ),
+    (
+        "test_dequeue_with",
+        4,
+        16,
+        &[
+            Enqueue(6, b""),
+            Enqueue(8, b""),
+            DequeueLength(6),
+            Enqueue(4, b"abcd"),
+            Uses(3, 14),
+            DequeueLength(8),
+            Keep(b"abcd", 0, b""),
+            Uses(1, 4),
+            Take(b"abcd"),
+            Uses(0, 0),
+        ],
+    ),
+    (
+        "clear",
+        4,
+        16,
+        &[Enqueue(6, b""), Reset, Is(true, false), Enqueue(16, b"")],
+    ),
+    (
+        "test_padding_with_large_payload",
+        4,
+        16,
+        &[Enqueue(12, b""), DequeueLength(12), Enqueue(12, b"")],
+    ),
+    (
+        "test_contig_window_prioritized",
+        4,
+        16,
+        &[Enqueue(4, b""), DequeueLength(4), Enqueue(5, b"")],
+    ),
+    (
+        "test_enqueue_fallible_full_metadata_fn_not_called",
+        4,
+        16,
+        &[
+            Enqueue(12, b""),
+            Enqueue(1, b""),
+            Enqueue(1, b""),
+            Enqueue(1, b""),
+            DequeueLength(12),
+            RefuseWith(5),
+            Uses(3, 3),
+            Enqueue(1, b""),
+        ],
+    ),
+    (
+        "an_empty_queue_is_filled_from_its_beginning",
+        4,
+        16,
+        &[
+            Enqueue(15, b""),
+            DequeueLength(15),
+            EnqueueWith(16, 2),
+            Enqueue(0, b""),
+            DequeueLength(2),
+            DequeueLength(0),
+        ],
+    ),
+    (
+        "what_a_keeping_closure_writes_stays",
+        4,
+        16,
+        &[
+            EnqueueHeader(7, b"ab"),
+            Keep(b"ab", 9, b"x"),
+            Peek(9, b"xb"),
+            Uses(1, 2),
+            Dequeue(9, b"xb"),
+        ],
+    ),
+    (
+        "a_packet_of_no_bytes_behind_a_gap",
+        4,
+        16,
+        &[
+            Enqueue(10, b""),
+            Enqueue(4, b""),
+            DequeueLength(10),
+            EnqueueWith(5, 0),
+            Uses(3, 6),
+            DequeueLength(4),
+            Peek(0, b""),
+            Uses(1, 0),
+            Dequeue(0, b""),
+            Nothing,
+        ],
+    ),
+    (
+        "packets_of_no_bytes",
+        2,
+        0,
+        &[Enqueue(0, b""), Refuse(1), Enqueue(0, b""), Refuse(0)],
+    ),
+    ("no_slot", 0, 16, &[Refuse(0), Is(true, true), Nothing]),
+    (
+        "a_shorter_packet_than_was_placed",
+        1,
+        3,
+        &[Enqueue(2, b""), DequeueLength(2), EnqueueWith(2, 2)],
+    ),
+];
+
+/// Copies bytes to the beginning of a slice, as far as it has room.
+fn write_to(lent: &mut [u8], bytes: &[u8]) {
+    let count = bytes.len().min(lent.len());
+    lent[..count].copy_from_slice(&bytes[..count]);
+}
+
+/// Enqueues a packet and writes to its beginning, if it is accepted.
+fn enqueues(queue: &mut PacketBuffer<'_, u8>, size: usize, header: u8, bytes: &[u8]) -> bool {
+    match queue.enqueue(size, header) {
+        Ok(packet) => {
+            write_to(packet, bytes);
+            packet.len() == size
+        }
+        Err(_) => false,
+    }
+}
+
+/// Returns what `enqueue_with_infallible` answers where its closure gets `most` bytes and answers a length.
+fn enqueues_with(queue: &mut PacketBuffer<'_, u8>, most: usize, length: usize) -> bool {
+    let result = queue.enqueue_with_infallible(most, 0, |packet| length.min(packet.len()));
+    result == Ok(length)
+}
+
+/// Returns whether `enqueue_with_infallible` is refused, and its closure isn't called.
+fn refuses_with(queue: &mut PacketBuffer<'_, u8>, most: usize) -> bool {
+    let called = Cell::new(false);
+    let result = queue.enqueue_with_infallible(most, 0, |_| {
+        called.set(true);
+        0
+    });
+    result.is_err() && !called.get()
+}
+
+/// Takes the first packet off, and returns whether it has this length.
+fn dequeues_length(queue: &mut PacketBuffer<'_, u8>, length: usize) -> bool {
+    match queue.dequeue() {
+        Ok((_, packet)) => packet.len() == length,
+        Err(_) => false,
+    }
+}
+
+/// Takes the first packet off, and returns whether it is this.
+fn dequeues(queue: &mut PacketBuffer<'_, u8>, header: u8, bytes: &[u8]) -> bool {
+    match queue.dequeue() {
+        Ok((found, packet)) => found == header && *packet == *bytes,
+        Err(_) => false,
+    }
+}
+
+/// Returns whether the first packet is this.
+fn peeks(queue: &mut PacketBuffer<'_, u8>, header: u8, bytes: &[u8]) -> bool {
+    match queue.peek() {
+        Ok((found, packet)) => *found == header && *packet == *bytes,
+        Err(_) => false,
+    }
+}
+
+/// Shows the first packet to a closure, which writes a header and bytes, and refuses it. Returns whether it is this.
+fn keeps(queue: &mut PacketBuffer<'_, u8>, shown: &[u8], header: u8, bytes: &[u8]) -> bool {
+    let result = queue.dequeue_with(|found, packet| {
+        let is_shown = *packet == *shown;
+        *found = header;
+        write_to(packet, bytes);
+        Result::<(), bool>::Err(is_shown)
+    });
+    result == Ok(Err(true))
+}
+
+/// Shows the first packet to a closure, which takes it off. Returns whether it is this.
+fn takes(queue: &mut PacketBuffer<'_, u8>, shown: &[u8]) -> bool {
+    let result = queue.dequeue_with(|_, packet| Result::<bool, ()>::Ok(*packet == *shown));
+    result == Ok(Ok(true))
+}
+
+/// Returns whether there is no packet to show or to take off.
+fn has_nothing(queue: &mut PacketBuffer<'_, u8>) -> bool {
+    queue.peek().is_err() && queue.dequeue().is_err()
+}
+
+/// Does a step that brings packets or shows counts, and returns whether it has the answer that it must have.
+fn answers(queue: &mut PacketBuffer<'_, u8>, step: &Step) -> bool {
+    match step {
+        Enqueue(size, bytes) => enqueues(queue, *size, 0, bytes),
+        EnqueueHeader(header, bytes) => enqueues(queue, 2, *header, bytes),
+        Refuse(size) => queue.enqueue(*size, 0).is_err(),
+        EnqueueWith(most, length) => enqueues_with(queue, *most, *length),
+        RefuseWith(most) => refuses_with(queue, *most),
+        Uses(slots, bytes) => queue.slots_used() == *slots && queue.payload_bytes_count() == *bytes,
+        Is(empty, full) => queue.is_empty() == *empty && queue.is_full() == *full,
+        _ => answers_otherwise(queue, step),
+    }
+}
+
+/// Does a step of another kind, and returns whether it has the answer that it must have.
+fn answers_otherwise(queue: &mut PacketBuffer<'_, u8>, step: &Step) -> bool {
+    match step {
+        DequeueLength(length) => dequeues_length(queue, *length),
+        Dequeue(header, bytes) => dequeues(queue, *header, bytes),
+        Peek(header, bytes) => peeks(queue, *header, bytes),
+        Keep(shown, header, bytes) => keeps(queue, shown, *header, bytes),
+        Take(shown) => takes(queue, shown),
+        Nothing => has_nothing(queue),
+        Reset => {
+            queue.reset();
+            true
+        }
+        _ => false,
+    }
+}
+
+/// Returns whether each step on a queue of these sizes has its answer.
+fn is_row(slots: usize, bytes: usize, steps: &[Step]) -> bool {
+    let mut metadata = [PacketMetadata::<u8>::EMPTY; 4];
+    let mut payload = [0u8; 16];
+    let mut queue = PacketBuffer::<u8>::new(
+        ManagedSlice::Borrowed(&mut metadata[..slots.min(4)]),
+        ManagedSlice::Borrowed(&mut payload[..bytes.min(16)]),
+    );
+    for step in steps {
+        if !answers(&mut queue, step) {
+            return false;
+        }
+    }
+    queue.packet_capacity() == slots && queue.payload_capacity() == bytes
+}
+
+#[test]
+fn packets_come_and_leave(rt: HostRuntime) {
+    for (name, slots, bytes, steps) in &ROWS {
+        assert_holds(&rt, is_row(*slots, *bytes, steps), (name, *bytes));
+    }
+}
+
+#[test]
+fn an_empty_slot_is_cloned(rt: HostRuntime) -> Result<(), AllocError> {
+    let _slot = PacketMetadata::<u8>::EMPTY.clone()?;
+    assert_holds(&rt, true, ("an_empty_slot_is_cloned", 0));
+    Ok(())
+}

@@ -1,0 +1,70 @@
+-- The timeout and the timer of C, whose flags are numbers beside theirs.
+--     rtt_of e, bounds_of b, timeout_of t, timer_of t      what those of C stand for
+--     numbers_of e, timeout_fields t, timer_fields t      those of C that stand for these: 0 and 1 as flags, and 0 where there is nothing
+--     with_expiry f e, with_timed f s      C's timer with another expiry, or another timed segment
+use Rattle.std.specs.Prelude.{ℕ, ℤ, pos, Option, Some, None, is_some, if◌then◌else◌, nat_eq, unwrap_or}
+use Rattle.net_tcp.specs.Estimate.{Estimate}
+use Rattle.net_tcp.specs.RetransmissionTimeout.{within}
+use Rattle.net_tcp.specs.declared.retransmission.TimeoutBounds.{TimeoutBounds as Bounds}
+use Rattle.net_tcp.specs.declared.retransmission.RetransmissionTimeout.{RetransmissionTimeout as Timeout}
+use Rattle.net_tcp.specs.declared.retransmission_timer.RetransmissionTimer.{RetransmissionTimer as Timer}
+use Rattle.net_tcp.specs.declared.retransmission_timer.TimedSegment.{TimedSegment}
+use Rattle.net_ffi.specs.declared.retransmission.RttEstimate.{RttEstimate}
+use Rattle.net_ffi.specs.declared.retransmission.TimeoutBounds.{TimeoutBounds}
+use Rattle.net_ffi.specs.declared.retransmission.RetransmissionTimeout.{RetransmissionTimeout}
+use Rattle.net_ffi.specs.declared.retransmission.RetransmissionTimer.{RetransmissionTimer}
+
+-- no more of an estimate counts than samples can give, and a timeout of 0 is 1 second
+abbrev pub rtt_of : RttEstimate → Estimate
+rtt_of e = within e.srtt_8 e.rttvar_4
+
+abbrev pub bounds_of : TimeoutBounds → Bounds
+bounds_of b = record { least = b.least; most = b.most; tick = b.tick }
+
+abbrev pub timeout_of : RetransmissionTimeout → Timeout
+timeout_of t = record {
+  estimate = if nat_eq t.has_estimate 0 then None else Some (rtt_of t.estimate);
+  timeout = if nat_eq t.timeout 0 then 1000000 else t.timeout;
+}
+
+abbrev pub timer_of : RetransmissionTimer → Timer
+timer_of t = record {
+  timeout = timeout_of t.timeout;
+  expires_at = if nat_eq t.is_running 0 then None else Some t.expiry;
+  timed = if nat_eq t.is_timing 0 then None else Some (record { pos = t.timed; since = t.timed_since });
+}
+
+abbrev pub numbers_of : Option Estimate → RttEstimate
+numbers_of None = record { srtt_8 = 0; rttvar_4 = 0 }
+numbers_of (Some e) = record { srtt_8 = e.srtt_8; rttvar_4 = e.rttvar_4 }
+
+abbrev pub timeout_fields : Timeout → RetransmissionTimeout
+timeout_fields t = record {
+  estimate = numbers_of t.estimate;
+  has_estimate = if is_some t.estimate then 1 else 0;
+  timeout = t.timeout;
+}
+
+abbrev pub pos_of : Option TimedSegment → ℕ
+pos_of None = 0
+pos_of (Some s) = s.pos
+
+abbrev pub since_of : Option TimedSegment → ℤ
+since_of None = pos 0
+since_of (Some s) = s.since
+
+abbrev pub with_expiry : RetransmissionTimer → Option ℤ → RetransmissionTimer
+with_expiry f e = record f { expiry = unwrap_or e (pos 0); is_running = if is_some e then 1 else 0 }
+
+abbrev pub with_timed : RetransmissionTimer → Option TimedSegment → RetransmissionTimer
+with_timed f s = record f { timed = pos_of s; timed_since = since_of s; is_timing = if is_some s then 1 else 0 }
+
+abbrev pub timer_fields : Timer → RetransmissionTimer
+timer_fields t = record {
+  timeout = timeout_fields t.timeout;
+  expiry = unwrap_or t.expires_at (pos 0);
+  is_running = if is_some t.expires_at then 1 else 0;
+  timed = pos_of t.timed;
+  timed_since = since_of t.timed;
+  is_timing = if is_some t.timed then 1 else 0;
+}

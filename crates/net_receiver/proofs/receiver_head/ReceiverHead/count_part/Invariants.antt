@@ -1,0 +1,14 @@
+use Rattle.std.proofs.Common.{◌≡◌, ◌+◌, max}
+use Rattle.net_assembler.specs.Positions.{maximal_runs}
+use Rattle.net_receiver.specs.ReceiverState.{domain}
+use Rattle.net_receiver.specs.Head.{receiver_of}
+use Rattle.net_receiver.proofs.NewBytes.{missing_in}
+use Rattle.net_receiver.proofs.receiver_head.ReceiverHead.count_part.Given as goal
+
+-- the positions that are counted, and those that are still to count
+abbrev pub invariant-loop-start : goal.invariant-loop-start
+invariant-loop-start l =
+    (goal.iterator-loop-start).can_next l.start-iterator
+    × (goal.iterator-loop-start).is_finite l.start-iterator
+    × (l.count + missing_in l.end l.at l.start-iterator
+    ≡ missing_in l.end (max l.next l.position) (maximal_runs (domain (receiver_of l.self l.storage l.runs).held)))

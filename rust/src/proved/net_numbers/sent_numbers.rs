@@ -1,0 +1,24 @@
+//! The numbers of a sender.
+
+use crate::rattle::prelude::*;
+/// What a sender sent of its stream, and what was acknowledged: the numbers that RFC 9293 calls SND.UNA and
+/// SND.NXT, as positions.
+///
+/// Contracts: `crates/net_numbers/src/sent_numbers.rt`.
+#[repr(C)]
+#[derive(Copy, Clone, Debug, PartialEq, Eq, Hash)]
+pub struct SentNumbers {
+    /// The first number that isn't acknowledged.
+    pub first_unacknowledged: u64,
+    /// The number after the last one that was sent.
+    pub sent: u64,
+}
+
+impl SentNumbers {
+    /// Returns how many numbers were sent and aren't acknowledged (RFC 5681's flight size): 0 if `sent` is below
+    /// `first_unacknowledged`.
+    #[must_use]
+    pub const fn flight_size(self) -> u64 {
+        self.sent.saturating_sub(self.first_unacknowledged)
+    }
+}

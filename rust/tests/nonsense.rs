@@ -1,0 +1,268 @@
+//! Calls that take numbers from a packet, with any numbers: none panics, also where sums are checked. `CALLS` says how
+//! many calls are made of each kind.
+use net_base::finite::{FiniteReceiver, FiniteSender, SentNumbers};
+use net_base::receiver::Receiver;
+use net_base::scoreboard::Scoreboard;
+use net_base::sender::Sender;
+use net_base::sequence_number::SequenceNumber;
+use net_base::storage::fragment_table::{accept, remove_expired, take_complete, FragmentSlot};
+use net_base::storage::FragmentBuffer;
+use net_base::tcp::{
+    checksum, classify, is_acceptable, is_acknowledgement, is_valid, scaled, updated_checksum,
+    AdvertisedWindow, Announcement, PartsSum, PeerWindow, RetransmissionTimer, Segment,
+    TimeoutBounds, Transmission,
+};
+use net_base::time::{Duration, Instant};
+
+/// Numbers about the ends of their ranges and about one another, by Marsaglia's xorshift.
+struct Draw(u64, u64);
+
+impl Draw {
+    fn any(&mut self) -> u64 {
+        for (left, by) in [(true, 13), (false, 7), (true, 17)] {
+            self.0 ^= if left { self.0 << by } else { self.0 >> by };
+        }
+        self.0
+    }
+
+    fn below(&mut self, limit: u64) -> u64 {
+        self.any() % limit
+    }
+
+    fn number(&mut self) -> u64 {
+        let near = [0, self.1, 1 << 31, 1 << 32, 1 << 63, u64::MAX][self.below(6) as usize];
+        let number = match self.below(4) {
+            0 => self.any() >> self.below(64),
+            1 => near.wrapping_sub(self.below(9)),
+            _ => near.wrapping_add(self.below(9)),
+        };
+        self.1 = if self.below(8) == 0 { number } else { self.1 };
+        number
+    }
+
+    fn numbers<const N: usize>(&mut self) -> [u64; N] {
+        [(); N].map(|()| self.number())
+    }
+
+    fn bit(&mut self) -> bool {
+        self.below(2) == 0
+    }
+
+    fn bytes<'a>(&mut self, of: &'a [u8]) -> &'a [u8] {
+        &of[..self.below(of.len() as u64 + 1) as usize]
+    }
+
+    fn instant(&mut self) -> Instant {
+        Instant::from_micros(self.number() as i64)
+    }
+}
+
+fn calls() -> u64 {
+    std::env::var("CALLS").map_or(20_000, |text| text.parse().expect("a number of calls"))
+}
+
+const BYTES: &[u8] = &[7; 24];
+
+#[test]
+fn receivers() {
+    let mut draw = Draw(0x9e37_79b9_7f4a_7c15, 0);
+    let (mut storage, mut other) = ([0; 16], [0; 16]);
+    let mut plain = Receiver::<2>::empty_at(&mut storage[..], 0);
+    let mut finite = FiniteReceiver::<2>::empty_at(&mut other[..], 0);
+    let mut into = [0; 9];
+    for _ in 0..calls() {
+        let ([pos, other], bytes) = (draw.numbers(), draw.bytes(BYTES));
+        match draw.below(10) {
+            0 => {
+                plain.reset_at(pos);
+                finite.reset_at(pos.min(u64::MAX - 1));
+                draw.1 = pos;
+            }
+            1 => assert!(plain.read(&mut into) <= 9 && finite.read(&mut into) <= 9),
+            2 => assert!(plain.count_new(pos, other as usize) <= plain.window()),
+            3 => assert!(finite.count_new(pos, other as usize) <= finite.window()),
+            4 => assert!(
+                !finite.can_end(u64::MAX)
+                    && (finite.end().is_none()
+                        || !finite.can_end(pos)
+                        || finite.end() == Some(pos))
+            ),
+            5 => assert!(plain.newest_runs(pos, &mut [other; 2]).count() <= 2),
+            6 => assert!(finite.newest_runs(pos, &mut [other; 2]).count() <= 2),
+            7 => assert!(plain.keep(pos, bytes).map_or(0, |it| it.kept) <= bytes.len()),
+            _ => {
+                let next = finite.acknowledged();
+                let is_known = finite.end().is_some();
+                let kept = finite.keep(pos, bytes, draw.bit());
+                assert!(kept.map_or(0, |it| it.kept) <= bytes.len());
+                assert!(finite.acknowledged() >= next && (finite.end().is_some() || !is_known));
+            }
+        }
+        assert!(plain.next() >= plain.len() as u64 && finite.window_end() != Some(0));
+    }
+}
+
+#[test]
+fn senders() {
+    let mut draw = Draw(0xd1b5_4a32_d192_ed03, 0);
+    let (mut storage, mut other) = ([0; 16], [0; 16]);
+    let mut plain = Sender::new_at(&mut storage[..], 0);
+    let mut finite = FiniteSender::new_at(&mut other[..], 0);
+    let mut board = Scoreboard::<2>::empty();
+    for _ in 0..calls() {
+        let [pos, limit, sent] = draw.numbers();
+        let [initial, start, end] = draw.numbers().map(|it: u64| SequenceNumber::new(it as u32));
+        match draw.below(14) {
+            0 => {
+                plain.reset_at(pos);
+                finite.reset_at(pos.min(u64::MAX - 1));
+                board.reset_at(pos);
+                draw.1 = pos;
+            }
+            1 => assert!(
+                plain.write(draw.bytes(BYTES)) <= 16 && finite.write(draw.bytes(BYTES)) <= 16
+            ),
+            2 => finite.close(),
+            3 => assert!(finite.peek_at(pos, limit).0.len() <= 16),
+            4 => assert!(finite.send_at(pos, limit).0.len() <= 16),
+            5 => assert!(plain.peek_at(pos, limit as usize).len() <= 16),
+            6 => assert!(!plain.acknowledge(pos) || plain.first_unacknowledged() == pos),
+            7 => assert!(!finite.acknowledge(pos) || finite.first_number() == pos),
+            8 => assert!(!finite.mark_sent(pos) || finite.sent() >= pos),
+            9 => board.acknowledge(pos),
+            10 => assert!(board.report(pos, limit, sent).is_err() || board.contains(pos)),
+            11 => assert!(board.report_block(initial, start, end, sent).is_err() || sent > 0),
+            12 => {
+                assert!(board.next_hole(pos, limit).is_none_or(|it| pos <= it.0 && it.1 <= limit))
+            }
+            _ => assert!(board
+                .next_lost(pos, limit as usize, sent as usize)
+                .is_none_or(|it| it.0 < it.1)),
+        }
+        assert!(finite.is_block(pos, limit) == (pos < limit && limit <= finite.sent()));
+        assert!(start
+            .position(initial, pos)
+            .is_none_or(|it| SequenceNumber::at(initial, it) == start));
+        assert!(board.contains(pos) == (board.first_missing(pos) > pos));
+        assert!(
+            board.lost_below(limit as usize, sent as usize)
+                <= board.highest_reported().max(board.first_unreported())
+        );
+    }
+}
+
+#[test]
+fn windows_and_timers() {
+    let mut draw = Draw(0x94d0_49bb_1331_11eb, 0);
+    let (mut peer, mut advertised) = (PeerWindow::new(), AdvertisedWindow::new(0));
+    let (mut timer, mut sum) = (RetransmissionTimer::default(), PartsSum::new());
+    let bounds = TimeoutBounds::default();
+    for _ in 0..calls() {
+        let [first_unacknowledged, sent, seq, ack, window, len] = draw.numbers();
+        let (numbers, scale) = (SentNumbers { first_unacknowledged, sent }, window as u8);
+        let segment = Segment { seq, len, syn: draw.bit(), ack: draw.bit(), rst: draw.bit() };
+        let _whatever_it_is = (classify(ack, window, segment), advertised.classify(ack, segment));
+        match draw.below(9) {
+            0 => assert!(scaled(sent as u16, scale) < 1 << 30),
+            1 => assert!(is_acceptable(ack, window, ack, 0)),
+            2 => assert!(!is_acknowledgement(numbers, window, ack) || ack <= sent),
+            3 => assert!(!peer.update(numbers, Announcement { seq, ack, window }) || ack <= sent),
+            4 => assert!(peer.acknowledgement_number(numbers) <= sent),
+            5 => {
+                let end = seq.max(ack);
+                let _field = advertised.announce(scale, seq.min(ack), end);
+                let _field =
+                    advertised.announce_in_steps(scale, seq.min(ack), end, len, sent as u16);
+                assert!(advertised.edge() >= seq.min(ack) && peer.usable(end) <= peer.edge());
+            }
+            6 => timer.sent(seq..ack, numbers, draw.instant()),
+            7 => timer.acknowledged(bounds, numbers, ack, draw.instant()),
+            _ => assert!(!timer.expire(bounds, draw.instant()) || timer.timed().is_none()),
+        }
+        sum.add(draw.bytes(BYTES));
+        assert!(sum.checksum() == 0 || !sum.is_valid());
+        let bytes = draw.bytes(BYTES);
+        assert!(is_valid(bytes) == (checksum(bytes) == 0));
+        let _updated = updated_checksum(seq as u16, ack as u16, window as u16);
+        let mut timeout = net_base::tcp::RetransmissionTimeout::default();
+        timeout.take_sample(bounds, Duration::from_micros(len));
+        timeout.acknowledged(bounds, Transmission::Once(draw.instant()), draw.instant());
+        assert!(timeout.timeout() >= bounds.least && timer.timeout() >= bounds.least);
+    }
+}
+
+#[test]
+fn fragments() {
+    let mut draw = Draw(0xbf58_476d_1ce4_e5b9, 0);
+    let mut storage = [0; 16];
+    let mut buffer = FragmentBuffer::<2>::empty(&mut storage[..], Instant::ZERO);
+    let mut slots = [(); 2].map(|()| FragmentSlot::<u64, [u8; 16], 2>::over([0; 16]));
+    for _ in 0..calls() {
+        let ([offset, size], bytes) =
+            (draw.numbers().map(|it: u64| it as usize), draw.bytes(BYTES));
+        let (key, at, is_last) = (draw.below(4), draw.instant(), draw.bit());
+        match draw.below(9) {
+            0 => buffer.reset(at),
+            1 => assert!(buffer.add(offset, bytes).is_err() || offset + bytes.len() <= 16),
+            2 => assert!(buffer.add_fragment(offset, bytes, is_last).is_err() || offset <= 16),
+            3 => assert!(buffer.set_total_size(size).is_err() || size <= 16),
+            4 => remove_expired(&mut slots, at),
+            5 => assert!(take_complete(&mut slots, key).is_none_or(|at| slots[at].key.is_none())),
+            _ => {
+                let offset = if draw.bit() { offset } else { draw.below(18) as usize };
+                let taken = accept(&mut slots, key, offset, bytes, is_last, at);
+                assert!(taken.is_err() || offset + bytes.len() <= 16 && !bytes.is_empty());
+            }
+        }
+        assert!(
+            buffer.overlaps(offset, size)
+                || !buffer.differs(offset, &bytes[..size.min(bytes.len())])
+        );
+    }
+}
+
+/// Two packets are begun in two slots. Forged fragments that can't be kept come, of these packets and of others: both
+/// packets stay as they were, and end whole.
+#[test]
+fn forged_fragments() {
+    let mut draw = Draw(0x2545_f491_4f6c_dd1d, 0);
+    let mut slots = [(); 2].map(|()| FragmentSlot::<u64, [u8; 16], 2>::over([0; 16]));
+    let text = |key: u64| [key as u8 + 1; 12];
+    for key in 0..2 {
+        assert_eq!(
+            accept(&mut slots, key, 4, &text(key)[..4], false, Instant::ZERO),
+            Ok(key as usize)
+        );
+    }
+    for _ in 0..1_000 {
+        let later = Instant::from_micros(draw.below(9) as i64);
+        let (own, other) = (draw.below(2), 2 + draw.any() % 9);
+        let (key, offset, len, is_last) = match draw.below(6) {
+            0 => (other, 17 - draw.below(8), 8 + draw.below(8), draw.bit()),
+            1 => (other, draw.number().max(17), draw.below(20), draw.bit()),
+            2 => (draw.below(9), draw.number(), 0, draw.bit()),
+            3 => (own, draw.below(7), 5, false),
+            4 => (own, draw.below(3), 4, true),
+            _ => (own, 13 + draw.number().min(1 << 20), 8, draw.bit()),
+        };
+        let shown = |slots: &[FragmentSlot<u64, [u8; 16], 2>]| {
+            slots.iter().map(|it| format!("{:?} {:?}", it.key, it.buffer)).collect::<Vec<_>>()
+        };
+        let offset = usize::try_from(offset).unwrap_or(usize::MAX);
+        let before = shown(&slots);
+        assert!(accept(&mut slots, key, offset, &[9; 20][..len as usize], is_last, later).is_err());
+        assert_eq!(shown(&slots), before);
+    }
+    for key in 0..2 {
+        assert_eq!(
+            accept(&mut slots, key, 0, &text(key)[..5], false, Instant::ZERO),
+            Ok(key as usize)
+        );
+        assert_eq!(
+            accept(&mut slots, key, 8, &text(key)[..4], true, Instant::ZERO),
+            Ok(key as usize)
+        );
+        let at = take_complete(&mut slots, key).expect("a whole packet");
+        assert_eq!(slots[at].buffer.assemble(), Some(&text(key)[..]));
+    }
+}

@@ -1,0 +1,252 @@
+#!/usr/bin/env python3
+"""Plants faults in the Cargo crate and in the library for C, all in one build of each, and says which no test sees.
+
+    python3 tools/faults.py [rust|c] [--sample N] [--seed N] [--by] [WORD ..]
+
+In a copy, each line of code is written so that it is wrong if the environment's FAULT is the line's number: a condition is
+negated, `<` is `<=`, a number is one more, a statement, a guard or an entry of a match is left out; in the shim two arguments
+of one type are swapped, a slice is one shorter, a refusal is another answer. What the compiler refuses is dropped. Then a
+fault costs one run of each program, until one sees it: the crate's tests, without those of documentation; or the programs of
+c/run.sh. N faults are drawn, or all are tried, of the files whose path has one of the words, if there are any. What is
+drawn depends on the seed alone, which is that of tools/faults.txt if none is given.
+
+A fault that is listed there, with why, may stay unseen. Status 1 if another isn't seen. --by also prints by which program
+each is seen first.
+"""
+import argparse
+import collections
+import concurrent.futures
+import json
+import os
+import random
+import re
+import resource
+import shutil
+import subprocess
+import sys
+import tempfile
+from pathlib import Path
+
+sys.dont_write_bytecode = True
+ROOT = Path(__file__).resolve().parent.parent
+KNOWN = ROOT / "tools/faults.txt"
+SECONDS = 30  # of a processor, that a program may take
+CALLS = "200000"
+VALUE = r"([A-Za-z_][\w.]*(?:\(\))?|\d+)"
+OTHER = {"<": "<=", "<=": "<", ">": ">=", ">=": ">", "==": "!=", "!=": "=="}
+# What each faulty line asks. `getenv`, since the library for C has no std.
+ASKS = """
+static FAULT: core::sync::atomic::AtomicU32 = core::sync::atomic::AtomicU32::new(u32::MAX);
+extern "C" { fn getenv(name: *const u8) -> *const u8; }
+#[inline(never)]
+pub fn m(number: u32) -> bool {
+    use core::sync::atomic::Ordering::Relaxed;
+    if FAULT.load(Relaxed) == u32::MAX {
+        let (mut found, mut at) = (u32::MAX - 1, unsafe { getenv(b"FAULT\\0".as_ptr()) });
+        if !at.is_null() { found = 0; }
+        while !at.is_null() && unsafe { *at } != 0 { found = found * 10 + unsafe { *at - b'0' } as u32; at = unsafe { at.add(1) }; }
+        FAULT.store(found, Relaxed);
+    }
+    FAULT.load(Relaxed) == number
+}
+#[inline(never)]
+pub fn mi<T: From<u8>>(number: u32) -> T { T::from(m(number) as u8) }
+"""
+
+
+def of_line(line):
+    """The faults of a line of Rust: a kind, and the line with `@` for the fault's number."""
+    code, found = line.strip(), []
+    if code.startswith(("//", "#")) or "const " in code:
+        return found
+    it = re.match(r"^(\s*(?:\} else )?(?:if|while) )(?!let)(.*)( \{)$", line)
+    if it and " let " not in it[2]:
+        found.append(("negated", f"{it[1]}(crate::m(@) != ({it[2]})){it[3]}"))
+    for it in re.finditer(VALUE + r" (<=|>=|<|>) " + VALUE + r"(?=[\s;,){&|]|$)", line):
+        before, after = line[: it.start()], line[it.end() :]
+        if not (re.search(r"[-+*/%.]\s*$", before) or re.match(r"\s*[-+*/%]|\.", after) or "where" in line or "impl" in line):
+            other = f"{it[1]} {OTHER[it[2]]} {it[3]}"
+            found.append(("compared", f"{before}(if crate::m(@) {{ {other} }} else {{ {it[0]} }}){after}"))
+    for it in re.finditer(VALUE + r" ([+-]) " + VALUE + r"(?=[\s;,)]|$)", line):
+        before, after = line[: it.start()], line[it.end() :]
+        if not (re.search(r"[-*/%.]\s*$", before) or re.match(r"\s*[*/%]|\.|\s+as ", after)
+                or code.startswith(("impl", "pub fn", "fn", "where", "T:", "S:"))):
+            found.append(("one more", f"{before}({it[0]} + crate::mi(@)){after}"))
+    for of_statement in (r"^(\s*)((?:[a-z_]\w*(?:\.\w+)*)(?:\[[^\]]*\])? [+-]?= [^=].*;)$",
+                         r"^(\s*)((?:self|[a-z_]\w*)(?:\.\w+)+\(.*\);)$"):
+        it = re.match(of_statement, line)
+        if it and not code.startswith(("let", "return")):
+            found.append(("left out", f"{it[1]}if !crate::m(@) {{ {it[2]} }}"))
+    if it := re.match(r"^(\s*)(assert!\(.*\);)$", line):
+        found.append(("no guard", f"{it[1]}if !crate::m(@) {{ {it[2]} }}"))
+    if it := re.match(r"^(\s*)((?:self|[a-z_]\w*)(?:\.\w+)+)$", line):
+        found.append(("one more", f"{it[1]}({it[2]} + crate::mi(@))"))
+    return found
+
+
+def of_shim(line, types):
+    """The faults of a line of the shim. `types` are those of the parameters of the function it is in."""
+    found = []
+    if it := re.match(r"^(    let Some\(\w+\) = .* else \{ )return ?(.*?) \};$", line):
+        for other in sorted({"true", "0", "u64::MAX", "usize::MAX"} - {it[2].replace("refusals::no_number()", "usize::MAX")}):
+            if it[2] and "{" not in it[2]:
+                found.append(("refused", f"{it[1]}return if proved::m(@) {{ {other} }} else {{ {it[2]} }} }};"))
+    elif it := re.match(r"^    (\w+(?:::\w+)+)\((.*)\)$", line):
+        words = it[2].split(", ")
+        for a, first in enumerate(words):
+            def call(new):
+                return f"    if proved::m(@) {{ {it[1]}({', '.join([*words[:a], new, *words[a + 1:]])}) }} else {{ {line.strip()} }}"
+            kind = types.get(first, "")
+            if kind.startswith("["):
+                found.append(("shorter", call(f"&{'mut ' * ('mut' in kind)}{first}[..{first}.len().saturating_sub(1)]")))
+            elif re.fullmatch(r"[iu](size|\d+)", kind):
+                found.append(("one more", call(f"{first}.wrapping_add(1)")))
+            for b, second in enumerate(words[a + 1 :], a + 1):
+                if kind and types.get(second) == kind and not kind.startswith(("[", "&")):
+                    swapped = [*words]
+                    swapped[a], swapped[b] = second, first
+                    found.append(("swapped", f"    if proved::m(@) {{ {it[1]}({', '.join(swapped)}) }} else {{ {line.strip()} }}"))
+    return found
+
+
+def sites(folder, files, seed):
+    """A fault of each line that can have one, drawn by the seed: its file, line, kind and text."""
+    draw, found = random.Random(seed), []
+    for path in files:
+        function, types = "", {}
+        for number, line in enumerate(path.read_text().split("\n")):
+            if re.search(r"\bfn \w+", line):
+                function = "const" if re.search(r"\bconst fn", line) else "fn"
+                types = dict(re.findall(r"(\w+): (?:\*(?:const|mut) )?(&?[\w:]+)", line))
+                types = {name: f"[{'mut' if f'{name}: *mut' in line else ''}" if f"{name}_length:" in line else kind
+                         for name, kind in types.items()}
+            drawn = of_shim(line, types) if path.name == "shim.rs" else of_line(line) if function == "fn" else []
+            if drawn:
+                found.append((path, number, *draw.choice(drawn)))
+    return found
+
+
+def planted(crate, files, found, build, environment):
+    """Writes the faults that compile, by what the compiler says of the others."""
+    texts, refused = {path: path.read_text().split("\n") for path in files}, set()
+    while True:
+        lines = {path: list(text) for path, text in texts.items()}
+        for number, (path, line, _, text) in enumerate(found):
+            if number not in refused:
+                lines[path][line] = text.replace("@", str(number))
+        for path, text in lines.items():
+            path.write_text("\n".join(text))
+        done = subprocess.run(build, cwd=crate, env=environment, capture_output=True, text=True)
+        if done.returncode == 0:
+            return [it for it in range(len(found)) if it not in refused], done.stdout
+        at = {(path.resolve(), line): number for number, (path, line, _, _) in enumerate(found)}
+        wrong = set()
+        for message in map(json.loads, filter(lambda it: it.startswith("{"), done.stdout.splitlines())):
+            if message.get("reason") == "compiler-message" and message["message"]["level"] == "error":
+                for said in (message["message"], *message["message"]["children"]):
+                    for span in said["spans"]:
+                        path = (crate / span["file_name"]).resolve()
+                        wrong |= {at.get((path, line)) for line in range(span["line_start"] - 1, span["line_end"])}
+        if not wrong - refused - {None}:
+            sys.exit(f"faults: it doesn't compile: {done.stderr[-2000:]}")
+        refused |= wrong - {None}
+
+
+def limited():
+    resource.setrlimit(resource.RLIMIT_CPU, (SECONDS, SECONDS))
+    resource.setrlimit(resource.RLIMIT_CORE, (0, 0))
+
+
+def seen_by(programs, number):
+    """The first program that sees a fault, or nothing: it fails, or prints something else."""
+    environment = os.environ | {"FAULT": str(number), "RUST_BACKTRACE": "0"}
+    for name, words, folder, printed in programs:
+        try:
+            done = subprocess.run(words, cwd=folder, env=environment, capture_output=True, timeout=4 * SECONDS, preexec_fn=limited)
+        except subprocess.TimeoutExpired:
+            return name
+        if done.returncode or printed and done.stdout != printed:
+            return name
+    return ""
+
+
+def of_rust(folder, seed):
+    """Plants faults in the crate. Returns them, the numbers of those that compile, and its tests, rows first."""
+    crate = folder / "rust"
+    sources = sorted(it for it in (crate / "src").rglob("*.rs") if "net_ffi" not in it.parts and it.name not in (
+        "lib.rs", "contracts.rs", "rattle.rs", "config.rs"))
+    sources.sort(key=lambda it: "proved" not in it.parts)
+    found = sites(folder, sources, seed)
+    build = ["cargo", "test", "--offline", "--lib", "--tests", "--no-run", "--message-format=json"]
+    numbers, said = planted(crate, sources, found, build, os.environ | {
+        "CARGO_TARGET_DIR": str(folder / "target"), "CARGO_PROFILE_TEST_OPT_LEVEL": "1", "CARGO_PROFILE_DEV_OPT_LEVEL": "1"})
+    made = [json.loads(line) for line in said.splitlines() if '"executable":"' in line]
+    programs = [(it["target"]["name"], [it["executable"]], crate, b"") for it in made]
+    return found, numbers, sorted(programs, key=lambda it: (it[0] in ("endpoint", "assembler"), it[0] != "rows", it[0]))
+
+
+def of_c(folder, seed):
+    """Plants faults in the shim, and in the exports' erased text. Returns them, those that compile, and C's programs."""
+    shim = [folder / "c/src/shim.rs"]
+    files = shim + sorted((folder / "rust/src/proved/net_ffi").rglob("*.rs"))
+    found = sites(folder, files, seed)
+    target = folder / "target"
+    build = ["cargo", "build", "--release", "--offline", "--message-format=json"]
+    numbers, _ = planted(folder / "c", files, found, build, os.environ | {"CARGO_TARGET_DIR": str(target)})
+    programs = []
+    subprocess.run([sys.executable, ROOT / "tools/ffi.py", "--tests", target / "exports.c", "--sequence", target / "sequence.c"], check=True)
+    for name, words in (("exports", []), ("sequence", [CALLS])):
+        source, library = target / f"{name}.c", target / "release/libnet_base.a"
+        subprocess.run(["cc", "-std=c11", "-O1", f"-I{ROOT}/c", source, library, "-o", target / name], check=True)
+        words = [str(target / name), *words]
+        right = subprocess.run(words, capture_output=True, check=True).stdout
+        programs.append((name, words, target, right))
+    return found, numbers, programs
+
+
+def main():
+    parser = argparse.ArgumentParser(description=__doc__.split("\n")[0])
+    parser.add_argument("which", nargs="?", choices=("rust", "c"), default="rust")
+    parser.add_argument("words", nargs="*")
+    parser.add_argument("--sample", type=int)
+    parser.add_argument("--seed", type=int)
+    parser.add_argument("--by", action="store_true")
+    parser.add_argument("--jobs", type=int, default=os.cpu_count())
+    options = parser.parse_args()
+    listed = [line.split(": ", 2) for line in KNOWN.read_text().splitlines() if line[:1] not in ("", "#")]
+    known = {tuple(words[:2]) for words in listed if len(words) == 3}
+    seed = options.seed or int(next(words[1] for words in listed if words[0] == "seed"))
+    with tempfile.TemporaryDirectory(prefix="faults-") as room:
+        folder = Path(room).resolve()
+        for name in ("rust", "c"):
+            shutil.copytree(ROOT / name, folder / name, ignore=shutil.ignore_patterns("target"))
+        lib = folder / "rust/src/lib.rs"
+        text = lib.read_text().replace("#![deny(missing_docs)]", "#![allow(missing_docs, warnings)]")
+        lib.write_text(text.replace("#![forbid(unsafe_code)]", "") + ASKS)
+        found, numbers, programs = {"rust": of_rust, "c": of_c}[options.which](folder, seed)
+        if by := seen_by(programs, len(found)):
+            sys.exit(f"faults: without a fault {by} fails")
+        lines = {it: (ROOT / found[it][0].relative_to(folder)) for it in numbers}
+        chosen = [it for it in numbers if not options.words or any(word in str(lines[it]) for word in options.words)]
+        if options.sample and options.sample < len(chosen):
+            chosen = sorted(random.Random(seed).sample(chosen, options.sample))
+        counts, unseen = collections.Counter(), 0
+        with concurrent.futures.ThreadPoolExecutor(options.jobs) as pool:
+            for it, by in zip(chosen, pool.map(lambda it: seen_by(programs, it), chosen)):
+                path, line, kind, text = found[it]
+                name = f"{lines[it].relative_to(ROOT)}:{line + 1}"
+                source = lines[it].read_text().split("\n")[line].strip()
+                is_known = (f"{lines[it].relative_to(ROOT)} {kind}", source) in known
+                counts[by or ("known" if is_known else "nothing")] += 1
+                if options.by and by:
+                    print(f"{name}: {kind}: {by}", flush=True)
+                elif not by and not is_known:
+                    unseen += 1
+                    print(f"{name}: NOT SEEN: {kind}: {source}", flush=True)
+    said = ", ".join(f"{count} by {name}" for name, count in counts.most_common())
+    print(f"faults: {len(numbers)} compile of {len(found)}, {len(chosen)} tried: {said}")
+    return bool(unseen)
+
+
+if __name__ == "__main__":
+    sys.exit(main())

@@ -1,0 +1,95 @@
+#!/usr/bin/env python3
+"""Prints what of std the erased text calls, by rustc's MIR, and which ported crates the proofs rest on, by crates.txt:
+
+    python3 tools/std_calls.py [--check] [FOLDER]
+
+With --check docs/TRUST.md is to have these lines; the status is 1 if it hasn't. The compiler is that of rust/kit.sh,
+unpacked in FOLDER, or in a temporary one; the status is 2 if there is none. Operators, indices, `?`, calls of closures and
+what derives print aren't listed.
+"""
+import re
+import subprocess
+import sys
+import tempfile
+import textwrap
+from pathlib import Path
+
+sys.dont_write_bytecode = True
+import widths
+
+REPOSITORY = widths.REPOSITORY
+CALL = re.compile(r'^\s+[^=]+? = (?:move |copy )?(.+\)) -> .*// scope \d+ at src/proved/')
+DEFINED = re.compile(r'\b(?:fn|struct|enum|trait|type|union) (\w+)')
+
+
+def without(text):
+    """A path without what it has between angles, but for those that it begins with."""
+    depth, kept = 0, ''
+    for k, sign in enumerate(text):
+        depth += sign == '<'
+        kept += sign if not depth else ''
+        depth -= sign == '>' and text[k - 1] != '-'
+    return kept.replace('::::', '::').removesuffix('::')
+
+
+def called(text):
+    """The function of a call, without its arguments."""
+    depth = 0
+    for k, sign in enumerate(text):
+        depth += (sign == '<') - (sign == '>' and text[k - 1] != '-')
+        if sign == '(' and not depth:
+            return text[:k]
+    return text
+
+
+def name(path, own):
+    """The type or trait, and the function; nothing for what the text defines."""
+    impl = re.match(r'<(.*) as (.*?)>::(\w+)(?:::<.*)?$', path)
+    if impl:
+        trait = without(impl[2]).split('::')[-1]
+        return None if trait in own else (trait, impl[3])
+    of_type = re.match(r'(?:core|std|alloc)::(?:\w+::)*<impl (.*?)>::(\w+)', path)
+    if of_type:
+        kind = without(of_type[1])
+        return ('slice' if kind.startswith('[') else 'str' if kind == 'str' else 'numbers', of_type[2])
+    parts = without(path).split('::')
+    is_std = parts[0] in ('core', 'std', 'alloc') or len(parts) > 1 and parts[-2] in ('Option', 'Result', 'Vec')
+    return tuple(parts[-2:]) if is_std else None
+
+
+def lists(mir):
+    """The lines of the page."""
+    text = '\n'.join(file.read_text() for file in (REPOSITORY / 'rust/src/proved').rglob('*.rs'))
+    own, found = set(DEFINED.findall(text)), {}
+    for line in mir.split('\n'):
+        call = CALL.match(line)
+        path = call and called(call[1])
+        one = path and name(path, own)
+        if one and not re.search(r'panick|fmt::rt|::debug_|SliceMut| as (?:\w+::)*(?:Index|Try|FromResidual|FnOnce)\b', path):
+            found.setdefault(one[0], set()).add(one[1])
+    rows = [f'`{of}`: {", ".join(f"`{call}`" for call in sorted(calls))}' for of, calls in sorted(found.items())]
+    folders = {file.name for file in (REPOSITORY / 'crates').iterdir()}
+    crates = [re.sub('#.*', '', row).partition(':')[2].split() for row in (REPOSITORY / 'crates.txt').read_text().split('\n')]
+    ported = sorted({crate for row in crates for crate in row} - folders)
+    return ['  ' + '\n    '.join(textwrap.wrap(f'- {row}', 116)) for row in rows], f'({", ".join(f"`{crate}`" for crate in ported)})'
+
+
+def main(arguments):
+    folders = [word for word in arguments if word != '--check']
+    with tempfile.TemporaryDirectory() as temporary:
+        temporary = Path(temporary)
+        kit = Path(folders[0]).resolve() if folders else temporary / 'kit'
+        if status := subprocess.run(['sh', REPOSITORY / 'rust/kit.sh', kit]).returncode:
+            print('std_calls: not run: no compiler', file=sys.stderr)
+            return status
+        widths.compiled(REPOSITORY / 'rust', kit, temporary / 'target')
+        mir, = (temporary / 'target/debug/deps').glob('*.mir')
+        rows, crates = lists(mir.read_text())
+    block = '\n'.join(rows)
+    print(block, crates, sep='\n')
+    told = (REPOSITORY / 'docs/TRUST.md').read_text()
+    return int('--check' in arguments and not (f':\n{block}\n- ' in told and crates in told))
+
+
+if __name__ == '__main__':
+    sys.exit(main(sys.argv[1:]))
