@@ -12,6 +12,7 @@ import modes
 import moments
 import packets
 import receiver
+import recovery
 import ring
 import scoreboard
 import sender
@@ -40,6 +41,7 @@ PARTS = [
     (scoreboard.draw, 1800, 69),
     (ending.draw, 1800, 70),
     (timer.draw, 1200, 72),
+    (recovery.draw, 1500, 74),
 ]
 # What draws rows of one call, how many lines of each, and the calls.
 OWN = [

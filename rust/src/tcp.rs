@@ -1,5 +1,5 @@
 //! Small machines that a TCP needs beside its two queues: the Internet checksum, what to do with an arriving
-//! segment, the windows of both sides, the time until a retransmission, and its timer. (Not in smoltcp's lowest layer.)
+//! segment, the windows of both sides, the time until a retransmission, its timer, and what is sent next. (Not in smoltcp's lowest layer.)
 //!
 //! ```
 //! use net_base::tcp::{checksum, classify, is_valid, AdvertisedWindow, Announcement, Arrival, PeerWindow};
@@ -50,6 +50,7 @@ pub use crate::proved::net_tcp::{
     Transmission, MAX_SCALE,
 };
 pub use crate::proved::net_numbers::SentNumbers;
+pub use crate::proved::net_recovery::LossRecovery;
 
 use crate::time::Duration;
 

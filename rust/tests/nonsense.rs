@@ -9,7 +9,7 @@ use net_base::storage::fragment_table::{accept, remove_expired, take_complete, F
 use net_base::storage::FragmentBuffer;
 use net_base::tcp::{
     checksum, classify, is_acceptable, is_acknowledgement, is_valid, scaled, updated_checksum,
-    AdvertisedWindow, Announcement, PartsSum, PeerWindow, RetransmissionTimer, Segment,
+    AdvertisedWindow, Announcement, LossRecovery, PartsSum, PeerWindow, RetransmissionTimer, Segment,
     TimeoutBounds, Transmission,
 };
 use net_base::time::{Duration, Instant};
@@ -264,5 +264,31 @@ fn forged_fragments() {
         );
         let at = take_complete(&mut slots, key).expect("a whole packet");
         assert_eq!(slots[at].buffer.assemble(), Some(&text(key)[..]));
+    }
+}
+
+#[test]
+fn recovery() {
+    let mut draw = Draw(0x2545_f491_4f6c_dd1d, 0);
+    let (mut board, mut recovery) = (Scoreboard::<2>::empty(), LossRecovery::new());
+    for _ in 0..calls() {
+        let [first_unacknowledged, sent, start, end] = draw.numbers();
+        let (numbers, size) = (SentNumbers { first_unacknowledged, sent }, draw.number() as usize);
+        match draw.below(6) {
+            0 => {
+                board.reset_at(start);
+                draw.1 = start;
+            }
+            1 => assert!(board.report(start, end, sent).is_err() || start < end),
+            2 => {
+                let _begins = recovery.find_losses(numbers, &board, size);
+            }
+            3 => recovery.lose_all(numbers),
+            4 => recovery.sent(numbers, start..end),
+            _ => {
+                let next = recovery.next_segment(numbers, &board, start, end, size);
+                assert!(next.map_or(true, |(from, to)| from < to && to <= start));
+            }
+        }
     }
 }

@@ -1,7 +1,7 @@
 """All that tools/erase.py knows by name: the modules that aren't erased, and what else Rust has in place of Rattle's text."""
 
 # The crates that are erased.
-CRATES = ['net_ring', 'net_packets', 'net_assembler', 'net_numbers', 'net_receiver', 'net_base', 'net_tcp', 'net_ffi']
+CRATES = ['net_ring', 'net_packets', 'net_assembler', 'net_numbers', 'net_receiver', 'net_base', 'net_tcp', 'net_recovery', 'net_ffi']
 
 # The modules of them that aren't, and why.
 UNERASED = {

@@ -8,5 +8,6 @@ pub mod net_numbers;
 pub mod net_receiver;
 pub mod net_base;
 pub mod net_tcp;
+pub mod net_recovery;
 #[cfg(feature = "c")]
 pub mod net_ffi;

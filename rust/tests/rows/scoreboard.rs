@@ -18,11 +18,11 @@ pub fn with_board<const N: usize>(
     f(&mut Board::<N> { board: Scoreboard::empty_at(first), first })
 }
 
-fn range(hole: Option<(u64, u64)>) -> String {
+pub fn range(hole: Option<(u64, u64)>) -> String {
     hole.map_or("none".to_string(), |(start, end)| format!("{start}-{end}"))
 }
 
-fn answer(report: Result<(), ReportError>) -> String {
+pub fn answer(report: Result<(), ReportError>) -> String {
     match report {
         Ok(()) => "1",
         Err(ReportError::NoBlock) => "0",

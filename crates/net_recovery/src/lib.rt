@@ -1,0 +1,7 @@
+//! What a sender of TCP sends next where segments are lost: a machine beside its queue, its scoreboard
+//! and its timer. It stores no bytes.
+#![tactic(auto)]
+
+pub mod loss_recovery;
+
+pub use loss_recovery::LossRecovery;

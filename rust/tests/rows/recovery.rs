@@ -1,0 +1,60 @@
+//! Loss recovery, with the sender's numbers and its scoreboard.
+use crate::scoreboard::{answer, range};
+use crate::show::truth;
+use crate::{Call, Subject};
+use net_base::scoreboard::Scoreboard;
+use net_base::tcp::{LossRecovery, SentNumbers};
+
+struct Sending<const N: usize> {
+    recovery: LossRecovery,
+    numbers: SentNumbers,
+    board: Scoreboard<N>,
+    segment_size: usize,
+}
+
+pub fn with_recovery<const N: usize>(
+    first: &Call,
+    f: &mut dyn FnMut(&mut dyn Subject) -> usize,
+) -> usize {
+    let (pos, segment_size) = (first.at(1), first.size(2));
+    f(&mut Sending::<N> {
+        recovery: LossRecovery::new(),
+        numbers: SentNumbers { first_unacknowledged: pos, sent: pos },
+        board: Scoreboard::empty_at(pos),
+        segment_size,
+    })
+}
+
+impl<const N: usize> Subject for Sending<N> {
+    fn make(&mut self, call: &Call) -> String {
+        let Sending { recovery, numbers, board, segment_size } = self;
+        let (one, two) = (call.at(0), call.at(1));
+        match call.name {
+            "send" => {
+                recovery.sent(*numbers, one..two);
+                numbers.sent = numbers.sent.max(two);
+            }
+            "report" => return answer(board.report(one, two, numbers.sent)),
+            "acknowledge" => {
+                numbers.first_unacknowledged = numbers.first_unacknowledged.max(one);
+                board.acknowledge(one);
+            }
+            "find_losses" => {
+                return truth(recovery.find_losses(*numbers, board, *segment_size)).to_string()
+            }
+            "lose_all" => recovery.lose_all(*numbers),
+            "next_segment" => {
+                return range(recovery.next_segment(*numbers, board, one, two, *segment_size))
+            }
+            name => panic!("no call {name}"),
+        }
+        "done".to_string()
+    }
+
+    /// Whether a recovery is active, and how many positions may be in flight.
+    fn show(&mut self) -> String {
+        let Sending { recovery, numbers, board, .. } = self;
+        let in_flight = recovery.in_flight(*numbers, board);
+        format!("{} {in_flight}", truth(recovery.is_active(*numbers)))
+    }
+}
