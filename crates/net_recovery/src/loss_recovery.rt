@@ -40,7 +40,7 @@ const DUPLICATES: usize = 3;
 /// assert_eq!(recovery.next_segment(numbers, &scoreboard, 1000, 500, 100), None);
 /// assert_eq!(recovery.next_segment(numbers, &scoreboard, 1000, 600, 100), Some((800, 900)));
 /// ```
-#[derive(Copy, Clone, Debug, PartialEq, Eq, Hash)]
+#[derive(Copy, Clone, Debug, Default, PartialEq, Eq, Hash)]
 pub struct LossRecovery {
     // It lasts until all positions below this one are acknowledged.
     until: u64,

@@ -38,7 +38,7 @@ const DUPLICATES: usize = 3;
 /// ```
 ///
 /// Contracts: `crates/net_recovery/src/loss_recovery.rt`.
-#[derive(Copy, Clone, Debug, PartialEq, Eq, Hash)]
+#[derive(Copy, Clone, Debug, Default, PartialEq, Eq, Hash)]
 pub struct LossRecovery {
     // It lasts until all positions below this one are acknowledged.
     until: u64,
@@ -133,7 +133,6 @@ impl LossRecovery {
     /// # [Guarantees](crate#guarantees)
     ///
     /// - on `Some(segment)`: `segment.0 < segment.1` and `segment.1 <= limit` and `segment.1 <= segment.0 + max(1, segment_size)`
-    /// - on `Some(segment)`: if `numbers.first_unacknowledged < segment.0`, then `in_flight(self, numbers.first_unacknowledged, numbers.sent, scoreboard) + segment.1.saturating_sub(segment.0) <= window`
     #[must_use]
     pub fn next_segment<const N: usize>(
         &self,
