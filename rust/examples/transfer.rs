@@ -118,7 +118,8 @@ fn main() {
         source.send(now, &mut path);
         // The next thing that happens: a datagram arrives, or the timer expires.
         let arrival = path.datagrams.first_key_value().map(|(&(at, _), _)| at);
-        now = arrival.into_iter().chain(source.timer.expires_at()).min().expect("something happens");
+        now =
+            arrival.into_iter().chain(source.timer.expires_at()).min().expect("something happens");
         while let Some(datagram) = path.datagrams.first_entry().filter(|it| it.key().0 <= now) {
             match datagram.remove() {
                 Datagram::Answer(next, end, runs) => source.take(next, end, &runs, now),

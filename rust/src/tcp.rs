@@ -1,5 +1,6 @@
 //! Small machines that a TCP needs beside its two queues: the Internet checksum, what to do with an arriving
-//! segment, the windows of both sides, the time until a retransmission, its timer, and what is sent next. (Not in smoltcp's lowest layer.)
+//! segment, the windows of both sides, the time until a retransmission, its timer, and what is sent next. (Not in
+//! smoltcp's lowest layer.)
 //!
 //! ```
 //! use net_base::tcp::{checksum, classify, is_valid, AdvertisedWindow, Announcement, Arrival, PeerWindow};
@@ -43,14 +44,14 @@
 //! assert!(timer.expire(bounds, Instant::from_millis(400)));
 //! assert_eq!(timer.expires_at(), Some(Instant::from_millis(1_000)));
 //! ```
+pub use crate::proved::net_numbers::SentNumbers;
+pub use crate::proved::net_recovery::LossRecovery;
 pub use crate::proved::net_tcp::{
     checksum, classify, is_acceptable, is_acknowledgement, is_valid, scale_for, scaled,
     updated_checksum, AdvertisedWindow, Announcement, Arrival, PartsSum, PeerWindow,
     RetransmissionTimeout, RetransmissionTimer, RttEstimate, Segment, TimedSegment, TimeoutBounds,
     Transmission, MAX_SCALE,
 };
-pub use crate::proved::net_numbers::SentNumbers;
-pub use crate::proved::net_recovery::LossRecovery;
 
 use crate::time::Duration;
 

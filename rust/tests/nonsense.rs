@@ -9,8 +9,8 @@ use net_base::storage::fragment_table::{accept, remove_expired, take_complete, F
 use net_base::storage::FragmentBuffer;
 use net_base::tcp::{
     checksum, classify, is_acceptable, is_acknowledgement, is_valid, scaled, updated_checksum,
-    AdvertisedWindow, Announcement, LossRecovery, PartsSum, PeerWindow, RetransmissionTimer, Segment,
-    TimeoutBounds, Transmission,
+    AdvertisedWindow, Announcement, LossRecovery, PartsSum, PeerWindow, RetransmissionTimer,
+    Segment, TimeoutBounds, Transmission,
 };
 use net_base::time::{Duration, Instant};
 
@@ -287,7 +287,7 @@ fn recovery() {
             4 => recovery.sent(numbers, start..end),
             _ => {
                 let next = recovery.next_segment(numbers, &board, start, end, size);
-                assert!(next.map_or(true, |(from, to)| from < to && to <= start));
+                assert!(next.is_none_or(|(from, to)| from < to && to <= start));
             }
         }
     }
