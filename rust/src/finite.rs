@@ -81,7 +81,7 @@ impl<S: Storage<u8>, const N: usize> fmt::Debug for FiniteReceiverOver<S, N> {
     fn fmt(&self, f: &mut fmt::Formatter) -> fmt::Result {
         f.debug_struct("FiniteReceiver")
             .field("next", &self.next())
-            .field("len", &self.len())
+            .field("len", &self.queued())
             .field("window", &self.window())
             .field("held", &Listed(|| self.held()))
             .field("end", &self.end())

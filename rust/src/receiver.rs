@@ -69,7 +69,7 @@ impl<S: Storage<u8>, const N: usize> fmt::Debug for ReceiverOver<S, N> {
     fn fmt(&self, f: &mut fmt::Formatter) -> fmt::Result {
         f.debug_struct("Receiver")
             .field("next", &self.next())
-            .field("len", &self.len())
+            .field("len", &self.queued())
             .field("window", &self.window())
             .field("held", &Listed(|| self.held()))
             .finish()

@@ -23,7 +23,7 @@ fn a_receiver() {
     assert!(receiver.segment(106, b"g").is_ok());
     assert_eq!(receiver.peek_slices(1, 9), (&b"fgh"[..], &b""[..]));
     receiver.reset_at(7);
-    assert_eq!((receiver.next(), receiver.len(), receiver.held_count()), (7, 0, 0));
+    assert_eq!((receiver.next(), receiver.queued(), receiver.held_count()), (7, 0, 0));
     assert!(receiver.segment(7, b"xyz").is_ok());
     assert_eq!(length(receiver.into_storage()), 8);
 }

@@ -98,7 +98,7 @@ fn receivers() {
                 assert!(finite.acknowledged() >= next && (finite.end().is_some() || !is_known));
             }
         }
-        assert!(plain.next() >= plain.len() as u64 && finite.window_end() != Some(0));
+        assert!(plain.next() >= plain.queued() as u64 && finite.window_end() != Some(0));
     }
 }
 

@@ -86,10 +86,10 @@ fn holes() {
 }
 
 #[test]
-fn clear() {
+fn reset() {
     let mut it = scoreboard();
     let copy = it.clone();
-    it.clear();
+    it.reset_at(0);
     assert!(has(&it, &[]) && has(&copy, &[(0, 10), (20, 30), (40, 45)]));
     assert_eq!(it.next_hole(0, 100), Some((0, 100)));
 }

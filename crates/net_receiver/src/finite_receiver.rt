@@ -258,7 +258,7 @@ impl<S: Storage<u8>, const N: usize> FiniteReceiverOver<S, N> {
     /// # let mut receiver = FiniteReceiver::<4>::empty_at(&mut storage[..], 0);
     /// assert!(receiver.keep(0, b"abc", true).is_ok());
     /// assert_eq!(receiver.read_with(|bytes| (2, bytes.len())), (2, 3));
-    /// assert_eq!((receiver.len(), receiver.has_read_all()), (1, false));
+    /// assert_eq!((receiver.queued(), receiver.has_read_all()), (1, false));
     /// ```
     ///
     /// # Requires
@@ -302,7 +302,7 @@ impl<S: Storage<u8>, const N: usize> FiniteReceiverOver<S, N> {
             take count self.old.receiver.queue
             ≡ slice_range x self.old.receiver.read (self.old.receiver.read + count) }
     {
-        prove!(count <= self.len(), "more bytes than are queued");
+        prove!(count <= self.queued(), "more bytes than are queued");
         self.head.remove(self.storage.count(), count);
     }
 
@@ -364,7 +364,7 @@ impl<S: Storage<u8>, const N: usize> FiniteReceiverOver<S, N> {
 
     /// Returns how many bytes are queued.
     #[must_use]
-    pub fn len(&self) -> usize
+    pub fn queued(&self) -> usize
         ensures { result ≡ length self.now.receiver.queue }
     {
         self.head.receiver.queued()
@@ -375,7 +375,7 @@ impl<S: Storage<u8>, const N: usize> FiniteReceiverOver<S, N> {
     pub fn is_empty(&self) -> bool
         ensures { IsTrue result ↔ (self.now.receiver.queue ≡ []) }
     {
-        self.len() == 0
+        self.queued() == 0
     }
 
     /// Returns how many bytes have room, queued and held ones included: the storage's length.

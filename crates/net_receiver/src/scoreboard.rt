@@ -133,27 +133,20 @@ impl<const N: usize> Scoreboard<N> {
     }
 
     /// Begins again: a stream that begins at position `first`, to which nothing was reported. All
-    /// positions below `first` count as reported.
-    pub fn reset_at(&mut self, first: u64)
-        ensures { self.new ≡ with_range nothing 0 first }
-    {
-        self.head.reset_at(first);
-    }
-
-    /// Forgets all that was reported, as when a retransmission timer ends (RFC 2018, section 8): then
-    /// `acknowledge` is called with what was acknowledged.
+    /// positions below `first` count as reported. A sender that forgets what was reported, as when its timer
+    /// ends (RFC 2018, section 8), gives the first unacknowledged position.
     ///
     /// ```
     /// # use net_base::scoreboard::Scoreboard;
     /// # let mut scoreboard = Scoreboard::<4>::empty();
     /// assert_eq!(scoreboard.report(5, 9, 20), Ok(()));
-    /// scoreboard.clear();
-    /// assert!(!scoreboard.contains(5));
+    /// scoreboard.reset_at(2);
+    /// assert!(scoreboard.contains(1) && !scoreboard.contains(5));
     /// ```
-    pub fn clear(&mut self)
-        ensures { self.new ≡ nothing }
+    pub fn reset_at(&mut self, first: u64)
+        ensures { self.new ≡ with_range nothing 0 first }
     {
-        self.head.reset_at(0);
+        self.head.reset_at(first);
     }
 
     /// Reports the positions from `start` on and below `end`, as a SACK block of an acknowledgement

@@ -236,7 +236,7 @@ fn what_is_not_acceptable() {
     // Old text, text beyond the window, and what was never sent is acknowledged: answered, not kept.
     for packet in [peer(0, 0).text(b"XYZ"), peer(64, 0).text(b"X"), peer(6, 1).text(b"X")] {
         challenge(&talk.say(&packet), 6);
-        assert_eq!(talk.endpoint.receiver.len(), 6);
+        assert_eq!(talk.endpoint.receiver.queued(), 6);
     }
     // Without the flag ACK nothing is taken, and nothing is answered.
     assert_eq!(talk.say(&Packet { flags: 0, ..peer(6, 0).text(b"X") }), []);
@@ -339,7 +339,7 @@ fn windows_open_and_close() {
                         edge = edge.max(announced);
                     }
                 }
-                let free = capacity - talk.endpoint.receiver.len();
+                let free = capacity - talk.endpoint.receiver.queued();
                 assert!(free < 1 << scale || options.is_empty(), "{free} of {capacity} unused");
                 read += talk.read(capacity).len() as u32;
                 let update = talk.wait(0);

@@ -69,7 +69,7 @@ impl<S: Storage<u8>, const N: usize> Subject for Ending<S, N> {
         format!(
             "{} {} {} {} {} {} {} {}",
             finite.next() - first,
-            finite.len(),
+            finite.queued(),
             finite.window(),
             finite.held().count(),
             finite.end().map_or("-".to_string(), |end| (end - first).to_string()),

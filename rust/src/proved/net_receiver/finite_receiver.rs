@@ -168,8 +168,8 @@ impl<S: Storage<u8>, const N: usize> FiniteReceiverOver<S, N> {
     ///
     /// # [Guarantees](crate#guarantees)
     ///
-    /// - `result == min(into.len(), old(self).len())`
-    /// - `into == old(self).queue[..into.len()] ++ old(into)[old(self).len()..]`
+    /// - `result == min(into.len(), old(self).queued())`
+    /// - `into == old(self).queue[..into.len()] ++ old(into)[old(self).queued()..]`
     pub fn read(&mut self, into: &mut [u8]) -> usize {
         self.head.read(whole(&self.storage), into)
     }
@@ -194,7 +194,7 @@ impl<S: Storage<u8>, const N: usize> FiniteReceiverOver<S, N> {
     /// # let mut receiver = FiniteReceiver::<4>::empty_at(&mut storage[..], 0);
     /// assert!(receiver.keep(0, b"abc", true).is_ok());
     /// assert_eq!(receiver.read_with(|bytes| (2, bytes.len())), (2, 3));
-    /// assert_eq!((receiver.len(), receiver.has_read_all()), (1, false));
+    /// assert_eq!((receiver.queued(), receiver.has_read_all()), (1, false));
     /// ```
     ///
     /// # Panics, unless
@@ -217,7 +217,7 @@ impl<S: Storage<u8>, const N: usize> FiniteReceiverOver<S, N> {
     /// At least `count` bytes are queued.
     #[track_caller]
     pub fn remove(&mut self, count: usize) {
-        prove!(count <= self.len(), "more bytes than are queued");
+        prove!(count <= self.queued(), "more bytes than are queued");
         self.head.remove(self.storage.count(), count);
     }
 
@@ -261,14 +261,14 @@ impl<S: Storage<u8>, const N: usize> FiniteReceiverOver<S, N> {
 
     /// Returns how many bytes are queued.
     #[must_use]
-    pub fn len(&self) -> usize {
+    pub fn queued(&self) -> usize {
         self.head.receiver.queued()
     }
 
     /// Returns whether no byte is queued; bytes may be held.
     #[must_use]
     pub fn is_empty(&self) -> bool {
-        self.len() == 0
+        self.queued() == 0
     }
 
     /// Returns how many bytes have room, queued and held ones included: the storage's length.

@@ -252,13 +252,13 @@ impl<S: Storage<u8>, const N: usize> ReceiverOver<S, N> {
     /// # let mut receiver = Receiver::new(&mut storage[..]);
     /// assert!(receiver.segment(0, b"abc").is_ok());
     /// let mut into = *b"--";
-    /// assert_eq!((receiver.read(&mut into), &into, receiver.len()), (2, b"ab", 1));
+    /// assert_eq!((receiver.read(&mut into), &into, receiver.queued()), (2, b"ab", 1));
     /// ```
     ///
     /// # [Guarantees](crate#guarantees)
     ///
-    /// - `result == min(into.len(), old(self).len())`
-    /// - `into == old(self).queue[..into.len()] ++ old(into)[old(self).len()..]`
+    /// - `result == min(into.len(), old(self).queued())`
+    /// - `into == old(self).queue[..into.len()] ++ old(into)[old(self).queued()..]`
     /// - `self.next() == old(self).next()`
     pub fn read(&mut self, into: &mut [u8]) -> usize {
         self.head.read(whole(&self.storage), into)
@@ -274,13 +274,13 @@ impl<S: Storage<u8>, const N: usize> ReceiverOver<S, N> {
     /// # let mut receiver = Receiver::new(&mut storage[..]);
     /// assert!(receiver.segment(0, b"abc").is_ok());
     /// let mut into = *b"--";
-    /// assert_eq!((receiver.peek_slice(&mut into), &into, receiver.len()), (2, b"ab", 3));
+    /// assert_eq!((receiver.peek_slice(&mut into), &into, receiver.queued()), (2, b"ab", 3));
     /// ```
     ///
     /// # [Guarantees](crate#guarantees)
     ///
-    /// - `result == min(into.len(), self.len())`
-    /// - `into == self.queue[..into.len()] ++ old(into)[self.len()..]`
+    /// - `result == min(into.len(), self.queued())`
+    /// - `into == self.queue[..into.len()] ++ old(into)[self.queued()..]`
     pub fn peek_slice(&self, into: &mut [u8]) -> usize {
         self.head.peek_slice(whole(&self.storage), into)
     }
@@ -301,7 +301,7 @@ impl<S: Storage<u8>, const N: usize> ReceiverOver<S, N> {
     ///
     /// # [Guarantees](crate#guarantees)
     ///
-    /// - if `offset < self.len()` and `0 < size`, then `0 < result.len()`
+    /// - if `offset < self.queued()` and `0 < size`, then `0 < result.len()`
     /// - `result == self.queue[offset..][..result.len()]`
     #[must_use]
     pub fn peek(&self, offset: usize, size: usize) -> &[u8] {
@@ -408,6 +408,14 @@ impl<S: Storage<u8>, const N: usize> ReceiverOver<S, N> {
     }
 
     /// Returns how many bytes are queued.
+    ///
+    /// ```
+    /// # use net_base::receiver::Receiver;
+    /// # let mut storage = [0u8; 16];
+    /// # let mut receiver = Receiver::new(&mut storage[..]);
+    /// assert!(receiver.segment(0, b"abc").is_ok());
+    /// assert_eq!(receiver.queued(), 3);
+    /// ```
     #[must_use]
     pub fn queued(&self) -> usize {
         self.head.queued()
@@ -455,20 +463,6 @@ impl<S: Storage<u8>, const N: usize> ReceiverOver<S, N> {
     #[must_use]
     pub fn capacity(&self) -> usize {
         self.storage.count()
-    }
-
-    /// Returns how many bytes are queued, as `queued` does.
-    ///
-    /// ```
-    /// # use net_base::receiver::Receiver;
-    /// # let mut storage = [0u8; 16];
-    /// # let mut receiver = Receiver::new(&mut storage[..]);
-    /// assert!(receiver.segment(0, b"abc").is_ok());
-    /// assert_eq!(receiver.len(), 3);
-    /// ```
-    #[must_use]
-    pub fn len(&self) -> usize {
-        self.queued()
     }
 
     /// Returns whether no byte is queued; bytes may be held.
