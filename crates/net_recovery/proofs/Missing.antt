@@ -63,9 +63,9 @@ pub none_counts : (s : Positions) (p limit : ℕ) → IsNextHole s p limit limit
 none_counts s p limit h = elim (cases_lt p limit) [
   | inr above ↦ (let none : limit - p ≡ 0 = omega (arith, above) in ap (missing_count s p) none)
   | inl below ↦ (
-    let begins = h.begins in
-    let all : limit - p + 0 ≡ limit - p = omega arith in
-    ap (missing_count s p) (sym all) ∙ count_has s p (limit - p) 0 (λ q low high. first_missing-has s p q low (omega (arith, begins, below, high))))
+      let begins = h.begins in
+      let all : limit - p + 0 ≡ limit - p = omega arith in
+      ap (missing_count s p) (sym all) ∙ count_has s p (limit - p) 0 (λ q low high. first_missing-has s p q low (omega (arith, begins, below, high))))
 ]
 
 -- ---- what the calls of a scoreboard return is one
@@ -75,8 +75,8 @@ no_sooner : (s : Positions) (p limit start end start' end' : ℕ) → IsNextHole
 no_sooner s p limit start end start' end' h g some = elim (cases_lt end end') [
   | inr le ↦ le
   | inl lt ↦ (
-    let same : start' ≡ start = omega (arith, h.begins, g.begins) in
-    absurd (both_ways (contains s end) (g.missing end (omega (arith, same, h.order)) lt) (h.ended (omega (arith, lt, g.within)))))
+      let same : start' ≡ start = omega (arith, h.begins, g.begins) in
+      absurd (both_ways (contains s end) (g.missing end (omega (arith, same, h.order)) lt) (h.ended (omega (arith, lt, g.within)))))
 ]
 
 pub one_hole : (s : Positions) (p limit : ℕ) (a b : Option (ℕ × ℕ)) → IsHole s p limit a → IsHole s p limit b → a ≡ b

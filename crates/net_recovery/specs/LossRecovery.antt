@@ -30,8 +30,8 @@ abbrev pub after_report : ℕ → ℕ → ℕ → ℕ → ℕ → LossRecovery �
 after_report size first sent lost highest r =
     if is_active r first
     then (if nat_lt (r.sent + 2 * size) highest
-        then record { until = r.until; lost = max r.lost lost; again = first; sent = sent }
-        else record r { lost = max r.lost lost })
+    then record { until = r.until; lost = max r.lost lost; again = first; sent = sent }
+    else record r { lost = max r.lost lost })
     else (if nat_lt first lost then begun first sent lost else r)
 
 -- positions from start on and below end were sent

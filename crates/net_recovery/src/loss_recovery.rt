@@ -87,10 +87,10 @@ impl LossRecovery {
     ) -> bool
         ensures state { (lost highest : ℕ) → IsLossBound 3 segment_size scoreboard.now lost →
             IsEnd scoreboard.now highest → self.new ≡ after_report segment_size
-                numbers.first_unacknowledged numbers.sent lost highest self.old }
+            numbers.first_unacknowledged numbers.sent lost highest self.old }
         ensures begins { (lost : ℕ) → IsLossBound 3 segment_size scoreboard.now lost →
             result ≡ (not (is_active self.old numbers.first_unacknowledged)
-                && nat_lt numbers.first_unacknowledged lost) }
+            && nat_lt numbers.first_unacknowledged lost) }
     {
         let lost = scoreboard.lost_below(DUPLICATES, segment_size);
         if !self.is_active(numbers) {
@@ -162,13 +162,13 @@ impl LossRecovery {
             IsEnd scoreboard.now highest → IsHole scoreboard.now from (min self.now.lost limit) lost →
             IsHole scoreboard.now from (min highest limit) below →
             result ≡ next_segment first (in_flight self.now first numbers.sent scoreboard.now) window
-                (max 1 segment_size) (next_range self.now first numbers.sent limit lost below) }
+            (max 1 segment_size) (next_range self.now first numbers.sent limit lost below) }
         // Guarantee.
         ensures within { IfSome result (λ segment. (segment.0 < segment.1) × (segment.1 ≤ limit)
             × (segment.1 ≤ segment.0 + max 1 segment_size)) }
         ensures room { IfSome result (λ segment. numbers.first_unacknowledged < segment.0 →
             in_flight self.now numbers.first_unacknowledged numbers.sent scoreboard.now
-                + (segment.1 - segment.0) ≤ window) }
+            + (segment.1 - segment.0) ≤ window) }
     {
         let Some((start, end)) = self.next_range(numbers, scoreboard, limit) else {
             return None;
@@ -227,7 +227,11 @@ impl LossRecovery {
 fn unsent(sent: u64, limit: u64) -> Option<(u64, u64)>
     ensures { result ≡ unsent sent limit }
 {
-    if sent < limit { Some((sent, limit)) } else { None }
+    if sent < limit {
+        Some((sent, limit))
+    } else {
+        None
+    }
 }
 
 /// Returns how many positions between two of them weren't reported.

@@ -187,7 +187,11 @@ impl LossRecovery {
 
 /// Returns what was never sent, up to a limit.
 fn unsent(sent: u64, limit: u64) -> Option<(u64, u64)> {
-    if sent < limit { Some((sent, limit)) } else { None }
+    if sent < limit {
+        Some((sent, limit))
+    } else {
+        None
+    }
 }
 
 /// Returns how many positions between two of them weren't reported.

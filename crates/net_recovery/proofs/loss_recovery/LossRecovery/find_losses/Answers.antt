@@ -30,19 +30,13 @@ pub returns-then-sent_after-saturating_mul-clause-state :
 returns-then-sent_after-saturating_mul-clause-state g c = λ lost highest bound end.
     let same = one_bound 3 c.args.segment_size c.args.scoreboard.now c.lost_below-lost.result lost c.lost_below-lost.ensures bound in
     let high = one_end c.args.scoreboard.now c.highest_reported.result highest c.highest_reported.ensures end in
-    let greater = c.max-self.ensures in
     let after = c.saturating_sub-sent_after.ensures in
-    let two = c.saturating_mul.ensures in
-    let fits = c.highest_reported.type_inv in
-    grind (arith, nat_tests)
+    grind (arith, nat_tests, c.max-self.ensures, after, c.saturating_mul.ensures, c.highest_reported.type_inv)
 
 pub returns-else-sent_after-saturating_mul-clause-state :
     goal.returns-else-sent_after-saturating_mul-clause-state
 returns-else-sent_after-saturating_mul-clause-state g c = λ lost highest bound end.
     let same = one_bound 3 c.args.segment_size c.args.scoreboard.now c.lost_below-lost.result lost c.lost_below-lost.ensures bound in
     let high = one_end c.args.scoreboard.now c.highest_reported.result highest c.highest_reported.ensures end in
-    let greater = c.max-self.ensures in
     let after = c.saturating_sub-sent_after.ensures in
-    let two = c.saturating_mul.ensures in
-    let fits = c.highest_reported.type_inv in
-    grind (arith, nat_tests)
+    grind (arith, nat_tests, c.max-self.ensures, after, c.saturating_mul.ensures, c.highest_reported.type_inv)
