@@ -1,6 +1,6 @@
 //! The earliest of several moments, some of which may be missing.
 ghost use Rattle.std.specs.Prelude.{◌≡◌};
-ghost use Rattle.net_base.specs.Earliest.{earlier_of, earliest_of, IsEarliest};
+ghost use Rattle.net_base.specs.Time.{earlier_of, earliest_of, IsEarliest};
 
 use crate::time::Instant;
 
@@ -19,7 +19,7 @@ pub fn earlier(first: Option<Instant>, second: Option<Instant>) -> Option<Instan
 
 /// Returns the earliest of the moments that are there, or `None` if none is: when to poll an object
 /// with several timers, each of which may be off.
-#[tactic(auto, using(crate::proofs::EarliestFacts::earliest_is))]
+#[tactic(auto, using(crate::proofs::Moments::earliest_is))]
 pub fn earliest(moments: &[Option<Instant>]) -> Option<Instant>
     ensures { IsEarliest (λ t. t) moments.now result }
 {
