@@ -1,11 +1,11 @@
 use crate::rattle::prelude::*;
 // Written by tools/ffi.py.
 
-use crate::proved::net_ffi::fragments::{is_plausible};
+use crate::proved::net_ffi::fragments::is_plausible;
 use crate::proved::net_ffi::refusals::{NET_BASE_REFUSED, Status};
-use crate::proved::net_ffi::results::{status_of_fragment};
-use crate::proved::net_assembler::{Run};
-use crate::proved::net_base::storage::{FragmentsHead};
+use crate::proved::net_ffi::results::status_of_fragment;
+use crate::proved::net_assembler::Run;
+use crate::proved::net_base::storage::FragmentsHead;
 
 #[inline(always)]
 pub fn net_base_fragments_init(fragments: &mut FragmentsHead, expires_at: i64) {
