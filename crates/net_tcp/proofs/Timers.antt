@@ -2,7 +2,7 @@
 -- position was sent once, and why and until when the timer runs.
 use Rattle.std.proofs.Common.{◌≡◌, ℕ, zero, suc, ◌+◌, ◌-◌, ◌*◌, ◌/◌, ◌^◌, ◌≤◌, min, inl, inr, refl, sym, ap, ◌∙◌}
 use Rattle.std.proofs.Common.{subst, arith, rules, suc-add, zero-add, List, [], ◌∷◌}
-use Rattle.std.specs.Prelude.{◌<◌, ◌⊎◌, Some, IsTrue, IsFalse, All}
+use Rattle.std.specs.Prelude.{◌⊎◌, Some, IsTrue, IsFalse, All}
 use Rattle.std.specs.Fn.{iterate}
 use Rattle.std.proofs.Math.Nat.{pow-suc}
 use Rattle.std.proofs.lemmas.Nat.{pow_pos, mul-le}

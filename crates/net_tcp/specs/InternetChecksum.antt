@@ -6,8 +6,8 @@
 --     is_odd xs      an odd number of bytes
 --     sum_with s xs, sum_joined s t      the running sum s after bytes xs, or after those of which t is the sum
 --     Sums s xs      the running sum s is that of the bytes xs
-use Rattle.std.specs.Prelude.{◌≡◌, ℕ, zero, suc, ◌+◌, ◌-◌, ◌*◌, ◌/◌, ◌%◌, ◌^◌, ◌<◌, ◌≤◌, ◌⊎◌, List, [], ◌∷◌, ◌++◌}
-use Rattle.std.specs.Prelude.{length, All, Bool, not, nat_eq, if◌then◌else◌}
+use Rattle.std.specs.Prelude.{◌≡◌, ℕ, zero, suc, ◌+◌, ◌-◌, ◌*◌, ◌/◌, ◌%◌, ◌^◌, List, [], ◌∷◌, length, Bool, not}
+use Rattle.std.specs.Prelude.{nat_eq, if◌then◌else◌}
 use Rattle.net_tcp.specs.declared.internet_sum.PartsSum.{PartsSum}
 
 -- the sum of the words of these bytes, the high byte first; a last odd byte is a high byte

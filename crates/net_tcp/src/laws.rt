@@ -2,7 +2,7 @@
 ghost use Rattle.std.specs.Prelude.{◌≡◌, ℕ, ◌+◌, ◌-◌, ◌*◌, ◌^◌, ◌<◌, ◌≤◌, ◌⊎◌, IfSome, IsTrue, IsFalse, min, max};
 ghost use Rattle.std.specs.Prelude.{◌/◌, List, [], ◌∷◌, ◌++◌, All, Some};
 ghost use Rattle.std.specs.Fn.{iterate};
-ghost use Rattle.net_base.specs.Time.{IsLength, IsMoment};
+ghost use Rattle.net_base.specs.Time.{IsLength};
 ghost use Rattle.net_tcp.specs.InternetChecksum.{carried_sum, folded, internet_checksum, word_bytes, word_sum};
 ghost use Rattle.net_tcp.specs.InternetChecksum.{updated as updated_word, IsEven};
 ghost use Rattle.net_tcp.specs.Windows.{IsAcceptable, IsInTable, IsScaleFor, announced, field_for, gain, worth};
@@ -18,8 +18,7 @@ ghost use Rattle.net_tcp.specs.declared.retransmission.TimeoutBounds.{TimeoutBou
 ghost use Rattle.net_tcp.specs.declared.retransmission_timer.TimedSegment.{TimedSegment};
 
 use crate::retransmission::{RetransmissionTimeout, RttEstimate};
-use crate::retransmission_timer::{RetransmissionTimer, TimedSegment};
-use net_base::time::Instant;
+use crate::retransmission_timer::RetransmissionTimer;
 
 /// States what the folded sum is: that of RFC 1071, which adds each carry at the low end; and that
 /// neither cuts at even offsets nor where a part is folded changes it.
@@ -123,19 +122,13 @@ pub fn is_sound_timeout(timeout: &RetransmissionTimeout)
     let _micros = timeout.timeout().total_micros();
 }
 
-/// States what is true of every timer: of its timeout what is true of each, that it expires at a moment,
-/// if it runs, and that the segment that is timed, if there is one, has a position of 64 bits, and was sent at a
-/// moment.
+/// States of every timer what is true of its timeout.
 pub fn is_sound_timer(timer: &RetransmissionTimer)
     ensures estimate { IfSome timer.now.timeout.estimate IsSmall }
     ensures timeout { IsLength timer.now.timeout.timeout }
-    ensures expiry { IfSome timer.now.expires_at IsMoment }
-    ensures timed { IfSome timer.now.timed (λ s. (s.pos < 2 ^ 64) × IsMoment s.since) }
 {
     is_small(timer.rtt());
     let _micros = timer.timeout().total_micros();
-    is_moment(timer.expires_at());
-    is_timed(timer.timed());
 }
 
 /// States what is true of an estimate, if there is one.
@@ -144,30 +137,6 @@ fn is_small(estimate: Option<RttEstimate>)
 {
     match estimate {
         Some(estimate) => is_sound_estimate(&estimate),
-        None => {}
-    }
-}
-
-/// States that a moment, if there is one, is one of microseconds of 64 bits.
-fn is_moment(at: Option<Instant>)
-    ensures { IfSome at IsMoment }
-{
-    match at {
-        Some(at) => {
-            let _micros = at.total_micros();
-        }
-        None => {}
-    }
-}
-
-/// States what is true of a timed segment, if there is one.
-fn is_timed(segment: Option<TimedSegment>)
-    ensures { IfSome segment (λ s. (s.pos < 2 ^ 64) × IsMoment s.since) }
-{
-    match segment {
-        Some(segment) => {
-            let _numbers = (segment.pos, segment.since.total_micros());
-        }
         None => {}
     }
 }

@@ -2,8 +2,7 @@
 
 use crate::rattle::prelude::*;
 use crate::proved::net_tcp::retransmission::{RetransmissionTimeout, RttEstimate};
-use crate::proved::net_tcp::retransmission_timer::{RetransmissionTimer, TimedSegment};
-use crate::proved::net_base::time::Instant;
+use crate::proved::net_tcp::retransmission_timer::RetransmissionTimer;
 
 /// States what the folded sum is: that of RFC 1071, which adds each carry at the low end; and that
 /// neither cuts at even offsets nor where a part is folded changes it.
@@ -48,40 +47,16 @@ pub fn is_sound_timeout(timeout: &RetransmissionTimeout) {
     let _micros = timeout.timeout().total_micros();
 }
 
-/// States what is true of every timer: of its timeout what is true of each, that it expires at a moment,
-/// if it runs, and that the segment that is timed, if there is one, has a position of 64 bits, and was sent at a
-/// moment.
+/// States of every timer what is true of its timeout.
 pub fn is_sound_timer(timer: &RetransmissionTimer) {
     is_small(timer.rtt());
     let _micros = timer.timeout().total_micros();
-    is_moment(timer.expires_at());
-    is_timed(timer.timed());
 }
 
 /// States what is true of an estimate, if there is one.
 fn is_small(estimate: Option<RttEstimate>) {
     match estimate {
         Some(estimate) => is_sound_estimate(&estimate),
-        None => {}
-    }
-}
-
-/// States that a moment, if there is one, is one of microseconds of 64 bits.
-fn is_moment(at: Option<Instant>) {
-    match at {
-        Some(at) => {
-            let _micros = at.total_micros();
-        }
-        None => {}
-    }
-}
-
-/// States what is true of a timed segment, if there is one.
-fn is_timed(segment: Option<TimedSegment>) {
-    match segment {
-        Some(segment) => {
-            let _numbers = (segment.pos, segment.since.total_micros());
-        }
         None => {}
     }
 }
