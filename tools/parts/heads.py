@@ -469,7 +469,7 @@ def file_of(head, exports):
     own = {name: (module, name) for module, names in OWN.items() for name in names.split()}
     if head.name in head.uses:
         own[head.name] = (head.uses[head.name][0], f"{head.name} as {head.name}_of")
-    plausible = {"FragmentsHead": "Rattle.net_base.specs.FragmentParts", "ReceiverHead": "Rattle.net_ffi.specs.ReceiverParts"}
+    plausible = {"FragmentsHead": "Rattle.net_base.specs.Fragments", "ReceiverHead": "Rattle.net_ffi.specs.ReceiverParts"}
     plausible["FiniteReceiverHead"] = plausible["ReceiverHead"]
     if head.type in plausible:
         own["IsPlausible"] = (plausible[head.type], "IsPlausible")

@@ -1,15 +1,186 @@
--- What a buffer holds after many fragments.
-use Rattle.std.proofs.Common.{◌≡◌, ℕ, ◌+◌, ◌-◌, ◌<◌, ◌≤◌, ◌&&◌, true, List, [], ◌∷◌, length, get_or, refl, ap}
-use Rattle.std.proofs.Common.{◌∙◌, arith, if◌then◌else◌, nat_le, nat_lt, IsTrue, IsFalse, ap₂, ◌||◌, inl, inr}
-use Rattle.std.proofs.lemmas.Bool.{both_ways, cases_Bool}
-use Rattle.std.proofs.lemmas.Bool.Decides.{nat_tests}
-use Rattle.std.proofs.lemmas.List.{get_or_default}
+-- Facts of a buffer of fragments: what is lent and written, positions of a set and its runs, and many fragments.
+use Rattle.std.proofs.Common.{◌≡◌, ℕ, ◌-◌, ◌∙◌, List, length, take, drop, ap, arith, take_all, ◌↔◌, suc, ◌+◌, ◌<◌}
+use Rattle.std.proofs.Common.{◌≤◌, true, [], ◌∷◌, ◌&&◌, All, max, IsTrue, nat_lt, nat_le, inl, inr, get_or, subst}
+use Rattle.std.proofs.Common.{Some, None, ⊎_elim, ◌≢◌, Bool, false, not, min, nat_eq, sym, length-take, length-drop}
+use Rattle.std.proofs.Common.{refl, if◌then◌else◌, IsFalse, ap₂, ◌||◌}
 use Rattle.net_ring.specs.Overwrite.{overwrite, OverwritesAt}
-use Rattle.net_assembler.specs.Positions.{contains, with_range}
+use Rattle.net_ring.proofs.RingFacts.{overwrite_whole}
+use Rattle.std.specs.List.{count_by, slice_get}
+use Rattle.std.proofs.lemmas.Bool.{cases_Bool, cases_lt, both_ways}
+use Rattle.std.proofs.lemmas.Bool.Decides.{nat_tests}
+use Rattle.std.proofs.lemmas.List.Elements.{All-head, All-tail}
+use Rattle.std.proofs.lemmas.Option.{get_or_from_slice_get, slice_get_within, slice_get-get_or}
+use Rattle.net_assembler.specs.Positions.{Positions, IsMaximalRun, AreMaximalRuns, contains, lies_in, nothing}
+use Rattle.net_assembler.specs.Positions.{with_range}
+use Rattle.net_assembler.proofs.Positions.{contains-nothing}
+use Rattle.net_base.specs.Fragments.{IsBelow, Meets, meets_one, HasOther, FragmentsState, with_fragment}
+use Rattle.net_base.specs.Fragments.{after_fragments, covers, last_byte}
+use Rattle.std.specs.Str.{bytes_eq}
+use Rattle.std.proofs.lemmas.List.{get_or-take, get_or-drop, get_or_default}
+use Rattle.std.proofs.lemmas.Slice.Eq.{bytes_eq-Decides}
 use Rattle.net_assembler.specs.AssemblerLaws.{MembersOfNothing, MembersWithRange}
-use Rattle.net_base.specs.Fragments.{FragmentsState, with_fragment}
-use Rattle.net_base.specs.FragmentHistory.{after_fragments, covers, last_byte, LastFragmentStands, OldBytesAreGone}
 
+-- ---- a storage of bytes that is lent whole, and written over whole
+-- a whole storage of n elements, lent as a part
+pub part_is : (xs part : List ℕ) (n : ℕ) → n ≡ length xs → part ≡ take (n - 0) (drop 0 xs) → part ≡ xs
+part_is xs part n size is = is ∙ take_all (n - 0) xs (omega arith)
+
+-- what is written over a whole storage
+pub whole_written : (old new written : List ℕ) → length written ≡ length old → new ≡ overwrite old 0 written → new ≡ written
+whole_written old new written size is = is ∙ overwrite_whole old written size
+
+-- the first n elements
+pub first_part : (xs part : List ℕ) (n : ℕ) → part ≡ take (n - 0) xs → part ≡ take n xs
+first_part xs part n is = is ∙ ap (λ k. take k xs) (omega arith)
+
+-- ---- positions of a set, and its maximal runs
+-- a position that a run has is in the set
+met : (s : Positions) (rs : List (ℕ × ℕ)) (o n : ℕ) → All (IsMaximalRun s) rs → meets_one rs o n ≡ true → Meets s o n
+met s [] o n all h = absurd (cc)
+met s (r ∷ rs) o n all h =
+    let here = All-head (IsMaximalRun s) r rs all in
+    let some = here.some in
+    let others = met s rs o n (All-tail (IsMaximalRun s) r rs all) in
+    elim (cases_Bool (nat_lt (r.0 - o) n && nat_lt o r.1)) [
+      | inl is ↦
+          let a : r.0 - o < n = grind (arith, nat_tests) in
+          let b : o < r.1 = grind (arith, nat_tests) in
+          (max r.0 o, omega arith, omega (arith, a, b, some), here.inside (max r.0 o) (omega arith) (omega (arith, b, some)))
+      | inr is ↦ others (grind (arith, nat_tests))
+    ]
+
+-- and a position of the set is one that a run has
+meeting : (rs : List (ℕ × ℕ)) (o n p : ℕ) → count_by (lies_in p) rs ≡ 1 → o ≤ p → p < o + n → meets_one rs o n ≡ true
+meeting [] o n p h low high = absurd (omega arith)
+meeting (r ∷ rs) o n p h low high = let others = meeting rs o n p in grind (arith, nat_tests)
+
+pub meets_is : (s : Positions) (rs : List (ℕ × ℕ)) (o n : ℕ) → AreMaximalRuns s rs → IsTrue (meets_one rs o n) ↔ Meets s o n
+meets_is s rs o n known =
+    (met s rs o n known.maximal, λ m. meeting rs o n m.0 (known.complete m.0 m.3) m.1 m.2)
+
+pub below_nothing : (s : Positions) (n : ℕ) → s ≡ nothing → IsBelow s n
+below_nothing s n empty p is =
+    absurd (both_ways (contains nothing p) (contains-nothing p) (subst (λ (t : Positions). IsTrue (contains t p)) empty is))
+
+-- the number of the run that has a position
+run_of : (rs : List (ℕ × ℕ)) (p : ℕ) → count_by (lies_in p) rs ≡ 1 → (k : ℕ) × (k < length rs) × (lies_in p (get_or rs k (0, 0)) ≡ true)
+run_of [] p h = absurd (omega (arith, h))
+run_of (r ∷ rs) p h = elim (cases_Bool (lies_in p r)) [
+  | inl is ↦ (0, omega arith, is)
+  | inr not_here ↦ let others : count_by (lies_in p) rs ≡ 1 = grind (arith, h, not_here) in let w = run_of rs p others in (suc w.0, omega (arith, w.1), w.2)
+]
+
+-- no position is from the end of the last run on, which has the one before its end; without a run there is none
+module _ (s : Positions) (rs : List (ℕ × ℕ)) (known : AreMaximalRuns s rs) where
+  pub some_last : (r : ℕ × ℕ) (n : ℕ) → slice_get rs (length rs - 1) ≡ Some r → IsTrue (nat_le r.1 n) ↔ IsBelow s n
+  some_last r n is =
+      let within = slice_get_within rs (length rs - 1) r is in
+      let last : get_or rs (length rs - 1) (0, 0) ≡ r = get_or_from_slice_get rs (length rs - 1) r (0, 0) is in
+      let run : IsMaximalRun s r = subst (IsMaximalRun s) last (known.maximal (length rs - 1) (0, 0) within) in
+      let some = run.some in (
+        λ le p in_s.
+            let w = run_of rs p (known.complete p in_s) in
+            let high : r.1 ≤ n = grind (arith, nat_tests) in
+            let below : p < (get_or rs w.0 (0, 0)).1 = grind (arith, nat_tests, w.2) in
+            ⊎_elim
+            (λ (before : w.0 < length rs - 1).
+            let apart = subst (λ (q : ℕ × ℕ). (get_or rs w.0 (0, 0)).1 < q.0) last (known.rising w.0 (length rs - 1) (0, 0) before within) in
+            omega (arith, apart, below, some, high))
+            (λ (at : length rs - 1 ≤ w.0).
+            let same : w.0 ≡ length rs - 1 = omega (arith, at, w.1) in
+            let here = subst (λ (k : ℕ). p < (get_or rs k (0, 0)).1) same below in
+            let there = subst (λ (q : ℕ × ℕ). p < q.1) last here in
+            omega (arith, there, high))
+            (cases_lt w.0 (length rs - 1)),
+        λ below.
+            let top = below (r.1 - 1) (run.inside (r.1 - 1) (omega (arith, some)) (omega (arith, some))) in
+            let high : r.1 ≤ n = omega (arith, top, some) in grind (arith, nat_tests),
+      )
+
+  pub no_last : (n : ℕ) → None ≡ slice_get rs (length rs - 1) → IsBelow s n
+  no_last n is p in_s =
+      let w = run_of rs p (known.complete p in_s) in
+      absurd (grind (arith, is, slice_get-get_or rs (length rs - 1) (0, 0) (omega (arith, w.1))))
+
+-- ---- whether a fragment differs from bytes, by runs of positions
+-- where two lists of one length differ
+differ_at : (xs ys : List ℕ) → length xs ≡ length ys → bytes_eq xs ys ≡ false → (k : ℕ) × (k < length xs) × (get_or xs k 0 ≢ get_or ys k 0)
+differ_at [] [] size h = absurd (cc)
+differ_at [] (y ∷ ys) size h = absurd (omega (arith, size))
+differ_at (x ∷ xs) [] size h = absurd (omega (arith, size))
+differ_at (x ∷ xs) (y ∷ ys) size h = elim (cases_Bool (nat_eq x y)) [
+  | inl same ↦
+      let w = differ_at xs ys (omega (arith, size)) (grind (arith, h, same)) in
+      (suc w.0, omega (arith, w.1), w.2)
+  | inr other ↦ (0, omega arith, λ (e : x ≡ y). grind (arith, nat_tests, other, e))
+]
+
+-- the bytes of a run from start to end and those of a fragment that are there, as slices
+module _ (bytes data' : List ℕ) (o start end first last from : ℕ) (a : first ≡ start - o) (b : last ≡ min (end - o) (length data'))
+    (c : from ≡ max start o) (within : end ≤ length bytes) (some : first < last) where
+  abbrev there : List ℕ
+  there = take (o + last - from) (drop from bytes)
+
+  abbrev new : List ℕ
+  new = take (last - first) (drop first data')
+
+  size : length there ≡ last - first
+  size = length-take (o + last - from) (drop from bytes) ∙ omega (arith, length-drop from bytes, a, b, c, within, some)
+
+  new_size : length new ≡ last - first
+  new_size = length-take (last - first) (drop first data') ∙ omega (arith, length-drop first data', a, b, some)
+
+  byte_there : (k : ℕ) → k < last - first → get_or there k 0 ≡ get_or bytes (from + k) 0
+  byte_there k l = get_or-take (o + last - from) (drop from bytes) k 0 (omega (arith, l, a, b, c, some)) ∙ get_or-drop from bytes k 0
+
+  byte_new : (k : ℕ) → k < last - first → get_or new k 0 ≡ get_or data' (first + k) 0
+  byte_new k l = get_or-take (last - first) (drop first data') k 0 l ∙ get_or-drop first data' k 0
+
+  pub slices_differ : (r : Bool) → r ≡ not (bytes_eq there new) →
+      IsTrue r ↔ ((p : ℕ) × (start ≤ p) × (p < end) × HasOther bytes o data' p)
+  slices_differ r is = (
+    λ yes.
+        let w = differ_at there new (size ∙ sym new_size) (grind (arith, is, yes)) in
+        let l : w.0 < last - first = omega (arith, w.1, size) in
+        let at : from + w.0 - o ≡ first + w.0 = omega (arith, a, c) in (
+          from + w.0,
+          omega (arith, c),
+          omega (arith, a, b, c, l, some),
+          record {
+            from = omega (arith, c);
+            before = omega (arith, a, b, c, l, some);
+            other = λ e. w.2 (byte_there w.0 l ∙ e ∙ ap (λ (n : ℕ). get_or data' n 0) at ∙ sym (byte_new w.0 l));
+          },
+        ),
+    λ w.
+        let p = w.0 in
+        let h = w.3 in
+        let k = p - from in
+        let l : k < last - first = omega (arith, w.1, w.2, h.from, h.before, a, b, c, some) in
+        let at : from + k ≡ p = omega (arith, w.1, h.from, c) in
+        let new_at : first + k ≡ p - o = omega (arith, w.1, h.from, a, c) in
+        elim (cases_Bool (bytes_eq there new)) [
+          | inl same ↦
+              let e = (bytes_eq-Decides there new).0 same in
+              absurd (h.other (ap (λ (n : ℕ). get_or bytes n 0) (sym at) ∙ sym (byte_there k l) ∙ ap (λ (xs : List ℕ). get_or xs k 0) e
+              ∙ byte_new k l ∙ ap (λ (n : ℕ). get_or data' n 0) new_at))
+          | inr other ↦ is ∙ ap not other
+        ],
+  )
+
+-- no position of the first of some runs is one at which the fragment differs
+pub run_passed : (s : Positions) (D : ℕ → Type 0) (r : ℕ × ℕ) (rs : List (ℕ × ℕ)) → All (IsMaximalRun s) (r ∷ rs) →
+    ((p : ℕ) → IsTrue (contains s p) → D p → count_by (lies_in p) (r ∷ rs) ≡ 1) → ((p : ℕ) → r.0 ≤ p → p < r.1 → D p → ⊥) →
+    All (IsMaximalRun s) rs × ((p : ℕ) → IsTrue (contains s p) → D p → count_by (lies_in p) rs ≡ 1)
+run_passed s D r rs all once passed = (
+  All-tail (IsMaximalRun s) r rs all,
+  λ p in_s d. elim (cases_Bool (lies_in p r)) [
+    | inl is ↦ absurd (passed p (grind (arith, nat_tests, is)) (grind (arith, nat_tests, is)) d)
+    | inr not_here ↦ let one = once p in_s d in grind (arith, one, not_here)
+  ],
+)
+
+-- ---- many fragments
 pick_inside : (i p n a b c : ℕ) → (i ≤ p → p < i + n → a ≡ b) → (if nat_le i p && nat_lt p (i + n) then a else c) ≡
     (if nat_le i p && nat_lt p (i + n) then b else c)
 pick_inside i p n a b c f = grind (arith, nat_tests)
@@ -22,7 +193,8 @@ LengthStays = (xs ws : List ℕ) (i : ℕ) → length (overwrite xs i ws) ≡ le
 abbrev ElementsAre : Type 0
 ElementsAre = (xs ws : List ℕ) (i k x : ℕ) → OverwritesAt xs i ws k x
 
-pub byte_after : LengthStays → ElementsAre → LastFragmentStands
+pub byte_after : LengthStays → ElementsAre → (b : FragmentsState) (fs : List (ℕ × List ℕ)) (p d : ℕ) → p < length b.bytes →
+    get_or (after_fragments b fs).bytes p d ≡ last_byte p (get_or b.bytes p d) fs
 byte_after long at b [] p d h = refl
 byte_after long at b (f ∷ fs) p d h =
     let was : ℕ = get_or b.bytes p d in
@@ -47,6 +219,8 @@ independent members b (f ∷ fs) p d e none some = elim (cases_Bool (covers p f)
       rw is (independent members (with_fragment b f.0 f.1) fs p d e missing some)
 ]
 
-pub present_byte : LengthStays → ElementsAre → MembersOfNothing → MembersWithRange → OldBytesAreGone
+pub present_byte : LengthStays → ElementsAre → MembersOfNothing → MembersWithRange → (b : FragmentsState) (fs : List (ℕ × List ℕ)) (p d : ℕ) →
+    b.present ≡ nothing → p < length b.bytes → IsTrue (contains (after_fragments b fs).present p) →
+    get_or (after_fragments b fs).bytes p 0 ≡ last_byte p d fs
 present_byte long at empty members b fs p d new h some =
     byte_after long at b fs p 0 h ∙ independent members b fs p (get_or b.bytes p 0) d (rw new (empty p)) some

@@ -1,4 +1,4 @@
--- A packet that arrives in fragments.
+-- A packet that arrives in fragments, and a table of such packets.
 --     FragmentsState, state_code      the state of a buffer, and its code
 --     limit_of b      where its fragments must end
 --     with_fragment b offset data', IsComplete b n      a fragment arrived, and all bytes have
@@ -10,13 +10,35 @@
 --     Meets s o n      a set has one of the n positions from o on
 --     HasOther bytes offset data' p, Differs b offset data'      a fragment has another byte at p than some bytes; than
 --         one that arrived
+--     total_of h      the packet's size, once it is known
+--     fragments_of h bytes runs      the buffer that the parts are
+--     IsPlausible c n h, HasSoundParts h bytes runs      what is true of the parts of a buffer of c bytes and n runs
+--     IsExact h      that a head has no number but those that say something
+--     zero_fragments e      the head whose numbers but `expires_at` are 0
+--     meets_one rs o n      whether one of some runs has one of the n positions from o on
+--     after_fragments b fs      the buffer after fragments
+--     last_byte p d fs      the byte at a position: that of the last fragment there
+--     is_for eq key own      whether a slot with this key is for the packet of `key`
+--     IsSlotFor eq own expires key xs at      where the slot for the packet of `key` is
+--     key_for, buffer_for      its key and its buffer, begun for that packet if it wasn't
+--     Accepts      what a slot's call of `accept` returns, and leaves
+--     ExpiresFirst expires xs at      where the first of those is that expire earliest
+--     is_in_writes p writes, newest_element writes p x      what the writes have at a position
+--     Reassembles writes buffer present      a buffer and a set of positions are what the writes make
 use Rattle.std.specs.Prelude.{◌≡◌, ◌≢◌, ◌+◌, ◌-◌, ◌<◌, ◌≤◌, ℕ, ℤ, List, Option, length, slice_index_or, unwrap_or}
-use Rattle.std.specs.Prelude.{◌⊎◌, IsTrue, IsFalse, Bool, if◌then◌else◌, refl}
+use Rattle.std.specs.Prelude.{◌⊎◌, IsTrue, IsFalse, Bool, if◌then◌else◌, refl, ◌&&◌, ◌||◌, false, [], ◌∷◌, nat_eq}
+use Rattle.std.specs.Prelude.{nat_lt, nat_le, ◌↔◌, ◌<ℤ◌, ◌≤ℤ◌, is_none, Result, Err, OnOk}
 use Rattle.std.specs.Coded.{Coded, code_by, coded×, coded_ℕ, coded_ℤ, coded_list, coded_option}
-use Rattle.std.specs.FinSet as set
 use Rattle.std.specs.declared.option.Option.TheVariants.{Some, None}
 use Rattle.net_ring.specs.Overwrite.{overwrite}
-use Rattle.net_assembler.specs.Positions.{Positions, contains, nothing, with_range}
+use Rattle.net_assembler.specs.Positions.{Positions, contains, nothing, with_range, lies_in}
+use Rattle.net_assembler.specs.RunLists.{set_of, HasSoundRuns, IsCanonical, zero_head}
+use Rattle.net_base.specs.declared.storage.fragments.head.FragmentsHead.{FragmentsHead}
+use Rattle.std.specs.List.{position, list_any}
+use Rattle.net_assembler.specs.Assembler.{MakesTooManyRuns}
+use Rattle.net_base.specs.declared.storage.fragments.table.AcceptError.{AcceptError}
+use Rattle.std.specs.FinSet as set
+use Rattle.net_base.specs.declared.storage.fragments.table.AcceptError.TheVariants as accept
 
 -- the bytes of the buffer, the positions that arrived, how many bytes the packet has, once that is
 -- known, and the last moment at which it is waited for
@@ -89,3 +111,120 @@ pub record HasOther (bytes : List ℕ) (offset : ℕ) (data' : List ℕ) (p : �
 -- a fragment has another byte than one that arrived
 abbrev pub Differs : FragmentsState → ℕ → List ℕ → Type 0
 Differs b offset data' = (p : ℕ) × IsTrue (contains b.present p) × HasOther b.bytes offset data' p
+
+-- ---- a buffer in parts: a head, and bytes and runs that are kept elsewhere
+-- the packet's size, once it is known
+abbrev pub total_of : FragmentsHead → Option ℕ
+total_of h = if nat_eq h.has_total 0 then None else Some h.total
+
+abbrev pub fragments_of : FragmentsHead → List ℕ → List (ℕ × ℕ) → FragmentsState
+fragments_of h bytes runs = record {
+  bytes = bytes;
+  present = set_of h.present runs;
+  total = total_of h;
+  expires_at = h.expires_at;
+}
+
+-- there are as many runs as are used, and a known size is at most that of the buffer
+abbrev pub IsPlausible : ℕ → ℕ → FragmentsHead → Type 0
+IsPlausible c n h = (h.present.used ≤ n) × ((h.has_total ≡ 0) ⊎ (h.total ≤ c))
+
+-- the runs are sound, and end at the limit or below, which is within the bytes
+abbrev pub HasSoundParts : FragmentsHead → List ℕ → List (ℕ × ℕ) → Type 0
+HasSoundParts h bytes runs = let b = fragments_of h bytes runs in
+    HasSoundRuns h.present runs × (limit_of b ≤ length bytes) × IsBelow b.present (limit_of b)
+
+-- where no run is used, both numbers of `present` are 0; `has_total` is 0 or 1, and `total` is 0 where
+-- it is 0: two exact heads of one buffer that have the same runs are equal
+pub record IsExact (h : FragmentsHead) : Type 0 where
+  pub present : IsCanonical h.present
+  pub flag : h.has_total ≤ 1
+  pub no_total : h.has_total ≡ 0 → h.total ≡ 0
+
+-- the head whose numbers are 0, but for the last moment at which a packet is waited for
+abbrev pub zero_fragments : ℤ → FragmentsHead
+zero_fragments at = record { present = zero_head; has_total = 0; total = 0; expires_at = at }
+
+-- whether one of the runs (start, end) has one of the n positions from o on
+abbrev pub meets_one : List (ℕ × ℕ) → ℕ → ℕ → Bool
+meets_one [] o n = false
+meets_one (r ∷ rs) o n = (nat_lt (r.0 - o) n && nat_lt o r.1) || meets_one rs o n
+
+-- ---- many fragments
+-- the buffer after fragments (offset, bytes), the first one first
+abbrev pub after_fragments : FragmentsState → List (ℕ × List ℕ) → FragmentsState
+after_fragments b [] = b
+after_fragments b (f ∷ fs) = after_fragments (with_fragment b f.0 f.1) fs
+
+-- whether the fragment has a byte at the position
+abbrev pub covers : ℕ → ℕ × List ℕ → Bool
+covers p f = nat_le f.0 p && nat_lt p (f.0 + length f.1)
+
+-- the byte at a position: that of the last fragment that has one there, and d if none has
+abbrev pub last_byte : ℕ → ℕ → List (ℕ × List ℕ) → ℕ
+last_byte p d [] = d
+last_byte p d (f ∷ fs) = last_byte p (if covers p f then slice_index_or f.1 (p - f.0) d else d) fs
+
+-- ---- a table of buffers, each for the packet of a key
+-- whether the slot whose key is `own` is for the packet of `key`, by `==`
+abbrev pub is_for : {K : Type 0} → (K → K → Bool) → K → Option K → Bool
+is_for eq key None = false
+is_for eq key (Some own) = eq own key
+
+-- none expires earlier than the one at an index, and each one before it later
+pub record ExpiresFirst {X : Type 0} (expires : X → ℤ) (xs : List X) (at : ℕ) : Type 0 where
+  pub within : at < length xs
+  pub earliest : (k : ℕ) (d : X) → k < length xs → expires (slice_index_or xs at d) ≤ℤ expires (slice_index_or xs k d)
+  pub first : (k : ℕ) (d : X) → k < at → expires (slice_index_or xs at d) <ℤ expires (slice_index_or xs k d)
+
+-- the first that is for it, or else the first free one, or else the first of those that expire earliest
+abbrev pub IsSlotFor : {K X : Type 0} → (K → K → Bool) → (X → Option K) → (X → ℤ) → K → List X → ℕ → Type 0
+IsSlotFor eq own expires key xs at =
+    (position (λ x. is_for eq key (own x)) xs ≡ Some at)
+    ⊎ ((position (λ x. is_for eq key (own x)) xs ≡ None) × ((position (λ x. is_none (own x)) xs ≡ Some at)
+    ⊎ ((position (λ x. is_none (own x)) xs ≡ None) × ExpiresFirst expires xs at)))
+
+abbrev pub key_for : {K : Type 0} → (K → K → Bool) → K → Option K → Option K
+key_for eq key own = if is_for eq key own then own else Some key
+
+abbrev pub buffer_for : {K : Type 0} → (K → K → Bool) → K → ℤ → Option K → FragmentsState → FragmentsState
+buffer_for eq key e own b = if is_for eq key own then b else begun b e
+
+-- b is the buffer as it is for the packet: the fragment is kept, or it is refused for one reason
+pub record Accepts {T : Type 0} (most_runs : ℕ) (b : FragmentsState) (offset : ℕ) (data' : List ℕ) (last : Bool)
+    (r : Result T AcceptError) (u : FragmentsState) : Type 0 where
+  pub ok : OnOk r (u ≡ with_piece b offset data' last)
+  pub other_bytes : (r ≡ Err accept.OtherBytes) ↔ Differs b offset data'
+  pub too_long : (r ≡ Err accept.TooLong) ↔
+      ((Differs b offset data' → ⊥) × (length b.bytes < offset + length data'))
+  pub other_size : (r ≡ Err accept.OtherSize) ↔
+      ((Differs b offset data' → ⊥) × (offset + length data' ≤ length b.bytes) × HasOtherEnd b (offset + length data') last)
+  pub too_many : (r ≡ Err accept.TooManyHoles) ↔
+      ((Differs b offset data' → ⊥) × (offset + length data' ≤ length b.bytes)
+      × (HasOtherEnd b (offset + length data') last → ⊥) × MakesTooManyRuns most_runs b.present offset (length data'))
+
+-- ---- a buffer over which lists are written at offsets, and the set of the positions that were written
+module _ {X : Type 0} where
+  -- whether a write, an offset and a list, has an element at the position p
+  abbrev pub is_in_write : ℕ → ℕ × List X → Bool
+  is_in_write p write = lies_in p (write.0, write.0 + length write.1)
+
+  -- whether one of the writes has an element there
+  abbrev pub is_in_writes : ℕ → List (ℕ × List X) → Bool
+  is_in_writes p writes = list_any (is_in_write p) writes
+
+  -- the element of the newest write that has one at p, the newest being the first; x if no write
+  -- has one
+  abbrev pub newest_element : List (ℕ × List X) → ℕ → X → X
+  newest_element [] p x = x
+  newest_element (write ∷ writes) p x =
+      if is_in_write p write then slice_index_or write.1 (p - write.0) x else newest_element writes p x
+
+  -- the set has the positions of the writes, these are positions of the buffer, and there it has
+  -- the newest write's element
+  pub record Reassembles (writes : List (ℕ × List X)) (buffer : List X) (present : Positions) :
+      Type 0 where
+    pub positions : (p : ℕ) → contains present p ≡ is_in_writes p writes
+    pub within : (p : ℕ) → IsTrue (is_in_writes p writes) → p < length buffer
+    pub elements : (p : ℕ) (x : X) → IsTrue (is_in_writes p writes) →
+        slice_index_or buffer p x ≡ newest_element writes p x

@@ -1,9 +1,8 @@
 //! Network devices: their frames, tokens and capabilities, and a device that receives what it
 //! sends.
 ghost use Rattle.std.specs.Prelude.{◌≡◌, ◌↔◌, IsTrue};
-ghost use Rattle.net_base.specs.Checksum.{is_verified, is_computed, no_checksums};
-ghost use Rattle.net_base.specs.DeviceCapabilities.{HasIpMtu, ip_mtu_of};
-ghost use Rattle.net_base.specs.DeviceCapabilities.{FitsIpHeader, fragment_size_of};
+ghost use Rattle.net_base.specs.Phy.{is_verified, is_computed, no_checksums, HasIpMtu, ip_mtu_of, FitsIpHeader};
+ghost use Rattle.net_base.specs.Phy.{fragment_size_of};
 
 mod device;
 mod echo;

@@ -1,11 +1,9 @@
 //! A device whose frames are in two rings of descriptors.
-ghost use Rattle.std.specs.Prelude.{◌≡◌, ◌≢◌, ◌≤◌, ◌<◌, ◌++◌, ◌∷◌, [], ◌⊎◌, ℕ, List, length};
-ghost use Rattle.std.specs.Prelude.{IsTrue, IsFalse, IsOk, Ok, true, false};
+ghost use Rattle.std.specs.Prelude.{◌≡◌, ◌≢◌, ◌≤◌, ◌<◌, ◌++◌, ◌∷◌, [], ◌⊎◌, ℕ, List, length, IsTrue, IsFalse, IsOk};
+ghost use Rattle.std.specs.Prelude.{Ok, true, false, Some, MatchOption};
 ghost use Rattle.net_ring.specs.Ring.{queue, spare, window, capacity};
-ghost use Rattle.net_base.specs.Checksum.{no_checksums};
-ghost use Rattle.net_base.specs.DeviceCapabilities.{no_segmentation};
+ghost use Rattle.net_base.specs.Phy.{no_checksums, no_segmentation};
 ghost use Rattle.net_examples.specs.Descriptors.{frames, frame_of};
-ghost use Rattle.std.specs.Prelude.{Some, MatchOption};
 ghost use Rattle.net_base.specs.declared.phy.Medium.TheVariants.{Ethernet};
 
 use crate::descriptor::{Descriptor, FRAME_SIZE};

@@ -1,7 +1,6 @@
 //! A timer that waits longer each time, and the first of several timers.
 ghost use Rattle.std.specs.Prelude.{◌≡◌, ◌↔◌, ◌*◌, ◌-◌, ◌^◌, ◌+ℤ◌, ◌≤ℤ◌, pos, min, IsTrue, Some};
-ghost use Rattle.net_base.specs.Earliest.{IsEarliest, earliest_of};
-ghost use Rattle.net_base.specs.Time.{IsMoment};
+ghost use Rattle.net_base.specs.Time.{IsEarliest, earliest_of, IsMoment};
 ghost use Rattle.net_examples.specs.declared.timer.Timer.{Timer};
 
 use net_base::time::{Duration, Instant, earlier, laws};

@@ -4,7 +4,7 @@
 --     with_expiry f e, with_timed f s      C's timer with another expiry, or another timed segment
 use Rattle.std.specs.Prelude.{ℕ, ℤ, pos, Option, Some, None, is_some, if◌then◌else◌, nat_eq, unwrap_or}
 use Rattle.net_tcp.specs.Estimate.{Estimate}
-use Rattle.net_tcp.specs.RetransmissionTimeout.{within}
+use Rattle.net_tcp.specs.Retransmission.{within}
 use Rattle.net_tcp.specs.declared.retransmission.TimeoutBounds.{TimeoutBounds as Bounds}
 use Rattle.net_tcp.specs.declared.retransmission.RetransmissionTimeout.{RetransmissionTimeout as Timeout}
 use Rattle.net_tcp.specs.declared.retransmission_timer.RetransmissionTimer.{RetransmissionTimer as Timer}

@@ -1,8 +1,7 @@
 //! What is tested of a buffer of fragments, and whether a packet is complete.
 ghost use Rattle.std.specs.Prelude.{◌≡◌, ◌↔◌, ◌≤◌, ℕ, List, length, IsTrue, IsFalse};
 ghost use Rattle.net_assembler.specs.RunLists.{HasSoundRuns};
-ghost use Rattle.net_base.specs.Fragments.{IsComplete};
-ghost use Rattle.net_base.specs.FragmentParts.{IsPlausible, fragments_of};
+ghost use Rattle.net_base.specs.Fragments.{IsComplete, IsPlausible, fragments_of};
 
 use net_assembler::Run;
 use net_base::storage::FragmentsHead;

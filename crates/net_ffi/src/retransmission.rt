@@ -4,11 +4,10 @@
 //! A timer of zeros is new: there was no sample, the timer doesn't run, no segment is timed, and the timeout is 1 second,
 //! which the RFC begins with. A call writes the fields that it changes: 0 where there is nothing, and 0 or 1 in a flag.
 ghost use Rattle.std.specs.Prelude.{◌≡◌, ◌&&◌, ◌≤◌, pos, unwrap_or, is_some, is_none, IsTrue, IsFalse, if◌then◌else◌};
-ghost use Rattle.net_tcp.specs.RetransmissionTimer.{new_timer, started, stopped, after_sending, with_sample};
-ghost use Rattle.net_tcp.specs.RetransmissionTimer.{after_acknowledged, has_expired, after_expiry};
-ghost use Rattle.net_ffi.specs.Retransmission.{rtt_of, bounds_of, timeout_of, timer_of};
-ghost use Rattle.net_ffi.specs.Retransmission.{timeout_fields, timer_fields, pos_of, since_of};
-ghost use Rattle.net_ffi.specs.Retransmission.{with_expiry, with_timed};
+ghost use Rattle.net_tcp.specs.Retransmission.{new_timer, started, stopped, after_sending, with_sample};
+ghost use Rattle.net_tcp.specs.Retransmission.{after_acknowledged, has_expired, after_expiry};
+ghost use Rattle.net_ffi.specs.Retransmission.{rtt_of, bounds_of, timeout_of, timer_of, timeout_fields, timer_fields};
+ghost use Rattle.net_ffi.specs.Retransmission.{pos_of, since_of, with_expiry, with_timed};
 
 use net_base::time::{Duration, Instant};
 use net_numbers::SentNumbers;

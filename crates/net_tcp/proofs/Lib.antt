@@ -1,5 +1,3 @@
 pub mod WordSums
-pub mod Scales
-pub mod Timeouts
+pub mod WindowFacts
 pub mod Timers
-pub mod Windows

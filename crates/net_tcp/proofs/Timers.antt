@@ -1,13 +1,80 @@
--- Why a timed position was sent once, and why and until when the timer runs.
-use Rattle.std.proofs.Common.{◌≡◌, ℕ, ◌≤◌, List, [], ◌∷◌, refl, rules, inr}
+-- Equal samples settle an estimate, and a timeout that passes again and again doubles up to the most; why a timed
+-- position was sent once, and why and until when the timer runs.
+use Rattle.std.proofs.Common.{◌≡◌, ℕ, zero, suc, ◌+◌, ◌-◌, ◌*◌, ◌/◌, ◌^◌, ◌≤◌, min, inl, inr, refl, sym, ap, ◌∙◌}
+use Rattle.std.proofs.Common.{subst, arith, rules, suc-add, zero-add, List, [], ◌∷◌}
+use Rattle.std.specs.Prelude.{◌⊎◌, Some, IsTrue, IsFalse, All}
+use Rattle.std.specs.Fn.{iterate}
+use Rattle.std.proofs.Math.Nat.{pow-suc}
+use Rattle.std.proofs.lemmas.Nat.{pow_pos, mul-le}
+use Rattle.std.proofs.lemmas.Bool.{cases_lt}
 use Rattle.std.proofs.lemmas.List.Elements.{All-head, All-tail}
-use Rattle.std.specs.Prelude.{◌<◌, ◌↔◌, Some, is_some, IsTrue, IsFalse, All}
-use Rattle.net_tcp.specs.declared.retransmission_timer.TimedSegment.{TimedSegment}
+use Rattle.net_tcp.specs.Estimate.{Estimate}
+use Rattle.net_tcp.specs.Retransmission.{next_estimate, doubled, IsSettled, Event, Sends, Acknowledges, Reports}
+use Rattle.net_tcp.specs.Retransmission.{Looks, Starts, Stops, Connection, opened, after_event, after_events}
+use Rattle.net_tcp.specs.Retransmission.{sends_over, runs, IsNoStart, IsNoStop, IsUnacknowledged, IsEnd, IsMove}
 use Rattle.net_tcp.specs.declared.retransmission.TimeoutBounds.{TimeoutBounds}
-use Rattle.net_tcp.specs.RetransmissionTimer.{Event, Sends, Acknowledges, Reports, Looks, Starts, Stops, Connection, opened, after_event, after_events, sends_over}
-use Rattle.net_tcp.specs.RetransmissionTimer.{TimedIsSentOnce, RunsWhileUnacknowledged, RestsUnlessStarted}
-use Rattle.net_tcp.specs.RetransmissionTimer.{RunsToAnEnd, ExpiryMovesBy, IsNoStart, IsNoStop, IsUnacknowledged, runs}
+use Rattle.net_tcp.specs.declared.retransmission_timer.TimedSegment.{TimedSegment}
 
+-- ---- the timeout
+-- two runs in a row
+iterate-add : {A : Type 0} (h : A → A) (n m : ℕ) (x : A) → iterate h (n + m) x ≡ iterate h m (iterate h n x)
+iterate-add h zero m x = rw zero-add
+iterate-add h (suc n) m x = rw suc-add (iterate-add h n m (h x))
+
+-- how far eight times SRTT is from the eight numbers that stand for r
+abbrev off : ℕ → ℕ → ℕ
+off r s = (8 * r - s) + (s - (8 * r + 7))
+
+settle_srtt : (fuel : ℕ) (e : Estimate) (r : ℕ) → off r e.srtt_8 ≤ fuel → (n : ℕ) × ((iterate (λ e. next_estimate e r) n e).srtt_8 / 8 ≡ r)
+settle_srtt zero e r h = (0, omega arith)
+settle_srtt (suc k) e r h = elim (cases_lt 0 (off r e.srtt_8)) [
+  | inl some ↦ let more = settle_srtt k (next_estimate e r) r (omega arith) in (suc more.0, more.1)
+  | inr none ↦ (0, omega arith)
+]
+
+settle_rttvar : (fuel : ℕ) (e : Estimate) (r : ℕ) → e.srtt_8 / 8 ≡ r → e.rttvar_4 ≤ fuel → (n : ℕ) × IsSettled r (iterate (λ e. next_estimate e r) n e)
+settle_rttvar zero e r is h = (0, (is, omega arith))
+settle_rttvar (suc k) e r is h = elim (cases_lt e.rttvar_4 4) [
+  | inl low ↦ (0, (is, low))
+  | inr high ↦ let more = settle_rttvar k (next_estimate e r) r (omega arith) (omega arith) in (suc more.0, more.1)
+]
+
+stays_settled : (m : ℕ) (e : Estimate) (r : ℕ) → IsSettled r e → IsSettled r (iterate (λ e. next_estimate e r) m e)
+stays_settled zero e r is = is
+stays_settled (suc m) e r is = stays_settled m (next_estimate e r) r (omega arith, omega arith)
+
+pub equal_samples_settle : (e : Estimate) (r : ℕ) → (n : ℕ) × ((m : ℕ) → n ≤ m → IsSettled r (iterate (λ e. next_estimate e r) m e))
+equal_samples_settle e r =
+    let f : Estimate → Estimate = λ e. next_estimate e r in
+    let one = settle_srtt (off r e.srtt_8) e r (omega arith) in
+    let two = settle_rttvar (iterate f one.0 e).rttvar_4 (iterate f one.0 e) r one.1 (omega arith) in (
+      one.0 + two.0,
+      λ m h.
+          let rest : (one.0 + two.0) + (m - (one.0 + two.0)) ≡ m = omega arith in
+          subst (λ k. IsSettled r (iterate f k e)) rest
+          (subst (IsSettled r) (sym (iterate-add f (one.0 + two.0) (m - (one.0 + two.0)) e))
+          (stays_settled (m - (one.0 + two.0)) (iterate f (one.0 + two.0) e) r
+          (subst (IsSettled r) (sym (iterate-add f one.0 two.0 e)) two.1))),
+    )
+
+pub doubles_to_the_most : (b : TimeoutBounds) (k t : ℕ) → b.least ≤ t → t ≤ b.most → iterate (doubled b) k t ≡ min b.most (t * 2 ^ k)
+doubles_to_the_most b zero t low high = omega arith
+doubles_to_the_most b (suc k) t low high =
+    let power : 2 ^ suc k ≡ 2 ^ k * 2 = pow-suc 2 k in
+    let whole : t * 2 ^ suc k ≡ t * 2 * 2 ^ k = ap (λ n. t * n) power ∙ omega arith in
+    let is : doubled b t ≡ min b.most (2 * t) = omega arith in
+    let later = doubles_to_the_most b k (doubled b t) (omega arith) (omega arith) in
+    let some = pow_pos k in
+    later ∙ elim (cases_lt (2 * t) b.most) [
+      | inl below ↦ let e : doubled b t ≡ t * 2 = omega arith in ap (λ n. min b.most (n * 2 ^ k)) e ∙ ap (λ n. min b.most n) (sym whole)
+      | inr above ↦ let e : doubled b t ≡ b.most = omega arith in
+          let full : min b.most (doubled b t * 2 ^ k) ≡ min b.most (b.most * 2 ^ k) = ap (λ n. min b.most (n * 2 ^ k)) e in
+          let long = mul-le b.most 1 b.most (2 ^ k) (omega arith) (omega arith) in
+          let longer = mul-le b.most 1 (t * 2) (2 ^ k) (omega arith) (omega arith) in
+          omega (arith, full, whole, long, longer)
+    ]
+
+-- ---- the timer
 -- no range that was sent has a position from c.sent on
 pub record IsKept (c : Connection) : Type 0 where
   pub fresh : (pos : ℕ) → c.sent ≤ pos → sends_over pos c.log ≡ []
@@ -28,7 +95,8 @@ all_stay : (b : TimeoutBounds) (c : Connection) (es : List Event) → IsKept c �
 all_stay b c [] is = is
 all_stay b c (e ∷ es) is = all_stay b (after_event b c e) es (stays b c e is)
 
-pub timed_is_sent_once : TimedIsSentOnce
+pub timed_is_sent_once : (b : TimeoutBounds) (t first : ℕ) (es : List Event) → let c = after_events b (opened t first) es in
+    (s : TimedSegment) → c.timer.timed ≡ Some s → sends_over s.pos c.log ≡ (s.pos, s.since) ∷ []
 timed_is_sent_once b t first es = (all_stay b (opened t first) es (begins t first)).once
 
 -- a timer that isn't stopped runs on
@@ -47,7 +115,7 @@ all_run : (b : TimeoutBounds) (c : Connection) (es : List Event) → All IsNoSto
 all_run b c [] free is = is
 all_run b c (e ∷ es) free is = all_run b (after_event b c e) es (All-tail IsNoStop e es free) (runs_on b c e (All-head IsNoStop e es free) is)
 
-pub runs_while_unacknowledged : RunsWhileUnacknowledged
+pub runs_while_unacknowledged : (b : TimeoutBounds) (t first : ℕ) (es : List Event) → All IsNoStop es → Runs (after_events b (opened t first) es)
 runs_while_unacknowledged b t first es free = all_run b (opened t first) es free (search rules)
 
 -- one that isn't started rests
@@ -66,10 +134,10 @@ all_rest : (b : TimeoutBounds) (c : Connection) (es : List Event) → All IsNoSt
 all_rest b c [] free is = is
 all_rest b c (e ∷ es) free is = all_rest b (after_event b c e) es (All-tail IsNoStart e es free) (rests_on b c e (All-head IsNoStart e es free) is)
 
-pub rests_unless_started : RestsUnlessStarted
+pub rests_unless_started : (b : TimeoutBounds) (t first : ℕ) (es : List Event) → All IsNoStart es → Rests (after_events b (opened t first) es)
 rests_unless_started b t first es free = all_rest b (opened t first) es free (search rules)
 
-pub runs_to_an_end : RunsToAnEnd
+pub runs_to_an_end : (b : TimeoutBounds) (c : Connection) (e : Event) → IsTrue (runs c) → IsFalse (runs (after_event b c e)) → IsEnd c e
 runs_to_an_end b c (Sends pos end now) on free = search rules
 runs_to_an_end b c (Acknowledges next now) on free = search rules
 runs_to_an_end b c (Reports now) on free = search rules
@@ -77,7 +145,8 @@ runs_to_an_end b c (Looks now) on free = search rules
 runs_to_an_end b c (Starts now) on free = search rules
 runs_to_an_end b c Stops on free = tt
 
-pub expiry_moves_by : ExpiryMovesBy
+pub expiry_moves_by : (b : TimeoutBounds) (c : Connection) (e : Event) → IsTrue (runs c) →
+    ((after_event b c e).timer.expires_at ≡ c.timer.expires_at) ⊎ IsMove c e
 expiry_moves_by b c (Sends pos end now) on = search rules
 expiry_moves_by b c (Acknowledges next now) on = search rules
 expiry_moves_by b c (Reports now) on = search rules

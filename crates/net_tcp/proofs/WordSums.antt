@@ -1,14 +1,12 @@
 -- Sums of words, and what folding keeps of them: the number modulo 65535, and whether it is 0.
-use Rattle.std.proofs.Common.{◌≡◌, ℕ, zero, suc, ◌+◌, ◌-◌, ◌*◌, ◌/◌, ◌%◌, ◌^◌, ◌<◌, ◌≤◌, List, [], ◌∷◌, ◌++◌}
-use Rattle.std.proofs.Common.{length, take, drop, refl, sym, ap, ◌∙◌, inl, inr, subst, arith, length-append}
-use Rattle.std.proofs.Common.{append-nil, All, true, false, cond, not, nat_eq}
+use Rattle.std.proofs.Common.{◌≡◌, ℕ, zero, suc, ◌+◌, ◌-◌, ◌*◌, ◌/◌, ◌%◌, ◌^◌, ◌<◌, ◌≤◌, List, [], ◌∷◌, ◌++◌, length}
+use Rattle.std.proofs.Common.{take, drop, refl, sym, ap, ◌∙◌, inl, inr, subst, arith, length-append, append-nil, All}
+use Rattle.std.proofs.Common.{true, false, cond, Bool, not, nat_eq}
 use Rattle.std.specs.Prelude.{◌⊎◌}
 use Rattle.std.specs.Int.{w32, from_be_bytes}
 use Rattle.std.proofs.lemmas.Bool.{cases_lt, cond_both, eqb-true, eqb-false}
 use Rattle.net_tcp.specs.InternetChecksum.{word_sum, folded, internet_checksum, updated, word_bytes, IsEven}
-use Rattle.net_tcp.specs.InternetChecksum.{add_words, carried_sum, IsCarriedSum, GroupsAdd, FoldsAdd}
-use Rattle.net_tcp.specs.InternetChecksum.{ChecksumVerifies, OnlyChecksumVerifies, UpdateIsChecksum}
-use Rattle.net_tcp.specs.InternetChecksum.{UpdateKeepsValid, Sums, sum_with, sum_joined}
+use Rattle.net_tcp.specs.InternetChecksum.{add_words, carried_sum, Sums, sum_with, sum_joined}
 use Rattle.net_tcp.specs.declared.internet_sum.PartsSum.{PartsSum}
 
 -- ---- folding
@@ -40,7 +38,7 @@ none_above : (a b : ℕ) → a + folded b ≡ 0 → (b - 1) / 65535 ≡ 0
 none_above a zero h = refl
 none_above a (suc n) h = absurd (omega arith)
 
-pub folds_add : FoldsAdd
+pub folds_add : (a b : ℕ) → folded (a + folded b) ≡ folded (a + b)
 folds_add a b = sym (folded_same (a + b) (a + folded b) ((b - 1) / 65535) (omega (arith, folded_is b)) (none_above a b))
 
 -- ---- carries
@@ -71,11 +69,11 @@ carried_is a (x ∷ y ∷ xs) h bytes =
     carried_is (add_words a (x * 256 + y)) xs (omega (arith, sum, folded_le (a + (x * 256 + y)))) (λ k d l. bytes (suc (suc k)) d (omega arith))
     ∙ ap (λ s. folded (s + word_sum xs)) sum ∙ folded_first (a + (x * 256 + y)) (word_sum xs) ∙ ap folded e
 
-pub is_carried : IsCarriedSum
+pub is_carried : (xs : List ℕ) → All (λ x. x < 256) xs → carried_sum 0 xs ≡ folded (word_sum xs)
 is_carried xs bytes = let e : 0 + word_sum xs ≡ word_sum xs = omega arith in carried_is 0 xs (omega arith) bytes ∙ ap folded e
 
 -- ---- parts
-pub groups_add : GroupsAdd
+pub groups_add : (xs ys : List ℕ) → IsEven xs → word_sum (xs ++ ys) ≡ word_sum xs + word_sum ys
 groups_add [] ys h = omega arith
 groups_add (a ∷ []) ys h = absurd (omega arith)
 groups_add (a ∷ b ∷ xs) ys h = omega (arith, groups_add xs ys (omega arith))
@@ -153,7 +151,8 @@ sum_kept s c m n hc hm hn some valid =
     folded_alike (s + (65535 - folded t) + n) 65535 1 ((s + c + m - 1) / 65535 + (t - 1) / 65535) (omega arith) (omega arith) (omega (arith, few, is, was, valid))
 
 -- ---- laws
-pub checksum_verifies : ChecksumVerifies
+pub checksum_verifies : (xs ys : List ℕ) → IsEven xs →
+    folded (word_sum (xs ++ word_bytes (internet_checksum (xs ++ word_bytes 0 ++ ys)) ++ ys)) ≡ 65535
 checksum_verifies xs ys h =
     let plain = field_sum xs ys 0 h in
     let s = word_sum xs + word_sum ys in
@@ -162,7 +161,8 @@ checksum_verifies xs ys h =
     ∙ ap (λ n. folded (s + (65535 - folded n))) zero_field
     ∙ sum_valid s
 
-pub only_checksum : OnlyChecksumVerifies
+pub only_checksum : (xs ys : List ℕ) (c : ℕ) → IsEven xs → c ≤ 65535 → folded (word_sum (xs ++ word_bytes c ++ ys)) ≡ 65535 →
+    (c ≡ internet_checksum (xs ++ word_bytes 0 ++ ys)) ⊎ ((c ≡ 65535) × (internet_checksum (xs ++ word_bytes 0 ++ ys) ≡ 0))
 only_checksum xs ys c h few valid =
     let plain = field_sum xs ys 0 h in
     let s = word_sum xs + word_sum ys in
@@ -170,7 +170,8 @@ only_checksum xs ys c h few valid =
     subst (λ n. (c ≡ 65535 - folded n) ⊎ ((c ≡ 65535) × (65535 - folded n ≡ 0))) zero_field
     (sum_only s c few (sym (ap folded (field_sum xs ys c h)) ∙ valid))
 
-pub update_is_checksum : UpdateIsChecksum
+pub update_is_checksum : (xs ys : List ℕ) (m n : ℕ) → IsEven xs → m ≤ 65535 → n ≤ 65535 → 0 < word_sum (xs ++ word_bytes n ++ ys) →
+    updated (internet_checksum (xs ++ word_bytes m ++ ys)) m n ≡ internet_checksum (xs ++ word_bytes n ++ ys)
 update_is_checksum xs ys m n h few less some =
     let s = word_sum xs + word_sum ys in
     let old = field_sum xs ys m h in let new = field_sum xs ys n h in
@@ -183,7 +184,9 @@ fields_sum xs ys zs c m h l =
     let before : IsEven (xs ++ word_bytes c ++ ys) = omega (arith, length-append (xs ++ word_bytes c) ys, length-append xs (word_bytes c)) in
     omega (arith, field_sum (xs ++ word_bytes c ++ ys) zs m before, field_sum xs ys c h)
 
-pub update_keeps_valid : UpdateKeepsValid
+pub update_keeps_valid : (xs ys zs : List ℕ) (c m n : ℕ) → IsEven xs → IsEven ys → c ≤ 65535 → m ≤ 65535 → n ≤ 65535 →
+    0 < word_sum (xs ++ ys ++ word_bytes n ++ zs) → folded (word_sum (xs ++ word_bytes c ++ ys ++ word_bytes m ++ zs)) ≡ 65535 →
+    folded (word_sum (xs ++ word_bytes (updated c m n) ++ ys ++ word_bytes n ++ zs)) ≡ 65535
 update_keeps_valid xs ys zs c m n h l hc hm hn some valid =
     let s = word_sum xs + word_sum ys + word_sum zs in
     let even : IsEven (xs ++ ys) = omega (arith, length-append xs ys) in
@@ -256,8 +259,8 @@ turned_parity a b e = by (a % 2) (b % 2) e
 low_part : (ys : List ℕ) → word_sum (0 ∷ ys) ≡ low_sum ys
 low_part ys = high_then_low 0 ys ∙ omega arith
 
-pub with_sums : (s : PartsSum) (xs ys : List ℕ) → Sums s xs → Sums (sum_with s ys) (xs ++ ys)
-with_sums s xs ys sums =
+with_is : (s : PartsSum) (xs ys : List ℕ) → Sums s xs → Sums (sum_with s ys) (xs ++ ys)
+with_is s xs ys sums =
     cond_both s.odd (0 ∷ ys) ys
     (λ zs. (folded (s.sum + word_sum zs) ≡ folded (word_sum (xs ++ ys))) × (nat_eq (length zs % 2) 1 ≡ nat_eq (length (xs ++ ys) % 2) 1))
     (λ odd. (let at = odd_of s xs sums odd in (
@@ -269,8 +272,12 @@ with_sums s xs ys sums =
       same_parity (length ys) (length (xs ++ ys)) (omega (arith, length-append xs ys, at)),
     )))
 
-pub joined_sums : (s t : PartsSum) (xs ys : List ℕ) → Sums s xs → Sums t ys → Sums (sum_joined s t) (xs ++ ys)
-joined_sums s t xs ys sums after =
+-- the sum r that a call returns
+pub with_sums : (s r : PartsSum) (xs ys : List ℕ) → r ≡ sum_with s ys → Sums s xs → Sums r (xs ++ ys)
+with_sums s r xs ys is sums = subst (λ r. Sums r (xs ++ ys)) (sym is) (with_is s xs ys sums)
+
+joined_is : (s t : PartsSum) (xs ys : List ℕ) → Sums s xs → Sums t ys → Sums (sum_joined s t) (xs ++ ys)
+joined_is s t xs ys sums after =
     cond_both s.odd (record { sum = folded (s.sum + 256 * t.sum); odd = not t.odd }) (record { sum = folded (s.sum + t.sum); odd = t.odd })
     (λ r. Sums r (xs ++ ys))
     (λ odd. (let at = odd_of s xs sums odd in (
@@ -287,11 +294,31 @@ joined_sums s t xs ys sums after =
     folded_both a b e =
         folded_more s.sum (word_sum xs) a (sum_of s xs sums) ∙ sym (folds_add (word_sum xs) a) ∙ ap (λ n. folded (word_sum xs + n)) e ∙ folds_add (word_sum xs) b
 
+pub joined_sums : (s t r : PartsSum) (xs ys : List ℕ) → r ≡ sum_joined s t → Sums s xs → Sums t ys → Sums r (xs ++ ys)
+joined_sums s t r xs ys is sums after = subst (λ r. Sums r (xs ++ ys)) (sym is) (joined_is s t xs ys sums after)
+
 -- a word with its bytes exchanged, in place of 256 times the word
 pub swapped_joins : (s t : ℕ) → folded (s + (t % 256 * 256 + t / 256)) ≡ folded (s + 256 * t)
 swapped_joins s t =
     let w = t % 256 * 256 + t / 256 in
     sym (folds_add s w) ∙ ap (λ n. folded (s + n)) (swap_is t) ∙ folds_add s (256 * t)
+
+-- a word as a part
+word_is : (w : ℕ) → word_sum (word_bytes w) ≡ w
+word_is w = omega arith
+
+pub word_sums : (w : ℕ) → w ≤ 65535 → Sums (record { sum = w; odd = false }) (word_bytes w)
+word_sums w h = (sym (ap folded (word_is w) ∙ folded_small w h), refl)
+
+pub word_joins : (s w : ℕ) (odd : Bool) → sum_joined (record { sum = s; odd = odd }) (record { sum = w; odd = false }) ≡
+    sum_with (record { sum = s; odd = odd }) (word_bytes w)
+word_joins s w true =
+    let e : s + (w % 256 * 256 + w / 256) ≡ s + word_sum (0 ∷ word_bytes w) = omega arith in
+    let sum : folded (s + 256 * w) ≡ folded (s + word_sum (0 ∷ word_bytes w)) = sym (swapped_joins s w) ∙ ap folded e in
+    λ i. record { sum = sum i; odd = true }
+word_joins s w false =
+    let sum : folded (s + w) ≡ folded (s + word_sum (word_bytes w)) = ap (λ n. folded (s + n)) (sym (word_is w)) in
+    λ i. record { sum = sum i; odd = false }
 
 -- a part whose first byte is a low one
 pub low_first : (s r : PartsSum) (part words : List ℕ) (low : ℕ) → s.odd ≡ true → part ≡ low ∷ words →

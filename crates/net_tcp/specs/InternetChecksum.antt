@@ -6,8 +6,8 @@
 --     is_odd xs      an odd number of bytes
 --     sum_with s xs, sum_joined s t      the running sum s after bytes xs, or after those of which t is the sum
 --     Sums s xs      the running sum s is that of the bytes xs
-use Rattle.std.specs.Prelude.{◌≡◌, ℕ, zero, suc, ◌+◌, ◌-◌, ◌*◌, ◌/◌, ◌%◌, ◌^◌, ◌<◌, ◌≤◌, ◌⊎◌}
-use Rattle.std.specs.Prelude.{List, [], ◌∷◌, ◌++◌, length, All, Bool, not, nat_eq, if◌then◌else◌}
+use Rattle.std.specs.Prelude.{◌≡◌, ℕ, zero, suc, ◌+◌, ◌-◌, ◌*◌, ◌/◌, ◌%◌, ◌^◌, List, [], ◌∷◌, length, Bool, not}
+use Rattle.std.specs.Prelude.{nat_eq, if◌then◌else◌}
 use Rattle.net_tcp.specs.declared.internet_sum.PartsSum.{PartsSum}
 
 -- the sum of the words of these bytes, the high byte first; a last odd byte is a high byte
@@ -69,41 +69,3 @@ abbrev pub carried_sum : ℕ → List ℕ → ℕ
 carried_sum a [] = a
 carried_sum a (x ∷ []) = add_words a (x * 256)
 carried_sum a (x ∷ y ∷ xs) = carried_sum (add_words a (x * 256 + y)) xs
-
--- ---- laws
--- the folded sum is that of RFC 1071
-abbrev pub IsCarriedSum : Type 0
-IsCarriedSum = (xs : List ℕ) → All (λ x. x < 256) xs → carried_sum 0 xs ≡ folded (word_sum xs)
-
--- the sum doesn't depend on where it is cut, at even offsets
-abbrev pub GroupsAdd : Type 0
-GroupsAdd = (xs ys : List ℕ) → IsEven xs → word_sum (xs ++ ys) ≡ word_sum xs + word_sum ys
-
--- nor on where sums are folded
-abbrev pub FoldsAdd : Type 0
-FoldsAdd = (a b : ℕ) → folded (a + folded b) ≡ folded (a + b)
-
--- a message whose field at an even offset is its checksum, computed with a zero field, is valid
-abbrev pub ChecksumVerifies : Type 0
-ChecksumVerifies = (xs ys : List ℕ) → IsEven xs →
-    folded (word_sum (xs ++ word_bytes (internet_checksum (xs ++ word_bytes 0 ++ ys)) ++ ys)) ≡ 65535
-
--- and no other field is valid there, except perhaps 65535 where the checksum is 0
-abbrev pub OnlyChecksumVerifies : Type 0
-OnlyChecksumVerifies = (xs ys : List ℕ) (c : ℕ) → IsEven xs → c ≤ 65535 →
-    folded (word_sum (xs ++ word_bytes c ++ ys)) ≡ 65535 →
-    (c ≡ internet_checksum (xs ++ word_bytes 0 ++ ys))
-    ⊎ ((c ≡ 65535) × (internet_checksum (xs ++ word_bytes 0 ++ ys) ≡ 0))
-
--- the update is the checksum of the message with the new word, unless that is all zeros
-abbrev pub UpdateIsChecksum : Type 0
-UpdateIsChecksum = (xs ys : List ℕ) (m n : ℕ) → IsEven xs → m ≤ 65535 → n ≤ 65535 →
-    0 < word_sum (xs ++ word_bytes n ++ ys) →
-    updated (internet_checksum (xs ++ word_bytes m ++ ys)) m n ≡ internet_checksum (xs ++ word_bytes n ++ ys)
-
--- a message that is valid stays so after an update, unless it is all zeros then
-abbrev pub UpdateKeepsValid : Type 0
-UpdateKeepsValid = (xs ys zs : List ℕ) (c m n : ℕ) → IsEven xs → IsEven ys → c ≤ 65535 → m ≤ 65535 →
-    n ≤ 65535 → 0 < word_sum (xs ++ ys ++ word_bytes n ++ zs) →
-    folded (word_sum (xs ++ word_bytes c ++ ys ++ word_bytes m ++ zs)) ≡ 65535 →
-    folded (word_sum (xs ++ word_bytes (updated c m n) ++ ys ++ word_bytes n ++ zs)) ≡ 65535

@@ -1,8 +1,4 @@
 pub mod InternetChecksum
-pub mod Acceptability
-pub mod AdvertisedWindow
-pub mod PeerWindow
+pub mod Windows
 pub mod Estimate
-pub mod RetransmissionTimeout
-pub mod RetransmissionTimer
-pub mod Agreement
+pub mod Retransmission

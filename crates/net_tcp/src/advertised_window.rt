@@ -1,8 +1,6 @@
 //! The window that a receiver announces.
 ghost use Rattle.std.specs.Prelude.{◌≡◌, ◌↔◌, ℕ, ◌+◌, ◌-◌, ◌*◌, ◌^◌, ◌<◌, ◌≤◌, ◌⊎◌, IsTrue, IsFalse, min, max};
-ghost use Rattle.net_tcp.specs.Acceptability.{IsArrival};
-ghost use Rattle.net_tcp.specs.AdvertisedWindow.{shift_count, field_for, announced, IsScaleFor};
-ghost use Rattle.net_tcp.specs.AdvertisedWindow.{worth, gain};
+ghost use Rattle.net_tcp.specs.Windows.{shift_count, field_for, announced, IsScaleFor, worth, gain, IsArrival};
 
 use crate::arriving::{Arrival, Segment, classify};
 

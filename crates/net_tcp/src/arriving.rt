@@ -1,6 +1,6 @@
 //! What to do with an arriving segment.
 ghost use Rattle.std.specs.Prelude.{◌≡◌, ◌↔◌, ◌+◌, ◌-◌, ◌^◌, ◌≤◌, min, IsTrue, IsFalse};
-ghost use Rattle.net_tcp.specs.Acceptability.{IsAcceptable, IsArrival, flag_at};
+ghost use Rattle.net_tcp.specs.Windows.{IsAcceptable, IsArrival, flag_at};
 
 use net_numbers::SentNumbers;
 

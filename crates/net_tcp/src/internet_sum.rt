@@ -1,8 +1,8 @@
 //! The Internet checksum (RFC 1071), over one part or several, and its update (RFC 1624).
 ghost use Rattle.std.specs.Prelude.{◌≡◌, ◌↔◌, ℕ, ◌+◌, ◌-◌, ◌*◌, ◌%◌, ◌<◌, ◌≤◌, List, [], ◌++◌, ◌/◌, IsTrue, IsFalse};
 ghost use Rattle.std.specs.Prelude.{◌⊎◌, length, nat_eq, if◌then◌else◌};
-ghost use Rattle.net_tcp.specs.InternetChecksum.{folded, word_sum, internet_checksum, updated};
-ghost use Rattle.net_tcp.specs.InternetChecksum.{Sums, is_odd, sum_joined, sum_with, word_bytes};
+ghost use Rattle.net_tcp.specs.InternetChecksum.{folded, word_sum, internet_checksum, updated, Sums, is_odd};
+ghost use Rattle.net_tcp.specs.InternetChecksum.{sum_joined, sum_with, word_bytes};
 
 /// The sum of the bytes of several parts of a message, one after another, of any lengths.
 /// One of zeros is that of no bytes.
@@ -49,24 +49,24 @@ impl PartsSum {
         }
     }
 
-    /// Returns the sum of the bytes that were added and of a word that follows them, as one of a
-    /// pseudo-header.
+    /// Returns the sum of the bytes that were added and of the two bytes of a word that follow them, the
+    /// high one first: what `with(&word.to_be_bytes())` returns, as of a word of a pseudo-header.
     ///
-    /// # Requires
-    ///
-    /// An even count of bytes was added.
+    /// ```
+    /// # use net_base::checksum::PartsSum;
+    /// let (even, odd) = (PartsSum::new(), PartsSum::new().with(&[7]));
+    /// assert_eq!(even.with_word(0x1234), even.with(&[0x12, 0x34]));
+    /// assert_eq!(odd.with_word(0x1234), odd.with(&[0x12, 0x34]));
+    /// ```
     #[must_use]
-    #[track_caller]
     pub fn with_word(self, word: u16) -> Self
-        requires { IsFalse self.odd }
         ensures value { result ≡ sum_with self (word_bytes word) }
         ensures bytes { (xs : List ℕ) → Sums self xs → Sums result (xs ++ word_bytes word) }
     {
-        prove!(!self.odd, "an odd count of bytes was added");
-        PartsSum {
-            sum: folded_sum(self.sum, word),
+        self.joined(PartsSum {
+            sum: word,
             odd: false,
-        }
+        })
     }
 
     /// Returns the sum of the bytes that were added, and of those of which `after` is the sum.

@@ -1,60 +1,86 @@
 //! Laws of the machines. No function here changes anything: its contract is the law.
-ghost use Rattle.net_tcp.specs.InternetChecksum.{IsCarriedSum, GroupsAdd, FoldsAdd};
-ghost use Rattle.net_tcp.specs.InternetChecksum.{ChecksumVerifies, OnlyChecksumVerifies};
-ghost use Rattle.net_tcp.specs.InternetChecksum.{UpdateIsChecksum, UpdateKeepsValid};
-ghost use Rattle.net_tcp.specs.Acceptability.{TableIsAcceptable, AcceptableIsInTable};
-ghost use Rattle.net_tcp.specs.AdvertisedWindow.{ScaleOpens, Reopens, WholeUnitsAreKept};
-ghost use Rattle.net_tcp.specs.AdvertisedWindow.{NotEachPromiseIsKept};
-ghost use Rattle.net_tcp.specs.Agreement.{PeerKnowsPromise, SentIsAcceptable};
-ghost use Rattle.net_tcp.specs.Agreement.{ShutWindowTakes, KnownWindowTakes, LaterWindowTakes};
-ghost use Rattle.net_tcp.specs.Agreement.{NextNumberIsRefused};
-ghost use Rattle.net_tcp.specs.PeerWindow.{CallsCommute, OrderIsFree, LatestDecides, NewIsTaken};
-ghost use Rattle.net_tcp.specs.PeerWindow.{NoWindowIsReplaced};
-ghost use Rattle.net_tcp.specs.RetransmissionTimeout.{FollowsFormulas, EqualSamplesSettle};
-ghost use Rattle.net_tcp.specs.RetransmissionTimeout.{DoublesToTheMost};
-ghost use Rattle.net_tcp.specs.RetransmissionTimer.{TimedIsSentOnce, RunsWhileUnacknowledged};
-ghost use Rattle.net_tcp.specs.RetransmissionTimer.{RestsUnlessStarted, RunsToAnEnd, ExpiryMovesBy};
+ghost use Rattle.std.specs.Prelude.{◌≡◌, ℕ, ◌+◌, ◌-◌, ◌*◌, ◌^◌, ◌<◌, ◌≤◌, ◌⊎◌, IfSome, IsTrue, IsFalse, min, max};
+ghost use Rattle.std.specs.Prelude.{◌/◌, List, [], ◌∷◌, ◌++◌, All, Some};
+ghost use Rattle.std.specs.Fn.{iterate};
+ghost use Rattle.net_base.specs.Time.{IsLength};
+ghost use Rattle.net_tcp.specs.InternetChecksum.{carried_sum, folded, internet_checksum, word_bytes, word_sum};
+ghost use Rattle.net_tcp.specs.InternetChecksum.{updated as updated_word, IsEven};
+ghost use Rattle.net_tcp.specs.Windows.{IsAcceptable, IsInTable, IsScaleFor, announced, field_for, gain, worth};
+ghost use Rattle.net_tcp.specs.Windows.{window_from, with_segment, no_window, BothEnds, acknowledgement_number};
+ghost use Rattle.net_tcp.specs.Windows.{Announcement, Heard, acknowledged, updated, heard, heard_all, IsNoLater};
+ghost use Rattle.net_tcp.specs.Windows.{IsFromNoLater};
+ghost use Rattle.net_tcp.specs.Estimate.{Estimate, IsSmall};
+ghost use Rattle.net_tcp.specs.Retransmission.{next_estimate, distance, doubled, IsSettled, Event, Connection};
+ghost use Rattle.net_tcp.specs.Retransmission.{opened, after_event, after_events, runs, sends_over, IsNoStart};
+ghost use Rattle.net_tcp.specs.Retransmission.{IsNoStop, IsUnacknowledged, IsEnd, IsMove};
+ghost use Rattle.net_tcp.specs.declared.peer_window.PeerWindow.{PeerWindow};
+ghost use Rattle.net_tcp.specs.declared.retransmission.TimeoutBounds.{TimeoutBounds};
+ghost use Rattle.net_tcp.specs.declared.retransmission_timer.TimedSegment.{TimedSegment};
+
+use crate::retransmission::{RetransmissionTimeout, RttEstimate};
+use crate::retransmission_timer::RetransmissionTimer;
 
 /// States what the folded sum is: that of RFC 1071, which adds each carry at the low end; and that
 /// neither cuts at even offsets nor where a part is folded changes it.
 #[tactic(auto, using(crate::proofs::WordSums::is_carried, crate::proofs::WordSums::groups_add))]
 pub fn sums()
-    ensures carried { IsCarriedSum }
-    ensures groups { GroupsAdd }
-    ensures folds { FoldsAdd }
+    ensures carried { (xs : List ℕ) → All (λ x. x < 256) xs → carried_sum 0 xs ≡ folded (word_sum xs) }
+    ensures groups { (xs ys : List ℕ) → IsEven xs → word_sum (xs ++ ys) ≡ word_sum xs + word_sum ys }
+    ensures folds { (a b : ℕ) → folded (a + folded b) ≡ folded (a + b) }
 {}
 
 /// States which checksums are valid, at an even offset: the one that is computed with a zero field, and
 /// no other, except perhaps 65535 where that is 0.
+#[tactic(auto, using(crate::proofs::WordSums::checksum_verifies))]
 pub fn verification()
-    ensures verifies { ChecksumVerifies }
-    ensures only { OnlyChecksumVerifies }
+    ensures verifies { (xs ys : List ℕ) → IsEven xs →
+        folded (word_sum (xs ++ word_bytes (internet_checksum (xs ++ word_bytes 0 ++ ys)) ++ ys)) ≡ 65535 }
+    ensures only { (xs ys : List ℕ) (c : ℕ) → IsEven xs → c ≤ 65535 →
+        folded (word_sum (xs ++ word_bytes c ++ ys)) ≡ 65535 →
+        (c ≡ internet_checksum (xs ++ word_bytes 0 ++ ys))
+        ⊎ ((c ≡ 65535) × (internet_checksum (xs ++ word_bytes 0 ++ ys) ≡ 0)) }
 {}
 
 /// States what an update gives, unless the message is all zeros then: from the checksum of the message
 /// before, the checksum of the message; and a message that was valid stays so.
 #[tactic(auto, using(crate::proofs::WordSums::update_is_checksum, crate::proofs::WordSums::update_keeps_valid))]
 pub fn updates()
-    ensures checksum { UpdateIsChecksum }
-    ensures valid { UpdateKeepsValid }
+    ensures checksum { (xs ys : List ℕ) (m n : ℕ) → IsEven xs → m ≤ 65535 → n ≤ 65535 →
+        0 < word_sum (xs ++ word_bytes n ++ ys) →
+        updated_word (internet_checksum (xs ++ word_bytes m ++ ys)) m n
+        ≡ internet_checksum (xs ++ word_bytes n ++ ys) }
+    ensures valid { (xs ys zs : List ℕ) (c m n : ℕ) → IsEven xs → IsEven ys → c ≤ 65535 → m ≤ 65535 →
+        n ≤ 65535 → 0 < word_sum (xs ++ ys ++ word_bytes n ++ zs) →
+        folded (word_sum (xs ++ word_bytes c ++ ys ++ word_bytes m ++ zs)) ≡ 65535 →
+        folded (word_sum (xs ++ word_bytes (updated_word c m n) ++ ys ++ word_bytes n ++ zs)) ≡ 65535 }
 {}
 
-/// States how acceptable segments and the table of RFC 9293 are related.
+/// States how acceptable segments and the table of RFC 9293 are related: what the table accepts is
+/// acceptable, and what is acceptable is in the table, unless it begins before the window and ends after
+/// it.
 pub fn acceptable_segments()
-    ensures table { TableIsAcceptable }
-    ensures covers { AcceptableIsInTable }
+    ensures table { (next window seq len : ℕ) → IsInTable next window seq len →
+        IsAcceptable next window seq len }
+    ensures covers { (next window seq len : ℕ) → IsAcceptable next window seq len →
+        IsInTable next window seq len ⊎ ((seq < next) × (next + window < seq + len)) }
 {}
 
 /// States that windows open, of a receiver that has a capacity and the scale for it: an empty one
 /// announces a part of its capacity; and once all is read, and less than a unit of what was promised is
 /// left, an update is worth a segment. A promise is kept whole if there is room for it, and its rest is
-/// a multiple of the unit that a number can say; `not_each` shows that not every promise can be.
-#[tactic(auto, using(crate::proofs::Scales::scale_opens, crate::proofs::Scales::reopens))]
+/// a multiple of the unit that a number can say; `not_each` shows that not every promise can be: 100
+/// positions were promised in units of 4, and one byte came.
+#[tactic(auto, using(crate::proofs::WindowFacts::scale_opens, crate::proofs::WindowFacts::reopens))]
 pub fn announced_windows()
-    ensures opens { ScaleOpens }
-    ensures reopens { Reopens }
-    ensures whole { WholeUnitsAreKept }
-    ensures not_each { NotEachPromiseIsKept }
+    ensures opens { (capacity scale : ℕ) → IsScaleFor capacity scale → 0 < capacity →
+        0 < field_for scale capacity }
+    ensures reopens { (capacity scale edge next mss : ℕ) → IsScaleFor capacity scale → 0 < capacity →
+        edge < next + 2 ^ scale → mss ≤ 65535 →
+        worth capacity mss ≤ gain edge scale next (next + capacity) }
+    ensures whole { (edge scale next window_end k : ℕ) → edge ≡ next + k * 2 ^ scale →
+        edge ≤ window_end → k ≤ 65535 →
+        edge ≤ announced next scale (field_for scale (window_end - next)) }
+    ensures not_each { (field : ℕ) → 100 ≤ announced 1 2 field → 100 < announced 1 2 field }
 {}
 
 /// States that it makes no difference whether a segment's acknowledgement is taken before its window or
@@ -62,38 +88,94 @@ pub fn announced_windows()
 /// acknowledged, in either order of arrival; that in whatever order and however often its segments come,
 /// the window is that of the last one that it sent; that after any list of segments, forged ones too,
 /// one that acknowledges something new is taken; and that no segment is older than a window of zeros.
-#[tactic(auto, using(crate::proofs::Windows::latest, crate::proofs::Windows::taken))]
+#[tactic(auto, using(crate::proofs::WindowFacts::latest, crate::proofs::WindowFacts::taken))]
 pub fn peer_windows()
-    ensures calls { CallsCommute }
-    ensures order { OrderIsFree }
-    ensures latest { LatestDecides }
-    ensures taken { NewIsTaken }
-    ensures zeros { NoWindowIsReplaced }
+    ensures calls { (h : Heard) (s : Announcement) →
+        updated (acknowledged h s) s ≡ acknowledged (updated h s) s }
+    ensures order { (h : Heard) (s t : Announcement) → IsNoLater s t → s.ack ≤ s.sent → t.ack ≤ t.sent →
+        heard (heard h s) t ≡ heard (heard h t) s }
+    ensures latest { (h : Heard) (before : List Announcement) (last : Announcement)
+        (after : List Announcement) → IsFromNoLater h last → last.ack ≤ last.sent →
+        All (λ t. IsNoLater t last) before → All (λ t. IsNoLater t last) after →
+        (heard_all h (before ++ last ∷ after)).peer ≡ window_from last.seq last.ack last.window }
+    ensures taken { (h : Heard) (before : List Announcement) (s : Announcement) → h.peer.ack ≤ h.first →
+        (heard_all h before).first < s.ack → s.ack ≤ s.sent →
+        (heard (heard_all h before) s).peer ≡ window_from s.seq s.ack s.window }
+    ensures zeros { (seq ack window : ℕ) →
+        with_segment no_window seq ack window ≡ window_from seq ack window }
 {}
 
-/// States what estimates and timeouts do: an estimate follows the formulas of RFC 6298, but for less
-/// than a microsecond that is rounded; equal samples settle it; and a timeout within its bounds that
-/// passes k times becomes 2^k times as long, up to the greatest.
-#[tactic(auto, using(crate::proofs::Timeouts::equal_samples_settle, crate::proofs::Timeouts::doubles_to_the_most))]
+/// States what is true of every estimate, so that no sum of it leaves 64 bits.
+pub fn is_sound_estimate(estimate: &RttEstimate)
+    ensures { IsSmall estimate.now }
+{
+    let _numbers = estimate.scaled();
+}
+
+/// States what is true of every timeout: of its estimate, if there is one, what is true of each, and that it
+/// is a length of time.
+pub fn is_sound_timeout(timeout: &RetransmissionTimeout)
+    ensures estimate { IfSome timeout.now.estimate IsSmall }
+    ensures timeout { IsLength timeout.now.timeout }
+{
+    is_small(timeout.rtt());
+    let _micros = timeout.timeout().total_micros();
+}
+
+/// States of every timer what is true of its timeout.
+pub fn is_sound_timer(timer: &RetransmissionTimer)
+    ensures estimate { IfSome timer.now.timeout.estimate IsSmall }
+    ensures timeout { IsLength timer.now.timeout.timeout }
+{
+    is_small(timer.rtt());
+    let _micros = timer.timeout().total_micros();
+}
+
+/// States what is true of an estimate, if there is one.
+fn is_small(estimate: Option<RttEstimate>)
+    ensures { IfSome estimate IsSmall }
+{
+    match estimate {
+        Some(estimate) => is_sound_estimate(&estimate),
+        None => {}
+    }
+}
+
+/// States what estimates and timeouts do: an estimate follows the formulas of RFC 6298, (7 / 8) * SRTT + R / 8
+/// and (3 / 4) * RTTVAR + |SRTT - R| / 4, but for less than the eighth or quarter of a microsecond that is
+/// rounded; equal samples settle it; and a timeout within its bounds that passes k times becomes 2^k times as
+/// long, up to the greatest.
+#[tactic(auto, using(crate::proofs::Timers::equal_samples_settle, crate::proofs::Timers::doubles_to_the_most))]
 pub fn timeouts()
-    ensures formulas { FollowsFormulas }
-    ensures settle { EqualSamplesSettle }
-    ensures doubles { DoublesToTheMost }
+    ensures formulas { (e : Estimate) (r : ℕ) → let n = next_estimate e r in
+        (7 * e.srtt_8 + 8 * r ≤ 8 * n.srtt_8) × (8 * n.srtt_8 < 7 * e.srtt_8 + 8 * r + 8)
+        × (3 * e.rttvar_4 + 4 * distance (e.srtt_8 / 8) r ≤ 4 * n.rttvar_4)
+        × (4 * n.rttvar_4 < 3 * e.rttvar_4 + 4 * distance (e.srtt_8 / 8) r + 4) }
+    ensures settle { (e : Estimate) (r : ℕ) →
+        (n : ℕ) × ((m : ℕ) → n ≤ m → IsSettled r (iterate (λ e. next_estimate e r) m e)) }
+    ensures doubles { (b : TimeoutBounds) (k t : ℕ) → b.least ≤ t → t ≤ b.most →
+        iterate (doubled b) k t ≡ min b.most (t * 2 ^ k) }
 {}
 
 /// States of a new timer, and of every list of sends, acknowledgements, reports, looks, starts and stops: a
-/// timed position was sent once, at the moment that its sample is counted from; unless it is stopped,
-/// the timer runs while something that was sent isn't acknowledged; and unless it is started, only
+/// timed position was sent once, as the first of a range, at the moment that its sample is counted from; unless
+/// it is stopped, the timer runs while something that was sent isn't acknowledged; and unless it is started, only
 /// then. A timer that runs, whatever started it, runs until it is stopped, or until all that was sent is
 /// acknowledged, if some of it wasn't before; and only an expiry, and what acknowledges something
 /// new, moves the moment at which it expires.
 #[tactic(auto, using(crate::proofs::Timers::timed_is_sent_once, crate::proofs::Timers::runs_while_unacknowledged, crate::proofs::Timers::rests_unless_started, crate::proofs::Timers::runs_to_an_end, crate::proofs::Timers::expiry_moves_by))]
 pub fn timers()
-    ensures once { TimedIsSentOnce }
-    ensures runs { RunsWhileUnacknowledged }
-    ensures rests { RestsUnlessStarted }
-    ensures ends { RunsToAnEnd }
-    ensures moves { ExpiryMovesBy }
+    ensures once { (b : TimeoutBounds) (t first : ℕ) (es : List Event) →
+        let c = after_events b (opened t first) es in
+        (s : TimedSegment) → c.timer.timed ≡ Some s → sends_over s.pos c.log ≡ (s.pos, s.since) ∷ [] }
+    ensures runs { (b : TimeoutBounds) (t first : ℕ) (es : List Event) → All IsNoStop es →
+        let c = after_events b (opened t first) es in IsUnacknowledged c → IsTrue (runs c) }
+    ensures rests { (b : TimeoutBounds) (t first : ℕ) (es : List Event) → All IsNoStart es →
+        let c = after_events b (opened t first) es in IsTrue (runs c) → IsUnacknowledged c }
+    ensures ends { (b : TimeoutBounds) (c : Connection) (e : Event) → IsTrue (runs c) →
+        IsFalse (runs (after_event b c e)) → IsEnd c e }
+    ensures moves { (b : TimeoutBounds) (c : Connection) (e : Event) → IsTrue (runs c) →
+        ((after_event b c e).timer.expires_at ≡ c.timer.expires_at) ⊎ IsMove c e }
 {}
 
 /// States that the edge of what a sender was told is not beyond what the receiver promised, now or
@@ -101,22 +183,31 @@ pub fn timers()
 /// receiver whose window reaches to all that it promised, unless all of them came already. That it is
 /// acceptable doesn't say that it is kept: a receiver may still refuse it for want of runs.
 pub fn agreement()
-    ensures knows { PeerKnowsPromise }
-    ensures sent { SentIsAcceptable }
+    ensures knows { (edge next scale field seq : ℕ) →
+        (window_from seq next (field * 2 ^ scale)).edge ≤ max edge (announced next scale field) }
+    ensures sent { (peer_edge edge next seq len : ℕ) → 0 < len → seq + len ≤ peer_edge →
+        peer_edge ≤ edge → next < seq + len → IsAcceptable next (edge - next) seq len }
 {}
 
 /// States when a segment without positions whose number is that of `PeerWindow::acknowledgement_number`
 /// is in the table of RFC 9293, so that the peer takes what it acknowledges: where the window known here
 /// is shut, unless the peer has kept a probe; where the peer promised more since, unless it has kept
 /// what is beyond the window known here; and where it didn't, unless the whole window was sent and some
-/// of it is missing. And that the number after a probe is not in the table at a shut window.
+/// of it is missing: then the number is the edge. And that the number after a probe is not in the table at a
+/// shut window.
 ///
 /// In none of the exceptions do both ends wait. What the peer has kept beyond the window, or of a probe,
 /// it answers, and that answer acknowledges it. What is missing within a window is sent again, and a
 /// segment with positions in the window is acceptable.
 pub fn acknowledgements()
-    ensures shut { ShutWindowTakes }
-    ensures known { KnownWindowTakes }
-    ensures later { LaterWindowTakes }
-    ensures next_number { NextNumberIsRefused }
+    ensures shut { (w : PeerWindow) (first sent next edge : ℕ) → BothEnds w first sent next edge →
+        w.edge ≤ first → first ≡ next →
+        IsInTable next (edge - next) (acknowledgement_number w first sent) 0 }
+    ensures known { (w : PeerWindow) (first sent next edge : ℕ) → BothEnds w first sent next edge →
+        w.edge ≡ edge → IsInTable next (edge - next) (acknowledgement_number w first sent) 0
+        ⊎ ((acknowledgement_number w first sent ≡ edge) × (next < edge) × (edge ≤ sent)) }
+    ensures later { (w : PeerWindow) (first sent next edge : ℕ) → BothEnds w first sent next edge →
+        w.edge < edge → next ≤ max w.edge first →
+        IsInTable next (edge - next) (acknowledgement_number w first sent) 0 }
+    ensures next_number { (next sent : ℕ) → next < sent → IsInTable next 0 sent 0 → ⊥ }
 {}

@@ -1,9 +1,7 @@
 //! The window that the peer announced.
-ghost use Rattle.std.specs.Prelude.{◌≡◌, ◌↔◌, ℕ, ◌+◌, ◌-◌, ◌*◌, ◌^◌, ◌<◌, ◌≤◌, IsTrue, IsFalse};
-ghost use Rattle.std.specs.Prelude.{min, max};
-ghost use Rattle.net_tcp.specs.AdvertisedWindow.{shift_count};
-ghost use Rattle.net_tcp.specs.PeerWindow.{Replaces, replaces, window_from, after_update};
-ghost use Rattle.net_tcp.specs.PeerWindow.{acknowledgement_number, no_window, opened_to};
+ghost use Rattle.std.specs.Prelude.{◌≡◌, ◌↔◌, ◌+◌, ◌-◌, ◌*◌, ◌^◌, ◌<◌, ◌≤◌, IsTrue, IsFalse, min, max};
+ghost use Rattle.net_tcp.specs.Windows.{shift_count, Replaces, replaces, window_from, after_update};
+ghost use Rattle.net_tcp.specs.Windows.{acknowledgement_number, no_window, opened_to};
 
 use crate::advertised_window::MAX_SCALE;
 use net_numbers::SentNumbers;

@@ -1,9 +1,7 @@
 //! The time until a retransmission.
 ghost use Rattle.std.specs.Prelude.{◌≡◌, ◌≤◌, ◌/◌, min, max};
-ghost use Rattle.net_tcp.specs.RetransmissionTimeout.{sample, first_estimate, next_estimate, within};
-ghost use Rattle.net_tcp.specs.RetransmissionTimeout.{timeout_of, doubled};
-ghost use Rattle.net_tcp.specs.RetransmissionTimeout.{after_acknowledgement, after_sample};
-ghost use Rattle.net_tcp.specs.RetransmissionTimeout.{estimate_after, before_samples};
+ghost use Rattle.net_tcp.specs.Retransmission.{sample, first_estimate, next_estimate, within, timeout_of, doubled};
+ghost use Rattle.net_tcp.specs.Retransmission.{after_acknowledgement, after_sample, estimate_after, before_samples};
 
 use net_base::time::{Duration, Instant};
 use std::marker::Model;

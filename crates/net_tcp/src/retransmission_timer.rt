@@ -1,9 +1,8 @@
 //! The timer of retransmissions.
 ghost use Rattle.std.specs.Prelude.{◌≡◌};
-ghost use Rattle.net_tcp.specs.RetransmissionTimer.{new_timer};
-ghost use Rattle.net_tcp.specs.RetransmissionTimer.{restarted, started, stopped, times};
-ghost use Rattle.net_tcp.specs.RetransmissionTimer.{timed_after, after_sending, with_sample};
-ghost use Rattle.net_tcp.specs.RetransmissionTimer.{after_acknowledged, has_expired, after_expiry};
+ghost use Rattle.net_tcp.specs.Retransmission.{new_timer, restarted, started, stopped, times, timed_after};
+ghost use Rattle.net_tcp.specs.Retransmission.{after_sending, with_sample, after_acknowledged, has_expired};
+ghost use Rattle.net_tcp.specs.Retransmission.{after_expiry};
 
 use crate::retransmission::{RetransmissionTimeout, RttEstimate, TimeoutBounds};
 use net_base::time::{Duration, Instant};

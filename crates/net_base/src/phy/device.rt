@@ -1,8 +1,7 @@
 //! The traits of a network device and of its tokens.
-ghost use Rattle.std.specs.Prelude.{◌≡◌, ℕ, List, length, replicate};
-ghost use Rattle.std.specs.Prelude.{MatchOption, IfNone, IfSome, IfOk, OnErr};
+ghost use Rattle.std.specs.Prelude.{◌≡◌, ℕ, List, length, replicate, MatchOption, IfNone, IfSome, IfOk, OnErr};
 ghost use Rattle.std.specs.Fn.{FnOnceReturnsAt, FnOnceTakesAt, FnOnceReturnsAtMut, FnOnceTakesAtMut};
-ghost use Rattle.net_base.specs.PacketMeta.{no_metadata};
+ghost use Rattle.net_base.specs.Phy.{no_metadata};
 ghost use Rattle.net_base.specs.declared.phy.DeviceCapabilities.{DeviceCapabilities};
 
 use crate::phy::{DeviceCapabilities, PacketMeta};

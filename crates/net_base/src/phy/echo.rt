@@ -1,6 +1,6 @@
 //! A frame that is sent back, on any device.
 ghost use Rattle.std.specs.Prelude.{◌≡◌, ℕ, List, length, OnErr, Ok, true, false};
-ghost use Rattle.net_base.specs.Device.{Echoes};
+ghost use Rattle.net_base.specs.Phy.{Echoes};
 
 use crate::phy::{Device, RxToken};
 use crate::time::Instant;

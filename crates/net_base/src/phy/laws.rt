@@ -3,9 +3,8 @@
 
 ghost use Rattle.std.specs.Prelude.{◌≡◌};
 ghost use Rattle.std.specs.Hash as fed;
-ghost use Rattle.net_base.specs.Checksum.{all_checksums};
-ghost use Rattle.net_base.specs.DeviceCapabilities.{default_capabilities, no_segmentation};
-ghost use Rattle.net_base.specs.PacketMeta.{no_metadata, metadata_hash};
+ghost use Rattle.net_base.specs.Phy.{all_checksums, default_capabilities, no_segmentation, no_metadata};
+ghost use Rattle.net_base.specs.Phy.{metadata_hash};
 ghost use Rattle.net_base.specs.Values.{ClonesAreSame, ComparesValues};
 ghost use Rattle.net_base.specs.declared.phy.Checksum.TheVariants.{Both};
 ghost use Rattle.net_base.specs.declared.phy.Medium.TheVariants.{Ethernet};

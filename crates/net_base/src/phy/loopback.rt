@@ -2,7 +2,7 @@
 
 ghost use Rattle.std.specs.Prelude.{◌≡◌, ℕ, List, [], ◌∷◌, ◌++◌, MatchOption};
 ghost use Rattle.std.proofs.Common.{ap};
-ghost use Rattle.net_base.specs.Loopback.{LoopbackState, loopback_capabilities};
+ghost use Rattle.net_base.specs.Phy.{LoopbackState, loopback_capabilities};
 
 use crate::phy::{
     self, ChecksumCapabilities, Device, DeviceCapabilities, FrameLists, Medium,
@@ -41,7 +41,7 @@ pub struct Loopback<A: Allocator + Copy = Global> {
 }
 
 impl<A: Allocator + Copy> Model for Loopback<A> {
-    ghost use Rattle.net_base.specs.Loopback.{LoopbackState, frames_of};
+    ghost use Rattle.net_base.specs.Phy.{LoopbackState, frames_of};
 
     ghost Value = { LoopbackState };
 

@@ -6,7 +6,7 @@ ghost use Rattle.net_base.specs.Generator.{LeadsTo, IsPeriod};
 use crate::rand::Rand;
 
 /// States that from every state every state is reached, in 1 to 2^64 steps.
-#[tactic(auto, using(crate::proofs::Period::leads_to))]
+#[tactic(auto, using(crate::proofs::Draws::leads_to))]
 pub fn full_period(from: &Rand, to: &Rand)
     ensures { LeadsTo from.now to.now }
 {

@@ -1,12 +1,11 @@
 //! A packet that arrives in fragments: a buffer of its bytes and runs, its head, and a table of such buffers.
-ghost use Rattle.std.specs.Prelude.{◌≡◌, ◌↔◌, ◌+◌, ◌<◌, ◌≤◌, ◌^◌, ◌⊎◌, ℕ, IsTrue, IsSome, IsErr, IfSome};
-ghost use Rattle.std.specs.Prelude.{OnOk, OnErr, ◌<ℤ◌, Err, length, take};
+ghost use Rattle.std.specs.Prelude.{◌≡◌, ◌↔◌, ◌+◌, ◌<◌, ◌≤◌, ◌^◌, ◌⊎◌, ℕ, IsTrue, IsSome, IsErr, IfSome, OnOk, OnErr};
+ghost use Rattle.std.specs.Prelude.{◌<ℤ◌, Err, length, take};
 ghost use Rattle.std.specs.declared.option.Option.TheVariants.{Some, None};
 ghost use Rattle.net_assembler.specs.Positions.{nothing};
 ghost use Rattle.net_assembler.specs.Assembler.{MakesTooManyRuns};
-ghost use Rattle.net_base.specs.FragmentParts.{fragments_of, HasSoundParts, IsExact};
-ghost use Rattle.net_base.specs.Fragments.{with_fragment, limit_of, IsBelow, IsComplete, Contradicts};
-ghost use Rattle.net_base.specs.Fragments.{Differs, HasOtherEnd, Meets, begun, with_piece};
+ghost use Rattle.net_base.specs.Fragments.{fragments_of, HasSoundParts, IsExact, with_fragment, limit_of, IsBelow};
+ghost use Rattle.net_base.specs.Fragments.{IsComplete, Contradicts, Differs, HasOtherEnd, Meets, begun, with_piece};
 
 use crate::time::Instant;
 use net_assembler::Run;
@@ -64,8 +63,7 @@ pub type FragmentBuffer<'a, const N: usize> = FragmentsOver<ManagedSlice<'a, u8>
 /// size, once it is known, and the moment up to which the packet is waited for.
 impl<B: Storage<u8>, const N: usize> Model for FragmentsOver<B, N> {
     ghost use Rattle.std.specs.Prelude.{◌≡◌, length};
-    ghost use Rattle.net_base.specs.Fragments.{FragmentsState, state_code};
-    ghost use Rattle.net_base.specs.FragmentParts.{fragments_of, HasSoundParts, IsExact};
+    ghost use Rattle.net_base.specs.Fragments.{FragmentsState, state_code, fragments_of, HasSoundParts, IsExact};
 
     ghost Value = { FragmentsState };
 

@@ -3,11 +3,10 @@
 //!
 //! The law that is defined here is about an overwritten list and a set of positions. The others are
 //! those of `net_ring::laws` and `net_assembler::laws`.
-ghost use Rattle.std.specs.Prelude.{◌≡◌, ◌+◌, ◌<◌, ◌≤◌};
-ghost use Rattle.std.specs.Prelude.{ℕ, List, [], ◌∷◌, length, slice_index_or, IsTrue};
+ghost use Rattle.std.specs.Prelude.{◌≡◌, ◌+◌, ◌<◌, ◌≤◌, ℕ, List, [], ◌∷◌, length, slice_index_or, IsTrue};
 ghost use Rattle.net_ring.specs.Overwrite.{overwrite};
 ghost use Rattle.net_assembler.specs.Positions.{Positions, with_range, front, nothing};
-ghost use Rattle.net_base.specs.Reassembly.{Reassembles, is_in_writes, newest_element};
+ghost use Rattle.net_base.specs.Fragments.{Reassembles, is_in_writes, newest_element};
 
 use net_assembler::assembler::laws::{front as front_is_least, members};
 pub use net_assembler::laws::{front_after_remove_front, ranges_in_any_order};

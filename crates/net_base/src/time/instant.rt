@@ -1,10 +1,9 @@
 //! Moments, in whole microseconds from an origin.
-ghost use Rattle.std.specs.Prelude.{◌≡◌, ◌↔◌, ◌-◌, ◌^◌, IsTrue, Some, pos, ◌+ℤ◌, ◌-ℤ◌, ◌*ℤ◌};
-ghost use Rattle.std.specs.Prelude.{int_div};
-ghost use Rattle.std.specs.Prelude.{negsuc, SomeIff, IfOk};
+ghost use Rattle.std.specs.Prelude.{◌≡◌, ◌↔◌, ◌-◌, ◌^◌, IsTrue, Some, pos, ◌+ℤ◌, ◌-ℤ◌, ◌*ℤ◌, int_div, negsuc};
+ghost use Rattle.std.specs.Prelude.{SomeIff, IfOk};
 ghost use Rattle.std.specs.Fmt.InlineText.{inline_text};
-ghost use Rattle.net_base.specs.Time.{IsMoment, moment_secs, moment_micros, moment_millis};
-ghost use Rattle.net_base.specs.Time.{moment_text, distance, elapsed, moment_after};
+ghost use Rattle.net_base.specs.Time.{IsMoment, moment_secs, moment_micros, moment_millis, moment_text, distance};
+ghost use Rattle.net_base.specs.Time.{elapsed, moment_after};
 
 use crate::time::{Duration, LONGEST_TEXT};
 use std::fmt::{self, InlineText, Write};

@@ -1,11 +1,9 @@
 //! Laws of all moments and lengths, and of the constants. No function here changes anything.
 
-ghost use Rattle.std.specs.Prelude.{◌≡◌, ◌↔◌, ◌-◌, ◌^◌, ◌<◌, ◌<ℤ◌, pos, IsTrue, Some};
+ghost use Rattle.std.specs.Prelude.{◌≡◌, ◌↔◌, ◌-◌, ◌^◌, ◌<◌, ◌<ℤ◌, pos, IsTrue, Some, ℕ, ℤ, List, Option};
 ghost use Rattle.std.specs.Ordering.{MatchOrdering};
-ghost use Rattle.std.specs.Prelude.{ℕ, ℤ, List, Option};
-ghost use Rattle.net_base.specs.Earliest.{earliest_of, IsEarliest};
+ghost use Rattle.net_base.specs.Time.{earliest_of, IsEarliest, distance, moment_text, length_text};
 ghost use Rattle.std.specs.Fmt.{format_spec};
-ghost use Rattle.net_base.specs.Time.{distance, moment_text, length_text};
 ghost use Rattle.net_base.specs.Values.{ClonesAreSame};
 
 use crate::time::{Duration, Instant};
@@ -68,7 +66,7 @@ pub fn texts(instant: &Instant, duration: &Duration)
 
 /// States that a fold with `earlier`, from `None` on, finds the earliest of the moments of a list's
 /// elements.
-#[tactic(auto, using(crate::proofs::EarliestFacts::earliest_is))]
+#[tactic(auto, using(crate::proofs::Moments::earliest_is))]
 pub fn earliest_of_each<T>()
     ensures { (f : T → Option ℤ) (xs : List T) (t : Option ℤ) → t ≡ earliest_of f xs →
         IsEarliest f xs t }

@@ -1,6 +1,8 @@
 //! The earliest of several moments, some of which may be missing.
 ghost use Rattle.std.specs.Prelude.{◌≡◌};
-ghost use Rattle.net_base.specs.Earliest.{earlier_of, earliest_of, IsEarliest};
+ghost use Rattle.std.specs.Iterator.{IsFinite, IsFiniteIterable};
+ghost use Rattle.std.specs.Iterator.Runs.{WholeRun};
+ghost use Rattle.net_base.specs.Time.{earlier_of, IsEarliest};
 
 use crate::time::Instant;
 
@@ -17,20 +19,33 @@ pub fn earlier(first: Option<Instant>, second: Option<Instant>) -> Option<Instan
     }
 }
 
-/// Returns the earliest of the moments that are there, or `None` if none is: when to poll an object
-/// with several timers, each of which may be off.
-#[tactic(auto, using(crate::proofs::EarliestFacts::earliest_is))]
-pub fn earliest(moments: &[Option<Instant>]) -> Option<Instant>
-    ensures { IsEarliest (λ t. t) moments.now result }
-{
-    fold_earlier(moments)
+impl Instant {
+    /// Returns the earliest of the moments that are there, or `None` if none is: when to poll an object
+    /// with several timers, each of which may be off. (Not in smoltcp.)
+    ///
+    /// ```
+    /// # use net_base::time::Instant;
+    /// let timers = [Some(Instant::from_secs(5)), None, Some(Instant::from_secs(-2))];
+    /// assert_eq!(Instant::earliest(timers), Some(Instant::from_secs(-2)));
+    /// assert_eq!(Instant::earliest([None, None]), None);
+    /// ```
+    ///
+    /// What gives them has to end: if it doesn't, neither does the call.
+    #[must_use]
+    pub fn earliest<I: IntoIterator<Item = Option<Instant>>>(moments: I) -> Option<Instant>
+        requires ends { IsFiniteIterable I.into_iter_gives I.IntoIter.can_next I.IntoIter.remaining moments }
+        ensures { (it : I.IntoIter) × I.into_iter_gives moments it
+            × WholeRun I.IntoIter.next_gives it (λ p. IsEarliest (λ t. t) p.items result) }
+    {
+        fold_earlier(moments.into_iter())
+    }
 }
 
-/// Returns the earliest of the moments, as a fold.
-fn fold_earlier(moments: &[Option<Instant>]) -> Option<Instant>
-    ensures { result ≡ earliest_of (λ t. t) moments.now }
+/// Returns the earliest of the moments that an iterator gives.
+fn fold_earlier<I: Iterator<Item = Option<Instant>>>(moments: I) -> Option<Instant>
+    requires can { I.can_next moments }
+    requires ends { IsFinite (I.remaining moments) }
+    ensures { WholeRun I.next_gives moments (λ p. IsEarliest (λ t. t) p.items result) }
 {
-    moments
-        .iter()
-        .fold(None, |first, moment| earlier(first, *moment))
+    moments.fold(None, |first, moment| earlier(first, moment))
 }

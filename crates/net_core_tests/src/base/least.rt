@@ -1,6 +1,6 @@
 //! The earliest of moments that may be missing.
 use crate::assertions::assert_holds;
-use net_base::time::{Instant, earliest};
+use net_base::time::Instant;
 
 /// Returns the moment `micros` microseconds after the origin.
 fn moment(micros: i64) -> Option<Instant> {
@@ -11,12 +11,12 @@ fn moment(micros: i64) -> Option<Instant> {
 fn the_earliest_of_some(rt: HostRuntime) {
     assert_holds(
         &rt,
-        earliest(&[moment(5), None, moment(-7), moment(9)]) == moment(-7),
+        Instant::earliest([moment(5), None, moment(-7), moment(9)]) == moment(-7),
         ("step", 1),
     );
     assert_holds(
         &rt,
-        earliest(&[None, None]).is_none() && earliest(&[]).is_none(),
+        Instant::earliest([None, None]).is_none() && Instant::earliest([]).is_none(),
         ("step", 2),
     );
 }

@@ -1,6 +1,6 @@
 //! A device of two lists.
 ghost use Rattle.std.specs.Prelude.{◌≡◌, ◌∷◌, ◌++◌, [], List, ℕ};
-ghost use Rattle.net_base.specs.Loopback.{loopback_capabilities};
+ghost use Rattle.net_base.specs.Phy.{loopback_capabilities};
 ghost use Rattle.net_base.specs.declared.phy.Medium.TheVariants.{Ip};
 
 use net_base::phy::{
@@ -27,7 +27,7 @@ pub struct TwoLists<A: Allocator + Copy = Global> {
 
 impl<A: Allocator + Copy> Model for TwoLists<A> {
     ghost use Rattle.std.specs.Prelude.{ℕ, List};
-    ghost use Rattle.net_base.specs.Loopback.{frames_of};
+    ghost use Rattle.net_base.specs.Phy.{frames_of};
 
     ghost Value = { List (List ℕ) × List (List ℕ) };
 

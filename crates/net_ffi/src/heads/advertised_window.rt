@@ -2,8 +2,7 @@
 //!
 //! A head of zeros is new, before the stream's byte at position 0: nothing was announced.
 // Written by tools/ffi.py.
-ghost use Rattle.net_tcp.specs.Acceptability.{IsArrival};
-ghost use Rattle.net_tcp.specs.AdvertisedWindow.{announced, field_for, gain, shift_count, worth};
+ghost use Rattle.net_tcp.specs.Windows.{IsArrival, announced, field_for, gain, shift_count, worth};
 ghost use Rattle.std.specs.Prelude.{IsFalse, IsTrue, max, min, ℕ, ◌+◌, ◌-◌, ◌<◌, ◌^◌, ◌↔◌, ◌≡◌, ◌≤◌, ◌⊎◌};
 
 use crate::refusals::{

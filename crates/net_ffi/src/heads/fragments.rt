@@ -8,8 +8,8 @@
 ghost use Rattle.net_assembler.specs.Assembler.{MakesTooManyRuns};
 ghost use Rattle.net_assembler.specs.Positions.{nothing};
 ghost use Rattle.net_assembler.specs.RunLists.{HasSoundRuns, set_of};
-ghost use Rattle.net_base.specs.FragmentParts.{HasSoundParts, IsExact, IsPlausible, fragments_of, total_of};
-ghost use Rattle.net_base.specs.Fragments.{Contradicts, Differs, Meets, limit_of, with_fragment};
+ghost use Rattle.net_base.specs.Fragments.{Contradicts, Differs, HasSoundParts, IsExact, IsPlausible, Meets};
+ghost use Rattle.net_base.specs.Fragments.{fragments_of, limit_of, total_of, with_fragment};
 ghost use Rattle.net_base.specs.declared.storage.fragments.FragmentError.TheVariants.{OtherSize, TooLong};
 ghost use Rattle.net_base.specs.declared.storage.fragments.FragmentError.TheVariants.{TooManyHoles};
 ghost use Rattle.net_ffi.specs.Results.{IsStatus, done_or_error};

@@ -3,7 +3,7 @@
 //! A head of zeros is that before any segment: nothing may be sent but a probe, and no segment is
 //! older.
 // Written by tools/ffi.py.
-ghost use Rattle.net_tcp.specs.PeerWindow.{Replaces, acknowledgement_number, after_update, no_window};
+ghost use Rattle.net_tcp.specs.Windows.{Replaces, acknowledgement_number, after_update, no_window};
 ghost use Rattle.std.specs.Prelude.{IsFalse, IsTrue, max, min, ◌-◌, ◌<◌, ◌↔◌, ◌≡◌, ◌≤◌};
 
 use net_numbers::SentNumbers;

@@ -1,8 +1,7 @@
 //! What a TCP computes: acceptable segments, the scale of its window, the Internet checksum.
 // Written by tools/ffi.py.
-ghost use Rattle.net_tcp.specs.Acceptability.{IsArrival};
-ghost use Rattle.net_tcp.specs.AdvertisedWindow.{IsScaleFor, shift_count};
 ghost use Rattle.net_tcp.specs.InternetChecksum.{updated};
+ghost use Rattle.net_tcp.specs.Windows.{IsArrival, IsScaleFor, shift_count};
 ghost use Rattle.std.specs.Prelude.{IsTrue, ◌*◌, ◌+◌, ◌<◌, ◌^◌, ◌↔◌, ◌≡◌, ◌≤◌};
 
 use crate::refusals::{

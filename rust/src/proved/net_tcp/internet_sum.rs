@@ -39,20 +39,21 @@ impl PartsSum {
         }
     }
 
-    /// Returns the sum of the bytes that were added and of a word that follows them, as one of a
-    /// pseudo-header.
+    /// Returns the sum of the bytes that were added and of the two bytes of a word that follow them, the
+    /// high one first: what `with(&word.to_be_bytes())` returns, as of a word of a pseudo-header.
     ///
-    /// # Panics, unless
-    ///
-    /// An even count of bytes was added.
+    /// ```
+    /// # use net_base::checksum::PartsSum;
+    /// let (even, odd) = (PartsSum::new(), PartsSum::new().with(&[7]));
+    /// assert_eq!(even.with_word(0x1234), even.with(&[0x12, 0x34]));
+    /// assert_eq!(odd.with_word(0x1234), odd.with(&[0x12, 0x34]));
+    /// ```
     #[must_use]
-    #[track_caller]
     pub fn with_word(self, word: u16) -> Self {
-        prove!(!self.odd, "an odd count of bytes was added");
-        PartsSum {
-            sum: folded_sum(self.sum, word),
+        self.joined(PartsSum {
+            sum: word,
             odd: false,
-        }
+        })
     }
 
     /// Returns the sum of the bytes that were added, and of those of which `after` is the sum.

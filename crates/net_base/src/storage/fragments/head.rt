@@ -1,14 +1,13 @@
 //! The head of a buffer of fragments: what it has besides its bytes and runs, which each call takes as slices.
-ghost use Rattle.std.specs.Prelude.{◌≡◌, ◌↔◌, ◌+◌, ◌<◌, ◌≤◌, ◌⊎◌, ◌<ℤ◌, ℕ, List, Err, length};
-ghost use Rattle.std.specs.Prelude.{IsTrue, IsSome, IsErr, IfSome, OnOk, OnErr, unwrap_or};
+ghost use Rattle.std.specs.Prelude.{◌≡◌, ◌↔◌, ◌+◌, ◌<◌, ◌≤◌, ◌⊎◌, ◌<ℤ◌, ℕ, List, Err, length, IsTrue, IsSome, IsErr};
+ghost use Rattle.std.specs.Prelude.{IfSome, OnOk, OnErr, unwrap_or};
 ghost use Rattle.std.specs.declared.option.Option.TheVariants.{Some, None};
 ghost use Rattle.net_assembler.specs.Assembler.{MakesTooManyRuns};
 ghost use Rattle.net_assembler.specs.Positions.{nothing};
 ghost use Rattle.net_assembler.specs.RunLists.{set_of, HasSoundRuns};
-ghost use Rattle.net_base.specs.Fragments.{with_fragment, limit_of, IsComplete, IsBelow, Contradicts};
-ghost use Rattle.net_base.specs.Fragments.{begun, with_piece, HasOtherEnd};
-ghost use Rattle.net_base.specs.Fragments.{Differs, HasOther, Meets};
-ghost use Rattle.net_base.specs.FragmentParts.{total_of, fragments_of, HasSoundParts, IsExact};
+ghost use Rattle.net_base.specs.Fragments.{with_fragment, limit_of, IsComplete, IsBelow, Contradicts, begun};
+ghost use Rattle.net_base.specs.Fragments.{with_piece, HasOtherEnd, Differs, HasOther, Meets, total_of, fragments_of};
+ghost use Rattle.net_base.specs.Fragments.{HasSoundParts, IsExact};
 
 use super::FragmentError;
 use net_assembler::{AssemblerHead, Run, assembler};
@@ -345,7 +344,7 @@ impl FragmentsHead {
     /// # Requires
     ///
     /// The runs are sound.
-    #[tactic(auto, using(crate::proofs::Overlaps::meets_is))]
+    #[tactic(auto, using(crate::proofs::FragmentFacts::meets_is))]
     pub fn overlaps(&self, runs: &[Run], offset: usize, len: usize) -> bool
         requires sound { HasSoundRuns self.now.present runs.now }
         ensures { IsTrue result ↔ Meets (set_of self.now.present runs.now) offset len }

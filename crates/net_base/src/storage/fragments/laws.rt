@@ -1,9 +1,9 @@
 //! Laws of packets that arrive in fragments. No function here does anything.
-ghost use Rattle.std.specs.Prelude.{◌≡◌, ℕ, ℤ, List};
-ghost use Rattle.net_assembler.specs.Positions.{nothing};
+ghost use Rattle.std.specs.Prelude.{◌≡◌, ◌<◌, ℕ, ℤ, IsTrue, List, length, slice_index_or};
+ghost use Rattle.net_assembler.specs.Positions.{contains, nothing};
 ghost use Rattle.net_assembler.specs.RunLists.{set_of};
-ghost use Rattle.net_base.specs.FragmentHistory.{LastFragmentStands, OldBytesAreGone};
-ghost use Rattle.net_base.specs.FragmentParts.{HasSoundParts, IsExact, total_of, zero_fragments};
+ghost use Rattle.net_base.specs.Fragments.{FragmentsState, after_fragments, last_byte, HasSoundParts, IsExact};
+ghost use Rattle.net_base.specs.Fragments.{total_of, zero_fragments};
 ghost use Rattle.net_base.specs.Values.{ClonesAreSame, ComparesValues};
 ghost use Rattle.std.specs.declared.option.Option.TheVariants.{None};
 
@@ -16,8 +16,12 @@ use net_ring::ring_buffer;
 /// before.
 #[tactic(auto, using(crate::proofs::FragmentFacts::byte_after, crate::proofs::FragmentFacts::present_byte))]
 pub fn latest_arrival_wins()
-    ensures each { LastFragmentStands }
-    ensures old_bytes { OldBytesAreGone }
+    ensures each { (b : FragmentsState) (fs : List (ℕ × List ℕ)) (p d : ℕ) → p < length b.bytes
+        → slice_index_or (after_fragments b fs).bytes p d ≡ last_byte p (slice_index_or b.bytes p d) fs }
+    ensures old_bytes { (b : FragmentsState) (fs : List (ℕ × List ℕ)) (p d : ℕ)
+        → b.present ≡ nothing → p < length b.bytes
+        → IsTrue (contains (after_fragments b fs).present p)
+        → slice_index_or (after_fragments b fs).bytes p 0 ≡ last_byte p d fs }
 {
     assembler::laws::members();
     ring_buffer::laws::overwritten::<u8>();

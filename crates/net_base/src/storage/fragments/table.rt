@@ -21,14 +21,13 @@
 //! assert_eq!(slots[at].buffer.assemble(), Some(&b"abcd"[..]));
 //! # Ok::<(), FragmentError>(())
 //! ```
-ghost use Rattle.std.specs.Prelude.{◌≡◌, ◌↔◌, ◌<◌, ◌≤◌, ◌<ℤ◌, ℕ, length, set, is_none, slice_get};
-ghost use Rattle.std.specs.Prelude.{pos, [], IsErr, IsNone, IfOk, IfSome, OnErr, OnOk, Ok, Err, ◌≢◌};
+ghost use Rattle.std.specs.Prelude.{◌≡◌, ◌↔◌, ◌<◌, ◌≤◌, ◌<ℤ◌, ℕ, length, set, is_none, slice_get, pos, [], IsErr};
+ghost use Rattle.std.specs.Prelude.{IsNone, IfOk, IfSome, OnErr, OnOk, Ok, Err, ◌≢◌};
 ghost use Rattle.std.specs.declared.option.Option.TheVariants.{Some, None};
 ghost use Rattle.std.specs.List.{position, AllZip};
 ghost use Rattle.net_assembler.specs.Positions.{nothing};
-ghost use Rattle.net_base.specs.Fragments.{IsComplete, begun};
-ghost use Rattle.net_base.specs.FragmentTable.{is_for, ExpiresFirst, IsSlotFor};
-ghost use Rattle.net_base.specs.FragmentTable.{Accepts, buffer_for, key_for};
+ghost use Rattle.net_base.specs.Fragments.{IsComplete, begun, is_for, ExpiresFirst, IsSlotFor, Accepts, buffer_for};
+ghost use Rattle.net_base.specs.Fragments.{key_for};
 
 use super::{FragmentError, FragmentsOver};
 use crate::time::Instant;

@@ -1,6 +1,6 @@
 //! Frames that are sent back, with memory and without.
 ghost use Rattle.std.specs.Prelude.{◌≡◌, ◌∷◌, ◌++◌, [], List, ℕ, Ok, true};
-ghost use Rattle.net_base.specs.DeviceCapabilities.{default_capabilities};
+ghost use Rattle.net_base.specs.Phy.{default_capabilities};
 
 use super::{is_over, next_has_length, next_is, sends, write_length};
 use crate::assertions::assert_holds;

@@ -1,6 +1,6 @@
 //! A frame's token with metadata of its own, and one without any.
 ghost use Rattle.std.specs.Prelude.{◌≡◌};
-ghost use Rattle.net_base.specs.PacketMeta.{no_metadata};
+ghost use Rattle.net_base.specs.Phy.{no_metadata};
 
 use super::sends;
 use crate::assertions::assert_holds;

@@ -1,7 +1,7 @@
 //! Frames from one device to another.
 ghost use Rattle.std.specs.Prelude.{◌≡◌, ◌∷◌, ◌++◌, []};
 ghost use Rattle.std.proofs.Common.{ap};
-ghost use Rattle.net_base.specs.Loopback.{LoopbackState, loopback_capabilities};
+ghost use Rattle.net_base.specs.Phy.{LoopbackState, loopback_capabilities};
 
 use crate::assertions::assert_holds;
 use net_base::phy::{
@@ -213,7 +213,7 @@ struct Noting<'c> {
 }
 
 impl<'c> Model for Noting<'c> {
-    ghost use Rattle.net_base.specs.Loopback.{LoopbackState};
+    ghost use Rattle.net_base.specs.Phy.{LoopbackState};
 
     ghost Value = { LoopbackState };
 

@@ -1,5 +1,5 @@
 use Rattle.std.proofs.Common.{arith}
-use Rattle.net_tcp.proofs.Scales.{scaled_few}
+use Rattle.net_tcp.proofs.WindowFacts.{scaled_few}
 use Rattle.net_tcp.proofs.peer_window.scaled.Goals as goal
 
 pub returns-clause-few : goal.returns-clause-few

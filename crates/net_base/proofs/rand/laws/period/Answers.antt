@@ -1,5 +1,5 @@
 use Rattle.std.proofs.Common.{arith}
-use Rattle.net_base.proofs.Period.{each_period}
+use Rattle.net_base.proofs.Draws.{each_period}
 use Rattle.net_base.proofs.rand.laws.period.Goals as goal
 
 pub returns : goal.returns

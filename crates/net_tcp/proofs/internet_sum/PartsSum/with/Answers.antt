@@ -1,14 +1,12 @@
-use Rattle.std.proofs.Common.{rules, ◌≡◌, ◌++◌, ◌∙◌, ◌+◌, ap, sym, subst, arith}
+use Rattle.std.proofs.Common.{rules, ◌∙◌, ◌+◌, ap, sym, arith}
 use Rattle.std.proofs.lemmas.Bool.{not-false}
 use Rattle.std.proofs.lemmas.List.{nil_from_length}
-use Rattle.net_tcp.specs.InternetChecksum.{Sums, folded, sum_with, word_sum}
+use Rattle.net_tcp.specs.InternetChecksum.{folded, sum_with, word_sum}
 use Rattle.net_tcp.proofs.WordSums.{low_first, none_last, with_sums}
 use Rattle.net_tcp.proofs.internet_sum.PartsSum.with.Goals as goal
 
 pub returns-then-not-self-clause-bytes : goal.returns-then-not-self-clause-bytes
-returns-then-not-self-clause-bytes c xs sums =
-    let value : c.sum_from.result ≡ sum_with c.args.self c.args.part.now = search rules in
-    subst (λ r. Sums r (xs ++ c.args.part.now)) (sym value) (with_sums c.args.self xs c.args.part.now sums)
+returns-then-not-self-clause-bytes c xs sums = with_sums c.args.self c.sum_from.result xs c.args.part.now (search rules) sums
 
 pub returns-in-Some-clause-value : goal.returns-in-Some-clause-value
 returns-in-Some-clause-value c =
@@ -17,13 +15,11 @@ returns-in-Some-clause-value c =
     c.sum_from-in-Some.ensures.odd
 
 pub returns-in-Some-clause-bytes : goal.returns-in-Some-clause-bytes
-returns-in-Some-clause-bytes c xs sums =
-    subst (λ r. Sums r (xs ++ c.args.part.now)) (sym (returns-in-Some-clause-value c)) (with_sums c.args.self xs c.args.part.now sums)
+returns-in-Some-clause-bytes c xs sums = with_sums _ _ xs _ (returns-in-Some-clause-value c) sums
 
 pub returns-in-None-clause-value : goal.returns-in-None-clause-value
 returns-in-None-clause-value c =
     none_last c.args.self (not-false _ c.if-not-self.false) (omega arith) ∙ ap (sum_with c.args.self) (sym (nil_from_length _ c.in-None.ensures.cases))
 
 pub returns-in-None-clause-bytes : goal.returns-in-None-clause-bytes
-returns-in-None-clause-bytes c xs sums =
-    subst (λ r. Sums r (xs ++ c.args.part.now)) (sym (returns-in-None-clause-value c)) (with_sums c.args.self xs c.args.part.now sums)
+returns-in-None-clause-bytes c xs sums = with_sums _ _ xs _ (returns-in-None-clause-value c) sums

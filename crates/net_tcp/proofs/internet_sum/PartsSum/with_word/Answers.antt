@@ -1,11 +1,9 @@
-use Rattle.std.proofs.Common.{rules, false, ◌≡◌, ◌++◌, sym, subst}
-use Rattle.net_tcp.specs.InternetChecksum.{Sums, sum_with, word_bytes}
-use Rattle.net_tcp.specs.declared.internet_sum.PartsSum.{PartsSum}
-use Rattle.net_tcp.proofs.WordSums.{with_sums}
+use Rattle.std.proofs.Common.{◌∙◌, arith}
+use Rattle.net_tcp.proofs.WordSums.{word_joins, word_sums}
 use Rattle.net_tcp.proofs.internet_sum.PartsSum.with_word.Goals as goal
 
+pub returns-clause-value : goal.returns-clause-value
+returns-clause-value c = c.joined.ensures.value ∙ word_joins c.args.self.sum c.args.word c.args.self.odd
+
 pub returns-clause-bytes : goal.returns-clause-bytes
-returns-clause-bytes c xs sums =
-    let result : PartsSum = record { sum = c.folded_sum.result; odd = false } in
-    let value : result ≡ sum_with c.args.self (word_bytes c.args.word) = search rules in
-    subst (λ r. Sums r (xs ++ word_bytes c.args.word)) (sym value) (with_sums c.args.self xs (word_bytes c.args.word) sums)
+returns-clause-bytes c xs sums = c.joined.ensures.bytes xs _ sums (word_sums c.args.word (omega arith))

@@ -1,6 +1,7 @@
-use Rattle.std.proofs.Common.{◌≡◌, ◌∙◌, OnErr, Result, Ok, Err, ap, length, subst, sym}
-use Rattle.net_base.specs.FragmentParts.{fragments_of, HasSoundParts}
-use Rattle.net_base.proofs.LentBytes.{part_is, whole_written}
+use Rattle.std.proofs.Common.{◌≡◌, ◌∙◌, ap, length, subst, sym}
+use Rattle.std.proofs.lemmas.Result.{on_err_weaker}
+use Rattle.net_base.specs.Fragments.{fragments_of, HasSoundParts}
+use Rattle.net_base.proofs.FragmentFacts.{part_is, whole_written}
 use Rattle.net_base.proofs.storage.fragments.FragmentsOver.add.Given as given
 use Rattle.net_base.proofs.storage.fragments.FragmentsOver.add.Goals as goal
 
@@ -15,11 +16,6 @@ stored g c =
     (c.add.auto.bytes ∙ ap length (lent g c))
     (g.met.B.Storage.part_written c.self.inside.bytes 0 c.add.new.bytes)
 
--- what follows from an error
-on_err : {T E P Q : Type 0} (r : Result T E) → (P → Q) → OnErr r P → OnErr r Q
-on_err (Ok t) f p = tt
-on_err (Err e) f p = f p
-
 pub invariant_of-self : goal.invariant_of-self
 invariant_of-self g c = (
   subst (λ xs. HasSoundParts c.add.new.self xs c.add.new.runs) (sym (stored g c)) c.add.ensures.sound,
@@ -29,7 +25,7 @@ invariant_of-self g c = (
 
 pub returns-clause-unchanged : goal.returns-clause-unchanged
 returns-clause-unchanged g c =
-    on_err c.add.result
+    on_err_weaker c.add.result
     (λ same.
     (λ i. fragments_of (same.0 i) ((stored g c ∙ same.1 ∙ lent g c) i) (same.2 i)) ∙ c.self.view_is)
     c.add.ensures.unchanged

@@ -1,6 +1,6 @@
 use Rattle.std.proofs.Common.{◌≡◌, ℕ, ◌∙◌, take, ap, refl, subst, true, false, arith}
 use Rattle.net_base.specs.Fragments.{FragmentsState, IsComplete}
-use Rattle.net_base.proofs.LentBytes.{first_part}
+use Rattle.net_base.proofs.FragmentFacts.{first_part}
 use Rattle.net_base.proofs.storage.fragments.FragmentsOver.assemble.Given as given
 use Rattle.net_base.proofs.storage.fragments.FragmentsOver.assemble.Goals as goal
 

@@ -1,12 +1,13 @@
-use Rattle.std.proofs.Common.{◌≡◌, ◌↔◌, ◌∙◌, ◌+◌, ◌≤◌, ℕ, ℤ, Bool, List, OnErr, OnOk, Result, Ok, Err, ap, length, subst, sym, to_z, of_z, w64, FitsSigned, rules}
+use Rattle.std.proofs.Common.{◌≡◌, ◌↔◌, ◌∙◌, ◌+◌, ◌≤◌, ℕ, ℤ, Bool, List, Result, Err, ap, length, subst, sym, to_z}
+use Rattle.std.proofs.lemmas.Result.{on_err_weaker, on_ok_weaker}
+use Rattle.std.proofs.Common.{of_z, w64, FitsSigned, rules}
 use Rattle.std.proofs.lemmas.Int.{to_z-of_z}
 use Rattle.net_assembler.specs.Assembler.{MakesTooManyRuns}
 use Rattle.net_assembler.specs.Positions.{nothing}
-use Rattle.net_base.specs.FragmentParts.{fragments_of, HasSoundParts}
-use Rattle.net_base.specs.Fragments.{FragmentsState, begun, with_piece, HasOtherEnd}
+use Rattle.net_base.specs.Fragments.{fragments_of, HasSoundParts, FragmentsState, begun, with_piece, HasOtherEnd}
 use Rattle.net_base.specs.declared.storage.fragments.FragmentError.{FragmentError}
 use Rattle.net_base.specs.declared.storage.fragments.FragmentError.TheVariants as fragment
-use Rattle.net_base.proofs.LentBytes.{part_is, whole_written}
+use Rattle.net_base.proofs.FragmentFacts.{part_is, whole_written}
 use Rattle.net_base.proofs.storage.fragments.FragmentsOver.reset_with.Given as given
 use Rattle.net_base.proofs.storage.fragments.FragmentsOver.reset_with.Goals as goal
 
@@ -21,11 +22,6 @@ stored g c =
     (c.reset_with.auto.bytes ∙ ap length (lent g c))
     (g.met.B.Storage.part_written c.self.inside.bytes 0 c.reset_with.new.bytes)
 
--- what follows from an error
-on_err : {T E P Q : Type 0} (r : Result T E) → (P → Q) → OnErr r P → OnErr r Q
-on_err (Ok t) f p = tt
-on_err (Err e) f p = f p
-
 pub invariant_of-self : goal.invariant_of-self
 invariant_of-self g c = (
   subst (λ xs. HasSoundParts c.reset_with.new.self xs c.reset_with.new.runs) (sym (stored g c)) c.reset_with.ensures.sound,
@@ -35,15 +31,10 @@ invariant_of-self g c = (
 
 pub returns-clause-unchanged : goal.returns-clause-unchanged
 returns-clause-unchanged g c =
-    on_err c.reset_with.result
+    on_err_weaker c.reset_with.result
     (λ same.
     (λ i. fragments_of (same.0 i) ((stored g c ∙ same.1 ∙ lent g c) i) (same.2 i)) ∙ c.self.view_is)
     c.reset_with.ensures.unchanged
-
--- what follows from a value
-on_ok : {T E : Type 0} (P Q : Type 0) (r : Result T E) → (P → Q) → OnOk r P → OnOk r Q
-on_ok P Q (Ok t) f p = f p
-on_ok P Q (Err e) f p = tt
 
 -- when there are too many runs in an empty buffer
 abbrev HasTooMany : Result (Unit {0}) FragmentError → ℕ → ℕ → Bool → FragmentsState → ℤ → ℕ → Type 0
@@ -60,7 +51,7 @@ until g c = let fits : FitsSigned w64 c.total_micros-until.result = search rules
 
 pub returns-clause-ok : goal.returns-clause-ok
 returns-clause-ok g c =
-    on_ok _ _ c.reset_with.result
+    on_ok_weaker c.reset_with.result
     (λ is.
     ap (λ (xs : List ℕ). fragments_of c.reset_with.new.self xs c.reset_with.new.runs) (stored g c) ∙ is
     ∙ ap (λ (b : FragmentsState). with_piece (begun b (to_z w64 (of_z w64 c.total_micros-until.result))) c.args.offset c.args.data.now c.args.is_last) (shown g c)

@@ -1,5 +1,5 @@
 use Rattle.std.proofs.Common.{◌∙◌, ℕ, ap, min, length}
-use Rattle.net_base.proofs.Differences.{slices_differ}
+use Rattle.net_base.proofs.FragmentFacts.{slices_differ}
 use Rattle.net_base.proofs.storage.fragments.head.run_differs.Goals as goal
 
 pub returns-then-first-last : goal.returns-then-first-last

@@ -1,12 +1,9 @@
-use Rattle.std.proofs.Common.{◌≡◌, ◌∙◌, ℕ, Bool, false, List, [], ◌∷◌, length, ◌==◌, OnErr, OnOk, Result, Ok, Err, ap, refl, set, slice_index_or}
+use Rattle.std.proofs.Common.{◌≡◌, ◌∙◌, ℕ, Bool, false, List, [], ◌∷◌, length, ◌==◌, OnOk, Result, Ok, Err, ap, refl}
+use Rattle.std.proofs.lemmas.Result.{on_err_weaker}
+use Rattle.std.proofs.Common.{set, slice_index_or}
 use Rattle.std.proofs.lemmas.List.{set-get_or}
 use Rattle.std.proofs.lemmas.Option.{slice_get-get_or}
 use Rattle.net_base.proofs.storage.fragments.table.accept.Goals as goal
-
--- what follows from an error
-on_err : {T E P Q : Type 0} (r : Result T E) → (P → Q) → OnErr r P → OnErr r Q
-on_err (Ok t) f p = tt
-on_err (Err e) f p = f p
 
 -- two facts of a value
 on_ok_both : {T E : Type 0} (P Q : Type 0) (r : Result T E) → OnOk r P → OnOk r Q → OnOk r (P × Q)
@@ -28,7 +25,7 @@ returns-in-Some-clause-no_slot g c =
 
 pub returns-in-Some-clause-unchanged : goal.returns-in-Some-clause-unchanged
 returns-in-Some-clause-unchanged g c =
-    on_err c.accept.result
+    on_err_weaker c.accept.result
     (λ same. ap (set c.args.slots.now c.in-Some.at) same ∙ set-get_or c.args.slots.now c.in-Some.at c.index-slots-at.result)
     c.accept.ensures.unchanged
 

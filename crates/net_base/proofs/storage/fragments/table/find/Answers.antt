@@ -1,6 +1,6 @@
 use Rattle.std.proofs.Common.{◌∙◌, ap, sym, arith}
-use Rattle.net_base.specs.FragmentTable.{is_for}
-use Rattle.net_base.proofs.SlotFacts.{first_found, none_found}
+use Rattle.net_base.specs.Fragments.{is_for}
+use Rattle.net_base.proofs.FragmentSlots.{first_found, none_found}
 use Rattle.net_base.proofs.storage.fragments.table.find.Goals as goal
 
 pub returns-then-is_for-clause-first : goal.returns-then-is_for-clause-first

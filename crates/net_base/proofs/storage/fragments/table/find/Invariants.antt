@@ -1,5 +1,5 @@
 use Rattle.std.proofs.Common.{◌≡◌, ◌<◌, ℕ, false, get_or}
-use Rattle.net_base.specs.FragmentTable.{is_for}
+use Rattle.net_base.specs.Fragments.{is_for}
 use Rattle.net_base.proofs.storage.fragments.table.find.Given as goal
 
 -- no slot before the index is for the packet

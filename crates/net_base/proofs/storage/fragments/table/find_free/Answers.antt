@@ -1,5 +1,5 @@
 use Rattle.std.proofs.Common.{◌≡◌, true, subst, rules, arith, is_none}
-use Rattle.net_base.proofs.SlotFacts.{first_found, none_found}
+use Rattle.net_base.proofs.FragmentSlots.{first_found, none_found}
 use Rattle.net_base.proofs.storage.fragments.table.find_free.Goals as goal
 
 pub returns-then-is_none-clause-first : goal.returns-then-is_none-clause-first

@@ -1,5 +1,5 @@
 use Rattle.std.proofs.Common.{◌∙◌, ◌+◌, ℕ, arith, subst, sym}
-use Rattle.net_base.proofs.SlotFacts.{EarliestBelow, earlier_found, none_earlier}
+use Rattle.net_base.proofs.FragmentSlots.{EarliestBelow, earlier_found, none_earlier}
 use Rattle.net_base.proofs.storage.fragments.table.first_to_expire.Goals as goal
 use Rattle.net_base.proofs.storage.fragments.table.first_to_expire.Goals.{then-lt, else-lt}
 

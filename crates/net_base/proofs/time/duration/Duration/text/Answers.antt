@@ -1,6 +1,5 @@
 use Rattle.std.proofs.Common.{append_assoc}
-use Rattle.net_base.proofs.Places.{styled_unsigned}
-use Rattle.net_base.proofs.TextWrites.{text_written}
+use Rattle.net_base.proofs.Moments.{styled_unsigned, text_written}
 use Rattle.net_base.proofs.time.duration.Duration.text.Goals as goal
 
 pub returns : goal.returns

@@ -4,7 +4,7 @@ use Rattle.std.proofs.lemmas.Bool.{both_ways}
 use Rattle.net_assembler.specs.Positions.{IsMaximalRun, contains, lies_in}
 use Rattle.net_assembler.specs.RunLists.{set_of}
 use Rattle.net_base.specs.Fragments.{HasOther}
-use Rattle.net_base.proofs.Differences.{run_passed}
+use Rattle.net_base.proofs.FragmentFacts.{run_passed}
 use Rattle.net_base.proofs.storage.fragments.head.FragmentsHead.differs.Goals as goal
 
 pub loop-start-preserved : goal.loop-start-preserved

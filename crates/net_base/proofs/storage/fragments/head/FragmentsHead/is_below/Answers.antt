@@ -2,7 +2,7 @@ use Rattle.std.proofs.Common.{◌≡◌, ◌-◌, ℕ, ◌∙◌, sym, arith, le
 use Rattle.std.specs.List.{slice_get}
 use Rattle.net_assembler.specs.Positions.{Positions, AreMaximalRuns, maximal_runs, runs}
 use Rattle.net_assembler.specs.RunLists.{set_of}
-use Rattle.net_base.proofs.Overlaps.{some_last, no_last}
+use Rattle.net_base.proofs.FragmentFacts.{some_last, no_last}
 use Rattle.net_base.proofs.storage.fragments.head.FragmentsHead.is_below.Goals as goal
 
 -- what is found at the number of runs less 1 is the last run

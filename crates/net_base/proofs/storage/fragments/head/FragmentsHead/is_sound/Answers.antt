@@ -1,7 +1,6 @@
 use Rattle.std.proofs.Common.{◌∙◌, ◌≤◌, ℕ, arith, length, subst, ap, sym, unwrap_or, IsTrue}
 use Rattle.net_assembler.specs.RunLists.{HasSoundRuns, set_of}
-use Rattle.net_base.specs.Fragments.{IsBelow}
-use Rattle.net_base.specs.FragmentParts.{total_of}
+use Rattle.net_base.specs.Fragments.{IsBelow, total_of}
 use Rattle.net_base.proofs.storage.fragments.head.FragmentsHead.is_sound.Goals as goal
 
 pub returns : goal.returns

@@ -1,5 +1,5 @@
 use Rattle.std.proofs.Common.{arith}
-use Rattle.net_base.proofs.Overlaps.{below_nothing}
+use Rattle.net_base.proofs.FragmentFacts.{below_nothing}
 use Rattle.net_base.proofs.storage.fragments.head.FragmentsHead.new.Goals as goal
 
 pub returns-clause-sound : goal.returns-clause-sound

@@ -1,7 +1,7 @@
 use Rattle.std.proofs.Common.{◌≡◌}
 use Rattle.net_assembler.specs.Positions.{maximal_runs}
 use Rattle.net_assembler.specs.RunLists.{set_of}
-use Rattle.net_base.specs.FragmentParts.{meets_one}
+use Rattle.net_base.specs.Fragments.{meets_one}
 use Rattle.net_base.proofs.storage.fragments.head.FragmentsHead.overlaps.Given as goal
 
 -- none of the runs so far has one of the positions

@@ -1,9 +1,8 @@
 use Rattle.std.proofs.Common.{sym, ◌∙◌, Ok, Err}
 use Rattle.net_base.specs.declared.storage.fragments.table.AcceptError.TheVariants as accept
 use Rattle.std.proofs.lemmas.Bool.{both_ways}
-use Rattle.net_base.specs.Fragments.{begun, Differs}
-use Rattle.net_base.specs.FragmentTable.{is_for}
-use Rattle.net_base.proofs.FragmentAccepts.{begins, stays, kept, refused, other_bytes, none_differs}
+use Rattle.net_base.specs.Fragments.{begun, Differs, is_for}
+use Rattle.net_base.proofs.FragmentSlots.{begins, stays, kept, refused, other_bytes, none_differs}
 use Rattle.net_base.proofs.storage.fragments.table.FragmentSlot.accept.Goals as goal
 
 pub returns-in-Ok-clause-buffer : goal.returns-in-Ok-clause-buffer

@@ -1,17 +1,77 @@
--- The timer of RFC 6298, section 5, and the segment that is timed, in whole microseconds.
+-- The time until a retransmission, and its timer with the segment that is timed (RFC 6298), in whole microseconds.
+--     first_estimate r, next_estimate e r      the estimate after a first sample, and after one more
+--     before_samples t      a timeout before any sample
+--     within srtt_8 rttvar_4      the estimate of these numbers, of which no more count than samples can give
+--     timeout_of b e      the timeout that it gives, within the bounds b
+--     doubled b t      the timeout after it passed
+--     after_acknowledgement b sent now t      what an acknowledgement leaves
+--     IsSettled r e      SRTT is the sample r, and RTTVAR less than a microsecond
 --     restarted now t, started now t, stopped t      it runs from now on; the same unless it runs; it doesn't run
 --     times t from to      whether a segment is timed whose position is from `from` on and below `to`
 --     untimed t      none is
 --     after_sending, with_sample, after_acknowledged, after_expiry      what the calls leave
 --     Event, Connection, after_event, after_events      what happens to a connection, and what that leaves
-use Rattle.std.specs.Prelude.{◌≡◌, ◌↔◌, ℕ, ℤ, ◌<◌, ◌≤◌, ◌⊎◌, max, Bool, false, ◌&&◌, nat_lt, nat_le, int_le, IsTrue, IsFalse, All}
-use Rattle.std.specs.Prelude.{if◌then◌else◌, Option, Some, None, is_none, is_some, List, [], ◌∷◌, filter, map}
+use Rattle.std.specs.Prelude.{◌≡◌, ℕ, ℤ, ◌+◌, ◌-◌, ◌*◌, ◌/◌, ◌^◌, ◌<◌, ◌≤◌, min, max, Option, Some, None, is_none}
+use Rattle.std.specs.Prelude.{is_some, Bool, false, ◌&&◌, nat_lt, nat_le, int_le, IsTrue, if◌then◌else◌, List, []}
+use Rattle.std.specs.Prelude.{◌∷◌, filter, map}
 use Rattle.net_base.specs.Time.{elapsed, moment_after}
-use Rattle.net_tcp.specs.RetransmissionTimeout.{after_sample, before_samples, doubled}
+use Rattle.net_tcp.specs.Estimate.{Estimate}
 use Rattle.net_tcp.specs.declared.retransmission.TimeoutBounds.{TimeoutBounds}
+use Rattle.net_tcp.specs.declared.retransmission.RetransmissionTimeout.{RetransmissionTimeout}
+use Rattle.net_tcp.specs.declared.retransmission.Transmission.{Transmission}
+use Rattle.net_tcp.specs.declared.retransmission.Transmission.TheVariants.{Once, Repeated}
 use Rattle.net_tcp.specs.declared.retransmission_timer.TimedSegment.{TimedSegment}
 use Rattle.net_tcp.specs.declared.retransmission_timer.RetransmissionTimer.{RetransmissionTimer}
 
+-- ---- the timeout
+-- a sample, of which no more than 2 ^ 60 microseconds count
+abbrev pub sample : ℕ → ℕ
+sample r = min r (2 ^ 60)
+
+abbrev pub distance : ℕ → ℕ → ℕ
+distance a b = (a - b) + (b - a)
+
+abbrev pub first_estimate : ℕ → Estimate
+first_estimate r = record { srtt_8 = 8 * r; rttvar_4 = 2 * r }
+
+abbrev pub next_estimate : Estimate → ℕ → Estimate
+next_estimate e r = record {
+  srtt_8 = e.srtt_8 - e.srtt_8 / 8 + r;
+  rttvar_4 = e.rttvar_4 - e.rttvar_4 / 4 + distance (e.srtt_8 / 8) r;
+}
+
+-- SRTT and four times RTTVAR, which counts for a tick of the clock at least
+abbrev pub timeout_of : TimeoutBounds → Estimate → ℕ
+timeout_of b e = max b.least (min b.most (e.srtt_8 / 8 + max b.tick e.rttvar_4))
+
+abbrev pub doubled : TimeoutBounds → ℕ → ℕ
+doubled b t = max b.least (min b.most (2 * t))
+
+abbrev pub estimate_after : Option Estimate → ℕ → Estimate
+estimate_after None r = first_estimate r
+estimate_after (Some e) r = next_estimate e r
+
+abbrev pub within : ℕ → ℕ → Estimate
+within srtt_8 rttvar_4 = record { srtt_8 = min srtt_8 (2 ^ 63); rttvar_4 = min rttvar_4 (2 ^ 62) }
+
+abbrev pub before_samples : ℕ → RetransmissionTimeout
+before_samples t = record { estimate = None; timeout = t }
+
+abbrev pub after_sample : TimeoutBounds → ℕ → RetransmissionTimeout → RetransmissionTimeout
+after_sample b r t =
+    let e = estimate_after t.estimate (sample r) in
+    record { estimate = Some e; timeout = timeout_of b e }
+
+-- by Karn's rule a segment that was sent again gives no sample, and leaves a doubled timeout as it is
+abbrev pub after_acknowledgement : TimeoutBounds → Transmission → ℤ → RetransmissionTimeout → RetransmissionTimeout
+after_acknowledgement b (Once at) now t = after_sample b (elapsed now at) t
+after_acknowledgement b Repeated now t = t
+
+-- equal samples: SRTT becomes the sample, and RTTVAR less than a microsecond
+abbrev pub IsSettled : ℕ → Estimate → Type 0
+IsSettled r e = (e.srtt_8 / 8 ≡ r) × (e.rttvar_4 < 4)
+
+-- ---- the timer
 -- it doesn't run, and no segment is timed
 abbrev pub new_timer : ℕ → RetransmissionTimer
 new_timer t = record { timeout = before_samples t; expires_at = None; timed = None }
@@ -124,14 +184,6 @@ after_events b c (e ∷ es) = after_events b (after_event b c e) es
 abbrev pub sends_over : ℕ → List (ℕ × ℕ × ℤ) → List (ℕ × ℤ)
 sends_over pos log = map (λ r. (r.0, r.2)) (filter (λ r. nat_le r.0 pos && nat_lt pos r.1) log)
 
--- ---- laws
--- whatever happens, a timed position was sent once, as the first of a range, at the moment that its sample is counted
--- from
-abbrev pub TimedIsSentOnce : Type 0
-TimedIsSentOnce = (b : TimeoutBounds) (t first : ℕ) (es : List Event) →
-    let c = after_events b (opened t first) es in
-    (s : TimedSegment) → c.timer.timed ≡ Some s → sends_over s.pos c.log ≡ (s.pos, s.since) ∷ []
-
 abbrev pub runs : Connection → Bool
 runs c = is_some c.timer.expires_at
 
@@ -139,56 +191,22 @@ abbrev pub IsUnacknowledged : Connection → Type 0
 IsUnacknowledged c = c.first < c.sent
 
 abbrev pub IsNoStart : Event → Type 0
-IsNoStart (Sends pos end now) = Unit {0}
-IsNoStart (Acknowledges next now) = Unit {0}
-IsNoStart (Reports now) = Unit {0}
-IsNoStart (Looks now) = Unit {0}
 IsNoStart (Starts now) = ⊥
-IsNoStart Stops = Unit {0}
+IsNoStart _ = Unit {0}
 
 abbrev pub IsNoStop : Event → Type 0
-IsNoStop (Sends pos end now) = Unit {0}
-IsNoStop (Acknowledges next now) = Unit {0}
-IsNoStop (Reports now) = Unit {0}
-IsNoStop (Looks now) = Unit {0}
-IsNoStop (Starts now) = Unit {0}
 IsNoStop Stops = ⊥
-
--- unless it is stopped, the timer runs while something that was sent isn't acknowledged
-abbrev pub RunsWhileUnacknowledged : Type 0
-RunsWhileUnacknowledged = (b : TimeoutBounds) (t first : ℕ) (es : List Event) → All IsNoStop es →
-    let c = after_events b (opened t first) es in
-    IsUnacknowledged c → IsTrue (runs c)
-
--- and unless it is started, only then
-abbrev pub RestsUnlessStarted : Type 0
-RestsUnlessStarted = (b : TimeoutBounds) (t first : ℕ) (es : List Event) → All IsNoStart es →
-    let c = after_events b (opened t first) es in
-    IsTrue (runs c) → IsUnacknowledged c
+IsNoStop _ = Unit {0}
 
 -- what ends a timer that runs: a stop, or an acknowledgement of all that was sent, of which some wasn't acknowledged
 abbrev pub IsEnd : Connection → Event → Type 0
-IsEnd c (Sends pos end now) = ⊥
 IsEnd c (Acknowledges next now) = IsUnacknowledged c × (next ≡ c.sent)
-IsEnd c (Reports now) = ⊥
-IsEnd c (Looks now) = ⊥
-IsEnd c (Starts now) = ⊥
 IsEnd c Stops = Unit {0}
-
--- nothing else does, whatever started it
-abbrev pub RunsToAnEnd : Type 0
-RunsToAnEnd = (b : TimeoutBounds) (c : Connection) (e : Event) → IsTrue (runs c) →
-    IsFalse (runs (after_event b c e)) → IsEnd c e
+IsEnd c _ = ⊥
 
 -- the moment at which a timer that runs expires is moved by an expiry and by what is new, or it is stopped
 abbrev pub IsMove : Connection → Event → Type 0
-IsMove c (Sends pos end now) = ⊥
 IsMove c (Acknowledges next now) = (c.first < next) × (next ≤ c.sent)
-IsMove c (Reports now) = ⊥
 IsMove c (Looks now) = IsTrue (has_expired c.timer now)
-IsMove c (Starts now) = ⊥
 IsMove c Stops = Unit {0}
-
-abbrev pub ExpiryMovesBy : Type 0
-ExpiryMovesBy = (b : TimeoutBounds) (c : Connection) (e : Event) → IsTrue (runs c) →
-    ((after_event b c e).timer.expires_at ≡ c.timer.expires_at) ⊎ IsMove c e
+IsMove c _ = ⊥

@@ -1,0 +1,189 @@
+-- The windows of both sides, and which arriving segments are acceptable (RFC 9293, section 3.10.7.4; RFC 7323, section
+-- 2), where positions don't wrap.
+--     IsWithin next window pos      the window of `window` positions from next on contains pos
+--     IsInTable      the four cases of the RFC's table
+--     Meets a m b n      the m positions from a on and the n positions from b on have one in common
+--     IsAcceptable      the segment's positions meet the window
+--     flag_at k flags      the bit k of TCP's flags, in which FIN is 0, SYN 1, RST 2 and ACK 4
+--     IsProbe      its first position is the one at which the window is shut
+--     IsAnswered, IsIgnored      nothing of it is taken, and it is answered by an acknowledgement, or by nothing
+--     IsArrival ..answers next window s a      a is what to do with it, of five answers
+--     shift_count scale      the scale that counts: in place of one above 14 it is 14 (RFC 7323, section 2.3)
+--     field_for scale free      the number announced if `free` positions are free
+--     announced next scale field      the right edge that it promises, with this first missing position
+--     IsScaleFor capacity scale      the least scale by which a capacity can be announced
+--     worth capacity mss, gain edge scale next end      how far the edge must move for an update of its own, and would
+--     IsNewer w seq ack      the segment of these numbers is not older than the one that w is from
+--     Replaces w seq ack      it is newer, or acknowledges more
+--     window_from seq ack window      the window that a segment leaves
+--     opened_to w edge      it reaches to the edge at least
+--     with_segment w seq ack window      the window after a segment
+--     after_update w first sent seq ack window      the window that `update` leaves
+--     acknowledgement_number w first sent      the number of a segment without positions
+--     BothEnds w first sent next edge      what the two ends know of one another
+--     Announcement, Heard      an arriving segment; what a sender heard so far
+--     heard h s, heard_all h ss      what it heard after one more, and after a list
+use Rattle.std.specs.Prelude.{◌≡◌, ◌≢◌, ◌↔◌, ℕ, zero, suc, ◌+◌, ◌-◌, ◌*◌, ◌/◌, ◌%◌, ◌^◌, ◌<◌, ◌≤◌, ◌⊎◌, ◌||◌, ◌&&◌}
+use Rattle.std.specs.Prelude.{◌==◌, nat_lt, nat_le, if◌then◌else◌, Bool, IsTrue, IsFalse, min, max, List, [], ◌∷◌}
+use Rattle.net_tcp.specs.declared.arriving.Segment.{Segment}
+use Rattle.net_tcp.specs.declared.peer_window.PeerWindow.{PeerWindow}
+
+-- ---- arriving segments
+abbrev pub IsWithin : ℕ → ℕ → ℕ → Type 0
+IsWithin next window pos = (next ≤ pos) × (pos < next + window)
+
+-- next, the window's size, the first position of the segment, and how many it has
+abbrev pub IsInTable : ℕ → ℕ → ℕ → ℕ → Type 0
+IsInTable next zero seq zero = seq ≡ next
+IsInTable next (suc w) seq zero = IsWithin next (suc w) seq
+IsInTable next zero seq (suc n) = ⊥
+IsInTable next (suc w) seq (suc n) = IsWithin next (suc w) seq ⊎ IsWithin next (suc w) (seq + n)
+
+abbrev pub Meets : ℕ → ℕ → ℕ → ℕ → Type 0
+Meets a m b n = (p : ℕ) × IsWithin a m p × IsWithin b n p
+
+-- a segment of no positions counts as the one at which it stands, and if the window is empty it
+-- must stand at next
+abbrev pub IsAcceptable : ℕ → ℕ → ℕ → ℕ → Type 0
+IsAcceptable next zero seq zero = seq ≡ next
+IsAcceptable next (suc w) seq zero = IsWithin next (suc w) seq
+IsAcceptable next window seq (suc n) = Meets next window seq (suc n)
+
+abbrev pub flag_at : ℕ → ℕ → ℕ
+flag_at k flags = flags / 2 ^ k % 2
+
+-- the RFC's special allowance for a window of no positions, in which no segment with any is acceptable
+abbrev pub IsProbe : ℕ → ℕ → ℕ → ℕ → Type 0
+IsProbe next window seq len = (window ≡ 0) × (seq ≡ next) × (0 < len)
+
+-- a reset in the window, but not at next; a SYN; and what isn't acceptable
+abbrev pub IsAnswered : ℕ → ℕ → Segment → Type 0
+IsAnswered next window s =
+    (IsTrue s.rst × (s.seq ≢ next) × IsAcceptable next window s.seq s.len)
+    ⊎ (IsFalse s.rst × (IsTrue s.syn
+    ⊎ ((¬ IsAcceptable next window s.seq s.len) × (¬ IsProbe next window s.seq s.len))))
+
+-- a reset out of the window; and what acknowledges nothing
+abbrev pub IsIgnored : ℕ → ℕ → Segment → Type 0
+IsIgnored next window s =
+    (IsTrue s.rst × (s.seq ≢ next) × (¬ IsAcceptable next window s.seq s.len))
+    ⊎ (IsFalse s.rst × IsFalse s.syn × IsFalse s.ack
+    × (IsAcceptable next window s.seq s.len ⊎ IsProbe next window s.seq s.len))
+
+-- each of five answers exactly where its rule says
+pub record IsArrival {A : Type 0} (takes acknowledges answers resets ignores : A) (next window : ℕ) (s : Segment) (a : A)
+    : Type 0 where
+  pub take : (a ≡ takes) ↔ (IsFalse s.rst × IsFalse s.syn × IsTrue s.ack × IsAcceptable next window s.seq s.len)
+  pub only : (a ≡ acknowledges) ↔ (IsFalse s.rst × IsFalse s.syn × IsTrue s.ack × IsProbe next window s.seq s.len)
+  pub answer : (a ≡ answers) ↔ IsAnswered next window s
+  pub reset : (a ≡ resets) ↔ (IsTrue s.rst × (s.seq ≡ next))
+  pub ignored : (a ≡ ignores) ↔ IsIgnored next window s
+
+-- ---- the window that a receiver announces
+abbrev pub shift_count : ℕ → ℕ
+shift_count scale = min scale 14
+
+abbrev pub field_for : ℕ → ℕ → ℕ
+field_for scale free = min (free / 2 ^ scale) 65535
+
+abbrev pub announced : ℕ → ℕ → ℕ → ℕ
+announced next scale field = next + field * 2 ^ scale
+
+pub record IsScaleFor (capacity scale : ℕ) : Type 0 where
+  pub most : scale ≤ 14
+  pub fits : (capacity / 2 ^ scale ≤ 65535) ⊎ (scale ≡ 14)
+  pub least : (k : ℕ) → k < scale → 65535 < capacity / 2 ^ k
+
+-- half of the capacity, rounded up, or one segment; and at least 1 (RFC 9293, section 3.8.6.2.2)
+abbrev pub worth : ℕ → ℕ → ℕ
+worth capacity mss = max 1 (min (capacity - capacity / 2) mss)
+
+-- how far the edge would move
+abbrev pub gain : ℕ → ℕ → ℕ → ℕ → ℕ
+gain edge scale next window_end = announced next scale (field_for scale (window_end - next)) - edge
+
+-- ---- the window that the peer announced
+-- the RFC's SND.WL1 is w.seq, and its SND.WL2 is w.ack
+abbrev pub IsNewer : PeerWindow → ℕ → ℕ → Type 0
+IsNewer w seq ack = (w.seq < seq) ⊎ ((w.seq ≡ seq) × (w.ack ≤ ack))
+
+abbrev pub is_newer : PeerWindow → ℕ → ℕ → Bool
+is_newer w seq ack = nat_lt w.seq seq || ((w.seq == seq) && nat_le w.ack ack)
+
+-- a segment that acknowledges more was sent later, whatever its number is. The RFC has only IsNewer, by
+-- which one forged segment ahead of all others shuts out each later one
+abbrev pub Replaces : PeerWindow → ℕ → ℕ → Type 0
+Replaces w seq ack = (w.ack < ack) ⊎ IsNewer w seq ack
+
+abbrev pub replaces : PeerWindow → ℕ → ℕ → Bool
+replaces w seq ack = nat_lt w.ack ack || is_newer w seq ack
+
+-- its edge is a position, so it is at most the last one
+abbrev pub window_from : ℕ → ℕ → ℕ → PeerWindow
+window_from seq ack window = record { edge = min (ack + window) (2 ^ 64 - 1); seq = seq; ack = ack }
+
+abbrev pub opened_to : PeerWindow → ℕ → PeerWindow
+opened_to w edge = record w { edge = max w.edge edge }
+
+abbrev pub with_segment : PeerWindow → ℕ → ℕ → ℕ → PeerWindow
+with_segment w seq ack window = if replaces w seq ack then window_from seq ack window else w
+
+-- the window after `update`: as it was, if what the segment acknowledges is below first or above sent
+abbrev pub after_update : PeerWindow → ℕ → ℕ → ℕ → ℕ → ℕ → PeerWindow
+after_update w first sent seq ack window = if nat_le first ack && nat_le ack sent then with_segment w seq ack window else w
+
+-- what was sent, but not beyond the window, nor below first
+abbrev pub acknowledgement_number : PeerWindow → ℕ → ℕ → ℕ
+acknowledgement_number w first sent = min sent (max w.edge first)
+
+-- the window whose numbers are 0
+abbrev pub no_window : PeerWindow
+no_window = record { edge = 0; seq = 0; ack = 0 }
+
+-- the two ends: the sender was told of an edge that was promised, and the receiver has what it
+-- acknowledged, nothing that wasn't sent, and nothing beyond its promise
+pub record BothEnds (w : PeerWindow) (first sent next edge : ℕ) : Type 0 where
+  pub told : w.edge ≤ edge
+  pub begun : first ≤ next
+  pub come : next ≤ sent
+  pub kept : next ≤ edge
+
+-- ---- segments, one after another
+-- the numbers of an acceptable segment, and the end of what was sent when it came
+pub record Announcement : Type 0 where
+  pub seq : ℕ
+  pub ack : ℕ
+  pub window : ℕ
+  pub sent : ℕ
+
+-- the window, and the first position that isn't acknowledged
+pub record Heard : Type 0 where
+  pub peer : PeerWindow
+  pub first : ℕ
+
+-- the sender takes what a segment acknowledges
+abbrev pub acknowledged : Heard → Announcement → Heard
+acknowledged h s = if nat_le h.first s.ack && nat_le s.ack s.sent then record h { first = s.ack } else h
+
+-- `update` takes the window that it announces
+abbrev pub updated : Heard → Announcement → Heard
+updated h s = record h { peer = after_update h.peer h.first s.sent s.seq s.ack s.window }
+
+abbrev pub heard : Heard → Announcement → Heard
+heard h s = acknowledged (updated h s) s
+
+abbrev pub heard_all : Heard → List Announcement → Heard
+heard_all h [] = h
+heard_all h (s ∷ more) = heard_all (heard h s) more
+
+-- two segments of one peer: it didn't send s after t, since neither number of what it sends ever falls
+pub record IsNoLater (s t : Announcement) : Type 0 where
+  pub seq : s.seq ≤ t.seq
+  pub ack : s.ack ≤ t.ack
+  pub same : s.seq ≡ t.seq → s.ack ≡ t.ack → s.window ≡ t.window
+
+-- what was heard is from no later segment
+pub record IsFromNoLater (h : Heard) (t : Announcement) : Type 0 where
+  pub seq : h.peer.seq ≤ t.seq
+  pub ack : h.peer.ack ≤ t.ack
+  pub first : h.first ≤ t.ack
