@@ -3,23 +3,17 @@ use Rattle.std.proofs.Common.{◌≡◌, ℕ, ◌+◌, ◌-◌, ◌<◌, ◌≤�
 use Rattle.std.proofs.Common.{nat_eq, nat_le, refl, sym, ap, subst, ◌∙◌, arith, ⊎_elim, append_assoc, drop-drop}
 use Rattle.std.proofs.lemmas.Bool.{cases_lt, cond_both, cond-false}
 use Rattle.std.proofs.lemmas.List.Elements.{All-head, All-tail, All-weaker}
-use Rattle.net_receiver.specs.ReceiverState.{ReceiverState, next_position}
-use Rattle.net_receiver.specs.OneStream.{ReceivesFrom}
-use Rattle.net_receiver.specs.SenderState.{Sends, with_written}
-use Rattle.net_receiver.specs.Finite.{fresh_finite, acknowledged}
-use Rattle.net_receiver.specs.FiniteSender.{FiniteSenderState, fresh_finite_sender, first_number, numbers_end}
-use Rattle.net_receiver.specs.FiniteSender.{finite_room, accepts, acknowledged_below}
-use Rattle.net_receiver.specs.FiniteSenderLaws.{SenderCommand, Writes, Closes, Marks, Acknowledges, written_of}
-use Rattle.net_receiver.specs.FiniteSenderLaws.{sender_after_command, sender_after_commands, bytes_written}
-use Rattle.net_receiver.specs.FiniteSenderLaws.{IsSoundSent}
-use Rattle.net_receiver.specs.FiniteLaws.{FiniteCommand, Arrives, Reads, CommandMatches, MatchesFinite}
-use Rattle.net_receiver.specs.FiniteLaws.{finite_after_commands}
+use Rattle.net_receiver.specs.{next_position, ReceivesFrom, Sends, with_written, fresh_finite, acknowledged}
+use Rattle.net_receiver.specs.{FiniteSenderState, fresh_finite_sender, first_number, numbers_end, finite_room}
+use Rattle.net_receiver.specs.{accepts, acknowledged_below, SenderCommand, Writes, Closes, Marks, Acknowledges}
+use Rattle.net_receiver.specs.{written_of, sender_after_command, sender_after_commands, bytes_written, IsSoundSent}
+use Rattle.net_receiver.specs.{FiniteCommand, Arrives, Reads, CommandMatches, MatchesFinite, finite_after_commands}
+use Rattle.net_receiver.specs.ReceiverState.{ReceiverState}
 use Rattle.net_receiver.specs.Transfers.{ComesFrom, SaysAtMost, AnyPathCarries}
-use Rattle.net_receiver.proofs.CallClauses.{queue_of}
-use Rattle.net_receiver.proofs.Senders.{fresh_sends}
-use Rattle.net_receiver.proofs.FiniteReceivers.{reads_the_stream}
-use Rattle.net_receiver.proofs.FiniteSchedules.{nexts_grow}
-use Rattle.net_receiver.proofs.FiniteSenders.{fresh_sent_is_sound, sound_sent_stays, closed_stays, lent_is_of_stream}
+use Rattle.net_receiver.proofs.OneStream.{queue_of}
+use Rattle.net_receiver.proofs.Senders.{fresh_sends, fresh_sent_is_sound, sound_sent_stays, closed_stays}
+use Rattle.net_receiver.proofs.Senders.{lent_is_of_stream}
+use Rattle.net_receiver.proofs.FiniteReceivers.{reads_the_stream, nexts_grow}
 
 sound_after : (s : FiniteSenderState) (cs : List SenderCommand) → IsSoundSent s → IsSoundSent (sender_after_commands s cs)
 sound_after s [] sound = sound

@@ -4,10 +4,8 @@ use Rattle.std.proofs.lemmas.List.{take-take}
 use Rattle.net_ring.specs.Ring.{rewind_if_empty, with_elements_wrapping, with_enqueued, write_at}
 use Rattle.net_ring.specs.RingHead.{IsSound, ring_at}
 use Rattle.net_ring.proofs.Rotations.{length-queue}
-use Rattle.net_receiver.specs.SenderState.{with_written, Sends}
-use Rattle.net_receiver.specs.SenderHeads.{sender_of}
-use Rattle.net_receiver.specs.FiniteSender.{open_room}
-use Rattle.net_receiver.proofs.EndInvariant.{eq_tests}
+use Rattle.net_receiver.specs.{with_written, Sends, sender_of, open_room}
+use Rattle.net_receiver.proofs.FiniteReceivers.{eq_tests}
 use Rattle.net_receiver.proofs.finite_sender_head.FiniteSenderHead.write.Goals as goal
 
 pub returns-clause-count : goal.returns-clause-count
