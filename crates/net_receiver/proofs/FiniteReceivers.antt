@@ -320,7 +320,7 @@ first_is : (f : ℕ) (x : List ℕ) (v : ReceiverState) → ReceivesFrom f x v �
 unfolding ReceivesFrom
 first_is f x v r = r.0
 
--- off byte is at or above the stream's end
+-- no byte is at or above the stream's end
 top_of_stream : (f : ℕ) (x : List ℕ) (v : ReceiverState) → ReceivesFrom f x v → top_of v ≤ f + length x
 top_of_stream f x v r =
     let first = first_is f x v r in

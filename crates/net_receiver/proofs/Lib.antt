@@ -1,12 +1,11 @@
 -- The lemmas of the theorems.
 pub mod Sets
-pub mod OneStream
-pub mod Heads
+pub mod Schedules
 pub mod Places
-pub mod Scoreboards
+pub mod Heads
+pub mod Theorems
+pub mod OneStream
 pub mod NewestRuns
+pub mod Scoreboards
 pub mod FiniteReceivers
 pub mod Senders
-pub mod Transfers
-pub mod Schedules
-pub mod Theorems
