@@ -910,15 +910,18 @@ bool net_base_scoreboard_is_sound(
     size_t runs_length);
 
 /** Reports the positions from `start` on and below `end`, as a SACK block of an acknowledgement
- * does. Blocks may overlap. Positions below `base` are known already.
+ * does. Blocks may overlap. Positions below `base` are known already. `sent` is the position after
+ * the last byte that was ever sent.
  *
- * Returns `NET_BASE_TOO_MANY_RUNS`, and changes nothing, if the block begins beyond `base`, and
- * there would be more runs than the slice has elements. Then the block isn't known, and its bytes
- * are sent again.
+ * Returns `NET_BASE_REFUSED`, and changes nothing, if no such block can be: `start` isn't below
+ * `end`, `end` is above `sent`, or the block begins beyond `base` and ends 2^32 or more above it,
+ * while TCP's numbers have 32 bits.
  *
- * It is refused if `start` isn't below `end`, `end` is above `sent`, or the block begins beyond
- * `base` and ends 2^32 or more above it, or if `scoreboard` isn't sound with `runs`:
- * `NET_BASE_REFUSED`, and nothing changes.
+ * Returns `NET_BASE_TOO_MANY_RUNS`, and changes nothing, if such a block can be, it begins beyond
+ * `base`, and there would be more runs than the slice has elements. Then the block isn't known,
+ * and its bytes are sent again.
+ *
+ * It is refused if `scoreboard` isn't sound with `runs`: `NET_BASE_REFUSED`, and nothing changes.
  */
 NET_BASE_MUST_USE enum net_base_status net_base_scoreboard_report(
     struct net_base_scoreboard *scoreboard, struct net_base_run *runs, size_t runs_length,

@@ -60,8 +60,6 @@ TESTS = [
      "`place` isn't that of a ring of `{c1}.len()` bytes, `next` doesn't fit 64 bits, or `held.used` is above `{c2}.len()`",
      False),
 ]
-# What a method requires and a row's own test says, by what that has.
-IMPLIED = {"start ≤ end": "IsReport", "scoreboard.old.base < start → end < scoreboard.old.base + 2 ^ 32": "IsReport"}
 # Clauses of what a call leaves, which hold too where nothing changes; the last where the call counts no bytes.
 STAY = {"canonical", "exact", "others", "sends"}
 NONE = "NET_BASE_NONE"
@@ -98,6 +96,8 @@ RESULTS = {
         ffi.STATUS, "status_of({call})", *STATUS, "(done_or_many result)", (("status", "result < 2"),)),
     "Result<(), FragmentError>": Result(
         ffi.STATUS, "status_of_fragment({call})", *STATUS, "(done_or_error result)", (("status", "IsStatus result"),)),
+    "Result<(), ReportError>": Result(
+        ffi.STATUS, "status_of_report({call})", *STATUS, "(done_or_report_error result)", (("status", "result < 3"),)),
     "Result<usize, TooManyHolesError>": Result(
         "FrontLength", "front_length({call})", "refused_front_length()",
         "(result.status ≡ NET_BASE_REFUSED) × (result.length ≡ 0)", "the status is `NET_BASE_REFUSED`, and the length 0",
@@ -165,10 +165,10 @@ def uses_of(path):
 
 
 class Export:
-    """The export of a row: METHOD or NAME = METHOD, perhaps more parameters, `-> RESULT`, `if CODE : CLAUSE : WORDS`."""
+    """The export of a row: METHOD or NAME = METHOD, perhaps `-> RESULT`, `if CODE : CLAUSE : WORDS`."""
 
     def __init__(self, head, row):
-        words = re.fullmatch(r"(\w+)(?: = (\w+))?(?: with (.+?))?(?: -> (.+?))?(?: if (.+?) : (.+?) : (.+))?", row)
+        words = re.fullmatch(r"(\w+)(?: = (\w+))?(?: -> (.+?))?(?: if (.+?) : (.+?) : (.+))?", row)
         if not words or (words[2] or words[1]) not in head.methods:
             stop(f"{head.section}: no method: {row}")
         self.head, self.name, self.method = head, words[1], words[2] or words[1]
@@ -186,17 +186,14 @@ class Export:
                 self.copied.append(name)
                 kind = f"&{kind}"
             self.parameters.append((name, kind))
-        self.besides = [tuple(it.split(": ")) for it in words[3].split(", ")] if words[3] else []
-        self.parameters += self.besides
         self.requires = [self.named(clause) for _, clause in of.requires]
         self.ensures = [(name, self.named(clause)) for name, clause in of.ensures]
         self.tests, self.duties = [], []
         for clause in self.requires:
-            if clause not in IMPLIED or IMPLIED[clause] not in words[6]:
-                self.take(clause)
-        if words[5]:
-            self.tests.insert(0, (words[6], words[5], words[7], True))
-        self.returned(words[4], of.result)
+            self.take(clause)
+        if words[4]:
+            self.tests.insert(0, (words[5], words[4], words[6], True))
+        self.returned(words[3], of.result)
 
     def named(self, clause):
         """A clause of the method with the export's names."""
@@ -326,8 +323,8 @@ class Export:
 
     def given(self):
         """The parameters that the method gets."""
-        return [it for it in self.parameters[self.head.type != FREE :] if it not in self.besides
-                and not (isinstance(self.result.value, str) and f"{it[0]}.new" == self.result.value)]
+        return [it for it in self.parameters[self.head.type != FREE :]
+                if not (isinstance(self.result.value, str) and f"{it[0]}.new" == self.result.value)]
 
     def in_c(self, text):
         """The method's comment with C's names: those of parameters, exports and statuses. What is returned is written where the
@@ -391,7 +388,7 @@ def with_fields(clause, fields):
 EXPORTED = {}
 # Variants that comments name, as C's statuses.
 VARIANTS = {"TooManyHolesError": "TOO_MANY_RUNS", "TooManyHoles": "TOO_MANY_RUNS", "TooLong": "TOO_LONG", "OtherSize": "OTHER_SIZE",
-            "OtherEnd": "OTHER_END", "Take": "TAKE", "AcknowledgementOnly": "ACKNOWLEDGEMENT_ONLY", "Answer": "ANSWER",
+            "OtherEnd": "OTHER_END", "NoBlock": "REFUSED", "Take": "TAKE", "AcknowledgementOnly": "ACKNOWLEDGEMENT_ONLY", "Answer": "ANSWER",
             "Ignore": "IGNORE", "Reset": "RESET"}
 
 
@@ -437,7 +434,7 @@ OWN = {
     "Rattle.std.specs.Prelude": "◌≡◌ ◌≢◌ ◌↔◌ ◌≤◌ ◌<◌ ◌-◌ ◌+◌ ◌^◌ ◌++◌ ◌⊎◌ IsTrue IsFalse length unwrap_or if◌then◌else◌",
     "Rattle.net_ffi.specs.Refusals": "no_number nowhere",
     "Rattle.net_base.specs.declared.storage.fragments.FragmentError.TheVariants": "TooLong OtherSize TooManyHoles",
-    "Rattle.net_ffi.specs.Results": "done_or_many length_or_many done_or_error IsStatus",
+    "Rattle.net_ffi.specs.Results": "done_or_many length_or_many done_or_error done_or_report_error IsStatus",
 }
 SYMBOL = re.compile(r"◌?([^\w◌\s(){},;]+)◌?")
 
@@ -492,10 +489,10 @@ def file_of(head, exports):
 
 CODE = {name: module for module, names in {
     "crate::refusals": "NET_BASE_ACKNOWLEDGEMENT_ONLY NET_BASE_ANSWER NET_BASE_IGNORE NET_BASE_RESET NET_BASE_TAKE NET_BASE_DONE NET_BASE_REFUSED Status no_number refused_front_length refused_hole refused_run refused_segment_span refused_span",
-    "crate::results": "FrontLength Hole SegmentSpan front_length number_of run_of segment_span status_of status_of_fragment",
+    "crate::results": "FrontLength Hole SegmentSpan front_length number_of run_of segment_span status_of status_of_fragment status_of_report",
     "crate::receiver": "has_next", "crate::finite_receiver": "has_number",
     "net_assembler": "AssemblerHead Run", "net_ring": "RingHead Span", "net_base::storage": "FragmentsHead",
-    "net_packets": "PacketSlot PacketsHead", "net_receiver": "FiniteReceiverHead FiniteSenderHead HeldRun ReceiverHead ScoreboardHead SenderHead",
+    "net_packets": "PacketSlot PacketsHead", "net_receiver": "FiniteReceiverHead FiniteSenderHead HeldRun ReceiverHead ReportError ScoreboardHead SenderHead",
     "net_numbers": "SentNumbers", "net_tcp": "AdvertisedWindow Announcement PartsSum PeerWindow Segment",
 }.items() for name in names.split()}
 

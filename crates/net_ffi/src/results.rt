@@ -1,15 +1,17 @@
 //! Results of methods, as exports return them.
 ghost use Rattle.std.specs.Prelude.{◌≡◌, ◌↔◌, ◌<◌, unwrap_or};
-ghost use Rattle.net_ffi.specs.Results.{done_or_many, length_or_many, done_or_error, IsStatus};
+ghost use Rattle.net_ffi.specs.Results.{done_or_many, length_or_many, done_or_error, done_or_report_error};
+ghost use Rattle.net_ffi.specs.Results.{IsStatus};
 ghost use Rattle.net_tcp.specs.declared.arriving.Arrival.TheVariants.{Take, AcknowledgementOnly, Answer, Ignore, Reset};
 
 use crate::refusals::{
     NET_BASE_ACKNOWLEDGEMENT_ONLY, NET_BASE_ANSWER, NET_BASE_DONE, NET_BASE_IGNORE,
-    NET_BASE_OTHER_SIZE, NET_BASE_RESET, NET_BASE_TAKE, NET_BASE_TOO_LONG, NET_BASE_TOO_MANY_RUNS,
-    Status,
+    NET_BASE_OTHER_SIZE, NET_BASE_REFUSED, NET_BASE_RESET, NET_BASE_TAKE, NET_BASE_TOO_LONG,
+    NET_BASE_TOO_MANY_RUNS, Status,
 };
 use net_assembler::{Run, TooManyHolesError};
 use net_base::storage::FragmentError;
+use net_receiver::ReportError;
 use net_ring::Span;
 use net_tcp::Arrival;
 
@@ -91,6 +93,19 @@ pub(crate) fn status_of_fragment(done: Result<(), FragmentError>) -> Status
         Err(FragmentError::TooManyHoles) => NET_BASE_TOO_MANY_RUNS,
         Err(FragmentError::TooLong) => NET_BASE_TOO_LONG,
         Err(FragmentError::OtherSize) => NET_BASE_OTHER_SIZE,
+    }
+}
+
+/// Returns the status of a call that reports a block.
+#[inline(always)]
+pub(crate) fn status_of_report(done: Result<(), ReportError>) -> Status
+    ensures same { done_or_report_error result ≡ done }
+    ensures small { result < 3 }
+{
+    match done {
+        Ok(()) => NET_BASE_DONE,
+        Err(ReportError::TooManyHoles) => NET_BASE_TOO_MANY_RUNS,
+        Err(ReportError::NoBlock) => NET_BASE_REFUSED,
     }
 }
 

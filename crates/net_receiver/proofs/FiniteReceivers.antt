@@ -1,37 +1,248 @@
--- The laws of a receiver of a stream that ends.
-use Rattle.std.proofs.Common.{◌≡◌, ◌⊎◌, inl, inr, ℕ, ◌+◌, ◌-◌, ◌<◌, ◌≤◌, Bool, true, false, cond, List, [], ◌∷◌, ◌++◌}
-use Rattle.std.proofs.Common.{length, take, drop, min, All, nat_eq, nat_le, nat_lt, None, slice_get, refl, sym, ap}
-use Rattle.std.proofs.Common.{◌∙◌, arith, ⊎_elim, take_all, append_assoc, append-nil, take-add}
-use Rattle.std.specs.FinMap as fin
-use Rattle.std.proofs.lemmas.Bool.{both_ways, cond_both, eqb-true, le-leb, lt-ltb, and_from, and_parts}
+-- A receiver of a stream that ends: where its bytes are, its laws, and lists of segments and reads.
+use Rattle.std.proofs.Common.{◌≡◌, ◌⊎◌, inl, inr, ℕ, ◌+◌, ◌-◌, ◌<◌, ◌≤◌, ◌&&◌, Bool, true, false, not, cond, List, []}
+use Rattle.std.proofs.Common.{◌∷◌, length, take, min, nat_le, nat_eq, is_ok, is_some, Result, Err, refl, sym, ap, ◌∙◌}
+use Rattle.std.proofs.Common.{arith, ⊎_elim, length-take, length-drop, ◌++◌, drop, All, nat_lt, None, slice_get}
+use Rattle.std.proofs.Common.{take_all, append_assoc, append-nil, take-add, max, subst}
+use Rattle.std.specs.Ordering.{nat_cmp}
+use Rattle.std.proofs.lemmas.Bool.{both_ways, cases_lt, cond_both, and_parts, and_cases, and_left, not-false}
+use Rattle.std.proofs.lemmas.Bool.{or_cases, or_left, or_right, leb-true, eqb-true, le-ltb, ltb-true, le-leb, lt-ltb}
+use Rattle.std.proofs.lemmas.Bool.{and_from, cases_Bool, cond-false, ltb-false}
 use Rattle.std.proofs.lemmas.Bool.Decides.{nat_tests}
-use Rattle.std.proofs.lemmas.Option.{slice_get_within}
-use Rattle.std.proofs.lemmas.List.{take-take}
-use Rattle.std.proofs.lemmas.List.Elements.{All-head, All-tail}
-use Rattle.net_receiver.specs.ReceiverState.{Segment, ReceiverState, next_position, limit_of}
-use Rattle.net_receiver.specs.OneStream.{MatchesStream, ReceivesFrom}
-use Rattle.net_receiver.specs.Finite.{FiniteState, no_end, fresh_finite, top_of, knows_end, can_end, bytes_end}
-use Rattle.net_receiver.specs.Finite.{below_end, finite_after, is_complete, acknowledged, has_read_all, IsSoundEnd}
-use Rattle.net_receiver.specs.Finite.{with_error, bytes_result, has_other_end}
-use Rattle.net_receiver.specs.FiniteLaws.{AcknowledgedGrows, EndIsTaken, AllBytesComplete, SameEndConverges}
-use Rattle.net_receiver.specs.FiniteLaws.{FiniteCommand, Arrives, Reads, finite_after_command, finite_after_commands}
-use Rattle.net_receiver.specs.FiniteLaws.{bytes_of, bytes_taken, CommandMatches, ReceivesFinite}
-use Rattle.net_receiver.specs.FiniteLaws.{SoundEndStays, EndStays, SegmentOfStream, ReadsTheStream}
-use Rattle.std.specs.Prelude.{IsOk, is_ok, Result, Ok, Err}
+use Rattle.std.proofs.lemmas.Grind.{common_steps}
+use Rattle.net_assembler.specs.Positions.{bound_of, positions, contains, Positions}
+use Rattle.net_assembler.proofs.Positions.{has, contains-positions}
+use Rattle.net_receiver.specs.{Piece, piece, piece_byte_at, piece_within, Segment, state_after, verdict, numbers}
+use Rattle.net_receiver.specs.{domain, next_position, limit_of, receiver_with_piece, receiver_after_command}
+use Rattle.net_receiver.specs.{receiver_after_read, fresh_receiver, FiniteState, no_end, top_of, knows_end, can_end}
+use Rattle.net_receiver.specs.{bytes_end, below_end, end_after, has_other_end, finite_after, finite_after_read}
+use Rattle.net_receiver.specs.{bytes_result, finite_result, with_error, fresh_finite, IsSoundEnd, finite_of}
+use Rattle.net_receiver.specs.{finite_storage_after, receiver_of, HasSoundParts, storage_after, MatchesStream}
+use Rattle.net_receiver.specs.{ReceivesFrom, is_complete, acknowledged, has_read_all, AcknowledgedGrows, EndIsTaken}
+use Rattle.net_receiver.specs.{AllBytesComplete, SameEndConverges, FiniteCommand, Arrives, Reads}
+use Rattle.net_receiver.specs.{finite_after_command, finite_after_commands, bytes_of, bytes_taken, CommandMatches}
+use Rattle.net_receiver.specs.{ReceivesFinite, SoundEndStays, EndStays, SegmentOfStream, ReadsTheStream, CommandValue}
+use Rattle.net_receiver.specs.{Read, SegmentReply, with_sack, setting, Refines, receiver_after_commands}
+use Rattle.net_receiver.specs.{receiver_reply, receiver_replies, state_from, IsAccepted, bytes_read, Brings}
+use Rattle.net_receiver.specs.{MatchesFinite, plain_of, plain_commands, AreAccepted, BringsByte, BringsEnd, Resends}
+use Rattle.net_receiver.specs.{EndsWithin, FiniteCompletes, FiniteRecovers, ResentIsRead, CommandFits}
+use Rattle.net_receiver.specs.ReceiverState.{ReceiverState}
+use Rattle.net_receiver.specs.FiniteSchedules.{FiniteSchedules}
+use Rattle.net_receiver.specs.declared.finite_receiver_head.FiniteReceiverHead.{FiniteReceiverHead}
+use Rattle.net_receiver.specs.declared.receiver_head.ReceiverHead.{ReceiverHead}
 use Rattle.net_assembler.specs.declared.assembler.error.TooManyHolesError.{TooManyHolesError}
 use Rattle.net_receiver.specs.declared.kept.KeptBytes.{KeptBytes}
+use Rattle.net_ring.specs.Ring.{RingState, queue, spare}
+use Rattle.net_ring.specs.RingHead.{ring_at}
+use Rattle.net_assembler.specs.RunLists.{set_of}
+use Rattle.net_receiver.proofs.Heads.{queue_size}
+use Rattle.net_receiver.proofs.Places.{has_place}
+use Rattle.net_receiver.proofs.Sets.{piece_at, clip_at, contains-domain, next_joined, lacks, lacking, laid_has}
+use Rattle.net_receiver.proofs.Sets.{left_above, cond_some, slice_get-take, piece_from}
+use Rattle.net_receiver.proofs.Schedules.{any_verdict, some_of, converge, schedule}
+use Rattle.std.proofs.lemmas.Option.{slice_get_within}
+use Rattle.std.proofs.lemmas.List.{take-take}
+use Rattle.std.proofs.lemmas.List.Elements.{All-head, All-tail, All-nil, All-cons, All-append}
+use Rattle.std.specs.Prelude.{IsOk, Ok}
+use Rattle.net_receiver.proofs.OneStream.{has_all_reaches, segment_receives, read_receives, fresh_receives_from}
+use Rattle.net_receiver.proofs.OneStream.{queue_of, held_of_stream, first_stays, next_position_grows}
+use Rattle.net_receiver.proofs.OneStream.{segment_reads_nothing, read_leaves_next, limit_grows, completes}
+use Rattle.net_receiver.proofs.OneStream.{in_order_reaches, kept_in_order}
+use Rattle.net_receiver.proofs.NewestRuns.{there}
+use Rattle.std.specs.FinMap as fin
 use Rattle.net_receiver.specs.declared.finite_error.FiniteError.TheVariants as errors
-use Rattle.net_receiver.proofs.Retransmission.{has_all_reaches}
-use Rattle.net_receiver.proofs.Converge.{converge}
-use Rattle.net_receiver.proofs.CallClauses.{segment_receives, read_receives, fresh_receives_from, queue_of}
-use Rattle.net_receiver.proofs.CallClauses.{held_of_stream}
-use Rattle.net_receiver.proofs.Covering.{cond_some, slice_get-take}
-use Rattle.net_receiver.proofs.OneStream.{first_stays, next_position_grows, segment_reads_nothing}
-use Rattle.net_receiver.proofs.ReadLaws.{read_leaves_next}
-use Rattle.net_receiver.proofs.Stream.{some_of}
-use Rattle.net_receiver.proofs.EndInvariant.{after_by, ended_at, top_le, sound_after, sound_read, fresh_sound_end}
-use Rattle.net_receiver.proofs.EndInvariant.{no_other, cut_is, eq_tests}
 
+-- ---- A receiver of a stream that ends: no byte is at or above the end.
+pub eq_tests : (a b : ℕ) → a ≡ b → nat_eq a b ≡ true
+eq_tests a b e = grind (arith, nat_tests)
+
+-- ---- the position after the last byte
+listed_below : (ks : List ℕ) (m : ℕ) → ((k : ℕ) → has ks k ≡ true → k < m) → bound_of ks ≤ m
+listed_below [] m h = omega arith
+listed_below (k ∷ ks) m h =
+    let here : k < m = h k (or_left _ _ (let t : nat_eq k k ≡ true = grind (arith, nat_tests) in t)) in
+    let rest = listed_below ks m (λ j there. h j (or_right _ _ there)) in
+    omega arith
+
+below_listed : (ks : List ℕ) (m k : ℕ) → bound_of ks ≤ m → has ks k ≡ true → k < m
+below_listed [] m k h there = absurd (both_ways false refl there)
+below_listed (j ∷ ks) m k h there =
+    ⊎_elim (λ (a : nat_eq k j ≡ true). (let same = eqb-true k j a in omega arith)) (λ b. below_listed ks m k (omega arith) b) (or_cases _ _ there)
+
+held_listed : (v : ReceiverState) (p : ℕ) → has (positions (domain v.held)) p ≡ fin.contains_key v.held p
+held_listed v p = sym (contains-positions (domain v.held) p) ∙ contains-domain v.held p
+
+pub top_le : (v : ReceiverState) (m : ℕ) → next_position v ≤ m → ((p : ℕ) → fin.contains_key v.held p ≡ true → p < m) → top_of v ≤ m
+top_le v m next held =
+    let listed = listed_below (positions (domain v.held)) m (λ p there. held p (sym (held_listed v p) ∙ there)) in omega arith
+
+pub top_over : (v : ReceiverState) (m p : ℕ) → top_of v ≤ m → fin.contains_key v.held p ≡ true → p < m
+top_over v m p h there = below_listed (positions (domain v.held)) m p (omega arith) (held_listed v p ∙ there)
+
+-- ---- a segment whose bytes are below m
+module _ (v : ReceiverState) (m : ℕ) (top : top_of v ≤ m) where
+  top_joined : (part : Piece) → ((q : ℕ) → is_some (piece_byte_at part q) ≡ true → q < m) → top_of (receiver_with_piece v part) ≤ m
+  top_joined part below =
+      let laid_below : (p : ℕ) → fin.contains_key _ p ≡ true → p < m =
+      λ p h. ⊎_elim (λ a. below p a) (λ b. top_over v m p top b) (or_cases _ _ (sym (laid_has v part p) ∙ h)) in
+      let at = next_joined v part in
+      let next : lacks v part ≤ m =
+      ⊎_elim
+      (λ (l : next_position v < lacks v part).
+      omega (arith, laid_below (lacks v part - 1) ((lacking v part).before (lacks v part - 1) (omega arith) (omega arith))))
+      (λ (l : lacks v part ≤ next_position v). omega arith)
+      (cases_lt (next_position v) (lacks v part)) in
+      top_le (receiver_with_piece v part) m (omega arith) (λ p h. laid_below p (left_above v part p h).1)
+
+  pub top_after : (N pos : ℕ) (xs : List ℕ) → ((q : ℕ) → pos ≤ q → q < pos + length xs → q < m) →
+      top_of (receiver_after_command N v (Segment pos xs)) ≤ m
+  top_after N pos xs below =
+      let limit = v.first + v.read + v.capacity in
+      let part = piece_within (next_position v) limit (piece pos xs) in
+      any_verdict (λ y. top_of (state_after v y) ≤ m) (next_position v) N (domain v.held) part (λ _. top) top
+      (top_joined part (λ q there. (let at = piece_at (piece pos xs) q (clipped (next_position v) limit (piece pos xs) q there) in below q at.0 at.1)))
+    where
+      clipped : (low high : ℕ) (e : Piece) (q : ℕ) → is_some (piece_byte_at (piece_within low high e) q) ≡ true → is_some (piece_byte_at e q) ≡ true
+      clipped low high e q there =
+          let b = some_of (piece_byte_at (piece_within low high e) q) there in ap is_some (clip_at low high e q b.0 b.1).2
+
+  pub top_read : (n : ℕ) → top_of (receiver_after_read v n) ≤ m
+  top_read n = top_le (receiver_after_read v n) m (omega (arith, length-drop n v.queue)) (λ p h. top_over v m p top h)
+
+-- ---- a receiver in parts, where n is the first missing position
+module _ {h : ReceiverHead} {xs : List ℕ} {rs : List (ℕ × ℕ)} (s : HasSoundParts h xs rs) (n : ℕ) (is : n ≡ h.first + h.count_read + h.place.length) where
+  abbrev g : RingState ℕ
+  g = ring_at xs h.place
+
+  abbrev base : ℕ
+  base = h.first + h.count_read + length (queue g)
+
+  pub offsets_below : (pos : ℕ) → n ≤ pos → ((p : ℕ) → contains (set_of h.held rs) p ≡ true → (0 < p) × (p < pos - n)) → top_of (receiver_of h xs rs) ≤ pos
+  offsets_below pos from below =
+      let size = queue_size s in
+      top_le (receiver_of h xs rs) pos (omega arith) (λ q there.
+      (let above = s.state.above q there in
+      let at = below (q - base) (sym (has_place (set_of h.held rs) base (spare g) (q - base) q (omega arith)) ∙ there) in omega arith))
+
+  pub below_offsets : (pos : ℕ) → top_of (receiver_of h xs rs) ≤ pos → (p : ℕ) → contains (set_of h.held rs) p ≡ true → (0 < p) × (p < pos - n)
+  below_offsets pos top p there =
+      let size = queue_size s in
+      let held = has_place (set_of h.held rs) base (spare g) p (base + p) refl ∙ there in
+      let above = s.state.above (base + p) held in
+      let below = top_over (receiver_of h xs rs) pos (base + p) top held in
+      (omega arith, omega arith)
+
+-- ---- a segment, with or without an end
+-- the end that is known after it
+module _ (P : FiniteState → Type 0) (N : ℕ) (s : FiniteState) (pos : ℕ) (xs : List ℕ) (last : Bool) where
+  abbrev pub ended_at : ℕ → FiniteState
+  ended_at e = record { receiver = receiver_after_command N s.receiver (Segment pos (below_end s pos xs)); end = e }
+
+  pub after_by : P s → ((e : ℕ) → (e ≡ s.end) ⊎ ((last ≡ true) × (e ≡ pos + length xs) × (can_end s e ≡ true)) → P (ended_at e)) →
+      P (finite_after N s pos xs last)
+  after_by same kept =
+      cond_both (has_other_end s (pos + length xs) last) s _ P (λ _. same) (λ no.
+      cond_both (is_ok (bytes_result N s pos xs last)) (end_after s (pos + length xs) last) s.end (λ e. P (ended_at e))
+      (λ _. cond_both (last && nat_le (pos + length xs) (limit_of s.receiver)) (pos + length xs) s.end (λ e. P (ended_at e))
+      (λ on. (let yes = (and_parts _ _ on).0 in
+      kept (pos + length xs) (inr (yes, refl, ⊎_elim (λ (off : last ≡ false). absurd (both_ways last off yes)) (λ b. not-false _ b) (and_cases _ _ no)))))
+      (λ _. kept s.end (inl refl)))
+      (λ _. kept s.end (inl refl)))
+
+-- no byte is at or above what can be the end
+pub top_can_end : (s : FiniteState) (e : ℕ) → IsSoundEnd s → can_end s e ≡ true → top_of s.receiver ≤ e
+top_can_end s e sound can =
+    cond_both (knows_end s) (nat_eq e s.end) (nat_le (top_of s.receiver) e) (λ b. b ≡ true → top_of s.receiver ≤ e)
+    (λ _ same. (let is = eqb-true e s.end same in omega (arith, sound.below)))
+    (λ _ le. leb-true (top_of s.receiver) e le) (and_parts _ _ can).1
+
+pub sound_after : (N : ℕ) (s : FiniteState) (pos : ℕ) (xs : List ℕ) (last : Bool) → IsSoundEnd s → IsSoundEnd (finite_after N s pos xs last)
+sound_after N s pos xs last sound =
+    let size = length-take (bytes_end s - pos) xs in
+    after_by IsSoundEnd N s pos xs last sound (λ e which. record {
+      below = ⊎_elim
+          (λ (is : e ≡ s.end). top_after s.receiver e (omega (arith, sound.below)) N pos (below_end s pos xs) (λ q from to. omega arith))
+          (λ (is : (last ≡ true) × (e ≡ pos + length xs) × (can_end s e ≡ true)).
+          (let at = is.1 in top_after s.receiver e (top_can_end s e sound is.2) N pos (below_end s pos xs) (λ q from to. omega arith)))
+          which;
+      number = (let top = top_after s.receiver (no_end - 1) (omega (arith, sound.number)) N pos (below_end s pos xs) (λ q from to. omega arith) in omega arith);
+    })
+
+pub sound_read : (s : FiniteState) (n : ℕ) → IsSoundEnd s → IsSoundEnd (finite_after_read s n)
+sound_read s n sound = record {
+  below = top_read s.receiver s.end sound.below n;
+  number = (let top = top_read s.receiver (no_end - 1) (omega (arith, sound.number)) n in omega arith);
+}
+
+-- it doesn't say that the stream ends where it can't
+pub no_other : (s : FiniteState) (e : ℕ) (last : Bool) → (last ≡ false) ⊎ (can_end s e ≡ true) → has_other_end s e last ≡ false
+no_other s e last which = ⊎_elim (λ (no : last ≡ false). ap (λ b. b && not (can_end s e)) no) (λ (can : can_end s e ≡ true). ap (λ b. last && not b) can ∙ and-false last) which
+  where
+    and-false : (b : Bool) → (b && false) ≡ false
+    and-false true = refl
+    and-false false = refl
+
+-- the greatest number stands for each end that has no number after it: no stream ends there
+module _ (s : FiniteState) (e n : ℕ) (last : Bool) (is : n ≡ min e no_end) where
+  can_end_at : can_end s n ≡ can_end s e
+  can_end_at =
+      ⊎_elim (λ (l : e < no_end). ap (can_end s) (omega (arith, l, is)))
+      (λ (g : no_end ≤ e). and_left _ _ (le-ltb n no_end (omega (arith, g, is))) ∙ sym (and_left _ _ (le-ltb e no_end g)))
+      (cases_lt e no_end)
+
+  pub no_other_at : (last ≡ false) ⊎ (can_end s n ≡ true) → has_other_end s e last ≡ false
+  no_other_at which = no_other s e last (⊎_elim (λ (no : last ≡ false). inl no) (λ (can : can_end s n ≡ true). inr (sym can_end_at ∙ can)) which)
+
+  pub end_after_at : (last ≡ false) ⊎ (can_end s n ≡ true) → end_after s n last ≡ end_after s e last
+  end_after_at which =
+      ⊎_elim
+      (λ (no : last ≡ false).
+      ap (λ b. cond (b && nat_le n (limit_of s.receiver)) n s.end) no ∙ sym (ap (λ b. cond (b && nat_le e (limit_of s.receiver)) e s.end) no))
+      (λ (can : can_end s n ≡ true). ap (λ k. end_after s k last) (let below = ltb-true n no_end (and_parts _ _ can).0 in omega (arith, is, below)))
+      which
+
+pub cut_is : (n count : ℕ) (xs : List ℕ) → count ≡ min (length xs) n → take count xs ≡ take n xs
+cut_is n count xs is = grind (arith, common_steps)
+
+-- what is left, and what is returned, as the code has it
+module _ (N : ℕ) (s : FiniteState) (pos : ℕ) (xs : List ℕ) (last : Bool) where
+  module _ (other : has_other_end s (pos + length xs) last ≡ false) (cut : List ℕ) (cut_is : cut ≡ below_end s pos xs) (u : ReceiverState)
+      (u_is : u ≡ receiver_after_command N s.receiver (Segment pos cut)) (r : Result KeptBytes TooManyHolesError)
+      (r_is : r ≡ numbers s.receiver (verdict N s.receiver (piece pos cut)))
+    where
+      result_is : r ≡ bytes_result N s pos xs last
+      result_is = r_is ∙ ap (λ ys. numbers s.receiver (verdict N s.receiver (piece pos ys))) cut_is
+
+      state_is : u ≡ receiver_after_command N s.receiver (Segment pos (below_end s pos xs))
+      state_is = u_is ∙ ap (λ ys. receiver_after_command N s.receiver (Segment pos ys)) cut_is
+
+      pub left_state : (e : ℕ) → e ≡ cond (is_ok r) (end_after s (pos + length xs) last) s.end → record { receiver = u; end = e } ≡ finite_after N s pos xs last
+      left_state e e_is =
+          (λ i. record { receiver = state_is i; end = (e_is ∙ ap (λ (q : Result KeptBytes TooManyHolesError). cond (is_ok q) (end_after s (pos + length xs) last) s.end) result_is) i })
+          ∙ (λ i. cond (sym other i) s (record {
+            receiver = receiver_after_command N s.receiver (Segment pos (below_end s pos xs));
+            end = cond (is_ok (bytes_result N s pos xs last)) (end_after s (pos + length xs) last) s.end;
+          }))
+
+      pub left_result : with_error r ≡ finite_result N s pos xs last
+      left_result = ap with_error result_is ∙ (λ i. cond (sym other i) (Err errors.OtherEnd) (with_error (bytes_result N s pos xs last)))
+
+-- the storage that is left
+module _ (h : FiniteReceiverHead) (xs : List ℕ) (rs : List (ℕ × ℕ)) (pos : ℕ) (bytes : List ℕ) (last : Bool) where
+  -- the storage after the bytes of a segment
+  abbrev written : List ℕ → List ℕ
+  written ys = storage_after h.receiver xs (verdict (length rs) (receiver_of h.receiver xs rs) (piece pos ys))
+
+  pub left_storage : has_other_end (finite_of h xs rs) (pos + length bytes) last ≡ false → (cut : List ℕ) → cut ≡ below_end (finite_of h xs rs) pos bytes →
+      (ys : List ℕ) → ys ≡ written cut → ys ≡ finite_storage_after h xs rs pos bytes last
+  left_storage other cut cut_is ys ys_is = ys_is ∙ ap written cut_is ∙ (λ i. cond (sym other i) xs (written (below_end (finite_of h xs rs) pos bytes)))
+
+-- nothing has arrived
+pub fresh_sound_end : (first capacity : ℕ) → first < no_end → IsSoundEnd (fresh_finite first capacity)
+fresh_sound_end first capacity h =
+    let none : top_of (fresh_receiver first capacity) ≤ first = top_le (fresh_receiver first capacity) first (omega arith) (λ p there. absurd (both_ways _ (ap is_some (fin.get-empty nat_cmp p)) there)) in
+    record { below = omega arith; number = omega arith }
+
+-- ---- The laws of a receiver of a stream that ends.
 pub sound_end_stays : SoundEndStays
 sound_end_stays N s (Arrives pos xs last) sound = sound_after N s pos xs last sound
 sound_end_stays N s (Reads n) sound = sound_read s n sound
@@ -109,7 +320,7 @@ first_is : (f : ℕ) (x : List ℕ) (v : ReceiverState) → ReceivesFrom f x v �
 unfolding ReceivesFrom
 first_is f x v r = r.0
 
--- off byte is at or above the stream's end
+-- no byte is at or above the stream's end
 top_of_stream : (f : ℕ) (x : List ℕ) (v : ReceiverState) → ReceivesFrom f x v → top_of v ≤ f + length x
 top_of_stream f x v r =
     let first = first_is f x v r in
@@ -145,8 +356,8 @@ one_of_stream N f x s (Arrives pos xs last) r h = (segment_of_stream N f x s pos
 one_of_stream N f x s (Reads n) r h = record { bytes = read_receives f x s.receiver _ n refl r.bytes; end = r.end }
 
 -- the bytes that were read before, and those of one command
-taken : (x q : List ℕ) (n read : ℕ) → q ≡ take (length q) (drop read x) → read + length q ≤ length x → take read x ++ take n q ≡ take (read + min n (length q)) x
-taken x q n read is within =
+taken_bytes : (x q : List ℕ) (n read : ℕ) → q ≡ take (length q) (drop read x) → read + length q ≤ length x → take read x ++ take n q ≡ take (read + min n (length q)) x
+taken_bytes x q n read is within =
     let m = min n (length q) in
     let few : take n q ≡ take m (drop read x) = sym (cut_is n m q (omega arith)) ∙ ap (take m) is ∙ take-take m (length q) (drop read x) (omega arith) in
     ap (λ l. take read x ++ l) few ∙ sym (take-add read m x)
@@ -157,7 +368,7 @@ one_takes N f x s (Arrives pos xs last) r =
     append-nil (take s.receiver.read x)
     ∙ after_by (λ t. take s.receiver.read x ≡ take t.receiver.read x) N s pos xs last refl
     (λ e which. ap (λ n. take n x) (sym (segment_reads_nothing N s.receiver pos (below_end s pos xs))))
-one_takes N f x s (Reads n) r = (let is = queue_of f x s.receiver r.bytes in taken x s.receiver.queue n s.receiver.read is.queue is.within)
+one_takes N f x s (Reads n) r = (let is = queue_of f x s.receiver r.bytes in taken_bytes x s.receiver.queue n s.receiver.read is.queue is.within)
 
 all_take : (N f : ℕ) (x : List ℕ) (s : FiniteState) (cs : List FiniteCommand) → ReceivesFinite f x s → All (CommandMatches f x) cs →
     ReceivesFinite f x (finite_after_commands N s cs) × (take s.receiver.read x ++ bytes_taken N s cs ≡ take (finite_after_commands N s cs).receiver.read x)
@@ -253,3 +464,276 @@ all_bytes_complete N s sound end all =
 
 pub same_end_converges : SameEndConverges
 same_end_converges x s t k l d e first agrees agrees' same read ends = (ends, converge x s.receiver t.receiver k l d e first agrees agrees' same read)
+
+-- ---- Lists of segments and reads of a receiver of a stream that ends, as lists of a receiver's commands.
+-- ---- one segment
+module _ (N : ℕ) (s : FiniteState) (pos : ℕ) (xs : List ℕ) (last : Bool) where
+  -- what it leaves, if it doesn't say that the stream ends elsewhere
+  abbrev left : FiniteState
+  left = ended_at (λ _. Unit {0}) N s pos xs last (cond (is_ok (bytes_result N s pos xs last)) (end_after s (pos + length xs) last) s.end)
+
+  abbrev command : CommandValue
+  command = Segment pos (below_end s pos xs)
+
+  -- an accepted one doesn't, and its bytes are accepted
+  accepted_of : IsOk (finite_result N s pos xs last) → (has_other_end s (pos + length xs) last ≡ false) × IsOk (bytes_result N s pos xs last)
+  accepted_of h = by (has_other_end s (pos + length xs) last) (bytes_result N s pos xs last) h
+    where
+      by : (b : Bool) (r : Result KeptBytes TooManyHolesError) → IsOk (cond b (Err errors.OtherEnd) (with_error r)) → (b ≡ false) × IsOk r
+      by true r refused = absurd (both_ways false refl refused)
+      by false r ok = (refl, ok_of r ok)
+
+  replied : IsOk (bytes_result N s pos xs last) → IsAccepted (receiver_reply N s.receiver command)
+  replied h = by (bytes_result N s pos xs last) _ h
+    where
+      by : (r : Result KeptBytes TooManyHolesError) (held : Positions) → IsOk r → IsAccepted (SegmentReply (with_sack r held))
+      by (Ok k) held ok = tt
+      by (Err e) held refused = absurd (both_ways false refl refused)
+
+-- ---- the commands that a list comes to
+one_plain : (N : ℕ) (s : FiniteState) (c : FiniteCommand) (ds : List CommandValue) →
+    receiver_after_commands N (finite_after_command N s c).receiver ds ≡ receiver_after_commands N s.receiver (plain_of s c ++ ds)
+one_plain N s (Arrives pos xs last) ds = by (has_other_end s (pos + length xs) last)
+  where
+    by : (b : Bool) → receiver_after_commands N (cond b s (left N s pos xs last)).receiver ds
+        ≡ receiver_after_commands N s.receiver (cond b [] (command N s pos xs last ∷ []) ++ ds)
+    by true = refl
+    by false = refl
+one_plain N s (Reads n) ds = refl
+
+one_bytes : (N : ℕ) (s : FiniteState) (c : FiniteCommand) (ds : List CommandValue) →
+    bytes_of s c ++ bytes_read (receiver_replies N (finite_after_command N s c).receiver ds)
+    ≡ bytes_read (receiver_replies N s.receiver (plain_of s c ++ ds))
+one_bytes N s (Arrives pos xs last) ds = by (has_other_end s (pos + length xs) last)
+  where
+    by : (b : Bool) → bytes_read (receiver_replies N (cond b s (left N s pos xs last)).receiver ds)
+        ≡ bytes_read (receiver_replies N s.receiver (cond b [] (command N s pos xs last ∷ []) ++ ds))
+    by true = refl
+    by false = refl
+one_bytes N s (Reads n) ds = refl
+
+plain_state : (N : ℕ) (s : FiniteState) (cs : List FiniteCommand) →
+    (finite_after_commands N s cs).receiver ≡ receiver_after_commands N s.receiver (plain_commands N s cs)
+plain_state N s [] = refl
+plain_state N s (c ∷ cs) = (let t = finite_after_command N s c in plain_state N t cs ∙ one_plain N s c (plain_commands N t cs))
+
+plain_bytes : (N : ℕ) (s : FiniteState) (cs : List FiniteCommand) → bytes_taken N s cs ≡ bytes_read (receiver_replies N s.receiver (plain_commands N s cs))
+plain_bytes N s [] = refl
+plain_bytes N s (c ∷ cs) =
+    let t = finite_after_command N s c in
+    ap (λ l. bytes_of s c ++ l) (plain_bytes N t cs) ∙ one_bytes N s c (plain_commands N t cs)
+
+pub finite_schedules : FiniteSchedules
+finite_schedules N s k cs d =
+    let all = schedule N s.receiver k d (plain_commands N s cs) in (
+      subst (λ v. Refines v (state_from (setting N s.receiver) k (plain_commands N s cs))) (sym (plain_state N s cs)) all.0,
+      plain_bytes N s cs ∙ ap bytes_read all.1,
+    )
+
+-- ---- the end, and the limit
+end_falls : (N : ℕ) (s : FiniteState) (c : FiniteCommand) → (finite_after_command N s c).end ≤ s.end
+end_falls N s (Arrives pos xs last) =
+    after_by (λ t. t.end ≤ s.end) N s pos xs last (omega arith) (λ e which. ⊎_elim
+    (λ (is : e ≡ s.end). omega (arith, is))
+    (λ (is : (last ≡ true) × (e ≡ pos + length xs) × (can_end s e ≡ true)).
+    ⊎_elim (λ (on : knows_end s ≡ true). (let same = same_end s e on is.2 in omega (arith, same)))
+    (λ (off : knows_end s ≡ false). (let none = ltb-false s.end no_end off in omega (arith, none, ltb-true e no_end (and_parts _ _ is.2).0)))
+    (cases_Bool (knows_end s))) which)
+end_falls N s (Reads n) = omega arith
+
+ends_fall : (N : ℕ) (s : FiniteState) (cs : List FiniteCommand) → (finite_after_commands N s cs).end ≤ s.end
+ends_fall N s [] = omega arith
+ends_fall N s (c ∷ cs) = omega (arith, end_falls N s c, ends_fall N (finite_after_command N s c) cs)
+
+limit_stays : (N : ℕ) (s : FiniteState) (c : FiniteCommand) → limit_of s.receiver ≤ limit_of (finite_after_command N s c).receiver
+limit_stays N s (Arrives pos xs last) =
+    after_by (λ t. limit_of s.receiver ≤ limit_of t.receiver) N s pos xs last (omega arith)
+    (λ e which. limit_grows N s.receiver (Segment pos (below_end s pos xs)))
+limit_stays N s (Reads n) = limit_grows N s.receiver (Read n)
+
+pub nexts_grow : (N : ℕ) (s : FiniteState) (cs : List FiniteCommand) → next_position s.receiver ≤ next_position (finite_after_commands N s cs).receiver
+nexts_grow N s [] = omega arith
+nexts_grow N s (c ∷ cs) = omega (arith, next_grows N s c, nexts_grow N (finite_after_command N s c) cs)
+
+-- an accepted last segment within the limit
+taken : (N : ℕ) (s : FiniteState) (pos : ℕ) (xs : List ℕ) (last : Bool) → last ≡ true → IsOk (finite_result N s pos xs last) →
+    pos + length xs ≤ limit_of s.receiver → (finite_after N s pos xs last).end ≡ pos + length xs
+taken N s pos xs true on ok within = end_is_taken N s pos xs ok within
+taken N s pos xs false on ok within = absurd (both_ways false refl on)
+
+-- and after others
+taken_then : (N : ℕ) (s : FiniteState) (pos : ℕ) (xs : List ℕ) (last : Bool) (cs : List FiniteCommand) → IsSoundEnd s → pos + length xs < no_end →
+    last ≡ true → IsOk (finite_result N s pos xs last) → pos + length xs ≤ limit_of s.receiver →
+    (finite_after_commands N (finite_after N s pos xs last) cs).end ≡ pos + length xs
+taken_then N s pos xs last cs sound fits on ok within =
+    let t = finite_after N s pos xs last in
+    let at = taken N s pos xs last on ok within in
+    (end_stays N t cs (sound_end_stays N s (Arrives pos xs last) sound)).0 (known t (omega (arith, at, fits))) ∙ at
+
+end_known : (N : ℕ) (s : FiniteState) (cs : List FiniteCommand) (e : ℕ) → IsSoundEnd s → AreAccepted N s cs → e < no_end →
+    e ≤ limit_of s.receiver → BringsEnd cs e → (finite_after_commands N s cs).end ≡ e
+end_known N s [] e sound accepted fits within brings = absurd brings
+end_known N s (Arrives pos xs last ∷ cs) e sound accepted fits within brings =
+    let c : FiniteCommand = Arrives pos xs last in
+    ⊎_elim
+    (λ (now : (last ≡ true) × (pos + length xs ≡ e)).
+    taken_then N s pos xs last cs sound (omega (arith, now.1, fits)) now.0 accepted.0 (omega (arith, now.1, within)) ∙ now.1)
+    (λ (later : BringsEnd cs e). end_known N (finite_after N s pos xs last) cs e (sound_end_stays N s c sound) accepted.1 fits
+    (omega (arith, within, limit_stays N s c)) later)
+    brings
+end_known N s (Reads n ∷ cs) e sound accepted fits within brings =
+    end_known N (finite_after_read s n) cs e (sound_read s n sound) accepted fits
+    (omega (arith, within, limit_stays N s (Reads n))) brings
+
+-- ---- segments that cover a range
+accepted_plain : (N : ℕ) (s : FiniteState) (cs : List FiniteCommand) → AreAccepted N s cs → All IsAccepted (receiver_replies N s.receiver (plain_commands N s cs))
+accepted_plain N s [] accepted = All-nil IsAccepted
+accepted_plain N s (Arrives pos xs last ∷ cs) accepted =
+    let t = finite_after N s pos xs last in
+    let both = accepted_of N s pos xs last accepted.0 in
+    by (has_other_end s (pos + length xs) last) both.0 (replied N s pos xs last both.1) (plain_commands N t cs) (accepted_plain N t cs accepted.1)
+  where
+    by : (b : Bool) → b ≡ false → IsAccepted (receiver_reply N s.receiver (command N s pos xs last)) → (ds : List CommandValue) →
+        All IsAccepted (receiver_replies N (cond b s (left N s pos xs last)).receiver ds) →
+        All IsAccepted (receiver_replies N s.receiver (cond b [] (command N s pos xs last ∷ []) ++ ds))
+    by true off ok ds rest = rest
+    by false off ok ds rest =
+        All-cons IsAccepted (receiver_reply N s.receiver (command N s pos xs last)) (receiver_replies N (left N s pos xs last).receiver ds) ok rest
+accepted_plain N s (Reads n ∷ cs) accepted =
+    let t = finite_after_read s n in
+    All-cons IsAccepted (receiver_reply N s.receiver (Read n)) (receiver_replies N t.receiver (plain_commands N t cs)) tt (accepted_plain N t cs accepted)
+
+brings_plain : (N : ℕ) (s : FiniteState) (cs : List FiniteCommand) (p : ℕ) → AreAccepted N s cs → p + 1 < no_end →
+    p < (finite_after_commands N s cs).end → BringsByte cs p → Brings (plain_commands N s cs) p
+brings_plain N s [] p accepted fits below brings = absurd brings
+brings_plain N s (Arrives pos xs last ∷ cs) p accepted fits below brings =
+    let c : FiniteCommand = Arrives pos xs last in
+    let t = finite_after N s pos xs last in
+    let size = length-take (bytes_end s - pos) xs in
+    let falls = ends_fall N s (c ∷ cs) in
+    by (has_other_end s (pos + length xs) last) (accepted_of N s pos xs last accepted.0).0 (plain_commands N t cs)
+    (⊎_elim (λ (now : (pos ≤ p) × (p < pos + length xs)). inl (now.0, omega (arith, now.0, now.1, size, falls, below, fits)))
+    (λ (later : BringsByte cs p). inr (brings_plain N t cs p accepted.1 fits below later)) brings)
+  where
+    by : (b : Bool) → b ≡ false → (ds : List CommandValue) → ((pos ≤ p) × (p < pos + length (below_end s pos xs))) ⊎ Brings ds p →
+        Brings (cond b [] (command N s pos xs last ∷ []) ++ ds) p
+    by true off ds which = absurd (both_ways true off refl)
+    by false off ds which = which
+brings_plain N s (Reads n ∷ cs) p accepted fits below brings = brings_plain N (finite_after_read s n) cs p accepted fits below brings
+
+pub finite_completes : FiniteCompletes
+finite_completes N s cs end sound sound_end accepted fits within all = (
+  reached,
+  (λ brings.
+      let at = end_known N s cs end sound_end accepted fits within brings in
+      let below = (all_sound N s cs sound_end).below in
+      let next = reached (omega (arith, at)) in
+      (at, eq_tests (next_position (finite_after_commands N s cs).receiver) (finite_after_commands N s cs).end (omega (arith, at, below, next)))),
+)
+  where
+    reached : end ≤ (finite_after_commands N s cs).end → end ≤ next_position (finite_after_commands N s cs).receiver
+    reached l =
+        subst (λ v. end ≤ next_position v) (sym (plain_state N s cs))
+        (completes N s.receiver (plain_commands N s cs) end sound within (accepted_plain N s cs accepted)
+        (λ p a b. brings_plain N s cs p accepted (omega (arith, b, fits)) (omega (arith, b, l)) (all p a b)))
+
+-- ---- segments in order
+matched_within : (f : ℕ) (x : List ℕ) (pos : ℕ) (xs : List ℕ) → MatchesStream f x pos xs → (pos + length xs ≤ f + length x) ⊎ (length xs ≡ 0)
+unfolding MatchesStream
+matched_within f x pos xs h =
+    ⊎_elim
+    (λ (some : 0 < length xs).
+    inl (⊎_elim (λ (low : pos + length xs ≤ f). omega (arith, low))
+    (λ (high : f < pos + length xs).
+    let at = there xs (length xs - 1) (omega (arith, some)) in
+    let same : (pos + length xs - 1) - pos ≡ length xs - 1 = omega (arith, some) in
+    let seen = h (pos + length xs - 1) at.0 (omega (arith, high)) (piece_from (piece pos xs) (pos + length xs - 1) (omega (arith, some)) ∙ ap (slice_get xs) same ∙ at.1) in
+    let within = slice_get_within x (pos + length xs - 1 - f) at.0 seen in omega (arith, within, high))
+    (cases_le (pos + length xs) f)))
+    (λ (none : length xs ≤ 0). inr (omega (arith, none)))
+    (cases_lt 0 (length xs))
+  where
+    cases_le : (a b : ℕ) → (a ≤ b) ⊎ (b < a)
+    cases_le a b = ⊎_elim (λ (l : b < a). inr l) (λ (l : a ≤ b). inl l) (cases_lt b a)
+
+one_resent : (N f : ℕ) (x : List ℕ) (s : FiniteState) (pos : ℕ) (xs : List ℕ) (last : Bool) → IsSoundEnd s → ReceivesFinite f x s →
+    pos + length xs < no_end → MatchesFinite f x pos xs last → pos ≤ next_position s.receiver → pos + length xs ≤ limit_of s.receiver →
+    IsOk (finite_result N s pos xs last) × (pos + length xs ≤ next_position (finite_after N s pos xs last).receiver)
+one_resent N f x s pos xs last sound r fits h from within =
+    let other = (segment_of_stream N f x s pos xs last r h).0 fits in
+    let ok = kept_in_order N s.receiver pos (below_end s pos xs) (bytes_result N s pos xs last) refl from in
+    let reach = in_order_reaches N s.receiver pos (below_end s pos xs) from in
+    let size = length-take (bytes_end s - pos) xs in
+    let inside : pos + length xs ≤ s.end =
+    ⊎_elim (λ (on : knows_end s ≡ true). ⊎_elim (λ (l : pos + length xs ≤ f + length x). omega (arith, l, r.end on))
+    (λ (none : length xs ≡ 0). omega (arith, none, from, sound.below)) (matched_within f x pos xs h.bytes))
+    (λ (off : knows_end s ≡ false). (let none = ltb-false s.end no_end off in omega (arith, none, fits)))
+    (cases_Bool (knows_end s)) in (
+      subst IsOk (sym (cond-false _ (Err errors.OtherEnd) (with_error (bytes_result N s pos xs last)) other)) (with_ok (bytes_result N s pos xs last) ok),
+      subst (λ b. pos + length xs ≤ next_position (cond b s (left N s pos xs last)).receiver) (sym other) (omega (arith, reach, size, inside, within, fits)),
+    )
+  where
+    with_ok : (q : Result KeptBytes TooManyHolesError) → IsOk q → IsOk (with_error q)
+    with_ok (Ok k) h = h
+    with_ok (Err e) h = h
+
+module _ (N f : ℕ) (x : List ℕ) where
+  recover_from : (cs : List FiniteCommand) (s : FiniteState) (reach : ℕ) → IsSoundEnd s → ReceivesFinite f x s → All CommandFits cs →
+      All (CommandMatches f x) cs → reach ≤ next_position s.receiver → Resends N s reach cs →
+      AreAccepted N s cs × All (EndsWithin (next_position (finite_after_commands N s cs).receiver)) cs
+      × (BringsEnd cs (f + length x) → ((finite_after_commands N s cs).end ≡ f + length x)
+      × (f + length x ≤ next_position (finite_after_commands N s cs).receiver))
+  recover_from [] s reach sound r fit match low h = (tt, All-nil _, (λ no. absurd no))
+  recover_from (Arrives pos xs last ∷ cs) s reach sound r fit match low h =
+      let c : FiniteCommand = Arrives pos xs last in
+      let t = finite_after N s pos xs last in
+      let fits = All-head CommandFits c cs fit in
+      let matches = All-head (CommandMatches f x) c cs match in
+      let here = one_resent N f x s pos xs last sound r fits matches (omega (arith, h.0, low)) h.1 in
+      let rest = recover_from cs t (max reach (pos + length xs)) (sound_end_stays N s c sound) (one_of_stream N f x s c r matches)
+      (All-tail CommandFits c cs fit) (All-tail (CommandMatches f x) c cs match) (omega (arith, low, next_grows N s c, here.1)) h.2 in
+      let grows = nexts_grow N t cs in (
+        (here.0, rest.0),
+        All-cons (EndsWithin (next_position (finite_after_commands N t cs).receiver)) c cs (omega (arith, here.1, grows)) rest.1,
+        (λ brings. ⊎_elim
+            (λ (now : (last ≡ true) × (pos + length xs ≡ f + length x)).
+            (taken_then N s pos xs last cs sound fits now.0 here.0 h.1 ∙ now.1, omega (arith, here.1, grows, now.1)))
+            (λ (later : BringsEnd cs (f + length x)). rest.2 later) brings),
+      )
+  recover_from (Reads n ∷ cs) s reach sound r fit match low h =
+      let t = finite_after_read s n in
+      let rest = recover_from cs t reach (sound_read s n sound) (one_of_stream N f x s (Reads n) r tt)
+      (All-tail CommandFits (Reads n) cs fit) (All-tail (CommandMatches f x) (Reads n) cs match) (omega (arith, low, read_leaves_next s.receiver n)) h in
+      (rest.0, All-cons (EndsWithin (next_position (finite_after_commands N t cs).receiver)) (Reads n) cs tt rest.1, rest.2)
+
+pub finite_recovers : FiniteRecovers
+finite_recovers N f x s cs sound r fit match h =
+    let all = recover_from N f x cs s (next_position s.receiver) sound r fit match (omega arith) h in
+    let below = (all_sound N s cs sound).below in (
+      all.0,
+      all.1,
+      (λ brings. (let both = all.2 brings in
+          eq_tests (next_position (finite_after_commands N s cs).receiver) (finite_after_commands N s cs).end (omega (arith, both.0, both.1, below)))),
+    )
+
+-- ---- the whole stream
+after_both : (N : ℕ) (s : FiniteState) (cs ds : List FiniteCommand) →
+    finite_after_commands N s (cs ++ ds) ≡ finite_after_commands N (finite_after_commands N s cs) ds
+after_both N s [] ds = refl
+after_both N s (c ∷ cs) ds = after_both N (finite_after_command N s c) cs ds
+
+pub resent_is_read : ResentIsRead
+resent_is_read N f capacity n x before cs first match fit' match' h brings few =
+    let s = finite_after_commands N (fresh_finite f capacity) before in
+    let t = finite_after_commands N s cs in
+    let sound = all_sound N (fresh_finite f capacity) before (fresh_sound_end f capacity first) in
+    let r = (reads_the_stream N f capacity x before first match).0 in
+    let at = eqb-true (next_position t.receiver) t.end ((finite_recovers N f x s cs sound r fit' match' h).2 brings) in
+    let all : has_read_all (finite_after_read t n) ≡ true =
+    eq_tests (t.receiver.first + (t.receiver.read + min n (length t.receiver.queue))) t.end (omega (arith, at, few)) in
+    let read : FiniteCommand = Reads n in
+    let whole = reads_the_stream N f capacity x (before ++ cs ++ read ∷ []) first
+    (All-append (CommandMatches f x) (before ++ cs) (read ∷ []) (All-append (CommandMatches f x) before cs match match')
+    (All-cons (CommandMatches f x) read [] tt (All-nil (CommandMatches f x)))) in
+    let last = after_both N (fresh_finite f capacity) (before ++ cs) (read ∷ []) ∙ ap (λ u. finite_after_read u n) (after_both N (fresh_finite f capacity) before cs) in
+    (all, whole.2 (ap has_read_all last ∙ all))

@@ -1,28 +1,206 @@
--- Receivers in parts: what a kept piece and a read make of a head, a storage and runs.
-use Rattle.std.proofs.Common.{◌++◌, length-take, length-drop, ◌≡◌, ℕ, ◌+◌, ◌-◌, ◌<◌, ◌≤◌, ◌^◌, min, List, length}
-use Rattle.std.proofs.Common.{take, drop, ◌⊎◌, Ok, Err, refl, sym, ap, subst, ◌∙◌, arith, take_all}
-use Rattle.std.proofs.lemmas.List.{length-take-le}
+-- What a kept part and a read make of a head, a storage and runs.
+use Rattle.std.proofs.Common.{◌≡◌, ℕ, ◌+◌, ◌-◌, ◌<◌, ◌≤◌, ◌^◌, true, sym, ◌∙◌, arith, ⊎_elim, le_trans, length-drop}
+use Rattle.std.proofs.Common.{min, false, List, ◌++◌, length, take, drop, ◌⊎◌, inl, inr, Ok, Err, refl, ap, subst}
+use Rattle.std.proofs.Common.{length-take, take_all, Result, IsErr}
+use Rattle.std.proofs.lemmas.Bool.{cases_lt, or_cases, both_ways}
+use Rattle.net_assembler.specs.Positions.{runs, Positions, with_range, maximal_runs, runs_shifted_up}
+use Rattle.net_receiver.specs.{Piece, end, piece, piece_within, domain, next_position, receiver_after_read, IsSound}
+use Rattle.net_receiver.specs.{receiver_with_piece, Refuses, Keeps, verdict_of_piece, verdict, state_after, numbers}
+use Rattle.net_receiver.specs.{Fits64Bits, parts, receiver_of, HasSoundParts, storage_after, head_after_read}
+use Rattle.net_receiver.specs.ReceiverState.{ReceiverState}
+use Rattle.net_receiver.proofs.Sets.{piece_at, next_joined, laid, lacks, lacking, laid_has, left_above}
+use Rattle.std.proofs.lemmas.List.{drop_min, take_min, length-take-le}
+use Rattle.net_assembler.specs.declared.assembler.error.TooManyHolesError.{TooManyHolesError}
+use Rattle.net_ring.specs.Overwrite.{overwrite}
+use Rattle.net_assembler.specs.Assembler.{MakesTooManyRuns}
+use Rattle.net_assembler.proofs.Positions.{too_many}
+use Rattle.net_receiver.proofs.Schedules.{read_less}
+use Rattle.net_receiver.proofs.Places.{IsReceiver, HasRoom, IsFrontRemoved, held_count, read_parts, joined_parts}
+use Rattle.net_receiver.proofs.Places.{queued_is, m_within, refused_verdict, kept_verdict, clip_is, stays_at, read_on}
+use Rattle.net_receiver.proofs.Places.{held_runs}
 use Rattle.net_ring.specs.Ring.{RingState, queue, spare, with_enqueued, with_dequeued, WritesSpare, spare_index}
 use Rattle.net_ring.specs.Ring.{with_elements_wrapping}
 use Rattle.net_ring.specs.declared.head.RingHead.{RingHead}
-use Rattle.net_ring.specs.Overwrite.{overwrite}
 use Rattle.net_ring.specs.RingHead.{IsSound as IsSoundPlace, ring_at, enqueued_place, dequeued_place}
 use Rattle.net_ring.proofs.Rotations.{length-queue, length-spare, length-overwrite}
 use Rattle.net_ring.proofs.RingFacts.{with_enqueued_law, with_dequeued_law, overwrite_whole}
-use Rattle.net_assembler.specs.Positions.{with_range, runs, maximal_runs, runs_shifted_up}
 use Rattle.net_assembler.specs.RunLists.{set_of, HasSoundRuns}
 use Rattle.net_assembler.specs.declared.assembler.head.AssemblerHead.{AssemblerHead}
 use Rattle.net_receiver.specs.declared.receiver_head.ReceiverHead.{ReceiverHead}
-use Rattle.net_receiver.specs.KeptList.{piece}
-use Rattle.net_receiver.specs.ReceiverState.{verdict, state_after, numbers, ReceiverState, domain}
-use Rattle.net_receiver.specs.ReceiverState.{receiver_after_read, IsSound}
-use Rattle.net_receiver.specs.Head.{receiver_of, HasSoundParts, storage_after, head_after_read}
-use Rattle.net_receiver.proofs.Contiguous.{stays_at, read_on}
-use Rattle.net_receiver.specs.Parts.{parts, Fits64Bits}
-use Rattle.net_receiver.proofs.RingPlaces.{IsReceiver, IsFrontRemoved, held_runs}
-use Rattle.net_receiver.proofs.Segment.{IsCut, refused_is, keeps_is, wrote_all, refusal, kept_state, kept_invariant}
-use Rattle.net_receiver.proofs.Segment.{m_fits, read_invariant}
+use Rattle.std.specs.FinMap as fin
 
+-- ---- What is true of every receiver is kept by a kept part and by a read.
+module _ (most : ℕ) (v : ReceiverState) (sound : IsSound most v) (part : Piece) (ends : end part ≤ v.first + v.read + v.capacity) where
+  laid_below : (p : ℕ) → fin.contains_key (laid v part) p ≡ true → p < v.first + v.read + v.capacity
+  laid_below p h = ⊎_elim (λ a. le_trans (piece_at part p a).1 ends) (λ b. sound.below p b) (or_cases _ _ (sym (laid_has v part p) ∙ h))
+
+  within_limit : lacks v part ≤ v.first + v.read + v.capacity
+  within_limit =
+      ⊎_elim
+      (λ (l : next_position v < lacks v part).
+      omega (arith, laid_below (lacks v part - 1) ((lacking v part).before (lacks v part - 1) (omega arith) (omega arith))))
+      (λ (l : lacks v part ≤ next_position v). omega (arith, sound.fits))
+      (cases_lt (next_position v) (lacks v part))
+
+  pub sound_joined : runs (domain (receiver_with_piece v part).held) ≤ most → IsSound most (receiver_with_piece v part)
+  sound_joined few =
+      let at = next_joined v part in
+      record {
+        few = few;
+        above = λ p h. (let l = (left_above v part p h).0 in omega arith);
+        below = λ p h. laid_below p (left_above v part p h).1;
+        fits = (let within = within_limit in omega arith);
+      }
+
+-- positions stay within 64 bits, if the part does
+module _ (v : ReceiverState) (fits : Fits64Bits v) (part : Piece) (below : end part < 2 ^ 64) where
+  laid_fits : (p : ℕ) → fin.contains_key (laid v part) p ≡ true → p + 1 < 2 ^ 64
+  laid_fits p h = ⊎_elim (λ a. omega (arith, (piece_at part p a).1)) (λ b. fits.held p b) (or_cases _ _ (sym (laid_has v part p) ∙ h))
+
+  pub fits_joined : Fits64Bits (receiver_with_piece v part)
+  fits_joined =
+      let at = next_joined v part in
+      record {
+        next = ⊎_elim
+            (λ (l : next_position v < lacks v part).
+            omega (arith, laid_fits (lacks v part - 1) ((lacking v part).before (lacks v part - 1) (omega arith) (omega arith))))
+            (λ (l : lacks v part ≤ next_position v). omega (arith, fits.next)) (cases_lt (next_position v) (lacks v part));
+        held = λ p h. laid_fits p (left_above v part p h).1;
+      }
+
+-- a prefix of the queue is read
+pub sound_read : (most : ℕ) (v : ReceiverState) (count : ℕ) → IsSound most v → IsSound most (receiver_after_read v count)
+sound_read most v count sound =
+    let size = length-drop count v.queue in
+    let fits = sound.fits in
+    record { few = sound.few; above = λ p h. omega (arith, sound.above p h); below = λ p h. omega (arith, sound.below p h); fits = omega arith }
+
+-- ---- What `segment` does to its ring and its places is what the rules do to what is stored.
+-- what the code has computed of a segment whose kept part isn't empty
+pub record IsCut (n window late ahead kept pos : ℕ) (bytes : List ℕ) : Type 0 where
+  pub late_is : late ≡ n - pos
+  pub ahead_is : ahead ≡ pos - n
+  pub some_left : late < length bytes
+  pub some_room : ahead < window
+  pub kept_is : kept ≡ min (length bytes - late) (window - ahead)
+
+module _ {most f r : ℕ} {queue spare : List ℕ} {s : Positions} (is : IsReceiver most f r queue spare s) {late ahead kept pos : ℕ} {bytes : List ℕ}
+    (cut : IsCut (f + r + length queue) (length spare) late ahead kept pos bytes) (word : pos + length bytes < 2 ^ 64)
+  where
+    abbrev n : ℕ
+    n = f + r + length queue
+
+    abbrev v : ReceiverState
+    v = parts f r queue spare s
+
+    abbrev xs : List ℕ
+    xs = take kept (drop late bytes)
+
+    size : length xs ≡ kept
+    size = omega (arith, cut.kept_is, length-take kept (drop late bytes), length-drop late bytes)
+
+    pub has_room : HasRoom ahead xs spare
+    has_room = record {
+      some = omega (arith, size, cut.kept_is, cut.some_left, cut.some_room);
+      room = omega (arith, size, cut.kept_is, cut.some_room);
+    }
+
+    clipped_part : piece_within n (f + r + (length queue + length spare)) (piece pos bytes) ≡ piece (n + ahead) xs
+    clipped_part =
+        let high : f + r + (length queue + length spare) ≡ n + length spare = omega arith in
+        ap (λ h. piece_within n h (piece pos bytes)) high
+        ∙ clip_is n (length spare) late ahead kept pos bytes cut.late_is cut.ahead_is cut.some_left cut.some_room cut.kept_is
+
+    -- a refusal
+    pub refused_is : 0 < ahead → most < runs (with_range s ahead kept) → verdict most v (piece pos bytes) ≡ Refuses
+    refused_is apart many =
+        ap (verdict_of_piece n most (domain v.held)) clipped_part
+        ∙ refused_verdict is has_room apart (subst (λ k. most < runs (with_range s ahead k)) (sym size) many)
+
+    pub refusal : (left : Positions) → 0 < ahead → most < runs (with_range s ahead kept) → left ≡ s →
+        (parts f r queue spare left ≡ state_after v (verdict most v (piece pos bytes)))
+        × (Err (record {}) ≡ numbers v (verdict most v (piece pos bytes)))
+    refusal left apart many same =
+        let refused = refused_is apart many in
+        (ap (parts f r queue spare) same ∙ ap (state_after v) (sym refused), ap (numbers v) (sym refused))
+
+    -- a kept piece, and the part of it that is written
+    pub keeps_is : (ahead ≡ 0) ⊎ (runs (with_range s ahead kept) ≤ most) → verdict most v (piece pos bytes) ≡ Keeps (piece (n + ahead) xs)
+    keeps_is which =
+        ap (verdict_of_piece n most (domain v.held)) clipped_part
+        ∙ kept_verdict is has_room (subst (λ k. (ahead ≡ 0) ⊎ (runs (with_range s ahead k) ≤ most)) (sym size) which)
+
+    pub wrote_all : (arg : List ℕ) (wrote window : ℕ) → arg ≡ xs → wrote ≡ min (length arg) (window - ahead) → window ≡ length spare → take wrote arg ≡ xs
+    wrote_all arg wrote window e e' e'' = take_all wrote arg (omega (arith, ap length e, has_room.room)) ∙ e
+
+    module _ {m : ℕ} {left : Positions} (removed : IsFrontRemoved (with_range s ahead kept) m left) where
+      there : IsFrontRemoved (with_range s ahead (length xs)) m left
+      there = subst (λ k. IsFrontRemoved (with_range s ahead k) m left) (sym size) removed
+
+      abbrev over : List ℕ
+      over = overwrite spare ahead xs
+
+      abbrev joined : ReceiverState
+      joined = parts f r (queue ++ take m over) (drop m over) left
+
+      pub m_fits : m ≤ length spare
+      m_fits = m_within is has_room there
+
+      pub kept_state : (ahead ≡ 0) ⊎ (runs (with_range s ahead kept) ≤ most) →
+          (joined ≡ state_after v (verdict most v (piece pos bytes)))
+          × (Ok (record { kept = kept; queued = m }) ≡ numbers v (verdict most v (piece pos bytes)))
+      kept_state which =
+          let keeps = keeps_is which in (
+            joined_parts is has_room there ∙ ap (state_after v) (sym keeps),
+            (λ i. Ok (record { kept = sym size i; queued = sym (queued_is is has_room there) i })) ∙ ap (numbers v) (sym keeps),
+          )
+
+      pub kept_invariant : runs left ≤ most → IsSound most joined × Fits64Bits joined
+      kept_invariant few =
+          let same = joined_parts is has_room there in
+          let count : runs (domain joined.held) ≤ most = omega (arith, held_count f r (queue ++ take m over) (drop m over) left) in
+          let ends : n + ahead + length xs ≤ f + r + (length queue + length spare) = omega (arith, has_room.room) in
+          let below : n + ahead + length xs < 2 ^ 64 = omega (arith, size, cut.kept_is, cut.ahead_is, cut.late_is, cut.some_left) in (
+            subst (IsSound most) (sym same) (sound_joined most v is.sound (piece (n + ahead) xs) ends (subst (λ w. runs (domain w.held) ≤ most) same count)),
+            subst Fits64Bits (sym same) (fits_joined v is.fits (piece (n + ahead) xs) below),
+          )
+
+-- a prefix is read
+pub read_invariant : {most f r : ℕ} {queue spare : List ℕ} {s : Positions} → IsReceiver most f r queue spare s → (c taken : ℕ) (q1 s1 : List ℕ) →
+    taken ≡ min c (length queue) → q1 ≡ drop taken queue → s1 ≡ spare ++ take taken queue →
+    (parts f (r + taken) q1 s1 s ≡ receiver_after_read (parts f r queue spare s) c) × IsSound most (parts f (r + taken) q1 s1 s)
+    × Fits64Bits (parts f (r + taken) q1 s1 s)
+read_invariant {most} {f} {r} {queue} {spare} {s} is c taken q1 s1 e1 e2 e3 =
+    let least : min taken (length queue) ≡ taken = omega arith in
+    let same : parts f (r + taken) q1 s1 s ≡ receiver_after_read (parts f r queue spare s) taken =
+    (λ i. parts f (r + sym least i) (e2 i) (e3 i) s) ∙ read_parts is taken in (
+      same ∙ read_less (parts f r queue spare s) c taken e1,
+      subst (IsSound most) (sym same) (sound_read most (parts f r queue spare s) taken is.sound),
+      subst Fits64Bits (sym same) (record { next = omega (arith, is.fits.next, length-drop taken queue); held = is.fits.held }),
+    )
+
+pub only_err : {A : Type 0} (r : Result A TooManyHolesError) → IsErr r → r ≡ Err (record {})
+only_err (Ok k) h = absurd (both_ways false refl h)
+only_err (Err e) h = refl
+
+-- a range that is accepted
+pub accepted_cases : (most o n : ℕ) (s : Positions) → 0 < n → ((0 < o) × MakesTooManyRuns most s o n → false ≡ true) →
+    (o ≡ 0) ⊎ (runs (with_range s o n) ≤ most)
+accepted_cases most o n s some refused =
+    ⊎_elim
+    (λ (l : 0 < o). ⊎_elim (λ k. absurd (both_ways false refl (refused (l, (too_many most s o n).1 (some, k))))) (λ k. inr k)
+    (cases_lt most (runs (with_range s o n))))
+    (λ (l : o ≤ 0). inl (omega arith))
+    (cases_lt 0 o)
+
+-- what `dequeue_slice` wrote, by the queue's length
+pub given_is : (queue old new : List ℕ) (taken : ℕ) → taken ≡ min (length old) (length queue) →
+    new ≡ take taken queue ++ drop taken old → new ≡ take (length old) queue ++ drop (length queue) old
+given_is queue old new taken e is =
+    let turned : taken ≡ min (length queue) (length old) = omega arith in
+    is ∙ (λ i. (ap (λ k. take k queue) e ∙ take_min (length old) queue) i ++ (ap (λ k. drop k old) turned ∙ drop_min (length queue) old) i)
+
+-- ---- Receivers in parts: what a kept piece and a read make of a head, a storage and runs.
 -- what is written over a whole storage
 pub whole_written : (old new written : List ℕ) → length written ≡ length old → new ≡ overwrite old 0 written → new ≡ written
 whole_written old new written size is = is ∙ overwrite_whole old written size
@@ -49,8 +227,8 @@ module _ {h : ReceiverHead} {xs : List ℕ} {rs : List (ℕ × ℕ)} (s : HasSou
   abbrev g : RingState ℕ
   g = ring_at xs h.place
 
-  abbrev v : ReceiverState
-  v = receiver_of h xs rs
+  abbrev stored : ReceiverState
+  stored = receiver_of h xs rs
 
   -- the two parts are as long as the numbers say
   pub queue_size : length (queue g) ≡ h.place.length
@@ -60,22 +238,22 @@ module _ {h : ReceiverHead} {xs : List ℕ} {rs : List (ℕ × ℕ)} (s : HasSou
   spare_size = length-spare g s.place
 
   -- at most n runs are held, where the list has n
-  pub sound_for : (n : ℕ) → length rs ≡ n → IsSound n v
-  sound_for n e = subst (λ k. IsSound k v) e s.state
+  pub sound_for : (n : ℕ) → length rs ≡ n → IsSound n stored
+  sound_for n e = subst (λ k. IsSound k stored) e s.state
 
   whole : IsReceiver (length rs) h.first h.count_read (queue g) (spare g) (set_of h.held rs)
   whole = record { sound = s.state; fits = s.fits }
 
   -- the runs that are held, by those of the places
   pub held_are : (n : ℕ) (runs : List (ℕ × ℕ)) → n ≡ h.first + h.count_read + h.place.length → runs ≡ maximal_runs (set_of h.held rs) →
-      runs_shifted_up n runs ≡ maximal_runs (domain v.held)
+      runs_shifted_up n runs ≡ maximal_runs (domain stored.held)
   held_are n runs e is =
       (λ k. runs_shifted_up ((e ∙ ap (λ q. h.first + h.count_read + q) (sym queue_size)) k) (is k))
       ∙ sym (held_runs h.first h.count_read (queue g) (spare g) (set_of h.held rs))
 
   -- k bytes are read
   pub after_read : (k n : ℕ) → k ≡ min n h.place.length → IsSoundPlace (length xs) (dequeued_place (length xs) k h.place) →
-      (receiver_of (head_after_read (length xs) k h) xs rs ≡ receiver_after_read v n)
+      (receiver_of (head_after_read (length xs) k h) xs rs ≡ receiver_after_read stored n)
       × HasSoundParts (head_after_read (length xs) k h) xs rs
   after_read k n e place =
       let size = queue_size in
@@ -110,19 +288,19 @@ module _ {h : ReceiverHead} {xs : List ℕ} {rs : List (ℕ × ℕ)} (s : HasSou
       pub refused : (held : AssemblerHead) (rs' : List (ℕ × ℕ)) → 0 < ahead → length rs < runs (with_range (set_of h.held rs) ahead kept) →
           held ≡ h.held → rs' ≡ rs →
           let h' : ReceiverHead = record { first = h.first; count_read = h.count_read; place = h.place; held = held } in
-          (receiver_of h' xs rs' ≡ state_after v (verdict (length rs) v (piece pos bytes)))
-          × (Err (record {}) ≡ numbers v (verdict (length rs) v (piece pos bytes)))
+          (receiver_of h' xs rs' ≡ state_after stored (verdict (length rs) stored (piece pos bytes)))
+          × (Err (record {}) ≡ numbers stored (verdict (length rs) stored (piece pos bytes)))
       refused held rs' apart many e e' = refusal whole cut word (set_of held rs') apart many (λ i. set_of (e i) (e' i))
 
       pub refused_stores : 0 < ahead → length rs < runs (with_range (set_of h.held rs) ahead kept) →
-          xs ≡ storage_after h xs (verdict (length rs) v (piece pos bytes))
+          xs ≡ storage_after h xs (verdict (length rs) stored (piece pos bytes))
       refused_stores apart many = ap (storage_after h xs) (sym (refused_is whole cut word apart many))
 
       -- what is written of a kept piece
       pub kept_stores : (ahead ≡ 0) ⊎ (runs (with_range (set_of h.held rs) ahead kept) ≤ length rs) → (ys arg : List ℕ) (wrote : ℕ) →
           ring_at ys h.place ≡ with_elements_wrapping g (spare_index g ahead) (take wrote arg) →
           arg ≡ take kept (drop late bytes) → wrote ≡ min (length arg) (length xs - h.place.length - ahead) →
-          ys ≡ storage_after h xs (verdict (length rs) v (piece pos bytes))
+          ys ≡ storage_after h xs (verdict (length rs) stored (piece pos bytes))
       kept_stores which ys arg wrote is arg_is wrote_is =
           let at : ahead ≡ h.first + h.count_read + length (queue g) + ahead - (h.first + h.count_read + h.place.length) = omega (arith, queue_size) in
           ap (λ (o : RingState ℕ). o.storage) is
@@ -140,8 +318,8 @@ module _ {h : ReceiverHead} {xs : List ℕ} {rs : List (ℕ × ℕ)} (s : HasSou
 
         abbrev IsKept : List ℕ → RingHead → Type 0
         IsKept ys to =
-            (receiver_of (left to) ys rs' ≡ state_after v (verdict (length rs) v (piece pos bytes)))
-            × (Ok (record { kept = kept; queued = m }) ≡ numbers v (verdict (length rs) v (piece pos bytes))) × HasSoundParts (left to) ys rs'
+            (receiver_of (left to) ys rs' ≡ state_after stored (verdict (length rs) stored (piece pos bytes)))
+            × (Ok (record { kept = kept; queued = m }) ≡ numbers stored (verdict (length rs) stored (piece pos bytes))) × HasSoundParts (left to) ys rs'
 
         pub kept_is : HasSoundRuns held rs' → runs (set_of held rs') ≤ length rs → length rs' ≡ length rs →
             (ahead ≡ 0) ⊎ (runs (with_range (set_of h.held rs) ahead kept) ≤ length rs) → (ys arg : List ℕ) (wrote : ℕ) →

@@ -1,24 +1,36 @@
--- The runs that are listed newest first: maximal ones, each once, in the order of the positions.
+-- The runs that are listed newest first, by one call and by several, and how many positions are in none.
 use Rattle.std.proofs.Common.{◌≡◌, ◌⊎◌, inl, inr, ℕ, ◌+◌, ◌-◌, ◌<◌, ◌≤◌, ◌||◌, Bool, true, false, cond, List, [], ◌∷◌}
 use Rattle.std.proofs.Common.{◌++◌, length, map, take, Some, None, All, slice_get, is_some, refl, sym, ap, subst, ◌∙◌}
 use Rattle.std.proofs.Common.{arith, ⊎_elim, leb-true, le-leb, le_refl, take_all, length-append, append_assoc, suc}
-use Rattle.std.proofs.Common.{unwrap_or, zero}
-use Rattle.std.proofs.lemmas.Option.{slice_get_within}
-use Rattle.std.specs.Prelude.{count_by}
-use Rattle.std.specs.List.{find, list_any}
-use Rattle.std.specs.Option.{option_to_list}
+use Rattle.std.proofs.Common.{unwrap_or, zero, min, max, not, ◌&&◌, nat_le, nat_lt, le-ltb, drop, length-take}
+use Rattle.std.proofs.Common.{length-drop}
+use Rattle.std.proofs.lemmas.Option.{slice_get_within, slice_get-map}
+use Rattle.std.specs.Prelude.{count_by, AllPairs}
+use Rattle.std.specs.List.{find, list_any, range_with_len}
+use Rattle.std.specs.Option.{option_to_list, option_map}
 use Rattle.std.proofs.lemmas.Bool.{both_ways, and_parts, and_from, cases_Bool, cases_lt, cond-true, cond-false}
 use Rattle.std.proofs.lemmas.Bool.{ltb-true, lt-ltb, or_left, or_right, or_cases, false_from_ne_true}
-use Rattle.std.proofs.lemmas.Bool.{true_from_ne_false}
-use Rattle.std.proofs.lemmas.List.{take-append-le, append-nil}
+use Rattle.std.proofs.lemmas.Bool.{true_from_ne_false, lt-leb}
+use Rattle.std.proofs.lemmas.List.{take-append-le, append-nil, length-map}
 use Rattle.std.proofs.lemmas.List.Folds.{list_any-append}
 use Rattle.std.proofs.lemmas.List.Elements.{All-nil, All-cons, All-head, All-tail, All-append}
-use Rattle.std.proofs.lemmas.List.Sums.{sum_by-append, sum_by-cons}
-use Rattle.net_assembler.specs.Positions.{Positions, contains, maximal_runs, lies_in, IsMaximalRun}
+use Rattle.std.proofs.lemmas.List.Sums.{sum_by-append, sum_by-cons, count_by-le-length}
+use Rattle.net_assembler.specs.Positions.{Positions, contains, maximal_runs, lies_in, IsMaximalRun, AreMaximalRuns}
 use Rattle.net_assembler.specs.AssemblerLaws.{MaximalRunsOfEverySet}
-use Rattle.net_receiver.specs.NewestRuns.{run_at, with_run, runs_of, starts, newest_runs, AreNewestRuns}
-use Rattle.net_receiver.specs.NewestRuns.{NewestRunsAreListed, IsListedBy, IsNamed}
+use Rattle.net_receiver.specs.{run_at, with_run, runs_of, starts, newest_runs, AreNewestRuns, NewestRunsAreListed}
+use Rattle.net_receiver.specs.{IsListedBy, IsNamed, CommandValue, IsSound, next_position, receiver_after_command}
+use Rattle.net_receiver.specs.{receiver_after_commands, HasByteAt, with_starts}
+use Rattle.net_receiver.specs.ReceiverState.{ReceiverState}
+use Rattle.std.proofs.lemmas.List.FromFn.{length-range_with_len}
+use Rattle.std.specs.Cmp.{both_ways as same_tests}
+use Rattle.net_receiver.specs.NewestFirst.{Calls, recent_after, StayTogether, AllStayTogether, IsHeldSince}
+use Rattle.net_receiver.specs.NewestFirst.{NewestAreFirst, HeldStayTogether}
+use Rattle.net_receiver.proofs.Sets.{slice_get-take, contains-domain}
+use Rattle.net_receiver.proofs.OneStream.{has_byte_stays}
+use Rattle.net_receiver.proofs.Theorems.{sound_stays}
+use Rattle.std.specs.FinMap as fin
 
+-- ---- The runs that are listed newest first: maximal ones, each once, in the order of the positions.
 -- ---- a list and a test
 module _ {X : Type 0} (t : X → Bool) (P : X → Type 0) where
   -- the first element that passes
@@ -366,3 +378,312 @@ newest_runs_are_listed every k s ps =
   where
     by : (p : ℕ) → count_by (lies_in p) (maximal_runs s) ≡ 1 → list_any (lies_in p) (maximal_runs s) ≡ true
     by p e = true_from_ne_false _ (λ no. (let none = (none_found (lies_in p) (maximal_runs s) no).1 in absurd (omega (arith, e, none))))
+
+-- ---- How many positions of a range are in none of the runs of a list that rises.
+-- of the positions from `at` on and below `end`, those that are in no run
+abbrev pub missing_in : ℕ → ℕ → List (ℕ × ℕ) → ℕ
+missing_in end at [] = end - at
+missing_in end at (r ∷ rs) = (min r.0 end - at) + missing_in end (max at r.1) rs
+
+module _ (g : ℕ → Bool) where
+  abbrev pub count : ℕ → ℕ → ℕ
+  count a n = count_by g (range_with_len a n)
+
+  count_more : (a n : ℕ) → count a (suc n) ≡ cond (g a) 1 0 + count (a + 1) n
+  count_more a n = sum_by-cons (λ q. cond (g q) 1 0) a (range_with_len (a + 1) n)
+
+  pub count_split : (a x y : ℕ) → count a (x + y) ≡ count a x + count (a + x) y
+  count_split a zero y =
+      let e : a ≡ a + 0 = omega arith in
+      let h : 0 + y ≡ y = omega arith in
+      let none : count a 0 ≡ 0 = refl in
+      let same : count a (0 + y) ≡ count (a + 0) y = (λ i. count (e i) (h i)) in
+      omega (arith, none, same)
+  count_split a (suc x) y =
+      let e : suc x + y ≡ suc (x + y) = omega arith in
+      let h : a + 1 + x ≡ a + suc x = omega arith in
+      let rest = count_split (a + 1) x y ∙ ap (λ b. count (a + 1) x + count b y) h in
+      let whole = ap (count a) e ∙ count_more a (x + y) in
+      let part = count_more a x in
+      omega (arith, rest, whole, part)
+
+  pub count_all : (a n : ℕ) → ((q : ℕ) → a ≤ q → q < a + n → g q ≡ true) → count a n ≡ n
+  count_all a zero all = refl
+  count_all a (suc n) all =
+      let here : count a (suc n) ≡ 1 + count (a + 1) n = count_more a n ∙ ap (λ b. cond b 1 0 + count (a + 1) n) (all a (omega arith) (omega arith)) in
+      let rest = count_all (a + 1) n (λ q l h. all q (omega arith) (omega arith)) in
+      omega (arith, here, rest)
+
+  pub count_none : (a n : ℕ) → ((q : ℕ) → a ≤ q → q < a + n → g q ≡ false) → count a n ≡ 0
+  count_none a zero all = refl
+  count_none a (suc n) all =
+      let here : count a (suc n) ≡ 0 + count (a + 1) n = count_more a n ∙ ap (λ b. cond b 1 0 + count (a + 1) n) (all a (omega arith) (omega arith)) in
+      let rest = count_none (a + 1) n (λ q l h. all q (omega arith) (omega arith)) in
+      omega (arith, here, rest)
+
+count_same : (f g : ℕ → Bool) (a b n : ℕ) → ((i : ℕ) → i < n → f (a + i) ≡ g (b + i)) → count f a n ≡ count g b n
+count_same f g a b zero same = refl
+count_same f g a b (suc n) same =
+    let ea : a + 0 ≡ a = omega arith in
+    let eb : b + 0 ≡ b = omega arith in
+    let here : f a ≡ g b = ap f (sym ea) ∙ same 0 (omega arith) ∙ ap g eb in
+    let rest = count_same f g (a + 1) (b + 1) n (λ i l.
+    let fa : a + 1 + i ≡ a + (i + 1) = omega arith in
+    let fb : b + (i + 1) ≡ b + 1 + i = omega arith in
+    ap f fa ∙ same (i + 1) (omega arith) ∙ ap g fb) in
+    count_more f a n ∙ (λ k. cond (here k) 1 0 + rest k) ∙ sym (count_more g b n)
+
+-- those from `low` on and below `high`
+pub clipped : (g : ℕ → Bool) (low high p n : ℕ) →
+    count (λ q. nat_le low q && nat_lt q high && g q) p n ≡ count g (max low p) (min high (p + n) - max low p)
+clipped g low high p n =
+    let h : ℕ → Bool = λ q. nat_le low q && nat_lt q high && g q in
+    let x = min (max low p - p) n in
+    let y = min high (p + n) - max low p in
+    let z = n - x - y in
+    let whole : n ≡ x + (y + z) = omega arith in
+    let first : count h p x ≡ 0 = count_none h p x (λ q l m. off (nat_le low q) (nat_lt q high) (g q) (inl (lt-leb low q (omega arith)))) in
+    let last : count h (p + x + y) z ≡ 0 = count_none h (p + x + y) z (λ q l m. off (nat_le low q) (nat_lt q high) (g q) (inr (le-ltb q high (omega arith)))) in
+    let middle : count h (p + x) y ≡ count g (max low p) y = count_same h g (p + x) (max low p) y (λ i l.
+    let at : p + x + i ≡ max low p + i = omega arith in
+    ap h at ∙ within (nat_le low (max low p + i)) (nat_lt (max low p + i) high) (g (max low p + i))
+    (le-leb low (max low p + i) (omega arith)) (lt-ltb (max low p + i) high (omega arith))) in
+    let cut = count_split h p x (y + z) in
+    let cut' = count_split h (p + x) y z in
+    let all = ap (count h p) whole in
+    omega (arith, first, last, middle, cut, cut', all)
+  where
+    off : (a b c : Bool) → (a ≡ false) ⊎ (b ≡ false) → (a && b && c) ≡ false
+    off false b c e = refl
+    off true false c e = refl
+    off true true c e = ⊎_elim (λ h. absurd (both_ways true h refl)) (λ h. absurd (both_ways true h refl)) e
+
+    within : (a b c : Bool) → a ≡ true → b ≡ true → (a && b && c) ≡ c
+    within true true c e f = refl
+    within true false c e f = absurd (both_ways false refl f)
+    within false b c e f = absurd (both_ways false refl e)
+
+none_below : (q : ℕ) (rs : List (ℕ × ℕ)) → All (λ r. q < r.0) rs → list_any (lies_in q) rs ≡ false
+none_below q [] all = refl
+none_below q (r ∷ rs) all =
+    false_from_ne_true _ (λ h. ⊎_elim
+    (λ e. (let l = leb-true r.0 q (and_parts _ _ e).0 in let m = All-head (λ (x : ℕ × ℕ). q < x.0) r rs all in absurd (omega (arith, l, m))))
+    (λ e. absurd (both_ways _ (none_below q rs (All-tail (λ (x : ℕ × ℕ). q < x.0) r rs all)) e))
+    (or_cases (lies_in q r) (list_any (lies_in q) rs) h))
+
+-- the runs that are left to look at, from a position on
+pub record Left (s : Positions) (at : ℕ) (rs : List (ℕ × ℕ)) : Type 0 where
+  pub some : All (λ r. r.0 < r.1) rs
+  pub rising : AllPairs (λ q r. q.1 < r.0) rs
+  pub has : (q : ℕ) → at ≤ q → contains s q ≡ list_any (lies_in q) rs
+
+module _ (s : Positions) (end : ℕ) where
+  abbrev lacks : ℕ → Bool
+  lacks q = not (contains s q)
+
+  pub missing_is : (at : ℕ) (rs : List (ℕ × ℕ)) → Left s at rs → missing_in end at rs ≡ count lacks at (end - at)
+  missing_is at [] left = sym (count_all lacks at (end - at) (λ q l m. ap not (left.has q l)))
+  missing_is at (r ∷ rs) left =
+      let some = All-head (λ (x : ℕ × ℕ). x.0 < x.1) r rs left.some in
+      let x = min r.0 end - at in
+      let z = min (max at r.1) end - (at + x) in
+      let y = end - (at + x) - z in
+      let whole : end - at ≡ x + (z + y) = omega (arith, some) in
+      let after : Left s (max at r.1) rs = record {
+        some = All-tail (λ (x : ℕ × ℕ). x.0 < x.1) r rs left.some;
+        rising = λ i j d l m. left.rising (suc i) (suc j) d (omega arith) (omega arith);
+        has = λ q l. left.has q (omega arith) ∙ ap (λ b. b || list_any (lies_in q) rs) (past q r (omega arith));
+      } in
+      let rest = missing_is (max at r.1) rs after in
+      let first : count lacks at x ≡ x = count_all lacks at x (λ q l m.
+      ap not (left.has q l ∙ none_below q (r ∷ rs) (All-cons (λ (o : ℕ × ℕ). q < o.0) r rs (omega arith)
+      (λ k d n. (let apart = left.rising 0 (suc k) d (omega arith) (omega arith) in omega (arith, apart, some)))))) in
+      let middle : count lacks (at + x) z ≡ 0 = count_none lacks (at + x) z (λ q l m.
+      ap not (left.has q (omega arith) ∙ or_left _ _ (and_from _ _ (le-leb r.0 q (omega (arith, some, l, m))) (lt-ltb q r.1 (omega (arith, some, l, m)))))) in
+      let cut = count_split lacks at x (z + y) in
+      let cut' = count_split lacks (at + x) z y in
+      let all = ap (count lacks at) whole in
+      let same : count lacks (at + x + z) y ≡ count lacks (max at r.1) (end - max at r.1) =
+      let size : y ≡ end - max at r.1 = omega (arith, some) in
+      ap (count lacks (at + x + z)) size ∙ count_same lacks lacks (at + x + z) (max at r.1) (end - max at r.1) (λ i l.
+      let on : at + x + z + i ≡ max at r.1 + i = omega (arith, some, l) in ap lacks on) in
+      omega (arith, first, middle, same, cut, cut', all, rest)
+    where
+      past : (q : ℕ) (r : ℕ × ℕ) → r.1 ≤ q → lies_in q r ≡ false
+      past q r h = false_from_ne_true _ (λ e. (let l = ltb-true q r.1 (and_parts _ _ e).1 in absurd (omega (arith, l, h))))
+
+  -- no more than there are
+  pub missing_few : (at : ℕ) (rs : List (ℕ × ℕ)) → Left s at rs → missing_in end at rs ≤ end - at
+  missing_few at rs left =
+      let few = count_by-le-length lacks (range_with_len at (end - at)) in
+      let size = length-range_with_len at (end - at) in
+      omega (arith, missing_is at rs left, few, size)
+
+-- all runs of a set are left
+pub left_of : (s : Positions) (at : ℕ) → AreMaximalRuns s (maximal_runs s) → Left s at (maximal_runs s)
+left_of s at are = record {
+  some = λ k d l. (are.maximal k d l).some;
+  rising = are.rising;
+  has = λ q _. same_tests (contains s q) (list_any (lies_in q) (maximal_runs s))
+      (λ held. true_from_ne_false _ (λ no.
+      let none = (none_found (lies_in q) (maximal_runs s) no).1 in
+      absurd (omega (arith, are.complete q held, none))))
+      (λ yes.
+      let r = found (lies_in q) (IsMaximalRun s) (maximal_runs s) are.maximal yes in
+      let both = and_parts _ _ r.2 in
+      r.3.inside q (leb-true r.0.0 q both.0) (ltb-true q r.0.1 both.1));
+}
+
+-- ---- Several calls of `newest_runs`: the runs of the positions that were asked for last are listed first.
+-- ---- elements of lists
+pub there : {X : Type 0} (xs : List X) (i : ℕ) → i < length xs → (x : X) × (slice_get xs i ≡ Some x)
+there [] i l = absurd (omega (arith, l))
+there (x ∷ xs) zero l = (x, refl)
+there (x ∷ xs) (suc i) l = there xs i (omega (arith, l))
+
+all_at : {X : Type 0} (P : X → Type 0) (xs : List X) (i : ℕ) (x : X) → All P xs → slice_get xs i ≡ Some x → P x
+all_at P [] i x all is = absurd (both_ways false refl (ap is_some is))
+all_at P (y ∷ xs) zero x all is = subst P (ap (λ o. unwrap_or o y) is) (All-head P y xs all)
+all_at P (y ∷ xs) (suc i) x all is = all_at P xs i x (All-tail P y xs all) is
+
+-- ---- the positions that a call leaves
+starts_size : (ps : List ℕ) (rs : List (ℕ × ℕ)) → length (with_starts ps rs) ≡ length ps
+starts_size ps rs =
+    omega (
+      arith,
+      length-append (take (length ps) (map (λ r. r.0) rs)) (drop (length rs) ps),
+      length-take (length ps) (map (λ r. r.0) rs),
+      length-map rs (λ r. r.0),
+      length-drop (length rs) ps,
+    )
+
+start_at : (ps : List ℕ) (rs : List (ℕ × ℕ)) (i : ℕ) (r : ℕ × ℕ) → i < length ps → slice_get rs i ≡ Some r → slice_get (with_starts ps rs) i ≡ Some r.0
+start_at ps rs i r l is =
+    at-left (take (length ps) (map (λ q. q.0) rs)) (drop (length rs) ps) i r.0
+    (slice_get-take (length ps) (map (λ q. q.0) rs) i ∙ cond-true _ _ _ (lt-ltb i (length ps) l) ∙ slice_get-map (λ q. q.0) rs i ∙ ap (option_map (λ q. q.0)) is)
+
+recent_size : (k : ℕ) (ps : List ℕ) (calls : Calls) → length (recent_after k ps calls) ≡ length ps
+recent_size k ps [] = refl
+recent_size k ps (call ∷ calls) =
+    starts_size (recent_after k ps calls) (newest_runs k call.0 (call.1 ∷ recent_after k ps calls)) ∙ recent_size k ps calls
+
+-- ---- what stays together is in one run afterwards
+module _ (s t : Positions) (together : StayTogether s t) (r m : ℕ × ℕ) (max : IsMaximalRun s r) (max' : IsMaximalRun t m) where
+  in_run : (p q : ℕ) → lies_in p r ≡ true → lies_in q r ≡ true → lies_in p m ≡ true → lies_in q m ≡ true
+  in_run p q p_in q_in p_at =
+      let a = lies p r p_in in let b = lies q r q_in in let c = lies p m p_at in
+      lies_from q m
+      (⊎_elim (λ (l : q < m.0). absurd (both_ways _ (max'.begun (omega (arith, l))) (held (m.0 - 1) (omega (arith, l, b.0)) (omega (arith, l, a.1, c.0)))))
+      (λ (l : m.0 ≤ q). l) (cases_lt q m.0))
+      (⊎_elim (λ (l : q < m.1). l)
+      (λ (l : m.1 ≤ q). absurd (both_ways _ max'.ended (held m.1 (omega (arith, a.0, c.1)) (omega (arith, l, b.1))))) (cases_lt q m.1))
+    where
+      held : (x : ℕ) → r.0 ≤ x → x < r.1 → contains t x ≡ true
+      held x from to = (let at = lies p m p_at in together r p x max p_in (lies_from x r from to) (max'.inside p at.0 at.1))
+
+-- ---- several calls
+module _ (every : MaximalRunsOfEverySet) (k : ℕ) (ps : List ℕ) where
+  abbrev listed_by : Positions × ℕ → Calls → List (ℕ × ℕ)
+  listed_by last calls = newest_runs k last.0 (last.1 ∷ recent_after k ps calls)
+
+  lists : (last : Positions × ℕ) (calls : Calls) → AreNewestRuns k last.0 (last.1 ∷ recent_after k ps calls) (listed_by last calls)
+  lists last calls = newest_runs_are_listed every k last.0 (last.1 ∷ recent_after k ps calls)
+
+  -- before the run of p only runs of positions that were asked for after it
+  abbrev AreLater : Positions × ℕ → Calls → ℕ → ℕ → Type 0
+  AreLater last calls b p = (i j : ℕ) (q r : ℕ × ℕ) → i < j → slice_get (listed_by last calls) i ≡ Some q →
+      slice_get (listed_by last calls) j ≡ Some r → lies_in p r ≡ true → IsNamed (map (λ c. c.1) (last ∷ calls)) b q
+
+  -- one call after the others: the run s of p was listed at j, and the run q has one of the positions before its start
+  module _ (last before : Positions × ℕ) (calls : Calls) (together : StayTogether before.0 last.0) (b p j : ℕ) (s : ℕ × ℕ)
+      (j_in : j ≤ b) (within : b < length ps) (at : slice_get (listed_by before calls) j ≡ Some s) (p_in : lies_in p s ≡ true)
+      (later : AreLater before calls b p) (q : ℕ × ℕ) (max : IsMaximalRun last.0 q)
+    where
+      named_later : (a e : ℕ) → a < suc j → slice_get (last.1 ∷ recent_after k ps (before ∷ calls)) a ≡ Some e → lies_in e q ≡ true →
+          IsNamed (map (λ c. c.1) (last ∷ before ∷ calls)) (suc b) q
+      named_later zero e l is e_in = (0, last.1, omega arith, refl, ap (λ n. lies_in n q) (ap (λ o. unwrap_or o e) is) ∙ e_in)
+      named_later (suc a) e l is e_in =
+          let list = listed_by before calls in
+          let size = recent_size k ps calls in
+          let r = there list a (omega (arith, l, slice_get_within list j s at)) in
+          let start = start_at (recent_after k ps calls) list a r.0 (omega (arith, l, j_in, within, size)) r.1 in
+          let same : e ≡ r.0.0 = ap (λ o. unwrap_or o e) (sym is ∙ start) in
+          let max_r = all_at (IsMaximalRun before.0) list a r.0 (lists before calls).maximal r.1 in
+          let named = later a j r.0 s (omega (arith, l)) r.1 at p_in in (
+            suc named.0,
+            named.1,
+            omega (arith, named.2),
+            named.3,
+            in_run before.0 last.0 together r.0 q max_r max r.0.0 named.1 (lies_from r.0.0 r.0 (le_refl _) max_r.some) named.4
+                (ap (λ n. lies_in n q) (sym same) ∙ e_in),
+          )
+
+  newest_first : (calls : Calls) (b : ℕ) (last call : Positions × ℕ) → AllStayTogether (last ∷ calls) → b < k → b ≤ length ps →
+      slice_get (last ∷ calls) b ≡ Some call → IsHeldSince (last ∷ calls) b call.1 →
+      IsListedBy (listed_by last calls) b call.1 × AreLater last calls b call.1
+  newest_first calls zero last call together few within is held =
+      let same : last ≡ call = ap (λ o. unwrap_or o last) is in
+      let at : contains last.0 last.1 ≡ true = ap (λ (c : Positions × ℕ). contains last.0 c.1) same ∙ held 0 last (omega arith) refl in
+      subst (λ (c : Positions × ℕ). IsListedBy (listed_by last calls) 0 c.1 × AreLater last calls 0 c.1) same (
+        (lists last calls).newest 0 last.1 refl at few,
+        (λ i j q r l at_i at_j p_in. (let named = (lists last calls).order i j 0 last.1 q r l at_i at_j refl p_in in absurd (omega (arith, named.2)))),
+      )
+  newest_first [] (suc b) last call together few within is held = absurd (both_ways false refl (ap is_some is))
+  newest_first (before ∷ calls) (suc b) last call together few within is held =
+      let p = call.1 in
+      let earlier = newest_first calls b before call together.1 (omega (arith, few)) (omega (arith, within)) is (λ a c l at. held (suc a) c (omega (arith, l)) at) in
+      let list = listed_by before calls in
+      let j = earlier.0.0 in let s = earlier.0.1 in
+      let size = recent_size k ps calls in
+      let max_s = all_at (IsMaximalRun before.0) list j s (lists before calls).maximal earlier.0.3 in
+      let start = start_at (recent_after k ps calls) list j s (omega (arith, earlier.0.2, within, size)) earlier.0.3 in
+      let start_in = lies_from s.0 s (le_refl _) max_s.some in
+      let start_held = together.0 s p s.0 max_s earlier.0.4 start_in (held 0 last (omega arith) refl) in
+      let listed = (lists last (before ∷ calls)).newest (suc j) s.0 start start_held (omega (arith, earlier.0.2, few)) in
+      let all = (lists last (before ∷ calls)).maximal in
+      let max_l = all_at (IsMaximalRun last.0) (listed_by last (before ∷ calls)) listed.0 listed.1 all listed.3 in (
+        (
+          listed.0,
+          listed.1,
+          omega (arith, listed.2, earlier.0.2),
+          listed.3,
+          in_run before.0 last.0 together.0 s listed.1 max_s max_l s.0 p start_in earlier.0.4 listed.4,
+        ),
+        (λ i m q r l at_i at_m p_in.
+            let max_r = all_at (IsMaximalRun last.0) (listed_by last (before ∷ calls)) m r all at_m in
+            let max_q = all_at (IsMaximalRun last.0) (listed_by last (before ∷ calls)) i q all at_i in
+            let start_r = in_run before.0 last.0 together.0 s r max_s max_r p s.0 earlier.0.4 start_in p_in in
+            let named = (lists last (before ∷ calls)).order i m (suc j) s.0 q r l at_i at_m start start_r in
+            named_later last before calls together.0 b p j s earlier.0.2 (omega (arith, within)) earlier.0.3 earlier.0.4 earlier.1 q max_q
+            named.0 named.1 named.2 named.3 named.4),
+      )
+
+pub newest_are_first : MaximalRunsOfEverySet → NewestAreFirst
+newest_are_first every k b ps last call calls together few within is held = newest_first every k ps calls b last call together few within is held
+
+-- ---- receivers
+bytes_stay : (N : ℕ) (v : ReceiverState) (cs : List CommandValue) (p : ℕ) → HasByteAt v p → HasByteAt (receiver_after_commands N v cs) p
+bytes_stay N v [] p h = h
+bytes_stay N v (c ∷ cs) p h = bytes_stay N (receiver_after_command N v c) cs p (has_byte_stays N v c p h)
+
+sound_after_all : (N : ℕ) (v : ReceiverState) (cs : List CommandValue) → IsSound N v → IsSound N (receiver_after_commands N v cs)
+sound_after_all N v [] sound = sound
+sound_after_all N v (c ∷ cs) sound = sound_after_all N (receiver_after_command N v c) cs (sound_stays N v c sound)
+
+pub held_stay_together : HeldStayTogether
+held_stay_together N v cs sound r p q max p_in q_in p_held =
+    let u = receiver_after_commands N v cs in
+    let after = sound_after_all N v cs sound in
+    let a = lies p r p_in in
+    let b = lies q r q_in in
+    let above = after.above p (sym (contains-domain u.held p) ∙ p_held) in
+    ⊎_elim
+    (λ (l : q < next_position u).
+    ⊎_elim (λ (no : next_position u < next_position u). absurd (omega (arith, no)))
+    (λ (k : fin.contains_key u.held (next_position u) ≡ true). (let no = after.above (next_position u) k in absurd (omega (arith, no))))
+    (has_of (next_position u) (omega (arith, l, b.0)) (omega (arith, above, a.1))))
+    (λ (k : fin.contains_key u.held q ≡ true). contains-domain u.held q ∙ k)
+    (has_of q b.0 b.1)
+  where
+    has_of : (x : ℕ) → r.0 ≤ x → x < r.1 → HasByteAt (receiver_after_commands N v cs) x
+    has_of x from to = bytes_stay N v cs x (inr (sym (contains-domain v.held x) ∙ max.inside x from to))

@@ -1,25 +1,45 @@
--- What truthful segments leave.
+-- What segments of one stream leave and reply, those that come again, those that cover a range, and reads.
 use Rattle.std.proofs.Common.{◌≡◌, ℕ, zero, suc, ◌+◌, ◌-◌, ◌<◌, ◌≤◌, List, [], ◌∷◌, ◌++◌, length, take, drop, All}
 use Rattle.std.proofs.Common.{Some, slice_get, slice_range, refl, sym, ap, subst, ◌∙◌, arith, length-append}
-use Rattle.std.proofs.Common.{length-drop, ⊎_elim, take-add}
-use Rattle.std.proofs.lemmas.Bool.{cases_lt}
+use Rattle.std.proofs.Common.{length-drop, ⊎_elim, take-add, nat_le, leb-true, ltb-true, min, nat_lt, unwrap_or}
+use Rattle.std.proofs.Common.{take_all, Result, Ok, Err, IsOk, IfOk, OnErr, length-take, ◌⊎◌, inl, inr, true, false}
+use Rattle.std.proofs.Common.{cond, Option, None, is_some, le-leb, lt-ltb, le_trans}
+use Rattle.std.proofs.lemmas.Bool.{cases_lt, and_parts, both_ways, false≢true, or_left, cond-true, and_from, or_right}
+use Rattle.std.proofs.lemmas.Bool.{false_from_ne_true}
 use Rattle.std.proofs.lemmas.Option.{slice_get_within, none-some}
 use Rattle.std.proofs.lemmas.List.Elements.{All-nil, All-cons, All-head, All-tail, All-push, All-take, All-weaker}
-use Rattle.net_receiver.specs.Headline.{CommandValue, Segment, Read, Show, ReplyValue, unread, queued, queue, missing}
-use Rattle.net_receiver.specs.Headline.{step, state_from}
-use Rattle.net_receiver.specs.KeptList.{Piece, piece, piece_within, byte_at}
-use Rattle.net_receiver.specs.Schedule.{Setting, KeptState, fresh_kept, HasRoom, bytes_read, PieceAgrees, Agrees}
-use Rattle.net_receiver.specs.ReceiverState.{ReceiverState, fresh_receiver, next_position, limit_of}
-use Rattle.net_receiver.specs.ReceiverState.{receiver_after_command, receiver_after_commands, setting}
-use Rattle.net_receiver.specs.Execution.{Executes}
-use Rattle.net_receiver.specs.OneStream.{IsTruthful, Receives, QueueIsOf, FirstStays, NextGrows, LimitGrows}
-use Rattle.net_receiver.specs.OneStream.{SegmentReadsNothing}
-use Rattle.net_receiver.proofs.Covering.{clip_at}
-use Rattle.net_receiver.proofs.Step.{missing_is, part_cases, window_piece, segment_cases, same_next, queue_length}
-use Rattle.net_receiver.proofs.Schedules.{schedule, setting_kept, settings_kept}
-use Rattle.net_receiver.proofs.Stream.{queue_agrees, agrees_at, some_of, stream}
-use Rattle.net_receiver.proofs.Theorems.{fresh_refines}
+use Rattle.net_receiver.specs.{CommandValue, Segment, Read, Show, ReplyValue, unread, queued, queue, missing, step}
+use Rattle.net_receiver.specs.{state_from, Piece, piece, piece_within, byte_at, Setting, KeptState, fresh_kept}
+use Rattle.net_receiver.specs.{HasRoom, bytes_read, PieceAgrees, Agrees, fresh_receiver, next_position, limit_of}
+use Rattle.net_receiver.specs.{receiver_after_command, receiver_after_commands, setting, Executes, IsTruthful}
+use Rattle.net_receiver.specs.{Receives, QueueIsOf, FirstStays, NextGrows, LimitGrows, SegmentReadsNothing, is_held}
+use Rattle.net_receiver.specs.{verdict, state_after, numbers, segment_result, receiver_reply, Refines, HeldBytes}
+use Rattle.net_receiver.specs.{domain, held_with_piece, first_lacking, held_bytes_at, receiver_after_read, IsSound}
+use Rattle.net_receiver.specs.{StaysInSetting, Follows, EndsBy, KeepsOrRefuses, JoinsQueue, HeldIsOfStream}
+use Rattle.net_receiver.specs.{QueueIsOfStream, CapacityStays, ReceivesFrom, MatchesStream, AllMatch}
+use Rattle.net_receiver.specs.{MatchesWhatIsThere, window_part, InOrderReaches, piece_byte_at, SegmentReply}
+use Rattle.net_receiver.specs.{receiver_with_piece, receiver_up_to, receiver_replies, IsAccepted, IsHeld}
+use Rattle.net_receiver.specs.{HeldChangesNothing, SecondCopy, HasByteAt, HasByteStays, AcceptedBrings, HasAllReaches}
+use Rattle.net_receiver.specs.{Brings, Completes, ReadLeavesNext, ReadLeavesBytes, ReadsAdd, ReadsGiveTogether}
+use Rattle.net_receiver.specs.ReceiverState.{ReceiverState}
+use Rattle.net_receiver.proofs.Sets.{clip_at, get-with_bytes_at, next_joined, lacks, lacking, laid_has, piece_from}
+use Rattle.net_receiver.proofs.Sets.{piece_some, cond_some, slice_get-drop, slice_get-take, first_unique, clip_byte}
+use Rattle.net_receiver.proofs.Sets.{same_both, same_bytes, get_from, laid, left_has, left_above}
+use Rattle.net_receiver.proofs.Schedules.{missing_is, part_cases, window_piece, segment_cases, same_next}
+use Rattle.net_receiver.proofs.Schedules.{queue_length, schedule, setting_kept, settings_kept, queue_agrees}
+use Rattle.net_receiver.proofs.Schedules.{agrees_at, some_of, stream, follows_verdict, any_verdict, read_prefix}
+use Rattle.net_receiver.proofs.Theorems.{fresh_refines, ran}
+use Rattle.std.specs.Option.{option_or}
+use Rattle.std.specs.Prelude.{⊤}
+use Rattle.std.proofs.lemmas.Grind.{common_steps}
+use Rattle.std.proofs.lemmas.List.{append_assoc, take-append-drop, drop-take, drop-drop, drop_at, take-take}
+use Rattle.std.proofs.lemmas.List.{append-nil}
+use Rattle.net_assembler.specs.declared.assembler.error.TooManyHolesError.{TooManyHolesError}
+use Rattle.net_receiver.specs.declared.kept.Kept.{Kept}
+use Rattle.net_receiver.specs.declared.kept.KeptBytes.{KeptBytes}
+use Rattle.std.specs.FinMap as fin
 
+-- ---- What truthful segments leave.
 clip_agrees : (f low high : ℕ) (x : List ℕ) (e : Piece) → PieceAgrees f x e → PieceAgrees f x (piece_within low high e)
 clip_agrees f low high x e h = λ p b from is. h p b from (clip_at low high e p b is).2
 
@@ -140,3 +160,447 @@ limit_grows most v Show = omega arith
 
 pub segment_reads_nothing : SegmentReadsNothing
 segment_reads_nothing most v pos xs = segment_cases (λ u. u.read ≡ v.read) most v pos xs refl (λ part. refl)
+
+-- ---- What one call leaves and replies, as its callers want it.
+-- ---- streams
+first_of : (N : ℕ) (v u : ReceiverState) (c : CommandValue) → u ≡ receiver_after_command N v c → u.first ≡ v.first
+first_of N v u c e = ap (λ (y : ReceiverState). y.first) e ∙ first_stays N v c
+
+receives_after : (N f : ℕ) (x : List ℕ) (v u : ReceiverState) (c : CommandValue) → u ≡ receiver_after_command N v c → ReceivesFrom f x v →
+    IsTruthful f x c → ReceivesFrom f x u
+unfolding ReceivesFrom
+receives_after N f x v u c e r h =
+    (first_of N v u c e ∙ r.0, subst (Receives x) (sym e) (one_receives N x v c r.1 (subst (λ b. IsTruthful b x c) (sym r.0) h)))
+
+pub segment_receives : (N f : ℕ) (x : List ℕ) (v u : ReceiverState) (pos : ℕ) (xs : List ℕ) →
+    u ≡ receiver_after_command N v (Segment pos xs) → ReceivesFrom f x v → MatchesStream f x pos xs → ReceivesFrom f x u
+unfolding MatchesStream
+segment_receives N f x v u pos xs e r h = receives_after N f x v u (Segment pos xs) e r h
+
+pub read_receives : (f : ℕ) (x : List ℕ) (v u : ReceiverState) (n : ℕ) → u ≡ receiver_after_read v n → ReceivesFrom f x v → ReceivesFrom f x u
+read_receives f x v u n e r = receives_after 0 f x v u (Read n) e r tt
+
+pub fresh_receives_from : (x : List ℕ) (first capacity : ℕ) → ReceivesFrom first x (fresh_receiver first capacity)
+unfolding ReceivesFrom
+fresh_receives_from x first capacity = (refl, fresh_receives x first capacity)
+
+pub queue_of : QueueIsOfStream
+unfolding ReceivesFrom
+queue_of f x v r = queue_is_of x v r.1
+
+pub run_receives_from : {N : ℕ} {v u : ReceiverState} {cs : List CommandValue} {rs : List ReplyValue} {complete : Type 0} (f : ℕ) (x : List ℕ) →
+    Executes N v u cs rs complete → ReceivesFrom f x v → AllMatch f x cs →
+    ReceivesFrom f x u × (bytes_read rs ++ u.queue ≡ slice_range x v.read (next_position u - u.first))
+unfolding ReceivesFrom AllMatch
+run_receives_from {N} {v} {u} {cs} f x run r h =
+    let both = run_receives x r.1 (subst (λ b. All (IsTruthful b x) cs) (sym r.0) h) run in
+    ((ap (λ (y : ReceiverState). y.first) run.state ∙ ap (λ w. w.first) (settings_kept N v (take run.prefix.count cs)) ∙ r.0, both.0), both.1)
+
+pub matches_what_is_there : MatchesWhatIsThere
+unfolding MatchesStream
+matches_what_is_there f pos x xs h e = λ p b from is.
+    let there = cond_some (nat_le pos p) (slice_get xs (p - pos)) b is in
+    let l = leb-true pos p there.0 in
+    let at : (pos - f) + (p - pos) ≡ p - f = omega arith in
+    ap (slice_get x) (sym at)
+    ∙ sym (slice_get-drop (pos - f) x (p - pos))
+    ∙ (cond_some (nat_lt (p - pos) (length xs)) (slice_get (drop (pos - f) x) (p - pos)) b
+    (sym (slice_get-take (length xs) (drop (pos - f) x) (p - pos)) ∙ ap (λ l. slice_get l (p - pos)) (sym e) ∙ there.1)).1
+
+prefix_of : (x q : List ℕ) (a n : ℕ) → q ≡ take (length q) (drop a x) → n ≤ length q → take n q ≡ slice_range x a (a + n)
+prefix_of x q a n e h = grind (arith, common_steps)
+
+few_of : (q : List ℕ) (k n : ℕ) → n ≡ min k (length q) → take k q ≡ take n q
+few_of q k n e = grind (arith, common_steps)
+
+pub read_bytes : (f : ℕ) (x : List ℕ) (v : ReceiverState) (into old : List ℕ) (n : ℕ) → n ≡ min (length old) (length v.queue) →
+    into ≡ take (length old) v.queue ++ drop (length v.queue) old → ReceivesFrom f x v →
+    take n into ≡ slice_range x v.read (v.read + n)
+read_bytes f x v into old n count is r =
+    read_prefix v.queue into old n count is ∙ few_of v.queue (length old) n count ∙ prefix_of x v.queue v.read n (queue_of f x v r).queue (omega arith)
+
+-- ---- a segment
+values_of : (m : HeldBytes) (xs : List ℕ) (p n : ℕ) → length xs ≤ n →
+    ((q i b : ℕ) → q ≡ p + i → slice_get xs i ≡ Some b → fin.get m q ≡ Some b) → take (length xs) (held_bytes_at m p n) ≡ xs
+values_of m [] p n h at = refl
+values_of m (x ∷ xs) p zero h at = absurd (omega arith)
+values_of m (x ∷ xs) p (suc n) h at =
+    let first : unwrap_or (fin.get m p) 0 ≡ x = ap (λ o. unwrap_or o 0) (at p 0 x (omega arith) refl) in
+    (λ i. first i ∷ values_of m xs (p + 1) n (omega arith) (λ q j b e is. at q (suc j) b (omega arith) is) i)
+
+laid_at : (v : ReceiverState) (part : Piece) (q i b : ℕ) → q ≡ part.start + i → slice_get part.bytes i ≡ Some b → fin.get (held_with_piece v part) q ≡ Some b
+laid_at v part q i b e is =
+    let at : q - part.start ≡ i = omega arith in
+    get-with_bytes_at v.held part.start part.bytes q ∙ ap (λ o. option_or o (fin.get v.held q))
+    (piece_from part q (omega arith) ∙ ap (slice_get part.bytes) at ∙ is)
+
+reaches : (v : ReceiverState) (part : Piece) → part.start ≡ next_position v → next_position v + length part.bytes ≤ lacks v part
+reaches v part at =
+    let from = (lacking v part).from in
+    ⊎_elim (λ (l : lacks v part < next_position v + length part.bytes).
+    absurd (both_ways _ (lacking v part).here (laid_has v part _ ∙ or_left _ _ (piece_some part (lacks v part) (omega arith, omega arith)))))
+    (λ (l : next_position v + length part.bytes ≤ lacks v part). l)
+    (cases_lt (lacks v part) (next_position v + length part.bytes))
+
+splits : (q w part : List ℕ) → take (length part) w ≡ part → q ++ w ≡ q ++ part ++ drop (length q + length part) (q ++ w)
+splits q w part e =
+    ap (λ l. q ++ l) (sym (take-append-drop (length part) w) ∙ (λ i. e i ++ drop (length part) (sym (drop_at q w (length q) refl) i))
+    ∙ ap (λ l. part ++ l) (drop-drop (length part) (length q) (q ++ w)))
+    ∙ sym (append_assoc q part (drop (length q + length part) (q ++ w)))
+
+splits_none : (q part : List ℕ) → length part ≡ 0 → q ≡ q ++ part ++ drop (length q + length part) q
+splits_none q part e = grind (arith, common_steps)
+
+-- what a segment that begins at or below `next` comes to
+pub in_order : (N : ℕ) (v u : ReceiverState) (pos : ℕ) (xs : List ℕ) (r : Result Kept TooManyHolesError) →
+    u ≡ state_after v (verdict N v (piece pos xs)) →
+    r ≡ segment_result v (verdict N v (piece pos xs)) →
+    pos ≤ next_position v → JoinsQueue v (window_part v pos xs) u r
+in_order N v u pos xs r state told h =
+    let n = next_position v in
+    let part = piece_within n (v.first + v.read + v.capacity) (piece pos xs) in
+    let at : part.start ≡ n = omega arith in
+    let far = reaches v part at in
+    let more = next_joined v part in
+    let all = follows_verdict (λ y. JoinsQueue v part.bytes (state_after v y) (segment_result v y)) n N (domain v.held) part at
+    (λ none. record { accepted = refl; joins = omega arith; appends = splits_none v.queue part.bytes none })
+    (λ some. record {
+      accepted = refl;
+      joins = omega arith;
+      appends = splits v.queue (held_bytes_at (held_with_piece v part) n (first_lacking (held_with_piece v part) n - n)) part.bytes
+          (values_of (held_with_piece v part) part.bytes n (first_lacking (held_with_piece v part) n - n) (omega arith)
+          (λ q i b e is. laid_at v part q i b (omega arith) is));
+    }) in
+    subst (λ z. JoinsQueue v part.bytes z r) (sym state)
+    (subst (JoinsQueue v part.bytes (state_after v (verdict N v (piece pos xs)))) (sym told) all)
+
+-- what any segment comes to
+pub any_order : (N : ℕ) (v u : ReceiverState) (pos : ℕ) (xs : List ℕ) (r : Result Kept TooManyHolesError) →
+    u ≡ state_after v (verdict N v (piece pos xs)) →
+    r ≡ segment_result v (verdict N v (piece pos xs)) →
+    KeepsOrRefuses v (window_part v pos xs) u r
+any_order N v u pos xs r state told =
+    let n = next_position v in
+    let part = piece_within n (v.first + v.read + v.capacity) (piece pos xs) in
+    let more = next_joined v part in
+    let from = (lacking v part).from in
+    let all = any_verdict (λ y. KeepsOrRefuses v part.bytes (state_after v y) (segment_result v y)) n N (domain v.held) part
+    (λ none. record { read = refl; refused = tt; kept = sym none; queued = omega arith; grows = omega arith })
+    (record { read = refl; refused = refl; kept = tt; queued = tt; grows = omega arith })
+    (record { read = refl; refused = tt; kept = refl; queued = omega arith; grows = omega arith }) in
+    subst (λ z. KeepsOrRefuses v part.bytes z r) (sym state)
+    (subst (KeepsOrRefuses v part.bytes (state_after v (verdict N v (piece pos xs)))) (sym told) all)
+
+-- the same of what `keep` returns
+pub kept_any : (N : ℕ) (v u : ReceiverState) (pos : ℕ) (xs : List ℕ) (r : Result KeptBytes TooManyHolesError) →
+    u ≡ state_after v (verdict N v (piece pos xs)) →
+    r ≡ numbers v (verdict N v (piece pos xs)) →
+    OnErr r (u ≡ v) × IfOk r (λ k. k.kept ≡ length (window_part v pos xs)) × IfOk r (λ k. next_position u ≡ next_position v + k.queued)
+kept_any N v u pos xs r state told =
+    let n = next_position v in
+    let part = piece_within n (v.first + v.read + v.capacity) (piece pos xs) in
+    let more = next_joined v part in
+    let from = (lacking v part).from in
+    let all = any_verdict (λ y. OnErr (numbers v y) (state_after v y ≡ v) × IfOk (numbers v y) (λ k. k.kept ≡ length part.bytes)
+    × IfOk (numbers v y) (λ k. next_position (state_after v y) ≡ next_position v + k.queued)) n N (domain v.held) part
+    (λ none. (tt, sym none, omega arith))
+    (refl, tt, tt)
+    (tt, refl, omega arith) in
+    subst (λ z. OnErr r (z ≡ v) × IfOk r (λ k. k.kept ≡ length part.bytes) × IfOk r (λ k. next_position z ≡ next_position v + k.queued)) (sym state)
+    (subst (λ z. OnErr z (state_after v (verdict N v (piece pos xs)) ≡ v) × IfOk z (λ k. k.kept ≡ length part.bytes)
+    × IfOk z (λ k. next_position (state_after v (verdict N v (piece pos xs))) ≡ next_position v + k.queued)) (sym told) all)
+
+pub kept_in_order : (N : ℕ) (v : ReceiverState) (pos : ℕ) (xs : List ℕ) (r : Result KeptBytes TooManyHolesError) →
+    r ≡ numbers v (verdict N v (piece pos xs)) → pos ≤ next_position v → IsOk r
+kept_in_order N v pos xs r told h =
+    let n = next_position v in
+    let part = piece_within n (v.first + v.read + v.capacity) (piece pos xs) in
+    let at : part.start ≡ n = omega arith in
+    subst IsOk (sym told) (follows_verdict (λ y. IsOk (numbers v y)) n N (domain v.held) part at (λ none. refl) (λ some. refl))
+
+-- ---- what is held
+pub held_of_stream : HeldIsOfStream
+unfolding ReceivesFrom
+held_of_stream f x v p b r is =
+    let s = r.1.state in
+    let w = setting 0 v in
+    let there = cond_some (is_held w s p) (byte_at s.kept p) b (sym (r.1.refines.held p) ∙ is) in
+    let above = ltb-true (missing w s) p (and_parts _ _ there.0).0 in
+    subst (λ g. slice_get x (p - g) ≡ Some b) r.0 (agrees_at v.first s.kept x r.1.agrees p b (omega arith) there.1)
+
+-- ---- one command, of which a refusal of memory leaves nothing
+pub capacity_stays : CapacityStays
+capacity_stays N v c = ap (λ w. w.capacity) (setting_kept N v c)
+
+stays_by : (N : ℕ) (v u : ReceiverState) → setting N u ≡ setting N v → IsSound N u → StaysInSetting N v u
+stays_by N v u e sound = record { first = ap (λ w. w.first) e; capacity = ap (λ w. w.capacity) e; bound = sound.few }
+
+-- what a command leaves of what was there, and a refusal of memory too
+pub stays : (N : ℕ) (v u : ReceiverState) (c : CommandValue) → u ≡ receiver_after_command N v c → IsSound N u → StaysInSetting N v u
+stays N v u c e sound = stays_by N v u (ap (setting N) e ∙ setting_kept N v c) sound
+
+one_run : (N : ℕ) (v : ReceiverState) (c : CommandValue) → Executes N v (receiver_after_command N v c) (c ∷ []) (receiver_reply N v c ∷ []) ⊤
+one_run N v c = record { prefix = record { count = 1; within = omega arith; whole = λ _. refl }; state = refl; replies = refl }
+
+pub executed_receives : (N f : ℕ) (x : List ℕ) {T E : Type 0} (r : Result T E) (v u : ReceiverState) (c : CommandValue) →
+    IfOk r (λ _. u ≡ receiver_after_command N v c) → OnErr r (u ≡ v) → ReceivesFrom f x v → AllMatch f x (c ∷ []) →
+    ReceivesFrom f x u
+unfolding AllMatch
+executed_receives N f x (Ok t) v u c ok err from h = receives_after N f x v u c ok from (All-head (IsTruthful f x) c [] h)
+executed_receives N f x (Err e) v u c ok err from h = subst (ReceivesFrom f x) (sym err) from
+
+pub executed_bytes :
+    (N f : ℕ) (x : List ℕ) {T E : Type 0} (seen : T → ReplyValue) (r : Result T E) (v u : ReceiverState) (c : CommandValue) →
+    IfOk r (λ _. u ≡ receiver_after_command N v c) → IfOk r (λ t. seen t ≡ receiver_reply N v c) → ReceivesFrom f x v →
+    AllMatch f x (c ∷ []) →
+    IfOk r (λ t. bytes_read (seen t ∷ []) ++ u.queue ≡ slice_range x v.read (next_position u - u.first))
+executed_bytes N f x seen (Ok t) v u c ok is from h =
+    (λ i. bytes_read (is i ∷ []) ++ (ok i).queue)
+    ∙ (run_receives_from f x (one_run N v c) from h).1
+    ∙ ap (λ (y : ReceiverState). slice_range x v.read (next_position y - y.first)) (sym ok)
+executed_bytes N f x seen (Err e) v u c ok is from h = tt
+
+pub run_stays : {N : ℕ} {v u : ReceiverState} {cs : List CommandValue} {rs : List ReplyValue} {complete : Type 0} →
+    Executes N v u cs rs complete → IsSound N u → StaysInSetting N v u
+run_stays {N} {v} {u} {cs} run sound = stays_by N v u (ap (setting N) run.state ∙ settings_kept N v (take run.prefix.count cs)) sound
+
+-- ---- segments that follow on one another
+pub reached :
+    {N : ℕ} {v u : ReceiverState} {cs : List CommandValue} {rs : List ReplyValue} {T E : Type 0} (r : Result T E) (s : KeptState) →
+    Executes N v u cs rs (IsOk r) → Refines v s →
+    Follows (setting N v) s (next_position v) cs → IfOk r (λ _. EndsBy (next_position u) cs)
+reached (Err e) s run d follows = tt
+reached {N} {v} {u} {cs} (Ok t) s run d follows =
+    let same : setting N u ≡ setting N v = ap (setting N) run.state ∙ settings_kept N v (take run.prefix.count cs) in
+    let seen = ran run s d in
+    let all : take seen.prefix.count cs ≡ cs = take_all seen.prefix.count cs (omega (arith, seen.prefix.whole refl)) in
+    let t = state_from (setting N v) s cs in
+    let there : Refines u t = subst (λ l. Refines u (state_from (setting N v) s l)) all seen.refines in
+    let end : next_position u ≡ missing (setting N v) t = same_next u t there ∙ ap (λ y. missing y t) same in
+    subst (λ n. EndsBy n cs) (sym end) (seen.recovers refl (subst (λ n. Follows (setting N v) s n cs) (same_next v s d) follows))
+
+-- ---- parts of the queue
+part_of : (x q bytes : List ℕ) (a o : ℕ) → q ≡ take (length q) (drop a x) → bytes ≡ take (length bytes) (drop o q) →
+    bytes ≡ take (length bytes) (drop (a + o) x)
+part_of x q bytes a o e is =
+    let n = length bytes in
+    let m = length q in
+    let size : n ≡ min n (m - o) = ap length is ∙ length-take n (drop o q) ∙ ap (min n) (length-drop o q) in
+    ⊎_elim
+    (λ (l : m < o). (let none : n ≡ 0 = omega arith in is ∙ ap (λ k. take k (drop o q)) none ∙ ap (λ k. take k (drop (a + o) x)) (sym none)))
+    (λ (l : o ≤ m).
+    let all : m ≡ o + (m - o) = omega arith in
+    is
+    ∙ ap (take n) (ap (drop o) (e ∙ ap (λ k. take k (drop a x)) all) ∙ drop-take o (m - o) (drop a x) ∙ ap (take (m - o)) (drop-drop o a x))
+    ∙ take-take n (m - o) (drop (a + o) x) (omega arith))
+    (cases_lt m o)
+
+pub part_bytes : (f : ℕ) (x : List ℕ) (v : ReceiverState) (bytes : List ℕ) (o : ℕ) →
+    bytes ≡ take (length bytes) (drop o v.queue) → ReceivesFrom f x v →
+    bytes ≡ take (length bytes) (drop (v.read + o) x)
+part_bytes f x v bytes o is r = part_of x v.queue bytes v.read o (queue_of f x v r).queue is
+
+pub head_bytes : (f : ℕ) (x : List ℕ) (v : ReceiverState) (n : ℕ) → n ≤ length v.queue → ReceivesFrom f x v → take n v.queue ≡ slice_range x v.read (v.read + n)
+head_bytes f x v n few r = prefix_of x v.queue v.read n (queue_of f x v r).queue few
+
+-- ---- a segment in order
+pub in_order_reaches : InOrderReaches
+in_order_reaches N v pos xs h =
+    let u = receiver_after_command N v (Segment pos xs) in
+    let limit = v.first + v.read + v.capacity in
+    let r = segment_result v (verdict N v (piece pos xs)) in
+    let near = in_order N v u pos xs r refl refl h in
+    let any = any_order N v u pos xs r refl refl in
+    let cut = length-take (limit - pos) xs in
+    let part : length (window_part v pos xs) ≡ length (take (limit - pos) xs) - (next_position v - pos)
+    = length-drop (next_position v - pos) (take (limit - pos) xs) in
+    by (min (pos + length xs) limit) (next_position u) (next_position v) (length (window_part v pos xs)) r
+    near.accepted any.kept any.queued near.joins (omega (arith, cut, part, h))
+  where
+    by : (e n m k : ℕ) (r : Result Kept TooManyHolesError) → IsOk r → IfOk r (λ t. t.kept ≡ k)
+        → IfOk r (λ t. n ≡ m + t.queued) → IfOk r (λ t. t.kept ≤ t.queued) → e ≤ m + k → e ≤ n
+    by e n m k (Ok t) ok kept queued joins h = omega (arith, kept, queued, joins, h)
+    by e n m k (Err x) ok kept queued joins h = absurd (false≢true ok)
+
+-- ---- Segments that come again, and segments that together cover a range.
+-- what is held is above the first missing position
+abbrev IsAbove : ReceiverState → Type 0
+IsAbove v = (p : ℕ) → fin.contains_key v.held p ≡ true → next_position v < p
+
+-- ---- what a kept part leaves
+module _ (v : ReceiverState) (part : Piece) where
+  -- a position of the laid bytes is queued then, or still held
+  has_laid : (p : ℕ) → fin.contains_key (laid v part) p ≡ true → HasByteAt (receiver_with_piece v part) p
+  has_laid p h =
+      let at = next_joined v part in
+      ⊎_elim (λ (l : p < lacks v part). inl (omega arith)) (λ (l : lacks v part ≤ p). inr (left_has v part p ∙ and_from _ _ (le-leb _ p l) h))
+      (cases_lt p (lacks v part))
+
+  has_joined : (p : ℕ) → HasByteAt v p → HasByteAt (receiver_with_piece v part) p
+  has_joined p h =
+      let at = next_joined v part in
+      let from = (lacking v part).from in
+      ⊎_elim (λ (l : p < next_position v). inl (omega arith))
+      (λ (k : fin.contains_key v.held p ≡ true). has_laid p (laid_has v part p ∙ or_right _ _ k)) h
+
+  above_joined : IsAbove (receiver_with_piece v part)
+  above_joined p h = (let at = next_joined v part in let above = (left_above v part p h).0 in omega arith)
+
+missing_of : (v : ReceiverState) → IsAbove v → fin.contains_key v.held (next_position v) ≡ false
+missing_of v above = false_from_ne_true _ (λ h. (let l = above (next_position v) h in omega arith))
+
+-- ---- segments that come again
+kept_held : (v : ReceiverState) (part : Piece) → IsAbove v →
+    ((q b : ℕ) → piece_byte_at part q ≡ Some b → fin.get v.held q ≡ Some b) → receiver_with_piece v part ≡ v
+kept_held v part above same =
+    (λ i. receiver_up_to v (next_position v) (laid_same i) (lacking_same i))
+    ∙ (λ i. record { first = v.first; capacity = v.capacity; read = v.read; queue = queue_same i; held = held_same i })
+  where
+    or_same : (o m : Option ℕ) → ((b : ℕ) → o ≡ Some b → m ≡ Some b) → option_or o m ≡ m
+    or_same None m h = refl
+    or_same (Some b) m h = sym (h b refl)
+
+    laid_same : held_with_piece v part ≡ v.held
+    laid_same = same_bytes _ _ (λ q. get-with_bytes_at v.held part.start part.bytes q ∙ or_same (piece_byte_at part q) (fin.get v.held q) (same q))
+
+    lacking_same : lacks v part ≡ next_position v
+    lacking_same =
+        first_unique (fin.contains_key (held_with_piece v part)) (next_position v) _ _ (lacking v part)
+        (record { from = omega arith; before = λ q a b. absurd (omega arith); here = ap (λ m. fin.contains_key m (next_position v)) laid_same ∙ missing_of v above })
+
+    queue_same : v.queue ++ held_bytes_at v.held (next_position v) (next_position v - next_position v) ≡ v.queue
+    queue_same =
+        (let none : next_position v - next_position v ≡ 0 = omega arith in ap (λ k. v.queue ++ held_bytes_at v.held (next_position v) k) none ∙ append-nil v.queue)
+
+    kept : (q : ℕ) (o : Option ℕ) → (is_some o ≡ true → next_position v < q) → cond (nat_le (next_position v) q) o None ≡ o
+    kept q None above = same_both (nat_le (next_position v) q) None
+    kept q (Some b) above = (let l = above refl in cond-true _ _ _ (le-leb (next_position v) q (omega arith)))
+
+    held_same : fin.retain_keys v.held (λ p. nat_le (next_position v) p) ≡ v.held
+    held_same = same_bytes _ _ (λ q. get_from v.held (next_position v) q ∙ kept q (fin.get v.held q) (above q))
+
+held_changes_nothing_above : (most : ℕ) (v : ReceiverState) (pos : ℕ) (xs : List ℕ) → IsAbove v → IsHeld v pos xs →
+    receiver_after_command most v (Segment pos xs) ≡ v
+held_changes_nothing_above most v pos xs above held =
+    let limit = v.first + v.read + v.capacity in
+    let part = piece_within (next_position v) limit (piece pos xs) in
+    any_verdict (λ y. state_after v y ≡ v) (next_position v) most (domain v.held) part (λ _. refl) refl
+    (kept_held v part above (λ q b is. (let at = clip_at (next_position v) limit (piece pos xs) q b is in held q b at.0 at.1 at.2)))
+
+pub held_changes_nothing : HeldChangesNothing
+held_changes_nothing most v pos xs sound held = held_changes_nothing_above most v pos xs sound.above held
+
+pub second_copy : SecondCopy
+second_copy most v pos xs sound =
+    let e : Piece = piece pos xs in
+    let limit = v.first + v.read + v.capacity in
+    let part = piece_within (next_position v) limit e in
+    any_verdict
+    (λ y. verdict most v e ≡ y → receiver_after_command most (state_after v y) (Segment pos xs) ≡ state_after v y)
+    (next_position v) most (domain v.held) part
+    (λ _ is. ap (state_after v) is)
+    (λ is. ap (state_after v) is)
+    (λ is. held_changes_nothing_above most (receiver_with_piece v part) pos xs (above_joined v part) (λ p b from to at.
+    let there = next_joined v part in
+    let grown = (lacking v part).from in
+    get_from (laid v part) (lacks v part) p
+    ∙ cond-true _ _ _ (le-leb (lacks v part) p (omega arith))
+    ∙ get-with_bytes_at v.held part.start part.bytes p
+    ∙ ap (λ o. option_or o (fin.get v.held p))
+    (clip_byte (next_position v) limit e p ∙ cond-true _ _ _ (and_from _ _ (le-leb _ p (omega arith)) (lt-ltb p limit to)) ∙ at)))
+    refl
+
+-- ---- segments that cover a range
+pub has_byte_stays : HasByteStays
+has_byte_stays most v (Segment pos xs) p h = segment_cases (λ u. HasByteAt u p) most v pos xs h (λ part. has_joined v part p h)
+has_byte_stays most v (Read count) p h =
+    let size = length-drop count v.queue in
+    ⊎_elim (λ (l : p < next_position v). inl (omega arith)) (λ (k : fin.contains_key v.held p ≡ true). inr k) h
+has_byte_stays most v Show p h = h
+
+pub accepted_brings : AcceptedBrings
+accepted_brings most v pos xs p accepted from to below =
+    let part = piece_within (next_position v) (v.first + v.read + v.capacity) (piece pos xs) in
+    let cut = length-drop (next_position v - pos) (take (v.first + v.read + v.capacity - pos) xs) in
+    let size = length-take (v.first + v.read + v.capacity - pos) xs in
+    any_verdict (λ y. IsAccepted (SegmentReply (segment_result v y)) → HasByteAt (state_after v y) p) (next_position v) most (domain v.held) part
+    (λ none _. inl (omega arith))
+    (λ no. absurd no)
+    (λ _. ⊎_elim (λ (l : p < next_position v). has_joined v part p (inl l))
+    (λ (l : next_position v ≤ p). has_laid v part p (laid_has v part p ∙ or_left _ _ (piece_some part p (omega arith, omega arith))))
+    (cases_lt p (next_position v)))
+    accepted
+
+-- the first missing position stays missing among the held ones
+missing_stays : (most : ℕ) (v : ReceiverState) (c : CommandValue) → fin.contains_key v.held (next_position v) ≡ false →
+    fin.contains_key (receiver_after_command most v c).held (next_position (receiver_after_command most v c)) ≡ false
+missing_stays most v (Segment pos xs) h =
+    segment_cases (λ u. fin.contains_key u.held (next_position u) ≡ false) most v pos xs h (λ part. missing_of (receiver_with_piece v part) (above_joined v part))
+missing_stays most v (Read count) h =
+    let size = length-drop count v.queue in
+    let same : next_position (receiver_after_read v count) ≡ next_position v = omega arith in
+    ap (fin.contains_key v.held) same ∙ h
+missing_stays most v Show h = h
+
+-- so does the end of the free window, or it rises
+limit_rises : (most : ℕ) (v : ReceiverState) (c : CommandValue) →
+    v.first + v.read + v.capacity ≤ (receiver_after_command most v c).first + (receiver_after_command most v c).read + (receiver_after_command most v c).capacity
+limit_rises most v (Segment pos xs) =
+    segment_cases (λ u. v.first + v.read + v.capacity ≤ u.first + u.read + u.capacity) most v pos xs (omega arith) (λ part. omega arith)
+limit_rises most v (Read count) = omega arith
+limit_rises most v Show = omega arith
+
+reaches_all : (v : ReceiverState) (end : ℕ) → fin.contains_key v.held (next_position v) ≡ false → ((p : ℕ) → next_position v ≤ p → p < end → HasByteAt v p) → end ≤ next_position v
+reaches_all v end missing all =
+    ⊎_elim (λ (l : next_position v < end).
+    ⊎_elim (λ k. absurd (omega arith)) (λ k. absurd (both_ways _ missing k)) (all (next_position v) (omega arith) l))
+    (λ (l : end ≤ next_position v). l)
+    (cases_lt (next_position v) end)
+
+pub has_all_reaches : HasAllReaches
+has_all_reaches most v end sound all = reaches_all v end (missing_of v sound.above) all
+
+-- what commands bring is there after the first one, or is brought by the others
+brings_now : (most : ℕ) (v : ReceiverState) (c : CommandValue) (cs : List CommandValue) (p : ℕ) → IsAccepted (receiver_reply most v c) →
+    p < v.first + v.read + v.capacity → Brings (c ∷ cs) p → HasByteAt (receiver_after_command most v c) p ⊎ Brings cs p
+brings_now most v (Segment pos xs) cs p accepted below (inl k) = inl (accepted_brings most v pos xs p accepted k.0 k.1 below)
+brings_now most v (Segment pos xs) cs p accepted below (inr k) = inr k
+brings_now most v (Read count) cs p accepted below k = inr k
+brings_now most v Show cs p accepted below k = inr k
+
+-- each position that is missing at first is had already, or brought later
+completes_from : (most : ℕ) (cs : List CommandValue) (v : ReceiverState) (end : ℕ) →
+    fin.contains_key v.held (next_position v) ≡ false → end ≤ v.first + v.read + v.capacity →
+    All IsAccepted (receiver_replies most v cs) →
+    ((p : ℕ) → next_position v ≤ p → p < end → HasByteAt v p ⊎ Brings cs p) → end ≤ next_position (receiver_after_commands most v cs)
+completes_from most [] v end missing within accepted all = reaches_all v end missing (λ p a b. ⊎_elim (λ (h : HasByteAt v p). h) (λ no. absurd no) (all p a b))
+completes_from most (c ∷ cs) v end missing within accepted all =
+    let u = receiver_after_command most v c in
+    let now = All-head IsAccepted (receiver_reply most v c) (receiver_replies most u cs) accepted in
+    completes_from most cs u end (missing_stays most v c missing) (le_trans within (limit_rises most v c))
+    (All-tail IsAccepted (receiver_reply most v c) (receiver_replies most u cs) accepted)
+    (λ p a b. ⊎_elim (λ (h : HasByteAt v p). inl (has_byte_stays most v c p h)) (brings_now most v c cs p now (le_trans b within))
+    (all p (le_trans (next_position_grows most v c) a) b))
+
+pub completes : Completes
+completes most v cs end sound within accepted all = completes_from most cs v end (missing_of v sound.above) within accepted (λ p a b. inr (all p a b))
+
+-- ---- What reads leave.
+pub read_leaves_next : ReadLeavesNext
+read_leaves_next v n = (let size = length-drop n v.queue in omega arith)
+
+pub read_leaves_bytes : ReadLeavesBytes
+read_leaves_bytes v n p =
+    let same = read_leaves_next v n in (
+      (λ h. ⊎_elim (λ (l : p < next_position (receiver_after_read v n)). inl (omega arith)) (λ k. inr k) h),
+      (λ h. ⊎_elim (λ (l : p < next_position v). inl (omega arith)) (λ k. inr k) h),
+    )
+
+pub reads_add : ReadsAdd
+reads_add v m n =
+    let size = length-drop m v.queue in
+    let count : v.read + min m (length v.queue) + min n (length (drop m v.queue)) ≡ v.read + min (m + n) (length v.queue) = omega arith in
+    λ i. record { first = v.first; capacity = v.capacity; read = count i; queue = drop-drop n m v.queue i; held = v.held }
+
+pub reads_give_together : ReadsGiveTogether
+reads_give_together v m n = sym (take-add m n v.queue)

@@ -1,39 +1,182 @@
--- Scoreboards as a base and offsets.
-use Rattle.std.proofs.Common.{◌≡◌, ℕ, ◌+◌, ◌-◌, ◌<◌, ◌≤◌, ◌^◌, ◌&&◌, ◌||◌, min, max, true, false, List, [], ◌∷◌, ◌++◌}
-use Rattle.std.proofs.Common.{length, length-append, zero, suc, All, refl, sym, ap, subst, ◌∙◌, arith, nat_le, nat_lt}
-use Rattle.std.proofs.Common.{◌↔◌, IsTrue, ◌⊎◌, inl, inr, Result, Ok, Err, OnOk}
-use Rattle.std.specs.List.{range_with_len}
-use Rattle.std.proofs.lemmas.List.FromFn.{length-range_with_len}
+-- Scoreboards as a base and offsets: their runs and holes, and up to where what isn't reported is lost.
+use Rattle.std.proofs.Common.{cond, ◌≡◌, ℕ, ◌+◌, ◌-◌, ◌<◌, ◌≤◌, min, max, nat_lt, true, false, Bool, List, [], ◌∷◌}
+use Rattle.std.proofs.Common.{All, refl, arith, sym, subst, ◌^◌, ◌&&◌, ◌||◌, ◌++◌, length, length-append, zero, suc}
+use Rattle.std.proofs.Common.{ap, ◌∙◌, nat_le, ◌↔◌, IsTrue, ◌⊎◌, inl, inr, Result, Ok, Err, OnOk, ◌*◌}
+use Rattle.std.specs.Prelude.{if◌then◌else◌}
+use Rattle.std.specs.List.{count_by, list_any, range_with_len}
 use Rattle.std.proofs.lemmas.Bool.{both_ways, cases_Bool, cases_lt, false_from_ne_true}
 use Rattle.std.proofs.lemmas.Bool.Decides.{nat_tests}
 use Rattle.std.proofs.lemmas.List.Elements.{All-head, All-tail}
-use Rattle.net_assembler.specs.Assembler.{MakesTooManyRuns, makes_too_many_runs}
-use Rattle.net_assembler.specs.Positions.{Positions, contains, positions, front, first_missing, maximal_runs, runs}
-use Rattle.net_assembler.specs.Positions.{with_range, shift_up, shift_down, runs_shifted_up, nothing, IsMaximalRun}
-use Rattle.net_assembler.proofs.Positions.{either, Rises, positions-set_of_list, same_positions, contains-nothing}
+use Rattle.net_assembler.specs.Positions.{Positions, contains, first_missing, maximal_runs, IsMaximalRun, lies_in}
+use Rattle.net_assembler.specs.Positions.{positions, front, runs, with_range, shift_up, shift_down, runs_shifted_up}
+use Rattle.net_assembler.specs.Positions.{nothing}
+use Rattle.net_assembler.proofs.Positions.{either, first_missing-is, first_missing-misses, Rises}
+use Rattle.net_assembler.proofs.Positions.{positions-set_of_list, same_positions, contains-nothing}
 use Rattle.net_assembler.proofs.Positions.{contains-with_range, contains-shift_up, contains-shift_down}
-use Rattle.net_assembler.proofs.Positions.{first_missing-is, first_missing-misses, first_missing-has}
-use Rattle.net_assembler.proofs.Positions.{first_missing-le, maximal_runs-shift_up}
+use Rattle.net_assembler.proofs.Positions.{first_missing-has, first_missing-le, maximal_runs-shift_up}
+use Rattle.net_assembler.proofs.MaximalRuns.{are_maximal_runs, rising-maximal_runs, set_of_maximal_runs}
+use Rattle.net_receiver.specs.{IsNextHole, board, reported_by, sizes, offsets_of, beyond, IsEnd, HasNoRoom}
+use Rattle.net_receiver.specs.{IsSoundBoard, IsSoundScoreboard, runs_above, tell_loss, IsLossBound, LossesCountAll}
+use Rattle.std.proofs.lemmas.List.FromFn.{length-range_with_len}
+use Rattle.net_assembler.specs.Assembler.{MakesTooManyRuns, makes_too_many_runs}
 use Rattle.net_assembler.specs.AssemblerLaws.{Adds}
 use Rattle.net_assembler.specs.declared.assembler.error.TooManyHolesError.{TooManyHolesError}
 use Rattle.net_assembler.specs.RunLists.{IsRising, run_positions, set_of, set_of_runs}
 use Rattle.net_assembler.proofs.Runs.{rising_from}
 use Rattle.net_assembler.proofs.RunLists.{with_range-none}
-use Rattle.net_assembler.proofs.MaximalRuns.{are_maximal_runs, rising-maximal_runs, set_of_maximal_runs}
 use Rattle.net_assembler.proofs.Heads.{maximal_runs-set_of, length-runs_of}
 use Rattle.net_assembler.proofs.ShiftedRuns.{length-up}
 use Rattle.net_receiver.specs.declared.scoreboard_head.ScoreboardHead.{ScoreboardHead}
-use Rattle.net_receiver.specs.Scoreboards.{board, reported_by, sizes, offsets_of, beyond, IsEnd, IsNextHole}
-use Rattle.net_receiver.specs.Scoreboards.{HasNoRoom, IsSoundBoard}
-use Rattle.net_receiver.proofs.ShiftedRuns.{IsShiftedUp, runs_shifted, ends_within}
-use Rattle.net_receiver.proofs.Holes.{greatest_end, is_in_run, in_run}
+use Rattle.net_receiver.proofs.Sets.{IsShiftedUp, runs_shifted, begins_above, ends_below, ends_within}
+use Rattle.std.specs.Int.{from_bool}
+use Rattle.std.proofs.lemmas.List.Sums.{sum_by-cons}
+
+-- ---- The maximal runs of a set as a list of ranges: which positions they have, and where the next hole is.
+-- ---- lists of ranges
+-- whether a position is in one of the ranges
+abbrev pub is_in_run : List (ℕ × ℕ) → ℕ → Bool
+is_in_run ranges p = list_any (lies_in p) ranges
+
+-- how many positions from p on are in the first of the ranges that has p; 0 if none has it
+abbrev pub count_from : List (ℕ × ℕ) → ℕ → ℕ
+count_from [] p = 0
+count_from (range ∷ ranges) p = if lies_in p range then range.1 - p else count_from ranges p
+
+-- the least of the limit and of the starts above p
+abbrev pub next_start : List (ℕ × ℕ) → ℕ → ℕ → ℕ
+next_start [] p limit = limit
+next_start (range ∷ ranges) p limit = next_start ranges p (if nat_lt p range.0 then min range.0 limit else limit)
+
+-- the greatest of p and of the ends
+abbrev pub greatest_end : List (ℕ × ℕ) → ℕ → ℕ
+greatest_end [] p = p
+greatest_end (range ∷ ranges) p = greatest_end ranges (max p range.1)
+
+-- the next range begins no higher than the limit
+next_within : (ranges : List (ℕ × ℕ)) (p limit : ℕ) → next_start ranges p limit ≤ limit
+next_within [] p limit = omega arith
+next_within (range ∷ ranges) p limit =
+    let others = next_within ranges p (cond (nat_lt p range.0) (min range.0 limit) limit) in grind (arith, nat_tests)
+
+-- between p and it no position is in a range, if p isn't
+next_between : (ranges : List (ℕ × ℕ)) (p limit q : ℕ) → is_in_run ranges p ≡ false → p ≤ q →
+    q < next_start ranges p limit → is_in_run ranges q ≡ false
+next_between [] p limit q none from to = refl
+next_between (range ∷ ranges) p limit q none from to =
+    let next = cond (nat_lt p range.0) (min range.0 limit) limit in
+    let below = next_within ranges p next in
+    let others = next_between ranges p next q in
+    grind (arith, nat_tests)
+
+-- each position that is spared is in a range
+count_inside : (ranges : List (ℕ × ℕ)) (p q : ℕ) → p ≤ q → q < p + count_from ranges p → is_in_run ranges q ≡ true
+count_inside [] p q from to = absurd (omega arith)
+count_inside (range ∷ ranges) p q from to = let others = count_inside ranges p q in grind (arith, nat_tests)
+
+-- ---- of some maximal runs
+-- their positions are in the set
+inside : (s : Positions) (rs : List (ℕ × ℕ)) (p : ℕ) → All (IsMaximalRun s) rs → is_in_run rs p ≡ true → contains s p ≡ true
+inside s [] p all h = absurd (cc)
+inside s (r ∷ rs) p all h =
+    let here = (All-head (IsMaximalRun s) r rs all).inside p in
+    let others = inside s rs p (All-tail (IsMaximalRun s) r rs all) in
+    grind (arith, nat_tests)
+
+-- and the end of one is not
+ended : (s : Positions) (rs : List (ℕ × ℕ)) (p : ℕ) → All (IsMaximalRun s) rs → is_in_run rs p ≡ true → contains s (p + count_from rs p) ≡ false
+ended s [] p all h = absurd (cc)
+ended s (r ∷ rs) p all h =
+    let here = (All-head (IsMaximalRun s) r rs all).ended in
+    let place : p < r.1 → p + (r.1 - p) ≡ r.1 = λ below. omega arith in
+    let others = ended s rs p (All-tail (IsMaximalRun s) r rs all) in
+    grind (arith, nat_tests)
+
+-- the least start above p, where it is below the limit, is a position of one
+start_inside : (s : Positions) (rs : List (ℕ × ℕ)) (p limit : ℕ) → All (IsMaximalRun s) rs → next_start rs p limit < limit →
+    is_in_run rs (next_start rs p limit) ≡ true
+start_inside s [] p limit all h = absurd (omega arith)
+start_inside s (r ∷ rs) p limit all h =
+    let some = (All-head (IsMaximalRun s) r rs all).some in
+    let others = start_inside s rs p in
+    let within = next_within rs p in
+    let rest = All-tail (IsMaximalRun s) r rs all in
+    grind (arith, nat_tests)
+
+-- and it is not below p
+start_from : (rs : List (ℕ × ℕ)) (p limit : ℕ) → p ≤ limit → p ≤ next_start rs p limit
+start_from [] p limit h = h
+start_from (r ∷ rs) p limit h = let others = start_from rs p in grind (arith, nat_tests)
+
+-- ---- of all of them
+any_counted : (rs : List (ℕ × ℕ)) (p : ℕ) → count_by (lies_in p) rs ≡ 1 → is_in_run rs p ≡ true
+any_counted [] p h = absurd (omega arith)
+any_counted (r ∷ rs) p h = let others = any_counted rs p in grind (arith, nat_tests)
+
+outside : (s : Positions) (p : ℕ) → is_in_run (maximal_runs s) p ≡ false → contains s p ≡ false
+outside s p h =
+    let known = are_maximal_runs s in
+    let counted = any_counted (maximal_runs s) p in
+    let complete = known.complete p in
+    grind arith
+
+-- each position of the set is one of theirs
+pub in_run : (s : Positions) (p : ℕ) → contains s p ≡ true → is_in_run (maximal_runs s) p ≡ true
+in_run s p h =
+    let known = are_maximal_runs s in
+    any_counted (maximal_runs s) p (known.complete p h)
+
+none_counted : (rs : List (ℕ × ℕ)) (p : ℕ) → is_in_run rs p ≡ false → count_from rs p ≡ 0
+none_counted [] p h = refl
+none_counted (r ∷ rs) p h = let others = none_counted rs p in grind (arith, nat_tests)
+
+pub not_in_run : (s : Positions) (p : ℕ) → contains s p ≡ false → is_in_run (maximal_runs s) p ≡ false
+not_in_run s p h =
+    either (cases_Bool (is_in_run (maximal_runs s) p))
+    (λ on. absurd (both_ways (contains s p) h (inside s (maximal_runs s) p (are_maximal_runs s).maximal on)))
+    (λ off. off)
+
+-- the first position from p on that is missing in a set
+pub missing_is : (s : Positions) (p : ℕ) → p + count_from (maximal_runs s) p ≡ first_missing s p
+missing_is s p =
+    let rs = maximal_runs s in
+    let all = (are_maximal_runs s).maximal in
+    let end = p + count_from rs p in
+    either (cases_Bool (is_in_run rs p))
+    (λ on. sym (first_missing-is s p end (omega arith) (ended s rs p all on) (λ q low high. inside s rs q all (count_inside rs p q low high))))
+    (λ off.
+    let none = none_counted rs p off in
+    let here : p ≡ end = omega arith in
+    sym (first_missing-is s p end (omega arith) (subst (λ e. contains s e ≡ false) here (outside s p off)) (λ q low high. absurd (omega arith))))
+
+-- the hole from there on
+pub next_hole_is : (s : Positions) (p limit start end : ℕ) → start ≡ min (first_missing s p) limit →
+    end ≡ next_start (maximal_runs s) start limit → IsNextHole s p limit start end
+next_hole_is s p limit start end from to =
+    let rs = maximal_runs s in
+    let all = (are_maximal_runs s).maximal in
+    record {
+      begins = from;
+      order = omega (arith, start_from rs start limit (omega arith));
+      within = omega (arith, next_within rs start limit);
+      missing = λ q low high.
+          let some : start < limit = omega (arith, next_within rs start limit) in
+          let at : first_missing s p ≡ start = omega arith in
+          let free = subst (λ e. contains s e ≡ false) at (first_missing-misses s p) in
+          outside s q (next_between rs start limit q (not_in_run s start free) low (omega arith));
+      ended = λ below.
+          subst (λ e. contains s e ≡ true) (sym to) (inside s rs (next_start rs start limit) all (start_inside s rs start limit all (omega arith)));
+    }
+
+-- ---- Scoreboards as a base and offsets.
+-- a membership, as a test of numbers
+ruleset sets = (contains-with_range, contains-shift_up, contains-shift_down, contains-nothing, nat_tests)
 
 -- which positions a scoreboard has
 pub contains-board : (b : ℕ) (s : Positions) (p : ℕ) → contains (board b s) p ≡ (nat_lt p b || (nat_le b p && contains s (p - b)))
-contains-board b s p =
-    let range = contains-with_range (shift_up s b) 0 b p in
-    let up = contains-shift_up s b p in
-    grind (arith, nat_tests)
+contains-board b s p = grind (arith, sets)
+
+-- a membership in a board, as one in the set of its offsets
+ruleset boards = (contains-board, sets)
 
 -- its front
 pub front_is : (s : Positions) (e : ℕ) → contains s e ≡ false → ((q : ℕ) → q < e → contains s q ≡ true) → front s ≡ e
@@ -49,28 +192,18 @@ unfolding front
 front_has s q l = first_missing-has s 0 q (omega arith) l
 
 pub board_below : (b : ℕ) (s : Positions) (p : ℕ) → p < b → contains (board b s) p ≡ true
-board_below b s p l = let k = contains-board b s p in grind (arith, nat_tests)
+board_below b s p l = grind (arith, boards)
 
 pub board_at : (b : ℕ) (s : Positions) (p : ℕ) → contains (board b s) (b + p) ≡ contains s p
-board_at b s p =
-    let k = contains-board b s (b + p) in
-    let e : b + p - b ≡ p = omega arith in
-    let same = ap (contains s) e in
-    grind (arith, nat_tests)
+board_at b s p = grind (arith, boards)
 
 pub board_from : (b : ℕ) (s : Positions) (p : ℕ) → b ≤ p → contains (board b s) p ≡ contains s (p - b)
-board_from b s p le = let k = contains-board b s p in grind (arith, nat_tests)
+board_from b s p le = grind (arith, boards)
 
 -- nothing is beyond the base
 pub empty_board : (b : ℕ) (s : Positions) → s ≡ nothing → board b s ≡ with_range nothing 0 b
 empty_board b s is =
-    same_positions _ _ (λ q.
-    let k = contains-board b s q in
-    let m = contains-with_range nothing 0 b q in
-    let none = ap (λ t. contains t (q - b)) is in
-    let e = contains-nothing (q - b) in
-    let f = contains-nothing q in
-    grind (arith, nat_tests))
+    same_positions _ _ (λ q. let none = ap (λ t. contains t (q - b)) is in grind (arith, boards))
 
 pub no_board : (s : Positions) → s ≡ with_range nothing 0 0 → s ≡ nothing
 no_board s is = is ∙ with_range-none nothing 0 0 refl
@@ -94,18 +227,11 @@ end_fits b s e end fits =
 
 pub beyond_fits : (b : ℕ) (s : Positions) → ((p : ℕ) → IsTrue (contains s p) → b + p + 1 < 2 ^ 64) → (p : ℕ) →
     contains (shift_up s b) p ≡ true → p + 1 < 2 ^ 64
-beyond_fits b s fits p has =
-    let u = contains-shift_up s b p in
-    let l = fits (p - b) in
-    grind (arith, nat_tests)
+beyond_fits b s fits p has = let l = fits (p - b) in grind (arith, boards)
 
 -- what is acknowledged again changes nothing
 pub acknowledged_again : (b : ℕ) (s : Positions) (next : ℕ) → next ≤ b → board b s ≡ with_range (board b s) 0 next
-acknowledged_again b s next le =
-    same_positions _ _ (λ q.
-    let m = contains-with_range (board b s) 0 next q in
-    let h = contains-board b s q in
-    grind (arith, nat_tests))
+acknowledged_again b s next le = same_positions _ _ (λ q. grind (arith, boards))
 
 -- a scoreboard whose base is missing
 module _ (b : ℕ) (s : Positions) (begins : contains s 0 ≡ false) where
@@ -132,15 +258,8 @@ module _ (b : ℕ) (s : Positions) (begins : contains s 0 ≡ false) where
       let least = first_missing-le (shift_up s b) from in
       let misses = first_missing-misses (shift_up s b) from in
       let has = first_missing-has (shift_up s b) from in
-      let misses' : contains (board b s) e ≡ false =
-      let k = contains-board b s e in
-      let u = contains-shift_up s b e in
-      grind (arith, nat_tests) in
-      first_missing-is (board b s) p e (omega (arith, least)) misses' (λ q low high.
-      let k = contains-board b s q in
-      let u = contains-shift_up s b q in
-      let h = has q in
-      grind (arith, nat_tests))
+      first_missing-is (board b s) p e (omega (arith, least)) (grind (arith, boards))
+      (λ q low high. let h = has q in grind (arith, boards))
 
   pub hole_beyond : (p limit start end : ℕ) → IsNextHole (shift_up s b) (max p b) limit start end → IsNextHole (board b s) p limit start end
   hole_beyond p limit start end hole =
@@ -151,35 +270,16 @@ module _ (b : ℕ) (s : Positions) (begins : contains s 0 ≡ false) where
         begins = from ∙ ap (λ e. min e limit) (sym same);
         order = hole.order;
         within = hole.within;
-        missing = λ q low high.
-            let k = contains-board b s q in
-            let u = contains-shift_up s b q in
-            let none = hole.missing q low high in
-            let beyond : b ≤ q = omega (arith, from, least, low, high, hole.within) in
-            grind (arith, nat_tests);
-        ended = λ below.
-            let k = contains-board b s end in
-            let u = contains-shift_up s b end in
-            let some = hole.ended below in
-            grind (arith, nat_tests);
+        missing = λ q low high. let none = hole.missing q low high in grind (arith, boards);
+        ended = λ below. let some = hole.ended below in grind (arith, boards);
       }
 
 -- a range beyond the base
 pub with_range_beyond : (b : ℕ) (s : Positions) (o n : ℕ) → b ≤ o → board b (with_range s (o - b) n) ≡ with_range (board b s) o n
-with_range_beyond b s o n le =
-    same_positions _ _ (λ q.
-    let k = contains-board b (with_range s (o - b) n) q in
-    let l = contains-with_range s (o - b) n (q - b) in
-    let m = contains-with_range (board b s) o n q in
-    let h = contains-board b s q in
-    grind (arith, nat_tests))
+with_range_beyond b s o n le = same_positions _ _ (λ q. grind (arith, boards))
 
 range_shifted : (b : ℕ) (s : Positions) (o n : ℕ) → b ≤ o → IsShiftedUp b (with_range s (o - b) n) (with_range (shift_up s b) o n)
-range_shifted b s o n le = λ q.
-    let k = contains-with_range (shift_up s b) o n q in
-    let u = contains-shift_up s b q in
-    let l = contains-with_range s (o - b) n (q - b) in
-    grind (arith, nat_tests)
+range_shifted b s o n le = λ q. grind (arith, boards)
 
 pub no_room : (most b : ℕ) (s : Positions) (o n : ℕ) → contains s 0 ≡ false → b < o →
     MakesTooManyRuns most s (o - b) n ↔ HasNoRoom most (board b s) o n
@@ -195,12 +295,7 @@ no_room most b s o n begins l =
 
 -- a range that begins at the base or below
 pub with_range_below : (b : ℕ) (s : Positions) (o n : ℕ) → o ≤ b → with_range (board b s) 0 (o + n) ≡ with_range (board b s) o n
-with_range_below b s o n le =
-    same_positions _ _ (λ q.
-    let k = contains-with_range (board b s) 0 (o + n) q in
-    let m = contains-with_range (board b s) o n q in
-    let h = contains-board b s q in
-    grind (arith, nat_tests))
+with_range_below b s o n le = same_positions _ _ (λ q. grind (arith, boards))
 
 -- what the call that adds a range says
 pub added_within : (most : ℕ) (old : Positions) (o n : ℕ) (r : Result (Unit {0}) TooManyHolesError) (new : Positions) → Adds most old o n r new →
@@ -259,15 +354,12 @@ module _ (b : ℕ) (s : Positions) (next count n : ℕ) (one rest : Positions) (
   pub acknowledged_is : board (next + n) rest ≡ with_range (board b s) 0 next
   acknowledged_is =
       same_positions _ _ (λ q.
-      let k = contains-board (next + n) rest q in
-      let m = contains-with_range (board b s) 0 next q in
-      let h = contains-board b s q in
       let front_part = front_has one (q - next) in
       let here = one_at (q - next) in
       let there = left_at (q - (next + n)) in
       let e1 : next ≤ q → q - next + count ≡ q - b = λ below. omega (arith, at, below) in
       let e2 : next + n ≤ q → q - (next + n) + n + count ≡ q - b = λ below. omega (arith, at, below) in
-      grind (arith, nat_tests))
+      grind (arith, boards))
 
   -- what ended within 64 bits still does
   pub acknowledged_fits : ((p : ℕ) → IsTrue (contains s p) → b + p + 1 < 2 ^ 64) → (p : ℕ) → IsTrue (contains rest p) →
@@ -323,15 +415,11 @@ end_is s n is =
 
 pub end_beyond : (b : ℕ) (s : Positions) (n : ℕ) → IsEnd s n → IsEnd (board b s) (b + n)
 end_beyond b s n end = record {
-  above = λ p has.
-      let k = contains-board b s p in
-      let l = end.above (p - b) in
-      grind (arith, nat_tests);
+  above = λ p has. let l = end.above (p - b) in grind (arith, boards);
   reached = λ some.
-      let k = contains-board b s (b + n - 1) in
       let l = end.reached in
       let e : b + n - 1 - b ≡ n - 1 = omega arith in
-      grind (arith, nat_tests);
+      grind (arith, boards);
 }
 
 -- ---- the number of positions
@@ -402,3 +490,166 @@ as_many h rs sound =
     let s = set_of h.reported rs in
     sym (ap (λ t. length (maximal_runs t)) (beyond_board h.base s sound.begins) ∙ ap length (maximal_runs-shift_up s h.base)
     ∙ length-up h.base (maximal_runs s) ∙ ap length (maximal_runs-set_of h.reported rs sound.runs) ∙ length-runs_of h.reported rs sound.runs)
+
+-- what is true of its positions
+risen : (low : ℕ) (rs : List (ℕ × ℕ)) → IsRising 0 rs → All (λ r. (low < r.0) × (r.0 < r.1)) rs → IsRising (low + 1) rs
+risen low [] h all = tt
+risen low (r ∷ rs) h all = (omega (arith, (All-head (λ r. (low < r.0) × (r.0 < r.1)) r rs all).0), h.1, h.2)
+
+above_base : (b : ℕ) (s : Positions) → contains s 0 ≡ false → (p : ℕ) → contains (shift_up s b) p ≡ true → b < p
+above_base b s begins p has =
+    either (cases_lt b p) (λ l. l) (λ l. let same = ap (contains s) (let e : p - b ≡ 0 = omega (arith, l) in e) in grind (arith, boards))
+
+pub sound_positions : (h : ScoreboardHead) (rs : List (ℕ × ℕ)) → IsSoundBoard h rs → front (reported_by h rs) < 2 ^ 64 → IsSoundScoreboard (length rs) (reported_by h rs)
+sound_positions h rs sound word =
+    let b = h.base in
+    let s = set_of h.reported rs in
+    let is = λ (p : ℕ). ap (λ t. contains t p) (sym (beyond_board b s sound.begins)) in
+    let at = front_board b s sound.begins in
+    record {
+      count = omega (arith, as_many h rs sound, sound.runs.room);
+      rise =
+          risen _ _ (rising-maximal_runs _)
+          (begins_above are_maximal_runs _ _ (λ p has. let l = above_base b s sound.begins p (is p ∙ has) in omega (arith, at, l)));
+      within = ends_below are_maximal_runs _ _ (λ p has. beyond_fits b s sound.fits p (is p ∙ has));
+      fits = λ p has. let l = sound.fits (p - b) in grind (arith, boards);
+    }
+
+-- ---- Up to where what isn't reported is lost, run by run.
+-- runs that begin above p are all above it
+all_above : (low p : ℕ) (rs : List (ℕ × ℕ)) → IsRising low rs → p < low → runs_above rs p ≡ rs
+all_above low p [] h l = refl
+all_above low p (r ∷ rs) h l =
+    let rest = all_above (r.1 + 1) p rs h.2 (omega (arith, h.0, h.1, l)) in
+    let here : p < r.0 = omega (arith, h.0, l) in
+    grind (arith, nat_tests)
+
+-- the runs above p are no more than all
+fewer : (rs : List (ℕ × ℕ)) (p : ℕ) → (length (runs_above rs p) ≤ length rs) × (sizes (runs_above rs p) ≤ sizes rs)
+fewer [] p = (omega arith, omega arith)
+fewer (r ∷ rs) p =
+    let rest = fewer rs p in
+    let one = rest.0 in
+    let two = rest.1 in
+    (grind (arith, nat_tests), grind (arith, nat_tests))
+
+-- fewer runs tell less
+tells_less : (d n : ℕ) (rs : List (ℕ × ℕ)) (p : ℕ) → tell_loss d n rs ≡ false → tell_loss d n (runs_above rs p) ≡ false
+tells_less d n rs p h =
+    let rest = fewer rs p in
+    let one = rest.0 in
+    let two = rest.1 in
+    grind (arith, nat_tests)
+
+-- what the code counts tells it or not: most is the product, or as large as a number of 64 bits is
+pub few_tell : (d n count bytes most : ℕ) (rs : List (ℕ × ℕ)) → count ≡ length rs → bytes ≡ sizes rs → most ≤ (d - 1) * n →
+    count < max 1 d → bytes ≤ most → tell_loss d n rs ≡ false
+few_tell d n count bytes most rs e e' product less few = grind (arith, nat_tests)
+
+pub many_tell : (d n count bytes most : ℕ) (rs : List (ℕ × ℕ)) → count ≡ length rs → bytes ≡ sizes rs → (most < bytes → (d - 1) * n ≤ most) →
+    (max 1 d ≤ count) ⊎ (most < bytes) → tell_loss d n rs ≡ true
+many_tell d n count bytes most rs e e' product which = elim which [
+  | inl many ↦ grind (arith, nat_tests)
+  | inr more ↦ (let exact = product more in grind (arith, nat_tests))
+]
+
+-- the limit so far, where the rest of all runs is left: what is below it is lost, and from it on the rest alone counts
+pub record IsBoundSoFar (d n : ℕ) (all rest : List (ℕ × ℕ)) (limit : ℕ) : Type 0 where
+  pub lost : (p : ℕ) → p < limit → tell_loss d n (runs_above all p) ≡ true
+  pub others : (p : ℕ) → limit ≤ p → runs_above all p ≡ runs_above rest p
+  pub rising : IsRising limit rest
+
+pub no_bound : (d n : ℕ) (s : Positions) → IsBoundSoFar d n (maximal_runs s) (maximal_runs s) 0
+no_bound d n s = record { lost = λ p l. absurd (omega (arith, l)); others = λ p l. refl; rising = rising-maximal_runs s }
+
+module _ (d n : ℕ) (all : List (ℕ × ℕ)) (r : ℕ × ℕ) (rest : List (ℕ × ℕ)) (limit : ℕ) (so_far : IsBoundSoFar d n all (r ∷ rest) limit) where
+  -- the run and those after it tell a loss
+  pub further : tell_loss d n (r ∷ rest) ≡ true → IsBoundSoFar d n all rest r.0
+  further tells =
+      let low = so_far.rising.0 in
+      let some = so_far.rising.1 in
+      record {
+        lost = λ p l. elim (cases_lt p limit) [
+          | inl before ↦ so_far.lost p before
+          | inr from ↦ ap (tell_loss d n) (so_far.others p from ∙ all_above r.0 p (r ∷ rest) (omega arith, some, so_far.rising.2) l) ∙ tells
+        ];
+        others = λ p l. so_far.others p (omega (arith, l, low)) ∙ (let here : nat_lt p r.0 ≡ false = grind (arith, nat_tests) in grind (arith, nat_tests));
+        rising = rising_from r.0 (r.1 + 1) rest (omega (arith, some)) so_far.rising.2;
+      }
+
+  -- or they don't, and the limit is right
+  pub bound_stops : tell_loss d n (r ∷ rest) ≡ false → (p : ℕ) → (p < limit) ↔ IsTrue (tell_loss d n (runs_above all p))
+  bound_stops few p = (
+    so_far.lost p,
+    λ lost. elim (cases_lt p limit) [
+      | inl before ↦ before
+      | inr from ↦ absurd (both_ways _ (ap (tell_loss d n) (so_far.others p from) ∙ tells_less d n (r ∷ rest) p few) lost)
+    ],
+  )
+
+-- there is one such limit
+pub one_bound : (d n : ℕ) (s : Positions) (a b : ℕ) → IsLossBound d n s a → IsLossBound d n s b → a ≡ b
+one_bound d n s a b x y =
+    let left : a ≤ b = elim (cases_lt b a) [ inl g ↦ absurd (let m = (y b).1 ((x b).0 g) in omega (arith, m)) | inr l ↦ l ] in
+    let right : b ≤ a = elim (cases_lt a b) [ inl g ↦ absurd (let m = (x a).1 ((y a).0 g) in omega (arith, m)) | inr l ↦ l ] in
+    omega (arith, left, right)
+
+-- a range without a position is at the limit
+pub no_hole : (s : Positions) (p limit start end : ℕ) → IsNextHole s p limit start end → end ≤ start → IsNextHole s p limit limit limit
+no_hole s p limit start end h le =
+    let same : end ≡ start = omega (arith, h.order, le) in
+    let at : start ≡ limit = elim (cases_lt end limit) [
+      | inr l ↦ omega (arith, l, same, h.within)
+      | inl l ↦ absurd (both_ways (contains s (first_missing s p)) (first_missing-misses s p)
+          (subst (λ q. IsTrue (contains s q)) (let begins = h.begins in omega (arith, begins, same, l)) (h.ended l)))
+    ] in
+    subst (λ q. IsNextHole s p limit limit q) (same ∙ at) (subst (λ q. IsNextHole s p limit q end) at h)
+
+-- ---- which runs are above a position that isn't reported
+-- what is beyond the first missing position
+contains-beyond : (s : Positions) (q : ℕ) → front s ≤ q → contains (beyond s) q ≡ contains s q
+contains-beyond s q from =
+    let up = contains-shift_up (shift_down s (front s)) (front s) q in
+    let down = contains-shift_down s (front s) (q - front s) in
+    let back : q - front s + front s ≡ q = omega (arith, from) in
+    let at = ap (contains s) back in
+    grind (arith, nat_tests)
+
+-- a run that begins at p or below has no position above p, if it lacks p
+counted_above_one : (r : ℕ × ℕ) (rs : List (ℕ × ℕ)) (p q : ℕ) → count_by (lies_in q) (runs_above rs p) ≡ count_by (lies_in q) rs →
+    lies_in p r ≡ false → p < q → count_by (lies_in q) (runs_above (r ∷ rs) p) ≡ count_by (lies_in q) (r ∷ rs)
+counted_above_one r rs p q others h l =
+    let all = sum_by-cons (λ x. cond (lies_in q x) 1 0) r rs in
+    let above = sum_by-cons (λ x. cond (lies_in q x) 1 0) r (runs_above rs p) in
+    grind (arith, nat_tests)
+
+first_lacks : (r : ℕ × ℕ) (rs : List (ℕ × ℕ)) (p : ℕ) → is_in_run (r ∷ rs) p ≡ false → (lies_in p r ≡ false) × (is_in_run rs p ≡ false)
+first_lacks r rs p h = (grind arith, grind arith)
+
+counted_above : (rs : List (ℕ × ℕ)) (p q : ℕ) → is_in_run rs p ≡ false → p < q →
+    count_by (lies_in q) (runs_above rs p) ≡ count_by (lies_in q) rs
+counted_above [] p q h l = refl
+counted_above (r ∷ rs) p q h l =
+    let lacks = first_lacks r rs p h in
+    counted_above_one r rs p q (counted_above rs p q lacks.1 l) lacks.0 l
+
+uncounted : (rs : List (ℕ × ℕ)) (q : ℕ) → is_in_run rs q ≡ false → count_by (lies_in q) rs ≡ 0
+uncounted [] q h = refl
+uncounted (r ∷ rs) q h = let others = uncounted rs q in grind (arith, nat_tests)
+
+-- how many of all runs have a position
+counted : (s : Positions) (q : ℕ) → count_by (lies_in q) (maximal_runs s) ≡ from_bool (contains s q)
+counted s q = elim (cases_Bool (contains s q)) [
+  | inl on ↦ (are_maximal_runs s).complete q on ∙ ap from_bool (sym on)
+  | inr off ↦ uncounted (maximal_runs s) q (not_in_run s q off) ∙ ap from_bool (sym off)
+]
+
+pub losses_count_all : LossesCountAll
+losses_count_all s p q misses l =
+    let from : front s ≤ p = elim (cases_lt p (front s)) [
+      | inl below ↦ absurd (both_ways (contains s p) misses (front_has s p below))
+      | inr le ↦ le
+    ] in
+    let off = contains-beyond s p from ∙ misses in
+    counted_above (maximal_runs (beyond s)) p q (not_in_run (beyond s) p off) l
+    ∙ counted (beyond s) q ∙ ap from_bool (contains-beyond s q (omega (arith, from, l)))

@@ -11,8 +11,8 @@
 --     IsSameFinite s t      what `is_same_state` compares
 --     IsSoundEnd s      what is true of every such receiver
 --     finite_code      what is stored, as a code
-use Rattle.std.specs.Prelude.{◌≡◌, ℕ, ◌+◌, ◌-◌, ◌<◌, ◌≤◌, ◌^◌, max, min, Bool, ◌&&◌, not, if◌then◌else◌, List}
-use Rattle.std.specs.Prelude.{length, take, nat_lt, nat_le, nat_eq, is_ok, Result, Ok, Err, refl}
+use Rattle.std.specs.Prelude.{◌≡◌, ℕ, ◌+◌, ◌-◌, ◌<◌, ◌≤◌, ◌^◌, max, min, Bool, ◌&&◌, not, if◌then◌else◌, List, length}
+use Rattle.std.specs.Prelude.{take, nat_lt, nat_le, nat_eq, is_ok, Result, Ok, Err, refl}
 use Rattle.std.specs.Coded.{Coded, code_by, coded×, coded_ℕ}
 use Rattle.net_receiver.specs.Parts.{receiver_code}
 use Rattle.net_assembler.specs.declared.assembler.error.TooManyHolesError.{TooManyHolesError}

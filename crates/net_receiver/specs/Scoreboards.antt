@@ -6,12 +6,15 @@
 --         first missing one
 --     IsBlock i s start end p q      p and q are the positions of a block's numbers, above the first missing one
 --     IsSoundBoard h runs      what is true of the parts of a scoreboard
+--     IsSoundScoreboard n s      what is true of its positions, if n runs have room
 --     IsEnd s n      n is the position after the last one
 --     IsNextHole s p limit start end      the first range of positions from p on, below the limit, that s lacks
-use Rattle.std.specs.Prelude.{◌≡◌, ℕ, ◌+◌, ◌-◌, ◌<◌, ◌≤◌, ◌^◌, min, List, [], ◌∷◌, IsTrue, IsFalse}
+use Rattle.std.specs.Prelude.{◌≡◌, ℕ, ◌+◌, ◌-◌, ◌<◌, ◌≤◌, ◌^◌, min, List, [], ◌∷◌, length, IsTrue, IsFalse}
 use Rattle.net_assembler.specs.Assembler.{MakesTooManyRuns}
-use Rattle.net_assembler.specs.Positions.{Positions, contains, first_missing, front, with_range, shift_up, shift_down}
-use Rattle.net_assembler.specs.RunLists.{set_of, HasSoundRuns}
+use Rattle.net_assembler.specs.Positions.{Positions, contains, first_missing, front, maximal_runs, with_range}
+use Rattle.net_assembler.specs.Positions.{shift_up, shift_down}
+use Rattle.net_assembler.specs.RunLists.{set_of, HasSoundRuns, IsRising}
+use Rattle.net_receiver.specs.Parts.{EndBelow}
 use Rattle.net_receiver.specs.SequenceNumbers.{IsNamed}
 use Rattle.net_receiver.specs.declared.scoreboard_head.ScoreboardHead.{ScoreboardHead}
 
@@ -54,6 +57,14 @@ pub record IsSoundBoard (h : ScoreboardHead) (rs : List (ℕ × ℕ)) : Type 0 w
   pub runs : HasSoundRuns h.reported rs
   pub begins : IsFalse (contains (set_of h.reported rs) 0)
   pub fits : (p : ℕ) → IsTrue (contains (set_of h.reported rs) p) → h.base + p + 1 < 2 ^ 64
+
+-- beyond the first missing position are at most n runs, which begin above it, rise, and end within 64 bits; the number
+-- after each position has 64 bits
+pub record IsSoundScoreboard (n : ℕ) (s : Positions) : Type 0 where
+  pub count : length (maximal_runs (beyond s)) ≤ n
+  pub rise : IsRising (front s + 1) (maximal_runs (beyond s))
+  pub within : EndBelow (2 ^ 64) (maximal_runs (beyond s))
+  pub fits : (p : ℕ) → IsTrue (contains s p) → p + 1 < 2 ^ 64
 
 -- how many positions runs (start, end) have together
 abbrev pub sizes : List (ℕ × ℕ) → ℕ

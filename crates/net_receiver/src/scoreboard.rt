@@ -5,7 +5,7 @@ ghost use Rattle.net_assembler.specs.Positions.{positions, with_range};
 ghost use Rattle.net_assembler.specs.RunLists.{IsCanonical};
 ghost use Rattle.net_receiver.specs.Losses.{IsHole, IsLossBound};
 ghost use Rattle.net_receiver.specs.Scoreboards.{HasNoRoom, IsBlock, IsEnd, IsReport, IsSoundBoard, beyond};
-ghost use Rattle.net_receiver.specs.Scoreboards.{reported_by};
+ghost use Rattle.net_receiver.specs.Scoreboards.{IsSoundScoreboard, reported_by};
 
 use crate::held_runs::HeldRuns;
 use crate::report_error::ReportError;
@@ -180,13 +180,7 @@ impl<const N: usize> Scoreboard<N> {
         // Guarantee.
         ensures unchanged { OnErr result (self.new ≡ self.old) }
     {
-        if !ScoreboardHead::is_report(self.first_unreported(), start, end, sent) {
-            return Err(ReportError::NoBlock);
-        }
-        match self.head.report(&mut self.runs, start, end) {
-            Ok(()) => Ok(()),
-            Err(_) => Err(ReportError::TooManyHoles),
-        }
+        self.head.report(&mut self.runs, start, end, sent)
     }
 
     /// Reports a SACK block as `report` does, from its numbers: of each it takes the position nearest to
@@ -368,5 +362,12 @@ impl<const N: usize> Scoreboard<N> {
             IsHole self.now pos limit result }
     {
         self.next_hole(pos, self.lost_below(duplicates, segment_size))
+    }
+
+    /// States what is true of every scoreboard; it does nothing. Callers use `laws::is_sound_scoreboard`.
+    pub(crate) fn is_sound(&self)
+        ensures { IsSoundScoreboard N self.now }
+    {
+        let _ = self.head.first_unreported(&self.runs);
     }
 }

@@ -1,6 +1,6 @@
 //! A scoreboard in parts: a head, and runs that are kept elsewhere.
-ghost use Rattle.std.specs.Prelude.{◌≡◌, ◌↔◌, ◌+◌, ◌-◌, ◌^◌, ◌<◌, ◌≤◌, List, ℕ, length, min, nat_lt, IsTrue, IsErr};
-ghost use Rattle.std.specs.Prelude.{OnOk, OnErr, if◌then◌else◌};
+ghost use Rattle.std.specs.Prelude.{◌≡◌, ◌↔◌, ◌-◌, ◌≤◌, List, ℕ, length, min, nat_lt, IsTrue, Err, OnOk, OnErr};
+ghost use Rattle.std.specs.Prelude.{if◌then◌else◌};
 ghost use Rattle.net_assembler.specs.Positions.{contains, first_missing, front, maximal_runs, nothing};
 ghost use Rattle.net_assembler.specs.Positions.{positions, with_range};
 ghost use Rattle.net_assembler.specs.RunLists.{HasSoundRuns, IsCanonical, set_of};
@@ -10,9 +10,10 @@ ghost use Rattle.net_receiver.specs.NewHeads.{scoreboard_head};
 ghost use Rattle.net_receiver.specs.Losses.{IsLossBound};
 
 use crate::held_runs::HeldRunIter;
+use crate::report_error::ReportError;
 use net_assembler::assembler::laws;
 use net_assembler::width::most;
-use net_assembler::{AssemblerHead, Run, TooManyHolesError};
+use net_assembler::{AssemblerHead, Run};
 
 /// What a scoreboard has besides its runs.
 ///
@@ -91,43 +92,43 @@ impl ScoreboardHead {
         highest_offset(&self.reported, runs) as u64 <= u64::MAX - self.base
     }
 
-    /// Returns whether a SACK block can be right: it has a position, and none from `sent` on, which
-    /// is the position after the last byte that was ever sent; and if it begins beyond `first`, the first
-    /// position that wasn't reported, it ends less than 2^32 above it: TCP's numbers have 32 bits.
-    pub fn is_report(first: u64, start: u64, end: u64, sent: u64) -> bool
-        ensures { IsTrue result ↔ IsReport first sent start end }
-    {
-        start < end && end <= sent && (start <= first || end - first <= u64::from(u32::MAX))
-    }
-
     /// Reports the positions from `start` on and below `end`, as a SACK block of an acknowledgement
-    /// does. Blocks may overlap. Positions below `base` are known already.
+    /// does. Blocks may overlap. Positions below `base` are known already. `sent` is the position
+    /// after the last byte that was ever sent.
     ///
-    /// Returns `TooManyHolesError`, and changes nothing, if the block begins beyond `base`, and
-    /// there would be more runs than the slice has elements. Then the block isn't known, and its
-    /// bytes are sent again.
+    /// Returns `NoBlock`, and changes nothing, if no such block can be: `start` isn't below `end`,
+    /// `end` is above `sent`, or the block begins beyond `base` and ends 2^32 or more above it,
+    /// while TCP's numbers have 32 bits.
+    ///
+    /// Returns `TooManyHoles`, and changes nothing, if such a block can be, it begins beyond
+    /// `base`, and there would be more runs than the slice has elements. Then the block isn't
+    /// known, and its bytes are sent again.
     ///
     /// # Requires
     ///
-    /// The scoreboard is sound with the runs, `start` is at most `end`, and the block doesn't end too far
-    /// above the base, as `is_report` tests.
+    /// The scoreboard is sound with the runs.
     pub fn report(
         &mut self,
         runs: &mut [Run],
         start: u64,
         end: u64,
-    ) -> Result<(), TooManyHolesError>
-        requires sound { IsSoundBoard self.old runs.old }
-        requires block { start ≤ end }
-        requires near { self.old.base < start → end < self.old.base + 2 ^ 32 }
+        sent: u64,
+    ) -> Result<(), ReportError>
+        requires { IsSoundBoard self.old runs.old }
         ensures sound { IsSoundBoard self.new runs.new }
+        ensures no_block { (result ≡ Err ReportError.NoBlock)
+            ↔ (IsReport self.old.base sent start end → ⊥) }
+        ensures too_many { (result ≡ Err ReportError.TooManyHoles)
+            ↔ (IsReport self.old.base sent start end
+            × HasNoRoom (length runs.old) (reported_by self.old runs.old) start (end - start)) }
         ensures ok { OnOk result
             (reported_by self.new runs.new ≡ with_range (reported_by self.old runs.old) start (end - start)) }
         ensures unchanged { OnErr result ((self.new ≡ self.old) × (runs.new ≡ runs.old)) }
-        ensures refused { IsErr result
-            ↔ HasNoRoom (length runs.old) (reported_by self.old runs.old) start (end - start) }
         ensures canonical { IsCanonical self.old.reported → IsCanonical self.new.reported }
     {
+        if !is_report(self.base, start, end, sent) {
+            return Err(ReportError::NoBlock);
+        }
         if start <= self.base {
             self.acknowledge(runs, end);
             return Ok(());
@@ -137,7 +138,10 @@ impl ScoreboardHead {
         prove!(end - start <= most() as u64, "in any `usize`");
         let offset = (start - self.base) as usize;
         let size = (end - start) as usize;
-        self.reported.add(runs, offset, size)
+        match self.reported.add(runs, offset, size) {
+            Ok(()) => Ok(()),
+            Err(_) => Err(ReportError::TooManyHoles),
+        }
     }
 
     /// Reports all positions below `next`, whatever the number of runs.
@@ -303,6 +307,14 @@ impl ScoreboardHead {
         }
         (start, end)
     }
+}
+
+/// Returns whether a SACK block can be right: it has a position, and none from `sent` on; and if it
+/// begins beyond `first`, the first position that wasn't reported, it ends less than 2^32 above it.
+fn is_report(first: u64, start: u64, end: u64, sent: u64) -> bool
+    ensures { IsTrue result ↔ IsReport first sent start end }
+{
+    start < end && end <= sent && (start <= first || end - first <= u64::from(u32::MAX))
 }
 
 /// Returns the end of the last run; 0 if there is none.

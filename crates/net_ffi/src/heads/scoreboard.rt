@@ -9,17 +9,17 @@
 ghost use Rattle.net_assembler.specs.Positions.{contains, nothing, positions, with_range};
 ghost use Rattle.net_assembler.specs.RunLists.{IsCanonical};
 ghost use Rattle.net_ffi.specs.Refusals.{no_number};
-ghost use Rattle.net_ffi.specs.Results.{done_or_many};
+ghost use Rattle.net_ffi.specs.Results.{done_or_report_error};
 ghost use Rattle.net_receiver.specs.Losses.{IsLossBound};
 ghost use Rattle.net_receiver.specs.NewHeads.{scoreboard_head};
 ghost use Rattle.net_receiver.specs.Scoreboards.{HasNoRoom, IsEnd, IsNextHole, IsReport, IsSoundBoard, beyond};
 ghost use Rattle.net_receiver.specs.Scoreboards.{reported_by};
-ghost use Rattle.std.specs.Prelude.{IsErr, IsFalse, IsTrue, List, OnErr, OnOk, length, ℕ, ◌-◌, ◌<◌, ◌↔◌, ◌≡◌};
+ghost use Rattle.std.specs.Prelude.{Err, IsFalse, IsTrue, List, OnErr, OnOk, length, ℕ, ◌-◌, ◌<◌, ◌↔◌, ◌≡◌};
 
 use crate::refusals::{NET_BASE_DONE, NET_BASE_REFUSED, Status, no_number, refused_hole};
-use crate::results::{Hole, status_of};
+use crate::results::{Hole, status_of_report};
 use net_assembler::Run;
-use net_receiver::ScoreboardHead;
+use net_receiver::{ReportError, ScoreboardHead};
 
 /// Makes `scoreboard` a scoreboard of a stream that begins at position `first`, to which nothing
 /// was reported, whatever its runs. All positions below `first` count as reported.
@@ -46,15 +46,18 @@ pub extern "C" fn net_base_scoreboard_is_sound(scoreboard: &ScoreboardHead, runs
 }
 
 /// Reports the positions from `start` on and below `end`, as a SACK block of an acknowledgement
-/// does. Blocks may overlap. Positions below `base` are known already.
+/// does. Blocks may overlap. Positions below `base` are known already. `sent` is the position after
+/// the last byte that was ever sent.
 ///
-/// Returns `NET_BASE_TOO_MANY_RUNS`, and changes nothing, if the block begins beyond `base`, and
-/// there would be more runs than the slice has elements. Then the block isn't known, and its bytes
-/// are sent again.
+/// Returns `NET_BASE_REFUSED`, and changes nothing, if no such block can be: `start` isn't below
+/// `end`, `end` is above `sent`, or the block begins beyond `base` and ends 2^32 or more above it,
+/// while TCP's numbers have 32 bits.
 ///
-/// It is refused if `start` isn't below `end`, `end` is above `sent`, or the block begins beyond
-/// `base` and ends 2^32 or more above it, or if `scoreboard` isn't sound with `runs`:
-/// `NET_BASE_REFUSED`, and nothing changes.
+/// Returns `NET_BASE_TOO_MANY_RUNS`, and changes nothing, if such a block can be, it begins beyond
+/// `base`, and there would be more runs than the slice has elements. Then the block isn't known,
+/// and its bytes are sent again.
+///
+/// It is refused if `scoreboard` isn't sound with `runs`: `NET_BASE_REFUSED`, and nothing changes.
 #[unsafe(no_mangle)]
 pub extern "C" fn net_base_scoreboard_report(
     scoreboard: &mut ScoreboardHead,
@@ -63,26 +66,25 @@ pub extern "C" fn net_base_scoreboard_report(
     end: u64,
     sent: u64,
 ) -> Status
-    ensures sound { (IsReport scoreboard.old.base sent start end) × (IsSoundBoard scoreboard.old runs.old) →
-        IsSoundBoard scoreboard.new runs.new }
-    ensures ok { (IsReport scoreboard.old.base sent start end) × (IsSoundBoard scoreboard.old runs.old) → OnOk
-        (done_or_many result) (reported_by scoreboard.new runs.new ≡ with_range (reported_by scoreboard.old
-        runs.old) start (end - start)) }
-    ensures unchanged { (IsReport scoreboard.old.base sent start end) × (IsSoundBoard scoreboard.old runs.old) →
-        OnErr (done_or_many result) ((scoreboard.new ≡ scoreboard.old) × (runs.new ≡ runs.old)) }
-    ensures refused { (IsReport scoreboard.old.base sent start end) × (IsSoundBoard scoreboard.old runs.old) →
-        (IsErr (done_or_many result) ↔ HasNoRoom (length runs.old) (reported_by scoreboard.old runs.old) start (end
-        - start)) }
+    ensures sound { IsSoundBoard scoreboard.old runs.old → IsSoundBoard scoreboard.new runs.new }
+    ensures no_block { IsSoundBoard scoreboard.old runs.old → (((done_or_report_error result) ≡ Err
+        ReportError.NoBlock) ↔ (IsReport scoreboard.old.base sent start end → ⊥)) }
+    ensures too_many { IsSoundBoard scoreboard.old runs.old → (((done_or_report_error result) ≡ Err
+        ReportError.TooManyHoles) ↔ (IsReport scoreboard.old.base sent start end × HasNoRoom (length runs.old)
+        (reported_by scoreboard.old runs.old) start (end - start))) }
+    ensures ok { IsSoundBoard scoreboard.old runs.old → OnOk (done_or_report_error result) (reported_by
+        scoreboard.new runs.new ≡ with_range (reported_by scoreboard.old runs.old) start (end - start)) }
+    ensures unchanged { IsSoundBoard scoreboard.old runs.old → OnErr (done_or_report_error result) ((scoreboard.new
+        ≡ scoreboard.old) × (runs.new ≡ runs.old)) }
     ensures canonical { IsCanonical scoreboard.old.reported → IsCanonical scoreboard.new.reported }
-    ensures status { (IsReport scoreboard.old.base sent start end) × (IsSoundBoard scoreboard.old runs.old) → result
-        < 2 }
-    ensures unsound { ((IsReport scoreboard.old.base sent start end) × (IsSoundBoard scoreboard.old runs.old) → ⊥) →
-        (result ≡ NET_BASE_REFUSED) × (scoreboard.new ≡ scoreboard.old) × (runs.new ≡ runs.old) }
+    ensures status { IsSoundBoard scoreboard.old runs.old → result < 3 }
+    ensures refused { (IsSoundBoard scoreboard.old runs.old → ⊥) → (result ≡ NET_BASE_REFUSED) × (scoreboard.new ≡
+        scoreboard.old) × (runs.new ≡ runs.old) }
 {
-    if !ScoreboardHead::is_report(scoreboard.base, start, end, sent) || !scoreboard.is_sound(runs) {
+    if !scoreboard.is_sound(runs) {
         return NET_BASE_REFUSED;
     }
-    status_of(scoreboard.report(runs, start, end))
+    status_of_report(scoreboard.report(runs, start, end, sent))
 }
 
 /// Reports all positions below `next`, whatever the number of runs.

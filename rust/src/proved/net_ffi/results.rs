@@ -1,11 +1,12 @@
 use crate::rattle::prelude::*;
 use crate::proved::net_ffi::refusals::{
     NET_BASE_ACKNOWLEDGEMENT_ONLY, NET_BASE_ANSWER, NET_BASE_DONE, NET_BASE_IGNORE,
-    NET_BASE_OTHER_SIZE, NET_BASE_RESET, NET_BASE_TAKE, NET_BASE_TOO_LONG, NET_BASE_TOO_MANY_RUNS,
-    Status,
+    NET_BASE_OTHER_SIZE, NET_BASE_REFUSED, NET_BASE_RESET, NET_BASE_TAKE, NET_BASE_TOO_LONG,
+    NET_BASE_TOO_MANY_RUNS, Status,
 };
 use crate::proved::net_assembler::{Run, TooManyHolesError};
 use crate::proved::net_base::storage::FragmentError;
+use crate::proved::net_receiver::ReportError;
 use crate::proved::net_ring::Span;
 use crate::proved::net_tcp::Arrival;
 
@@ -62,6 +63,15 @@ pub(crate) fn status_of_fragment(done: Result<(), FragmentError>) -> Status {
         Err(FragmentError::TooManyHoles) => NET_BASE_TOO_MANY_RUNS,
         Err(FragmentError::TooLong) => NET_BASE_TOO_LONG,
         Err(FragmentError::OtherSize) => NET_BASE_OTHER_SIZE,
+    }
+}
+
+#[inline(always)]
+pub(crate) fn status_of_report(done: Result<(), ReportError>) -> Status {
+    match done {
+        Ok(()) => NET_BASE_DONE,
+        Err(ReportError::TooManyHoles) => NET_BASE_TOO_MANY_RUNS,
+        Err(ReportError::NoBlock) => NET_BASE_REFUSED,
     }
 }
 

@@ -12,6 +12,7 @@ use crate::proved::net_receiver::finite_sender::FiniteSender;
 use crate::proved::net_receiver::finite_sender_head::FiniteSenderHead;
 use crate::proved::net_receiver::receiver::Receiver;
 use crate::proved::net_receiver::receiver_head::ReceiverHead;
+use crate::proved::net_receiver::scoreboard::Scoreboard;
 use crate::proved::net_receiver::scoreboard_head::ScoreboardHead;
 use crate::proved::net_receiver::sender::Sender;
 use crate::proved::net_receiver::sender_head::SenderHead;
@@ -181,6 +182,12 @@ pub fn is_sound_sender(sender: &Sender<'_>) {
 /// a number is left for the end, and no more is queued than the capacity. `finite_senders` asks for it.
 pub fn is_sound_sent(sender: &FiniteSender<'_>) {
     sender.is_sound();
+}
+
+/// States what is true of every scoreboard: at most `N` runs are reported beyond the first position that wasn't, in
+/// rising order, each above that position, and the number after each reported position fits 64 bits.
+pub fn is_sound_scoreboard<const N: usize>(scoreboard: &Scoreboard<N>) {
+    scoreboard.is_sound();
 }
 
 /// States that a head whose numbers are all 0 is a new one, of a stream that begins at position 0: of a

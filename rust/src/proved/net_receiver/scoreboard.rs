@@ -141,13 +141,7 @@ impl<const N: usize> Scoreboard<N> {
     ///
     /// - on `Err`: `self == old(self)`
     pub fn report(&mut self, start: u64, end: u64, sent: u64) -> Result<(), ReportError> {
-        if !ScoreboardHead::is_report(self.first_unreported(), start, end, sent) {
-            return Err(ReportError::NoBlock);
-        }
-        match self.head.report(&mut self.runs, start, end) {
-            Ok(()) => Ok(()),
-            Err(_) => Err(ReportError::TooManyHoles),
-        }
+        self.head.report(&mut self.runs, start, end, sent)
     }
 
     /// Reports a SACK block as `report` does, from its numbers: of each it takes the position nearest to
@@ -296,5 +290,10 @@ impl<const N: usize> Scoreboard<N> {
     #[must_use]
     pub fn next_lost(&self, pos: u64, duplicates: usize, segment_size: usize) -> Option<(u64, u64)> {
         self.next_hole(pos, self.lost_below(duplicates, segment_size))
+    }
+
+    /// States what is true of every scoreboard; it does nothing. Callers use `laws::is_sound_scoreboard`.
+    pub(crate) fn is_sound(&self) {
+        let _ = self.head.first_unreported(&self.runs);
     }
 }

@@ -2,9 +2,10 @@
 
 use crate::rattle::prelude::*;
 use crate::proved::net_receiver::held_runs::HeldRunIter;
+use crate::proved::net_receiver::report_error::ReportError;
 use crate::proved::net_assembler::assembler::laws;
 use crate::proved::net_assembler::width::most;
-use crate::proved::net_assembler::{AssemblerHead, Run, TooManyHolesError};
+use crate::proved::net_assembler::{AssemblerHead, Run};
 
 /// What a scoreboard has besides its runs.
 ///
@@ -59,30 +60,31 @@ impl ScoreboardHead {
         highest_offset(&self.reported, runs) as u64 <= u64::MAX - self.base
     }
 
-    /// Returns whether a SACK block can be right: it has a position, and none from `sent` on, which
-    /// is the position after the last byte that was ever sent; and if it begins beyond `first`, the first
-    /// position that wasn't reported, it ends less than 2^32 above it: TCP's numbers have 32 bits.
-    pub fn is_report(first: u64, start: u64, end: u64, sent: u64) -> bool {
-        start < end && end <= sent && (start <= first || end - first <= u64::from(u32::MAX))
-    }
-
     /// Reports the positions from `start` on and below `end`, as a SACK block of an acknowledgement
-    /// does. Blocks may overlap. Positions below `base` are known already.
+    /// does. Blocks may overlap. Positions below `base` are known already. `sent` is the position
+    /// after the last byte that was ever sent.
     ///
-    /// Returns `TooManyHolesError`, and changes nothing, if the block begins beyond `base`, and
-    /// there would be more runs than the slice has elements. Then the block isn't known, and its
-    /// bytes are sent again.
+    /// Returns `NoBlock`, and changes nothing, if no such block can be: `start` isn't below `end`,
+    /// `end` is above `sent`, or the block begins beyond `base` and ends 2^32 or more above it,
+    /// while TCP's numbers have 32 bits.
+    ///
+    /// Returns `TooManyHoles`, and changes nothing, if such a block can be, it begins beyond
+    /// `base`, and there would be more runs than the slice has elements. Then the block isn't
+    /// known, and its bytes are sent again.
     ///
     /// # Panics, unless
     ///
-    /// The scoreboard is sound with the runs, `start` is at most `end`, and the block doesn't end too far
-    /// above the base, as `is_report` tests.
+    /// The scoreboard is sound with the runs.
     pub fn report(
         &mut self,
         runs: &mut [Run],
         start: u64,
         end: u64,
-    ) -> Result<(), TooManyHolesError> {
+        sent: u64,
+    ) -> Result<(), ReportError> {
+        if !is_report(self.base, start, end, sent) {
+            return Err(ReportError::NoBlock);
+        }
         if start <= self.base {
             self.acknowledge(runs, end);
             return Ok(());
@@ -92,7 +94,10 @@ impl ScoreboardHead {
         prove!(end - start <= most() as u64, "in any `usize`");
         let offset = (start - self.base) as usize;
         let size = (end - start) as usize;
-        self.reported.add(runs, offset, size)
+        match self.reported.add(runs, offset, size) {
+            Ok(()) => Ok(()),
+            Err(_) => Err(ReportError::TooManyHoles),
+        }
     }
 
     /// Reports all positions below `next`, whatever the number of runs.
@@ -228,6 +233,12 @@ impl ScoreboardHead {
         }
         (start, end)
     }
+}
+
+/// Returns whether a SACK block can be right: it has a position, and none from `sent` on; and if it
+/// begins beyond `first`, the first position that wasn't reported, it ends less than 2^32 above it.
+fn is_report(first: u64, start: u64, end: u64, sent: u64) -> bool {
+    start < end && end <= sent && (start <= first || end - first <= u64::from(u32::MAX))
 }
 
 /// Returns the end of the last run; 0 if there is none.

@@ -1,6 +1,5 @@
 use Rattle.std.proofs.lemmas.List.Elements.{All-nil, All-cons, All-append}
-use Rattle.net_receiver.specs.ReceiverState.{Segment, Read, Show}
-use Rattle.net_receiver.specs.OneStream.{AllMatch, MatchesStream, IsTruthful}
+use Rattle.net_receiver.specs.{Segment, Read, Show, AllMatch, MatchesStream, IsTruthful}
 use Rattle.net_receiver.proofs.OneStream.{truthful_is_kept}
 use Rattle.net_receiver.proofs.laws.all_match.Goals as goal
 

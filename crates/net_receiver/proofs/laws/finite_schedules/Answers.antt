@@ -1,4 +1,4 @@
-use Rattle.net_receiver.proofs.FiniteSchedules.{finite_schedules, finite_completes, finite_recovers, resent_is_read}
+use Rattle.net_receiver.proofs.FiniteReceivers.{finite_schedules, finite_completes, finite_recovers, resent_is_read}
 use Rattle.net_receiver.proofs.laws.finite_schedules.Goals as goal
 
 pub returns : goal.returns

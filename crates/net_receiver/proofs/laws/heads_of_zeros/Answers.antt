@@ -1,10 +1,6 @@
 use Rattle.std.proofs.Common.{◌≡◌, ◌+◌, arith, ◌∙◌, [], length, ap, sym, subst}
-use Rattle.net_receiver.specs.Head.{receiver_of, HasSoundParts}
-use Rattle.net_receiver.specs.FiniteHead.{finite_of, HasSoundFinite}
-use Rattle.net_receiver.specs.SenderState.{sender_state}
-use Rattle.net_receiver.specs.SenderHeads.{sender_of, IsSoundHead}
-use Rattle.net_receiver.specs.Scoreboards.{reported_by, IsSoundBoard}
-use Rattle.net_receiver.specs.FiniteSender.{finite_sender_of, IsSoundFiniteSender}
+use Rattle.net_receiver.specs.{receiver_of, HasSoundParts, finite_of, HasSoundFinite, sender_state, sender_of}
+use Rattle.net_receiver.specs.{IsSoundHead, reported_by, IsSoundBoard, finite_sender_of, IsSoundFiniteSender}
 use Rattle.net_receiver.proofs.laws.heads_of_zeros.Goals as goal
 
 pub returns-clause-receiver : goal.returns-clause-receiver

@@ -1,6 +1,5 @@
-use Rattle.net_receiver.specs.OneStream.{MatchesStream}
-use Rattle.net_receiver.proofs.OneStream.{longer_at}
-use Rattle.net_receiver.proofs.CallClauses.{matches_what_is_there}
+use Rattle.net_receiver.specs.{MatchesStream}
+use Rattle.net_receiver.proofs.OneStream.{longer_at, matches_what_is_there}
 use Rattle.net_receiver.proofs.laws.matches_stream.Goals as goal
 
 pub returns : goal.returns

@@ -3,8 +3,8 @@ use Rattle.std.proofs.Common.{length-drop}
 use Rattle.std.proofs.lemmas.Bool.{and_parts, leb-true, cond_both}
 use Rattle.std.proofs.lemmas.Bool.Decides.{nat_tests}
 use Rattle.std.proofs.lemmas.List.{drop-drop}
-use Rattle.net_receiver.specs.SenderState.{SenderState, end_of, sender_from, acknowledge, acknowledge_each}
-use Rattle.net_receiver.specs.SenderState.{greatest_within}
+use Rattle.net_receiver.specs.{end_of, sender_from, acknowledge, acknowledge_each, greatest_within}
+use Rattle.net_receiver.specs.SenderState.{SenderState}
 use Rattle.net_receiver.proofs.laws.queue_from_greatest.Goals as goal
 
 -- what acknowledgements leave

@@ -1,6 +1,6 @@
 use Rattle.std.proofs.Common.{refl}
-use Rattle.net_receiver.proofs.CallClauses.{read_receives}
-use Rattle.net_receiver.proofs.ReadLaws.{read_leaves_next, read_leaves_bytes, reads_add, reads_give_together}
+use Rattle.net_receiver.proofs.OneStream.{read_receives, read_leaves_next, read_leaves_bytes, reads_add}
+use Rattle.net_receiver.proofs.OneStream.{reads_give_together}
 use Rattle.net_receiver.proofs.laws.reads.Goals as goal
 
 pub returns : goal.returns

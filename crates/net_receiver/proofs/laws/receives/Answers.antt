@@ -1,8 +1,7 @@
 use Rattle.std.proofs.Common.{refl, subst, sym}
-use Rattle.net_receiver.specs.Schedule.{Agrees}
-use Rattle.net_receiver.specs.OneStream.{ReceivesFrom}
-use Rattle.net_receiver.proofs.OneStream.{longer_receives}
-use Rattle.net_receiver.proofs.CallClauses.{fresh_receives_from, segment_receives, held_of_stream, queue_of}
+use Rattle.net_receiver.specs.{Agrees, ReceivesFrom}
+use Rattle.net_receiver.proofs.OneStream.{longer_receives, fresh_receives_from, segment_receives, held_of_stream}
+use Rattle.net_receiver.proofs.OneStream.{queue_of}
 use Rattle.net_receiver.proofs.laws.receives.Goals as goal
 
 pub returns : goal.returns

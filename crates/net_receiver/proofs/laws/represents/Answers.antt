@@ -1,5 +1,5 @@
 use Rattle.net_receiver.proofs.Theorems.{sound_represents}
-use Rattle.net_receiver.specs.Head.{receiver_of}
+use Rattle.net_receiver.specs.{receiver_of}
 use Rattle.net_receiver.proofs.laws.represents.Goals as goal
 use Rattle.std.proofs.Common.{length}
 

@@ -1,4 +1,4 @@
-use Rattle.net_receiver.proofs.InvariantLaws.{fresh_is_sound, sound_stays}
+use Rattle.net_receiver.proofs.Theorems.{fresh_is_sound, sound_stays}
 use Rattle.net_receiver.proofs.laws.soundness.Goals as goal
 
 pub returns : goal.returns

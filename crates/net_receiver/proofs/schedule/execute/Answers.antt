@@ -1,5 +1,5 @@
-use Rattle.net_receiver.specs.Commands.{command_value, reply_value}
-use Rattle.net_receiver.proofs.CallClauses.{executed_receives, executed_bytes}
+use Rattle.net_receiver.specs.{command_value, reply_value}
+use Rattle.net_receiver.proofs.OneStream.{executed_receives, executed_bytes}
 use Rattle.net_receiver.proofs.schedule.execute.Goals as goal
 
 pub returns-clause-receives : goal.returns-clause-receives

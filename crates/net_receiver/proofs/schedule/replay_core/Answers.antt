@@ -3,8 +3,7 @@ use Rattle.std.proofs.lemmas.Bool.{false≢true}
 use Rattle.std.proofs.lemmas.List.{length-map, drop_all}
 use Rattle.std.proofs.lemmas.Result.{err_from_is_err_and}
 use Rattle.std.specs.Result.{is_ok}
-use Rattle.net_receiver.specs.Commands.{command_value, reply_value, new_replies}
-use Rattle.net_receiver.specs.Execution.{items_after}
+use Rattle.net_receiver.specs.{command_value, reply_value, new_replies, items_after}
 use Rattle.net_receiver.proofs.Schedules.{state_more, replies_more, whole_appended}
 use Rattle.net_receiver.proofs.schedule.replay_core.Goals as goal
 

@@ -1,7 +1,5 @@
 use Rattle.std.proofs.Common.{◌≡◌, ◌++◌, take}
-use Rattle.net_receiver.specs.ReceiverState.{receiver_after_commands, receiver_replies}
-use Rattle.net_receiver.specs.Commands.{command_values, new_replies}
-use Rattle.net_receiver.specs.Execution.{items_after}
+use Rattle.net_receiver.specs.{receiver_after_commands, receiver_replies, command_values, new_replies, items_after}
 use Rattle.net_receiver.proofs.schedule.replay_core.Given as goal
 
 -- the commands before this one were run

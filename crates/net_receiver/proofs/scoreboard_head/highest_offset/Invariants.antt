@@ -1,7 +1,7 @@
 use Rattle.std.proofs.Common.{◌≡◌}
 use Rattle.net_assembler.specs.Positions.{maximal_runs}
 use Rattle.net_assembler.specs.RunLists.{set_of}
-use Rattle.net_receiver.proofs.Holes.{greatest_end}
+use Rattle.net_receiver.proofs.Scoreboards.{greatest_end}
 use Rattle.net_receiver.proofs.scoreboard_head.highest_offset.Given as goal
 
 -- what the other runs make of the end so far is what all make of 0

@@ -2,9 +2,9 @@ use crate::rattle::prelude::*;
 // Written by tools/ffi.py.
 
 use crate::proved::net_ffi::refusals::{NET_BASE_DONE, NET_BASE_REFUSED, Status, no_number, refused_hole};
-use crate::proved::net_ffi::results::{Hole, status_of};
+use crate::proved::net_ffi::results::{Hole, status_of_report};
 use crate::proved::net_assembler::Run;
-use crate::proved::net_receiver::ScoreboardHead;
+use crate::proved::net_receiver::{ReportError, ScoreboardHead};
 
 #[inline(always)]
 pub fn net_base_scoreboard_init(scoreboard: &mut ScoreboardHead, first: u64) {
@@ -24,10 +24,10 @@ pub fn net_base_scoreboard_report(
     end: u64,
     sent: u64,
 ) -> Status {
-    if !ScoreboardHead::is_report(scoreboard.base, start, end, sent) || !scoreboard.is_sound(runs) {
+    if !scoreboard.is_sound(runs) {
         return NET_BASE_REFUSED;
     }
-    status_of(scoreboard.report(runs, start, end))
+    status_of_report(scoreboard.report(runs, start, end, sent))
 }
 
 #[inline(always)]

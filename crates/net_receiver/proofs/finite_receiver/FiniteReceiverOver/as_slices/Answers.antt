@@ -1,29 +1,25 @@
 use Rattle.std.proofs.Common.{◌∙◌, sym, ap, length, length-append, take_all, le_refl, arith}
 use Rattle.net_ring.specs.RingHead.{ring_at}
-use Rattle.net_receiver.specs.Contiguous.{contiguous_count}
-use Rattle.net_receiver.specs.Finite.{FiniteState}
+use Rattle.net_receiver.specs.{contiguous_count, FiniteState}
 use Rattle.net_receiver.specs.ReceiverState.{ReceiverState}
-use Rattle.net_receiver.proofs.CallClauses.{head_bytes}
-use Rattle.net_receiver.proofs.Contiguous.{lent_prefix, parts_are}
+use Rattle.net_receiver.proofs.OneStream.{head_bytes}
+use Rattle.net_receiver.proofs.Places.{lent_prefix, parts_are}
 use Rattle.net_receiver.proofs.Heads.{lent_view, lent_sound}
 use Rattle.net_receiver.proofs.finite_receiver.FiniteReceiverOver.as_slices.Goals as goal
 
-pub returns-clause-queue : goal.returns-clause-queue
-returns-clause-queue g c =
-    c.as_slices.ensures.queue
-    ∙ ap (λ (v : ReceiverState). v.queue) (lent_view _ _ _ _ c.whole.ensures c.args.self.now.receiver (ap (λ (s : FiniteState). s.receiver) c.self.view_is))
-
-pub returns-clause-value : goal.returns-clause-value
-returns-clause-value g c =
+pub returns : goal.returns
+returns g c =
     let h = c.self.inside.head.receiver in
-    let sound = lent_sound _ _ _ _ c.whole.ensures c.self.invariant.0.parts in
-    let first = c.as_slices.result.0.now in
-    parts_are c.args.self.now.receiver.queue first c.as_slices.result.1.now (contiguous_count c.args.self.now.receiver) (returns-clause-queue g c)
-    (lent_prefix (ring_at c.whole.result.now h.place) h.count_read sound.read_at (length first) c.as_slices.ensures.cut
-    (omega (arith, ap length c.as_slices.ensures.queue, length-append first c.as_slices.result.1.now))
-    ∙ ap contiguous_count (lent_view _ _ _ _ c.whole.ensures c.args.self.now.receiver (ap (λ (s : FiniteState). s.receiver) c.self.view_is)))
-
-pub returns-clause-bytes : goal.returns-clause-bytes
-returns-clause-bytes g c = λ f x r.
     let v = c.args.self.now.receiver in
-    returns-clause-queue g c ∙ sym (take_all (length v.queue) v.queue (le_refl _)) ∙ head_bytes f x v (length v.queue) (le_refl _) r.bytes
+    let first = c.as_slices.result.0.now in
+    let sound = lent_sound _ _ _ _ c.whole.ensures c.self.invariant.0.parts in
+    let lent = lent_view _ _ _ _ c.whole.ensures v (ap (λ (s : FiniteState). s.receiver) c.self.view_is) in
+    let queue = c.as_slices.ensures.queue ∙ ap (λ (v : ReceiverState). v.queue) lent in
+    record {
+      queue = queue;
+      value =
+          parts_are v.queue first c.as_slices.result.1.now (contiguous_count v) queue
+          (lent_prefix (ring_at c.whole.result.now h.place) h.count_read sound.read_at (length first) c.as_slices.ensures.cut
+          (omega (arith, ap length c.as_slices.ensures.queue, length-append first c.as_slices.result.1.now)) ∙ ap contiguous_count lent);
+      bytes = λ f x r. queue ∙ sym (take_all (length v.queue) v.queue (le_refl _)) ∙ head_bytes f x v (length v.queue) (le_refl _) r.bytes;
+    }

@@ -1,7 +1,6 @@
 use Rattle.std.proofs.Common.{◌≡◌, ◌≤◌, ◌∙◌, ap, subst, sym, length}
-use Rattle.net_receiver.specs.Finite.{FiniteState, IsSoundEnd, acknowledged, finite_after, finite_result}
-use Rattle.net_receiver.specs.FiniteHead.{finite_of, HasSoundFinite}
-use Rattle.net_receiver.specs.FiniteLaws.{ReceivesFinite, Arrives}
+use Rattle.net_receiver.specs.{FiniteState, IsSoundEnd, acknowledged, finite_after, finite_result, finite_of}
+use Rattle.net_receiver.specs.{HasSoundFinite, ReceivesFinite, Arrives}
 use Rattle.net_receiver.proofs.FiniteReceivers.{segment_of_stream, finite_reads_nothing, one_acknowledged}
 use Rattle.net_receiver.proofs.Heads.{part_is, whole_written}
 use Rattle.net_receiver.proofs.finite_receiver.FiniteReceiverOver.keep.Given as given
@@ -32,27 +31,25 @@ pub invariant_of-self : goal.invariant_of-self
 invariant_of-self g c =
     (subst (λ xs. HasSoundFinite c.keep.new.self xs c.keep.new.runs) (sym (stored g c)) c.keep.ensures.sound, c.keep.auto.runs ∙ c.self.invariant.1, c.keep.ensures.canonical c.self.invariant.2)
 
-pub returns-clause-state : goal.returns-clause-state
-returns-clause-state g c =
+state_is : (g : given.Over) (c : goal.After-self-2-1 g) →
+    finite_of c.keep.new.self (g.S.Storage.elements (g.S.Storage.with_part c.self.inside.storage 0 c.keep.new.storage)) c.keep.new.runs
+    ≡ finite_after g.row.N c.args.self.now c.args.pos c.args.bytes.now c.args.is_last
+state_is g c =
     ap (λ xs. finite_of c.keep.new.self xs c.keep.new.runs) (stored g c)
     ∙ c.keep.ensures.state
     ∙ (λ k. finite_after (c.self.invariant.1 k) (before g c k) c.args.pos c.args.bytes.now c.args.is_last)
 
-pub returns-clause-value : goal.returns-clause-value
-returns-clause-value g c =
-    c.keep.ensures.value ∙ (λ k. finite_result (c.self.invariant.1 k) (before g c k) c.args.pos c.args.bytes.now c.args.is_last)
-
-pub returns-clause-receives : goal.returns-clause-receives
-returns-clause-receives g c = λ f x r h.
-    subst (ReceivesFinite f x) (sym (returns-clause-state g c))
-    (segment_of_stream g.row.N f x c.args.self.now c.args.pos c.args.bytes.now c.args.is_last r h).1
-
-pub returns-clause-read : goal.returns-clause-read
-returns-clause-read g c =
-    ap (λ (s : FiniteState). s.receiver.read) (returns-clause-state g c)
-    ∙ finite_reads_nothing g.row.N c.args.self.now c.args.pos c.args.bytes.now c.args.is_last
-
-pub returns-clause-grows : goal.returns-clause-grows
-returns-clause-grows g c =
-    subst (λ t. acknowledged c.args.self.now ≤ acknowledged t) (sym (returns-clause-state g c))
-    (one_acknowledged g.row.N c.args.self.now (Arrives c.args.pos c.args.bytes.now c.args.is_last) (sound_end g c))
+pub returns : goal.returns
+returns g c = record {
+  state = state_is g c;
+  value = c.keep.ensures.value ∙ (λ k. finite_result (c.self.invariant.1 k) (before g c k) c.args.pos c.args.bytes.now c.args.is_last);
+  receives = λ f x r h.
+      subst (ReceivesFinite f x) (sym (state_is g c))
+      (segment_of_stream g.row.N f x c.args.self.now c.args.pos c.args.bytes.now c.args.is_last r h).1;
+  read =
+      ap (λ (s : FiniteState). s.receiver.read) (state_is g c)
+      ∙ finite_reads_nothing g.row.N c.args.self.now c.args.pos c.args.bytes.now c.args.is_last;
+  grows =
+      subst (λ t. acknowledged c.args.self.now ≤ acknowledged t) (sym (state_is g c))
+      (one_acknowledged g.row.N c.args.self.now (Arrives c.args.pos c.args.bytes.now c.args.is_last) (sound_end g c));
+}

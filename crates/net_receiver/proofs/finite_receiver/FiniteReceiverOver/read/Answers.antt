@@ -1,8 +1,6 @@
 use Rattle.std.proofs.Common.{◌∙◌, ap, length, sym, subst}
 use Rattle.net_assembler.specs.RunLists.{IsCanonical}
-use Rattle.net_receiver.specs.Finite.{FiniteState, finite_after_read}
-use Rattle.net_receiver.specs.FiniteHead.{finite_of, HasSoundFinite}
-use Rattle.net_receiver.specs.FiniteLaws.{ReceivesFinite}
+use Rattle.net_receiver.specs.{FiniteState, finite_after_read, finite_of, HasSoundFinite, ReceivesFinite}
 use Rattle.net_receiver.specs.declared.receiver_head.ReceiverHead.{ReceiverHead}
 use Rattle.net_receiver.proofs.finite_receiver.FiniteReceiverOver.read.Goals as goal
 

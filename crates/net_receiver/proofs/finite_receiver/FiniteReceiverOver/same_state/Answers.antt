@@ -1,6 +1,5 @@
 use Rattle.std.proofs.Common.{◌∙◌, ◌↔◌, IsTrue, ap, subst}
-use Rattle.net_receiver.specs.Finite.{FiniteState, IsSameFinite}
-use Rattle.net_receiver.specs.FiniteHead.{finite_of}
+use Rattle.net_receiver.specs.{FiniteState, IsSameFinite, finite_of}
 use Rattle.net_receiver.proofs.finite_receiver.FiniteReceiverOver.same_state.Goals as goal
 
 pub returns : goal.returns

@@ -1,76 +1,73 @@
-use Rattle.std.proofs.Common.{◌+◌, length, inl, inr, refl, sym, subst, ◌∙◌, Ok, Err}
-use Rattle.net_receiver.specs.Finite.{FiniteState, IsSoundEnd}
-use Rattle.net_receiver.specs.FiniteHead.{finite_of, end_with}
-use Rattle.net_receiver.specs.FiniteLaws.{ReceivesFinite}
-use Rattle.net_receiver.proofs.FiniteReceivers.{segment_of_stream}
-use Rattle.net_receiver.proofs.EndInvariant.{no_other_at, end_after_at, left_state, left_result, left_storage, sound_after, cut_is}
+use Rattle.std.proofs.Common.{◌≡◌, ◌⊎◌, ◌+◌, length, take, true, false, inl, inr, refl, sym, subst, ◌∙◌, Ok, Err}
+use Rattle.net_receiver.specs.{FiniteState, IsSoundEnd, finite_of, end_with, ReceivesFinite, can_end, has_other_end}
+use Rattle.net_receiver.specs.{below_end, end_after}
+use Rattle.net_receiver.proofs.FiniteReceivers.{segment_of_stream, no_other_at, end_after_at, left_state, left_result}
+use Rattle.net_receiver.proofs.FiniteReceivers.{left_storage, sound_after, cut_is}
 use Rattle.net_receiver.proofs.finite_receiver_head.FiniteReceiverHead.keep.Goals as goal
 use Rattle.net_receiver.proofs.finite_receiver_head.FiniteReceiverHead.keep.Goals.{else-is_last-via-then-is_last+else-not-can_end}
 use Rattle.net_receiver.proofs.finite_receiver_head.FiniteReceiverHead.keep.Goals.{else-is_last-via-else-is_last}
+use Rattle.net_receiver.proofs.finite_receiver_head.FiniteReceiverHead.keep.Goals.{After-count_below-count}
+
+-- the segment isn't refused for its end, and its bytes below the end are given to the receiver
+module _ (c : After-count_below-count) where
+  abbrev s : FiniteState
+  s = finite_of c.args.self.now c.args.storage.now c.args.runs.now
+
+  ends : (c.args.is_last ≡ false) ⊎ (can_end s c.saturating_add-last.result ≡ true)
+  ends = elim c.else-is_last.branch [
+    | else-is_last-via-then-is_last+else-not-can_end w ↦ inr (sym w.can_end.ensures ∙ w.if-not-can_end.false)
+    | else-is_last-via-else-is_last w ↦ inl w.if-is_last.false
+  ]
+
+  other : has_other_end s (c.args.pos + length c.args.bytes.now) c.args.is_last ≡ false
+  other = no_other_at s _ c.saturating_add-last.result c.args.is_last c.saturating_add-last.ensures ends
+
+  cut : take c.count_below-count.result c.args.bytes.now ≡ below_end s c.args.pos c.args.bytes.now
+  cut = cut_is _ c.count_below-count.result c.args.bytes.now c.count_below-count.ensures
+
+  end : end_with c.number_after-after_end.result ≡ end_after s (c.args.pos + length c.args.bytes.now) c.args.is_last
+  end = c.number_after-after_end.ensures ∙ c.end_after-end.ensures ∙ end_after_at s _ c.saturating_add-last.result c.args.is_last c.saturating_add-last.ensures ends
 
 pub returns-in-Ok-clause-state : goal.returns-in-Ok-clause-state
 returns-in-Ok-clause-state c =
-    let s : FiniteState = finite_of c.args.self.now c.args.storage.now c.args.runs.now in
-    left_state (length c.args.runs.now) s c.args.pos c.args.bytes.now c.args.is_last (no_other_at s (c.args.pos + length c.args.bytes.now) c.saturating_add-last.result c.args.is_last c.saturating_add-last.ensures
-    (elim c.else-is_last.branch [ else-is_last-via-then-is_last+else-not-can_end w ↦ inr (sym w.can_end.ensures ∙ w.if-not-can_end.false) | else-is_last-via-else-is_last w ↦ inl w.if-is_last.false ])) _
-    (cut_is _ c.count_below-count.result c.args.bytes.now c.count_below-count.ensures)
-    _ c.keep.ensures.state (Ok c.in-Ok.kept) c.in-Ok.ensures.numbers
-    (end_with c.number_after-after_end.result) (c.number_after-after_end.ensures ∙ c.end_after-end.ensures ∙ end_after_at s (c.args.pos + length c.args.bytes.now) c.saturating_add-last.result c.args.is_last c.saturating_add-last.ensures
-    (elim c.else-is_last.branch [ else-is_last-via-then-is_last+else-not-can_end w ↦ inr (sym w.can_end.ensures ∙ w.if-not-can_end.false) | else-is_last-via-else-is_last w ↦ inl w.if-is_last.false ]))
+    let w = (goal.at.returns-in-Ok-clause-state c).After-count_below-count in
+    left_state _ (s w) _ _ _ (other w) _ (cut w) _ c.keep.ensures.state (Ok c.in-Ok.kept) c.in-Ok.ensures.numbers _ (end w)
 
 pub returns-in-Ok-clause-value : goal.returns-in-Ok-clause-value
 returns-in-Ok-clause-value c =
-    let s : FiniteState = finite_of c.args.self.now c.args.storage.now c.args.runs.now in
-    left_result (length c.args.runs.now) s c.args.pos c.args.bytes.now c.args.is_last (no_other_at s (c.args.pos + length c.args.bytes.now) c.saturating_add-last.result c.args.is_last c.saturating_add-last.ensures
-    (elim c.else-is_last.branch [ else-is_last-via-then-is_last+else-not-can_end w ↦ inr (sym w.can_end.ensures ∙ w.if-not-can_end.false) | else-is_last-via-else-is_last w ↦ inl w.if-is_last.false ])) _
-    (cut_is _ c.count_below-count.result c.args.bytes.now c.count_below-count.ensures)
-    _ c.keep.ensures.state (Ok c.in-Ok.kept) c.in-Ok.ensures.numbers
+    let w = (goal.at.returns-in-Ok-clause-value c).After-count_below-count in
+    left_result _ (s w) _ _ _ (other w) _ (cut w) _ c.keep.ensures.state (Ok c.in-Ok.kept) c.in-Ok.ensures.numbers
 
 pub returns-in-Ok-clause-sound : goal.returns-in-Ok-clause-sound
-returns-in-Ok-clause-sound c = record {
-  parts = c.keep.ensures.sound;
-  end = subst IsSoundEnd (sym (returns-in-Ok-clause-state c)) (sound_after (length c.args.runs.now) (finite_of c.args.self.now c.args.storage.now c.args.runs.now) c.args.pos c.args.bytes.now c.args.is_last c.requires.end);
-}
+returns-in-Ok-clause-sound c =
+    let s = finite_of c.args.self.now c.args.storage.now c.args.runs.now in
+    let after = sound_after (length c.args.runs.now) s c.args.pos c.args.bytes.now c.args.is_last c.requires.end in
+    record { parts = c.keep.ensures.sound; end = subst IsSoundEnd (sym (returns-in-Ok-clause-state c)) after }
 
 pub returns-in-Err-clause-state : goal.returns-in-Err-clause-state
 returns-in-Err-clause-state c =
-    let s : FiniteState = finite_of c.args.self.now c.args.storage.now c.args.runs.now in
-    left_state (length c.args.runs.now) s c.args.pos c.args.bytes.now c.args.is_last (no_other_at s (c.args.pos + length c.args.bytes.now) c.saturating_add-last.result c.args.is_last c.saturating_add-last.ensures
-    (elim c.else-is_last.branch [ else-is_last-via-then-is_last+else-not-can_end w ↦ inr (sym w.can_end.ensures ∙ w.if-not-can_end.false) | else-is_last-via-else-is_last w ↦ inl w.if-is_last.false ])) _
-    (cut_is _ c.count_below-count.result c.args.bytes.now c.count_below-count.ensures)
-    _ c.keep.ensures.state (Err c.in-Err.field-0) c.in-Err.ensures.numbers
-    s.end refl
+    let w = (goal.at.returns-in-Err-clause-state c).After-count_below-count in
+    left_state _ (s w) _ _ _ (other w) _ (cut w) _ c.keep.ensures.state (Err c.in-Err.field-0) c.in-Err.ensures.numbers _ refl
 
 pub returns-in-Err-clause-value : goal.returns-in-Err-clause-value
 returns-in-Err-clause-value c =
-    let s : FiniteState = finite_of c.args.self.now c.args.storage.now c.args.runs.now in
-    left_result (length c.args.runs.now) s c.args.pos c.args.bytes.now c.args.is_last (no_other_at s (c.args.pos + length c.args.bytes.now) c.saturating_add-last.result c.args.is_last c.saturating_add-last.ensures
-    (elim c.else-is_last.branch [ else-is_last-via-then-is_last+else-not-can_end w ↦ inr (sym w.can_end.ensures ∙ w.if-not-can_end.false) | else-is_last-via-else-is_last w ↦ inl w.if-is_last.false ])) _
-    (cut_is _ c.count_below-count.result c.args.bytes.now c.count_below-count.ensures)
-    _ c.keep.ensures.state (Err c.in-Err.field-0) c.in-Err.ensures.numbers
+    let w = (goal.at.returns-in-Err-clause-value c).After-count_below-count in
+    left_result _ (s w) _ _ _ (other w) _ (cut w) _ c.keep.ensures.state (Err c.in-Err.field-0) c.in-Err.ensures.numbers
 
 pub returns-in-Ok-clause-receives : goal.returns-in-Ok-clause-receives
 returns-in-Ok-clause-receives c = λ f x r h.
-    subst (ReceivesFinite f x) (sym (returns-in-Ok-clause-state c))
-    (segment_of_stream (length c.args.runs.now) f x _ c.args.pos c.args.bytes.now c.args.is_last r h).1
+    subst (ReceivesFinite f x) (sym (returns-in-Ok-clause-state c)) (segment_of_stream _ f x _ _ _ _ r h).1
 
 pub returns-in-Err-clause-receives : goal.returns-in-Err-clause-receives
 returns-in-Err-clause-receives c = λ f x r h.
-    subst (ReceivesFinite f x) (sym (returns-in-Err-clause-state c))
-    (segment_of_stream (length c.args.runs.now) f x _ c.args.pos c.args.bytes.now c.args.is_last r h).1
+    subst (ReceivesFinite f x) (sym (returns-in-Err-clause-state c)) (segment_of_stream _ f x _ _ _ _ r h).1
 
 pub returns-in-Ok-clause-stored : goal.returns-in-Ok-clause-stored
 returns-in-Ok-clause-stored c =
-    let s : FiniteState = finite_of c.args.self.now c.args.storage.now c.args.runs.now in
-    left_storage c.args.self.now c.args.storage.now c.args.runs.now c.args.pos c.args.bytes.now c.args.is_last (no_other_at s (c.args.pos + length c.args.bytes.now) c.saturating_add-last.result c.args.is_last c.saturating_add-last.ensures
-    (elim c.else-is_last.branch [ else-is_last-via-then-is_last+else-not-can_end w ↦ inr (sym w.can_end.ensures ∙ w.if-not-can_end.false) | else-is_last-via-else-is_last w ↦ inl w.if-is_last.false ])) _
-    (cut_is _ c.count_below-count.result c.args.bytes.now c.count_below-count.ensures)
-    _ c.keep.ensures.stored
+    let w = (goal.at.returns-in-Ok-clause-stored c).After-count_below-count in
+    left_storage c.args.self.now c.args.storage.now c.args.runs.now _ _ _ (other w) _ (cut w) _ c.keep.ensures.stored
 
 pub returns-in-Err-clause-stored : goal.returns-in-Err-clause-stored
 returns-in-Err-clause-stored c =
-    let s : FiniteState = finite_of c.args.self.now c.args.storage.now c.args.runs.now in
-    left_storage c.args.self.now c.args.storage.now c.args.runs.now c.args.pos c.args.bytes.now c.args.is_last (no_other_at s (c.args.pos + length c.args.bytes.now) c.saturating_add-last.result c.args.is_last c.saturating_add-last.ensures
-    (elim c.else-is_last.branch [ else-is_last-via-then-is_last+else-not-can_end w ↦ inr (sym w.can_end.ensures ∙ w.if-not-can_end.false) | else-is_last-via-else-is_last w ↦ inl w.if-is_last.false ])) _
-    (cut_is _ c.count_below-count.result c.args.bytes.now c.count_below-count.ensures)
-    _ c.keep.ensures.stored
+    let w = (goal.at.returns-in-Err-clause-stored c).After-count_below-count in
+    left_storage c.args.self.now c.args.storage.now c.args.runs.now _ _ _ (other w) _ (cut w) _ c.keep.ensures.stored

@@ -1,6 +1,6 @@
 use Rattle.std.proofs.Common.{length, sym, subst}
-use Rattle.net_receiver.specs.Finite.{IsSoundEnd, no_end}
-use Rattle.net_receiver.proofs.EndInvariant.{fresh_sound_end}
+use Rattle.net_receiver.specs.{IsSoundEnd, no_end}
+use Rattle.net_receiver.proofs.FiniteReceivers.{fresh_sound_end}
 use Rattle.net_receiver.proofs.finite_receiver_head.FiniteReceiverHead.new.Goals as goal
 
 pub returns-clause-sound : goal.returns-clause-sound

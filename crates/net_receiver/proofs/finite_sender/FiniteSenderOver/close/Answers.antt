@@ -1,5 +1,5 @@
 use Rattle.std.proofs.Common.{◌∙◌, ap, sym}
-use Rattle.net_receiver.specs.FiniteSender.{closed_sender}
+use Rattle.net_receiver.specs.{closed_sender}
 use Rattle.net_receiver.proofs.finite_sender.FiniteSenderOver.close.Goals as goal
 
 pub returns-clause-state : goal.returns-clause-state

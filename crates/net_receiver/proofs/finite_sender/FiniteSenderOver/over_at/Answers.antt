@@ -1,6 +1,5 @@
 use Rattle.std.proofs.Common.{[], length, sym, subst}
-use Rattle.net_receiver.specs.SenderState.{Sends}
-use Rattle.net_receiver.specs.FiniteSender.{FiniteSenderState}
+use Rattle.net_receiver.specs.{Sends, FiniteSenderState}
 use Rattle.net_receiver.proofs.Senders.{fresh_sends}
 use Rattle.net_receiver.proofs.finite_sender.FiniteSenderOver.over_at.Goals as goal
 

@@ -3,8 +3,8 @@ use Rattle.std.proofs.lemmas.Bool.Decides.{nat_tests}
 use Rattle.net_ring.specs.RingHead.{ring_at}
 use Rattle.net_ring.proofs.RingFacts.{part_is}
 use Rattle.net_ring.proofs.Rotations.{length-queue}
-use Rattle.net_receiver.specs.FiniteSender.{FiniteSenderState}
-use Rattle.net_receiver.proofs.FiniteSenders.{lent_of, lent_room, lent_none, lent_numbers, lent_beyond, lent_later}
+use Rattle.net_receiver.specs.{FiniteSenderState}
+use Rattle.net_receiver.proofs.Senders.{lent_of, lent_room, lent_none, lent_numbers, lent_beyond, lent_later}
 use Rattle.net_receiver.proofs.finite_sender.FiniteSenderOver.peek_at.Goals as goal
 
 pub returns : goal.returns

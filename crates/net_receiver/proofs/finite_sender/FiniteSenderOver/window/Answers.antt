@@ -1,5 +1,5 @@
 use Rattle.std.proofs.Common.{◌∙◌, ap, sym}
-use Rattle.net_receiver.specs.FiniteSender.{finite_room}
+use Rattle.net_receiver.specs.{finite_room}
 use Rattle.net_receiver.proofs.finite_sender.FiniteSenderOver.window.Goals as goal
 
 pub returns : goal.returns

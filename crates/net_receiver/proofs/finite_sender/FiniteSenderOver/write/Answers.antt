@@ -1,9 +1,8 @@
 use Rattle.std.proofs.Common.{◌≡◌, ◌++◌, ◌∙◌, length, take, min, sym, ap, subst}
 use Rattle.net_ring.proofs.RingFacts.{lent_whole}
-use Rattle.net_receiver.specs.SenderState.{Sends}
-use Rattle.net_receiver.specs.FiniteSender.{FiniteSenderState, first_number, finite_room, with_bytes}
-use Rattle.net_receiver.specs.FiniteSender.{finite_sender_of, IsSoundFiniteSender}
-use Rattle.net_receiver.proofs.FiniteSenders.{written_number}
+use Rattle.net_receiver.specs.{Sends, FiniteSenderState, first_number, finite_room, with_bytes, finite_sender_of}
+use Rattle.net_receiver.specs.{IsSoundFiniteSender}
+use Rattle.net_receiver.proofs.Senders.{written_number}
 use Rattle.net_receiver.proofs.finite_sender.FiniteSenderOver.write.Goals as goal
 
 pub invariant_of-self : goal.invariant_of-self

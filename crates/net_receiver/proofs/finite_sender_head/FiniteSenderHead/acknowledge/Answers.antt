@@ -1,8 +1,7 @@
 use Rattle.std.proofs.Common.{◌≡◌, ◌-◌, min, sym, ap, subst, ◌∙◌, arith}
 use Rattle.net_ring.specs.RingHead.{IsSound, ring_at}
 use Rattle.net_ring.proofs.Rotations.{length-queue}
-use Rattle.net_receiver.specs.SenderState.{end_of, sender_from}
-use Rattle.net_receiver.specs.SenderHeads.{sender_of}
+use Rattle.net_receiver.specs.{end_of, sender_from, sender_of}
 use Rattle.net_receiver.proofs.finite_sender_head.FiniteSenderHead.acknowledge.Goals as goal
 
 pub returns-clause-state : goal.returns-clause-state

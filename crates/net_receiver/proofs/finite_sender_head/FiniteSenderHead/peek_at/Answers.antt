@@ -2,8 +2,7 @@ use Rattle.std.proofs.Common.{◌≡◌, ◌≤◌, length, take, drop, sym, sub
 use Rattle.std.proofs.lemmas.Bool.Decides.{nat_tests}
 use Rattle.net_ring.specs.RingHead.{IsSound, ring_at}
 use Rattle.net_ring.proofs.Rotations.{length-queue}
-use Rattle.net_receiver.specs.SenderHeads.{sender_of}
-use Rattle.net_receiver.specs.SenderState.{contiguous_end, end_of}
+use Rattle.net_receiver.specs.{sender_of, contiguous_end, end_of}
 use Rattle.net_receiver.proofs.finite_sender_head.FiniteSenderHead.peek_at.Goals as goal
 
 pub returns-clause-count : goal.returns-clause-count

@@ -1,5 +1,5 @@
 use Rattle.std.proofs.Common.{◌^◌}
-use Rattle.net_receiver.proofs.ShiftedRuns.{rest_below}
+use Rattle.net_receiver.proofs.Sets.{rest_below}
 use Rattle.net_receiver.proofs.held_runs.HeldRunIterIterator.next.Goals as goal
 
 pub invariant_of-self-2 : goal.invariant_of-self-2

@@ -1,9 +1,9 @@
 use Rattle.std.proofs.Common.{◌∙◌, sym, ap, length, length-append, take_all, le_refl, arith}
 use Rattle.net_ring.specs.RingHead.{ring_at}
-use Rattle.net_receiver.specs.Contiguous.{contiguous_count}
+use Rattle.net_receiver.specs.{contiguous_count}
 use Rattle.net_receiver.specs.ReceiverState.{ReceiverState}
-use Rattle.net_receiver.proofs.CallClauses.{head_bytes}
-use Rattle.net_receiver.proofs.Contiguous.{lent_prefix, parts_are}
+use Rattle.net_receiver.proofs.OneStream.{head_bytes}
+use Rattle.net_receiver.proofs.Places.{lent_prefix, parts_are}
 use Rattle.net_receiver.proofs.Heads.{lent_view, lent_sound}
 use Rattle.net_receiver.proofs.receiver.ReceiverOver.as_slices.Goals as goal
 

@@ -1,8 +1,6 @@
 use Rattle.std.proofs.Common.{◌≡◌, ◌∙◌, ap, subst, sym, length}
-use Rattle.net_receiver.specs.KeptList.{piece}
-use Rattle.net_receiver.specs.ReceiverState.{Segment, verdict, numbers, receiver_after_command}
-use Rattle.net_receiver.specs.Head.{receiver_of, HasSoundParts}
-use Rattle.net_receiver.proofs.CallClauses.{segment_receives, kept_any, kept_in_order, stays}
+use Rattle.net_receiver.specs.{piece, Segment, verdict, numbers, receiver_after_command, receiver_of, HasSoundParts}
+use Rattle.net_receiver.proofs.OneStream.{segment_receives, kept_any, kept_in_order, stays}
 use Rattle.net_receiver.proofs.Heads.{lent_view, lent_sound, part_is, whole_written, sound_for}
 use Rattle.net_receiver.proofs.receiver.ReceiverOver.keep_part.Given as given
 use Rattle.net_receiver.proofs.receiver.ReceiverOver.keep_part.Goals as goal
@@ -35,8 +33,8 @@ state_is g c =
     ∙ c.keep.ensures.state
     ∙ (λ k. receiver_after_command (c.self.invariant.1 k) (before k) (Segment c.args.pos c.args.bytes.now))
 
-pub returns-clause-counts : goal.returns-clause-counts
-returns-clause-counts g c =
+counts_are : (g : given.Over) (c : goal.After-self-2-1 g) → c.keep.result ≡ numbers c.args.self.now (verdict g.row.N c.args.self.now (piece c.args.pos c.args.bytes.now))
+counts_are g c =
     let before = lent_view _ _ _ _ (part_is _ _ _ c.count-count.ensures c.part_mut-storage.ensures.value) c.args.self.now c.self.view_is in
     c.keep.ensures.numbers
     ∙ (λ k. numbers (before k) (verdict (c.self.invariant.1 k) (before k) (piece c.args.pos c.args.bytes.now)))
@@ -44,29 +42,17 @@ returns-clause-counts g c =
 pub invariant_of-self : goal.invariant_of-self
 invariant_of-self g c = (sound_is g c, runs_are g c, c.keep.ensures.canonical c.self.invariant.2)
 
-pub returns-clause-state : goal.returns-clause-state
-returns-clause-state g c = state_is g c
-
-pub returns-clause-setting : goal.returns-clause-setting
-returns-clause-setting g c =
-    stays g.row.N c.args.self.now _ (Segment c.args.pos c.args.bytes.now) (state_is g c)
-    (sound_for (sound_is g c) g.row.N (runs_are g c))
-
-pub returns-clause-unchanged : goal.returns-clause-unchanged
-returns-clause-unchanged g c =
-    (kept_any g.row.N c.args.self.now _ c.args.pos c.args.bytes.now c.keep.result (state_is g c) (returns-clause-counts g c)).0
-
-pub returns-clause-kept : goal.returns-clause-kept
-returns-clause-kept g c =
-    (kept_any g.row.N c.args.self.now _ c.args.pos c.args.bytes.now c.keep.result (state_is g c) (returns-clause-counts g c)).1
-
-pub returns-clause-queued : goal.returns-clause-queued
-returns-clause-queued g c =
-    (kept_any g.row.N c.args.self.now _ c.args.pos c.args.bytes.now c.keep.result (state_is g c) (returns-clause-counts g c)).2
-
-pub returns-clause-in_order : goal.returns-clause-in_order
-returns-clause-in_order g c = kept_in_order g.row.N c.args.self.now c.args.pos c.args.bytes.now c.keep.result (returns-clause-counts g c)
-
-pub returns-clause-receives : goal.returns-clause-receives
-returns-clause-receives g c = λ f x r h.
-    segment_receives g.row.N f x c.args.self.now _ c.args.pos c.args.bytes.now (state_is g c) r h
+pub returns : goal.returns
+returns g c =
+    let v = c.args.self.now in
+    let any = kept_any g.row.N v _ c.args.pos c.args.bytes.now c.keep.result (state_is g c) (counts_are g c) in
+    record {
+      state = state_is g c;
+      counts = counts_are g c;
+      unchanged = any.0;
+      kept = any.1;
+      queued = any.2;
+      in_order = kept_in_order g.row.N v c.args.pos c.args.bytes.now c.keep.result (counts_are g c);
+      setting = stays g.row.N v _ (Segment c.args.pos c.args.bytes.now) (state_is g c) (sound_for (sound_is g c) g.row.N (runs_are g c));
+      receives = λ f x r h. segment_receives g.row.N f x v _ c.args.pos c.args.bytes.now (state_is g c) r h;
+    }

@@ -1,6 +1,6 @@
 use Rattle.std.proofs.Common.{◌∙◌, ◌++◌, ap, sym, min, length, take, drop}
 use Rattle.net_receiver.specs.ReceiverState.{ReceiverState}
-use Rattle.net_receiver.proofs.CallClauses.{read_bytes}
+use Rattle.net_receiver.proofs.OneStream.{read_bytes}
 use Rattle.net_receiver.proofs.Heads.{lent_view, queue_size}
 use Rattle.net_receiver.proofs.receiver.ReceiverOver.peek_slice.Goals as goal
 

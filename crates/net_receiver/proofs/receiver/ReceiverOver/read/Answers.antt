@@ -1,7 +1,8 @@
 use Rattle.std.proofs.Common.{◌∙◌, ◌++◌, min, ap, sym, subst, length, take, drop}
 use Rattle.net_assembler.specs.RunLists.{IsCanonical}
-use Rattle.net_receiver.specs.ReceiverState.{Read, ReadReply, ReceiverState, receiver_after_read}
-use Rattle.net_receiver.proofs.CallClauses.{stays}
+use Rattle.net_receiver.specs.{Read, ReadReply, receiver_after_read}
+use Rattle.net_receiver.specs.ReceiverState.{ReceiverState}
+use Rattle.net_receiver.proofs.OneStream.{stays}
 use Rattle.net_receiver.proofs.Heads.{lent_view, lent_sound, back_view, back_sound, queue_size, sound_for}
 use Rattle.net_receiver.proofs.Schedules.{read_prefix}
 use Rattle.net_receiver.proofs.receiver.ReceiverOver.read.Goals as goal

@@ -1,8 +1,7 @@
 use Rattle.std.proofs.Common.{◌≡◌, ◌∙◌, ap, subst, sym, length}
-use Rattle.net_receiver.specs.KeptList.{piece}
-use Rattle.net_receiver.specs.ReceiverState.{Segment, SegmentReply, verdict, segment_result, receiver_after_command}
-use Rattle.net_receiver.specs.Head.{receiver_of, HasSoundParts}
-use Rattle.net_receiver.proofs.CallClauses.{segment_receives, in_order, any_order, stays}
+use Rattle.net_receiver.specs.{piece, Segment, SegmentReply, verdict, segment_result, receiver_after_command}
+use Rattle.net_receiver.specs.{receiver_of, HasSoundParts}
+use Rattle.net_receiver.proofs.OneStream.{segment_receives, in_order, any_order, stays}
 use Rattle.net_receiver.proofs.Heads.{lent_view, lent_sound, part_is, whole_written, sound_for}
 use Rattle.net_receiver.proofs.receiver.ReceiverOver.segment.Given as given
 use Rattle.net_receiver.proofs.receiver.ReceiverOver.segment.Goals as goal
@@ -45,34 +44,19 @@ result_is g c =
 pub invariant_of-self : goal.invariant_of-self
 invariant_of-self g c = (sound_is g c, runs_are g c, c.segment.ensures.canonical c.self.invariant.2)
 
-pub returns-clause-state : goal.returns-clause-state
-returns-clause-state g c = state_is g c
-
-pub returns-clause-reply : goal.returns-clause-reply
-returns-clause-reply g c = ap (λ r. SegmentReply r) (result_is g c)
-
-pub returns-clause-setting : goal.returns-clause-setting
-returns-clause-setting g c =
-    stays g.row.N c.args.self.now _ (Segment c.args.pos c.args.bytes.now) (state_is g c)
-    (sound_for (sound_is g c) g.row.N (runs_are g c))
-
-pub returns-clause-keeps : goal.returns-clause-keeps
-returns-clause-keeps g c =
-    any_order g.row.N c.args.self.now _ c.args.pos c.args.bytes.now c.segment.result (state_is g c) (result_is g c)
-
-pub returns-clause-in_order : goal.returns-clause-in_order
-returns-clause-in_order g c =
-    in_order g.row.N c.args.self.now _ c.args.pos c.args.bytes.now c.segment.result (state_is g c) (result_is g c)
-
-pub returns-clause-unchanged : goal.returns-clause-unchanged
-returns-clause-unchanged g c = (returns-clause-keeps g c).refused
-
-pub returns-clause-queued : goal.returns-clause-queued
-returns-clause-queued g c = (returns-clause-keeps g c).queued
-
-pub returns-clause-accepted : goal.returns-clause-accepted
-returns-clause-accepted g c = λ at_most. (returns-clause-in_order g c at_most).accepted
-
-pub returns-clause-receives : goal.returns-clause-receives
-returns-clause-receives g c = λ f x r h.
-    segment_receives g.row.N f x c.args.self.now _ c.args.pos c.args.bytes.now (state_is g c) r h
+pub returns : goal.returns
+returns g c =
+    let v = c.args.self.now in
+    let keeps = any_order g.row.N v _ c.args.pos c.args.bytes.now c.segment.result (state_is g c) (result_is g c) in
+    let joins = in_order g.row.N v _ c.args.pos c.args.bytes.now c.segment.result (state_is g c) (result_is g c) in
+    record {
+      state = state_is g c;
+      reply = ap (λ r. SegmentReply r) (result_is g c);
+      setting = stays g.row.N v _ (Segment c.args.pos c.args.bytes.now) (state_is g c) (sound_for (sound_is g c) g.row.N (runs_are g c));
+      keeps = keeps;
+      in_order = joins;
+      unchanged = keeps.refused;
+      queued = keeps.queued;
+      accepted = λ at_most. (joins at_most).accepted;
+      receives = λ f x r h. segment_receives g.row.N f x v _ c.args.pos c.args.bytes.now (state_is g c) r h;
+    }

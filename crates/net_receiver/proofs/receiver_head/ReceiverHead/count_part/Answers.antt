@@ -1,9 +1,8 @@
 use Rattle.std.proofs.Common.{Bool, ◌≡◌, ◌∙◌, ◌+◌, ◌-◌, ℕ, max, min, not, sym, ap, arith}
 use Rattle.net_assembler.specs.Positions.{contains, maximal_runs}
-use Rattle.net_receiver.specs.ReceiverState.{domain, next_position, limit_of}
-use Rattle.net_receiver.specs.Head.{receiver_of}
+use Rattle.net_receiver.specs.{domain, next_position, limit_of, receiver_of}
 use Rattle.net_receiver.proofs.Heads.{queue_size, spare_size}
-use Rattle.net_receiver.proofs.NewBytes.{missing_in, missing_is, missing_few, left_of, count, clipped}
+use Rattle.net_receiver.proofs.NewestRuns.{missing_in, missing_is, missing_few, left_of, count, clipped}
 use Rattle.net_receiver.proofs.receiver_head.ReceiverHead.count_part.Goals as goal
 
 pub overflow_add-count : goal.overflow_add-count

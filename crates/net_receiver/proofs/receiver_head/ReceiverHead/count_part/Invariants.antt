@@ -1,8 +1,7 @@
 use Rattle.std.proofs.Common.{◌≡◌, ◌+◌, max}
 use Rattle.net_assembler.specs.Positions.{maximal_runs}
-use Rattle.net_receiver.specs.ReceiverState.{domain}
-use Rattle.net_receiver.specs.Head.{receiver_of}
-use Rattle.net_receiver.proofs.NewBytes.{missing_in}
+use Rattle.net_receiver.specs.{domain, receiver_of}
+use Rattle.net_receiver.proofs.NewestRuns.{missing_in}
 use Rattle.net_receiver.proofs.receiver_head.ReceiverHead.count_part.Given as goal
 
 -- the positions that are counted, and those that are still to count

@@ -1,4 +1,4 @@
-use Rattle.net_receiver.proofs.EndInvariant.{offsets_below, below_offsets}
+use Rattle.net_receiver.proofs.FiniteReceivers.{offsets_below, below_offsets}
 use Rattle.net_receiver.proofs.receiver_head.ReceiverHead.has_all_below.Goals as goal
 
 pub returns-then-next-pos : goal.returns-then-next-pos

@@ -1,10 +1,7 @@
 use Rattle.std.proofs.Common.{◌^◌, ◌<◌, ◌≤◌, ◌+◌, ℕ, All, sym, subst, ◌∙◌}
-use Rattle.net_receiver.specs.ReceiverState.{domain, next_position}
-use Rattle.net_receiver.specs.Parts.{EndBelow}
-use Rattle.net_receiver.specs.Head.{receiver_of}
+use Rattle.net_receiver.specs.{domain, next_position, EndBelow, receiver_of}
 use Rattle.net_receiver.proofs.Heads.{held_are}
-use Rattle.net_receiver.proofs.Maps.{contains-domain}
-use Rattle.net_receiver.proofs.ShiftedRuns.{ends_below, begins_above, ends_within}
+use Rattle.net_receiver.proofs.Sets.{contains-domain, ends_below, begins_above, ends_within}
 use Rattle.net_receiver.proofs.receiver_head.ReceiverHead.held.Goals as goal
 
 pub over-requires : goal.over-requires

@@ -6,13 +6,11 @@ use Rattle.net_receiver.specs.declared.receiver_head.ReceiverHead.{ReceiverHead}
 use Rattle.net_assembler.specs.Positions.{with_range, runs}
 use Rattle.net_assembler.specs.RunLists.{set_of}
 use Rattle.net_assembler.proofs.Positions.{too_many}
-use Rattle.net_receiver.specs.KeptList.{piece}
-use Rattle.net_receiver.specs.ReceiverState.{verdict, state_after, numbers}
-use Rattle.net_receiver.specs.Head.{receiver_of, HasSoundParts}
-use Rattle.net_receiver.proofs.CallClauses.{segment_receives}
-use Rattle.net_receiver.proofs.Heads.{cut_of, refused, refused_stores, joined_fits, kept_is, kept_stores}
-use Rattle.net_receiver.proofs.RingPlaces.{front_removed}
-use Rattle.net_receiver.proofs.Segment.{only_err, accepted_cases}
+use Rattle.net_receiver.specs.{piece, verdict, state_after, numbers, receiver_of, HasSoundParts}
+use Rattle.net_receiver.proofs.OneStream.{segment_receives}
+use Rattle.net_receiver.proofs.Heads.{cut_of, refused, refused_stores, joined_fits, kept_is, kept_stores, only_err}
+use Rattle.net_receiver.proofs.Heads.{accepted_cases}
+use Rattle.net_receiver.proofs.Places.{front_removed}
 use Rattle.net_receiver.proofs.receiver_head.ReceiverHead.keep.Goals as goal
 
 pub returns-in_err-queued-clause-state : goal.returns-in_err-queued-clause-state

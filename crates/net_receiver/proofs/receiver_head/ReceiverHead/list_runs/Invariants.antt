@@ -1,7 +1,5 @@
 use Rattle.std.proofs.Common.{◌≡◌, ◌∷◌, ◌≤◌, [], length, map, take, drop}
-use Rattle.net_receiver.specs.ReceiverState.{domain}
-use Rattle.net_receiver.specs.Head.{receiver_of}
-use Rattle.net_receiver.specs.NewestRuns.{runs_of, newest_runs}
+use Rattle.net_receiver.specs.{domain, receiver_of, runs_of, newest_runs}
 use Rattle.net_receiver.proofs.receiver_head.ReceiverHead.list_runs.Given as goal
 
 -- the runs of the positions so far are listed

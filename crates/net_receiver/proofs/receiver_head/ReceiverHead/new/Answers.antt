@@ -3,9 +3,8 @@ use Rattle.net_ring.specs.RingHead.{ring_at}
 use Rattle.net_ring.specs.Ring.{spare}
 use Rattle.net_assembler.proofs.RunLists.{runs-nothing}
 use Rattle.net_assembler.specs.RunLists.{set_of}
-use Rattle.net_receiver.specs.ReceiverState.{IsSound}
-use Rattle.net_receiver.specs.Parts.{Fits64Bits}
-use Rattle.net_receiver.proofs.Contiguous.{fresh_read_at}
+use Rattle.net_receiver.specs.{IsSound, Fits64Bits}
+use Rattle.net_receiver.proofs.Places.{fresh_read_at}
 use Rattle.net_receiver.proofs.Theorems.{fresh_parts, fresh_sound, fresh_fits}
 use Rattle.net_receiver.proofs.receiver_head.ReceiverHead.new.Goals as goal
 

@@ -3,10 +3,9 @@ use Rattle.net_ring.specs.RingHead.{IsSound as IsSoundPlace, ring_at, dequeued_p
 use Rattle.net_ring.specs.Ring.{RingState, queue}
 use Rattle.net_ring.specs.declared.head.RingHead.{RingHead}
 use Rattle.net_ring.proofs.Rotations.{length-queue}
-use Rattle.net_receiver.specs.Head.{receiver_of, HasSoundParts}
-use Rattle.net_receiver.proofs.CallClauses.{read_receives, read_bytes}
-use Rattle.net_receiver.proofs.Heads.{after_read}
-use Rattle.net_receiver.proofs.Segment.{given_is}
+use Rattle.net_receiver.specs.{receiver_of, HasSoundParts}
+use Rattle.net_receiver.proofs.OneStream.{read_receives, read_bytes}
+use Rattle.net_receiver.proofs.Heads.{after_read, given_is}
 use Rattle.net_receiver.proofs.receiver_head.ReceiverHead.read.Goals as goal
 
 -- the numbers of the ring that is left

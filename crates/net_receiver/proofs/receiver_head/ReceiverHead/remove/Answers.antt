@@ -1,7 +1,7 @@
 use Rattle.std.proofs.Common.{◌∙◌, ◌+◌, sym, ap, subst, arith}
 use Rattle.net_ring.specs.RingHead.{IsSound as IsSoundPlace, dequeued_place}
-use Rattle.net_receiver.specs.Head.{receiver_of, HasSoundParts, head_after_read}
-use Rattle.net_receiver.proofs.CallClauses.{read_receives, head_bytes}
+use Rattle.net_receiver.specs.{receiver_of, HasSoundParts, head_after_read}
+use Rattle.net_receiver.proofs.OneStream.{read_receives, head_bytes}
 use Rattle.net_receiver.proofs.Heads.{after_read, queue_size}
 use Rattle.net_receiver.proofs.receiver_head.ReceiverHead.remove.Goals as goal
 

@@ -1,9 +1,7 @@
 use Rattle.std.proofs.Common.{◌≡◌}
 use Rattle.std.specs.List.{find}
 use Rattle.net_assembler.specs.Positions.{lies_in}
-use Rattle.net_receiver.specs.ReceiverState.{domain}
-use Rattle.net_receiver.specs.Head.{receiver_of}
-use Rattle.net_receiver.specs.NewestRuns.{run_at}
+use Rattle.net_receiver.specs.{domain, receiver_of, run_at}
 use Rattle.net_receiver.proofs.receiver_head.ReceiverHead.run_at.Given as goal
 
 -- no run so far has the position

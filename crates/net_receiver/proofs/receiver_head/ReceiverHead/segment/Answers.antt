@@ -1,10 +1,8 @@
 use Rattle.std.proofs.Common.{◌∙◌, Ok, ap, sym, length}
-use Rattle.net_receiver.specs.KeptList.{piece}
-use Rattle.net_receiver.specs.ReceiverState.{verdict, numbers, with_sack, ReceiverState}
-use Rattle.net_receiver.specs.ReceiverState.{domain}
-use Rattle.net_receiver.specs.Head.{receiver_of}
-use Rattle.net_receiver.proofs.CallClauses.{segment_receives}
-use Rattle.net_receiver.proofs.Segment.{only_err}
+use Rattle.net_receiver.specs.{piece, verdict, numbers, with_sack, domain, receiver_of}
+use Rattle.net_receiver.specs.ReceiverState.{ReceiverState}
+use Rattle.net_receiver.proofs.OneStream.{segment_receives}
+use Rattle.net_receiver.proofs.Heads.{only_err}
 use Rattle.net_receiver.proofs.receiver_head.ReceiverHead.segment.Goals as goal
 
 pub returns-in_err-bytes-clause-value : goal.returns-in_err-bytes-clause-value

@@ -1,6 +1,6 @@
 use Rattle.std.proofs.Common.{subst}
-use Rattle.net_receiver.specs.Scoreboards.{IsNextHole}
-use Rattle.net_receiver.proofs.Losses.{no_hole}
+use Rattle.net_receiver.specs.{IsNextHole}
+use Rattle.net_receiver.proofs.Scoreboards.{no_hole}
 use Rattle.net_receiver.proofs.scoreboard.Scoreboard.next_hole.Goals as goal
 
 pub returns-else-start-end : goal.returns-else-start-end

@@ -1,6 +1,6 @@
 use Rattle.std.proofs.Common.{subst}
-use Rattle.net_receiver.specs.Losses.{IsHole}
-use Rattle.net_receiver.proofs.Losses.{one_bound}
+use Rattle.net_receiver.specs.{IsHole}
+use Rattle.net_receiver.proofs.Scoreboards.{one_bound}
 use Rattle.net_receiver.proofs.scoreboard.Scoreboard.next_lost.Goals as goal
 
 pub returns : goal.returns

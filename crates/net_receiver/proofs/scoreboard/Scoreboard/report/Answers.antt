@@ -1,11 +1,22 @@
-use Rattle.std.proofs.Common.{◌∙◌, ◌+◌, ◌<◌, ap, refl, subst, sym}
-use Rattle.net_assembler.specs.Positions.{front}
+use Rattle.std.proofs.Common.{◌≡◌, ◌∙◌, ◌↔◌, ◌-◌, ℕ, Err, ap, subst, sym, length}
+use Rattle.net_assembler.specs.Positions.{Positions, front}
 use Rattle.net_assembler.specs.RunLists.{set_of}
+use Rattle.net_receiver.specs.{HasNoRoom, IsReport, reported_by}
+use Rattle.net_receiver.specs.declared.report_error.ReportError.TheVariants.{NoBlock, TooManyHoles}
 use Rattle.net_receiver.proofs.Scoreboards.{front_board}
 use Rattle.net_receiver.proofs.scoreboard.Scoreboard.report.Goals as goal
 
-pub report-requires-clause-near : goal.report-requires-clause-near
-report-requires-clause-near g c =
+pub returns-clause-no_block : goal.returns-clause-no_block
+returns-clause-no_block g c =
     let h = c.self.inside.head in
-    let at = front_board h.base (set_of h.reported c.self.inside.runs) c.self.invariant.0.begins in
-    subst (λ b. b < c.args.start → c.args.end < b + 4294967296) (c.first_unreported.ensures ∙ sym (ap front c.self.view_is) ∙ at) (c.if-not-is_report.ensures.0 refl).near
+    let from = sym (front_board h.base (set_of h.reported c.self.inside.runs) c.self.invariant.0.begins) ∙ ap front c.self.view_is in
+    subst (λ b. (c.report.result ≡ Err NoBlock) ↔ (IsReport b c.args.sent c.args.start c.args.end → ⊥)) from c.report.ensures.no_block
+
+pub returns-clause-too_many : goal.returns-clause-too_many
+returns-clause-too_many g c =
+    let h = c.self.inside.head in
+    let from = sym (front_board h.base (set_of h.reported c.self.inside.runs) c.self.invariant.0.begins) ∙ ap front c.self.view_is in
+    let Said : ℕ → ℕ → Positions → Type 0 = λ b n s. (c.report.result ≡ Err TooManyHoles)
+    ↔ (IsReport b c.args.sent c.args.start c.args.end × HasNoRoom n s c.args.start (c.args.end - c.args.start)) in
+    subst (Said (front c.args.self.now) g.row.N) c.self.view_is (subst (λ n. Said (front c.args.self.now) n (reported_by h c.self.inside.runs)) c.self.invariant.1
+    (subst (λ b. Said b (length c.self.inside.runs) (reported_by h c.self.inside.runs)) from c.report.ensures.too_many))

@@ -2,9 +2,8 @@ use Rattle.std.proofs.Common.{◌≡◌, ℕ, ◌-◌, ◌∙◌, sym, ap, max, 
 use Rattle.std.proofs.lemmas.Bool.{cond-true, and_from, le-leb, lt-ltb}
 use Rattle.net_assembler.specs.Positions.{lies_in, maximal_runs, first_missing}
 use Rattle.net_assembler.specs.RunLists.{set_of}
-use Rattle.net_receiver.proofs.Holes.{count_from, missing_is}
-use Rattle.net_receiver.specs.Scoreboards.{reported_by, beyond}
-use Rattle.net_receiver.proofs.Scoreboards.{beyond_board, missing_beyond}
+use Rattle.net_receiver.proofs.Scoreboards.{count_from, missing_is, beyond_board, missing_beyond}
+use Rattle.net_receiver.specs.{reported_by, beyond}
 use Rattle.net_receiver.proofs.scoreboard_head.ScoreboardHead.first_missing.Goals as goal
 
 pub returns-then-from-end : goal.returns-then-from-end

@@ -1,7 +1,7 @@
 use Rattle.std.proofs.Common.{◌≡◌, ◌<◌, ◌^◌, length}
 use Rattle.net_assembler.specs.Positions.{maximal_runs}
-use Rattle.net_receiver.specs.Scoreboards.{reported_by, beyond, sizes}
-use Rattle.net_receiver.proofs.Losses.{IsBoundSoFar}
+use Rattle.net_receiver.specs.{reported_by, beyond, sizes}
+use Rattle.net_receiver.proofs.Scoreboards.{IsBoundSoFar}
 use Rattle.net_receiver.proofs.scoreboard_head.ScoreboardHead.lost_below.Given as goal
 
 -- the runs that are left are counted, and the limit is right for those so far

@@ -4,7 +4,7 @@ use Rattle.std.proofs.lemmas.List.{nil_from_length}
 use Rattle.net_ring.specs.RingHead.{ring_at}
 use Rattle.net_ring.proofs.RingFacts.{part_is}
 use Rattle.net_ring.proofs.Rotations.{length-queue}
-use Rattle.net_receiver.specs.SenderState.{contiguous_end}
+use Rattle.net_receiver.specs.{contiguous_end}
 use Rattle.net_receiver.proofs.Senders.{lent_says, lent_at}
 use Rattle.net_receiver.proofs.sender.SenderOver.peek_at.Goals as goal
 

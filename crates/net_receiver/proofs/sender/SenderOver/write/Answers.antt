@@ -1,8 +1,7 @@
 use Rattle.std.proofs.Common.{◌≡◌, ◌++◌, ◌∙◌, length, take, min, sym, ap, subst}
 use Rattle.net_ring.proofs.RingFacts.{lent_whole}
-use Rattle.net_receiver.specs.SenderState.{room_of, with_written, Sends}
+use Rattle.net_receiver.specs.{room_of, with_written, Sends, sender_of, IsSoundHead}
 use Rattle.net_receiver.proofs.Senders.{sends_written}
-use Rattle.net_receiver.specs.SenderHeads.{sender_of, IsSoundHead}
 use Rattle.net_receiver.proofs.sender.SenderOver.write.Goals as goal
 
 pub invariant_of-self : goal.invariant_of-self

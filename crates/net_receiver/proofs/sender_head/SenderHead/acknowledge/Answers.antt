@@ -3,8 +3,7 @@ use Rattle.std.proofs.lemmas.Bool.Decides.{nat_tests}
 use Rattle.net_ring.specs.RingHead.{IsSound, ring_at, dequeued_place}
 use Rattle.net_ring.specs.Ring.{queue}
 use Rattle.net_ring.proofs.Rotations.{with_dequeued_parts, read_at_le, length-queue}
-use Rattle.net_receiver.specs.SenderState.{sender_state, Sends}
-use Rattle.net_receiver.specs.SenderHeads.{sender_of}
+use Rattle.net_receiver.specs.{sender_state, Sends, sender_of}
 use Rattle.net_receiver.proofs.Senders.{sends_from}
 use Rattle.net_receiver.proofs.sender_head.SenderHead.acknowledge.Goals as goal
 
