@@ -3,7 +3,7 @@
 #![allow(clippy::clone_on_copy)]
 use std::collections::hash_map::DefaultHasher;
 use std::error::Error;
-use std::fmt::{Debug, Display};
+use std::fmt::Debug;
 use std::hash::{Hash, Hasher};
 use std::sync::Mutex;
 
@@ -302,13 +302,6 @@ fn lifetimes() {
         kept.insert(part).len()
     });
     assert_eq!((enqueued, kept), (Ok(3), Some(&mut [1, 8, 3][..])));
-}
-
-/// A text under options, and through a `dyn`.
-#[test]
-fn texts_of_moments() {
-    let all: [&dyn Display; 2] = [&Instant::from_millis(-1_500), &Duration::from_millis(1_500)];
-    assert_eq!(all.map(|it| format!("{it:>9}|")), ["-1.-500s|", "1.500s|"]);
 }
 
 /// An array is a storage: of each call of that trait, what it shows and lends.
