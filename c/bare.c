@@ -72,59 +72,31 @@ static int run_ring(void) {
     return 0;
 }
 
-/* A range that arrives early, and then those before it. */
-static int run_assembler(void) {
-    static struct net_base_run runs[4];
-    struct net_base_assembler assembler = {0, 0};
-    if (net_base_assembler_add(&assembler, runs, 4, 3, 2) != NET_BASE_DONE) return 1;
-    struct net_base_front_length front = net_base_assembler_add_then_remove_front(&assembler, runs, 4, 0, 3);
-    if (front.status != NET_BASE_DONE) return 2;
-    if (front.length != 5 || assembler.used != 0) return 3;
-    for (uint64_t i = 1; i <= 4; i++) {
-        if (net_base_assembler_add(&assembler, runs, 4, 10 * i, 3) != NET_BASE_DONE) return 4;
-    }
-    if (net_base_assembler_add(&assembler, runs, 4, 50, 3) != NET_BASE_TOO_MANY_RUNS) return 5;
-    return 0;
-}
-
 /* Segments of a stream arrive in any order, and its bytes are read in order. */
 static int run_receiver(void) {
     static uint8_t storage[8];
     static struct net_base_run runs[4];
     struct net_base_finite_receiver receiver;
-    if (!net_base_finite_receiver_init(&receiver, 100)) return 6;
+    if (!net_base_finite_receiver_init(&receiver, 100)) return 12;
     struct net_base_kept_counts counts;
     uint8_t into[8];
     const uint8_t *bytes = (const uint8_t *)"abcdefgh";
     if (net_base_finite_receiver_segment(&receiver, storage, 8, runs, 4, 103, bytes + 3, 5, false, &counts)
         != NET_BASE_DONE)
-        return 1;
+        return 7;
     if (net_base_finite_receiver_segment(&receiver, storage, 8, runs, 4, 100, bytes, 4, false, &counts)
         != NET_BASE_DONE)
-        return 2;
-    if (counts.kept != 4 || counts.queued != 8) return 3;
-    if (net_base_finite_receiver_read(&receiver, storage, 8, into, 8) != 8) return 4;
-    if (!are_equal(into, "abcdefgh", 8)) return 5;
+        return 8;
+    if (counts.kept != 4 || counts.queued != 8) return 9;
+    if (net_base_finite_receiver_read(&receiver, storage, 8, into, 8) != 8) return 10;
+    if (!are_equal(into, "abcdefgh", 8)) return 11;
     return 0;
 }
 
-/* Moments, and source ports. */
-static int run_numbers(void) {
-    if (net_base_instant_saturating_add(1000000, 250000) != 1250000) return 1;
-    if (net_base_instant_saturating_add(INT64_MAX, 1) != INT64_MAX) return 2;
-    uint64_t state = 0;
-    if (net_base_rand_source_port(&state) != 1358) return 3;
-    return 0;
-}
-
-/* The steps, each of which returns the number of what failed, or 0. */
+/* Returns the number of the first step that fails, or 0. */
 static int run(void) {
-    int (*const steps[])(void) = {run_ring, run_assembler, run_receiver, run_numbers};
-    for (int i = 0; i < (int)(sizeof steps / sizeof steps[0]); i++) {
-        int failed = steps[i]();
-        if (failed != 0) return 32 * i + failed;
-    }
-    return 0;
+    int failed = run_ring();
+    return failed != 0 ? failed : run_receiver();
 }
 
 static long call_system(long number, long one, const void *two, uint64_t three) {

@@ -101,30 +101,21 @@ class Cases:
         self.seen = len(branches.FIRST)
 
     def blocks(self):
-        """The blocks of each subject, by its name: the worked ones, and of the drawn ones those that give an answer that no
-        block before gave, or have a kind of rows of which there are too few. Drawn blocks of a flat subject are one."""
+        """The blocks of each subject, by its name: the worked ones, and each drawn one up to its last row that gives an answer
+        that none before gave, or is of a kind of which there are too few. Of a flat subject only these rows, as one block."""
         subjects, drawn, kinds, start = {}, set(), collections.Counter(), 0
         for end in [at for at, line in enumerate(self.lines) if not line] + [len(self.lines)]:
-            subject = self.lines[start].split(" ")[0]
-            rows = range(start + 1, end)
-            def few(at):
-                return kinds[subject, self.lines[at].split(" ")[0]] < LEAST
-            if start < self.worked:
-                kept = list(rows)
-            elif subject in FLAT:
-                kept = []
-                for at in rows:
-                    if self.news[at] or few(at):
-                        kept.append(at)
-                        kinds[subject, self.lines[at].split(" ")[0]] += 1
-            else:
-                kept = list(rows) if any(self.news[start:end]) or any(map(few, rows)) else []
-            if subject not in FLAT or start < self.worked:
-                kinds.update((subject, self.lines[at].split(" ")[0]) for at in kept)
+            subject, kept = self.lines[start].split(" ")[0], []
+            of_kind = [(subject, line.split(" ")[0]) for line in self.lines[start:end]]
+            for at in range(start + 1, end):
+                if start < self.worked or self.news[at] or kinds[of_kind[at - start]] < LEAST:
+                    more = [at] if subject in FLAT else range(start + 1 + len(kept), at + 1)
+                    kept += more
+                    kinds.update(of_kind[it - start] for it in more)
             if subject in FLAT and start > self.worked and subject in drawn:
                 for part, of in zip(subjects[subject][-1], (self.lines, self.replies)):
                     part += [of[at] for at in kept]
-            elif kept:
+            elif kept or self.news[start]:
                 at = [start, *kept]
                 subjects.setdefault(subject, []).append(([self.lines[i] for i in at], [self.replies[i] for i in at]))
                 drawn.update({subject} if start > self.worked else ())

@@ -68,7 +68,8 @@ class Ring:
         return min(self.count, self.capacity - self.at)
 
     def part(self, offset, count):
-        return [self.index(offset + k) for k in range(count)]
+        start = self.index(offset)
+        return [*range(start, min(start + count, self.capacity)), *range(start + count - self.capacity)]
 
     def see(self, part):
         return [self.storage[index] for index in part]

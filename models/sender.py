@@ -45,7 +45,8 @@ class Sender:
         return (self.at + offset) % self.capacity if self.capacity else 0
 
     def part(self, offset, count):
-        return [self.storage[self.index(offset + k)] for k in range(count)]
+        start = self.index(offset)
+        return self.storage[start : start + count] + self.storage[: max(0, start + count - self.capacity)]
 
     def show(self):
         WRAPS(self.at + self.count > self.capacity)

@@ -26,6 +26,8 @@ unsafe, proofs by hand, and lines of the definitions to read (`definitions.py`).
 Says what is not in the sources, and ends with status 1 if there is anything.
 """
 
+import collections
+import functools
 import pathlib
 import re
 import sys
@@ -139,7 +141,7 @@ def names_of_sources():
     """Each name of the sources, and of their files and folders."""
     known = set()
     for path in (path for pattern in SOURCES for path in ROOT.glob(pattern)):
-        if "out" in path.parts or "__pycache__" in path.parts:
+        if {"out", "target", "__pycache__"} & set(path.parts):
             continue
         known.update([path.name, path.stem])
         if path.is_file() and path.suffix != ".md":
@@ -174,6 +176,16 @@ def clauses_named(page):
             yield text.count("\n", 0, found.start()) + 1, name
 
 
+@functools.cache
+def files():
+    """The files of the checkout, by their names."""
+    found = collections.defaultdict(list)
+    for path in ROOT.glob("**/*"):
+        if "out" not in path.parts and path.is_file():
+            found[path.name].append(path)
+    return found
+
+
 def is_there(page, span):
     """Whether a span names no file, or has a parameter, or names a file that is there.
 
@@ -181,7 +193,7 @@ def is_there(page, span):
     """
     kinds = r"\.(antt|rt|py|md|rs|edit|svg)"
     if re.fullmatch(r"\w+" + kinds, span) and not re.search(r"\b[A-Z]{4}\b", span):
-        return any("out" not in path.parts for path in ROOT.glob(f"**/{span}"))
+        return span in files()
     if not re.fullmatch(r"[\w./]+/[\w.]+" + kinds, span) or re.search(r"\b[A-Z]{4}", span):
         return True
     crates = [*ROOT.glob("crates/*"), *ROOT.glob("rust/src/proved/*")]
@@ -223,7 +235,7 @@ def is_spec(span):
 
 def has_lines(span, count):
     """Whether a file that a page names has `count` lines; true if there is no such file."""
-    found = [path for path in ROOT.glob(f"**/{span}") if path.is_file() and "out" not in path.parts]
+    found = [path for path in files().get(span.split("/")[-1], ()) if path.match(span)]
     return not found or any(len(path.read_text().splitlines()) == count for path in found)
 
 

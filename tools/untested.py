@@ -15,11 +15,9 @@ the examples in doc comments, which rustdoc runs.
 Named there is
 - a function where it is called in a file that brings it in by `use`, or by a path that ends in it;
 - an associated function where the text has `Type::name`, with the type or an alias of it;
-- a method where `.name` follows something of its type: a parameter, a field, a `let` of a
-  call whose result is declared, or a chain of these. Where the type can't be told, `.name` counts
-  if just one of the types that the file names has it, or if the file is that type's own
-  (`assembler.rt` for `Assembler`). A method of a trait counts by each of the trait's types, and where a test
-  implements the trait, since a library then calls it.
+- a method where `.name` is called in a file that names its type, or for a head's the type that has it, or if no other type
+  has it. A method of a trait counts by each of the trait's types, and where a test implements the trait, since a library
+  then calls it.
 
 A call of the Cargo crate, here the crate `rust`, is named by a test or an example of Rust, as the compiler sees it: in a
 copy of the crate each call is deprecated, and each use is warned of. An example in the call's own doc comment counts too.
@@ -41,7 +39,6 @@ from parts import erase_list
 ROOT = pathlib.Path(__file__).resolve().parent.parent
 CRATES = ROOT / "crates"
 RUST = ROOT / "rust"
-PAIRS = {"(": ")", "[": "]", "{": "}"}
 
 
 def renamed():
@@ -86,16 +83,14 @@ def doc_examples(file):
     return "\n".join(lines)
 
 
-def closing(text, at, step=1):
-    """The index of the bracket that belongs to the one at an index; `step` -1 goes backwards."""
-    opened = set(PAIRS) if step == 1 else set(PAIRS.values())
+def closing(text, at):
+    """The index of the bracket that belongs to the one at an index."""
     depth = 0
-    while 0 <= at < len(text):
-        depth += (text[at] in opened) - (text[at] in "()[]{}" and text[at] not in opened)
+    for index in range(at, len(text)):
+        depth += (text[index] in "([{") - (text[index] in ")]}")
         if depth == 0:
-            return at
-        at += step
-    return max(0, min(at, len(text) - 1))
+            return index
+    return len(text) - 1
 
 
 def behind_generics(text, at):
@@ -108,7 +103,7 @@ def behind_generics(text, at):
     return at
 
 
-Fn = collections.namedtuple("Fn", "at end is_public name bounds params result is_empty")
+Fn = collections.namedtuple("Fn", "at end is_public name params is_empty")
 
 
 def functions(text):
@@ -116,9 +111,7 @@ def functions(text):
     for it in re.finditer(r"\b(pub )?(?:const )?(?:unsafe )?fn (\w+)", text):
         paren = text.index("(", behind_generics(text, it.end()))
         close = closing(text, paren)
-        bounds = dict(re.findall(r"(\w+): (?:\w+::)*(\w+)", text[it.end() : paren]))
         at, end = close + 1, text.find(";", close)
-        result = re.match(r"\s*->\s*((?:[^{;\n]|\n(?!\s*(?:requires|ensures)))*)", text[at:])
         while (clause := re.match(r"[^{;]*\b(?:requires|ensures)\b[^{;]*\{", text[at:])) is not None:
             at = closing(text, at + clause.end() - 1) + 1
         body = re.match(r"[^{;]*\{", text[at:])
@@ -126,8 +119,7 @@ def functions(text):
             at += body.end() - 1
             end = closing(text, at)
         is_empty = bool(body and re.fullmatch(r"\s*(?:[\w:]+\(\);\s*)*", text[at + 1 : end]))
-        gives = result[1] if result else ""
-        yield Fn(it.start(), end, bool(it[1]), it[2], bounds, text[paren + 1 : close], gives, is_empty)
+        yield Fn(it.start(), end, bool(it[1]), it[2], text[paren + 1 : close], is_empty)
 
 
 def blocks(text):
@@ -151,7 +143,7 @@ class Library:
     """The public types and calls of libraries, each by the file that is its root."""
 
     def __init__(self, roots):
-        self.crate_of, self.alias, self.fields, self.calls = {}, {}, collections.defaultdict(dict), {}
+        self.crate_of, self.alias, self.heads, self.calls = {}, {}, {}, {}
         self.implementors, self.implemented, self.places = collections.defaultdict(set), set(), {}
         for root in roots:
             files = [it for it in sorted(root.parent.rglob(f"*{root.suffix}")) if not is_test(it)]
@@ -187,7 +179,8 @@ class Library:
                         self.alias[name] = target[1]
             for it in re.finditer(r"^pub struct (\w+)[^;{]*\{", text, re.M):
                 body = text[it.end() : closing(text, it.end() - 1)]
-                self.fields[it[1]] = dict(re.findall(r"(\w+): ([^\n]*),", body))
+                if head := re.search(r"\bhead: (\w+),", body):
+                    self.heads[it[1]] = head[1]
         for file, text in texts.items():
             if "laws" in file.parts or file.stem == "laws":
                 continue
@@ -209,122 +202,37 @@ class Library:
                 if is_ours:
                     self.implementors[trait].add(subject)
 
-    def type_in(self, text, bounds, subject=""):
-        """The first type of a library that a type's text names."""
-        for word in re.findall(r"\w+", text):
-            word = subject if word == "Self" else bounds.get(word, word)
-            word = self.alias.get(word, word)
-            if word in self.crate_of:
-                return word
-        return ""
+    def owners(self, subject):
+        """A type, those that are it with storage, and of a trait those that have it."""
+        return {subject, *self.implementors[subject], *(it for it, head in self.heads.items() if head == subject)}
 
     def is_left_to_users(self, subject):
         """Whether this is a trait that no library implements."""
         return subject in self.implementors.get(subject, ()) and subject not in self.implemented
 
-    def having(self, name):
-        """The types that have a method of this name."""
-        return {subject for _, subject, it in self.calls if subject and it == name}
 
-    def result(self, subject, name):
-        """The type of what a call gives, if it is one of ours."""
-        for (_, of, it), fn in self.calls.items():
-            if (of, it) == (subject, name):
-                return self.type_in(fn.result, fn.bounds, subject)
-        return ""
-
-
-class TestFile:
+def named_in(file, text, library):
     """What one file of tests or examples names."""
-
-    def __init__(self, file, text, library):
-        self.library, self.file, self.text = library, file, without_aliases(code(text))
-        self.named = set()
-        self.helpers = {fn.name: fn for fn in functions(self.text)}
-        self.own_fields = dict(re.findall(r"^    (?:pub )?(\w+): ([^\n]*),$", self.text, re.M))
-        words = set(re.findall(r"\w+", self.text))
-        self.types = {library.alias.get(it, it) for it in words if it in library.crate_of}
-        self.brought = words_of_uses(self.text)
-        self.read_paths()
-        inside = list(blocks(self.text))
-        for fn in functions(self.text):
-            block = next((it for it in inside if it[0] < fn.at < it[1]), (0, 0, "", ""))
-            self.named |= {it for it in library.calls if it[1:] == (block[3], fn.name) and block[3]}
-            self.read_methods(fn, block[2])
-
-    def read_paths(self):
-        """Notes functions that are called by their name, and `Type::name`."""
-        for crate, subject, name in self.library.calls:
-            if not subject:
-                pattern = rf"(?<![.\w])(\w+::)*{name}\b\s*(?:::<|\()"
-                for it in re.finditer(pattern, self.text):
-                    if name not in self.helpers and (it[1] or name in self.brought):
-                        self.named.add((crate, "", name))
-        for it in re.finditer(r"(\w+)(?:::<[^()]*?>)?::(\w+)\b", self.text):
-            self.note(self.library.alias.get(it[1], it[1]), it[2])
-            self.note(it[1], it[2])
-
-    def note(self, subject, name):
-        """Notes a call of a type's function, of the trait that it belongs to, and of the head that does it."""
-        if name in RENAMED and self.file.suffix == ".rs":
-            self.note(subject, RENAMED[name])
-        if (head := self.library.type_in(self.library.fields[subject].get("head", ""), {})):
-            self.note(head, name)
-        for crate, of, it in self.library.calls:
-            if it == name and (of == subject or subject in self.library.implementors[of]):
-                self.named.add((crate, of, name))
-
-    def read_methods(self, fn, home):
-        """Notes the methods that are called in a function."""
-        known = {}
-        for name, of in re.findall(r"(\w+): ([^:]*?)(?=,\s*\w+:|,?\s*$)", fn.params.strip()):
-            known[name] = self.library.type_in(of, fn.bounds, home)
-        body = self.text[fn.at : fn.end]
-        for it in re.finditer(r"\blet (?:mut )?(\w+)(?:: ([^=;]*))? = ([^;]*);", body):
-            known[it[1]] = self.library.type_in(it[2] or "", fn.bounds) or self.of_expression(it[3], known)
-        for it in re.finditer(r"\.(\w+)\s*(?=\(|::<)", body):
-            self.read_call(body, it.start(), it[1], known)
-
-    def read_call(self, body, dot, name, known):
-        """Notes a method that is called after the dot at an index."""
-        having = self.library.having(name)
-        if not having:
-            return
-        subject = self.of_expression(body[:dot], known)
-        if subject:
-            self.note(subject, name)
-            return
-        stem = self.file.stem if self.file.stem != "tests" else self.file.parent.stem
-        own = {it for it in having if self.library.crate_of[it][1].stem == stem or snake(it) == stem}
-        near = own or having & self.types
-        if len(near) == 1:
-            self.note(near.pop(), name)
-
-    def of_expression(self, text, known):
-        """The type of the expression that a text ends with, if it is one of ours."""
-        text = re.sub(r"(?:\?|\.unwrap\(\)|\.clone\(\))+$", "", text.rstrip().rstrip("?")).rstrip()
-        if text.endswith("}") and (it := re.search(r"(\w+)\s*$", text[: closing(text, len(text) - 1, -1)])):
-            return self.library.type_in(it[1], {})
-        if text.endswith(")"):
-            before = text[: closing(text, len(text) - 1, -1)]
-            before = re.sub(r"::<[^()]*>$", "", before)
-            if it := re.search(r"(\w+)(?:::<[^()]*>)?::(\w+)$", before):
-                return self.library.result(self.library.alias.get(it[1], it[1]), it[2])
-            if it := re.search(r"\.(\w+)$", before):
-                return self.library.result(self.of_expression(before[: it.start()], known), it[1])
-            it = re.search(r"(\w+)$", before)
-            if it and it[1] in self.helpers:
-                return self.library.type_in(self.helpers[it[1]].result, self.helpers[it[1]].bounds)
-            if it:
-                return self.library.result("", it[1])
-            return self.of_expression(text[len(before) + 1 : -1], known)
-        it = re.search(r"(\.\s*)?(\w+)$", text)
-        if not it:
-            return ""
-        if not it[1]:
-            return known.get(it[2], "")
-        owner = self.of_expression(text[: it.start()], known)
-        return self.library.type_in(self.library.fields[owner].get(it[2], self.own_fields.get(it[2], "")), {})
+    text = without_aliases(code(text))
+    other = RENAMED if file.suffix == ".rs" else {}
+    types = {library.alias.get(it, it) for it in re.findall(r"\w+", text)}
+    helpers, brought = {fn.name for fn in functions(text)}, words_of_uses(text)
+    paths = {(of, other.get(name, name)) for it, name in re.findall(r"(\w+)(?:::<[^()]*?>)?::(\w+)\b", text)
+             for of in (it, library.alias.get(it, it))}
+    methods = {other.get(it, it) for it in re.findall(r"\.(\w+)\s*(?=\(|::<)", text)}
+    own = {(it[3], fn.name) for it in blocks(text) for fn in functions(text[it[0] : it[1]])}
+    for call in library.calls:
+        subject, name = call[1:]
+        if not subject:
+            found = name not in helpers and re.finditer(rf"(?<![.\w])(\w+::)*{name}\b\s*(?:::<|\()", text)
+            if found and any(it[1] or name in brought for it in found):
+                yield call
+            continue
+        owners = library.owners(subject)
+        is_method = "self" in library.calls[call].params.split(",")[0]
+        is_known = owners & types or sum(it[2] == name for it in library.calls) == 1
+        if (subject, name) in own or any((it, name) in paths for it in owners) or is_method and name in methods and is_known:
+            yield call
 
 
 def without_aliases(text):
@@ -332,10 +240,6 @@ def without_aliases(text):
     for name, target in re.findall(r"^(?:pub )?type (\w+)(?:<[^=]*>)? = (\w+)", text, re.M):
         text = re.sub(rf"\b{name}\b", target, text)
     return text
-
-
-def snake(name):
-    return re.sub(r"(?<=[a-z0-9])([A-Z])", r"_\1", name).lower()
 
 
 def words_of_uses(text):
@@ -387,9 +291,9 @@ def of_rattle():
     named = set()
     for file in sorted(CRATES.glob("*/src/**/*.rt")):
         text = file.read_text() if is_test(file) else doc_examples(file)
-        named |= TestFile(file, text, library).named if text else set()
+        named |= set(named_in(file, text, library))
     for file in [*RUST.glob("tests/**/*.rs"), *RUST.glob("examples/**/*.rs")]:
-        named |= TestFile(file, file.read_text(), library).named
+        named |= set(named_in(file, file.read_text(), library))
     return [it for it in library.calls if not library.is_left_to_users(it[1])], named
 
 

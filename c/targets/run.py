@@ -158,7 +158,7 @@ PC = Way(BARE_X86, "qemu-system-x86_64",
           "isa-debug-exit,iobase=0xf4,iosize=4", "-kernel"))
 PC_STATUS = 33
 # Where the example with an interrupt runs.
-INTERRUPTED = [next(way for way in WAYS if way.target == CORTEX_M4), PC]
+INTERRUPTED = [next(way for way in WAYS if way.target == target) for target in (CORTEX_M4, RISCV_32)] + [PC]
 
 
 class Failed(Exception):
@@ -283,10 +283,11 @@ def stepping(emulator):
     return ["-accel", "tcg,one-insn-per-tb=on"] if "one-insn-per-tb" in said else ["-singlestep"]
 
 
-def interrupted(programs, flags=()):
+def interrupted(programs):
     """What the example with an interrupt prints."""
-    names = ["x86_64.S", "interrupt.c", "x86_64.c"] if programs.way is PC else ["interrupt.c", "cortex_m.c"]
-    sources = [C / "interrupt" / name for name in names]
+    machine, flags = {CORTEX_M4: (["cortex_m.c"], ()), RISCV_32: (["riscv.c"], ["-march=rv32imac_zicsr"]),
+                      BARE_X86: (["x86_64.S", "x86_64.c"], ())}[programs.way.target]
+    sources = [C / "interrupt" / name for name in (*machine, "interrupt.c")]
     return last(programs.run("interrupt", sources, (), flags, stepping(programs.way.emulator[0])))
 
 

@@ -1,9 +1,9 @@
 //! Types that begin again, or give their storage back; and calls of streams that end.
-use net_base::finite::{FiniteReceiver, FiniteReceiverOver, FiniteSender, FiniteSenderOver};
+use net_base::finite::{FiniteReceiver, FiniteSender};
 use net_base::managed::ManagedSlice;
-use net_base::receiver::{Receiver, ReceiverOver};
+use net_base::receiver::Receiver;
 use net_base::scoreboard::Scoreboard;
-use net_base::sender::{Sender, SenderOver};
+use net_base::sender::Sender;
 use net_base::storage::fragment_table::{claim, claim_or_evict, find, find_free, FragmentSlot};
 use net_base::storage::{FragmentBuffer, Full};
 use net_base::tcp::{RetransmissionTimeout, TimeoutBounds};
@@ -42,7 +42,7 @@ fn a_receiver_of_a_stream_that_ends() {
     receiver.remove(3);
     assert!(receiver.has_read_all() && !same.has_read_all());
     receiver.reset_at(7);
-    assert_eq!((receiver.end(), receiver.acknowledged()), (None, 7));
+    assert_eq!((receiver.end(), receiver.acknowledged(), receiver.capacity()), (None, 7, 8));
     assert_eq!(length(receiver.into_storage()), 8);
 }
 
@@ -78,6 +78,9 @@ fn a_scoreboard_and_a_buffer_of_fragments() {
     assert_eq!(board.report(110, 120, 200), Ok(()));
     board.reset_at(7);
     assert_eq!((board.first_unreported(), board.count_beyond()), (7, 0));
+    assert_eq!(board.report(9, 10, 200), Ok(()));
+    board.clear();
+    assert_eq!((board.first_unreported(), board.count_beyond()), (0, 0));
     let mut storage = [0; 8];
     let mut buffer: FragmentBuffer<4> = FragmentBuffer::empty(&mut storage[..], Instant::ZERO);
     assert!(buffer.add(3, b"d").is_ok());
@@ -88,17 +91,6 @@ fn a_scoreboard_and_a_buffer_of_fragments() {
     timer.take_sample(TimeoutBounds { least, most, tick: least }, sample);
     assert_eq!(timer.rtt().map(|it| it.srtt()), Some(sample));
     assert_eq!(timer.timeout(), Duration::from_micros(2_400));
-}
-
-#[test]
-fn types_over_any_storage() {
-    let (mut first, mut second, mut third, mut fourth) = ([0; 2], [0; 2], [0; 2], [0; 2]);
-    let mut receiver = ReceiverOver::<_, 1>::over(&mut first[..]);
-    assert!(receiver.segment(1, b"b").is_ok());
-    let mut finite = FiniteReceiverOver::<_, 1>::over(&mut second[..]);
-    assert!(finite.keep(0, b"a", true).is_ok() && finite.is_complete());
-    assert_eq!(SenderOver::over(&mut third[..]).write(b"abc"), 2);
-    assert_eq!(FiniteSenderOver::over(&mut fourth[..]).write(b"abc"), 2);
 }
 
 #[test]
@@ -119,15 +111,6 @@ fn a_slot_of_a_table_of_fragments() {
     assert_eq!((claim(&mut slots, 7, at), claim_or_evict(&mut slots, 7, at)), (Err(Full), Ok(0)));
     assert_eq!((find(&slots, 8), find(&slots, 9)), (None, Some(1)));
     assert_eq!(claim_or_evict(&mut slots[..0], 7, at), Err(Full));
-}
-
-#[test]
-fn an_end_that_is_counted_is_within_the_window() {
-    let mut storage = [0; 3];
-    let mut receiver: FiniteReceiver<1> = FiniteReceiver::empty_at(&mut storage[..], 0);
-    assert!(receiver.keep(0, b"abc", true).is_ok());
-    assert_eq!((receiver.acknowledged(), receiver.window_end()), (4, Some(4)));
-    assert_eq!((receiver.next(), receiver.window(), receiver.capacity()), (3, 0, 3));
 }
 
 /// Returns what is left of eight bytes `.` after they were a storage.

@@ -1,4 +1,4 @@
-//! Streams that end, as no row shows them: closures, and calls of the receiver of the bytes.
+//! Streams that end, as no row shows them: closures, and what has no number for its end.
 mod support;
 
 use net_base::finite::{FiniteReceiver, FiniteSender};
@@ -18,29 +18,6 @@ fn closures() {
     assert_eq!((it.queued(), it.as_slices()), (4, (&b"cdef"[..], &b""[..])));
     assert_eq!(it.read_with(|part| (part.len(), part[3])), (4, b'f'));
     assert!(it.is_empty() && it.has_read_all());
-}
-
-/// A segment's bytes and an end after them have numbers below `u64::MAX`.
-#[test]
-fn lengths() {
-    let mut storage = [0u8; 8];
-    let last = FiniteReceiver::<2>::empty_at(&mut storage[..], u64::MAX - 1);
-    assert_eq!((last.acknowledged(), last.end()), (u64::MAX - 1, None));
-    let begin = || FiniteReceiver::<2>::empty_at(&mut storage[..], u64::MAX).acknowledged();
-    assert_eq!(message(begin), "no number is left for an end");
-}
-
-/// The storage wraps: what is lent ends there.
-#[test]
-fn wrapped() {
-    let mut storage = [0u8; 4];
-    let mut it = FiniteReceiver::<2>::empty_at(&mut storage[..], 0);
-    assert!(it.keep(0, b"abc", false).is_ok());
-    assert_eq!(it.read_with(|_| (3, ())).0, 3);
-    assert!(it.keep(3, b"def", true).is_ok());
-    assert_eq!(it.read_with(|part| (part.len(), part.to_vec())), (1, b"d".to_vec()));
-    assert_eq!(it.read_with(|part| (part.len(), part.to_vec())), (2, b"ef".to_vec()));
-    assert!(it.has_read_all() && it.held().count() == 0 && it.window() == 4);
 }
 
 /// A stream begins below the last number, which would be its end's.

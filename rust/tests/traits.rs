@@ -17,8 +17,7 @@ use net_base::storage::{
 };
 use net_base::tcp::{
     AdvertisedWindow, Announcement, PartsSum, PeerWindow, RetransmissionTimeout,
-    RetransmissionTimer, SentNumbers,
-    RttEstimate, TimeoutBounds, Transmission,
+    RetransmissionTimer, RttEstimate, TimeoutBounds, Transmission,
 };
 use net_base::time::{Duration, Instant};
 
@@ -134,16 +133,6 @@ fn moments_of_timers() {
     assert_eq!(RetransmissionTimer::from_parts(timeout, timer.expires_at(), timer.timed()), timer);
     let estimate = RttEstimate::from_scaled(u64::MAX, u64::MAX);
     assert_eq!(estimate.scaled(), (1 << 63, 1 << 62));
-}
-
-/// What `start` began, where nothing is on the way, a repeated acknowledgement doesn't end.
-#[test]
-fn a_timer_of_a_shut_window() {
-    let (mut timer, bounds) = (RetransmissionTimer::default(), TimeoutBounds::default());
-    timer.start(Instant::ZERO);
-    let numbers = SentNumbers { first_unacknowledged: 50, sent: 50 };
-    timer.acknowledged(bounds, numbers, 50, Instant::from_millis(10));
-    assert_eq!(timer.expires_at(), Some(Instant::from_millis(1_000)));
 }
 
 #[test]

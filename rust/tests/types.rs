@@ -3,7 +3,7 @@
 #![allow(clippy::clone_on_copy)]
 use std::collections::hash_map::DefaultHasher;
 use std::error::Error;
-use std::fmt::{Debug, Display};
+use std::fmt::Debug;
 use std::hash::{Hash, Hasher};
 use std::sync::Mutex;
 
@@ -49,6 +49,8 @@ fn texts_of_values() {
         "SegmentationCapabilities { tcpv4: None, tcpv6: None }"
     );
     assert_eq!(debug(Rand::new(7)), "Rand { state: 7 }");
+    assert_eq!(debug(SequenceNumber::new(7)), "SequenceNumber { number: 7 }");
+    assert!(debug(PacketMeta::default()).starts_with("PacketMeta { id: 0"));
     assert_eq!(debug(Instant::from_micros(-7)), "Instant { micros: -7 }");
     assert_eq!(debug(Duration::from_micros(7)), "Duration { micros: 7 }");
     assert_eq!(debug(KeptBytes { kept: 3, queued: 2 }), "KeptBytes { kept: 3, queued: 2 }");
@@ -137,6 +139,12 @@ fn comparisons() {
     let kept = |start| Kept { kept: 1, queued: 2, sack: [Some((start, 9)), None, None] };
     all(kept(7), kept(8));
     all(SequenceNumber::new(3), SequenceNumber::new(4));
+    let assembler = |at| {
+        let mut assembler = Assembler::<2>::empty();
+        assert_eq!(assembler.add(at, 1), Ok(()));
+        assembler
+    };
+    all(assembler(3), assembler(4));
     all(Instant::from_micros(3), Instant::from_micros(4));
     all(Duration::from_micros(3), Duration::from_micros(4));
     assert_eq!(
@@ -219,7 +227,7 @@ fn constants() {
     assert_eq!((sender.write(b"ab"), sender.end()), (2, 7));
     assert_eq!(FRAGMENTS.lock().unwrap().add(7, b"ab"), Err(FragmentError::TooLong));
     assert!(ASSEMBLER.is_empty() && FOUR.is_empty() && !SCOREBOARD.contains(0) && SLOTS.len() == 2);
-    assert_eq!((debug(RAND), NUMBER), ("Rand { state: 3 }".into(), 7));
+    assert_eq!((RAND.state(), NUMBER), (3, 7));
     assert_eq!(MOMENTS.map(|it| it.total_micros()), [1, 1_000, 0]);
     assert_eq!(LENGTHS.map(|it| it.total_micros()), [1, 1_000, 1_000_000, u64::MAX]);
     assert_eq!((PARTS, FITS), ([1_234_567, 1_234, 1, 234, 234_567], [true, false]));
@@ -302,13 +310,6 @@ fn lifetimes() {
         kept.insert(part).len()
     });
     assert_eq!((enqueued, kept), (Ok(3), Some(&mut [1, 8, 3][..])));
-}
-
-/// A text under options, and through a `dyn`.
-#[test]
-fn texts_of_moments() {
-    let all: [&dyn Display; 2] = [&Instant::from_millis(-1_500), &Duration::from_millis(1_500)];
-    assert_eq!(all.map(|it| format!("{it:>9}|")), ["-1.-500s|", "1.500s|"]);
 }
 
 /// An array is a storage: of each call of that trait, what it shows and lends.

@@ -32,7 +32,6 @@ pub struct Settings {
     pub capacity: usize,
     pub rest: Duration,
     pub most: Duration,
-    pub trace: Option<String>,
 }
 
 impl Settings {
@@ -46,13 +45,9 @@ impl Settings {
             "out" => false,
             _ => return Err(format!("{direction}: neither in nor out")),
         };
-        let (mut numbers, mut trace) = (NUMBERS.map(|it| it.1), None);
+        let mut numbers = NUMBERS.map(|it| it.1);
         for word in named {
             let (name, value) = word.split_once('=').ok_or(format!("{word}: not NAME=NUMBER"))?;
-            if name == "trace" {
-                trace = Some(value.to_string());
-                continue;
-            }
             let at = NUMBERS.iter().position(|it| it.0 == name);
             let at = at.ok_or(format!("{word}: no such name"))?;
             let number = value.parse().ok().filter(|number| *number <= NUMBERS[at].2);
@@ -77,7 +72,6 @@ impl Settings {
             capacity: capacity as usize,
             rest: Duration::from_micros(rest),
             most: Duration::from_secs(seconds),
-            trace,
         })
     }
 }

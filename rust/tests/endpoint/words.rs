@@ -8,15 +8,15 @@ fn parse(words: &str) -> Result<Settings, String> {
 #[test]
 fn words_that_are_taken() {
     let settings = parse("in a b").ok().unwrap();
-    assert!(settings.incoming && settings.trace.is_none());
+    assert!(settings.incoming);
     assert_eq!((settings.source.as_str(), settings.target.as_str()), ("a", "b"));
     assert_eq!((settings.runs, settings.capacity, settings.seed), (32, 0x4_0000, 1));
     assert_eq!(settings.most.secs(), 120);
     let words = "out a b lost=10000 doubled=2 delayed=3 delay=4 seed=18446744073709551615 runs=4 \
-                 capacity=1 rest=1000000 seconds=0 trace=t";
+                 capacity=1 rest=1000000 seconds=0";
     let settings = parse(words).ok().unwrap();
     let fates = settings.fates;
-    assert!(!settings.incoming && settings.trace.as_deref() == Some("t"));
+    assert!(!settings.incoming);
     assert_eq!((fates.lost, fates.doubled, fates.delayed, fates.longest_delay), (10_000, 2, 3, 4));
     assert_eq!((settings.runs, settings.capacity, settings.seed), (4, 1, u64::MAX));
     assert_eq!((settings.rest.secs(), settings.most.secs()), (1, 0));
