@@ -3,14 +3,12 @@
 
     python3 models/make.py          writes the rows, rust/tests/rows/rows.txt, and the program's tables of net_program_tests
     python3 models/make.py --check  writes nothing, and names each file that is not as the models give it
-    python3 models/make.py --kinds  writes nothing, and prints how many rows there are of each kind
 
 Ends with status 1 if a file differs, or if no case gives some answer to a question of the models (branches.py). If the
 environment names a checkout of smoltcp, SMOLTCP=/path/to/smoltcp, each test that a worked row names has to be there;
 one without tests is status 2.
 """
 import argparse
-import collections
 import os
 import pathlib
 import re
@@ -35,7 +33,7 @@ def text_of(blocks):
 
 
 def given():
-    """The rows of each subject, each file with its text, and a line for each thing that is wrong."""
+    """Each file with its text, and a line for each thing that is wrong."""
     subjects, wrong = cases.drawn()
     program = subjects.pop("words")
     for name, of_subject in subjects.items():
@@ -43,16 +41,7 @@ def given():
         print(f"{name:10} {len(of_subject):4} blocks {rows:6} lines")
     blocks = [block for of_subject in subjects.values() for block in of_subject] + by_hand.drawn()
     print(f"{len(branches.ALL)} questions, {sum(len(each.counts) for each in branches.ALL)} answers")
-    return subjects, {ROWS: text_of(blocks), PROGRAM: tables.text_of(program)}, wrong
-
-
-def print_kinds(subjects):
-    """How many rows there are of each kind: a subject and the first word of a line."""
-    kinds = collections.Counter((name, line.split(" ")[0]) for name, blocks in subjects.items()
-                                for lines, _ in blocks for line in lines[1:])
-    for (name, call), count in sorted(kinds.items()):
-        print(f"{count:6} {name} {call}")
-    print(f"{sum(kinds.values()):6} rows of {len(kinds)} kinds")
+    return {ROWS: text_of(blocks), PROGRAM: tables.text_of(program)}, wrong
 
 
 def unknown_tests():
@@ -81,16 +70,11 @@ def compare(files, writes, wrong):
 
 def main():
     parser = argparse.ArgumentParser(description=__doc__.split("\n")[0])
-    ways = parser.add_mutually_exclusive_group()
-    ways.add_argument("--check", action="store_true")
-    ways.add_argument("--kinds", action="store_true")
+    parser.add_argument("--check", action="store_true")
     arguments = parser.parse_args()
-    subjects, files, wrong = given()
+    files, wrong = given()
     wrong += unknown_tests()
-    if arguments.kinds:
-        print_kinds(subjects)
-    else:
-        compare(files, not arguments.check, wrong)
+    compare(files, not arguments.check, wrong)
     for line in wrong:
         print(line, file=sys.stderr)
     return 1 if wrong else 0

@@ -109,7 +109,7 @@ def of_shim(line, types):
     return found
 
 
-def sites(folder, files, seed):
+def sites(files, seed):
     """A fault of each line that can have one, drawn by the seed: its file, line, kind and text."""
     draw, found = random.Random(seed), []
     for path in files:
@@ -176,7 +176,7 @@ def of_rust(folder, seed):
     sources = sorted(it for it in (crate / "src").rglob("*.rs") if "net_ffi" not in it.parts and it.name not in (
         "lib.rs", "contracts.rs", "rattle.rs", "config.rs"))
     sources.sort(key=lambda it: "proved" not in it.parts)
-    found = sites(folder, sources, seed)
+    found = sites(sources, seed)
     build = ["cargo", "test", "--offline", "--lib", "--tests", "--no-run", "--message-format=json"]
     numbers, said = planted(crate, sources, found, build, os.environ | {
         "CARGO_TARGET_DIR": str(folder / "target"), "CARGO_PROFILE_TEST_OPT_LEVEL": "1", "CARGO_PROFILE_DEV_OPT_LEVEL": "1"})
@@ -189,7 +189,7 @@ def of_c(folder, seed):
     """Plants faults in the shim, and in the exports' erased text. Returns them, those that compile, and C's programs."""
     shim = [folder / "c/src/shim.rs"]
     files = shim + sorted((folder / "rust/src/proved/net_ffi").rglob("*.rs"))
-    found = sites(folder, files, seed)
+    found = sites(files, seed)
     target = folder / "target"
     build = ["cargo", "build", "--release", "--offline", "--message-format=json"]
     numbers, _ = planted(folder / "c", files, found, build, os.environ | {"CARGO_TARGET_DIR": str(target)})

@@ -35,6 +35,7 @@ PACKAGES = {
     "i686-linux-gnu-gcc": "gcc-i686-linux-gnu libc6-dev-i386-cross",
     "aarch64-linux-gnu-gcc": "gcc-aarch64-linux-gnu libc6-dev-arm64-cross",
     "arm-linux-gnueabihf-gcc": "gcc-arm-linux-gnueabihf libc6-dev-armhf-cross",
+    "arm-linux-gnueabihf-g++": "g++-arm-linux-gnueabihf",
     "powerpc-linux-gnu-gcc": "gcc-powerpc-linux-gnu libc6-dev-powerpc-cross",
     "riscv64-linux-gnu-gcc": "gcc-riscv64-linux-gnu libc6-dev-riscv64-cross",
     "arm-none-eabi-gcc": "gcc-arm-none-eabi libnewlib-arm-none-eabi",
@@ -70,7 +71,8 @@ class Way:
 
     def lacking(self):
         """The programs that aren't here: the compiler, which counts as missing where its C library is, and the emulator."""
-        lacking = [program for program in (self.compiler[0], *self.emulator[:1]) if not shutil.which(program)]
+        wanted = (self.compiler[0], *self.emulator[:1], *[self.tool("g++")] * (self.target == ARMV7))
+        lacking = [program for program in wanted if not shutil.which(program)]
         if self.compiler[0] not in lacking and "-nostdlib" not in self.linking:
             specs = next((it[8:] for it in (*self.compiler, *self.linking) if it.startswith("--specs=")), "libc.a")
             found = shell([self.compiler[0], f"-print-file-name={specs}"])[1].strip()
@@ -335,6 +337,13 @@ def tests(programs, generated, options):
         if not programs.run(name, [C / f"programs/{name}.c"]).startswith(f"{name}: "):
             raise Failed(f"programs/{name}.c fails")
         done.append(f"{name}.c")
+    if way.target == ARMV7:
+        words = [way.tool("g++"), "-std=c++17", *FLAGS[1:], "-static", f"-I{C}", C / "programs/wrapper.cpp", programs.library.path]
+        status, said = shell([*words, "-o", programs.folder / "wrapper"])
+        status, said = (status, said) if status else shell([*way.emulator, programs.folder / "wrapper"])
+        if status:
+            raise Failed(f"programs/wrapper.cpp fails: {said[:1500]}")
+        done.append("wrapper.cpp")
     if lines_of_page(programs):
         done.append("the lines of docs/FFI.md")
     said = last(programs.run("sequence", [generated / "sequence.c"], [str(options.calls)]))

@@ -12,8 +12,8 @@ use net_base::scoreboard::Scoreboard;
 use net_base::sender::SenderOver;
 use net_base::sequence_number::SequenceNumber;
 use net_base::storage::{
-    Assembler, Empty, FragmentError, FragmentsOver, Full, PacketMetadata, PacketsOver,
-    RingBuffer, RingOver, TooManyHolesError,
+    Assembler, Empty, FragmentError, FragmentsOver, Full, PacketMetadata, PacketsOver, RingBuffer,
+    RingOver, TooManyHolesError,
 };
 use net_base::tcp::{
     AdvertisedWindow, Announcement, PartsSum, PeerWindow, RetransmissionTimeout,
@@ -108,11 +108,15 @@ fn machines() {
     assert_eq!(PartsSum::default().with(b"ab"), PartsSum::new().with(b"ab"));
     assert_ne!(PeerWindow::of(Announcement { seq: 1, ack: 2, window: 3 }), PeerWindow::default());
     assert_ne!(Transmission::Once(Instant::ZERO), Transmission::Repeated);
-    assert_eq!(RetransmissionTimeout::default(), RetransmissionTimeout::new(Duration::from_secs(1)));
+    assert_eq!(
+        RetransmissionTimeout::default(),
+        RetransmissionTimeout::new(Duration::from_secs(1))
+    );
     let bounds = TimeoutBounds::default();
-    assert_eq!((bounds.least, bounds.most, bounds.tick), (
-        Duration::from_secs(1), Duration::from_secs(60), Duration::from_millis(1)
-    ));
+    assert_eq!(
+        (bounds.least, bounds.most, bounds.tick),
+        (Duration::from_secs(1), Duration::from_secs(60), Duration::from_millis(1))
+    );
     let mut timeout = RetransmissionTimeout::default();
     timeout.acknowledged(bounds, Transmission::Repeated, Instant::ZERO);
     assert_eq!(timeout, RetransmissionTimeout::default());

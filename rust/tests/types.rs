@@ -23,8 +23,8 @@ use net_base::storage::{
     PacketMetadata, PacketsOver, RingBuffer, RingOver, Storage, TooManyHolesError,
 };
 use net_base::tcp::{
-    AdvertisedWindow, Announcement, Arrival, PartsSum, PeerWindow, RetransmissionTimeout, RetransmissionTimer,
-    RttEstimate, Segment, Transmission, MAX_SCALE,
+    AdvertisedWindow, Announcement, Arrival, PartsSum, PeerWindow, RetransmissionTimeout,
+    RetransmissionTimer, RttEstimate, Segment, Transmission, MAX_SCALE,
 };
 use net_base::time::{Duration, Instant};
 
@@ -67,7 +67,10 @@ fn texts_of_values() {
     assert_eq!(debug(segment), text);
     assert_eq!(debug(Arrival::AcknowledgementOnly), "AcknowledgementOnly");
     assert_eq!(debug(PartsSum::new()), "PartsSum { sum: 0, odd: false }");
-    assert_eq!(debug(RttEstimate::first(Duration::from_micros(4))), "RttEstimate { srtt_8: 32, rttvar_4: 8 }");
+    assert_eq!(
+        debug(RttEstimate::first(Duration::from_micros(4))),
+        "RttEstimate { srtt_8: 32, rttvar_4: 8 }"
+    );
     assert_eq!(
         debug(RetransmissionTimeout::new(Duration::from_micros(5))),
         "RetransmissionTimeout { estimate: None, timeout: Duration { micros: 5 } }"

@@ -436,7 +436,6 @@ OWN = {
     "Rattle.net_base.specs.declared.storage.fragments.FragmentError.TheVariants": "TooLong OtherSize TooManyHoles",
     "Rattle.net_ffi.specs.Results": "done_or_many length_or_many done_or_error done_or_report_error IsStatus",
 }
-SYMBOL = re.compile(r"◌?([^\w◌\s(){},;]+)◌?")
 
 
 def is_cited(name, text):
