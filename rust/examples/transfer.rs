@@ -84,6 +84,8 @@ impl Source {
             self.recovery.next_segment(numbers, &self.scoreboard, limit, self.window, SIZE)
         {
             let (bytes, is_last) = self.sender.send_at(start, end);
+            // Fewer than asked for where the storage ends.
+            let end = start + bytes.len() as u64 + u64::from(is_last);
             path.send(now, Datagram::Text(start, bytes.to_vec(), is_last));
             self.recovery.sent(numbers, start..end);
             self.timer.sent(start..end, numbers, now);

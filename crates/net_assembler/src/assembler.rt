@@ -635,7 +635,7 @@ impl<'a> Model for HoleIter<'a> {
 }
 
 impl<'a> HoleIter<'a> {
-    /// Returns the holes before these runs, the first of which begins at `from`.
+    /// Returns the hole before each of these runs. The first hole begins at `from`.
     #[inline]
     pub(crate) fn before(runs: RunIter<'a>, from: usize) -> Self
         requires { IsRising (from + 1) runs }

@@ -62,7 +62,8 @@ impl<S: Storage<u8>, const N: usize> Model for FiniteReceiverOver<S, N> {
         × IsCanonical a.head.receiver.held };
 }
 
-/// Written by hand, so that storage that isn't `Drop` can be used too.
+/// Written by hand, so that storage that isn't `Drop` can be used too. No clause is about it, and Rust's text never
+/// calls it: rustc drops the fields.
 impl<S: Storage<u8> + Drop, const N: usize> Drop for FiniteReceiverOver<S, N> {
     fn drop(self) {
         let FiniteReceiverOver {
@@ -94,7 +95,7 @@ impl<S: Storage<u8>, const N: usize> FiniteReceiverOver<S, N> {
     ///
     /// # Requires
     ///
-    /// `first` is not the greatest number of 64 bits.
+    /// `first` is not the greatest number of 64 bits: an end there would have no number after it.
     #[must_use]
     #[track_caller]
     pub const fn over_at(storage: S, first: u64) -> Self
@@ -170,7 +171,7 @@ impl<S: Storage<u8>, const N: usize> FiniteReceiverOver<S, N> {
     ///
     /// # Requires
     ///
-    /// `first` is not the greatest number of 64 bits.
+    /// `first` is not the greatest number of 64 bits: an end there would have no number after it.
     #[track_caller]
     pub fn reset_at(&mut self, first: u64)
         requires { first < no_end }

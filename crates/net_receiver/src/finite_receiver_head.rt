@@ -58,7 +58,7 @@ impl FiniteReceiverHead {
     ///
     /// # Requires
     ///
-    /// `first` is not the greatest number of 64 bits.
+    /// `first` is not the greatest number of 64 bits: an end there would have no number after it.
     pub const fn new(first: u64) -> Self
         requires { first < no_end }
         ensures sound { (storage : List ℕ) (runs : List (ℕ × ℕ)) → HasSoundFinite result storage runs }
@@ -78,7 +78,7 @@ impl FiniteReceiverHead {
     ///
     /// # Requires
     ///
-    /// `first` is not the greatest number of 64 bits.
+    /// `first` is not the greatest number of 64 bits: an end there would have no number after it.
     #[inline]
     pub fn reset_at(&mut self, first: u64)
         requires { first < no_end }

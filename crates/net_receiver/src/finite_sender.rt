@@ -52,7 +52,8 @@ impl<S: Storage<u8>> Model for FiniteSenderOver<S> {
     ghost invariant = { λ s. IsSoundFiniteSender (length (S.elements s.storage)) s.head };
 }
 
-/// Written by hand, so that storage that isn't `Drop` can be used too.
+/// Written by hand, so that storage that isn't `Drop` can be used too. No clause is about it, and Rust's text never
+/// calls it: rustc drops the fields.
 impl<S: Storage<u8> + Drop> Drop for FiniteSenderOver<S> {
     fn drop(self) {
         let FiniteSenderOver { head: _, storage } = self;
@@ -126,7 +127,7 @@ impl<S: Storage<u8>> FiniteSenderOver<S> {
     ///
     /// # Requires
     ///
-    /// `first` is not the greatest number of 64 bits.
+    /// `first` is not the greatest number of 64 bits: an end there would have no number after it.
     #[track_caller]
     pub fn reset_at(&mut self, first: u64)
         requires { first < no_end }

@@ -83,7 +83,7 @@ impl SenderHead {
     ///
     /// # Requires
     ///
-    /// The head is sound for such a storage.
+    /// The head is sound for a storage of `capacity` bytes.
     #[inline]
     pub fn room(&self, capacity: usize) -> usize
         requires { IsSoundHead capacity self.now }
@@ -122,7 +122,7 @@ impl SenderHead {
     ///
     /// # Requires
     ///
-    /// The head is sound for such a storage.
+    /// The head is sound for a storage of `capacity` bytes.
     #[inline]
     pub fn peek_at(&self, capacity: usize, pos: u64, max: usize) -> Span
         requires { IsSoundHead capacity self.now }
@@ -164,7 +164,7 @@ impl SenderHead {
     ///
     /// # Requires
     ///
-    /// The head is sound for such a storage.
+    /// The head is sound for a storage of `capacity` bytes.
     #[inline]
     pub fn acknowledge(&mut self, capacity: usize, next: u64) -> bool
         requires { IsSoundHead capacity self.old }
@@ -225,7 +225,7 @@ impl SenderHead {
     ///
     /// # Requires
     ///
-    /// The head is sound for such a storage.
+    /// The head is sound for a storage of `capacity` bytes.
     #[inline]
     pub fn acknowledge_sent(&mut self, capacity: usize, next: u64, sent: u64) -> bool
         requires { IsSoundHead capacity self.old }

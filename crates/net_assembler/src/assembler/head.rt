@@ -40,7 +40,8 @@ use crate::width::most;
 pub struct AssemblerHead {
     /// How many runs are stored.
     pub used: usize,
-    /// The position at which the first run starts, or 0 if there is none.
+    /// The position at which the first run starts. Where there is none it has no meaning, and is 0 if the head is
+    /// canonical.
     pub first_start: usize,
 }
 
@@ -363,7 +364,7 @@ impl AssemblerHead {
         if self.first_start > 0 {
             return HoleIter::before(rest, 0);
         }
-        // No hole is before a run at 0.
+        // No hole is before a run at 0, nor where there is no run.
         match rest.next() {
             Some((_, end)) => HoleIter::before(rest, end),
             None => HoleIter::before(rest, 0),

@@ -1,4 +1,5 @@
-//! A device that receives what it sends.
+//! A device that receives what it sends. Rust's is by hand, in `rust/src/phy/loopback.rs`, and the examples here are
+//! of that one.
 
 ghost use Rattle.std.specs.Prelude.{◌≡◌, ℕ, List, [], ◌∷◌, ◌++◌, MatchOption};
 ghost use Rattle.std.proofs.Common.{ap};

@@ -9,7 +9,8 @@ ghost use Rattle.net_base.specs.Values.{ClonesAreSame};
 use crate::time::{Duration, Instant};
 use std::fmt::Display;
 
-/// Returns the origin of moments, no time and the greatest length: 0, 0 and 2^64 - 1 microseconds.
+/// Returns the origin of moments, no time and the greatest length: 0, 0 and 2^64 - 1 microseconds. A constant has no
+/// contract: this is theirs.
 pub fn constants() -> (Instant, Duration, Duration)
     ensures { result ≡ (pos 0, 0, 2 ^ 64 - 1) }
 {
