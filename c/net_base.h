@@ -447,7 +447,9 @@ size_t net_base_packets_take_slot(
 struct net_base_assembler {
     /** How many runs are stored. */
     size_t used;
-    /** The position at which the first run starts, or 0 if there is none. */
+    /** The position at which the first run starts. Where there is none it has no meaning, and is 0
+     * if the head is canonical.
+     */
     size_t first_start;
 };
 
@@ -1196,7 +1198,7 @@ bool net_base_finite_sender_numbers_end(
     const struct net_base_finite_sender *sender, size_t capacity, uint64_t *number);
 
 /** Returns how many bytes `net_base_finite_sender_write` would take: none once the sender is
- * closed. The last number, 2^64 - 1, is kept for the end.
+ * closed. The number 2^64 - 2 is kept for the end, which has one after it.
  *
  * It is refused if `capacity` is `NET_BASE_NONE`, or if `sender` isn't that of a sender over
  * `capacity` bytes: `NET_BASE_NONE`.

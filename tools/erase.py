@@ -27,8 +27,8 @@ RULES = '''\
 5. Before the paths `crate`, `std` and those of crates there is the module where Rust has them.
 6. An impl of `Drop` or `Clone` is one of the traits of these names in `rattle.rs`, of which the first isn't called, since
    rustc drops fields by itself, and the second is called by Rust's `Clone`. A bound by `Drop` is one by `Sized`.
-7. A public function whose signature names a head is one of its crate. An export is no function of C's, is `inline(always)`,
-   and has no documentation.
+7. A public function whose signature names a head becomes `pub(crate)`. An export loses `extern "C"` and its
+   documentation, and becomes `inline(always)`.
 8. `erase_list.py` has what else differs, with its files and how often: lifetimes, attributes, and types.
 9. All other tokens stay, in their order, and no word of contracts is left. Each file begins with an import of
    `rattle::prelude`, where `prove!` is `assert!`, tested when a program is compiled if it is about `N`, and in debug

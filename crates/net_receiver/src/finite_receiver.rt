@@ -62,8 +62,7 @@ impl<S: Storage<u8>, const N: usize> Model for FiniteReceiverOver<S, N> {
         × IsCanonical a.head.receiver.held };
 }
 
-/// Written by hand, so that storage that isn't `Drop` can be used too. No clause is about it, and Rust's text never
-/// calls it: rustc drops the fields.
+/// Written by hand, so that storage that isn't `Drop` can be used too.
 impl<S: Storage<u8> + Drop, const N: usize> Drop for FiniteReceiverOver<S, N> {
     fn drop(self) {
         let FiniteReceiverOver {

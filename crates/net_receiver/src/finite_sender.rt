@@ -52,8 +52,7 @@ impl<S: Storage<u8>> Model for FiniteSenderOver<S> {
     ghost invariant = { λ s. IsSoundFiniteSender (length (S.elements s.storage)) s.head };
 }
 
-/// Written by hand, so that storage that isn't `Drop` can be used too. No clause is about it, and Rust's text never
-/// calls it: rustc drops the fields.
+/// Written by hand, so that storage that isn't `Drop` can be used too.
 impl<S: Storage<u8> + Drop> Drop for FiniteSenderOver<S> {
     fn drop(self) {
         let FiniteSenderOver { head: _, storage } = self;

@@ -56,8 +56,7 @@ impl<S: Storage<u8>> Model for SenderOver<S> {
     ghost invariant = { λ s. IsSoundHead (length (S.elements s.storage)) s.head };
 }
 
-/// Written by hand, so that storage that isn't `Drop` can be used too. No clause is about it, and Rust's text never
-/// calls it: rustc drops the fields.
+/// Written by hand, so that storage that isn't `Drop` can be used too.
 impl<S: Storage<u8> + Drop> Drop for SenderOver<S> {
     fn drop(self) {
         let SenderOver { head: _, storage } = self;

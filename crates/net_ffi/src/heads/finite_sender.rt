@@ -103,7 +103,7 @@ pub extern "C" fn net_base_finite_sender_numbers_end(
 }
 
 /// Returns how many bytes `net_base_finite_sender_write` would take: none once the sender is
-/// closed. The last number, 2^64 - 1, is kept for the end.
+/// closed. The number 2^64 - 2 is kept for the end, which has one after it.
 ///
 /// It is refused if `capacity` is `NET_BASE_NONE`, or if `sender` isn't that of a sender over
 /// `capacity` bytes: `NET_BASE_NONE`.

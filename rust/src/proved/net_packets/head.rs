@@ -4,6 +4,8 @@
 //! [`PacketsOver`](crate::proved::net_packets::PacketsOver) places packets by the rule here. A caller that has slots and bytes
 //! elsewhere, as a program in C, calls these functions with the number of slots, or the slots, and with
 //! the number of bytes.
+//!
+//! What is `#[inline]` was chosen by counted instructions and bytes (docs/PERFORMANCE.md); no clause is about it.
 
 use crate::rattle::prelude::*;
 use crate::proved::net_packets::packet_slot::PacketSlot;
@@ -154,7 +156,8 @@ impl PacketsHead {
         done.gap == 0 && done.offset == self.bytes.length
     }
 
-    /// Returns how far the test has come after a slot, if that can follow.
+    /// Returns how far the test has come after a slot, if that can follow. A gap can't follow a gap, has bytes, and
+    /// ends at the storage's end; a packet ends there or before.
     #[inline]
     fn progress(self, capacity: usize, done: Progress, slot: &PacketSlot) -> Option<Progress> {
         if slot.size > self.bytes.length - done.offset - done.gap {

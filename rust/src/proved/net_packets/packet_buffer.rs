@@ -179,7 +179,7 @@ impl<H, M: Storage<PacketMetadata<H>>, B: Storage<u8>> PacketsOver<H, M, B> {
         self.head.slots.length
     }
 
-    /// Returns how many packets the queue has. It looks at every slot, to leave out the gaps. smoltcp has
+    /// Returns how many packets the queue has. It looks at each slot in use, to leave out the gaps. smoltcp has
     /// no such call.
     ///
     /// ```

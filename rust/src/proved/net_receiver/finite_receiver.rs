@@ -65,7 +65,7 @@ impl<S: Storage<u8>, const N: usize> FiniteReceiverOver<S, N> {
     ///
     /// # Panics, unless
     ///
-    /// `first` is not the greatest number of 64 bits.
+    /// `first` is not the greatest number of 64 bits: an end there would have no number after it.
     #[must_use]
     #[track_caller]
     pub const fn over_at(storage: S, first: u64) -> Self {
@@ -126,7 +126,7 @@ impl<S: Storage<u8>, const N: usize> FiniteReceiverOver<S, N> {
     ///
     /// # Panics, unless
     ///
-    /// `first` is not the greatest number of 64 bits.
+    /// `first` is not the greatest number of 64 bits: an end there would have no number after it.
     #[track_caller]
     pub fn reset_at(&mut self, first: u64) {
         prove!(first < u64::MAX, "no number is left for an end");

@@ -40,7 +40,7 @@ impl FiniteReceiverHead {
     ///
     /// # Panics, unless
     ///
-    /// `first` is not the greatest number of 64 bits.
+    /// `first` is not the greatest number of 64 bits: an end there would have no number after it.
     pub const fn new(first: u64) -> Self {
         FiniteReceiverHead {
             receiver: ReceiverHead::new(first),
@@ -53,7 +53,7 @@ impl FiniteReceiverHead {
     ///
     /// # Panics, unless
     ///
-    /// `first` is not the greatest number of 64 bits.
+    /// `first` is not the greatest number of 64 bits: an end there would have no number after it.
     #[inline]
     pub fn reset_at(&mut self, first: u64) {
         *self = FiniteReceiverHead::new(first);

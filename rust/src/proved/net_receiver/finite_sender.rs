@@ -92,7 +92,7 @@ impl<S: Storage<u8>> FiniteSenderOver<S> {
     ///
     /// # Panics, unless
     ///
-    /// `first` is not the greatest number of 64 bits.
+    /// `first` is not the greatest number of 64 bits: an end there would have no number after it.
     #[track_caller]
     pub fn reset_at(&mut self, first: u64) {
         prove!(first < u64::MAX, "no number is left for an end");

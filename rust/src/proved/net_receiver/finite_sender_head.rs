@@ -28,7 +28,7 @@ impl FiniteSenderHead {
     ///
     /// # Panics, unless
     ///
-    /// `first` is not the greatest number of 64 bits.
+    /// `first` is not the greatest number of 64 bits: an end there would have no number after it.
     pub const fn new(first: u64) -> Self {
         FiniteSenderHead {
             sender: SenderHead::new(first),
@@ -73,8 +73,8 @@ impl FiniteSenderHead {
         self.sender.end() + self.closed
     }
 
-    /// Returns how many bytes `write` would take: none once the sender is closed. The last number,
-    /// 2^64 - 1, is kept for the end.
+    /// Returns how many bytes `write` would take: none once the sender is closed. The number 2^64 - 2 is
+    /// kept for the end, which has one after it.
     #[inline]
     pub fn room(&self, capacity: usize) -> usize {
         if self.closed != 0 {

@@ -61,7 +61,7 @@ impl SenderHead {
     ///
     /// # Panics, unless
     ///
-    /// The head is sound for such a storage.
+    /// The head is sound for a storage of `capacity` bytes.
     #[inline]
     pub fn room(&self, capacity: usize) -> usize {
         let free = (capacity - self.place.length) as u64;
@@ -85,7 +85,7 @@ impl SenderHead {
     ///
     /// # Panics, unless
     ///
-    /// The head is sound for such a storage.
+    /// The head is sound for a storage of `capacity` bytes.
     #[inline]
     pub fn peek_at(&self, capacity: usize, pos: u64, max: usize) -> Span {
         laws::matches_stream();
@@ -105,7 +105,7 @@ impl SenderHead {
     ///
     /// # Panics, unless
     ///
-    /// The head is sound for such a storage.
+    /// The head is sound for a storage of `capacity` bytes.
     #[inline]
     pub fn acknowledge(&mut self, capacity: usize, next: u64) -> bool {
         if !is_acknowledgeable(self.first_unacknowledged, self.end(), next) {
@@ -146,7 +146,7 @@ impl SenderHead {
     ///
     /// # Panics, unless
     ///
-    /// The head is sound for such a storage.
+    /// The head is sound for a storage of `capacity` bytes.
     #[inline]
     pub fn acknowledge_sent(&mut self, capacity: usize, next: u64, sent: u64) -> bool {
         if next > sent || sent > self.end() {

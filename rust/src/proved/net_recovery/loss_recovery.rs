@@ -8,8 +8,8 @@ use crate::rattle::std::ops::Range;
 /// How many runs above a position tell that it is lost (RFC 6675's DupThresh).
 const DUPLICATES: usize = 3;
 
-/// What a sender of TCP sends next where segments are lost, by RFC 6675: first what is lost, then what was
-/// never sent, and last what may be lost.
+/// What a sender of TCP sends next where segments are lost, by rules 1 to 3 of RFC 6675's `NextSeg`: first what is
+/// lost, then what was never sent, and last what may be lost. Its rule 4, a rescue retransmission, isn't here.
 ///
 /// It knows no bytes: it reads the sender's numbers, the scoreboard, and a limit, which the peer's window
 /// sets. A recovery begins when a loss is found or when the timer has expired, and lasts until all is
@@ -31,7 +31,7 @@ const DUPLICATES: usize = 3;
 /// let next = recovery.next_segment(numbers, &scoreboard, 1000, 500, 100);
 /// assert_eq!(next, Some((0, 100)));
 /// recovery.sent(numbers, 0..100);
-/// // Of 400 bytes no one knows anything yet, and 100 were sent again.
+/// // 400 bytes are neither reported nor lost, and 100 that are lost were sent again.
 /// assert_eq!(recovery.in_flight(numbers, &scoreboard), 500);
 /// assert_eq!(recovery.next_segment(numbers, &scoreboard, 1000, 500, 100), None);
 /// assert_eq!(recovery.next_segment(numbers, &scoreboard, 1000, 600, 100), Some((800, 900)));
@@ -46,7 +46,8 @@ pub struct LossRecovery {
     lost: u64,
     // What is lost below this position was sent again.
     again: u64,
-    // All that was sent when something was sent again last ended here.
+    // The number after the last one that was sent, when the recovery began, or something was last sent again or found
+    // lost again.
     sent: u64,
 }
 
@@ -69,10 +70,11 @@ impl LossRecovery {
     }
 
     /// Finds what is lost, by the rule of RFC 6675, section 4, as `Scoreboard::lost_below` says it for 3 runs.
-    /// Call it after each acknowledgement, of which the scoreboard knows. What was sent again is lost again
-    /// if more than two segments of what was sent after it were reported.
+    /// Call it after each acknowledgement, with the sender's numbers after it, once the scoreboard has it. What was
+    /// sent again is lost again once a position is reported more than two segments above all that was sent when
+    /// something was last sent again.
     ///
-    /// Returns whether a recovery begins with it: then a caller halves its congestion window.
+    /// Returns whether this call begins a recovery: then halve the congestion window.
     pub fn find_losses<const N: usize>(
         &mut self,
         numbers: SentNumbers,
@@ -110,8 +112,8 @@ impl LossRecovery {
         };
     }
 
-    /// Returns how many positions may be in flight (RFC 6675's pipe): of those which were sent and aren't
-    /// reported, the ones that aren't lost, and the ones that were sent again.
+    /// Returns how many positions may be in flight: of those which were sent and aren't reported, the ones that
+    /// aren't lost or were sent again. RFC 6675's pipe counts twice what was sent again and isn't lost.
     #[must_use]
     pub fn in_flight<const N: usize>(&self, numbers: SentNumbers, scoreboard: &Scoreboard<N>) -> u64 {
         let first = numbers.first_unacknowledged;
@@ -122,13 +124,13 @@ impl LossRecovery {
         sent_again + missing_between(scoreboard, self.lost.max(first), numbers.sent)
     }
 
-    /// Returns what to send next, as a start and an end, the end not included, at most a segment: what is
-    /// lost and wasn't sent again; else what was never sent; else what is below a reported position and
-    /// wasn't sent again. It is below `limit`, as `PeerWindow::send_limit` returns it. A `segment_size` of 0
+    /// Returns what to send next, as a start and an end, the end not included, at most a segment. In a
+    /// recovery that is what is lost and wasn't sent again; else what was never sent; else what is below a
+    /// reported position and wasn't sent again. Outside of one it is what was never sent. It is below `limit`, as `PeerWindow::send_limit` returns it. A `segment_size` of 0
     /// counts as 1.
     ///
-    /// `None` if there is nothing, or if it isn't the first unacknowledged number, and with a whole segment
-    /// more than `window` positions would be in flight.
+    /// `None` if there is nothing to send, or if with a whole segment more than `window` positions, the
+    /// congestion window, would be in flight. The first unacknowledged number is sent whatever is in flight.
     ///
     /// # [Guarantees](crate#guarantees)
     ///
@@ -175,7 +177,8 @@ impl LossRecovery {
         scoreboard.next_hole(from, scoreboard.highest_reported().min(limit))
     }
 
-    /// Takes notice that these positions are sent now. `numbers` are the sender's before that. Nothing
+    /// Takes notice that these positions are sent now: those of `next_segment`, or fewer from its start on. All
+    /// that is lost below their end then counts as sent again. `numbers` are the sender's before that. Nothing
     /// changes outside of a recovery, or if none of them was sent before.
     pub fn sent(&mut self, numbers: SentNumbers, positions: Range<u64>) {
         if self.is_active(numbers) && positions.start < positions.end.min(numbers.sent) {

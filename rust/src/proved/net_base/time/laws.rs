@@ -4,7 +4,8 @@ use crate::rattle::prelude::*;
 use crate::proved::net_base::time::{Duration, Instant};
 use crate::rattle::std::fmt::Display;
 
-/// Returns the origin of moments, no time and the greatest length: 0, 0 and 2^64 - 1 microseconds.
+/// Returns the origin of moments, no time and the greatest length: 0, 0 and 2^64 - 1 microseconds. A constant has no
+/// contract: this is theirs.
 pub fn constants() -> (Instant, Duration, Duration) {
     (Instant::ZERO, Duration::ZERO, Duration::MAX)
 }
