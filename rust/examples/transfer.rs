@@ -9,7 +9,7 @@ use net_base::time::{Duration, Instant};
 
 /// The most bytes of a datagram.
 const SIZE: usize = 100;
-const CAPACITY: usize = 4_000;
+const CAPACITY: usize = 4_096;
 const BOUNDS: TimeoutBounds = TimeoutBounds {
     least: Duration::from_millis(50),
     most: Duration::from_secs(10),
