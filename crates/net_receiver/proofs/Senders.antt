@@ -10,7 +10,7 @@ use Rattle.net_receiver.specs.{MatchesStream, MatchesWhatIsThere, sender_state, 
 use Rattle.net_receiver.specs.{with_written, sender_from, sender_of, MatchesLonger, FiniteSenderState, first_number}
 use Rattle.net_receiver.specs.{numbers_end, finite_room, finite_sender_of, with_bytes, open_room, has_end_at, accepts}
 use Rattle.net_receiver.specs.{acknowledged_below, SenderCommand, Writes, Closes, Marks, Acknowledges, written_of}
-use Rattle.net_receiver.specs.{sender_after_command, sender_after_commands, bytes_written, IsSoundSent}
+use Rattle.net_receiver.specs.{sender_after_command, sender_after_commands, bytes_written, IsLent, IsSoundSent}
 use Rattle.net_receiver.specs.{FreshSentIsSound, SoundSentStays, ClosedStays, LentIsOfStream, MatchesFinite}
 use Rattle.net_receiver.specs.{next_position, ReceivesFrom, fresh_finite, acknowledged, fresh_finite_sender}
 use Rattle.net_receiver.specs.{FiniteCommand, Arrives, Reads, CommandMatches, finite_after_commands}
@@ -204,12 +204,9 @@ closed_stays s (c ∷ cs) f w sound sends =
     )
 
 -- ---- what is lent
--- a segment from pos on, of numbers below limit
-pub record IsLent (s : FiniteSenderState) (pos limit : ℕ) (xs : List ℕ) (last : Bool) : Type 0 where
-  pub value : xs ≡ take (length xs) (drop (pos - s.sender.first_unacknowledged) s.sender.queue)
-  pub count : s.sender.first_unacknowledged ≤ pos → length xs ≡ min (limit - pos) (contiguous_end s.sender pos - pos)
-  pub before : pos < s.sender.first_unacknowledged → xs ≡ []
-  pub end : IsTrue last ↔ ((s.closed ≡ 1) × (pos + length xs ≡ end_of s.sender) × (pos + length xs < limit) × (s.finished ≡ 0))
+-- a segment from pos on, of numbers below limit, is one of what was written
+pub record Lends (s : FiniteSenderState) (pos limit : ℕ) (xs : List ℕ) (last : Bool) : Type 0 where
+  pub is : IsLent s pos limit xs last
   pub says : (f : ℕ) (w : List ℕ) → Sends f w s.sender → s.sender.first_unacknowledged ≤ pos → MatchesFinite f w pos xs last
 
 -- it is one if the head says so of the storage
@@ -220,17 +217,19 @@ pub lent_of : (h : FiniteSenderHead) (storage : List ℕ) (v : FiniteSenderState
     (pos < h.sender.first_unacknowledged → n ≡ 0) →
     (IsTrue last ↔ ((h.closed ≡ 1) × (pos + n ≡ h.sender.first_unacknowledged + h.sender.place.length) × (pos + n < limit) × (h.finished ≡ 0))) →
     (h.sender.first_unacknowledged ≤ pos → (f : ℕ) (w : List ℕ) → Sends f w (sender_of h.sender storage) →
-    MatchesFinite f w pos (take n (drop from storage)) last) → IsLent v pos limit now last
+    MatchesFinite f w pos (take n (drop from storage)) last) → Lends v pos limit now last
 lent_of h storage v pos limit from n last now is place long shown bytes count before end says =
     let queued = length-queue (ring_at storage h.sender.place) place in
-    subst (λ o. IsLent o pos limit now last) is (record {
-      value = shown ∙ bytes ∙ ap (λ k. take k (drop (pos - h.sender.first_unacknowledged) (queue (ring_at storage h.sender.place)))) (sym long);
-      count = λ low. long ∙ count low;
-      before = λ below. nil_from_length now (long ∙ before below);
-      end = (
-        λ on. (let at = end.0 on in (at.0, omega (arith, at.1, long, queued), omega (arith, at.2, long), at.3)),
-        λ at. end.1 (at.0, omega (arith, at.1, long, queued), omega (arith, at.2, long), at.3),
-      );
+    subst (λ o. Lends o pos limit now last) is (record {
+      is = record {
+        value = shown ∙ bytes ∙ ap (λ k. take k (drop (pos - h.sender.first_unacknowledged) (queue (ring_at storage h.sender.place)))) (sym long);
+        count = λ low. long ∙ count low;
+        before = λ below. nil_from_length now (long ∙ before below);
+        end = (
+          λ on. (let at = end.0 on in (at.0, omega (arith, at.1, long, queued), omega (arith, at.2, long), at.3)),
+          λ at. end.1 (at.0, omega (arith, at.1, long, queued), omega (arith, at.2, long), at.3),
+        );
+      };
       says = λ f w s low. subst (λ ys. MatchesFinite f w pos ys last) (sym shown) (says low f w s);
     })
 
@@ -260,6 +259,13 @@ module _ (s : FiniteSenderState) (pos limit : ℕ) (xs : List ℕ) where
   lent_beyond false lent above = (nil_from_length xs (omega (arith, lent_below false lent)), refl)
   lent_beyond true lent above = (let at = lent.end.0 refl in absurd (omega (arith, at.0, at.1)))
 
+  pub lent_some : (last : Bool) → IsLent s pos limit xs last → s.sender.first_unacknowledged ≤ pos → pos < end_of s.sender →
+      pos < limit → 0 < length xs
+  lent_some last lent from below room = let count = lent.count from in grind (arith, nat_tests, count)
+
+  pub lent_written : (last : Bool) → IsLent s pos limit xs last → pos ≤ end_of s.sender → pos + length xs ≤ end_of s.sender
+  lent_written last lent low = omega (arith, lent_below last lent)
+
 -- a segment of what was written is one of what is written in all: only the last one ends it
 pub matches_later : MatchesLonger → (f : ℕ) (w more : List ℕ) (pos : ℕ) (xs : List ℕ) (last : Bool) → (IsTrue last → more ≡ []) →
     MatchesFinite f w pos xs last → MatchesFinite f (w ++ more) pos xs last
@@ -269,11 +275,11 @@ matches_later says f w more pos xs last none m = record {
 }
 
 -- so what is lent is a segment of what is written in all
-pub lent_later : MatchesLonger → (s : FiniteSenderState) (pos limit : ℕ) (xs : List ℕ) (last : Bool) → IsLent s pos limit xs last →
+pub lent_later : MatchesLonger → (s : FiniteSenderState) (pos limit : ℕ) (xs : List ℕ) (last : Bool) → Lends s pos limit xs last →
     (f : ℕ) (w more : List ℕ) → Sends f w s.sender → s.sender.first_unacknowledged ≤ pos → (s.closed ≡ 1 → more ≡ []) →
     MatchesFinite f (w ++ more) pos xs last
 lent_later longer s pos limit xs last lent f w more sends from ended =
-    matches_later longer f w more pos xs last (λ on. ended (lent.end.0 on).0) (lent.says f w sends from)
+    matches_later longer f w more pos xs last (λ on. ended (lent.is.end.0 on).0) (lent.says f w sends from)
 
 longer : MatchesLonger
 unfolding MatchesStream

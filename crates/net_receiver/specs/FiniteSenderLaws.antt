@@ -1,15 +1,24 @@
 -- The laws of a sender of a stream that ends.
 --     SenderCommand      bytes are written, the sender is closed, numbers are sent, or an acknowledgement arrives
 --     sender_after_commands s cs, bytes_written s cs      what they leave, and the bytes that were taken
+--     IsLent s pos limit xs last      what a sender lends from pos on, of numbers below limit
 --     IsSoundSent s      what is true of every sender
 -- The others are laws.
 use Rattle.std.specs.Prelude.{◌≡◌, ℕ, ◌+◌, ◌-◌, ◌<◌, ◌≤◌, max, min, if◌then◌else◌, nat_le, List, [], ◌∷◌, ◌++◌}
-use Rattle.std.specs.Prelude.{length, take, drop}
-use Rattle.net_receiver.specs.SenderState.{end_of, Sends}
+use Rattle.std.specs.Prelude.{length, take, drop, Bool, IsTrue, ◌↔◌}
+use Rattle.net_receiver.specs.SenderState.{end_of, contiguous_end, Sends}
 use Rattle.net_receiver.specs.FiniteSender.{FiniteSenderState, fresh_finite_sender, first_number, numbers_end}
 use Rattle.net_receiver.specs.FiniteSender.{finite_room, with_bytes, closed_sender, has_end_at, accepts}
 use Rattle.net_receiver.specs.FiniteSender.{acknowledged_below}
 use Rattle.net_receiver.specs.FiniteLaws.{MatchesFinite}
+
+-- the bytes from pos on that are queued, contiguous and below limit, and whether the end follows, below it too
+pub record IsLent (s : FiniteSenderState) (pos limit : ℕ) (xs : List ℕ) (last : Bool) : Type 0 where
+  pub value : xs ≡ take (length xs) (drop (pos - s.sender.first_unacknowledged) s.sender.queue)
+  pub count : s.sender.first_unacknowledged ≤ pos → length xs ≡ min (limit - pos) (contiguous_end s.sender pos - pos)
+  pub before : pos < s.sender.first_unacknowledged → xs ≡ []
+  pub end : IsTrue last
+      ↔ ((s.closed ≡ 1) × (pos + length xs ≡ end_of s.sender) × (pos + length xs < limit) × (s.finished ≡ 0))
 
 -- commands
 pub data SenderCommand : Type 0 where

@@ -1,12 +1,12 @@
 //! A sender of a stream that ends.
-ghost use Rattle.std.specs.Prelude.{◌≡◌, ◌↔◌, ◌+◌, ◌-◌, ◌<◌, ◌≤◌, ◌==◌, ◌++◌, ℕ, List, []};
+ghost use Rattle.std.specs.Prelude.{◌≡◌, ◌↔◌, ◌+◌, ◌<◌, ◌≤◌, ◌==◌, ◌++◌, ℕ, List, []};
 ghost use Rattle.std.specs.Prelude.{length, take, drop, min, max, IsTrue, IsFalse};
 ghost use Rattle.std.specs.Int.{from_bool};
 ghost use Rattle.std.specs.Borrow.{sem};
-ghost use Rattle.net_receiver.specs.SenderState.{contiguous_end, end_of, Sends};
+ghost use Rattle.net_receiver.specs.SenderState.{end_of, Sends};
 ghost use Rattle.net_receiver.specs.Finite.{no_end};
 ghost use Rattle.net_receiver.specs.FiniteLaws.{MatchesFinite};
-ghost use Rattle.net_receiver.specs.FiniteSenderLaws.{IsSoundSent};
+ghost use Rattle.net_receiver.specs.FiniteSenderLaws.{IsLent, IsSoundSent};
 ghost use Rattle.net_receiver.specs.FiniteSender.{finite_sender_of, IsSoundFiniteSender};
 ghost use Rattle.net_receiver.specs.FiniteSender.{fresh_finite_sender, first_number, numbers_end};
 ghost use Rattle.net_receiver.specs.FiniteSender.{finite_room, with_bytes, closed_sender};
@@ -250,29 +250,11 @@ impl<S: Storage<u8>> FiniteSenderOver<S> {
     /// All its numbers, the end's among them, are below `limit`: the end of the window is one, as
     /// `PeerWindow::send_limit` gives it, and `(pos + mss).min(send_limit)` keeps a segment size too.
     ///
-    /// Clause `later` says that the segment is one of the stream whatever is written later.
+    /// Clause `later` says that the segment is one of the stream whatever is written later; law `lent_segments`,
+    /// which numbers it has.
     #[must_use]
     pub fn peek_at(&self, pos: u64, limit: u64) -> (&[u8], bool)
-        ensures value { result.0.now ≡ take (length result.0.now)
-            (drop (pos - self.now.sender.first_unacknowledged) self.now.sender.queue) }
-        ensures count { self.now.sender.first_unacknowledged ≤ pos → length result.0.now
-            ≡ min (limit - pos) (contiguous_end self.now.sender pos - pos) }
-        ensures some { self.now.sender.first_unacknowledged ≤ pos → pos < end_of self.now.sender →
-            pos < limit → 0 < length result.0.now }
-        ensures before { pos < self.now.sender.first_unacknowledged → result.0.now ≡ [] }
-        ensures end { IsTrue result.1 ↔ ((self.now.closed ≡ 1)
-            × (pos + length result.0.now ≡ end_of self.now.sender)
-            × (pos + length result.0.now < limit) × (self.now.finished ≡ 0)) }
-        ensures room { pos ≤ limit → pos + length result.0.now + from_bool result.1 ≤ limit }
-        ensures none { limit ≤ pos → (result.0.now ≡ []) × IsFalse result.1 }
-        ensures numbers { pos ≤ numbers_end self.now →
-            pos + length result.0.now + from_bool result.1 ≤ numbers_end self.now }
-        ensures beyond { numbers_end self.now < pos → (result.0.now ≡ []) × IsFalse result.1 }
-        ensures fits { pos ≤ end_of self.now.sender → pos + length result.0.now < no_end }
-        ensures top { numbers_end self.now ≤ no_end }
-        ensures says { (f : ℕ) (w : List ℕ) → Sends f w self.now.sender →
-            self.now.sender.first_unacknowledged ≤ pos →
-            MatchesFinite f w pos result.0.now result.1 }
+        ensures lent { IsLent self.now pos limit result.0.now result.1 }
         ensures later { (f : ℕ) (w more : List ℕ) → Sends f w self.now.sender →
             self.now.sender.first_unacknowledged ≤ pos → (self.now.closed ≡ 1 → more ≡ []) →
             MatchesFinite f (w ++ more) pos result.0.now result.1 }
@@ -301,14 +283,7 @@ impl<S: Storage<u8>> FiniteSenderOver<S> {
         ensures* marks { sem 𝓛 (ends_as S.row S.Storage self.entry (record self.old {
           sent = sent_after self.old.sent pos (length result.0.now + from_bool result.1);
         })) }
-        ensures value { result.0.now ≡ take (length result.0.now)
-            (drop (pos - self.old.sender.first_unacknowledged) self.old.sender.queue) }
-        ensures count { self.old.sender.first_unacknowledged ≤ pos → length result.0.now
-            ≡ min (limit - pos) (contiguous_end self.old.sender pos - pos) }
-        ensures before { pos < self.old.sender.first_unacknowledged → result.0.now ≡ [] }
-        ensures end { IsTrue result.1 ↔ ((self.old.closed ≡ 1)
-            × (pos + length result.0.now ≡ end_of self.old.sender)
-            × (pos + length result.0.now < limit) × (self.old.finished ≡ 0)) }
+        ensures lent { IsLent self.old pos limit result.0.now result.1 }
         ensures later { (f : ℕ) (w more : List ℕ) → Sends f w self.old.sender →
             self.old.sender.first_unacknowledged ≤ pos → (self.old.closed ≡ 1 → more ≡ []) →
             MatchesFinite f (w ++ more) pos result.0.now result.1 }
@@ -379,6 +354,7 @@ impl<S: Storage<u8>> FiniteSenderOver<S> {
     /// States what is true of every sender; it does nothing. Callers use `laws::is_sound_sent`.
     pub(crate) fn is_sound(&self)
         ensures sent { IsSoundSent self.now }
+        ensures fits { end_of self.now.sender < no_end }
         ensures top { numbers_end self.now ≤ no_end }
         ensures room { length self.now.sender.queue ≤ self.now.sender.capacity }
     {

@@ -185,7 +185,8 @@ impl<S: Storage<u8>> FiniteSenderOver<S> {
     /// All its numbers, the end's among them, are below `limit`: the end of the window is one, as
     /// `PeerWindow::send_limit` gives it, and `(pos + mss).min(send_limit)` keeps a segment size too.
     ///
-    /// Clause `later` says that the segment is one of the stream whatever is written later.
+    /// Clause `later` says that the segment is one of the stream whatever is written later; law `lent_segments`,
+    /// which numbers it has.
     #[must_use]
     pub fn peek_at(&self, pos: u64, limit: u64) -> (&[u8], bool) {
         laws::matches_stream();

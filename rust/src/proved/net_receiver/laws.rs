@@ -201,6 +201,12 @@ pub fn heads_of_zeros() {
     let _finite_sender = FiniteSenderHead::new(0);
 }
 
+/// States which numbers a segment has that a sender of a stream that ends lends, as clause `lent` of `peek_at` and
+/// `send_at` says it: some, if a byte from `pos` on is queued below `limit` (`some`); all below `limit` (`room`,
+/// `none`); all below the sender's end (`numbers`, `beyond`); and its bytes are written ones (`written`), so there is a number after
+/// the last (clause `fits` of `is_sound_sent`).
+pub fn lent_segments() {}
+
 /// States what a receiver reads of what a sender sends, whatever the path between them does: if each segment that
 /// arrives was lent at some moment, what is read is a prefix of what is written, and all of it once the receiver
 /// says so. If no acknowledgement says more than the receiver has, what it lacks can be sent again: the sender has

@@ -29,10 +29,7 @@ returns g c =
       ),
       record {
         marks = tt;
-        value = lent.value;
-        count = lent.count;
-        before = lent.before;
-        end = lent.end;
+        lent = lent.is;
         later = lent_later c.matches_stream.ensures.longer v p l now last lent;
       },
     )
