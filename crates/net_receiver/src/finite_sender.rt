@@ -1,6 +1,6 @@
 //! A sender of a stream that ends.
 ghost use Rattle.std.specs.Prelude.{◌≡◌, ◌↔◌, ◌+◌, ◌<◌, ◌≤◌, ◌==◌, ◌++◌, ℕ, List, []};
-ghost use Rattle.std.specs.Prelude.{length, take, drop, min, max, IsTrue, IsFalse};
+ghost use Rattle.std.specs.Prelude.{length, take, min, max, IsTrue, IsFalse};
 ghost use Rattle.std.specs.Int.{from_bool};
 ghost use Rattle.std.specs.Borrow.{sem};
 ghost use Rattle.net_receiver.specs.SenderState.{end_of, Sends};
