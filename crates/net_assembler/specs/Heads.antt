@@ -1,6 +1,6 @@
 -- What a range does to a head and runs.
 --     AddsInPlace h rs o n result g ts old new      what adding the range (o, n) returns, leaves and counts
---     StartsInRuns h rs o n      the range (o, n) starts before the last run, and isn't empty
+--     StartsInRuns h rs o n      the range (o, n) starts before the last run, and isn't empty        StartsLast      it doesn't, or is
 --     FrontEnds h rs o n g ts end      where the front ends, once the range (o, n) is there
 use Rattle.std.specs.Prelude.{◌≡◌, ℕ, ◌+◌, ◌-◌, ◌*◌, ◌<◌, ◌≤◌, List, drop, length, Result, OnErr}
 use Rattle.net_assembler.specs.declared.assembler.error.TooManyHolesError.{TooManyHolesError}
@@ -14,6 +14,9 @@ use Rattle.net_assembler.specs.Width.{IsUsize}
 -- a range that isn't empty starts before the last run
 abbrev pub StartsInRuns : AssemblerHead → List (ℕ × ℕ) → ℕ → ℕ → Type 0
 StartsInRuns head rs offset size = (0 < size) × (0 < head.used) × (offset < head.first_start + start_at rs (head.used - 1))
+
+abbrev pub StartsLast : AssemblerHead → List (ℕ × ℕ) → ℕ → ℕ → Type 0
+StartsLast head rs offset size = 0 < size → 0 < head.used → head.first_start + start_at rs (head.used - 1) ≤ offset
 
 -- a range is added to a head and runs, which hold as many runs as there are pairs, and turns are counted
 pub record AddsInPlace (head : AssemblerHead) (rs : List (ℕ × ℕ)) (offset size : ℕ)

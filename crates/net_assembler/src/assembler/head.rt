@@ -2,11 +2,11 @@
 //!
 //! What is inline, and what is a call of its own, was chosen by counted instructions and bytes.
 ghost use Rattle.std.specs.Prelude.{◌≡◌, ℕ, List, ◌+◌, ◌-◌, ◌*◌, ◌<◌, ◌≤◌, ◌++◌, ◌∷◌, ◌^◌, ◌↔◌, drop, get_or, max};
-ghost use Rattle.std.specs.Prelude.{length, take, IsTrue, IfSome, MatchOption, MatchResult, OnErr};
+ghost use Rattle.std.specs.Prelude.{length, take, IsFalse, IsTrue, IfSome, MatchOption, MatchResult, OnErr};
 ghost use Rattle.net_assembler.specs.Assembler.{MakesTooManyRuns};
 ghost use Rattle.std.specs.List.{slice_get};
 ghost use Rattle.net_assembler.specs.AssemblerLaws.{Adds, AddsThenRemovesFront, RemovesFront};
-ghost use Rattle.net_assembler.specs.Heads.{AddsInPlace, FrontEnds, StartsInRuns};
+ghost use Rattle.net_assembler.specs.Heads.{AddsInPlace, FrontEnds, StartsInRuns, StartsLast};
 ghost use Rattle.net_assembler.specs.Positions.{RangeFits, are_same, contains, front, holes, holes_before};
 ghost use Rattle.net_assembler.specs.Positions.{maximal_runs, nothing, runs as run_count, runs_shifted_up};
 ghost use Rattle.net_assembler.specs.Positions.{shift_down};
@@ -142,6 +142,7 @@ impl AssemblerHead {
     ///
     /// The head is sound with the runs, as `is_sound` tests, and the range ends at a `usize`, as
     /// `fits` tests.
+    #[inline(never)]
     pub fn add(
         &mut self,
         runs: &mut [Run],
@@ -440,7 +441,8 @@ impl AssemblerHead {
     #[inline(always)]
     fn starts_in_runs(&self, runs: &[Run], offset: usize, size: usize) -> bool
         requires { HasSoundRuns self.now runs.now }
-        ensures { IsTrue result ↔ StartsInRuns self.now runs.now offset size }
+        ensures starts { IsTrue result → StartsInRuns self.now runs.now offset size }
+        ensures last { IsFalse result → StartsLast self.now runs.now offset size }
     {
         match last_of(runs, self.used) {
             Some(last) => {
@@ -464,8 +466,7 @@ impl AssemblerHead {
     ) -> Result<(), TooManyHolesError>
         requires sound { HasSoundRuns self.old runs.old }
         requires range { RangeFits offset size }
-        requires last { 0 < size → 0 < self.old.used →
-            self.old.first_start + start_at runs.old (self.old.used - 1) ≤ offset }
+        requires last { StartsLast self.old runs.old offset size }
         ensures { AddsInPlace self.old runs.old offset size result self.new runs.new turns.old turns.new }
     {
         if size == 0 {
@@ -479,7 +480,10 @@ impl AssemblerHead {
             //  |=== range ===|                        it is the only run
             self.first_start = offset;
             self.used = 1;
-            runs[0] = Run { start: 0, end: size };
+            runs[0] = Run {
+                start: 0,
+                end: size,
+            };
             return Ok(());
         };
         let start = offset - self.first_start;
