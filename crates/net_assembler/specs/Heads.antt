@@ -1,7 +1,8 @@
 -- What a range does to a head and runs.
 --     AddsInPlace h rs o n result g ts old new      what adding the range (o, n) returns, leaves and counts
+--     StartsInRuns h rs o n      the range (o, n) starts before the last run, and isn't empty        StartsLast      it doesn't, or is
 --     FrontEnds h rs o n g ts end      where the front ends, once the range (o, n) is there
-use Rattle.std.specs.Prelude.{◌≡◌, ℕ, ◌+◌, ◌*◌, ◌<◌, ◌≤◌, List, drop, length, Result, OnErr}
+use Rattle.std.specs.Prelude.{◌≡◌, ℕ, ◌+◌, ◌-◌, ◌*◌, ◌<◌, ◌≤◌, List, drop, length, Result, OnErr}
 use Rattle.net_assembler.specs.declared.assembler.error.TooManyHolesError.{TooManyHolesError}
 use Rattle.net_assembler.specs.declared.assembler.head.AssemblerHead.{AssemblerHead}
 use Rattle.net_assembler.specs.AssemblerLaws.{Adds}
@@ -9,6 +10,13 @@ use Rattle.net_assembler.specs.Positions.{front, runs, shift_down, with_range}
 use Rattle.net_assembler.specs.RunLists.{HasSoundRuns, IsCanonical, runs_of, runs_shifted_down, set_of, set_of_runs, start_at}
 use Rattle.net_assembler.specs.Turns.{TurnsWithin, binary_digits}
 use Rattle.net_assembler.specs.Width.{IsUsize}
+
+-- a range that isn't empty starts before the last run
+abbrev pub StartsInRuns : AssemblerHead → List (ℕ × ℕ) → ℕ → ℕ → Type 0
+StartsInRuns head rs offset size = (0 < size) × (0 < head.used) × (offset < head.first_start + start_at rs (head.used - 1))
+
+abbrev pub StartsLast : AssemblerHead → List (ℕ × ℕ) → ℕ → ℕ → Type 0
+StartsLast head rs offset size = 0 < size → 0 < head.used → head.first_start + start_at rs (head.used - 1) ≤ offset
 
 -- a range is added to a head and runs, which hold as many runs as there are pairs, and turns are counted
 pub record AddsInPlace (head : AssemblerHead) (rs : List (ℕ × ℕ)) (offset size : ℕ)

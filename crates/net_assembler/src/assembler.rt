@@ -240,7 +240,8 @@ impl<const N: usize> Assembler<N> {
             Self::fits(offset, size),
             "the range's end is above `usize::MAX`"
         );
-        self.add_counted(offset, size, &mut Turns::new())
+        self.head
+            .add_inlined(&mut self.runs, offset, size, &mut Turns::new())
     }
 
     /// Adds a range as `add` does, and counts each iteration of a loop: a move if it moves a run,

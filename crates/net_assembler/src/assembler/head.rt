@@ -2,11 +2,11 @@
 //!
 //! What is inline, and what is a call of its own, was chosen by counted instructions and bytes.
 ghost use Rattle.std.specs.Prelude.{◌≡◌, ℕ, List, ◌+◌, ◌-◌, ◌*◌, ◌<◌, ◌≤◌, ◌++◌, ◌∷◌, ◌^◌, ◌↔◌, drop, get_or, max};
-ghost use Rattle.std.specs.Prelude.{length, take, IsTrue, IfSome, MatchResult, OnErr};
+ghost use Rattle.std.specs.Prelude.{length, take, IsFalse, IsTrue, IfSome, MatchOption, MatchResult, OnErr};
 ghost use Rattle.net_assembler.specs.Assembler.{MakesTooManyRuns};
 ghost use Rattle.std.specs.List.{slice_get};
 ghost use Rattle.net_assembler.specs.AssemblerLaws.{Adds, AddsThenRemovesFront, RemovesFront};
-ghost use Rattle.net_assembler.specs.Heads.{AddsInPlace, FrontEnds};
+ghost use Rattle.net_assembler.specs.Heads.{AddsInPlace, FrontEnds, StartsInRuns, StartsLast};
 ghost use Rattle.net_assembler.specs.Positions.{RangeFits, are_same, contains, front, holes, holes_before};
 ghost use Rattle.net_assembler.specs.Positions.{maximal_runs, nothing, runs as run_count, runs_shifted_up};
 ghost use Rattle.net_assembler.specs.Positions.{shift_down};
@@ -143,6 +143,7 @@ impl AssemblerHead {
     ///
     /// The head is sound with the runs, as `is_sound` tests, and the range ends at a `usize`, as
     /// `fits` tests.
+    #[inline(never)]
     pub fn add(
         &mut self,
         runs: &mut [Run],
@@ -185,7 +186,29 @@ impl AssemblerHead {
         ensures turns { let n = length runs.old in
             TurnsWithin (2 * binary_digits n) n turns.old turns.new }
     {
-        self.add_range(runs, offset, size, turns)
+        if self.starts_in_runs(runs, offset, size) {
+            return self.join_apart(runs, offset, size, turns);
+        }
+        self.add_last(runs, offset, size, turns)
+    }
+
+    /// Adds a range as `add` does, with all of the rule inlined.
+    #[inline(always)]
+    pub(crate) fn add_inlined(
+        &mut self,
+        runs: &mut [Run],
+        offset: usize,
+        size: usize,
+        turns: &mut Turns,
+    ) -> Result<(), TooManyHolesError>
+        requires sound { HasSoundRuns self.old runs.old }
+        requires range { RangeFits offset size }
+        ensures { AddsInPlace self.old runs.old offset size result self.new runs.new turns.old turns.new }
+    {
+        if self.starts_in_runs(runs, offset, size) {
+            return self.join(runs, offset, size, turns);
+        }
+        self.add_last(runs, offset, size, turns)
     }
 
     /// Removes the run at position 0, counts all later positions from its end, and returns its
@@ -415,12 +438,27 @@ impl AssemblerHead {
         self.first_start == other.first_start && runs[..self.used] == other_runs[..other.used]
     }
 
-    /// Adds a range as `add_counted` does.
-    ///
-    /// The most frequent cases are tested first and take no loop: a range after all runs, and one
-    /// that starts in the last run.
+    /// Returns whether a range that isn't empty starts before the last run.
     #[inline(always)]
-    fn add_range(
+    fn starts_in_runs(&self, runs: &[Run], offset: usize, size: usize) -> bool
+        requires { HasSoundRuns self.now runs.now }
+        ensures starts { IsTrue result → StartsInRuns self.now runs.now offset size }
+        ensures last { IsFalse result → StartsLast self.now runs.now offset size }
+    {
+        match last_of(runs, self.used) {
+            Some(last) => {
+                let start = self.first_start + last.start;
+                prove!(start <= most(), "in any `usize`");
+                size > 0 && offset < start
+            }
+            None => false,
+        }
+    }
+
+    /// Adds a range that is empty, or doesn't start before the last run. These cases are the most
+    /// frequent, and take no loop, so no turn is counted.
+    #[inline(always)]
+    fn add_last(
         &mut self,
         runs: &mut [Run],
         offset: usize,
@@ -429,46 +467,65 @@ impl AssemblerHead {
     ) -> Result<(), TooManyHolesError>
         requires sound { HasSoundRuns self.old runs.old }
         requires range { RangeFits offset size }
+        requires last { StartsLast self.old runs.old offset size }
         ensures { AddsInPlace self.old runs.old offset size result self.new runs.new turns.old turns.new }
     {
         if size == 0 {
             return Ok(());
         }
-        if self.used == 0 {
+        let used = self.used;
+        let Some(last) = last_of(runs, used) else {
             if runs.is_empty() {
                 return Err(TooManyHolesError);
             }
+            //  |=== range ===|                        it is the only run
             self.first_start = offset;
-        }
-        if offset >= self.first_start {
-            let start = offset - self.first_start;
-            let end = start + size;
-            prove!(end <= most(), "in any `usize`");
-            //  |--- last ---|    |=== range ===|      it is a run of its own, the last
-            if self.used == 0 || ends_before(runs, self.used - 1, start) {
-                if self.used == runs.len() {
-                    return Err(TooManyHolesError);
-                }
-                runs[self.used] = Run { start, end };
-                self.used += 1;
-                prove!(self.used <= runs.len(), "in any `usize`");
-                return Ok(());
-            }
+            self.used = 1;
+            runs[0] = Run {
+                start: 0,
+                end: size,
+            };
+            return Ok(());
+        };
+        let start = offset - self.first_start;
+        let end = start + size;
+        prove!(end <= most(), "in any `usize`");
+        if start <= last.end {
             //  |--- last ---|
             //       |=== range ===|                   that run grows
-            let last = self.used - 1;
-            if starts_by(runs, last, start) {
-                runs[last] = Run {
-                    start: start_of(runs, last),
-                    end: end_of(runs, last).max(end),
-                };
-                return Ok(());
-            }
+            runs[used - 1] = Run {
+                start: last.start,
+                end: last.end.max(end),
+            };
+            return Ok(());
         }
+        //  |--- last ---|    |=== range ===|          it is a run of its own, the last
+        if used >= runs.len() {
+            return Err(TooManyHolesError);
+        }
+        runs[used] = Run { start, end };
+        self.used = used + 1;
+        prove!(self.used <= runs.len(), "in any `usize`");
+        Ok(())
+    }
+
+    /// Joins a range as `join` does. It isn't marked inline: where several places call it, it is a call.
+    fn join_apart(
+        &mut self,
+        runs: &mut [Run],
+        offset: usize,
+        size: usize,
+        turns: &mut Turns,
+    ) -> Result<(), TooManyHolesError>
+        requires sound { HasSoundRuns self.old runs.old }
+        requires range { RangeFits offset size }
+        requires last { StartsInRuns self.old runs.old offset size }
+        ensures { AddsInPlace self.old runs.old offset size result self.new runs.new turns.old turns.new }
+    {
         self.join(runs, offset, size, turns)
     }
 
-    /// Joins a range that isn't empty with the runs. There are some, and the range isn't after the last.
+    /// Joins a range that isn't empty, and starts before the last run, with the runs.
     #[inline(always)]
     fn join(
         &mut self,
@@ -478,10 +535,8 @@ impl AssemblerHead {
         turns: &mut Turns,
     ) -> Result<(), TooManyHolesError>
         requires sound { HasSoundRuns self.old runs.old }
-        requires some { 0 < self.old.used }
         requires range { RangeFits offset size }
-        requires size { 0 < size }
-        requires last { offset ≤ self.old.first_start + end_at runs.old (self.old.used - 1) }
+        requires last { StartsInRuns self.old runs.old offset size }
         ensures { AddsInPlace self.old runs.old offset size result self.new runs.new turns.old turns.new }
     {
         let mut by = 0;
@@ -612,6 +667,7 @@ impl AssemblerHead {
 
     /// Removes the first `count` runs and all positions below `end`, and counts the others from
     /// there. `end` is counted as the runs are.
+    #[inline(always)]
     fn drop_front(&mut self, runs: &mut [Run], count: usize, end: usize)
         requires room { self.old.used ≤ length runs.old }
         requires runs { AreRuns (used_runs self.old runs.old) }
@@ -682,6 +738,20 @@ fn rise_after(runs: &[Run], after: usize, first_start: usize) -> bool
         }
     }
     true
+}
+
+/// Returns the last of the `used` runs, or `None` if there is none. A number below 0 wraps, so one
+/// comparison tests both.
+#[inline(always)]
+fn last_of(runs: &[Run], used: usize) -> Option<Run>
+    requires { used ≤ length runs.now }
+    ensures { MatchOption result (used ≡ 0)
+        (λ run. (0 < used) × (run ≡ get_or runs.now (used - 1) (0, 0))) }
+{
+    match runs.get(used.wrapping_sub(1)) {
+        Some(&run) => Some(run),
+        None => None,
+    }
 }
 
 /// Returns whether the run with number `k` ends before `offset`. Here and in `starts_by` it is `get`
@@ -814,6 +884,31 @@ fn insert_run(runs: &mut [Run], used: usize, at: usize, entry: Run, by: usize, t
 /// higher. Returns how many runs there are then.
 #[inline(always)]
 fn take_out(
+    runs: &mut [Run],
+    used: usize,
+    at: usize,
+    from: usize,
+    by: usize,
+    turns: &mut Turns,
+) -> usize
+    requires at { at ≤ from }
+    requires from { from ≤ used }
+    requires used { used ≤ length runs.old }
+    requires fits { AreUsize (runs_wrapped by (drop from (take used runs.old))) }
+    ensures count { result + from ≡ at + used }
+    ensures runs { let all = take used runs.old in
+        take result runs.new ≡ take at runs.old ++ runs_wrapped by (drop from all) }
+    ensures looks { turns.new.0 ≡ turns.old.0 }
+    ensures moves { turns.new.1 + from ≡ turns.old.1 + used }
+{
+    if from == used {
+        return at;
+    }
+    move_down(runs, used, at, from, by, turns)
+}
+
+/// Does what `take_out` does. It isn't marked inline: where several places call it, it is a call.
+fn move_down(
     runs: &mut [Run],
     used: usize,
     at: usize,

@@ -3,9 +3,29 @@ use Rattle.net_assembler.specs.Heads.{AddsInPlace}
 use Rattle.net_assembler.specs.RunLists.{start_at}
 use Rattle.net_assembler.specs.Turns.{binary_digits}
 use Rattle.net_assembler.proofs.AssemblerLaws.{below_binary_digits}
-use Rattle.net_assembler.proofs.Heads.{first_pair, searched}
+use Rattle.net_assembler.proofs.Heads.{first_pair, pair_rises, searched}
 use Rattle.net_assembler.proofs.assembler.head.AssemblerHead.join.Goals as goal
 use Rattle.net_assembler.proofs.assembler.head.AssemblerHead.join.Goals.{then-offset-self, else-offset-self}
+
+pub runs_ending_before-first-requires-clause-some : goal.runs_ending_before-first-requires-clause-some
+runs_ending_before-first-requires-clause-some c = c.requires.last.1
+
+pub runs_ending_before-first-requires-clause-last : goal.runs_ending_before-first-requires-clause-last
+runs_ending_before-first-requires-clause-last c =
+    let h = c.args.self.now in
+    let starts = c.requires.last in
+    omega (arith, starts.2, pair_rises h c.args.runs.now c.requires.sound (h.used - 1) (omega (arith, starts.1)))
+
+pub join_here-requires-clause-first : goal.join_here-requires-clause-first
+join_here-requires-clause-first c =
+    let met = c.if-offset-self in
+    elim met.branch [
+      | then-offset-self w ↦ omega (arith, w.first-is, c.requires.last.1)
+      | else-offset-self w ↦ omega (arith, w.first-is, w.runs_ending_before-first.ensures.within)
+    ]
+
+pub join_here-requires-clause-size : goal.join_here-requires-clause-size
+join_here-requires-clause-size c = c.requires.last.0
 
 pub join_here-requires-clause-begin : goal.join_here-requires-clause-begin
 join_here-requires-clause-begin c =
@@ -15,7 +35,7 @@ join_here-requires-clause-begin c =
     elim met.branch [
       | then-offset-self w ↦
           (let zeroth : met.first ≡ 0 = w.first-is in
-          omega (arith, w.begin-is, w.by-is, ap (start_at xs) zeroth, first_pair h xs c.requires.sound c.requires.some))
+          omega (arith, w.begin-is, w.by-is, ap (start_at xs) zeroth, first_pair h xs c.requires.sound c.requires.last.1))
       | else-offset-self w ↦ omega (arith, w.begin-is, w.by-is, w.start_of-begin.ensures, ap (start_at xs) w.first-is)
     ]
 
