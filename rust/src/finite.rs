@@ -42,10 +42,10 @@ use crate::proved::net_ring::Storage;
 use crate::storage::Listed;
 use crate::storage::TooManyHolesError;
 
+pub use crate::proved::net_numbers::SentNumbers;
 pub use crate::proved::net_receiver::{
     FiniteError, FiniteReceiver, FiniteReceiverOver, FiniteSender, FiniteSenderOver,
 };
-pub use crate::proved::net_numbers::SentNumbers;
 
 impl From<TooManyHolesError> for FiniteError {
     fn from(_error: TooManyHolesError) -> Self {

@@ -85,12 +85,12 @@ pub mod exports {
     pub use proved::net_assembler::{AssemblerHead, Run};
     pub use proved::net_base::storage::FragmentsHead;
     pub use proved::net_ffi::*;
+    pub use proved::net_numbers::SentNumbers;
     pub use proved::net_packets::{FirstPacket, PacketPlace, PacketSlot, PacketsHead};
     pub use proved::net_receiver::{
         FiniteReceiverHead, FiniteSenderHead, HeldRun, ReceiverHead, ScoreboardHead, SenderHead,
     };
     pub use proved::net_ring::{RingHead, Span};
-    pub use proved::net_numbers::SentNumbers;
     pub use proved::net_tcp::{AdvertisedWindow, Announcement, PartsSum, PeerWindow, Segment};
 }
 

@@ -30,7 +30,11 @@ impl Subject for Timer {
         match call.name {
             "start" => timer.start(moment(one)),
             "stop" => timer.stop(),
-            "sent" => timer.sent(one..two, SentNumbers { first_unacknowledged: 0, sent: three }, moment(four)),
+            "sent" => timer.sent(
+                one..two,
+                SentNumbers { first_unacknowledged: 0, sent: three },
+                moment(four),
+            ),
             "take_sample" => timer.take_sample(bounds, moment(one)),
             "acknowledged" => {
                 let numbers = SentNumbers { first_unacknowledged: one, sent: two };
