@@ -15,6 +15,8 @@ is one. Any other operation has a cover:
     end       it is the end of the range of a slice, or of `part`: the index is proved to be at most a length
     cut       a cast of the lesser of two numbers, one of which was a `usize`
     wrapped   the negative of a number: only `wrapping_add` is given it, whose value has a bound
+    index     one less than a number, in numbers that wrap, as the whole argument of `get`: of 0 it is the greatest `usize`,
+              an index that no slice has
     greatest  the body of `most`
     constant  a literal that has 32 bits
 
@@ -177,6 +179,8 @@ class Reader:
             return 'constant'
         if kind == 'call wrapping_neg':
             return self.is_wrapped(file, start, end) and 'wrapped'
+        if kind == 'call wrapping_sub' and re.fullmatch(r'\w+\.wrapping_sub\(1\)', text):
+            return file.code[:start].endswith('.get(') and file.code[end:].startswith(')') and 'index'
         if kind not in ('Add', 'Mul', 'call wrapping_add') and not kind.startswith('cast u64'):
             return None
         if kind == 'Add' and self.is_end(file, start, end):
