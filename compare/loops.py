@@ -13,7 +13,11 @@ import common
 
 LOOPS = {
     "ring": "16 bytes through a ring",
-    "closures": "the same by closures",
+    "small": "16 elements of 1 byte, capacity 64",
+    "large": "16 elements of 1 byte, capacity 262,144",
+    "words": "16 elements of 8 bytes, capacity 4,096",
+    "blocks": "16 elements of 64 bytes, capacity 4,096",
+    "closures": "16 bytes by closures",
     "assembler": "an assembler in order",
     "listed": "four runs listed",
     "stream": "a segment of 64 bytes, and a read",
