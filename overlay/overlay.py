@@ -60,7 +60,7 @@ CHANGES = [
     ("net_ring/error.rs", r"^(?=pub struct (?:Full|Empty);)", DEFMT, 2),
     ("net_packets/packet_metadata.rs", r"^(?=pub struct PacketMetadata<H>)", DEFMT, 1),
     # One copy of the assembler's rule.
-    ("net_assembler/assembler.rs", r"self\.add_counted\(offset, size, .*?\)\)$", "self.head.add(&mut self.runs, offset, size)", 1),
+    ("net_assembler/assembler.rs", r"\.add_inlined\((.*?), &mut Turns::new\(\)\)$", r".add(\1)", 1),
     # Where numbers of 64 bits take two registers, a call is less code than such a sum.
     ("net_base/time/instant.rs", r"^    #\[inline\]\n(?=    pub fn saturating_(?:add|sub)\b|    fn sub\(self, rhs: Instant\))", CALL, 3),
 ]
