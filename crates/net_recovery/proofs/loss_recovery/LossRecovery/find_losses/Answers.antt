@@ -1,6 +1,6 @@
 use Rattle.std.proofs.Common.{arith}
 use Rattle.std.proofs.lemmas.Bool.Decides.{nat_tests}
-use Rattle.net_receiver.proofs.Losses.{one_bound}
+use Rattle.net_receiver.proofs.Scoreboards.{one_bound}
 use Rattle.net_recovery.proofs.Missing.{one_end}
 use Rattle.net_recovery.proofs.loss_recovery.LossRecovery.find_losses.Goals as goal
 
