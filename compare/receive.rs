@@ -1,7 +1,7 @@
 //! The receive path of a TCP socket without std: two segments that come in the wrong order, the blocks of a selective
 //! acknowledgement, a read. `sizes.py` builds it over a ring and an assembler of each side, joined as in smoltcp's
 //! socket, with `--cfg apart` by `add` and `remove_front` in two calls, and with `--cfg receiver` over the crate's
-//! `Receiver`. With `--cfg emulated` it runs on a Cortex-M4 under QEMU.
+//! `Receiver`, by `keep`, or with `--cfg lists` by `segment`. With `--cfg emulated` it runs on a Cortex-M4 under QEMU.
 #![no_std]
 #![no_main]
 #![allow(unexpected_cfgs)]
@@ -94,7 +94,10 @@ mod path {
         #[inline(never)]
         pub fn segment(&mut self, number: u32, bytes: &[u8]) -> bool {
             let pos = SequenceNumber::new(number).position(SequenceNumber::new(0), self.0.next());
-            pos.is_none_or(|pos| self.0.segment(pos, bytes).is_ok())
+            #[cfg(not(lists))]
+            return pos.is_none_or(|pos| self.0.keep(pos, bytes).is_ok());
+            #[cfg(lists)]
+            return pos.is_none_or(|pos| self.0.segment(pos, bytes).is_ok());
         }
 
         #[inline(never)]

@@ -163,7 +163,8 @@ class Sizes:
         sums = set()
         for level in "sz3":
             for name, crate, flags in [("smoltcp", "smoltcp", ""), ("net-base, joined", "net-base", ""),
-                                       ("net-base's `Receiver`", "net-base", "--cfg receiver")]:
+                                       ("net-base's `Receiver`, `keep`", "net-base", "--cfg receiver"),
+                                       ("the same, `segment`", "net-base", "--cfg receiver --cfg lists")]:
                 code, data = self.sections(crate, text, M4, level, flags)
                 program = self.built(crate, text, M4, level, f"{EMULATED} {flags}")
                 printed = said(*RUN, program, stdin=subprocess.DEVNULL, stderr=subprocess.STDOUT, timeout=120)
