@@ -24,8 +24,6 @@
  *   `net_base_finite_sender_`: init, is_sound, write, room, close, send_at, peek_at, mark_sent,
  *     acknowledge, is_block, first_number, numbers_end
  *   `net_base_finite_sender_`: is_closed, is_closed_and_acknowledged
- *   `net_base_sender_`: init, is_sound, write, room, peek_at, mark_sent, acknowledge,
- *     acknowledge_sent, end
  *   `net_base_scoreboard_`: init, is_sound, report, acknowledge, lost_below, next_hole, contains,
  *     highest_reported, count_beyond
  * - The windows of both ends, segments that aren't acceptable, sequence numbers:
@@ -783,94 +781,6 @@ struct net_base_held_run net_base_receiver_run_at(
     const struct net_base_receiver *receiver, const uint8_t *storage, size_t storage_length,
     const struct net_base_run *runs, size_t runs_length, size_t index);
 
-/* Senders of a stream of bytes that doesn't end.
- *
- * A head of zeros is new, of a stream that begins at position 0. The queue, of bytes that are not
- * acknowledged, is the ring of `place`. What SACK blocks report is kept in a scoreboard.
- */
-
-/** What a sender has besides its storage: numbers. */
-struct net_base_sender {
-    /** The position of the queue's first byte. */
-    uint64_t first_unacknowledged;
-    /** Where the queue is in the storage. */
-    struct net_base_ring place;
-};
-
-/** Makes `sender` the head of a sender of a stream that begins at position `first`, to which
- * nothing was written. It is sound for every storage.
- */
-void net_base_sender_init(struct net_base_sender *sender, uint64_t first);
-
-/** Returns whether this head is sound for a storage of `capacity` bytes: `place` is that of a ring
- * of as many, and the position after the queue fits 64 bits.
- */
-bool net_base_sender_is_sound(const struct net_base_sender *sender, size_t capacity);
-
-/** Writes to `end` the position after the last byte that was written.
- *
- * It is refused if the position after the queue doesn't fit 64 bits: false, and nothing changes.
- */
-bool net_base_sender_end(const struct net_base_sender *sender, uint64_t *end);
-
-/** Returns how many bytes `net_base_sender_write` would take: as many as have room in a storage of
- * `capacity` bytes and below the last position, 2^64 - 1.
- *
- * It is refused if `capacity` is `NET_BASE_NONE`, or if `sender` isn't that of a sender over
- * `capacity` bytes: `NET_BASE_NONE`.
- */
-size_t net_base_sender_room(const struct net_base_sender *sender, size_t capacity);
-
-/** Enqueues the first of these bytes, as many as `net_base_sender_room` says, and returns how many.
- * An empty queue is rewound before, also for no bytes.
- *
- * It is refused if `sender` isn't that of a sender over `storage_length` bytes: `NET_BASE_NONE`,
- * and nothing changes.
- */
-size_t net_base_sender_write(
-    struct net_base_sender *sender, uint8_t *storage, size_t storage_length, const uint8_t *bytes,
-    size_t bytes_length);
-
-/** Returns where at most `max` queued bytes are, from the one at `position` on; none if the byte at
- * `position` isn't queued. The storage has `capacity` bytes.
- *
- * It is refused if `sender` isn't that of a sender over `capacity` bytes: `from` is
- * `NET_BASE_NONE`, `count` and `contiguous` are 0.
- */
-struct net_base_span net_base_sender_peek_at(
-    const struct net_base_sender *sender, size_t capacity, uint64_t position, size_t max);
-
-/** Drops the bytes below `next`, and returns whether it did: false, and nothing changes, if `next`
- * is below `first_unacknowledged` or above `net_base_sender_end`. The storage has `capacity`
- * bytes.
- *
- * It is refused if `sender` isn't that of a sender over `capacity` bytes: false, and nothing
- * changes.
- */
-bool net_base_sender_acknowledge(struct net_base_sender *sender, size_t capacity, uint64_t next);
-
-/** Moves `sent`, the position after the last byte that was ever sent, up to `position`, if that is
- * above it. Returns false, and changes nothing, if `sent` or `position` is above
- * `net_base_sender_end`: no such byte was written.
- *
- * The caller keeps this mark. It begins as the position of the stream's first byte.
- *
- * It is refused if the position after the queue doesn't fit 64 bits: false, and nothing changes.
- */
-bool net_base_sender_mark_sent(
-    const struct net_base_sender *sender, uint64_t *sent, uint64_t position);
-
-/** Drops the bytes below `next`, as `net_base_sender_acknowledge` does, if they were sent: `sent`
- * is the position after the last byte that was ever sent, as `net_base_sender_mark_sent` keeps it.
- * Returns false, and changes nothing, if `next` is below `first_unacknowledged` or above `sent`,
- * or `sent` is above `net_base_sender_end`.
- *
- * It is refused if `sender` isn't that of a sender over `capacity` bytes: false, and nothing
- * changes.
- */
-bool net_base_sender_acknowledge_sent(
-    struct net_base_sender *sender, size_t capacity, uint64_t next, uint64_t sent);
-
 /* Scoreboards: what a sender knows of the positions that the other end has, in runs that the
  * caller keeps.
  *
@@ -1141,6 +1051,14 @@ bool net_base_finite_receiver_window_end(
  * number is kept for the end.
  */
 
+/** What a sender has besides its storage: numbers. */
+struct net_base_sender {
+    /** The position of the queue's first byte. */
+    uint64_t first_unacknowledged;
+    /** Where the queue is in the storage. */
+    struct net_base_ring place;
+};
+
 /** What a sender of a stream that ends has besides its storage: numbers. */
 struct net_base_finite_sender {
     /** The sender of the bytes. */
@@ -1173,10 +1091,10 @@ struct net_base_segment_span {
 NET_BASE_MUST_USE bool net_base_finite_sender_init(
     struct net_base_finite_sender *sender, uint64_t first);
 
-/** Returns whether this head is sound for a storage of `capacity` bytes: `sender` is that of a
- * sender; `closed` and `finished` are 0 or 1, and `finished` is 1 only if `closed` is and the
- * queue is empty; and `sent` is from the first number that isn't acknowledged up to the number
- * after the last one, which fits 64 bits.
+/** Returns whether this head is sound for a storage of `capacity` bytes: `sender.place` is that of
+ * a ring of as many; `closed` and `finished` are 0 or 1, and `finished` is 1 only if `closed` is
+ * and the queue is empty; and `sent` is from the first number that isn't acknowledged up to the
+ * number after the last one, which fits 64 bits.
  */
 bool net_base_finite_sender_is_sound(const struct net_base_finite_sender *sender, size_t capacity);
 
@@ -1206,7 +1124,7 @@ bool net_base_finite_sender_numbers_end(
 size_t net_base_finite_sender_room(const struct net_base_finite_sender *sender, size_t capacity);
 
 /** Enqueues the first of these bytes, as many as `net_base_finite_sender_room` says, and returns
- * how many.
+ * how many. Unless the sender is closed, an empty queue is rewound before, also for no bytes.
  *
  * It is refused if `sender` isn't that of a sender over `storage_length` bytes: `NET_BASE_NONE`,
  * and nothing changes.
@@ -1222,11 +1140,11 @@ size_t net_base_finite_sender_write(
  */
 bool net_base_finite_sender_close(struct net_base_finite_sender *sender, size_t capacity);
 
-/** Returns where the bytes of a segment from `position` on are, as `net_base_sender_peek_at` does,
- * and whether the segment ends the stream: the sender is closed, and the bytes end where it does.
- * Its numbers, the end's among them, are below `limit`: the end of the window is one, and
- * `position` plus the segment size another. A segment at `position` without bytes that ends the
- * stream is the end alone.
+/** Returns where the bytes of a segment from `position` on are, none if the byte at `position`
+ * isn't queued, and whether the segment ends the stream: the sender is closed, and the bytes end
+ * where it does. Its numbers, the end's among them, are below `limit`: the end of the window is
+ * one, and `position` plus the segment size another. A segment at `position` without bytes that
+ * ends the stream is the end alone.
  *
  * It is refused if `sender` isn't that of a sender over `capacity` bytes: `from` is
  * `NET_BASE_NONE`, `count` and `contiguous` are 0, `is_last` is false.

@@ -331,64 +331,6 @@ pub unsafe extern "C" fn net_base_receiver_run_at(receiver: Option<&ReceiverHead
 }
 
 #[unsafe(no_mangle)]
-pub extern "C" fn net_base_sender_init(sender: Option<&mut SenderHead>, first: u64) {
-    let Some(sender) = sender else { return };
-    heads::sender::net_base_sender_init(sender, first)
-}
-
-#[unsafe(no_mangle)]
-pub extern "C" fn net_base_sender_is_sound(sender: Option<&SenderHead>, capacity: usize) -> bool {
-    let Some(sender) = sender else { return false };
-    heads::sender::net_base_sender_is_sound(sender, capacity)
-}
-
-#[unsafe(no_mangle)]
-pub extern "C" fn net_base_sender_end(sender: Option<&SenderHead>, end: Option<&mut u64>) -> bool {
-    let Some(sender) = sender else { return false };
-    let Some(end) = end else { return false };
-    heads::sender::net_base_sender_end(sender, end)
-}
-
-#[unsafe(no_mangle)]
-pub extern "C" fn net_base_sender_room(sender: Option<&SenderHead>, capacity: usize) -> usize {
-    let Some(sender) = sender else { return refusals::no_number() };
-    heads::sender::net_base_sender_room(sender, capacity)
-}
-
-#[unsafe(no_mangle)]
-pub unsafe extern "C" fn net_base_sender_write(sender: Option<&mut SenderHead>, storage: *mut u8, storage_length: usize, bytes: *const u8, bytes_length: usize) -> usize {
-    let Some(sender) = sender else { return refusals::no_number() };
-    let Some(storage) = slice_mut(storage, storage_length) else { return refusals::no_number() };
-    let Some(bytes) = slice(bytes, bytes_length) else { return refusals::no_number() };
-    heads::sender::net_base_sender_write(sender, storage, bytes)
-}
-
-#[unsafe(no_mangle)]
-pub extern "C" fn net_base_sender_peek_at(sender: Option<&SenderHead>, capacity: usize, position: u64, max: usize) -> Span {
-    let Some(sender) = sender else { return refusals::refused_span() };
-    heads::sender::net_base_sender_peek_at(sender, capacity, position, max)
-}
-
-#[unsafe(no_mangle)]
-pub extern "C" fn net_base_sender_acknowledge(sender: Option<&mut SenderHead>, capacity: usize, next: u64) -> bool {
-    let Some(sender) = sender else { return false };
-    heads::sender::net_base_sender_acknowledge(sender, capacity, next)
-}
-
-#[unsafe(no_mangle)]
-pub extern "C" fn net_base_sender_mark_sent(sender: Option<&SenderHead>, sent: Option<&mut u64>, position: u64) -> bool {
-    let Some(sender) = sender else { return false };
-    let Some(sent) = sent else { return false };
-    heads::sender::net_base_sender_mark_sent(sender, sent, position)
-}
-
-#[unsafe(no_mangle)]
-pub extern "C" fn net_base_sender_acknowledge_sent(sender: Option<&mut SenderHead>, capacity: usize, next: u64, sent: u64) -> bool {
-    let Some(sender) = sender else { return false };
-    heads::sender::net_base_sender_acknowledge_sent(sender, capacity, next, sent)
-}
-
-#[unsafe(no_mangle)]
 pub extern "C" fn net_base_scoreboard_init(scoreboard: Option<&mut ScoreboardHead>, first: u64) {
     let Some(scoreboard) = scoreboard else { return };
     heads::scoreboard::net_base_scoreboard_init(scoreboard, first)

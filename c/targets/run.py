@@ -26,6 +26,7 @@ from parts import layouts  # noqa: E402
 from parts import sequence  # noqa: E402
 
 FLAGS = ["-std=gnu11", "-O2", "-Wall", "-Wextra", "-Werror", "-ffunction-sections"]
+CXX_FLAGS = ["-std=gnu++17", *FLAGS[1:], "-fno-exceptions", "-fno-rtti"]
 IS_X86_64 = platform.machine() == "x86_64"
 # Debian's packages of each program that is run.
 PACKAGES = {
@@ -39,6 +40,8 @@ PACKAGES = {
     "powerpc-linux-gnu-gcc": "gcc-powerpc-linux-gnu libc6-dev-powerpc-cross",
     "riscv64-linux-gnu-gcc": "gcc-riscv64-linux-gnu libc6-dev-riscv64-cross",
     "arm-none-eabi-gcc": "gcc-arm-none-eabi libnewlib-arm-none-eabi",
+    "arm-none-eabi-g++": "gcc-arm-none-eabi",
+    "riscv64-unknown-elf-g++": "gcc-riscv64-unknown-elf",
     "riscv64-unknown-elf-gcc": "gcc-riscv64-unknown-elf picolibc-riscv64-unknown-elf",
     "qemu-aarch64-static": "qemu-user-static",
     "qemu-arm-static": "qemu-user-static",
@@ -71,7 +74,7 @@ class Way:
 
     def lacking(self):
         """The programs that aren't here: the compiler, which counts as missing where its C library is, and the emulator."""
-        wanted = (self.compiler[0], *self.emulator[:1], *[self.tool("g++")] * (self.target == ARMV7))
+        wanted = (self.compiler[0], *self.emulator[:1], *[self.tool("g++")] * (self.target in QUICK))
         lacking = [program for program in wanted if not shutil.which(program)]
         if self.compiler[0] not in lacking and "-nostdlib" not in self.linking:
             specs = next((it[8:] for it in (*self.compiler, *self.linking) if it.startswith("--specs=")), "libc.a")
@@ -237,7 +240,9 @@ class Programs:
         """An object file of a source; `main` has another name where the harness has its own."""
         made = self.folder / f"{source.name}.o"
         extra = ["-Dmain=program", "-D__int64_t_defined=1"] if self.way.bare else []
-        status, said = shell([*self.way.compiler, *FLAGS, *extra, *words, f"-I{C}", "-c", source, "-o", made])
+        is_cpp = source.suffix == ".cpp"
+        compiler = [self.way.tool("g++") if is_cpp else self.way.compiler[0], *self.way.compiler[1:]]
+        status, said = shell([*compiler, *(CXX_FLAGS if is_cpp else FLAGS), *extra, *words, f"-I{C}", "-c", source, "-o", made])
         if status:
             raise Failed(f"{source.name} isn't compiled: {said[:1500]}")
         return made
@@ -264,7 +269,9 @@ class Programs:
         """A program."""
         program = self.folder / name
         objects = [*self.harness(words, flags), *[self.compiled(source, flags) for source in sources]]
-        status, said = shell([*self.way.compiler, *self.way.linking, *objects, self.library.path, "-o", program])
+        # C++ has another name for a `main` that has another name.
+        alias = ["-Wl,--defsym=program=_Z7programv"] * (self.way.bare and sources[0].suffix == ".cpp")
+        status, said = shell([*self.way.compiler, *self.way.linking, *alias, *objects, self.library.path, "-o", program])
         if status:
             raise Failed(f"{name} isn't linked: {said[:1500]}")
         return program
@@ -337,12 +344,8 @@ def tests(programs, generated, options):
         if not programs.run(name, [C / f"programs/{name}.c"]).startswith(f"{name}: "):
             raise Failed(f"programs/{name}.c fails")
         done.append(f"{name}.c")
-    if way.target == ARMV7:
-        words = [way.tool("g++"), "-std=c++17", *FLAGS[1:], "-static", f"-I{C}", C / "programs/wrapper.cpp", programs.library.path]
-        status, said = shell([*words, "-o", programs.folder / "wrapper"])
-        status, said = (status, said) if status else shell([*way.emulator, programs.folder / "wrapper"])
-        if status:
-            raise Failed(f"programs/wrapper.cpp fails: {said[:1500]}")
+    if way.target in QUICK:
+        programs.run("wrapper", [C / "programs/wrapper.cpp"])
         done.append("wrapper.cpp")
     if lines_of_page(programs):
         done.append("the lines of docs/FFI.md")

@@ -10,5 +10,4 @@ pub mod peer_window;
 pub mod receiver;
 pub mod ring;
 pub mod scoreboard;
-pub mod sender;
 pub mod tcp;

@@ -22,7 +22,7 @@ ghost use Rattle.std.specs.Prelude.{◌==◌, ◌↔◌, ◌≡◌, ◌≢◌, �
 
 use crate::refusals::{no_number, refused_segment_span};
 use crate::results::{SegmentSpan, segment_span};
-use net_receiver::FiniteSenderHead;
+use net_receiver::{FiniteSenderHead};
 
 /// Makes `sender` the head of a sender of a stream that begins at position `first`; nothing was
 /// written. It is sound for every storage.
@@ -44,10 +44,10 @@ pub extern "C" fn net_base_finite_sender_init(sender: &mut FiniteSenderHead, fir
     true
 }
 
-/// Returns whether this head is sound for a storage of `capacity` bytes: `sender` is that of a
-/// sender; `closed` and `finished` are 0 or 1, and `finished` is 1 only if `closed` is and the
-/// queue is empty; and `sent` is from the first number that isn't acknowledged up to the number
-/// after the last one, which fits 64 bits.
+/// Returns whether this head is sound for a storage of `capacity` bytes: `sender.place` is that of
+/// a ring of as many; `closed` and `finished` are 0 or 1, and `finished` is 1 only if `closed` is
+/// and the queue is empty; and `sent` is from the first number that isn't acknowledged up to the
+/// number after the last one, which fits 64 bits.
 #[unsafe(no_mangle)]
 pub extern "C" fn net_base_finite_sender_is_sound(
     sender: &FiniteSenderHead,
@@ -111,7 +111,8 @@ pub extern "C" fn net_base_finite_sender_numbers_end(
 pub extern "C" fn net_base_finite_sender_room(sender: &FiniteSenderHead, capacity: usize) -> usize
     ensures value { (capacity ≢ no_number) × (IsSoundFiniteSender capacity sender.now) → (storage : List ℕ) → length
         storage ≡ capacity → result ≡ finite_room (finite_sender_of sender.now storage) }
-    ensures refused { ((capacity ≢ no_number) × (IsSoundFiniteSender capacity sender.now) → ⊥) → result ≡ no_number }
+    ensures refused { ((capacity ≢ no_number) × (IsSoundFiniteSender capacity sender.now) → ⊥) → result ≡ no_number
+        }
 {
     if capacity == no_number() || !sender.is_sound(capacity) {
         return no_number();
@@ -120,7 +121,7 @@ pub extern "C" fn net_base_finite_sender_room(sender: &FiniteSenderHead, capacit
 }
 
 /// Enqueues the first of these bytes, as many as `net_base_finite_sender_room` says, and returns
-/// how many.
+/// how many. Unless the sender is closed, an empty queue is rewound before, also for no bytes.
 ///
 /// It is refused if `sender` isn't that of a sender over `storage.len()` bytes: `NET_BASE_NONE`,
 /// and nothing changes.
@@ -175,11 +176,11 @@ pub extern "C" fn net_base_finite_sender_close(
     true
 }
 
-/// Returns where the bytes of a segment from `position` on are, as `net_base_sender_peek_at` does,
-/// and whether the segment ends the stream: the sender is closed, and the bytes end where it does.
-/// Its numbers, the end's among them, are below `limit`: the end of the window is one, and
-/// `position` plus the segment size another. A segment at `position` without bytes that ends the
-/// stream is the end alone.
+/// Returns where the bytes of a segment from `position` on are, none if the byte at `position`
+/// isn't queued, and whether the segment ends the stream: the sender is closed, and the bytes end
+/// where it does. Its numbers, the end's among them, are below `limit`: the end of the window is
+/// one, and `position` plus the segment size another. A segment at `position` without bytes that
+/// ends the stream is the end alone.
 ///
 /// It is refused if `sender` isn't that of a sender over `capacity` bytes: `from` is
 /// `NET_BASE_NONE`, `count` and `contiguous` are 0, `is_last` is false.

@@ -38,10 +38,10 @@ impl FiniteSenderHead {
         }
     }
 
-    /// Returns whether this head is sound for a storage of `capacity` bytes: `sender` is that of a
-    /// sender; `closed` and `finished` are 0 or 1, and `finished` is 1 only if `closed` is and the
-    /// queue is empty; and `sent` is from the first number that isn't acknowledged up to the number
-    /// after the last one, which fits 64 bits.
+    /// Returns whether this head is sound for a storage of `capacity` bytes: `sender.place` is that
+    /// of a ring of as many; `closed` and `finished` are 0 or 1, and `finished` is 1 only if `closed`
+    /// is and the queue is empty; and `sent` is from the first number that isn't acknowledged up to
+    /// the number after the last one, which fits 64 bits.
     pub fn is_sound(&self, capacity: usize) -> bool {
         if !self.sender.is_sound(capacity) || self.closed > 1 || self.finished > self.closed {
             return false;
@@ -84,7 +84,8 @@ impl FiniteSenderHead {
         room.min(u64::MAX - 1 - self.sender.end()) as usize
     }
 
-    /// Enqueues the first of these bytes, as many as `room` says, and returns how many.
+    /// Enqueues the first of these bytes, as many as `room` says, and returns how many. Unless the
+    /// sender is closed, an empty queue is rewound before, also for no bytes.
     #[inline]
     pub fn write(&mut self, storage: &mut [u8], bytes: &[u8]) -> usize {
         if self.closed != 0 {
@@ -100,11 +101,11 @@ impl FiniteSenderHead {
         self.closed = 1;
     }
 
-    /// Returns where the bytes of a segment from `pos` on are, as `SenderHead::peek_at` does, and
-    /// whether the segment ends the stream: the sender is closed, and the bytes end where it does.
-    /// Its numbers, the end's among them, are below `limit`: the end of the window is one, and
-    /// `pos` plus the segment size another. A segment at `pos` without bytes that ends the stream
-    /// is the end alone.
+    /// Returns where the bytes of a segment from `pos` on are, none if the byte at `pos` isn't
+    /// queued, and whether the segment ends the stream: the sender is closed, and the bytes end
+    /// where it does. Its numbers, the end's among them, are below `limit`: the end of the window is
+    /// one, and `pos` plus the segment size another. A segment at `pos` without bytes that ends the
+    /// stream is the end alone.
     #[inline]
     pub fn peek_at(&self, capacity: usize, pos: u64, limit: u64) -> (Span, bool) {
         let room = limit

@@ -3,7 +3,7 @@ use crate::rattle::prelude::*;
 
 use crate::proved::net_ffi::refusals::{no_number, refused_segment_span};
 use crate::proved::net_ffi::results::{SegmentSpan, segment_span};
-use crate::proved::net_receiver::FiniteSenderHead;
+use crate::proved::net_receiver::{FiniteSenderHead};
 
 #[inline(always)]
 pub fn net_base_finite_sender_init(sender: &mut FiniteSenderHead, first: u64) -> bool {
