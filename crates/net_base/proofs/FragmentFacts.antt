@@ -2,7 +2,7 @@
 use Rattle.std.proofs.Common.{◌≡◌, ℕ, ◌-◌, ◌∙◌, List, length, take, drop, ap, arith, take_all, ◌↔◌, suc, ◌+◌, ◌<◌}
 use Rattle.std.proofs.Common.{◌≤◌, true, [], ◌∷◌, ◌&&◌, All, max, IsTrue, nat_lt, nat_le, inl, inr, get_or, subst}
 use Rattle.std.proofs.Common.{Some, None, ⊎_elim, ◌≢◌, Bool, false, not, min, nat_eq, sym, length-take, length-drop}
-use Rattle.std.proofs.Common.{refl, if◌then◌else◌, IsFalse, ap₂, ◌||◌}
+use Rattle.std.proofs.Common.{refl, if◌then◌else◌, IsFalse, ap₂, ◌||◌, Result, Err, OnOk}
 use Rattle.net_ring.specs.Overwrite.{overwrite, OverwritesAt}
 use Rattle.net_ring.proofs.RingFacts.{overwrite_whole}
 use Rattle.std.specs.List.{count_by, slice_get}
@@ -14,7 +14,8 @@ use Rattle.net_assembler.specs.Positions.{Positions, IsMaximalRun, AreMaximalRun
 use Rattle.net_assembler.specs.Positions.{with_range}
 use Rattle.net_assembler.proofs.Positions.{contains-nothing}
 use Rattle.net_base.specs.Fragments.{IsBelow, Meets, meets_one, HasOther, FragmentsState, with_fragment}
-use Rattle.net_base.specs.Fragments.{after_fragments, covers, last_byte}
+use Rattle.net_base.specs.Fragments.{after_fragments, covers, last_byte, Adds, with_piece}
+use Rattle.net_base.specs.declared.storage.fragments.FragmentError.{FragmentError}
 use Rattle.std.specs.Str.{bytes_eq}
 use Rattle.std.proofs.lemmas.List.{get_or-take, get_or-drop, get_or_default}
 use Rattle.std.proofs.lemmas.Slice.Eq.{bytes_eq-Decides}
@@ -224,3 +225,21 @@ pub present_byte : LengthStays → ElementsAre → MembersOfNothing → MembersW
     get_or (after_fragments b fs).bytes p 0 ≡ last_byte p d fs
 present_byte long at empty members b fs p d new h some =
     byte_after long at b fs p 0 h ∙ independent members b fs p (get_or b.bytes p 0) d (rw new (empty p)) some
+
+-- ---- what adding a fragment returns
+-- a refusal says the same whatever is left
+module _ {T U : Type 0} (n : ℕ) (b : FragmentsState) (o : ℕ) (xs : List ℕ) (last : Bool) (f : FragmentError) (r : Result T FragmentError)
+    (s : Result U FragmentError) (u v : FragmentsState) (r_is : r ≡ Err f) (s_is : s ≡ Err f) where
+  to_first : (k : FragmentError) → s ≡ Err k → r ≡ Err k
+  to_first k q = let p : ◌≡◌ {A = Result U FragmentError} (Err f) (Err k) = sym s_is ∙ q in let e : f ≡ k = cc in cc
+
+  to_second : (k : FragmentError) → r ≡ Err k → s ≡ Err k
+  to_second k q = let p : ◌≡◌ {A = Result T FragmentError} (Err f) (Err k) = sym r_is ∙ q in let e : f ≡ k = cc in cc
+
+  pub refused_adds : Adds n b o xs last r u → Adds n b o xs last s v
+  refused_adds a = record {
+    ok = subst (λ (t : Result U FragmentError). OnOk t (v ≡ with_piece b o xs last)) (sym s_is) tt;
+    too_long = (λ q. a.too_long.0 (to_first _ q), λ h. to_second _ (a.too_long.1 h));
+    other_size = (λ q. a.other_size.0 (to_first _ q), λ h. to_second _ (a.other_size.1 h));
+    too_many = (λ q. a.too_many.0 (to_first _ q), λ h. to_second _ (a.too_many.1 h));
+  }

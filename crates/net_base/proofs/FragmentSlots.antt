@@ -10,10 +10,9 @@ use Rattle.std.proofs.lemmas.Bool.Decides.{nat_tests}
 use Rattle.std.proofs.lemmas.Int.{ints}
 use Rattle.std.proofs.lemmas.List.{get_or_default}
 use Rattle.std.proofs.lemmas.List.Sums.{position_or_len_is}
-use Rattle.net_assembler.specs.Assembler.{MakesTooManyRuns}
 use Rattle.net_assembler.specs.Positions.{contains, nothing}
 use Rattle.net_assembler.proofs.Positions.{contains-nothing}
-use Rattle.net_base.specs.Fragments.{FragmentsState, begun, with_piece, HasOtherEnd, Differs, Accepts}
+use Rattle.net_base.specs.Fragments.{FragmentsState, begun, with_piece, Differs, Adds, Accepts}
 use Rattle.net_base.specs.declared.storage.fragments.FragmentError.{FragmentError}
 use Rattle.net_base.specs.declared.storage.fragments.table.AcceptError.{AcceptError}
 use Rattle.net_base.specs.declared.storage.fragments.FragmentError.TheVariants as fragment
@@ -85,15 +84,7 @@ module _ {X : Type 0} (f : X → ℤ) (xs : List X) where
 pub none_differs : (b : FragmentsState) (e : ℤ) (o : ℕ) (xs : List ℕ) → Differs (begun b e) o xs → ⊥
 none_differs b e o xs d = both_ways (contains nothing d.0) (contains-nothing d.0) d.1
 
--- what a buffer said of a fragment
-pub record Said (n : ℕ) (b : FragmentsState) (o : ℕ) (xs : List ℕ) (last : Bool) (r : Result (Unit {0}) FragmentError) (u : FragmentsState) : Type 0 where
-  pub ok : OnOk r (u ≡ with_piece b o xs last)
-  pub too_long : (r ≡ Err fragment.TooLong) ↔ (length b.bytes < o + length xs)
-  pub other_size : (r ≡ Err fragment.OtherSize) ↔ ((o + length xs ≤ length b.bytes) × HasOtherEnd b (o + length xs) last)
-  pub too_many : (r ≡ Err fragment.TooManyHoles) ↔ ((o + length xs ≤ length b.bytes)
-      × (HasOtherEnd b (o + length xs) last → ⊥) × MakesTooManyRuns n b.present o (length xs))
-
--- what its refusal became
+-- what a buffer's refusal became
 pub record Became (f : FragmentError) (e : AcceptError) : Type 0 where
   pub too_long : (e ≡ accept.TooLong) ↔ (f ≡ fragment.TooLong)
   pub too_many : (e ≡ accept.TooManyHoles) ↔ (f ≡ fragment.TooManyHoles)
@@ -111,7 +102,7 @@ module _ (n : ℕ) (b : FragmentsState) (o : ℕ) (xs : List ℕ) (last : Bool) 
     too_many = (λ q. absurd (cc), λ h. absurd (h.0 d));
   }
 
-  module _ (r : Result (Unit {0}) FragmentError) (same : Differs b o xs → ⊥) (said : Said n b o xs last r u) where
+  module _ (r : Result (Unit {0}) FragmentError) (same : Differs b o xs → ⊥) (said : Adds n b o xs last r u) where
     is_not : {A : Type 0} (x : Unit {0}) (f : FragmentError) → r ≡ Ok x → r ≡ Err f → A
     is_not x f p q = absurd (cc)
 

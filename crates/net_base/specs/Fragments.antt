@@ -4,6 +4,7 @@
 --     with_fragment b offset data', IsComplete b n      a fragment arrived, and all bytes have
 --     sized b last end, with_piece b offset data' last      a fragment arrived that is the packet's last one or isn't
 --     HasOtherEnd b end last      it contradicts the packet's size
+--     Adds      what adding it returns, and leaves
 --     begun b e      an empty buffer with the bytes of b, which expires after e
 --     IsBelow s n      a set has no position from n on
 --     Contradicts s total n      the packet can't have n bytes
@@ -36,8 +37,10 @@ use Rattle.net_assembler.specs.RunLists.{set_of, HasSoundRuns, IsCanonical, zero
 use Rattle.net_base.specs.declared.storage.fragments.head.FragmentsHead.{FragmentsHead}
 use Rattle.std.specs.List.{position, list_any}
 use Rattle.net_assembler.specs.Assembler.{MakesTooManyRuns}
+use Rattle.net_base.specs.declared.storage.fragments.FragmentError.{FragmentError}
 use Rattle.net_base.specs.declared.storage.fragments.table.AcceptError.{AcceptError}
 use Rattle.std.specs.FinSet as set
+use Rattle.net_base.specs.declared.storage.fragments.FragmentError.TheVariants as refused
 use Rattle.net_base.specs.declared.storage.fragments.table.AcceptError.TheVariants as accept
 
 -- the bytes of the buffer, the positions that arrived, how many bytes the packet has, once that is
@@ -97,6 +100,16 @@ sized b last end = if last then record b { total = Some end } else b
 
 abbrev pub with_piece : FragmentsState → ℕ → List ℕ → Bool → FragmentsState
 with_piece b offset data' last = with_fragment (sized b last (offset + length data')) offset data'
+
+-- the fragment is kept, or it is refused for one reason
+pub record Adds {T : Type 0} (most_runs : ℕ) (b : FragmentsState) (offset : ℕ) (data' : List ℕ) (last : Bool)
+    (r : Result T FragmentError) (u : FragmentsState) : Type 0 where
+  pub ok : OnOk r (u ≡ with_piece b offset data' last)
+  pub too_long : (r ≡ Err refused.TooLong) ↔ (length b.bytes < offset + length data')
+  pub other_size : (r ≡ Err refused.OtherSize) ↔
+      ((offset + length data' ≤ length b.bytes) × HasOtherEnd b (offset + length data') last)
+  pub too_many : (r ≡ Err refused.TooManyHoles) ↔ ((offset + length data' ≤ length b.bytes)
+      × (HasOtherEnd b (offset + length data') last → ⊥) × MakesTooManyRuns most_runs b.present offset (length data'))
 
 -- one of the n positions from o on is in the set
 abbrev pub Meets : Positions → ℕ → ℕ → Type 0

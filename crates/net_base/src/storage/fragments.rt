@@ -5,7 +5,7 @@ ghost use Rattle.std.specs.declared.option.Option.TheVariants.{Some, None};
 ghost use Rattle.net_assembler.specs.Positions.{nothing};
 ghost use Rattle.net_assembler.specs.Assembler.{MakesTooManyRuns};
 ghost use Rattle.net_base.specs.Fragments.{fragments_of, HasSoundParts, IsExact, with_fragment, limit_of, IsBelow};
-ghost use Rattle.net_base.specs.Fragments.{IsComplete, Contradicts, Differs, HasOtherEnd, Meets, begun, with_piece};
+ghost use Rattle.net_base.specs.Fragments.{IsComplete, Contradicts, Differs, Adds, Meets, begun};
 
 use crate::time::Instant;
 use net_assembler::Run;
@@ -243,17 +243,8 @@ impl<B: Storage<u8>, const N: usize> FragmentsOver<B, N> {
         data: &[u8],
         is_last: bool,
     ) -> Result<(), FragmentError>
-        ensures ok { OnOk result (self.new ≡ with_piece self.old offset «data».now is_last) }
+        ensures adds { Adds N self.old offset «data».now is_last result self.new }
         ensures unchanged { OnErr result (self.new ≡ self.old) }
-        ensures too_long { (result ≡ Err FragmentError.TooLong)
-            ↔ (length self.old.bytes < offset + length «data».now) }
-        ensures other_size { (result ≡ Err FragmentError.OtherSize)
-            ↔ ((offset + length «data».now ≤ length self.old.bytes)
-            × HasOtherEnd self.old (offset + length «data».now) is_last) }
-        ensures too_many { (result ≡ Err FragmentError.TooManyHoles)
-            ↔ ((offset + length «data».now ≤ length self.old.bytes)
-            × (HasOtherEnd self.old (offset + length «data».now) is_last → ⊥)
-            × MakesTooManyRuns N self.old.present offset (length «data».now)) }
     {
         let count = self.bytes.count();
         let bytes = self.bytes.part_mut(0, count);
@@ -287,18 +278,8 @@ impl<B: Storage<u8>, const N: usize> FragmentsOver<B, N> {
         is_last: bool,
         expires_at: Instant,
     ) -> Result<(), FragmentError>
-        ensures ok { OnOk result
-            (self.new ≡ with_piece (begun self.old expires_at) offset «data».now is_last) }
+        ensures adds { Adds N (begun self.old expires_at) offset «data».now is_last result self.new }
         ensures unchanged { OnErr result (self.new ≡ self.old) }
-        ensures too_long { (result ≡ Err FragmentError.TooLong)
-            ↔ (length self.old.bytes < offset + length «data».now) }
-        ensures other_size { (result ≡ Err FragmentError.OtherSize)
-            ↔ ((offset + length «data».now ≤ length self.old.bytes)
-            × HasOtherEnd (begun self.old expires_at) (offset + length «data».now) is_last) }
-        ensures too_many { (result ≡ Err FragmentError.TooManyHoles)
-            ↔ ((offset + length «data».now ≤ length self.old.bytes)
-            × (HasOtherEnd (begun self.old expires_at) (offset + length «data».now) is_last → ⊥)
-            × MakesTooManyRuns N (begun self.old expires_at).present offset (length «data».now)) }
     {
         let until = expires_at.total_micros();
         let count = self.bytes.count();

@@ -6,7 +6,7 @@ ghost use Rattle.net_assembler.specs.Assembler.{MakesTooManyRuns};
 ghost use Rattle.net_assembler.specs.Positions.{nothing};
 ghost use Rattle.net_assembler.specs.RunLists.{set_of, HasSoundRuns};
 ghost use Rattle.net_base.specs.Fragments.{with_fragment, limit_of, IsComplete, IsBelow, Contradicts, begun};
-ghost use Rattle.net_base.specs.Fragments.{with_piece, HasOtherEnd, Differs, HasOther, Meets, total_of, fragments_of};
+ghost use Rattle.net_base.specs.Fragments.{Adds, Differs, HasOther, Meets, total_of, fragments_of};
 ghost use Rattle.net_base.specs.Fragments.{HasSoundParts, IsExact};
 
 use super::FragmentError;
@@ -201,22 +201,10 @@ impl FragmentsHead {
     ) -> Result<(), FragmentError>
         requires { HasSoundParts self.old bytes.old runs.old }
         ensures sound { HasSoundParts self.new bytes.new runs.new }
-        ensures ok { OnOk result (fragments_of self.new bytes.new runs.new
-            ≡ with_piece (fragments_of self.old bytes.old runs.old) offset «data».now is_last) }
+        ensures adds { Adds (length runs.old) (fragments_of self.old bytes.old runs.old) offset «data».now
+            is_last result (fragments_of self.new bytes.new runs.new) }
         ensures unchanged { OnErr result
             ((self.new ≡ self.old) × (bytes.new ≡ bytes.old) × (runs.new ≡ runs.old)) }
-        ensures too_long { (result ≡ Err FragmentError.TooLong)
-            ↔ (length bytes.old < offset + length «data».now) }
-        ensures other_size { (result ≡ Err FragmentError.OtherSize)
-            ↔ ((offset + length «data».now ≤ length bytes.old)
-            × HasOtherEnd (fragments_of self.old bytes.old runs.old)
-            (offset + length «data».now) is_last) }
-        ensures too_many { (result ≡ Err FragmentError.TooManyHoles)
-            ↔ ((offset + length «data».now ≤ length bytes.old)
-            × (HasOtherEnd (fragments_of self.old bytes.old runs.old)
-            (offset + length «data».now) is_last → ⊥)
-            × MakesTooManyRuns (length runs.old) (set_of self.old.present runs.old)
-            offset (length «data».now)) }
         ensures exact { IsExact self.old → IsExact self.new }
     {
         if !is_last {
@@ -255,22 +243,10 @@ impl FragmentsHead {
     ) -> Result<(), FragmentError>
         requires { HasSoundParts self.old bytes.old runs.old }
         ensures sound { HasSoundParts self.new bytes.new runs.new }
-        ensures ok { OnOk result (fragments_of self.new bytes.new runs.new
-            ≡ with_piece (begun (fragments_of self.old bytes.old runs.old) expires_at) offset
-            «data».now is_last) }
+        ensures adds { Adds (length runs.old) (begun (fragments_of self.old bytes.old runs.old) expires_at) offset
+            «data».now is_last result (fragments_of self.new bytes.new runs.new) }
         ensures unchanged { OnErr result
             ((self.new ≡ self.old) × (bytes.new ≡ bytes.old) × (runs.new ≡ runs.old)) }
-        ensures too_long { (result ≡ Err FragmentError.TooLong)
-            ↔ (length bytes.old < offset + length «data».now) }
-        ensures other_size { (result ≡ Err FragmentError.OtherSize)
-            ↔ ((offset + length «data».now ≤ length bytes.old)
-            × HasOtherEnd (begun (fragments_of self.old bytes.old runs.old) expires_at)
-            (offset + length «data».now) is_last) }
-        ensures too_many { (result ≡ Err FragmentError.TooManyHoles)
-            ↔ ((offset + length «data».now ≤ length bytes.old)
-            × (HasOtherEnd (begun (fragments_of self.old bytes.old runs.old) expires_at)
-            (offset + length «data».now) is_last → ⊥)
-            × MakesTooManyRuns (length runs.old) nothing offset (length «data».now)) }
         ensures exact { IsExact self.old → IsExact self.new }
     {
         let mut head = FragmentsHead::new(expires_at);

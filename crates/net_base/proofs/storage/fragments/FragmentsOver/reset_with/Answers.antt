@@ -1,12 +1,8 @@
-use Rattle.std.proofs.Common.{◌≡◌, ◌↔◌, ◌∙◌, ◌+◌, ◌≤◌, ℕ, ℤ, Bool, List, Result, Err, ap, length, subst, sym, to_z}
-use Rattle.std.proofs.lemmas.Result.{on_err_weaker, on_ok_weaker}
+use Rattle.std.proofs.Common.{◌≡◌, ◌∙◌, ℕ, ℤ, List, ap, length, subst, sym, to_z}
+use Rattle.std.proofs.lemmas.Result.{on_err_weaker}
 use Rattle.std.proofs.Common.{of_z, w64, FitsSigned, rules}
 use Rattle.std.proofs.lemmas.Int.{to_z-of_z}
-use Rattle.net_assembler.specs.Assembler.{MakesTooManyRuns}
-use Rattle.net_assembler.specs.Positions.{nothing}
-use Rattle.net_base.specs.Fragments.{fragments_of, HasSoundParts, FragmentsState, begun, with_piece, HasOtherEnd}
-use Rattle.net_base.specs.declared.storage.fragments.FragmentError.{FragmentError}
-use Rattle.net_base.specs.declared.storage.fragments.FragmentError.TheVariants as fragment
+use Rattle.net_base.specs.Fragments.{fragments_of, HasSoundParts, FragmentsState, begun, Adds}
 use Rattle.net_base.proofs.FragmentFacts.{part_is, whole_written}
 use Rattle.net_base.proofs.storage.fragments.FragmentsOver.reset_with.Given as given
 use Rattle.net_base.proofs.storage.fragments.FragmentsOver.reset_with.Goals as goal
@@ -36,11 +32,6 @@ returns-clause-unchanged g c =
     (λ i. fragments_of (same.0 i) ((stored g c ∙ same.1 ∙ lent g c) i) (same.2 i)) ∙ c.self.view_is)
     c.reset_with.ensures.unchanged
 
--- when there are too many runs in an empty buffer
-abbrev HasTooMany : Result (Unit {0}) FragmentError → ℕ → ℕ → Bool → FragmentsState → ℤ → ℕ → Type 0
-HasTooMany r o k last b e n =
-    (r ≡ Err fragment.TooManyHoles) ↔ ((o + k ≤ length b.bytes) × (HasOtherEnd (begun b e) (o + k) last → ⊥) × MakesTooManyRuns n nothing o k)
-
 -- the head's buffer is the one that is shown
 shown : (g : given.Over) (c : goal.After-self-2-1 g) → fragments_of c.self.inside.head c.part_mut-bytes.result.now c.self.inside.runs ≡ c.args.self.now
 shown g c = ap (λ (xs : List ℕ). fragments_of c.self.inside.head xs c.self.inside.runs) (lent g c) ∙ c.self.view_is
@@ -49,19 +40,14 @@ shown g c = ap (λ (xs : List ℕ). fragments_of c.self.inside.head xs c.self.in
 until : (g : given.Over) (c : goal.After-self-2-1 g) → to_z w64 (of_z w64 c.total_micros-until.result) ≡ c.args.expires_at
 until g c = let fits : FitsSigned w64 c.total_micros-until.result = search rules in to_z-of_z w64 _ fits ∙ c.total_micros-until.ensures
 
-pub returns-clause-ok : goal.returns-clause-ok
-returns-clause-ok g c =
-    on_ok_weaker c.reset_with.result
-    (λ is.
-    ap (λ (xs : List ℕ). fragments_of c.reset_with.new.self xs c.reset_with.new.runs) (stored g c) ∙ is
-    ∙ ap (λ (b : FragmentsState). with_piece (begun b (to_z w64 (of_z w64 c.total_micros-until.result))) c.args.offset c.args.data.now c.args.is_last) (shown g c)
-    ∙ ap (λ (e : ℤ). with_piece (begun c.args.self.now e) c.args.offset c.args.data.now c.args.is_last) (until g c))
-    c.reset_with.ensures.ok
-
-pub returns-clause-too_many : goal.returns-clause-too_many
-returns-clause-too_many g c =
-    let r = c.reset_with.result in let o = c.args.offset in let k = length c.args.data.now in let last = c.args.is_last in
-    let runs = length c.self.inside.runs in
-    let at_b = subst (λ (x : FragmentsState). HasTooMany r o k last x (to_z w64 (of_z w64 c.total_micros-until.result)) runs) (shown g c) c.reset_with.ensures.too_many in
-    let at_e = subst (λ (e : ℤ). HasTooMany r o k last c.args.self.now e runs) (until g c) at_b in
-    subst (HasTooMany r o k last c.args.self.now c.args.expires_at) c.self.invariant.1 at_e
+pub returns-clause-adds : goal.returns-clause-adds
+returns-clause-adds g c =
+    let r = c.reset_with.result in let o = c.args.offset in let xs = c.args.data.now in let last = c.args.is_last in
+    let b : FragmentsState = fragments_of c.self.inside.head c.part_mut-bytes.result.now c.self.inside.runs in
+    let u : FragmentsState = fragments_of c.reset_with.new.self c.reset_with.new.bytes c.reset_with.new.runs in
+    let e = to_z w64 (of_z w64 c.total_micros-until.result) in
+    let left = ap (λ (ys : List ℕ). fragments_of c.reset_with.new.self ys c.reset_with.new.runs) (sym (stored g c)) in
+    let here = subst (λ (n : ℕ). Adds n (begun b e) o xs last r u) c.self.invariant.1 c.reset_with.ensures.adds in
+    let there = subst (λ (a : FragmentsState). Adds g.row.N (begun a e) o xs last r u) (shown g c) here in
+    let then' = subst (λ (d : ℤ). Adds g.row.N (begun c.args.self.now d) o xs last r u) (until g c) there in
+    subst (λ (v : FragmentsState). Adds g.row.N (begun c.args.self.now c.args.expires_at) o xs last r v) left then'
