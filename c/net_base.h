@@ -710,15 +710,15 @@ struct net_base_held_run {
     uint64_t end;
 };
 
-/** Returns whether this head, a storage and runs are sound: `place` is that of a ring of the
- * storage, whose `read_at` is `count_read` modulo the capacity; the first missing position fits 64
- * bits; `held` and the runs are those of an assembler without position 0; and each held position
- * is in the free window, and the one after it fits 64 bits. It looks at each held run, and at no
- * byte.
+/** Returns whether this head, a storage of `capacity` bytes and runs are sound: `place` is that of
+ * a ring of the storage, whose `read_at` is `count_read` modulo the capacity; the first missing
+ * position fits 64 bits; `held` and the runs are those of an assembler without position 0; and
+ * each held position is in the free window, and the one after it fits 64 bits. It looks at each
+ * held run, and at no byte.
  */
 bool net_base_receiver_is_sound(
-    const struct net_base_receiver *receiver, const uint8_t *storage, size_t storage_length,
-    const struct net_base_run *runs, size_t runs_length);
+    const struct net_base_receiver *receiver, size_t capacity, const struct net_base_run *runs,
+    size_t runs_length);
 
 /** Writes to `next` the first missing position: the first position, plus the count of bytes read,
  * plus those queued.
@@ -747,8 +747,7 @@ size_t net_base_receiver_peek_slice(
     uint8_t *into, size_t into_length);
 
 /** Lists held runs at the beginning of `into`, the newest first, and returns how many: as many as
- * are held, or as `into` has elements. The rest of `into` stays as it is. The storage is for the
- * contract only.
+ * are held, or as `into` has elements. The rest of `into` stays as it is.
  *
  * The first is the run that has `position`, that of the segment just taken, if it is held; then
  * come the runs that have the positions in `recent`, in their order, and then the others, in
@@ -759,27 +758,27 @@ size_t net_base_receiver_peek_slice(
  * first of them. RFC 2018, section 4, wants this order. The time grows with the number of runs
  * times the number of runs and of elements of `recent` together.
  *
- * It is refused if `place` isn't that of a ring of `storage_length` bytes, `next` doesn't fit 64
- * bits, or `held.used` is above `runs_length`: `NET_BASE_NONE`, and nothing changes.
+ * It is refused if `next` doesn't fit 64 bits, or `held.used` is above `runs_length`:
+ * `NET_BASE_NONE`, and nothing changes.
  *
  * Requires: head and runs are sound, as `net_base_receiver_is_sound` tests.
  */
 size_t net_base_receiver_newest_runs(
-    const struct net_base_receiver *receiver, const uint8_t *storage, size_t storage_length,
-    const struct net_base_run *runs, size_t runs_length, uint64_t position, uint64_t *recent,
-    size_t recent_length, struct net_base_held_run *into, size_t into_length);
+    const struct net_base_receiver *receiver, const struct net_base_run *runs, size_t runs_length,
+    uint64_t position, uint64_t *recent, size_t recent_length, struct net_base_held_run *into,
+    size_t into_length);
 
 /** Returns the held run with number `index`, counted from 0 in rising order. If there are no more
  * than `index`, start and end are 0.
  *
- * If `place` isn't that of a ring of `storage_length` bytes, `next` doesn't fit 64 bits, or
- * `held.used` is above `runs_length`, it is refused: start and end are `UINT64_MAX`.
+ * If `next` doesn't fit 64 bits, or `held.used` is above `runs_length`, it is refused: start and
+ * end are `UINT64_MAX`.
  *
- * Requires: head, storage and runs are sound, as `net_base_receiver_is_sound` tests.
+ * Requires: head and runs are sound, as `net_base_receiver_is_sound` tests.
  */
 struct net_base_held_run net_base_receiver_run_at(
-    const struct net_base_receiver *receiver, const uint8_t *storage, size_t storage_length,
-    const struct net_base_run *runs, size_t runs_length, size_t index);
+    const struct net_base_receiver *receiver, const struct net_base_run *runs, size_t runs_length,
+    size_t index);
 
 /* Scoreboards: what a sender knows of the positions that the other end has, in runs that the
  * caller keeps.
@@ -933,25 +932,24 @@ struct net_base_kept_counts {
 NET_BASE_MUST_USE bool net_base_finite_receiver_init(
     struct net_base_finite_receiver *receiver, uint64_t first);
 
-/** Returns whether this head, a storage and runs are sound: they are those of a receiver, and the
- * position after its last byte, held ones too, is at most the end, if that is known, and below
- * 2^64 - 1. It looks at each held run, and at no byte.
+/** Returns whether this head, a storage of `capacity` bytes and runs are sound: they are those of a
+ * receiver, and the position after its last byte, held ones too, is at most the end, if that is
+ * known, and below 2^64 - 1. It looks at each held run, and at no byte.
  */
 bool net_base_finite_receiver_is_sound(
-    const struct net_base_finite_receiver *receiver, const uint8_t *storage, size_t storage_length,
+    const struct net_base_finite_receiver *receiver, size_t capacity,
     const struct net_base_run *runs, size_t runs_length);
 
 /** Returns whether the stream can end at `position`: it is the end that is known, or none is, and
  * it isn't below the first missing position or a held run's end. 2^64 - 1 is no end.
  *
- * It is refused if `place` isn't that of a ring of `storage_length` bytes, `next` doesn't fit 64
- * bits, or `held.used` is above `runs_length`: false.
+ * It is refused if `next` doesn't fit 64 bits, or `held.used` is above `runs_length`: false.
  *
  * Requires: head and runs are sound, as `net_base_finite_receiver_is_sound` tests.
  */
 bool net_base_finite_receiver_can_end(
-    const struct net_base_finite_receiver *receiver, const uint8_t *storage, size_t storage_length,
-    const struct net_base_run *runs, size_t runs_length, uint64_t position);
+    const struct net_base_finite_receiver *receiver, const struct net_base_run *runs,
+    size_t runs_length, uint64_t position);
 
 /** Returns whether all bytes and the end have arrived. Once it is so it stays so.
  *
@@ -993,19 +991,19 @@ size_t net_base_finite_receiver_read(
 bool net_base_finite_receiver_remove(
     struct net_base_finite_receiver *receiver, size_t capacity, size_t count);
 
-/** Returns how many bytes of a segment of `len` bytes at `position` would be new: those in the free
- * window and below the end whose positions are not held. It is asked before the segment is kept,
- * since the bytes whose positions are held are kept again, and counted. The result is 0 for a
- * duplicate, which TCP may report, for a segment that is beyond the free window, and for one
- * without bytes. It looks at each held run.
+/** Returns how many bytes of a segment of `len` bytes at `position` would be new, where the storage
+ * has `capacity` bytes: those in the free window and below the end whose positions are not held.
+ * It is asked before the segment is kept, since the bytes whose positions are held are kept again,
+ * and counted. The result is 0 for a duplicate, which TCP may report, for a segment that is beyond
+ * the free window, and for one without bytes. It looks at each held run.
  *
- * It is refused if `place` isn't that of a ring of `storage_length` bytes, `next` doesn't fit 64
- * bits, or `held.used` is above `runs_length`: `NET_BASE_NONE`.
+ * It is refused if `place` isn't that of a ring of `capacity` bytes, `next` doesn't fit 64 bits,
+ * or `held.used` is above `runs_length`: `NET_BASE_NONE`.
  *
  * Requires: head and runs are sound, as `net_base_finite_receiver_is_sound` tests.
  */
 size_t net_base_finite_receiver_count_new(
-    const struct net_base_finite_receiver *receiver, const uint8_t *storage, size_t storage_length,
+    const struct net_base_finite_receiver *receiver, size_t capacity,
     const struct net_base_run *runs, size_t runs_length, uint64_t position, size_t len);
 
 /** Keeps the bytes of a segment that are in the free window and below the end, and writes to

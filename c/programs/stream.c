@@ -189,8 +189,8 @@ static void acknowledge(struct receiving *it, struct link *link, uint64_t positi
     must(net_base_advertised_window_announce_in_steps(
              &it->announced, SCALE, number, window_end, WINDOW, MSS, &segment.window),
         "announce_in_steps");
-    segment.block_count = net_base_receiver_newest_runs(&it->receiver.receiver, it->storage, WINDOW,
-        it->runs, RUNS, position, it->recent, BLOCKS, held, BLOCKS);
+    segment.block_count = net_base_receiver_newest_runs(
+        &it->receiver.receiver, it->runs, RUNS, position, it->recent, BLOCKS, held, BLOCKS);
     must(segment.block_count != NET_BASE_NONE, "newest_runs");
     segment.acknowledged = it->initial + (uint32_t)number;
     for (size_t i = 0; i < segment.block_count; i++) {

@@ -284,11 +284,10 @@ pub unsafe extern "C" fn net_base_fragments_complete(fragments: Option<&Fragment
 }
 
 #[unsafe(no_mangle)]
-pub unsafe extern "C" fn net_base_receiver_is_sound(receiver: Option<&ReceiverHead>, storage: *const u8, storage_length: usize, runs: *const Run, runs_length: usize) -> bool {
+pub unsafe extern "C" fn net_base_receiver_is_sound(receiver: Option<&ReceiverHead>, capacity: usize, runs: *const Run, runs_length: usize) -> bool {
     let Some(receiver) = receiver else { return false };
-    let Some(storage) = slice(storage, storage_length) else { return false };
     let Some(runs) = slice(runs, runs_length) else { return false };
-    heads::receiver::net_base_receiver_is_sound(receiver, storage, runs)
+    heads::receiver::net_base_receiver_is_sound(receiver, capacity, runs)
 }
 
 #[unsafe(no_mangle)]
@@ -313,21 +312,19 @@ pub unsafe extern "C" fn net_base_receiver_peek_slice(receiver: Option<&Receiver
 }
 
 #[unsafe(no_mangle)]
-pub unsafe extern "C" fn net_base_receiver_newest_runs(receiver: Option<&ReceiverHead>, storage: *const u8, storage_length: usize, runs: *const Run, runs_length: usize, position: u64, recent: *mut u64, recent_length: usize, into: *mut HeldRun, into_length: usize) -> usize {
+pub unsafe extern "C" fn net_base_receiver_newest_runs(receiver: Option<&ReceiverHead>, runs: *const Run, runs_length: usize, position: u64, recent: *mut u64, recent_length: usize, into: *mut HeldRun, into_length: usize) -> usize {
     let Some(receiver) = receiver else { return refusals::no_number() };
-    let Some(storage) = slice(storage, storage_length) else { return refusals::no_number() };
     let Some(runs) = slice(runs, runs_length) else { return refusals::no_number() };
     let Some(recent) = slice_mut(recent, recent_length) else { return refusals::no_number() };
     let Some(into) = slice_mut(into, into_length) else { return refusals::no_number() };
-    heads::receiver::net_base_receiver_newest_runs(receiver, storage, runs, position, recent, into)
+    heads::receiver::net_base_receiver_newest_runs(receiver, runs, position, recent, into)
 }
 
 #[unsafe(no_mangle)]
-pub unsafe extern "C" fn net_base_receiver_run_at(receiver: Option<&ReceiverHead>, storage: *const u8, storage_length: usize, runs: *const Run, runs_length: usize, index: usize) -> HeldRun {
+pub unsafe extern "C" fn net_base_receiver_run_at(receiver: Option<&ReceiverHead>, runs: *const Run, runs_length: usize, index: usize) -> HeldRun {
     let Some(receiver) = receiver else { return refusals::refused_held_run() };
-    let Some(storage) = slice(storage, storage_length) else { return refusals::refused_held_run() };
     let Some(runs) = slice(runs, runs_length) else { return refusals::refused_held_run() };
-    receiver::net_base_receiver_run_at(receiver, storage, runs, index)
+    receiver::net_base_receiver_run_at(receiver, runs, index)
 }
 
 #[unsafe(no_mangle)]
@@ -401,19 +398,17 @@ pub extern "C" fn net_base_finite_receiver_init(receiver: Option<&mut FiniteRece
 }
 
 #[unsafe(no_mangle)]
-pub unsafe extern "C" fn net_base_finite_receiver_is_sound(receiver: Option<&FiniteReceiverHead>, storage: *const u8, storage_length: usize, runs: *const Run, runs_length: usize) -> bool {
+pub unsafe extern "C" fn net_base_finite_receiver_is_sound(receiver: Option<&FiniteReceiverHead>, capacity: usize, runs: *const Run, runs_length: usize) -> bool {
     let Some(receiver) = receiver else { return false };
-    let Some(storage) = slice(storage, storage_length) else { return false };
     let Some(runs) = slice(runs, runs_length) else { return false };
-    heads::finite_receiver::net_base_finite_receiver_is_sound(receiver, storage, runs)
+    heads::finite_receiver::net_base_finite_receiver_is_sound(receiver, capacity, runs)
 }
 
 #[unsafe(no_mangle)]
-pub unsafe extern "C" fn net_base_finite_receiver_can_end(receiver: Option<&FiniteReceiverHead>, storage: *const u8, storage_length: usize, runs: *const Run, runs_length: usize, position: u64) -> bool {
+pub unsafe extern "C" fn net_base_finite_receiver_can_end(receiver: Option<&FiniteReceiverHead>, runs: *const Run, runs_length: usize, position: u64) -> bool {
     let Some(receiver) = receiver else { return false };
-    let Some(storage) = slice(storage, storage_length) else { return false };
     let Some(runs) = slice(runs, runs_length) else { return false };
-    heads::finite_receiver::net_base_finite_receiver_can_end(receiver, storage, runs, position)
+    heads::finite_receiver::net_base_finite_receiver_can_end(receiver, runs, position)
 }
 
 #[unsafe(no_mangle)]
@@ -450,11 +445,10 @@ pub extern "C" fn net_base_finite_receiver_remove(receiver: Option<&mut FiniteRe
 }
 
 #[unsafe(no_mangle)]
-pub unsafe extern "C" fn net_base_finite_receiver_count_new(receiver: Option<&FiniteReceiverHead>, storage: *const u8, storage_length: usize, runs: *const Run, runs_length: usize, position: u64, len: usize) -> usize {
+pub unsafe extern "C" fn net_base_finite_receiver_count_new(receiver: Option<&FiniteReceiverHead>, capacity: usize, runs: *const Run, runs_length: usize, position: u64, len: usize) -> usize {
     let Some(receiver) = receiver else { return refusals::no_number() };
-    let Some(storage) = slice(storage, storage_length) else { return refusals::no_number() };
     let Some(runs) = slice(runs, runs_length) else { return refusals::no_number() };
-    heads::finite_receiver::net_base_finite_receiver_count_new(receiver, storage, runs, position, len)
+    heads::finite_receiver::net_base_finite_receiver_count_new(receiver, capacity, runs, position, len)
 }
 
 #[unsafe(no_mangle)]

@@ -51,14 +51,14 @@ TESTS = [
     (rf"HasSoundParts (fragments\S+) {TERM} {TERM}", "IsPlausible (length {1}) (length {2}) {0}",
      "!is_plausible({c0}, {c1}.len(), {c2}.len())",
      "`present.used` is above `{c2}.len()`, or a known size above `{c1}.len()`", False),
-    (rf"HasSoundFinite {TERM} {TERM} {TERM}", "IsPlausible (length {1}) (length {2}) {0}.receiver",
-     "!is_plausible(&{c0}.receiver, {c1}.len(), {c2}.len())",
-     "`place` isn't that of a ring of `{c1}.len()` bytes, `next` doesn't fit 64 bits, or `held.used` is above `{c2}.len()`",
+    (rf"HasSoundFinite {TERM} {TERM} {TERM}", "IsPlausible {1} (length {2}) {0}.receiver",
+     "!is_plausible(&{c0}.receiver, {c1}, {c2}.len())",
+     "`place` isn't that of a ring of `{c1}` bytes, `next` doesn't fit 64 bits, or `held.used` is above `{c2}.len()`",
      False),
-    (rf"HasSoundParts (receiver\S+) {TERM} {TERM}", "IsPlausible (length {1}) (length {2}) {0}",
-     "!is_plausible({c0}, {c1}.len(), {c2}.len())",
-     "`place` isn't that of a ring of `{c1}.len()` bytes, `next` doesn't fit 64 bits, or `held.used` is above `{c2}.len()`",
-     False),
+    (rf"HasSoundHeld (receiver\.\w+) {TERM}", "HasRuns (length {1}) {0}", "!has_runs({c0}, {c1}.len())",
+     "`next` doesn't fit 64 bits, or `held.used` is above `{c1}.len()`", False),
+    (rf"HasSoundHeld (receiver\.\w+\.receiver) {TERM}", "HasRuns (length {1}) {0}", "!has_runs(&{c0}, {c1}.len())",
+     "`next` doesn't fit 64 bits, or `held.used` is above `{c1}.len()`", False),
 ]
 # Clauses of what a call leaves, which hold too where nothing changes; the last where the call counts no bytes.
 STAY = {"canonical", "exact", "others", "sends"}
@@ -468,7 +468,7 @@ def file_of(head, exports):
     plausible = {"FragmentsHead": "Rattle.net_base.specs.Fragments", "ReceiverHead": "Rattle.net_ffi.specs.ReceiverParts"}
     plausible["FiniteReceiverHead"] = plausible["ReceiverHead"]
     if head.type in plausible:
-        own["IsPlausible"] = (plausible[head.type], "IsPlausible")
+        own |= {it: (plausible[head.type], it) for it in ("IsPlausible", "HasRuns")}
     for module, name in (head.uses | own).values():
         if is_cited(name, clauses):
             uses.setdefault(module, []).append(name)
@@ -489,7 +489,7 @@ def file_of(head, exports):
 CODE = {name: module for module, names in {
     "crate::refusals": "NET_BASE_ACKNOWLEDGEMENT_ONLY NET_BASE_ANSWER NET_BASE_IGNORE NET_BASE_RESET NET_BASE_TAKE NET_BASE_DONE NET_BASE_REFUSED Status no_number refused_front_length refused_hole refused_run refused_segment_span refused_span",
     "crate::results": "FrontLength Hole SegmentSpan front_length number_of run_of segment_span status_of status_of_fragment status_of_report",
-    "crate::receiver": "has_next", "crate::finite_receiver": "has_number",
+    "crate::receiver": "has_next has_runs", "crate::finite_receiver": "has_number",
     "net_assembler": "AssemblerHead Run", "net_ring": "RingHead Span", "net_base::storage": "FragmentsHead",
     "net_packets": "PacketSlot PacketsHead", "net_receiver": "FiniteReceiverHead FiniteSenderHead HeldRun ReceiverHead ReportError ScoreboardHead SenderHead",
     "net_numbers": "SentNumbers", "net_tcp": "AdvertisedWindow Announcement PartsSum PeerWindow Segment",

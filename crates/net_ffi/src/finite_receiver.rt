@@ -53,7 +53,7 @@ pub extern "C" fn net_base_finite_receiver_segment(
     counts: &mut KeptCounts,
 ) -> Status
     requires sound { IsPlausible (length storage.old) (length runs.old) receiver.old.receiver → HasSoundFinite
-        receiver.old storage.old runs.old }
+        receiver.old (length storage.old) runs.old }
     ensures result { IsPlausible (length storage.old) (length runs.old) receiver.old.receiver → MatchResult
         (finite_result (length runs.old) (finite_of receiver.old storage.old runs.old) position bytes.now is_last) (λ k.
         (result ≡ NET_BASE_DONE) × (counts.new.kept ≡ k.kept) × (counts.new.queued ≡ k.queued)) (λ e. (result ≡
@@ -69,7 +69,7 @@ pub extern "C" fn net_base_finite_receiver_segment(
         finite_storage_after receiver.old storage.old runs.old position bytes.now is_last }
     ensures canonical { IsCanonical receiver.old.receiver.held → IsCanonical receiver.new.receiver.held }
     ensures sound { IsPlausible (length storage.old) (length runs.old) receiver.old.receiver → HasSoundFinite
-        receiver.new storage.new runs.new }
+        receiver.new (length storage.new) runs.new }
     ensures refused { (IsPlausible (length storage.old) (length runs.old) receiver.old.receiver → ⊥) → (result ≡
         NET_BASE_REFUSED) × (receiver.new ≡ receiver.old) × (storage.new ≡ storage.old) × (runs.new ≡ runs.old) ×
         (counts.new ≡ counts.old) }
@@ -108,7 +108,7 @@ pub extern "C" fn net_base_finite_receiver_window_end(
         + capacity) (if next_of receiver.now == end_of receiver.now then next_of receiver.now + 1 else next_of
         receiver.now) }
     ensures limit { (storage : List ℕ) (runs : List (ℕ × ℕ)) → length storage ≡ capacity → HasSoundFinite
-        receiver.now storage runs → IsTrue result → end.new ≡ max (limit_of (finite_of receiver.now storage
+        receiver.now capacity runs → IsTrue result → end.new ≡ max (limit_of (finite_of receiver.now storage
         runs).receiver) (acknowledged (finite_of receiver.now storage runs)) }
     ensures unchanged { IsFalse result → end.new ≡ end.old }
 {

@@ -1,9 +1,8 @@
 //! What is tested of a receiver, and its held runs.
 ghost use Rattle.std.specs.Prelude.{◌≡◌, ◌↔◌, ◌+◌, ◌-◌, ◌<◌, ◌^◌, length, slice_get, unwrap_or, IsTrue};
 ghost use Rattle.net_assembler.specs.Positions.{maximal_runs};
-ghost use Rattle.net_receiver.specs.ReceiverState.{domain};
-ghost use Rattle.net_receiver.specs.Head.{receiver_of, HasSoundParts};
-ghost use Rattle.net_ffi.specs.ReceiverParts.{IsReadable, IsPlausible};
+ghost use Rattle.net_receiver.specs.Head.{held_at, HasSoundHeld};
+ghost use Rattle.net_ffi.specs.ReceiverParts.{IsReadable, IsPlausible, HasRuns};
 
 use crate::refusals::refused_held_run;
 use net_assembler::Run;
@@ -47,35 +46,40 @@ pub(crate) fn is_plausible(receiver: &ReceiverHead, capacity: usize, run_count: 
     is_readable(receiver, capacity) && receiver.held.used <= run_count
 }
 
+/// Returns whether the first missing position fits 64 bits, and `held.used` is at most `run_count`.
+#[inline(always)]
+pub(crate) fn has_runs(receiver: &ReceiverHead, run_count: usize) -> bool
+    ensures { IsTrue result ↔ HasRuns run_count receiver.now }
+{
+    has_next(receiver) && receiver.held.used <= run_count
+}
+
 /// Returns the held run with number `index`, counted from 0 in rising order. If there are no more than `index`, start
 /// and end are 0.
 ///
-/// If `place` isn't that of a ring of `storage.len()` bytes, `next` doesn't fit 64 bits, or `held.used` is above
-/// `runs.len()`, it is refused: start and end are `u64::MAX`.
+/// If `next` doesn't fit 64 bits, or `held.used` is above `runs.len()`, it is refused: start and end are `u64::MAX`.
 ///
 /// # Requires
 ///
-/// Head, storage and runs are sound, as `net_base_receiver_is_sound` tests.
+/// Head and runs are sound, as `net_base_receiver_is_sound` tests.
 #[unsafe(no_mangle)]
 pub extern "C" fn net_base_receiver_run_at(
     receiver: &ReceiverHead,
-    storage: &[u8],
     runs: &[Run],
     index: usize,
 ) -> HeldRun
-    requires sound { IsPlausible (length storage.now) (length runs.now) receiver.now → HasSoundParts receiver.now
-        storage.now runs.now }
-    ensures run { IsPlausible (length storage.now) (length runs.now) receiver.now → result ≡ unwrap_or (slice_get
-        (maximal_runs (domain (receiver_of receiver.now storage.now runs.now).held)) index) (0, 0) }
-    ensures refused { (IsPlausible (length storage.now) (length runs.now) receiver.now → ⊥) → result ≡ (
+    requires sound { HasRuns (length runs.now) receiver.now → HasSoundHeld receiver.now runs.now }
+    ensures run { HasRuns (length runs.now) receiver.now → result ≡ unwrap_or (slice_get (maximal_runs (held_at
+        receiver.now runs.now)) index) (0, 0) }
+    ensures refused { (HasRuns (length runs.now) receiver.now → ⊥) → result ≡ (
       2 ^ 64 - 1,
       2
           ^ 64 - 1,
     ) }
 {
-    if !is_plausible(receiver, storage.len(), runs.len()) {
+    if !has_runs(receiver, runs.len()) {
         return refused_held_run();
     }
-    let (start, end) = receiver.held(storage, runs).nth(index).unwrap_or((0, 0));
+    let (start, end) = receiver.held(runs).nth(index).unwrap_or((0, 0));
     HeldRun { start, end }
 }

@@ -6,7 +6,7 @@ use Rattle.std.proofs.Common.{take_all, append_assoc, append-nil, take-add, max,
 use Rattle.std.specs.Ordering.{nat_cmp}
 use Rattle.std.proofs.lemmas.Bool.{both_ways, cases_lt, cond_both, and_parts, and_cases, and_left, not-false}
 use Rattle.std.proofs.lemmas.Bool.{or_cases, or_left, or_right, leb-true, eqb-true, le-ltb, ltb-true, le-leb, lt-ltb}
-use Rattle.std.proofs.lemmas.Bool.{and_from, cases_Bool, cond-false, ltb-false}
+use Rattle.std.proofs.lemmas.Bool.{and_from, cases_Bool, cond-false, cond-true, ltb-false}
 use Rattle.std.proofs.lemmas.Bool.Decides.{nat_tests}
 use Rattle.std.proofs.lemmas.Grind.{common_steps}
 use Rattle.net_assembler.specs.Positions.{bound_of, positions, contains, Positions}
@@ -17,6 +17,8 @@ use Rattle.net_receiver.specs.{receiver_after_read, fresh_receiver, FiniteState,
 use Rattle.net_receiver.specs.{bytes_end, below_end, end_after, has_other_end, finite_after, finite_after_read}
 use Rattle.net_receiver.specs.{bytes_result, finite_result, with_error, fresh_finite, IsSoundEnd, finite_of}
 use Rattle.net_receiver.specs.{finite_storage_after, receiver_of, HasSoundParts, storage_after, MatchesStream}
+use Rattle.net_receiver.specs.{HasSoundHeld, HasSoundFinite, next_at, held_at, top_at, can_end_by}
+use Rattle.net_receiver.specs.FiniteHead.{end_of}
 use Rattle.net_receiver.specs.{ReceivesFrom, is_complete, acknowledged, has_read_all, AcknowledgedGrows, EndIsTaken}
 use Rattle.net_receiver.specs.{AllBytesComplete, SameEndConverges, FiniteCommand, Arrives, Reads}
 use Rattle.net_receiver.specs.{finite_after_command, finite_after_commands, bytes_of, bytes_taken, CommandMatches}
@@ -31,11 +33,8 @@ use Rattle.net_receiver.specs.declared.finite_receiver_head.FiniteReceiverHead.{
 use Rattle.net_receiver.specs.declared.receiver_head.ReceiverHead.{ReceiverHead}
 use Rattle.net_assembler.specs.declared.assembler.error.TooManyHolesError.{TooManyHolesError}
 use Rattle.net_receiver.specs.declared.kept.KeptBytes.{KeptBytes}
-use Rattle.net_ring.specs.Ring.{RingState, queue, spare}
-use Rattle.net_ring.specs.RingHead.{ring_at}
 use Rattle.net_assembler.specs.RunLists.{set_of}
-use Rattle.net_receiver.proofs.Heads.{queue_size}
-use Rattle.net_receiver.proofs.Places.{has_place}
+use Rattle.net_receiver.proofs.Heads.{offset_of, at_offset, top_is}
 use Rattle.net_receiver.proofs.Sets.{piece_at, clip_at, contains-domain, next_joined, lacks, lacking, laid_has}
 use Rattle.net_receiver.proofs.Sets.{left_above, cond_some, slice_get-take, piece_from}
 use Rattle.net_receiver.proofs.Schedules.{any_verdict, some_of, converge, schedule}
@@ -108,28 +107,31 @@ module _ (v : ReceiverState) (m : ℕ) (top : top_of v ≤ m) where
   pub top_read : (n : ℕ) → top_of (receiver_after_read v n) ≤ m
   top_read n = top_le (receiver_after_read v n) m (omega (arith, length-drop n v.queue)) (λ p h. top_over v m p top h)
 
--- ---- a receiver in parts, where n is the first missing position
-module _ {h : ReceiverHead} {xs : List ℕ} {rs : List (ℕ × ℕ)} (s : HasSoundParts h xs rs) (n : ℕ) (is : n ≡ h.first + h.count_read + h.place.length) where
-  abbrev g : RingState ℕ
-  g = ring_at xs h.place
-
-  abbrev base : ℕ
-  base = h.first + h.count_read + length (queue g)
-
-  pub offsets_below : (pos : ℕ) → n ≤ pos → ((p : ℕ) → contains (set_of h.held rs) p ≡ true → (0 < p) × (p < pos - n)) → top_of (receiver_of h xs rs) ≤ pos
+-- ---- head and runs: which positions are held
+module _ {h : ReceiverHead} {rs : List (ℕ × ℕ)} (s : HasSoundHeld h rs) (n : ℕ) (is : n ≡ next_at h) where
+  pub offsets_below : (pos : ℕ) → n ≤ pos → ((p : ℕ) → contains (set_of h.held rs) p ≡ true → (0 < p) × (p < pos - n)) → top_at h rs ≤ pos
   offsets_below pos from below =
-      let size = queue_size s in
-      top_le (receiver_of h xs rs) pos (omega arith) (λ q there.
-      (let above = s.state.above q there in
-      let at = below (q - base) (sym (has_place (set_of h.held rs) base (spare g) (q - base) q (omega arith)) ∙ there) in omega arith))
+      let listed = listed_below (positions (held_at h rs)) pos (λ q there.
+      (let o = offset_of s q (contains-positions (held_at h rs) q ∙ there) in
+      let at = below (q - next_at h) o.1 in omega (arith, o.0, at.1))) in omega arith
 
-  pub below_offsets : (pos : ℕ) → top_of (receiver_of h xs rs) ≤ pos → (p : ℕ) → contains (set_of h.held rs) p ≡ true → (0 < p) × (p < pos - n)
+  pub below_offsets : (pos : ℕ) → top_at h rs ≤ pos → (p : ℕ) → contains (set_of h.held rs) p ≡ true → (0 < p) × (p < pos - n)
   below_offsets pos top p there =
-      let size = queue_size s in
-      let held = has_place (set_of h.held rs) base (spare g) p (base + p) refl ∙ there in
-      let above = s.state.above (base + p) held in
-      let below = top_over (receiver_of h xs rs) pos (base + p) top held in
-      (omega arith, omega arith)
+      let below = below_listed (positions (held_at h rs)) pos (next_at h + p) (omega arith)
+      (sym (contains-positions (held_at h rs) (next_at h + p)) ∙ at_offset s p there) in
+      (s.above p there, omega arith)
+
+-- what is stored has a sound end
+pub has_sound_end : (h : FiniteReceiverHead) (xs : List ℕ) (rs : List (ℕ × ℕ)) → HasSoundFinite h (length xs) rs → IsSoundEnd (finite_of h xs rs)
+has_sound_end h xs rs s =
+    let top = top_is xs s.parts in
+    record { below = omega (arith, top, s.below); number = omega (arith, top, s.number) }
+
+pub sound_finite : (h : FiniteReceiverHead) (xs : List ℕ) (rs : List (ℕ × ℕ)) → HasSoundParts h.receiver (length xs) rs → IsSoundEnd (finite_of h xs rs) →
+    HasSoundFinite h (length xs) rs
+sound_finite h xs rs parts end =
+    let top = top_is xs parts in
+    record { parts = parts; below = omega (arith, top, end.below); number = omega (arith, top, end.number) }
 
 -- ---- a segment, with or without an end
 -- the end that is known after it
@@ -192,6 +194,9 @@ module _ (s : FiniteState) (e n : ℕ) (last : Bool) (is : n ≡ min e no_end) w
   pub no_other_at : (last ≡ false) ⊎ (can_end s n ≡ true) → has_other_end s e last ≡ false
   no_other_at which = no_other s e last (⊎_elim (λ (no : last ≡ false). inl no) (λ (can : can_end s n ≡ true). inr (sym can_end_at ∙ can)) which)
 
+  other_at : last ≡ true → can_end s n ≡ false → has_other_end s e last ≡ true
+  other_at on cannot = λ i. on i && not ((sym can_end_at ∙ cannot) i)
+
   pub end_after_at : (last ≡ false) ⊎ (can_end s n ≡ true) → end_after s n last ≡ end_after s e last
   end_after_at which =
       ⊎_elim
@@ -199,6 +204,27 @@ module _ (s : FiniteState) (e n : ℕ) (last : Bool) (is : n ≡ min e no_end) w
       ap (λ b. cond (b && nat_le n (limit_of s.receiver)) n s.end) no ∙ sym (ap (λ b. cond (b && nat_le e (limit_of s.receiver)) e s.end) no))
       (λ (can : can_end s n ≡ true). ap (λ k. end_after s k last) (let below = ltb-true n no_end (and_parts _ _ can).0 in omega (arith, is, below)))
       which
+
+-- whether the stream can end at a position, by head and runs
+pub can_end_is : (h : FiniteReceiverHead) (xs : List ℕ) (rs : List (ℕ × ℕ)) → HasSoundParts h.receiver (length xs) rs → (e : ℕ) →
+    can_end_by (end_of h) (top_at h.receiver rs) e ≡ can_end (finite_of h xs rs) e
+can_end_is h xs rs s e = ap (λ top. can_end_by (end_of h) top e) (top_is xs s)
+
+pub other_end_is : (h : FiniteReceiverHead) (xs : List ℕ) (rs : List (ℕ × ℕ)) → HasSoundParts h.receiver (length xs) rs → (e n : ℕ) (last can : Bool) →
+    n ≡ min e no_end → last ≡ true → can ≡ can_end_by (end_of h) (top_at h.receiver rs) n → can ≡ false → has_other_end (finite_of h xs rs) e last ≡ true
+other_end_is h xs rs s e n last can is on says cannot = other_at (finite_of h xs rs) e n last is on (sym (can_end_is h xs rs s n) ∙ sym says ∙ cannot)
+
+-- what a segment leaves that says that the stream ends where it can't, and its result
+module _ (N : ℕ) (s : FiniteState) (pos : ℕ) (xs : List ℕ) (last : Bool) (other : has_other_end s (pos + length xs) last ≡ true) where
+  pub other_state : s ≡ finite_after N s pos xs last
+  other_state = sym (cond-true _ _ _ other)
+
+  pub other_result : Err errors.OtherEnd ≡ finite_result N s pos xs last
+  other_result = sym (cond-true _ _ _ other)
+
+pub other_stores : (h : FiniteReceiverHead) (ys : List ℕ) (rs : List (ℕ × ℕ)) (pos : ℕ) (xs : List ℕ) (last : Bool) →
+    has_other_end (finite_of h ys rs) (pos + length xs) last ≡ true → ys ≡ finite_storage_after h ys rs pos xs last
+other_stores h ys rs pos xs last other = sym (cond-true _ _ _ other)
 
 pub cut_is : (n count : ℕ) (xs : List ℕ) → count ≡ min (length xs) n → take count xs ≡ take n xs
 cut_is n count xs is = grind (arith, common_steps)

@@ -1,23 +1,28 @@
 -- What a kept part and a read make of a head, a storage and runs.
 use Rattle.std.proofs.Common.{◌≡◌, ℕ, ◌+◌, ◌-◌, ◌<◌, ◌≤◌, ◌^◌, true, sym, ◌∙◌, arith, ⊎_elim, le_trans, length-drop}
 use Rattle.std.proofs.Common.{min, false, List, ◌++◌, length, take, drop, ◌⊎◌, inl, inr, Ok, Err, refl, ap, subst}
-use Rattle.std.proofs.Common.{length-take, take_all, Result, IsErr}
-use Rattle.std.proofs.lemmas.Bool.{cases_lt, or_cases, both_ways}
-use Rattle.net_assembler.specs.Positions.{runs, Positions, with_range, maximal_runs, runs_shifted_up}
+use Rattle.std.proofs.Common.{length-take, take_all, Result, IsErr, max, ◌&&◌, nat_le}
+use Rattle.std.proofs.lemmas.Bool.{cases_lt, or_cases, both_ways, and_parts, and_from, leb-true, le-leb}
+use Rattle.net_assembler.specs.Positions.{runs, Positions, with_range, maximal_runs, runs_shifted_up, contains}
+use Rattle.net_assembler.specs.Positions.{bound_of, positions, shift_up}
 use Rattle.net_receiver.specs.{Piece, end, piece, piece_within, domain, next_position, receiver_after_read, IsSound}
 use Rattle.net_receiver.specs.{receiver_with_piece, Refuses, Keeps, verdict_of_piece, verdict, state_after, numbers}
 use Rattle.net_receiver.specs.{Fits64Bits, parts, receiver_of, HasSoundParts, storage_after, head_after_read}
+use Rattle.net_receiver.specs.{HasSoundHeld, next_at, held_at, top_at, top_of, limit_of, count_between, new_count}
+use Rattle.net_receiver.specs.{IsReadAt}
 use Rattle.net_receiver.specs.ReceiverState.{ReceiverState}
 use Rattle.net_receiver.proofs.Sets.{piece_at, next_joined, laid, lacks, lacking, laid_has, left_above}
 use Rattle.std.proofs.lemmas.List.{drop_min, take_min, length-take-le}
 use Rattle.net_assembler.specs.declared.assembler.error.TooManyHolesError.{TooManyHolesError}
 use Rattle.net_ring.specs.Overwrite.{overwrite}
 use Rattle.net_assembler.specs.Assembler.{MakesTooManyRuns}
-use Rattle.net_assembler.proofs.Positions.{too_many}
+use Rattle.net_assembler.proofs.Positions.{too_many, contains-shift_up, maximal_runs-shift_up, same_positions}
+use Rattle.net_assembler.proofs.Heads.{few_held}
 use Rattle.net_receiver.proofs.Schedules.{read_less}
 use Rattle.net_receiver.proofs.Places.{IsReceiver, HasRoom, IsFrontRemoved, held_count, read_parts, joined_parts}
-use Rattle.net_receiver.proofs.Places.{queued_is, m_within, refused_verdict, kept_verdict, clip_is, stays_at, read_on}
-use Rattle.net_receiver.proofs.Places.{held_runs}
+use Rattle.net_receiver.proofs.Places.{queued_is, m_within, refused_verdict, kept_verdict, clip_is, stays_at}
+use Rattle.net_receiver.proofs.Places.{domain_moved, resumed, are_within, index_is}
+use Rattle.net_ring.specs.Ring.{index_after}
 use Rattle.net_ring.specs.Ring.{RingState, queue, spare, with_enqueued, with_dequeued, WritesSpare, spare_index}
 use Rattle.net_ring.specs.Ring.{with_elements_wrapping}
 use Rattle.net_ring.specs.declared.head.RingHead.{RingHead}
@@ -166,18 +171,12 @@ module _ {most f r : ℕ} {queue spare : List ℕ} {s : Positions} (is : IsRecei
           )
 
 -- a prefix is read
-pub read_invariant : {most f r : ℕ} {queue spare : List ℕ} {s : Positions} → IsReceiver most f r queue spare s → (c taken : ℕ) (q1 s1 : List ℕ) →
+read_is : {most f r : ℕ} {queue spare : List ℕ} {s : Positions} → IsReceiver most f r queue spare s → (c taken : ℕ) (q1 s1 : List ℕ) →
     taken ≡ min c (length queue) → q1 ≡ drop taken queue → s1 ≡ spare ++ take taken queue →
-    (parts f (r + taken) q1 s1 s ≡ receiver_after_read (parts f r queue spare s) c) × IsSound most (parts f (r + taken) q1 s1 s)
-    × Fits64Bits (parts f (r + taken) q1 s1 s)
-read_invariant {most} {f} {r} {queue} {spare} {s} is c taken q1 s1 e1 e2 e3 =
+    parts f (r + taken) q1 s1 s ≡ receiver_after_read (parts f r queue spare s) c
+read_is {most} {f} {r} {queue} {spare} {s} is c taken q1 s1 e1 e2 e3 =
     let least : min taken (length queue) ≡ taken = omega arith in
-    let same : parts f (r + taken) q1 s1 s ≡ receiver_after_read (parts f r queue spare s) taken =
-    (λ i. parts f (r + sym least i) (e2 i) (e3 i) s) ∙ read_parts is taken in (
-      same ∙ read_less (parts f r queue spare s) c taken e1,
-      subst (IsSound most) (sym same) (sound_read most (parts f r queue spare s) taken is.sound),
-      subst Fits64Bits (sym same) (record { next = omega (arith, is.fits.next, length-drop taken queue); held = is.fits.held }),
-    )
+    (λ i. parts f (r + sym least i) (e2 i) (e3 i) s) ∙ read_parts is taken ∙ read_less (parts f r queue spare s) c taken e1
 
 pub only_err : {A : Type 0} (r : Result A TooManyHolesError) → IsErr r → r ≡ Err (record {})
 only_err (Ok k) h = absurd (both_ways false refl h)
@@ -214,16 +213,89 @@ module _ (h : ReceiverHead) (xs part : List ℕ) (rs : List (ℕ × ℕ)) (is : 
   pub lent_view : (v : ReceiverState) → receiver_of h xs rs ≡ v → receiver_of h part rs ≡ v
   lent_view v e = ap (λ l. receiver_of h l rs) is ∙ e
 
-  pub lent_sound : HasSoundParts h xs rs → HasSoundParts h part rs
-  lent_sound s = subst (λ l. HasSoundParts h l rs) (sym is) s
+  pub lent_sound : HasSoundParts h (length xs) rs → HasSoundParts h (length part) rs
+  lent_sound s = subst (λ l. HasSoundParts h (length l) rs) (sym is) s
 
   pub back_view : (u : ReceiverState) → receiver_of h part rs ≡ u → receiver_of h xs rs ≡ u
   back_view u e = ap (λ l. receiver_of h l rs) (sym is) ∙ e
 
-  pub back_sound : HasSoundParts h part rs → HasSoundParts h xs rs
-  back_sound s = subst (λ l. HasSoundParts h l rs) is s
+  pub back_sound : HasSoundParts h (length part) rs → HasSoundParts h (length xs) rs
+  back_sound s = subst (λ l. HasSoundParts h (length l) rs) is s
 
-module _ {h : ReceiverHead} {xs : List ℕ} {rs : List (ℕ × ℕ)} (s : HasSoundParts h xs rs) where
+-- the held positions, by the offsets of the runs
+module _ {h : ReceiverHead} {rs : List (ℕ × ℕ)} (s : HasSoundHeld h rs) where
+  pub offset_of : (p : ℕ) → contains (held_at h rs) p ≡ true → (next_at h ≤ p) × (contains (set_of h.held rs) (p - next_at h) ≡ true)
+  offset_of p there =
+      let both = and_parts _ _ (sym (contains-shift_up (set_of h.held rs) (next_at h) p) ∙ there) in
+      (leb-true (next_at h) p both.0, both.1)
+
+  pub at_offset : (p : ℕ) → contains (set_of h.held rs) p ≡ true → contains (held_at h rs) (next_at h + p) ≡ true
+  at_offset p there =
+      let same : next_at h + p - next_at h ≡ p = omega arith in
+      contains-shift_up (set_of h.held rs) (next_at h) (next_at h + p)
+      ∙ and_from _ _ (le-leb (next_at h) (next_at h + p) (omega arith)) (ap (contains (set_of h.held rs)) same ∙ there)
+
+  pub held_above : (p : ℕ) → contains (held_at h rs) p ≡ true → next_at h < p
+  held_above p there = (let o = offset_of p there in omega (arith, o.0, s.above (p - next_at h) o.1))
+
+  pub held_fits : (p : ℕ) → contains (held_at h rs) p ≡ true → p + 1 < 2 ^ 64
+  held_fits p there = (let o = offset_of p there in omega (arith, o.0, s.fits (p - next_at h) o.1))
+
+  -- the runs that are held, by those of the offsets
+  pub held_are : (n : ℕ) (runs : List (ℕ × ℕ)) → n ≡ next_at h → runs ≡ maximal_runs (set_of h.held rs) →
+      runs_shifted_up n runs ≡ maximal_runs (held_at h rs)
+  held_are n runs e is = (λ k. runs_shifted_up (e k) (is k)) ∙ sym (maximal_runs-shift_up (set_of h.held rs) (next_at h))
+
+pub held_within : {h : ReceiverHead} {c : ℕ} {rs : List (ℕ × ℕ)} → HasSoundParts h c rs → (p : ℕ) → contains (held_at h rs) p ≡ true →
+    p < h.first + h.count_read + c
+held_within {h} s p there = (let o = offset_of s.held p there in omega (arith, o.0, s.within (p - next_at h) o.1))
+
+-- k bytes are read
+pub read_next : (c k : ℕ) (h : ReceiverHead) → k ≤ h.place.length → next_at (head_after_read c k h) ≡ next_at h
+read_next c k h few = omega arith
+
+pub read_top : (c k : ℕ) (h : ReceiverHead) (rs : List (ℕ × ℕ)) → k ≤ h.place.length → top_at (head_after_read c k h) rs ≡ top_at h rs
+read_top c k h rs few = λ i. max (read_next c k h few i) (bound_of (positions (shift_up (set_of h.held rs) (read_next c k h few i))))
+
+pub read_sound : {h : ReceiverHead} {c : ℕ} {rs : List (ℕ × ℕ)} → HasSoundParts h c rs → (k : ℕ) → k ≤ h.place.length →
+    IsSoundPlace c (dequeued_place c k h.place) → HasSoundParts (head_after_read c k h) c rs
+read_sound {h} {c} s k few place =
+    let next = read_next c k h few in
+    record {
+      place = place;
+      held = record {
+        runs = s.held.runs;
+        next = omega (arith, next, s.held.next);
+        above = s.held.above;
+        fits = λ p m. omega (arith, next, s.held.fits p m);
+      };
+      within = λ p m. omega (arith, s.within p m);
+      read_at = λ some. ap (λ r. index_after c r k) (s.read_at some) ∙ index_is c h.count_read k some (omega (arith, few, s.place.1));
+    }
+
+-- the parts of a receiver are sound
+pub sound_of : (h : ReceiverHead) (xs : List ℕ) (rs : List (ℕ × ℕ)) → IsSoundPlace (length xs) h.place → HasSoundRuns h.held rs →
+    IsReceiver (length rs) h.first h.count_read (queue (ring_at xs h.place)) (spare (ring_at xs h.place)) (set_of h.held rs) →
+    IsReadAt (ring_at xs h.place) h.count_read → HasSoundParts h (length xs) rs
+sound_of h xs rs place runs is read_at =
+    let g = ring_at xs h.place in
+    let queued = length-queue g place in
+    let free = length-spare g place in
+    let offsets = are_within (length rs) h.first h.count_read (queue g) (spare g) (set_of h.held rs) is in
+    record {
+      place = place;
+      held = record {
+        runs = runs;
+        next = omega (arith, is.fits.next, queued);
+        above = λ p m. (offsets p m).0;
+        fits = λ p m. (let a = offsets p m in omega (arith, a.2, queued));
+      };
+      within = λ p m. (let a = offsets p m in omega (arith, a.1, free));
+      read_at = read_at;
+    }
+
+-- what a storage makes of sound parts
+module _ {h : ReceiverHead} (xs : List ℕ) {rs : List (ℕ × ℕ)} (s : HasSoundParts h (length xs) rs) where
   abbrev g : RingState ℕ
   g = ring_at xs h.place
 
@@ -237,37 +309,41 @@ module _ {h : ReceiverHead} {xs : List ℕ} {rs : List (ℕ × ℕ)} (s : HasSou
   pub spare_size : length (spare g) ≡ length xs - h.place.length
   spare_size = length-spare g s.place
 
+  -- it is that of a receiver
+  pub whole : IsReceiver (length rs) h.first h.count_read (queue g) (spare g) (set_of h.held rs)
+  whole =
+      resumed (length rs) h.first h.count_read (queue g) (spare g) (set_of h.held rs) (few_held h.held rs s.held.runs) (omega (arith, s.held.next, queue_size))
+      (λ p m. (s.held.above p m, omega (arith, s.within p m, spare_size), omega (arith, s.held.fits p m, queue_size)))
+
   -- at most n runs are held, where the list has n
   pub sound_for : (n : ℕ) → length rs ≡ n → IsSound n stored
-  sound_for n e = subst (λ k. IsSound k stored) e s.state
+  sound_for n e = subst (λ k. IsSound k stored) e whole.sound
 
-  whole : IsReceiver (length rs) h.first h.count_read (queue g) (spare g) (set_of h.held rs)
-  whole = record { sound = s.state; fits = s.fits }
+  -- its numbers and its held positions are those of head and runs
+  pub next_is : next_at h ≡ next_position stored
+  next_is = omega (arith, queue_size)
 
-  -- the runs that are held, by those of the places
-  pub held_are : (n : ℕ) (runs : List (ℕ × ℕ)) → n ≡ h.first + h.count_read + h.place.length → runs ≡ maximal_runs (set_of h.held rs) →
-      runs_shifted_up n runs ≡ maximal_runs (domain stored.held)
-  held_are n runs e is =
-      (λ k. runs_shifted_up ((e ∙ ap (λ q. h.first + h.count_read + q) (sym queue_size)) k) (is k))
-      ∙ sym (held_runs h.first h.count_read (queue g) (spare g) (set_of h.held rs))
+  pub limit_is : h.first + h.count_read + length xs ≡ limit_of stored
+  limit_is = omega (arith, queue_size, spare_size, s.place.1)
+
+  pub held_is : held_at h rs ≡ domain stored.held
+  held_is = same_positions _ _ (λ q.
+      contains-shift_up (set_of h.held rs) (next_at h) q
+      ∙ ap (λ n. nat_le n q && contains (set_of h.held rs) (q - n)) next_is
+      ∙ sym (domain_moved (set_of h.held rs) (next_position stored) (spare g) q))
+
+  pub top_is : top_at h rs ≡ top_of stored
+  top_is = λ i. max (next_is i) (bound_of (positions (held_is i)))
+
+  pub new_is : (p n : ℕ) → count_between (next_at h) (h.first + h.count_read + length xs) (held_at h rs) p n ≡ new_count stored p n
+  new_is p n = λ i. count_between (next_is i) (limit_is i) (held_is i) p n
 
   -- k bytes are read
-  pub after_read : (k n : ℕ) → k ≡ min n h.place.length → IsSoundPlace (length xs) (dequeued_place (length xs) k h.place) →
-      (receiver_of (head_after_read (length xs) k h) xs rs ≡ receiver_after_read stored n)
-      × HasSoundParts (head_after_read (length xs) k h) xs rs
-  after_read k n e place =
+  pub after_read : (k n : ℕ) → k ≡ min n h.place.length → receiver_of (head_after_read (length xs) k h) xs rs ≡ receiver_after_read stored n
+  after_read k n e =
       let size = queue_size in
       let left = with_dequeued_law g s.place k (omega arith) in
-      let all = read_invariant whole n k (queue (with_dequeued k g)) (spare (with_dequeued k g)) (omega arith) left.0 left.1 in (
-        all.0,
-        record {
-          place = place;
-          runs = s.runs;
-          state = all.1;
-          fits = all.2;
-          read_at = read_on g h.count_read s.read_at (with_dequeued k g) k (omega arith) refl;
-        },
-      )
+      read_is whole n k (queue (with_dequeued k g)) (spare (with_dequeued k g)) (omega arith) left.0 left.1
 
   -- a segment, as the code cuts it
   pub cut_of : {late ahead kept pos next window : ℕ} {bytes : List ℕ} → next ≡ h.first + h.count_read + h.place.length → window ≡ length xs - h.place.length →
@@ -319,7 +395,7 @@ module _ {h : ReceiverHead} {xs : List ℕ} {rs : List (ℕ × ℕ)} (s : HasSou
         abbrev IsKept : List ℕ → RingHead → Type 0
         IsKept ys to =
             (receiver_of (left to) ys rs' ≡ state_after stored (verdict (length rs) stored (piece pos bytes)))
-            × (Ok (record { kept = kept; queued = m }) ≡ numbers stored (verdict (length rs) stored (piece pos bytes))) × HasSoundParts (left to) ys rs'
+            × (Ok (record { kept = kept; queued = m }) ≡ numbers stored (verdict (length rs) stored (piece pos bytes))) × HasSoundParts (left to) (length ys) rs'
 
         pub kept_is : HasSoundRuns held rs' → runs (set_of held rs') ≤ length rs → length rs' ≡ length rs →
             (ahead ≡ 0) ⊎ (runs (with_range (set_of h.held rs) ahead kept) ≤ length rs) → (ys arg : List ℕ) (wrote : ℕ) →
@@ -340,11 +416,10 @@ module _ {h : ReceiverHead} {xs : List ℕ} {rs : List (ℕ × ℕ)} (s : HasSou
             subst (IsKept ys) (sym to_is) (
               after ∙ state.0,
               state.1,
-              record {
-                place = subst (IsSoundPlace (length ys)) to_is place;
-                runs = sound;
-                state = subst (λ n. IsSound n (receiver_of (left (enqueued_place m h.place)) ys rs')) (sym most) (subst (IsSound (length rs)) (sym after) invariant.0);
-                fits = subst Fits64Bits (sym after) invariant.1;
-                read_at = stays_at g h.count_read s.read_at (with_enqueued m g1) refl size;
-              },
+              sound_of (left (enqueued_place m h.place)) ys rs' (subst (IsSoundPlace (length ys)) to_is place) sound
+                  (record {
+                    sound = subst (λ n. IsSound n (receiver_of (left (enqueued_place m h.place)) ys rs')) (sym most) (subst (IsSound (length rs)) (sym after) invariant.0);
+                    fits = subst Fits64Bits (sym after) invariant.1;
+                  })
+                  (stays_at g h.count_read s.read_at (with_enqueued m g1) refl size),
             )

@@ -9,7 +9,7 @@ use Rattle.net_assembler.specs.Positions.{Positions, contains, first_missing, ru
 use Rattle.net_assembler.specs.Positions.{runs_shifted_up, IsMaximalRun}
 use Rattle.net_assembler.proofs.Positions.{first_missing-misses, first_missing-has, first_missing-le, has}
 use Rattle.net_assembler.proofs.Positions.{contains-set_of_list, same_positions, contains-shift_up}
-use Rattle.net_assembler.proofs.Positions.{maximal_runs-shift_up, runs-shift_up}
+use Rattle.net_assembler.proofs.Positions.{runs-shift_up}
 use Rattle.std.specs.List.{range_with_len, list_any}
 use Rattle.std.proofs.lemmas.List.{take_min}
 use Rattle.std.proofs.lemmas.List.FromFn.{length-map-range_with_len, take-map-range_with_len}
@@ -228,9 +228,6 @@ IsShiftedUp n s t = (q : ℕ) → contains t q ≡ (nat_le n q && contains s (q 
 module _ (n : ℕ) (s t : Positions) (shifted : IsShiftedUp n s t) where
   shifted_up : t ≡ shift_up s n
   shifted_up = same_positions t (shift_up s n) (λ q. shifted q ∙ sym (contains-shift_up s n q))
-
-  pub maximal_runs_shifted : maximal_runs t ≡ runs_shifted_up n (maximal_runs s)
-  maximal_runs_shifted = ap maximal_runs shifted_up ∙ maximal_runs-shift_up s n
 
   -- it has as many runs
   pub runs_shifted : runs t ≡ runs s

@@ -1,5 +1,5 @@
 -- From what a run did to what is stored to the theorems on schedules, and what is true of every receiver.
-use Rattle.std.proofs.Common.{◌≡◌, ℕ, ◌+◌, ◌-◌, ◌≤◌, ◌<◌, ◌^◌, false, nat_le, None, is_some, List, [], map, ◌++◌}
+use Rattle.std.proofs.Common.{◌≡◌, ℕ, ◌+◌, ◌-◌, ◌≤◌, ◌<◌, false, nat_le, None, is_some, List, [], map, ◌++◌}
 use Rattle.std.proofs.Common.{length, take, All, refl, sym, ap, subst, ◌∙◌, arith, ⊎_elim, le_refl, ◌⊎◌, inl, inr}
 use Rattle.std.proofs.Common.{suc, Bool, true, cond, ◌∷◌, drop, flat_map, get_or, Option, Some, Result, Ok, Err}
 use Rattle.std.proofs.Common.{leb-true, take_all, length-take, length-drop, get_or-take, get_or-drop, zero, ◌==◌}
@@ -14,7 +14,7 @@ use Rattle.net_assembler.specs.Positions.{positions, run_starts, begins_run, wit
 use Rattle.net_assembler.proofs.Positions.{contains-nothing, same_positions, has, contains-positions}
 use Rattle.net_assembler.proofs.Positions.{contains-with_range, positions_rise, rising_unique}
 use Rattle.net_receiver.specs.{CommandValue, ReplyValue, byte_at, byte, queued, queue, missing, is_held, state_from}
-use Rattle.net_receiver.specs.{SegmentReply, replies, replies_from, step, held_bytes, parts, Fits64Bits, Setting}
+use Rattle.net_receiver.specs.{SegmentReply, replies, replies_from, step, held_bytes, parts, Setting}
 use Rattle.net_receiver.specs.{KeptState, fresh_kept, bytes_read, IsAccepted, HasRoom, fresh_receiver, setting}
 use Rattle.net_receiver.specs.{Refines, IsSound, domain, receiver_after_commands, receiver_replies}
 use Rattle.net_receiver.specs.{receiver_after_command, receiver_reply, HeldBytes, next_position, first_three}
@@ -96,12 +96,6 @@ fresh_sound most f capacity few = record {
   above = λ p h. absurd (both_ways _ (not_held p) h);
   below = λ p h. absurd (both_ways _ (not_held p) h);
   fits = omega arith;
-}
-
-pub fresh_fits : (f capacity : ℕ) → f < 2 ^ 64 → Fits64Bits (fresh_receiver f capacity)
-fresh_fits f capacity h = record {
-  next = omega arith;
-  held = λ p k. absurd (both_ways _ (not_held p) k);
 }
 
 pub fresh_refines : (f capacity : ℕ) → Refines (fresh_receiver f capacity) fresh_kept

@@ -106,4 +106,4 @@ SoundRepresents = (most_runs : ℕ) (v : ReceiverState) → IsSound most_runs v 
 -- and so do every head, storage and runs that are sound
 abbrev pub PartsRepresent : Type 0
 PartsRepresent = (h : ReceiverHead) (xs : List ℕ) (rs : List (ℕ × ℕ)) →
-    HasSoundParts h xs rs → RepresentsSome (receiver_of h xs rs)
+    HasSoundParts h (length xs) rs → RepresentsSome (receiver_of h xs rs)

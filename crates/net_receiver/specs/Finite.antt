@@ -3,6 +3,7 @@
 --     top_of v      the position after the last byte that is queued or held
 --     FiniteState, fresh_finite first capacity      what a receiver stores, and the end
 --     knows_end s, can_end s e      whether the end is known; whether it can be e
+--     can_end_by end top e      whether it can, if `end` is known, and the bytes end at `top`
 --     bytes_end s, below_end s pos xs      the end of the bytes that it takes; those of a segment below it
 --     end_after s e last      the end that is known after a segment, which itself ends at e
 --     finite_after N s pos xs last, finite_result N s pos xs last      what a segment leaves, and its result
@@ -46,9 +47,13 @@ fresh_finite first capacity = record { receiver = fresh_receiver first capacity;
 abbrev pub knows_end : FiniteState → Bool
 knows_end s = nat_lt s.end no_end
 
+-- e is the end that is known, or none is, and it isn't below the position after the last byte; it has a number after it
+abbrev pub can_end_by : ℕ → ℕ → ℕ → Bool
+can_end_by end top e = nat_lt e no_end && (if nat_lt end no_end then nat_eq e end else nat_le top e)
+
 -- e is the end that is known, or none is, and no byte is queued or held at e or above; it has a number after it
 abbrev pub can_end : FiniteState → ℕ → Bool
-can_end s e = nat_lt e no_end && (if knows_end s then nat_eq e s.end else nat_le (top_of s.receiver) e)
+can_end s e = can_end_by s.end (top_of s.receiver) e
 
 -- ---- a segment, which is the stream's last one or isn't
 -- the end, or while that isn't known the greatest number that an end can have

@@ -2,14 +2,14 @@
 --     finite_of h xs rs      what is stored
 --     end_of h, end_with n      the position after the last byte, or `no_end`; where n is the number after its own, or 0
 --     next_of h      the first missing position
---     HasSoundFinite h xs rs      the parts are those of such a receiver
+--     HasSoundFinite h c rs      head and runs are those of such a receiver whose storage has c bytes
 --     finite_storage_after h xs rs pos bytes last      the storage after a segment
-use Rattle.std.specs.Prelude.{ℕ, ◌+◌, ◌-◌, List, length, Bool, nat_eq, if◌then◌else◌}
+use Rattle.std.specs.Prelude.{ℕ, ◌+◌, ◌-◌, ◌<◌, ◌≤◌, List, length, Bool, nat_eq, if◌then◌else◌}
 use Rattle.net_receiver.specs.declared.finite_receiver_head.FiniteReceiverHead.{FiniteReceiverHead}
 use Rattle.net_receiver.specs.KeptList.{piece}
 use Rattle.net_receiver.specs.ReceiverState.{verdict}
-use Rattle.net_receiver.specs.Head.{receiver_of, HasSoundParts, storage_after}
-use Rattle.net_receiver.specs.Finite.{FiniteState, IsSoundEnd, no_end, has_other_end, below_end}
+use Rattle.net_receiver.specs.Head.{receiver_of, top_at, HasSoundParts, storage_after}
+use Rattle.net_receiver.specs.Finite.{FiniteState, no_end, has_other_end, below_end}
 
 -- the end whose number has n after it; none if n is 0
 abbrev pub end_with : ℕ → ℕ
@@ -26,10 +26,12 @@ finite_of h xs rs = record { receiver = receiver_of h.receiver xs rs; end = end_
 abbrev pub next_of : FiniteReceiverHead → ℕ
 next_of h = h.receiver.first + h.receiver.count_read + h.receiver.place.length
 
--- the parts are those of a receiver, and the end is right for it
-pub record HasSoundFinite (h : FiniteReceiverHead) (xs : List ℕ) (rs : List (ℕ × ℕ)) : Type 0 where
-  pub parts : HasSoundParts h.receiver xs rs
-  pub end : IsSoundEnd (finite_of h xs rs)
+-- the parts are those of a receiver whose storage has c bytes; no byte is at or above the end, and there is a number
+-- for an end after the last byte
+pub record HasSoundFinite (h : FiniteReceiverHead) (c : ℕ) (rs : List (ℕ × ℕ)) : Type 0 where
+  pub parts : HasSoundParts h.receiver c rs
+  pub below : top_at h.receiver rs ≤ end_of h
+  pub number : top_at h.receiver rs < no_end
 
 -- the storage after a segment: the bytes below the end are written as those of a segment of them alone are, and none
 -- if the segment says that the stream ends where it can't

@@ -1,29 +1,51 @@
 -- A receiver in parts: a head of numbers, the storage of its ring, and the runs of its held bytes.
 --     receiver_of h xs rs      what is stored
---     HasSoundParts h xs rs      the parts are those of a receiver
+--     held_at h rs      the positions of the held bytes, whatever the bytes are
+--     top_at h rs      the position after the last byte that is queued or held
+--     HasSoundHeld h rs      the runs are those of held bytes
+--     HasSoundParts h c rs      head and runs are those of a receiver whose storage has c bytes
 --     storage_after h xs x      the storage after a segment
 --     head_after_read c k h      the head after a read of k bytes
-use Rattle.std.specs.Prelude.{ℕ, ◌+◌, ◌-◌, List, length}
+use Rattle.std.specs.Prelude.{◌≡◌, ℕ, ◌+◌, ◌-◌, ◌<◌, ◌^◌, ◌%◌, max, IsTrue, List}
 use Rattle.net_ring.specs.Ring.{queue, spare, spare_index, with_elements_wrapping}
 use Rattle.net_ring.specs.RingHead.{IsSound as IsSoundPlace, ring_at, dequeued_place}
+use Rattle.net_assembler.specs.Positions.{Positions, contains, positions, bound_of, shift_up}
 use Rattle.net_assembler.specs.RunLists.{set_of, HasSoundRuns}
 use Rattle.net_receiver.specs.declared.receiver_head.ReceiverHead.{ReceiverHead}
-use Rattle.net_receiver.specs.ReceiverState.{Verdict, KeepsNone, Refuses, Keeps, ReceiverState, IsSound}
-use Rattle.net_receiver.specs.Parts.{parts, Fits64Bits}
-use Rattle.net_receiver.specs.Contiguous.{IsReadAt}
+use Rattle.net_receiver.specs.ReceiverState.{Verdict, KeepsNone, Refuses, Keeps, ReceiverState}
+use Rattle.net_receiver.specs.Parts.{parts}
 
 -- what is stored: the queue, and the held bytes at the offsets that the runs have after it
 abbrev pub receiver_of : ReceiverHead → List ℕ → List (ℕ × ℕ) → ReceiverState
 receiver_of h xs rs =
     parts h.first h.count_read (queue (ring_at xs h.place)) (spare (ring_at xs h.place)) (set_of h.held rs)
 
--- the parts are those of a receiver, which has at most as many held runs as the list is long
-pub record HasSoundParts (h : ReceiverHead) (xs : List ℕ) (rs : List (ℕ × ℕ)) : Type 0 where
-  pub place : IsSoundPlace (length xs) h.place
+-- the first missing position
+abbrev pub next_at : ReceiverHead → ℕ
+next_at h = h.first + h.count_read + h.place.length
+
+-- the positions of the held bytes: those of the runs, counted from the first missing one
+abbrev pub held_at : ReceiverHead → List (ℕ × ℕ) → Positions
+held_at h rs = shift_up (set_of h.held rs) (next_at h)
+
+-- the first missing position, or the position after the last held byte if there is one
+abbrev pub top_at : ReceiverHead → List (ℕ × ℕ) → ℕ
+top_at h rs = max (next_at h) (bound_of (positions (held_at h rs)))
+
+-- the runs are those of an assembler, all after the first missing position, and positions stay within 64 bits
+pub record HasSoundHeld (h : ReceiverHead) (rs : List (ℕ × ℕ)) : Type 0 where
   pub runs : HasSoundRuns h.held rs
-  pub state : IsSound (length rs) (receiver_of h xs rs)
-  pub fits : Fits64Bits (receiver_of h xs rs)
-  pub read_at : IsReadAt (ring_at xs h.place) h.count_read
+  pub next : next_at h < 2 ^ 64
+  pub above : (p : ℕ) → IsTrue (contains (set_of h.held rs) p) → 0 < p
+  pub fits : (p : ℕ) → IsTrue (contains (set_of h.held rs) p) → next_at h + p + 1 < 2 ^ 64
+
+-- the parts are those of a receiver whose storage has c bytes, whatever these are: each held byte is in the storage,
+-- and the queue is read where the stream's byte number `count_read` is
+pub record HasSoundParts (h : ReceiverHead) (c : ℕ) (rs : List (ℕ × ℕ)) : Type 0 where
+  pub place : IsSoundPlace c h.place
+  pub held : HasSoundHeld h rs
+  pub within : (p : ℕ) → IsTrue (contains (set_of h.held rs) p) → p < c - h.place.length
+  pub read_at : 0 < c → h.place.read_at ≡ h.count_read % c
 
 -- the storage after a segment, by what happens to it: the bytes of a kept piece are written over the bytes
 -- after the queue, as far after it as their positions are above the first missing one

@@ -43,10 +43,10 @@ finite_sender_head first = record { sender = sender_head first; closed = 0; fini
 -- ---- laws
 abbrev pub ZerosReceive : Type 0
 ZerosReceive = (xs : List ℕ) (rs : List (ℕ × ℕ)) →
-    HasSoundParts (receiver_head 0) xs rs × (receiver_of (receiver_head 0) xs rs ≡ fresh_receiver 0 (length xs))
+    HasSoundParts (receiver_head 0) (length xs) rs × (receiver_of (receiver_head 0) xs rs ≡ fresh_receiver 0 (length xs))
 
 abbrev pub ZerosReceiveAnEnd : Type 0
-ZerosReceiveAnEnd = (xs : List ℕ) (rs : List (ℕ × ℕ)) → HasSoundFinite (finite_receiver_head 0) xs rs
+ZerosReceiveAnEnd = (xs : List ℕ) (rs : List (ℕ × ℕ)) → HasSoundFinite (finite_receiver_head 0) (length xs) rs
     × (finite_of (finite_receiver_head 0) xs rs ≡ fresh_finite 0 (length xs))
 
 abbrev pub ZerosSend : Type 0

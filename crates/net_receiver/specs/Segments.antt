@@ -2,11 +2,12 @@
 --     KeepsOrRefuses v xs u r      xs is kept, or nothing changes
 --     JoinsQueue v xs u r      xs is kept and joins the queue
 --     existing p xs      the bytes of a segment at p that are below position 2 ^ 64 - 1: no stream has others
+--     count_between next limit held p n      of the positions of n bytes at p, how many from next on and below limit aren't held
 --     new_count v p n      how many bytes of a segment of n bytes at p would be new
 use Rattle.std.specs.Prelude.{◌≡◌, ℕ, ◌+◌, ◌-◌, ◌^◌, ◌≤◌, ◌&&◌, not, List, ◌++◌, length, drop, take, Result, IsOk}
 use Rattle.std.specs.Prelude.{IfOk, OnErr, nat_le, nat_lt, count_by}
 use Rattle.std.specs.List.{range_with_len}
-use Rattle.net_assembler.specs.Positions.{contains}
+use Rattle.net_assembler.specs.Positions.{Positions, contains}
 use Rattle.net_assembler.specs.declared.assembler.error.TooManyHolesError.{TooManyHolesError}
 use Rattle.net_receiver.specs.declared.kept.Kept.{Kept}
 use Rattle.net_receiver.specs.ReceiverState.{ReceiverState, domain, next_position, limit_of}
@@ -32,8 +33,11 @@ pub record JoinsQueue (v : ReceiverState) (xs : List ℕ) (u : ReceiverState)
 abbrev pub existing : ℕ → List ℕ → List ℕ
 existing p xs = take (2 ^ 64 - 1 - p) xs
 
+-- of the positions of n bytes at p, those from `next` on and below `limit` that aren't held
+abbrev pub count_between : ℕ → ℕ → Positions → ℕ → ℕ → ℕ
+count_between next limit held p n =
+    count_by (λ q. nat_le next q && nat_lt q limit && not (contains held q)) (range_with_len p n)
+
 -- of the positions of a segment of n bytes at p, those in the free window whose bytes are not held
 abbrev pub new_count : ReceiverState → ℕ → ℕ → ℕ
-new_count v p n =
-    count_by (λ q. nat_le (next_position v) q && nat_lt q (limit_of v) && not (contains (domain v.held) q))
-    (range_with_len p n)
+new_count v p n = count_between (next_position v) (limit_of v) (domain v.held) p n

@@ -58,7 +58,7 @@ impl<S: Storage<u8>, const N: usize> Model for FiniteReceiverOver<S, N> {
     ghost view = { λ a. finite_of a.head (S.elements a.storage) a.runs };
 
     ghost invariant = { λ a.
-        HasSoundFinite a.head (S.elements a.storage) a.runs × (length a.runs ≡ N)
+        HasSoundFinite a.head (length (S.elements a.storage)) a.runs × (length a.runs ≡ N)
         × IsCanonical a.head.receiver.held };
 }
 
@@ -118,7 +118,7 @@ impl<S: Storage<u8>, const N: usize> FiniteReceiverOver<S, N> {
     ///
     /// They are sound, as `FiniteReceiverHead::is_sound` tests.
     pub fn from_parts(head: FiniteReceiverHead, storage: S, runs: [Run; N]) -> Self
-        requires { HasSoundFinite head (S.elements storage) runs }
+        requires { HasSoundFinite head (length (S.elements storage)) runs }
         ensures { result ≡ finite_of head (S.elements storage) runs.entry }
     {
         if head.receiver.held.used == 0 {
@@ -143,7 +143,7 @@ impl<S: Storage<u8>, const N: usize> FiniteReceiverOver<S, N> {
 
     /// Returns the head, the storage and the runs, which represent the receiver.
     pub fn into_parts(self) -> (FiniteReceiverHead, S, [Run; N])
-        ensures sound { HasSoundFinite result.0 (S.elements result.1) result.2 }
+        ensures sound { HasSoundFinite result.0 (length (S.elements result.1)) result.2 }
         ensures state { finite_of result.0 (S.elements result.1) result.2 ≡ self }
         ensures runs { length result.2 ≡ N }
         ensures canonical { IsCanonical result.0.receiver.held }
@@ -188,7 +188,7 @@ impl<S: Storage<u8>, const N: usize> FiniteReceiverOver<S, N> {
     pub fn can_end(&self, pos: u64) -> bool
         ensures { result ≡ can_end self.now pos }
     {
-        self.head.can_end(whole(&self.storage), &self.runs, pos)
+        self.head.can_end(&self.runs, pos)
     }
 
     /// Keeps the bytes of a segment that are in the free window and below the end, as
@@ -424,7 +424,7 @@ impl<S: Storage<u8>, const N: usize> FiniteReceiverOver<S, N> {
         ensures runs { result ≡ maximal_runs (domain self.now.receiver.held) }
         ensures bound { length result ≤ N }
     {
-        self.head.receiver.held(whole(&self.storage), &self.runs)
+        self.head.receiver.held(&self.runs)
     }
 
     /// Returns how many runs are held, without a look at them: as many as `held` yields, at most `N`.
@@ -447,9 +447,8 @@ impl<S: Storage<u8>, const N: usize> FiniteReceiverOver<S, N> {
         ensures recent { recent.new ≡ with_starts recent.old result }
     {
         let mut runs = [HeldRun { start: 0, end: 0 }; K];
-        let storage = whole(&self.storage);
         let head = &self.head.receiver;
-        let count = head.newest_runs(storage, &self.runs, position, recent, &mut runs);
+        let count = head.newest_runs(&self.runs, position, recent, &mut runs);
         NewestRunIter::over(runs, count)
     }
 
@@ -462,7 +461,7 @@ impl<S: Storage<u8>, const N: usize> FiniteReceiverOver<S, N> {
             (min len (bytes_end self.now - position)) }
     {
         self.head
-            .count_new(whole(&self.storage), &self.runs, position, len)
+            .count_new(self.storage.count(), &self.runs, position, len)
     }
 
     /// Returns whether two receivers of a stream that ends are equal in first position, count of

@@ -1,16 +1,16 @@
 //! A receiver of a stream that ends, in parts.
 ghost use Rattle.std.specs.Prelude.{◌≡◌, ◌↔◌, ℕ, ◌+◌, ◌-◌, ◌<◌, ◌≤◌, ◌^◌, min, max, List, length};
 ghost use Rattle.std.specs.Prelude.{IsTrue, OnErr, Some, None, ◌==◌, ◌++◌, take, drop};
-ghost use Rattle.std.specs.Prelude.{slice_range, nat_lt, if◌then◌else◌};
+ghost use Rattle.std.specs.Prelude.{slice_range, nat_lt, nat_le, ◌&&◌, if◌then◌else◌};
 ghost use Rattle.net_ring.specs.Ring.{queue};
 ghost use Rattle.net_ring.specs.RingHead.{IsSound as IsSoundPlace, ring_at};
 ghost use Rattle.net_receiver.specs.Finite.{no_end, fresh_finite};
-ghost use Rattle.net_receiver.specs.Finite.{can_end, bytes_end, end_after, finite_after, finite_result};
+ghost use Rattle.net_receiver.specs.Finite.{can_end_by, finite_after, finite_result};
 ghost use Rattle.net_receiver.specs.Finite.{finite_after_read, IsSameFinite, is_complete};
 ghost use Rattle.net_receiver.specs.Finite.{acknowledged, has_read_all};
-ghost use Rattle.net_receiver.specs.Segments.{new_count};
+ghost use Rattle.net_receiver.specs.Segments.{count_between};
 ghost use Rattle.net_receiver.specs.FiniteLaws.{MatchesFinite, ReceivesFinite};
-ghost use Rattle.net_receiver.specs.Head.{receiver_of, head_after_read};
+ghost use Rattle.net_receiver.specs.Head.{head_after_read, held_at, top_at, HasSoundHeld};
 ghost use Rattle.net_receiver.specs.ReceiverState.{limit_of};
 ghost use Rattle.net_receiver.specs.FiniteHead.{finite_of, HasSoundFinite, next_of, end_of, end_with};
 ghost use Rattle.net_receiver.specs.FiniteHead.{finite_storage_after};
@@ -51,7 +51,6 @@ fn number_after(end: u64) -> u64
     if end == NO_END { 0 } else { end + 1 }
 }
 
-// A parameter `_runs` is there for the contract.
 impl FiniteReceiverHead {
     /// Returns the head of a receiver of a stream that begins at position `first`; nothing has
     /// arrived. It is sound with every storage and all runs.
@@ -61,7 +60,7 @@ impl FiniteReceiverHead {
     /// `first` is not the greatest number of 64 bits: an end there would have no number after it.
     pub const fn new(first: u64) -> Self
         requires { first < no_end }
-        ensures sound { (storage : List ℕ) (runs : List (ℕ × ℕ)) → HasSoundFinite result storage runs }
+        ensures sound { (capacity : ℕ) (runs : List (ℕ × ℕ)) → HasSoundFinite result capacity runs }
         ensures state { (storage : List ℕ) (runs : List (ℕ × ℕ)) →
             finite_of result storage runs ≡ fresh_finite first (length storage) }
         ensures canonical { IsCanonical result.receiver.held }
@@ -82,7 +81,8 @@ impl FiniteReceiverHead {
     #[inline]
     pub fn reset_at(&mut self, first: u64)
         requires { first < no_end }
-        ensures sound { (storage : List ℕ) (runs : List (ℕ × ℕ)) → HasSoundFinite self.new storage runs }
+        ensures sound { (capacity : ℕ) (runs : List (ℕ × ℕ)) →
+            HasSoundFinite self.new capacity runs }
         ensures state { (storage : List ℕ) (runs : List (ℕ × ℕ)) →
             finite_of self.new storage runs ≡ fresh_finite first (length storage) }
         ensures canonical { IsCanonical self.new.receiver.held }
@@ -90,16 +90,16 @@ impl FiniteReceiverHead {
         *self = FiniteReceiverHead::new(first);
     }
 
-    /// Returns whether this head, a storage and runs are sound: they are those of a receiver, and
-    /// the position after its last byte, held ones too, is at most the end, if that is known, and
-    /// below 2^64 - 1. It looks at each held run, and at no byte.
-    pub fn is_sound(&self, storage: &[u8], runs: &[Run]) -> bool
-        ensures { IsTrue result ↔ HasSoundFinite self.now storage.now runs.now }
+    /// Returns whether this head, a storage of `capacity` bytes and runs are sound: they are those of
+    /// a receiver, and the position after its last byte, held ones too, is at most the end, if that
+    /// is known, and below 2^64 - 1. It looks at each held run, and at no byte.
+    pub fn is_sound(&self, capacity: usize, runs: &[Run]) -> bool
+        ensures { IsTrue result ↔ HasSoundFinite self.now capacity runs.now }
     {
-        self.receiver.is_sound(storage, runs)
+        self.receiver.is_sound(capacity, runs)
             && self
                 .receiver
-                .has_all_below(storage, runs, self.end_or_none().min(NO_END - 1))
+                .has_all_below(runs, self.end_or_none().min(NO_END - 1))
     }
 
     /// Returns the position after the last byte, or the greatest number of 64 bits while it isn't known.
@@ -141,10 +141,10 @@ impl FiniteReceiverHead {
     ///
     /// # Requires
     ///
-    /// Head, storage and runs are sound, as `is_sound` tests.
-    pub fn can_end(&self, storage: &[u8], runs: &[Run], pos: u64) -> bool
-        requires { HasSoundFinite self.now storage.now runs.now }
-        ensures { result ≡ can_end (finite_of self.now storage.now runs.now) pos }
+    /// Head and runs are sound, as `is_sound` tests, with a storage of some length.
+    pub fn can_end(&self, runs: &[Run], pos: u64) -> bool
+        requires { HasSoundHeld self.now.receiver runs.now }
+        ensures { result ≡ can_end_by (end_of self.now) (top_at self.now.receiver runs.now) pos }
     {
         if pos == NO_END {
             return false;
@@ -152,18 +152,21 @@ impl FiniteReceiverHead {
         if self.knows_end() {
             return pos == self.end_or_none();
         }
-        self.receiver.has_all_below(storage, runs, pos)
+        self.receiver.has_all_below(runs, pos)
     }
 
     /// Returns the end that is known after a segment that ends at `pos`, where the storage has
     /// `capacity` bytes.
     #[inline]
-    fn end_after(&self, storage: &[u8], _runs: &[Run], pos: u64, is_last: bool) -> u64
-        requires { HasSoundFinite self.now storage.now _runs.now }
-        ensures { result ≡ end_after (finite_of self.now storage.now _runs.now) pos is_last }
+    fn end_after(&self, capacity: usize, pos: u64, is_last: bool) -> u64
+        requires place { self.now.receiver.place.length ≤ capacity }
+        requires fits { next_of self.now < 2 ^ 64 }
+        ensures { result ≡ (if is_last && nat_le pos
+            (self.now.receiver.first + self.now.receiver.count_read + capacity)
+            then pos else end_of self.now) }
     {
         let ahead = pos.saturating_sub(self.receiver.next());
-        if is_last && ahead <= self.receiver.window(storage.len()) as u64 {
+        if is_last && ahead <= self.receiver.window(capacity) as u64 {
             pos
         } else {
             self.end_or_none()
@@ -195,8 +198,8 @@ impl FiniteReceiverHead {
         bytes: &[u8],
         is_last: bool,
     ) -> Result<KeptBytes, FiniteError>
-        requires { HasSoundFinite self.old storage.old runs.old }
-        ensures sound { HasSoundFinite self.new storage.new runs.new }
+        requires { HasSoundFinite self.old (length storage.old) runs.old }
+        ensures sound { HasSoundFinite self.new (length storage.new) runs.new }
         ensures state { finite_of self.new storage.new runs.new
             ≡ finite_after (length runs.old) (finite_of self.old storage.old runs.old)
             pos bytes.now is_last }
@@ -214,10 +217,10 @@ impl FiniteReceiverHead {
     {
         // No stream ends at the greatest number.
         let last = pos.saturating_add(bytes.len() as u64);
-        if is_last && !self.can_end(storage, runs, last) {
+        if is_last && !self.can_end(runs, last) {
             return Err(FiniteError::OtherEnd);
         }
-        let end = self.end_after(storage, runs, last, is_last);
+        let end = self.end_after(storage.len(), last, is_last);
         let after_end = number_after(end);
         let count = self.count_below(pos, bytes.len());
         match self.receiver.keep(storage, runs, pos, &bytes[..count]) {
@@ -240,7 +243,7 @@ impl FiniteReceiverHead {
         requires { next_of self.now < no_end }
         ensures value { result ≡ (next_of self.now == end_of self.now) }
         ensures state { (storage : List ℕ) (runs : List (ℕ × ℕ)) →
-            HasSoundFinite self.now storage runs →
+            HasSoundFinite self.now (length storage) runs →
             result ≡ is_complete (finite_of self.now storage runs) }
     {
         self.receiver.next() == self.end_or_none()
@@ -257,7 +260,7 @@ impl FiniteReceiverHead {
     pub fn acknowledged(&self) -> u64
         requires { next_of self.now < no_end }
         ensures state { (storage : List ℕ) (runs : List (ℕ × ℕ)) →
-            HasSoundFinite self.now storage runs →
+            HasSoundFinite self.now (length storage) runs →
             result ≡ acknowledged (finite_of self.now storage runs) }
         ensures value { result
             ≡ (if next_of self.now == end_of self.now then next_of self.now + 1 else next_of self.now) }
@@ -297,7 +300,7 @@ impl FiniteReceiverHead {
         ensures none { 2 ^ 64 ≤ self.now.receiver.first + self.now.receiver.count_read + capacity →
             result ≡ None }
         ensures state { (storage : List ℕ) (runs : List (ℕ × ℕ)) → length storage ≡ capacity →
-            HasSoundFinite self.now storage runs →
+            HasSoundFinite self.now capacity runs →
             limit_of (finite_of self.now storage runs).receiver < 2 ^ 64 →
             result ≡ Some (max (limit_of (finite_of self.now storage runs).receiver)
             (acknowledged (finite_of self.now storage runs))) }
@@ -323,12 +326,12 @@ impl FiniteReceiverHead {
         ensures head { self.new.receiver
             ≡ head_after_read (length storage.now) result self.old.receiver }
         ensures end { self.new.after_end ≡ self.old.after_end }
-        ensures sound { (runs : List (ℕ × ℕ)) → HasSoundFinite self.old storage.now runs →
-            HasSoundFinite self.new storage.now runs }
-        ensures state { (runs : List (ℕ × ℕ)) → HasSoundFinite self.old storage.now runs →
+        ensures sound { (runs : List (ℕ × ℕ)) → HasSoundFinite self.old (length storage.now) runs →
+            HasSoundFinite self.new (length storage.now) runs }
+        ensures state { (runs : List (ℕ × ℕ)) → HasSoundFinite self.old (length storage.now) runs →
             finite_of self.new storage.now runs
             ≡ finite_after_read (finite_of self.old storage.now runs) (length into.old) }
-        ensures receives { (runs : List (ℕ × ℕ)) → HasSoundFinite self.old storage.now runs →
+        ensures receives { (runs : List (ℕ × ℕ)) → HasSoundFinite self.old (length storage.now) runs →
             (f : ℕ) (x : List ℕ) → ReceivesFinite f x (finite_of self.old storage.now runs) →
             ReceivesFinite f x (finite_of self.new storage.now runs)
             × (take result into.new ≡ slice_range x self.old.receiver.count_read
@@ -351,13 +354,13 @@ impl FiniteReceiverHead {
         requires fits { next_of self.old < 2 ^ 64 }
         ensures head { self.new.receiver ≡ head_after_read capacity count self.old.receiver }
         ensures end { self.new.after_end ≡ self.old.after_end }
-        ensures sound { (storage : List ℕ) (runs : List (ℕ × ℕ)) → length storage ≡ capacity →
-            HasSoundFinite self.old storage runs → HasSoundFinite self.new storage runs }
+        ensures sound { (runs : List (ℕ × ℕ)) → HasSoundFinite self.old capacity runs →
+            HasSoundFinite self.new capacity runs }
         ensures state { (storage : List ℕ) (runs : List (ℕ × ℕ)) → length storage ≡ capacity →
-            HasSoundFinite self.old storage runs → finite_of self.new storage runs
+            HasSoundFinite self.old capacity runs → finite_of self.new storage runs
             ≡ finite_after_read (finite_of self.old storage runs) count }
         ensures receives { (storage : List ℕ) (runs : List (ℕ × ℕ)) → length storage ≡ capacity →
-            HasSoundFinite self.old storage runs → (f : ℕ) (x : List ℕ) →
+            HasSoundFinite self.old capacity runs → (f : ℕ) (x : List ℕ) →
             ReceivesFinite f x (finite_of self.old storage runs) →
             ReceivesFinite f x (finite_of self.new storage runs)
             × (take count (queue (ring_at storage self.old.receiver.place))
@@ -379,8 +382,8 @@ impl FiniteReceiverHead {
         other_storage: &[u8],
         other_runs: &[Run],
     ) -> bool
-        requires sound { HasSoundFinite self.now storage.now runs.now }
-        requires other_sound { HasSoundFinite other.now other_storage.now other_runs.now }
+        requires sound { HasSoundFinite self.now (length storage.now) runs.now }
+        requires other_sound { HasSoundFinite other.now (length other_storage.now) other_runs.now }
         ensures { IsTrue result ↔ IsSameFinite (finite_of self.now storage.now runs.now)
             (finite_of other.now other_storage.now other_runs.now) }
     {
@@ -390,21 +393,23 @@ impl FiniteReceiverHead {
                 .is_same_state(storage, runs, &other.receiver, other_storage, other_runs)
     }
 
-    /// Returns how many bytes of a segment of `len` bytes at `position` would be new: those in the
-    /// free window and below the end whose positions are not held. It is asked before the segment
-    /// is kept, since the bytes whose positions are held are kept again, and counted. The result is
-    /// 0 for a duplicate, which TCP may report, for a segment that is beyond the free window, and
-    /// for one without bytes. It looks at each held run.
+    /// Returns how many bytes of a segment of `len` bytes at `position` would be new, where the
+    /// storage has `capacity` bytes: those in the free window and below the end whose positions are
+    /// not held. It is asked before the segment is kept, since the bytes whose positions are held
+    /// are kept again, and counted. The result is 0 for a duplicate, which TCP may report, for a
+    /// segment that is beyond the free window, and for one without bytes. It looks at each held run.
     ///
     /// # Requires
     ///
     /// Head, storage and runs are sound, as `is_sound` tests.
-    pub fn count_new(&self, storage: &[u8], runs: &[Run], position: u64, len: usize) -> usize
-        requires sound { HasSoundFinite self.now storage.now runs.now }
-        ensures { result ≡ new_count (receiver_of self.now.receiver storage.now runs.now) position
-            (min len (bytes_end (finite_of self.now storage.now runs.now) - position)) }
+    pub fn count_new(&self, capacity: usize, runs: &[Run], position: u64, len: usize) -> usize
+        requires sound { HasSoundFinite self.now capacity runs.now }
+        ensures { result ≡ count_between (next_of self.now)
+            (self.now.receiver.first + self.now.receiver.count_read + capacity)
+            (held_at self.now.receiver runs.now) position
+            (min len (min (end_of self.now) (no_end - 1) - position)) }
     {
         let count = self.count_below(position, len);
-        self.receiver.count_part(storage, runs, position, count)
+        self.receiver.count_part(capacity, runs, position, count)
     }
 }

@@ -7,17 +7,16 @@ ghost use Rattle.net_assembler.specs.RunLists.{HasSoundRuns, IsCanonical, set_of
 ghost use Rattle.net_receiver.specs.KeptList.{piece};
 ghost use Rattle.net_receiver.specs.ReceiverState.{verdict, state_after, numbers};
 ghost use Rattle.net_receiver.specs.ReceiverState.{first_three, segment_result};
-ghost use Rattle.net_receiver.specs.ReceiverState.{fresh_receiver, domain, limit_of, next_position};
+ghost use Rattle.net_receiver.specs.ReceiverState.{fresh_receiver, domain};
 ghost use Rattle.net_receiver.specs.ReceiverState.{IsSameState, receiver_after_read};
 ghost use Rattle.net_receiver.specs.OneStream.{ReceivesFrom, MatchesStream};
 ghost use Rattle.net_receiver.specs.NewHeads.{receiver_head};
-ghost use Rattle.net_receiver.specs.Head.{receiver_of, HasSoundParts, storage_after};
-ghost use Rattle.net_receiver.specs.Head.{head_after_read};
+ghost use Rattle.net_receiver.specs.Head.{receiver_of, HasSoundParts, HasSoundHeld, storage_after};
+ghost use Rattle.net_receiver.specs.Head.{head_after_read, next_at, held_at, top_at};
 ghost use Rattle.net_ring.specs.Ring.{queue, contiguous_allocated, contiguous_queued};
 ghost use Rattle.net_ring.specs.RingHead.{IsSound as IsSoundPlace, ring_at};
 ghost use Rattle.net_receiver.specs.NewestRuns.{newest_runs, with_starts, run_at, with_run};
-ghost use Rattle.net_receiver.specs.Segments.{new_count};
-ghost use Rattle.net_receiver.specs.Finite.{top_of};
+ghost use Rattle.net_receiver.specs.Segments.{count_between};
 
 use crate::held_runs::HeldRunIter;
 use crate::kept::{Kept, KeptBytes};
@@ -34,8 +33,9 @@ use net_ring::RingHead;
 /// the slice of runs has elements.
 ///
 /// A head, a storage and runs are *sound* if they are those of a receiver, as `is_sound` tests:
-/// `HasSoundParts` in contracts, where `receiver_of` is what they store. A call that requires this
-/// can't be made with a head and the storage or the runs of another one. smoltcp has no such type.
+/// `HasSoundParts` in contracts, where `receiver_of` is what they store. Only the storage's length
+/// matters, not its bytes. A call that requires this can't be made with a head and the runs of
+/// another one, or a storage of another length. smoltcp has no such type.
 #[repr(C)]
 #[derive(Debug, Clone, Copy)]
 pub struct ReceiverHead {
@@ -49,13 +49,11 @@ pub struct ReceiverHead {
     pub held: AssemblerHead,
 }
 
-// A parameter `_storage` is there for the contract.
 impl ReceiverHead {
     /// Returns the head of a receiver of a stream that begins at position `first`; nothing is read,
     /// queued or held. It is sound with every storage and all runs.
     pub const fn new(first: u64) -> Self
-        ensures sound { (storage : List ℕ) (runs : List (ℕ × ℕ)) →
-            HasSoundParts result storage runs }
+        ensures sound { (capacity : ℕ) (runs : List (ℕ × ℕ)) → HasSoundParts result capacity runs }
         ensures state { (storage : List ℕ) (runs : List (ℕ × ℕ)) →
             receiver_of result storage runs ≡ fresh_receiver first (length storage) }
         ensures canonical { IsCanonical result.held }
@@ -76,8 +74,7 @@ impl ReceiverHead {
     /// returns it.
     #[inline]
     pub fn reset_at(&mut self, first: u64)
-        ensures sound { (storage : List ℕ) (runs : List (ℕ × ℕ)) →
-            HasSoundParts self.new storage runs }
+        ensures sound { (capacity : ℕ) (runs : List (ℕ × ℕ)) → HasSoundParts self.new capacity runs }
         ensures state { (storage : List ℕ) (runs : List (ℕ × ℕ)) →
             receiver_of self.new storage runs ≡ fresh_receiver first (length storage) }
         ensures canonical { IsCanonical self.new.held }
@@ -85,15 +82,14 @@ impl ReceiverHead {
         *self = ReceiverHead::new(first);
     }
 
-    /// Returns whether this head, a storage and runs are sound: `place` is that of a ring of the
-    /// storage, whose `read_at` is `count_read` modulo the capacity; the first missing position
-    /// fits 64 bits; `held` and the runs are those of an assembler without position 0; and each
-    /// held position is in the free window, and the one after it fits 64 bits. It looks at each
-    /// held run, and at no byte.
-    pub fn is_sound(&self, storage: &[u8], runs: &[Run]) -> bool
-        ensures { IsTrue result ↔ HasSoundParts self.now storage.now runs.now }
+    /// Returns whether this head, a storage of `capacity` bytes and runs are sound: `place` is that
+    /// of a ring of the storage, whose `read_at` is `count_read` modulo the capacity; the first
+    /// missing position fits 64 bits; `held` and the runs are those of an assembler without
+    /// position 0; and each held position is in the free window, and the one after it fits 64 bits.
+    /// It looks at each held run, and at no byte.
+    pub fn is_sound(&self, capacity: usize, runs: &[Run]) -> bool
+        ensures { IsTrue result ↔ HasSoundParts self.now capacity runs.now }
     {
-        let capacity = storage.len();
         if !self.place.is_sound(capacity) {
             return false;
         }
@@ -168,9 +164,9 @@ impl ReceiverHead {
         pos: u64,
         bytes: &[u8],
     ) -> Result<Kept, TooManyHolesError>
-        requires sound { HasSoundParts self.old storage.old runs.old }
+        requires sound { HasSoundParts self.old (length storage.old) runs.old }
         requires fits { pos + length bytes.now < 2 ^ 64 }
-        ensures sound { HasSoundParts self.new storage.new runs.new }
+        ensures sound { HasSoundParts self.new (length storage.new) runs.new }
         ensures state { let v = receiver_of self.old storage.old runs.old in
             receiver_of self.new storage.new runs.new ≡ state_after v
             (verdict (length runs.old) v (piece pos bytes.now)) }
@@ -189,7 +185,7 @@ impl ReceiverHead {
         ensures canonical { IsCanonical self.old.held → IsCanonical self.new.held }
     {
         let bytes = self.keep(storage, runs, pos, bytes)?;
-        let sack = self.first_runs(storage, runs);
+        let sack = self.first_runs(runs);
         Ok(Kept {
             kept: bytes.kept,
             queued: bytes.queued,
@@ -197,13 +193,13 @@ impl ReceiverHead {
         })
     }
 
-    /// Returns the first three held runs. The storage is for the contract only.
+    /// Returns the first three held runs.
     #[inline(always)]
-    fn first_runs(&self, storage: &[u8], runs: &[Run]) -> [Option<(u64, u64)>; 3]
-        requires { HasSoundParts self.now storage.now runs.now }
-        ensures { result ≡ first_three (maximal_runs (domain (receiver_of self.now storage.now runs.now).held)) }
+    fn first_runs(&self, runs: &[Run]) -> [Option<(u64, u64)>; 3]
+        requires { HasSoundHeld self.now runs.now }
+        ensures { result ≡ first_three (maximal_runs (held_at self.now runs.now)) }
     {
-        let mut held = self.held(storage, runs);
+        let mut held = self.held(runs);
         [held.next(), held.next(), held.next()]
     }
 
@@ -222,9 +218,9 @@ impl ReceiverHead {
         pos: u64,
         bytes: &[u8],
     ) -> Result<KeptBytes, TooManyHolesError>
-        requires sound { HasSoundParts self.old storage.old runs.old }
+        requires sound { HasSoundParts self.old (length storage.old) runs.old }
         requires fits { pos + length bytes.now < 2 ^ 64 }
-        ensures sound { HasSoundParts self.new storage.new runs.new }
+        ensures sound { HasSoundParts self.new (length storage.new) runs.new }
         ensures state { let v = receiver_of self.old storage.old runs.old in
             receiver_of self.new storage.new runs.new ≡ state_after v
             (verdict (length runs.old) v (piece pos bytes.now)) }
@@ -276,12 +272,12 @@ impl ReceiverHead {
         ensures into { let queued = queue (ring_at storage.now self.old.place) in
             into.new ≡ take (length into.old) queued ++ drop (length queued) into.old }
         ensures head { self.new ≡ head_after_read (length storage.now) result self.old }
-        ensures sound { (runs : List (ℕ × ℕ)) → HasSoundParts self.old storage.now runs →
-            HasSoundParts self.new storage.now runs }
-        ensures state { (runs : List (ℕ × ℕ)) → HasSoundParts self.old storage.now runs →
+        ensures sound { (runs : List (ℕ × ℕ)) → HasSoundParts self.old (length storage.now) runs →
+            HasSoundParts self.new (length storage.now) runs }
+        ensures state { (runs : List (ℕ × ℕ)) → HasSoundParts self.old (length storage.now) runs →
             receiver_of self.new storage.now runs
             ≡ receiver_after_read (receiver_of self.old storage.now runs) (length into.old) }
-        ensures receives { (runs : List (ℕ × ℕ)) → HasSoundParts self.old storage.now runs →
+        ensures receives { (runs : List (ℕ × ℕ)) → HasSoundParts self.old (length storage.now) runs →
             (f : ℕ) (x : List ℕ) → ReceivesFrom f x (receiver_of self.old storage.now runs) →
             ReceivesFrom f x (receiver_of self.new storage.now runs)
             × (take result into.new
@@ -386,13 +382,13 @@ impl ReceiverHead {
         requires queued { count ≤ self.old.place.length }
         requires fits { self.old.first + self.old.count_read + self.old.place.length < 2 ^ 64 }
         ensures head { self.new ≡ head_after_read capacity count self.old }
-        ensures sound { (storage : List ℕ) (runs : List (ℕ × ℕ)) → length storage ≡ capacity →
-            HasSoundParts self.old storage runs → HasSoundParts self.new storage runs }
+        ensures sound { (runs : List (ℕ × ℕ)) → HasSoundParts self.old capacity runs →
+            HasSoundParts self.new capacity runs }
         ensures state { (storage : List ℕ) (runs : List (ℕ × ℕ)) → length storage ≡ capacity →
-            HasSoundParts self.old storage runs → receiver_of self.new storage runs
+            HasSoundParts self.old capacity runs → receiver_of self.new storage runs
             ≡ receiver_after_read (receiver_of self.old storage runs) count }
         ensures receives { (storage : List ℕ) (runs : List (ℕ × ℕ)) → length storage ≡ capacity →
-            HasSoundParts self.old storage runs → (f : ℕ) (x : List ℕ) →
+            HasSoundParts self.old capacity runs → (f : ℕ) (x : List ℕ) →
             ReceivesFrom f x (receiver_of self.old storage runs) →
             ReceivesFrom f x (receiver_of self.new storage runs)
             × (take count (queue (ring_at storage self.old.place))
@@ -454,16 +450,15 @@ impl ReceiverHead {
     ///
     /// # Requires
     ///
-    /// Head, storage and runs are sound, as `is_sound` tests.
+    /// Head and runs are sound, as `is_sound` tests, with a storage of some length.
     #[inline(always)]
-    pub fn held<'a>(&self, _storage: &[u8], runs: &'a [Run]) -> HeldRunIter<'a>
-        requires { HasSoundParts self.now _storage.now runs.now }
-        ensures runs { result ≡ maximal_runs (domain (receiver_of self.now _storage.now runs.now).held) }
+    pub fn held<'a>(&self, runs: &'a [Run]) -> HeldRunIter<'a>
+        requires { HasSoundHeld self.now runs.now }
+        ensures runs { result ≡ maximal_runs (held_at self.now runs.now) }
         ensures bound { length result ≤ length runs.now }
-        ensures above { let v = receiver_of self.now _storage.now runs.now in
-            All (λ run. (next_position v < run.0) × (run.0 < run.1)) result }
-        ensures within { let v = receiver_of self.now _storage.now runs.now in
-            All (λ run. run.1 ≤ limit_of v) result }
+        ensures above { All (λ run. (next_at self.now < run.0) × (run.0 < run.1)) result }
+        ensures within { (capacity : ℕ) → HasSoundParts self.now capacity runs.now →
+            All (λ run. run.1 ≤ self.now.first + self.now.count_read + capacity) result }
     {
         laws::maximal_runs();
         HeldRunIter::over(self.held.iter_data(runs), self.next())
@@ -473,15 +468,15 @@ impl ReceiverHead {
     #[inline(always)]
     pub fn held_count(&self) -> usize
         ensures value { result ≡ self.now.held.used }
-        ensures state { (storage : List ℕ) (runs : List (ℕ × ℕ)) → HasSoundParts self.now storage runs →
+        ensures state { (storage : List ℕ) (runs : List (ℕ × ℕ)) →
+            HasSoundParts self.now (length storage) runs →
             result ≡ run_count (domain (receiver_of self.now storage runs).held) }
     {
         self.held.used
     }
 
     /// Lists held runs at the beginning of `into`, the newest first, and returns how many: as many
-    /// as are held, or as `into` has elements. The rest of `into` stays as it is. The storage is
-    /// for the contract only.
+    /// as are held, or as `into` has elements. The rest of `into` stays as it is.
     ///
     /// The first is the run that has `position`, that of the segment just taken, if it is held;
     /// then come the runs that have the positions in `recent`, in their order, and then the others,
@@ -494,75 +489,59 @@ impl ReceiverHead {
     ///
     /// # Requires
     ///
-    /// Head, storage and runs are sound, as `is_sound` tests.
+    /// Head and runs are sound, as `is_sound` tests, with a storage of some length.
     pub fn newest_runs(
         &self,
-        storage: &[u8],
         runs: &[Run],
         position: u64,
         recent: &mut [u64],
         into: &mut [HeldRun],
     ) -> usize
-        requires { HasSoundParts self.now storage.now runs.now }
+        requires { HasSoundHeld self.now runs.now }
         ensures listed { take result into.new ≡ newest_runs (length into.old)
-            (domain (receiver_of self.now storage.now runs.now).held) (position ∷ recent.old) }
+            (held_at self.now runs.now) (position ∷ recent.old) }
         ensures count { result ≤ length into.old }
         ensures rest { drop result into.new ≡ drop result into.old }
         ensures recent { recent.new
             ≡ with_starts recent.old (take result into.new) }
     {
-        let count = self.list_runs(storage, runs, position, recent, into);
+        let count = self.list_runs(runs, position, recent, into);
         remember(recent, &into[..count]);
         count
     }
 
     /// Lists the runs as `newest_runs` does, and leaves `recent` as it is.
-    fn list_runs(
-        &self,
-        storage: &[u8],
-        runs: &[Run],
-        position: u64,
-        recent: &[u64],
-        into: &mut [HeldRun],
-    ) -> usize
-        requires { HasSoundParts self.now storage.now runs.now }
+    fn list_runs(&self, runs: &[Run], position: u64, recent: &[u64], into: &mut [HeldRun]) -> usize
+        requires { HasSoundHeld self.now runs.now }
         ensures listed { take result into.new ≡ newest_runs (length into.old)
-            (domain (receiver_of self.now storage.now runs.now).held) (position ∷ recent.now) }
+            (held_at self.now runs.now) (position ∷ recent.now) }
         ensures count { result ≤ length into.old }
         ensures rest { drop result into.new ≡ drop result into.old }
     {
-        let mut count = self.list_run(storage, runs, position, into, 0);
+        let mut count = self.list_run(runs, position, into, 0);
         for i in 0..recent.len() {
-            count = self.list_run(storage, runs, recent[i], into, count);
+            count = self.list_run(runs, recent[i], into, count);
         }
-        for (start, _) in self.held(storage, runs) {
-            count = self.list_run(storage, runs, start, into, count);
+        for (start, _) in self.held(runs) {
+            count = self.list_run(runs, start, into, count);
         }
         count
     }
 
     /// Lists the run that has a position after the first `count`, unless one of them has it, and
     /// returns how many are listed then.
-    fn list_run(
-        &self,
-        storage: &[u8],
-        runs: &[Run],
-        position: u64,
-        into: &mut [HeldRun],
-        count: usize,
-    ) -> usize
-        requires sound { HasSoundParts self.now storage.now runs.now }
+    fn list_run(&self, runs: &[Run], position: u64, into: &mut [HeldRun], count: usize) -> usize
+        requires sound { HasSoundHeld self.now runs.now }
         requires count { count ≤ length into.old }
         ensures listed { take result into.new ≡ with_run (length into.old)
-            (domain (receiver_of self.now storage.now runs.now).held)
-            (take count into.old) position }
+            (held_at self.now runs.now) (take count into.old) position }
         ensures count { result ≤ length into.old }
         ensures rest { drop result into.new ≡ drop result into.old }
     {
         if count == into.len() || is_listed(&into[..count], position) {
             return count;
         }
-        match self.run_at(storage, runs, position) {
+        match self.run_at(runs, position) {
             Some((start, end)) => {
                 into[count] = HeldRun { start, end };
                 prove!(count + 1 <= into.len(), "in any `usize`");
@@ -573,12 +552,12 @@ impl ReceiverHead {
     }
 
     /// Returns the held run that has a position, as (start, end), the end not included; `None` if
-    /// the position isn't held. The storage is for the contract only.
-    fn run_at(&self, storage: &[u8], runs: &[Run], position: u64) -> Option<(u64, u64)>
-        requires { HasSoundParts self.now storage.now runs.now }
-        ensures { result ≡ run_at (domain (receiver_of self.now storage.now runs.now).held) position }
+    /// the position isn't held.
+    fn run_at(&self, runs: &[Run], position: u64) -> Option<(u64, u64)>
+        requires { HasSoundHeld self.now runs.now }
+        ensures { result ≡ run_at (held_at self.now runs.now) position }
     {
-        for (start, end) in self.held(storage, runs) {
+        for (start, end) in self.held(runs) {
             if start <= position && position < end {
                 return Some((start, end));
             }
@@ -586,39 +565,42 @@ impl ReceiverHead {
         None
     }
 
-    /// Returns how many bytes of a segment of `len` bytes at `position` would be new, as
-    /// `ReceiverOver::count_new` does.
+    /// Returns how many bytes of a segment of `len` bytes at `position` would be new, where the
+    /// storage has `capacity` bytes, as `ReceiverOver::count_new` does.
     ///
     /// # Requires
     ///
     /// Head, storage and runs are sound, as `is_sound` tests.
-    pub fn count_new(&self, storage: &[u8], runs: &[Run], position: u64, len: usize) -> usize
-        requires sound { HasSoundParts self.now storage.now runs.now }
-        ensures { result ≡ new_count (receiver_of self.now storage.now runs.now) position
-            (min len (2 ^ 64 - 1 - position)) }
+    pub fn count_new(&self, capacity: usize, runs: &[Run], position: u64, len: usize) -> usize
+        requires sound { HasSoundParts self.now capacity runs.now }
+        ensures { result ≡ count_between (next_at self.now)
+            (self.now.first + self.now.count_read + capacity) (held_at self.now runs.now)
+            position (min len (2 ^ 64 - 1 - position)) }
     {
-        self.count_part(storage, runs, position, count_existing(position, len))
+        self.count_part(capacity, runs, position, count_existing(position, len))
     }
 
     /// Counts those of a segment that ends within 64 bits.
     pub(crate) fn count_part(
         &self,
-        storage: &[u8],
+        capacity: usize,
         runs: &[Run],
         position: u64,
         len: usize,
     ) -> usize
-        requires sound { HasSoundParts self.now storage.now runs.now }
+        requires sound { HasSoundParts self.now capacity runs.now }
         requires fits { position + len < 2 ^ 64 }
-        ensures { result ≡ new_count (receiver_of self.now storage.now runs.now) position len }
+        ensures { result ≡ count_between (next_at self.now)
+            (self.now.first + self.now.count_read + capacity) (held_at self.now runs.now)
+            position len }
     {
         laws::maximal_runs();
         let next = self.next();
-        let limit = next.saturating_add(self.window(storage.len()) as u64);
+        let limit = next.saturating_add(self.window(capacity) as u64);
         let end = limit.min(position + len as u64);
         let mut at = next.max(position);
         let mut count = 0;
-        for (start, past) in self.held(storage, runs) {
+        for (start, past) in self.held(runs) {
             count += start.min(end).saturating_sub(at);
             at = at.max(past);
         }
@@ -631,10 +613,10 @@ impl ReceiverHead {
     ///
     /// # Requires
     ///
-    /// Head, storage and runs are sound, as `is_sound` tests.
-    pub fn has_all_below(&self, _storage: &[u8], runs: &[Run], pos: u64) -> bool
-        requires { HasSoundParts self.now _storage.now runs.now }
-        ensures { IsTrue result ↔ (top_of (receiver_of self.now _storage.now runs.now) ≤ pos) }
+    /// Head and runs are sound, as `is_sound` tests, with a storage of some length.
+    pub fn has_all_below(&self, runs: &[Run], pos: u64) -> bool
+        requires { HasSoundHeld self.now runs.now }
+        ensures { IsTrue result ↔ (top_at self.now runs.now ≤ pos) }
     {
         let next = self.next();
         next <= pos && self.is_held_below(pos - next, runs)
@@ -653,8 +635,8 @@ impl ReceiverHead {
         other_storage: &[u8],
         other_runs: &[Run],
     ) -> bool
-        requires sound { HasSoundParts self.now storage.now runs.now }
-        requires other_sound { HasSoundParts other.now other_storage.now other_runs.now }
+        requires sound { HasSoundParts self.now (length storage.now) runs.now }
+        requires other_sound { HasSoundParts other.now (length other_storage.now) other_runs.now }
         ensures { IsTrue result ↔ IsSameState (receiver_of self.now storage.now runs.now)
             (receiver_of other.now other_storage.now other_runs.now) }
     {

@@ -10,11 +10,11 @@ const NONE: Run = Run { start: 0, end: 0 };
 
 /// Keeps the last segment, `ab` at 5. Returns whether the head then says that the stream ends at 7.
 fn ends_at_seven(head: &mut FiniteReceiverHead, storage: &mut [u8], runs: &mut [Run]) -> bool {
-    if !head.is_sound(storage, runs) || head.knows_end() {
+    if !head.is_sound(storage.len(), runs) || head.knows_end() {
         return false;
     }
     let kept = head.keep(storage, runs, 5, b"ab", true).is_ok();
-    if !head.is_sound(storage, runs) {
+    if !head.is_sound(storage.len(), runs) {
         return false;
     }
     kept && head.knows_end()
@@ -24,8 +24,8 @@ fn ends_at_seven(head: &mut FiniteReceiverHead, storage: &mut [u8], runs: &mut [
 
 /// Returns whether no byte of a new receiver is queued or held at 5 or above, and it is in its own state.
 fn has_nothing(head: &ReceiverHead, storage: &[u8], runs: &[Run]) -> bool {
-    head.is_sound(storage, runs)
-        && head.has_all_below(storage, runs, 5)
+    head.is_sound(storage.len(), runs)
+        && head.has_all_below(runs, 5)
         && head.is_same_state(storage, runs, head, storage, runs)
 }
 

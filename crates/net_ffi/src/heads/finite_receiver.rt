@@ -6,22 +6,22 @@
 //! `receiver`.
 // Written by tools/ffi.py.
 ghost use Rattle.net_assembler.specs.RunLists.{IsCanonical};
-ghost use Rattle.net_ffi.specs.ReceiverParts.{IsPlausible};
+ghost use Rattle.net_ffi.specs.ReceiverParts.{HasRuns, IsPlausible};
 ghost use Rattle.net_ffi.specs.Refusals.{no_number};
-ghost use Rattle.net_receiver.specs.Finite.{acknowledged, bytes_end, can_end, finite_after_read, fresh_finite};
+ghost use Rattle.net_receiver.specs.Finite.{acknowledged, can_end_by, finite_after_read, fresh_finite};
 ghost use Rattle.net_receiver.specs.Finite.{has_read_all, is_complete, no_end};
 ghost use Rattle.net_receiver.specs.FiniteHead.{HasSoundFinite, end_of, finite_of, next_of};
 ghost use Rattle.net_receiver.specs.FiniteLaws.{ReceivesFinite};
-ghost use Rattle.net_receiver.specs.Head.{head_after_read, receiver_of};
+ghost use Rattle.net_receiver.specs.Head.{HasSoundHeld, head_after_read, held_at, top_at};
 ghost use Rattle.net_receiver.specs.NewHeads.{finite_receiver_head};
-ghost use Rattle.net_receiver.specs.Segments.{new_count};
+ghost use Rattle.net_receiver.specs.Segments.{count_between};
 ghost use Rattle.net_ring.specs.Ring.{queue};
 ghost use Rattle.net_ring.specs.RingHead.{IsSound as IsSoundPlace, ring_at};
 ghost use Rattle.std.specs.Prelude.{IsFalse, IsTrue, List, drop, if◌then◌else◌, length, min, slice_range, take, ℕ};
 ghost use Rattle.std.specs.Prelude.{◌++◌, ◌+◌, ◌-◌, ◌<◌, ◌==◌, ◌^◌, ◌↔◌, ◌≡◌, ◌≤◌};
 
 use crate::finite_receiver::has_number;
-use crate::receiver::{has_next, is_plausible};
+use crate::receiver::{has_next, has_runs, is_plausible};
 use crate::refusals::no_number;
 use net_assembler::Run;
 use net_receiver::FiniteReceiverHead;
@@ -36,8 +36,7 @@ pub extern "C" fn net_base_finite_receiver_init(
     first: u64,
 ) -> bool
     ensures done { IsTrue result ↔ (first < no_end) }
-    ensures sound { IsTrue result → (storage : List ℕ) (runs : List (ℕ × ℕ)) → HasSoundFinite receiver.new storage
-        runs }
+    ensures sound { IsTrue result → (capacity : ℕ) (runs : List (ℕ × ℕ)) → HasSoundFinite receiver.new capacity runs }
     ensures state { IsTrue result → (storage : List ℕ) (runs : List (ℕ × ℕ)) → finite_of receiver.new storage runs ≡
         fresh_finite first (length storage) }
     ensures canonical { IsTrue result → IsCanonical receiver.new.receiver.held }
@@ -51,25 +50,24 @@ pub extern "C" fn net_base_finite_receiver_init(
     true
 }
 
-/// Returns whether this head, a storage and runs are sound: they are those of a receiver, and the
-/// position after its last byte, held ones too, is at most the end, if that is known, and below
-/// 2^64 - 1. It looks at each held run, and at no byte.
+/// Returns whether this head, a storage of `capacity` bytes and runs are sound: they are those of a
+/// receiver, and the position after its last byte, held ones too, is at most the end, if that is
+/// known, and below 2^64 - 1. It looks at each held run, and at no byte.
 #[unsafe(no_mangle)]
 pub extern "C" fn net_base_finite_receiver_is_sound(
     receiver: &FiniteReceiverHead,
-    storage: &[u8],
+    capacity: usize,
     runs: &[Run],
 ) -> bool
-    ensures { IsTrue result ↔ HasSoundFinite receiver.now storage.now runs.now }
+    ensures { IsTrue result ↔ HasSoundFinite receiver.now capacity runs.now }
 {
-    receiver.is_sound(storage, runs)
+    receiver.is_sound(capacity, runs)
 }
 
 /// Returns whether the stream can end at `position`: it is the end that is known, or none is, and
 /// it isn't below the first missing position or a held run's end. 2^64 - 1 is no end.
 ///
-/// It is refused if `place` isn't that of a ring of `storage.len()` bytes, `next` doesn't fit 64
-/// bits, or `held.used` is above `runs.len()`: false.
+/// It is refused if `next` doesn't fit 64 bits, or `held.used` is above `runs.len()`: false.
 ///
 /// # Requires
 ///
@@ -77,21 +75,18 @@ pub extern "C" fn net_base_finite_receiver_is_sound(
 #[unsafe(no_mangle)]
 pub extern "C" fn net_base_finite_receiver_can_end(
     receiver: &FiniteReceiverHead,
-    storage: &[u8],
     runs: &[Run],
     position: u64,
 ) -> bool
-    requires sound { IsPlausible (length storage.now) (length runs.now) receiver.now.receiver → HasSoundFinite
-        receiver.now storage.now runs.now }
-    ensures value { IsPlausible (length storage.now) (length runs.now) receiver.now.receiver → result ≡ can_end
-        (finite_of receiver.now storage.now runs.now) position }
-    ensures refused { (IsPlausible (length storage.now) (length runs.now) receiver.now.receiver → ⊥) → IsFalse
-        result }
+    requires sound { HasRuns (length runs.now) receiver.now.receiver → HasSoundHeld receiver.now.receiver runs.now }
+    ensures value { HasRuns (length runs.now) receiver.now.receiver → result ≡ can_end_by (end_of receiver.now)
+        (top_at receiver.now.receiver runs.now) position }
+    ensures refused { (HasRuns (length runs.now) receiver.now.receiver → ⊥) → IsFalse result }
 {
-    if !is_plausible(&receiver.receiver, storage.len(), runs.len()) {
+    if !has_runs(&receiver.receiver, runs.len()) {
         return false;
     }
-    receiver.can_end(storage, runs, position)
+    receiver.can_end(runs, position)
 }
 
 /// Returns whether all bytes and the end have arrived. Once it is so it stays so.
@@ -101,7 +96,7 @@ pub extern "C" fn net_base_finite_receiver_can_end(
 pub extern "C" fn net_base_finite_receiver_is_complete(receiver: &FiniteReceiverHead) -> bool
     ensures value { next_of receiver.now < no_end → result ≡ (next_of receiver.now == end_of receiver.now) }
     ensures state { next_of receiver.now < no_end → (storage : List ℕ) (runs : List (ℕ × ℕ)) → HasSoundFinite
-        receiver.now storage runs → result ≡ is_complete (finite_of receiver.now storage runs) }
+        receiver.now (length storage) runs → result ≡ is_complete (finite_of receiver.now storage runs) }
     ensures refused { (next_of receiver.now < no_end → ⊥) → IsFalse result }
 {
     if !has_number(receiver) {
@@ -120,8 +115,8 @@ pub extern "C" fn net_base_finite_receiver_acknowledged(
     number: &mut u64,
 ) -> bool
     ensures done { IsTrue result ↔ (next_of receiver.now < no_end) }
-    ensures state { IsTrue result → (storage : List ℕ) (runs : List (ℕ × ℕ)) → HasSoundFinite receiver.now storage
-        runs → number.new ≡ acknowledged (finite_of receiver.now storage runs) }
+    ensures state { IsTrue result → (storage : List ℕ) (runs : List (ℕ × ℕ)) → HasSoundFinite receiver.now (length
+        storage) runs → number.new ≡ acknowledged (finite_of receiver.now storage runs) }
     ensures value { IsTrue result → number.new ≡ (if next_of receiver.now == end_of receiver.now then next_of
         receiver.now + 1 else next_of receiver.now) }
     ensures unchanged { IsFalse result → (number.new ≡ number.old) }
@@ -169,13 +164,13 @@ pub extern "C" fn net_base_finite_receiver_read(
     ensures end { (IsSoundPlace (length storage.now) receiver.old.receiver.place) × (next_of receiver.old < 2 ^ 64)
         → receiver.new.after_end ≡ receiver.old.after_end }
     ensures sound { (IsSoundPlace (length storage.now) receiver.old.receiver.place) × (next_of receiver.old < 2 ^
-        64) → (runs : List (ℕ × ℕ)) → HasSoundFinite receiver.old storage.now runs → HasSoundFinite receiver.new
-        storage.now runs }
+        64) → (runs : List (ℕ × ℕ)) → HasSoundFinite receiver.old (length storage.now) runs → HasSoundFinite
+        receiver.new (length storage.now) runs }
     ensures state { (IsSoundPlace (length storage.now) receiver.old.receiver.place) × (next_of receiver.old < 2 ^
-        64) → (runs : List (ℕ × ℕ)) → HasSoundFinite receiver.old storage.now runs → finite_of receiver.new
+        64) → (runs : List (ℕ × ℕ)) → HasSoundFinite receiver.old (length storage.now) runs → finite_of receiver.new
         storage.now runs ≡ finite_after_read (finite_of receiver.old storage.now runs) (length into.old) }
     ensures receives { (IsSoundPlace (length storage.now) receiver.old.receiver.place) × (next_of receiver.old < 2 ^
-        64) → (runs : List (ℕ × ℕ)) → HasSoundFinite receiver.old storage.now runs → (f : ℕ) (x : List ℕ) →
+        64) → (runs : List (ℕ × ℕ)) → HasSoundFinite receiver.old (length storage.now) runs → (f : ℕ) (x : List ℕ) →
         ReceivesFinite f x (finite_of receiver.old storage.now runs) → ReceivesFinite f x (finite_of receiver.new
         storage.now runs) × (take result into.new ≡ slice_range x receiver.old.receiver.count_read
         (receiver.old.receiver.count_read + result)) }
@@ -204,15 +199,15 @@ pub extern "C" fn net_base_finite_receiver_remove(
         receiver.old.receiver.place.length) × (next_of receiver.old < 2 ^ 64)) }
     ensures head { IsTrue result → receiver.new.receiver ≡ head_after_read capacity count receiver.old.receiver }
     ensures end { IsTrue result → receiver.new.after_end ≡ receiver.old.after_end }
-    ensures sound { IsTrue result → (storage : List ℕ) (runs : List (ℕ × ℕ)) → length storage ≡ capacity →
-        HasSoundFinite receiver.old storage runs → HasSoundFinite receiver.new storage runs }
+    ensures sound { IsTrue result → (runs : List (ℕ × ℕ)) → HasSoundFinite receiver.old capacity runs →
+        HasSoundFinite receiver.new capacity runs }
     ensures state { IsTrue result → (storage : List ℕ) (runs : List (ℕ × ℕ)) → length storage ≡ capacity →
-        HasSoundFinite receiver.old storage runs → finite_of receiver.new storage runs ≡ finite_after_read
+        HasSoundFinite receiver.old capacity runs → finite_of receiver.new storage runs ≡ finite_after_read
         (finite_of receiver.old storage runs) count }
     ensures receives { IsTrue result → (storage : List ℕ) (runs : List (ℕ × ℕ)) → length storage ≡ capacity →
-        HasSoundFinite receiver.old storage runs → (f : ℕ) (x : List ℕ) → ReceivesFinite f x (finite_of receiver.old
-        storage runs) → ReceivesFinite f x (finite_of receiver.new storage runs) × (take count (queue (ring_at
-        storage receiver.old.receiver.place)) ≡ slice_range x receiver.old.receiver.count_read
+        HasSoundFinite receiver.old capacity runs → (f : ℕ) (x : List ℕ) → ReceivesFinite f x (finite_of
+        receiver.old storage runs) → ReceivesFinite f x (finite_of receiver.new storage runs) × (take count (queue
+        (ring_at storage receiver.old.receiver.place)) ≡ slice_range x receiver.old.receiver.count_read
         (receiver.old.receiver.count_read + count)) }
     ensures unchanged { IsFalse result → (receiver.new ≡ receiver.old) }
 {
@@ -226,14 +221,14 @@ pub extern "C" fn net_base_finite_receiver_remove(
     true
 }
 
-/// Returns how many bytes of a segment of `len` bytes at `position` would be new: those in the free
-/// window and below the end whose positions are not held. It is asked before the segment is kept,
-/// since the bytes whose positions are held are kept again, and counted. The result is 0 for a
-/// duplicate, which TCP may report, for a segment that is beyond the free window, and for one
-/// without bytes. It looks at each held run.
+/// Returns how many bytes of a segment of `len` bytes at `position` would be new, where the storage
+/// has `capacity` bytes: those in the free window and below the end whose positions are not held.
+/// It is asked before the segment is kept, since the bytes whose positions are held are kept again,
+/// and counted. The result is 0 for a duplicate, which TCP may report, for a segment that is beyond
+/// the free window, and for one without bytes. It looks at each held run.
 ///
-/// It is refused if `place` isn't that of a ring of `storage.len()` bytes, `next` doesn't fit 64
-/// bits, or `held.used` is above `runs.len()`: `NET_BASE_NONE`.
+/// It is refused if `place` isn't that of a ring of `capacity` bytes, `next` doesn't fit 64 bits,
+/// or `held.used` is above `runs.len()`: `NET_BASE_NONE`.
 ///
 /// # Requires
 ///
@@ -241,21 +236,20 @@ pub extern "C" fn net_base_finite_receiver_remove(
 #[unsafe(no_mangle)]
 pub extern "C" fn net_base_finite_receiver_count_new(
     receiver: &FiniteReceiverHead,
-    storage: &[u8],
+    capacity: usize,
     runs: &[Run],
     position: u64,
     len: usize,
 ) -> usize
-    requires sound { IsPlausible (length storage.now) (length runs.now) receiver.now.receiver → HasSoundFinite
-        receiver.now storage.now runs.now }
-    ensures value { IsPlausible (length storage.now) (length runs.now) receiver.now.receiver → result ≡ new_count
-        (receiver_of receiver.now.receiver storage.now runs.now) position (min len (bytes_end (finite_of
-        receiver.now storage.now runs.now) - position)) }
-    ensures refused { (IsPlausible (length storage.now) (length runs.now) receiver.now.receiver → ⊥) → result ≡
-        no_number }
+    requires sound { IsPlausible capacity (length runs.now) receiver.now.receiver → HasSoundFinite receiver.now
+        capacity runs.now }
+    ensures value { IsPlausible capacity (length runs.now) receiver.now.receiver → result ≡ count_between (next_of
+        receiver.now) (receiver.now.receiver.first + receiver.now.receiver.count_read + capacity) (held_at
+        receiver.now.receiver runs.now) position (min len (min (end_of receiver.now) (no_end - 1) - position)) }
+    ensures refused { (IsPlausible capacity (length runs.now) receiver.now.receiver → ⊥) → result ≡ no_number }
 {
-    if !is_plausible(&receiver.receiver, storage.len(), runs.len()) {
+    if !is_plausible(&receiver.receiver, capacity, runs.len()) {
         return no_number();
     }
-    receiver.count_new(storage, runs, position, len)
+    receiver.count_new(capacity, runs, position, len)
 }

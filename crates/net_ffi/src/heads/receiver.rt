@@ -4,35 +4,34 @@
 //! plus those queued. The held runs are those of the assembler `held`, whose position 0 is that
 //! position: the first of them starts `held.first_start` after it.
 // Written by tools/ffi.py.
-ghost use Rattle.net_ffi.specs.ReceiverParts.{IsPlausible};
+ghost use Rattle.net_ffi.specs.ReceiverParts.{HasRuns};
 ghost use Rattle.net_ffi.specs.Refusals.{no_number};
-ghost use Rattle.net_receiver.specs.Head.{HasSoundParts, receiver_of};
+ghost use Rattle.net_receiver.specs.Head.{HasSoundHeld, HasSoundParts, held_at};
 ghost use Rattle.net_receiver.specs.NewestRuns.{newest_runs, with_starts};
-ghost use Rattle.net_receiver.specs.ReceiverState.{domain};
 ghost use Rattle.net_ring.specs.Ring.{queue};
 ghost use Rattle.net_ring.specs.RingHead.{IsSound as IsSoundPlace, ring_at};
 ghost use Rattle.std.specs.Prelude.{IsFalse, IsTrue, drop, length, min, take, ◌++◌, ◌+◌, ◌-◌, ◌<◌, ◌^◌, ◌↔◌, ◌∷◌};
 ghost use Rattle.std.specs.Prelude.{◌≡◌, ◌≢◌, ◌≤◌};
 
-use crate::receiver::{has_next, is_plausible};
+use crate::receiver::{has_next, has_runs};
 use crate::refusals::no_number;
 use net_assembler::Run;
 use net_receiver::{HeldRun, ReceiverHead};
 
-/// Returns whether this head, a storage and runs are sound: `place` is that of a ring of the
-/// storage, whose `read_at` is `count_read` modulo the capacity; the first missing position fits 64
-/// bits; `held` and the runs are those of an assembler without position 0; and each held position
-/// is in the free window, and the one after it fits 64 bits. It looks at each held run, and at no
-/// byte.
+/// Returns whether this head, a storage of `capacity` bytes and runs are sound: `place` is that of
+/// a ring of the storage, whose `read_at` is `count_read` modulo the capacity; the first missing
+/// position fits 64 bits; `held` and the runs are those of an assembler without position 0; and
+/// each held position is in the free window, and the one after it fits 64 bits. It looks at each
+/// held run, and at no byte.
 #[unsafe(no_mangle)]
 pub extern "C" fn net_base_receiver_is_sound(
     receiver: &ReceiverHead,
-    storage: &[u8],
+    capacity: usize,
     runs: &[Run],
 ) -> bool
-    ensures { IsTrue result ↔ HasSoundParts receiver.now storage.now runs.now }
+    ensures { IsTrue result ↔ HasSoundParts receiver.now capacity runs.now }
 {
-    receiver.is_sound(storage, runs)
+    receiver.is_sound(capacity, runs)
 }
 
 /// Writes to `next` the first missing position: the first position, plus the count of bytes read,
@@ -97,8 +96,7 @@ pub extern "C" fn net_base_receiver_peek_slice(
 }
 
 /// Lists held runs at the beginning of `into`, the newest first, and returns how many: as many as
-/// are held, or as `into` has elements. The rest of `into` stays as it is. The storage is for the
-/// contract only.
+/// are held, or as `into` has elements. The rest of `into` stays as it is.
 ///
 /// The first is the run that has `position`, that of the segment just taken, if it is held; then
 /// come the runs that have the positions in `recent`, in their order, and then the others, in
@@ -109,8 +107,8 @@ pub extern "C" fn net_base_receiver_peek_slice(
 /// first of them. RFC 2018, section 4, wants this order. The time grows with the number of runs
 /// times the number of runs and of elements of `recent` together.
 ///
-/// It is refused if `place` isn't that of a ring of `storage.len()` bytes, `next` doesn't fit 64
-/// bits, or `held.used` is above `runs.len()`: `NET_BASE_NONE`, and nothing changes.
+/// It is refused if `next` doesn't fit 64 bits, or `held.used` is above `runs.len()`:
+/// `NET_BASE_NONE`, and nothing changes.
 ///
 /// # Requires
 ///
@@ -118,27 +116,23 @@ pub extern "C" fn net_base_receiver_peek_slice(
 #[unsafe(no_mangle)]
 pub extern "C" fn net_base_receiver_newest_runs(
     receiver: &ReceiverHead,
-    storage: &[u8],
     runs: &[Run],
     position: u64,
     recent: &mut [u64],
     into: &mut [HeldRun],
 ) -> usize
-    requires sound { IsPlausible (length storage.now) (length runs.now) receiver.now → HasSoundParts receiver.now
-        storage.now runs.now }
-    ensures listed { IsPlausible (length storage.now) (length runs.now) receiver.now → take result into.new ≡
-        newest_runs (length into.old) (domain (receiver_of receiver.now storage.now runs.now).held) (position ∷
-        recent.old) }
-    ensures count { IsPlausible (length storage.now) (length runs.now) receiver.now → result ≤ length into.old }
-    ensures rest { IsPlausible (length storage.now) (length runs.now) receiver.now → drop result into.new ≡ drop
-        result into.old }
-    ensures recent { IsPlausible (length storage.now) (length runs.now) receiver.now → recent.new ≡ with_starts
-        recent.old (take result into.new) }
-    ensures refused { (IsPlausible (length storage.now) (length runs.now) receiver.now → ⊥) → (result ≡ no_number) ×
-        (recent.new ≡ recent.old) × («into».new ≡ «into».old) }
+    requires sound { HasRuns (length runs.now) receiver.now → HasSoundHeld receiver.now runs.now }
+    ensures listed { HasRuns (length runs.now) receiver.now → take result into.new ≡ newest_runs (length into.old)
+        (held_at receiver.now runs.now) (position ∷ recent.old) }
+    ensures count { HasRuns (length runs.now) receiver.now → result ≤ length into.old }
+    ensures rest { HasRuns (length runs.now) receiver.now → drop result into.new ≡ drop result into.old }
+    ensures recent { HasRuns (length runs.now) receiver.now → recent.new ≡ with_starts recent.old (take result
+        into.new) }
+    ensures refused { (HasRuns (length runs.now) receiver.now → ⊥) → (result ≡ no_number) × (recent.new ≡
+        recent.old) × («into».new ≡ «into».old) }
 {
-    if !is_plausible(receiver, storage.len(), runs.len()) {
+    if !has_runs(receiver, runs.len()) {
         return no_number();
     }
-    receiver.newest_runs(storage, runs, position, recent, into)
+    receiver.newest_runs(runs, position, recent, into)
 }

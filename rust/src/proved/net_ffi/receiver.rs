@@ -29,15 +29,19 @@ pub(crate) fn is_plausible(receiver: &ReceiverHead, capacity: usize, run_count: 
 }
 
 #[inline(always)]
+pub(crate) fn has_runs(receiver: &ReceiverHead, run_count: usize) -> bool {
+    has_next(receiver) && receiver.held.used <= run_count
+}
+
+#[inline(always)]
 pub fn net_base_receiver_run_at(
     receiver: &ReceiverHead,
-    storage: &[u8],
     runs: &[Run],
     index: usize,
 ) -> HeldRun {
-    if !is_plausible(receiver, storage.len(), runs.len()) {
+    if !has_runs(receiver, runs.len()) {
         return refused_held_run();
     }
-    let (start, end) = receiver.held(storage, runs).nth(index).unwrap_or((0, 0));
+    let (start, end) = receiver.held(runs).nth(index).unwrap_or((0, 0));
     HeldRun { start, end }
 }

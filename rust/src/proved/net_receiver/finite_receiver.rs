@@ -138,7 +138,7 @@ impl<S: Storage<u8>, const N: usize> FiniteReceiverOver<S, N> {
     /// no number for an end.
     #[must_use]
     pub fn can_end(&self, pos: u64) -> bool {
-        self.head.can_end(whole(&self.storage), &self.runs, pos)
+        self.head.can_end(&self.runs, pos)
     }
 
     /// Keeps the bytes of a segment that are in the free window and below the end, as
@@ -304,7 +304,7 @@ impl<S: Storage<u8>, const N: usize> FiniteReceiverOver<S, N> {
     /// Returns the held runs as absolute (start, end), as `ReceiverOver::held` does: of bytes alone.
     #[must_use]
     pub fn held(&self) -> HeldRuns<'_, N> {
-        self.head.receiver.held(whole(&self.storage), &self.runs)
+        self.head.receiver.held(&self.runs)
     }
 
     /// Returns how many runs are held, without a look at them: as many as `held` yields, at most `N`.
@@ -320,9 +320,8 @@ impl<S: Storage<u8>, const N: usize> FiniteReceiverOver<S, N> {
         recent: &mut [u64; K],
     ) -> NewestRunIter<K> {
         let mut runs = [HeldRun { start: 0, end: 0 }; K];
-        let storage = whole(&self.storage);
         let head = &self.head.receiver;
-        let count = head.newest_runs(storage, &self.runs, position, recent, &mut runs);
+        let count = head.newest_runs(&self.runs, position, recent, &mut runs);
         NewestRunIter::over(runs, count)
     }
 
@@ -332,7 +331,7 @@ impl<S: Storage<u8>, const N: usize> FiniteReceiverOver<S, N> {
     #[must_use]
     pub fn count_new(&self, position: u64, len: usize) -> usize {
         self.head
-            .count_new(whole(&self.storage), &self.runs, position, len)
+            .count_new(self.storage.count(), &self.runs, position, len)
     }
 
     /// Returns whether two receivers of a stream that ends are equal in first position, count of

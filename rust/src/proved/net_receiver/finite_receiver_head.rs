@@ -33,7 +33,6 @@ fn number_after(end: u64) -> u64 {
     if end == NO_END { 0 } else { end + 1 }
 }
 
-// A parameter `_runs` is there for the contract.
 impl FiniteReceiverHead {
     /// Returns the head of a receiver of a stream that begins at position `first`; nothing has
     /// arrived. It is sound with every storage and all runs.
@@ -59,14 +58,14 @@ impl FiniteReceiverHead {
         *self = FiniteReceiverHead::new(first);
     }
 
-    /// Returns whether this head, a storage and runs are sound: they are those of a receiver, and
-    /// the position after its last byte, held ones too, is at most the end, if that is known, and
-    /// below 2^64 - 1. It looks at each held run, and at no byte.
-    pub fn is_sound(&self, storage: &[u8], runs: &[Run]) -> bool {
-        self.receiver.is_sound(storage, runs)
+    /// Returns whether this head, a storage of `capacity` bytes and runs are sound: they are those of
+    /// a receiver, and the position after its last byte, held ones too, is at most the end, if that
+    /// is known, and below 2^64 - 1. It looks at each held run, and at no byte.
+    pub fn is_sound(&self, capacity: usize, runs: &[Run]) -> bool {
+        self.receiver.is_sound(capacity, runs)
             && self
                 .receiver
-                .has_all_below(storage, runs, self.end_or_none().min(NO_END - 1))
+                .has_all_below(runs, self.end_or_none().min(NO_END - 1))
     }
 
     /// Returns the position after the last byte, or the greatest number of 64 bits while it isn't known.
@@ -99,23 +98,23 @@ impl FiniteReceiverHead {
     ///
     /// # Panics, unless
     ///
-    /// Head, storage and runs are sound, as `is_sound` tests.
-    pub fn can_end(&self, storage: &[u8], runs: &[Run], pos: u64) -> bool {
+    /// Head and runs are sound, as `is_sound` tests, with a storage of some length.
+    pub fn can_end(&self, runs: &[Run], pos: u64) -> bool {
         if pos == NO_END {
             return false;
         }
         if self.knows_end() {
             return pos == self.end_or_none();
         }
-        self.receiver.has_all_below(storage, runs, pos)
+        self.receiver.has_all_below(runs, pos)
     }
 
     /// Returns the end that is known after a segment that ends at `pos`, where the storage has
     /// `capacity` bytes.
     #[inline]
-    fn end_after(&self, storage: &[u8], _runs: &[Run], pos: u64, is_last: bool) -> u64 {
+    fn end_after(&self, capacity: usize, pos: u64, is_last: bool) -> u64 {
         let ahead = pos.saturating_sub(self.receiver.next());
-        if is_last && ahead <= self.receiver.window(storage.len()) as u64 {
+        if is_last && ahead <= self.receiver.window(capacity) as u64 {
             pos
         } else {
             self.end_or_none()
@@ -147,10 +146,10 @@ impl FiniteReceiverHead {
     ) -> Result<KeptBytes, FiniteError> {
         // No stream ends at the greatest number.
         let last = pos.saturating_add(bytes.len() as u64);
-        if is_last && !self.can_end(storage, runs, last) {
+        if is_last && !self.can_end(runs, last) {
             return Err(FiniteError::OtherEnd);
         }
-        let end = self.end_after(storage, runs, last, is_last);
+        let end = self.end_after(storage.len(), last, is_last);
         let after_end = number_after(end);
         let count = self.count_below(pos, bytes.len());
         match self.receiver.keep(storage, runs, pos, &bytes[..count]) {
@@ -253,17 +252,17 @@ impl FiniteReceiverHead {
                 .is_same_state(storage, runs, &other.receiver, other_storage, other_runs)
     }
 
-    /// Returns how many bytes of a segment of `len` bytes at `position` would be new: those in the
-    /// free window and below the end whose positions are not held. It is asked before the segment
-    /// is kept, since the bytes whose positions are held are kept again, and counted. The result is
-    /// 0 for a duplicate, which TCP may report, for a segment that is beyond the free window, and
-    /// for one without bytes. It looks at each held run.
+    /// Returns how many bytes of a segment of `len` bytes at `position` would be new, where the
+    /// storage has `capacity` bytes: those in the free window and below the end whose positions are
+    /// not held. It is asked before the segment is kept, since the bytes whose positions are held
+    /// are kept again, and counted. The result is 0 for a duplicate, which TCP may report, for a
+    /// segment that is beyond the free window, and for one without bytes. It looks at each held run.
     ///
     /// # Panics, unless
     ///
     /// Head, storage and runs are sound, as `is_sound` tests.
-    pub fn count_new(&self, storage: &[u8], runs: &[Run], position: u64, len: usize) -> usize {
+    pub fn count_new(&self, capacity: usize, runs: &[Run], position: u64, len: usize) -> usize {
         let count = self.count_below(position, len);
-        self.receiver.count_part(storage, runs, position, count)
+        self.receiver.count_part(capacity, runs, position, count)
     }
 }

@@ -190,6 +190,11 @@ pub fn is_sound_scoreboard<const N: usize>(scoreboard: &Scoreboard<N>) {
     scoreboard.is_sound();
 }
 
+/// States that head and runs alone say whether they are those of a receiver whose storage has some length,
+/// and which positions are held, whatever the storage's bytes are: `receiver` and `end` say what sound parts
+/// store, `positions` by which numbers.
+pub fn sound_heads() {}
+
 /// States that a head whose numbers are all 0 is a new one, of a stream that begins at position 0: of a
 /// receiver, a sender, a scoreboard, and a receiver and a sender of a stream that ends. A program in C may make
 /// them so.

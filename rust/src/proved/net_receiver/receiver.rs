@@ -492,7 +492,7 @@ impl<S: Storage<u8>, const N: usize> ReceiverOver<S, N> {
     /// ```
     #[must_use]
     pub fn held(&self) -> HeldRuns<'_, N> {
-        self.head.held(whole(&self.storage), &self.runs)
+        self.head.held(&self.runs)
     }
 
     /// Returns how many runs are held, without a look at them: as many as `held` yields, at most `N`.
@@ -528,13 +528,9 @@ impl<S: Storage<u8>, const N: usize> ReceiverOver<S, N> {
         recent: &mut [u64; K],
     ) -> NewestRunIter<K> {
         let mut runs = [HeldRun { start: 0, end: 0 }; K];
-        let count = self.head.newest_runs(
-            whole(&self.storage),
-            &self.runs,
-            position,
-            recent,
-            &mut runs,
-        );
+        let count = self
+            .head
+            .newest_runs(&self.runs, position, recent, &mut runs);
         NewestRunIter::over(runs, count)
     }
 
@@ -555,7 +551,7 @@ impl<S: Storage<u8>, const N: usize> ReceiverOver<S, N> {
     #[must_use]
     pub fn count_new(&self, position: u64, len: usize) -> usize {
         self.head
-            .count_new(whole(&self.storage), &self.runs, position, len)
+            .count_new(self.storage.count(), &self.runs, position, len)
     }
 
     /// Returns whether first position, count of bytes read, queued bytes and held runs are equal.

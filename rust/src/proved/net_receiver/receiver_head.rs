@@ -16,8 +16,9 @@ use crate::proved::net_ring::RingHead;
 /// the slice of runs has elements.
 ///
 /// A head, a storage and runs are *sound* if they are those of a receiver, as `is_sound` tests:
-/// `HasSoundParts` in contracts, where `receiver_of` is what they store. A call that requires this
-/// can't be made with a head and the storage or the runs of another one. smoltcp has no such type.
+/// `HasSoundParts` in contracts, where `receiver_of` is what they store. Only the storage's length
+/// matters, not its bytes. A call that requires this can't be made with a head and the runs of
+/// another one, or a storage of another length. smoltcp has no such type.
 #[repr(C)]
 #[derive(Debug, Clone, Copy)]
 pub struct ReceiverHead {
@@ -31,7 +32,6 @@ pub struct ReceiverHead {
     pub held: AssemblerHead,
 }
 
-// A parameter `_storage` is there for the contract.
 impl ReceiverHead {
     /// Returns the head of a receiver of a stream that begins at position `first`; nothing is read,
     /// queued or held. It is sound with every storage and all runs.
@@ -54,13 +54,12 @@ impl ReceiverHead {
         *self = ReceiverHead::new(first);
     }
 
-    /// Returns whether this head, a storage and runs are sound: `place` is that of a ring of the
-    /// storage, whose `read_at` is `count_read` modulo the capacity; the first missing position
-    /// fits 64 bits; `held` and the runs are those of an assembler without position 0; and each
-    /// held position is in the free window, and the one after it fits 64 bits. It looks at each
-    /// held run, and at no byte.
-    pub fn is_sound(&self, storage: &[u8], runs: &[Run]) -> bool {
-        let capacity = storage.len();
+    /// Returns whether this head, a storage of `capacity` bytes and runs are sound: `place` is that
+    /// of a ring of the storage, whose `read_at` is `count_read` modulo the capacity; the first
+    /// missing position fits 64 bits; `held` and the runs are those of an assembler without
+    /// position 0; and each held position is in the free window, and the one after it fits 64 bits.
+    /// It looks at each held run, and at no byte.
+    pub fn is_sound(&self, capacity: usize, runs: &[Run]) -> bool {
         if !self.place.is_sound(capacity) {
             return false;
         }
@@ -126,7 +125,7 @@ impl ReceiverHead {
         bytes: &[u8],
     ) -> Result<Kept, TooManyHolesError> {
         let bytes = self.keep(storage, runs, pos, bytes)?;
-        let sack = self.first_runs(storage, runs);
+        let sack = self.first_runs(runs);
         Ok(Kept {
             kept: bytes.kept,
             queued: bytes.queued,
@@ -134,10 +133,10 @@ impl ReceiverHead {
         })
     }
 
-    /// Returns the first three held runs. The storage is for the contract only.
+    /// Returns the first three held runs.
     #[inline(always)]
-    fn first_runs(&self, storage: &[u8], runs: &[Run]) -> [Option<(u64, u64)>; 3] {
-        let mut held = self.held(storage, runs);
+    fn first_runs(&self, runs: &[Run]) -> [Option<(u64, u64)>; 3] {
+        let mut held = self.held(runs);
         [held.next(), held.next(), held.next()]
     }
 
@@ -301,9 +300,9 @@ impl ReceiverHead {
     ///
     /// # Panics, unless
     ///
-    /// Head, storage and runs are sound, as `is_sound` tests.
+    /// Head and runs are sound, as `is_sound` tests, with a storage of some length.
     #[inline(always)]
-    pub fn held<'a>(&self, _storage: &[u8], runs: &'a [Run]) -> HeldRunIter<'a> {
+    pub fn held<'a>(&self, runs: &'a [Run]) -> HeldRunIter<'a> {
         laws::maximal_runs();
         HeldRunIter::over(self.held.iter_data(runs), self.next())
     }
@@ -315,8 +314,7 @@ impl ReceiverHead {
     }
 
     /// Lists held runs at the beginning of `into`, the newest first, and returns how many: as many
-    /// as are held, or as `into` has elements. The rest of `into` stays as it is. The storage is
-    /// for the contract only.
+    /// as are held, or as `into` has elements. The rest of `into` stays as it is.
     ///
     /// The first is the run that has `position`, that of the segment just taken, if it is held;
     /// then come the runs that have the positions in `recent`, in their order, and then the others,
@@ -329,53 +327,38 @@ impl ReceiverHead {
     ///
     /// # Panics, unless
     ///
-    /// Head, storage and runs are sound, as `is_sound` tests.
+    /// Head and runs are sound, as `is_sound` tests, with a storage of some length.
     pub fn newest_runs(
         &self,
-        storage: &[u8],
         runs: &[Run],
         position: u64,
         recent: &mut [u64],
         into: &mut [HeldRun],
     ) -> usize {
-        let count = self.list_runs(storage, runs, position, recent, into);
+        let count = self.list_runs(runs, position, recent, into);
         remember(recent, &into[..count]);
         count
     }
 
     /// Lists the runs as `newest_runs` does, and leaves `recent` as it is.
-    fn list_runs(
-        &self,
-        storage: &[u8],
-        runs: &[Run],
-        position: u64,
-        recent: &[u64],
-        into: &mut [HeldRun],
-    ) -> usize {
-        let mut count = self.list_run(storage, runs, position, into, 0);
+    fn list_runs(&self, runs: &[Run], position: u64, recent: &[u64], into: &mut [HeldRun]) -> usize {
+        let mut count = self.list_run(runs, position, into, 0);
         for i in 0..recent.len() {
-            count = self.list_run(storage, runs, recent[i], into, count);
+            count = self.list_run(runs, recent[i], into, count);
         }
-        for (start, _) in self.held(storage, runs) {
-            count = self.list_run(storage, runs, start, into, count);
+        for (start, _) in self.held(runs) {
+            count = self.list_run(runs, start, into, count);
         }
         count
     }
 
     /// Lists the run that has a position after the first `count`, unless one of them has it, and
     /// returns how many are listed then.
-    fn list_run(
-        &self,
-        storage: &[u8],
-        runs: &[Run],
-        position: u64,
-        into: &mut [HeldRun],
-        count: usize,
-    ) -> usize {
+    fn list_run(&self, runs: &[Run], position: u64, into: &mut [HeldRun], count: usize) -> usize {
         if count == into.len() || is_listed(&into[..count], position) {
             return count;
         }
-        match self.run_at(storage, runs, position) {
+        match self.run_at(runs, position) {
             Some((start, end)) => {
                 into[count] = HeldRun { start, end };
                 prove!(count + 1 <= into.len(), "in any `usize`");
@@ -386,9 +369,9 @@ impl ReceiverHead {
     }
 
     /// Returns the held run that has a position, as (start, end), the end not included; `None` if
-    /// the position isn't held. The storage is for the contract only.
-    fn run_at(&self, storage: &[u8], runs: &[Run], position: u64) -> Option<(u64, u64)> {
-        for (start, end) in self.held(storage, runs) {
+    /// the position isn't held.
+    fn run_at(&self, runs: &[Run], position: u64) -> Option<(u64, u64)> {
+        for (start, end) in self.held(runs) {
             if start <= position && position < end {
                 return Some((start, end));
             }
@@ -396,31 +379,31 @@ impl ReceiverHead {
         None
     }
 
-    /// Returns how many bytes of a segment of `len` bytes at `position` would be new, as
-    /// `ReceiverOver::count_new` does.
+    /// Returns how many bytes of a segment of `len` bytes at `position` would be new, where the
+    /// storage has `capacity` bytes, as `ReceiverOver::count_new` does.
     ///
     /// # Panics, unless
     ///
     /// Head, storage and runs are sound, as `is_sound` tests.
-    pub fn count_new(&self, storage: &[u8], runs: &[Run], position: u64, len: usize) -> usize {
-        self.count_part(storage, runs, position, count_existing(position, len))
+    pub fn count_new(&self, capacity: usize, runs: &[Run], position: u64, len: usize) -> usize {
+        self.count_part(capacity, runs, position, count_existing(position, len))
     }
 
     /// Counts those of a segment that ends within 64 bits.
     pub(crate) fn count_part(
         &self,
-        storage: &[u8],
+        capacity: usize,
         runs: &[Run],
         position: u64,
         len: usize,
     ) -> usize {
         laws::maximal_runs();
         let next = self.next();
-        let limit = next.saturating_add(self.window(storage.len()) as u64);
+        let limit = next.saturating_add(self.window(capacity) as u64);
         let end = limit.min(position + len as u64);
         let mut at = next.max(position);
         let mut count = 0;
-        for (start, past) in self.held(storage, runs) {
+        for (start, past) in self.held(runs) {
             count += start.min(end).saturating_sub(at);
             at = at.max(past);
         }
@@ -433,8 +416,8 @@ impl ReceiverHead {
     ///
     /// # Panics, unless
     ///
-    /// Head, storage and runs are sound, as `is_sound` tests.
-    pub fn has_all_below(&self, _storage: &[u8], runs: &[Run], pos: u64) -> bool {
+    /// Head and runs are sound, as `is_sound` tests, with a storage of some length.
+    pub fn has_all_below(&self, runs: &[Run], pos: u64) -> bool {
         let next = self.next();
         next <= pos && self.is_held_below(pos - next, runs)
     }

@@ -6,12 +6,12 @@ use Rattle.net_receiver.proofs.laws.heads_of_zeros.Goals as goal
 pub returns-clause-receiver : goal.returns-clause-receiver
 returns-clause-receiver c = λ xs rs.
     let made = c.new-receiver.ensures in
-    (subst (λ h. HasSoundParts h xs rs) made.numbers (made.sound xs rs), ap (λ h. receiver_of h xs rs) (sym made.numbers) ∙ made.state xs rs)
+    (subst (λ h. HasSoundParts h (length xs) rs) made.numbers (made.sound (length xs) rs), ap (λ h. receiver_of h xs rs) (sym made.numbers) ∙ made.state xs rs)
 
 pub returns-clause-finite_receiver : goal.returns-clause-finite_receiver
 returns-clause-finite_receiver c = λ xs rs.
     let made = c.new-finite_receiver.ensures in
-    (subst (λ h. HasSoundFinite h xs rs) made.numbers (made.sound xs rs), ap (λ h. finite_of h xs rs) (sym made.numbers) ∙ made.state xs rs)
+    (subst (λ h. HasSoundFinite h (length xs) rs) made.numbers (made.sound (length xs) rs), ap (λ h. finite_of h xs rs) (sym made.numbers) ∙ made.state xs rs)
 
 pub returns-clause-sender : goal.returns-clause-sender
 returns-clause-sender c = λ xs.

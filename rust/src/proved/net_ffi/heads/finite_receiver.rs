@@ -2,7 +2,7 @@ use crate::rattle::prelude::*;
 // Written by tools/ffi.py.
 
 use crate::proved::net_ffi::finite_receiver::has_number;
-use crate::proved::net_ffi::receiver::{has_next, is_plausible};
+use crate::proved::net_ffi::receiver::{has_next, has_runs, is_plausible};
 use crate::proved::net_ffi::refusals::no_number;
 use crate::proved::net_assembler::Run;
 use crate::proved::net_receiver::FiniteReceiverHead;
@@ -22,23 +22,22 @@ pub fn net_base_finite_receiver_init(
 #[inline(always)]
 pub fn net_base_finite_receiver_is_sound(
     receiver: &FiniteReceiverHead,
-    storage: &[u8],
+    capacity: usize,
     runs: &[Run],
 ) -> bool {
-    receiver.is_sound(storage, runs)
+    receiver.is_sound(capacity, runs)
 }
 
 #[inline(always)]
 pub fn net_base_finite_receiver_can_end(
     receiver: &FiniteReceiverHead,
-    storage: &[u8],
     runs: &[Run],
     position: u64,
 ) -> bool {
-    if !is_plausible(&receiver.receiver, storage.len(), runs.len()) {
+    if !has_runs(&receiver.receiver, runs.len()) {
         return false;
     }
-    receiver.can_end(storage, runs, position)
+    receiver.can_end(runs, position)
 }
 
 #[inline(always)]
@@ -100,13 +99,13 @@ pub fn net_base_finite_receiver_remove(
 #[inline(always)]
 pub fn net_base_finite_receiver_count_new(
     receiver: &FiniteReceiverHead,
-    storage: &[u8],
+    capacity: usize,
     runs: &[Run],
     position: u64,
     len: usize,
 ) -> usize {
-    if !is_plausible(&receiver.receiver, storage.len(), runs.len()) {
+    if !is_plausible(&receiver.receiver, capacity, runs.len()) {
         return no_number();
     }
-    receiver.count_new(storage, runs, position, len)
+    receiver.count_new(capacity, runs, position, len)
 }

@@ -1,7 +1,7 @@
 use crate::rattle::prelude::*;
 // Written by tools/ffi.py.
 
-use crate::proved::net_ffi::receiver::{has_next, is_plausible};
+use crate::proved::net_ffi::receiver::{has_next, has_runs};
 use crate::proved::net_ffi::refusals::no_number;
 use crate::proved::net_assembler::Run;
 use crate::proved::net_receiver::{HeldRun, ReceiverHead};
@@ -9,10 +9,10 @@ use crate::proved::net_receiver::{HeldRun, ReceiverHead};
 #[inline(always)]
 pub fn net_base_receiver_is_sound(
     receiver: &ReceiverHead,
-    storage: &[u8],
+    capacity: usize,
     runs: &[Run],
 ) -> bool {
-    receiver.is_sound(storage, runs)
+    receiver.is_sound(capacity, runs)
 }
 
 #[inline(always)]
@@ -47,14 +47,13 @@ pub fn net_base_receiver_peek_slice(
 #[inline(always)]
 pub fn net_base_receiver_newest_runs(
     receiver: &ReceiverHead,
-    storage: &[u8],
     runs: &[Run],
     position: u64,
     recent: &mut [u64],
     into: &mut [HeldRun],
 ) -> usize {
-    if !is_plausible(receiver, storage.len(), runs.len()) {
+    if !has_runs(receiver, runs.len()) {
         return no_number();
     }
-    receiver.newest_runs(storage, runs, position, recent, into)
+    receiver.newest_runs(runs, position, recent, into)
 }

@@ -14,4 +14,4 @@ returns-then-head-eq0 g c =
     let xs = g.S.Storage.elements c.args.storage in
     let rs = c.args.runs in
     ap (λ held. record { receiver = parts h.first h.count_read (queue (ring_at xs h.place)) (spare (ring_at xs h.place)) held; end = end_of c.args.head })
-    (c.new.ensures.empty rs ∙ sym (no_runs (runs_of h.held rs) (length-runs_of h.held rs c.requires.parts.runs ∙ c.if-head-eq0.true)))
+    (c.new.ensures.empty rs ∙ sym (no_runs (runs_of h.held rs) (length-runs_of h.held rs c.requires.parts.held.runs ∙ c.if-head-eq0.true)))

@@ -1,7 +1,7 @@
 use Rattle.std.proofs.Common.{◌≡◌, ◌≤◌, ◌∙◌, ap, subst, sym, length}
 use Rattle.net_receiver.specs.{FiniteState, IsSoundEnd, acknowledged, finite_after, finite_result, finite_of}
 use Rattle.net_receiver.specs.{HasSoundFinite, ReceivesFinite, Arrives}
-use Rattle.net_receiver.proofs.FiniteReceivers.{segment_of_stream, finite_reads_nothing, one_acknowledged}
+use Rattle.net_receiver.proofs.FiniteReceivers.{segment_of_stream, finite_reads_nothing, one_acknowledged, has_sound_end}
 use Rattle.net_receiver.proofs.Heads.{part_is, whole_written}
 use Rattle.net_receiver.proofs.finite_receiver.FiniteReceiverOver.keep.Given as given
 use Rattle.net_receiver.proofs.finite_receiver.FiniteReceiverOver.keep.Goals as goal
@@ -9,7 +9,7 @@ use Rattle.net_receiver.proofs.finite_receiver.FiniteReceiverOver.keep.Goals as 
 pub keep-requires : goal.keep-requires
 keep-requires g c =
     let i = c.self.inside in
-    subst (λ xs. HasSoundFinite i.head xs i.runs) (sym (part_is _ _ _ c.count-count.ensures c.part_mut-storage.ensures.value)) c.self.invariant.0
+    subst (λ xs. HasSoundFinite i.head (length xs) i.runs) (sym (part_is _ _ _ c.count-count.ensures c.part_mut-storage.ensures.value)) c.self.invariant.0
 
 -- what was stored, as the whole storage
 stored : (g : given.Over) (c : goal.After-self-2-1 g) →
@@ -25,11 +25,11 @@ before g c =
     ap (λ xs. finite_of c.self.inside.head xs c.self.inside.runs) (part_is _ _ _ c.count-count.ensures c.part_mut-storage.ensures.value) ∙ c.self.view_is
 
 sound_end : (g : given.Over) (c : goal.After-self-2-1 g) → IsSoundEnd c.args.self.now
-sound_end g c = subst IsSoundEnd c.self.view_is c.self.invariant.0.end
+sound_end g c = subst IsSoundEnd c.self.view_is (has_sound_end _ _ _ c.self.invariant.0)
 
 pub invariant_of-self : goal.invariant_of-self
 invariant_of-self g c =
-    (subst (λ xs. HasSoundFinite c.keep.new.self xs c.keep.new.runs) (sym (stored g c)) c.keep.ensures.sound, c.keep.auto.runs ∙ c.self.invariant.1, c.keep.ensures.canonical c.self.invariant.2)
+    (subst (λ xs. HasSoundFinite c.keep.new.self (length xs) c.keep.new.runs) (sym (stored g c)) c.keep.ensures.sound, c.keep.auto.runs ∙ c.self.invariant.1, c.keep.ensures.canonical c.self.invariant.2)
 
 state_is : (g : given.Over) (c : goal.After-self-2-1 g) →
     finite_of c.keep.new.self (g.S.Storage.elements (g.S.Storage.with_part c.self.inside.storage 0 c.keep.new.storage)) c.keep.new.runs

@@ -4,7 +4,7 @@ use Rattle.net_receiver.proofs.FiniteReceivers.{fresh_of_stream}
 use Rattle.net_receiver.proofs.finite_receiver.FiniteReceiverOver.reset_at.Goals as goal
 
 pub invariant_of-self : goal.invariant_of-self
-invariant_of-self g c = (c.reset_at.ensures.sound (g.S.Storage.elements c.self.inside.storage) c.self.inside.runs, c.self.invariant.1, c.reset_at.ensures.canonical)
+invariant_of-self g c = (c.reset_at.ensures.sound (length (g.S.Storage.elements c.self.inside.storage)) c.self.inside.runs, c.self.invariant.1, c.reset_at.ensures.canonical)
 
 pub returns-clause-receives : goal.returns-clause-receives
 returns-clause-receives g c = λ x.

@@ -1,8 +1,10 @@
-use Rattle.std.proofs.Common.{◌≡◌, ◌⊎◌, ◌+◌, length, take, true, false, inl, inr, refl, sym, subst, ◌∙◌, Ok, Err}
+use Rattle.std.proofs.Common.{◌≡◌, ◌⊎◌, ◌+◌, length, take, true, false, inl, inr, refl, sym, subst, ◌∙◌, Ok, Err, ap, cond, ◌&&◌, nat_le}
 use Rattle.net_receiver.specs.{FiniteState, IsSoundEnd, finite_of, end_with, ReceivesFinite, can_end, has_other_end}
 use Rattle.net_receiver.specs.{below_end, end_after}
+use Rattle.net_receiver.proofs.FiniteReceivers.{can_end_is, other_end_is, other_state, other_result, other_stores}
 use Rattle.net_receiver.proofs.FiniteReceivers.{segment_of_stream, no_other_at, end_after_at, left_state, left_result}
-use Rattle.net_receiver.proofs.FiniteReceivers.{left_storage, sound_after, cut_is}
+use Rattle.net_receiver.proofs.FiniteReceivers.{left_storage, sound_after, cut_is, has_sound_end, sound_finite}
+use Rattle.net_receiver.proofs.Heads.{limit_is}
 use Rattle.net_receiver.proofs.finite_receiver_head.FiniteReceiverHead.keep.Goals as goal
 use Rattle.net_receiver.proofs.finite_receiver_head.FiniteReceiverHead.keep.Goals.{else-is_last-via-then-is_last+else-not-can_end}
 use Rattle.net_receiver.proofs.finite_receiver_head.FiniteReceiverHead.keep.Goals.{else-is_last-via-else-is_last}
@@ -15,7 +17,7 @@ module _ (c : After-count_below-count) where
 
   ends : (c.args.is_last ≡ false) ⊎ (can_end s c.saturating_add-last.result ≡ true)
   ends = elim c.else-is_last.branch [
-    | else-is_last-via-then-is_last+else-not-can_end w ↦ inr (sym w.can_end.ensures ∙ w.if-not-can_end.false)
+    | else-is_last-via-then-is_last+else-not-can_end w ↦ inr (sym (can_end_is c.args.self.now c.args.storage.now c.args.runs.now c.requires.parts c.saturating_add-last.result) ∙ sym w.can_end.ensures ∙ w.if-not-can_end.false)
     | else-is_last-via-else-is_last w ↦ inl w.if-is_last.false
   ]
 
@@ -26,7 +28,30 @@ module _ (c : After-count_below-count) where
   cut = cut_is _ c.count_below-count.result c.args.bytes.now c.count_below-count.ensures
 
   end : end_with c.number_after-after_end.result ≡ end_after s (c.args.pos + length c.args.bytes.now) c.args.is_last
-  end = c.number_after-after_end.ensures ∙ c.end_after-end.ensures ∙ end_after_at s _ c.saturating_add-last.result c.args.is_last c.saturating_add-last.ensures ends
+  end =
+      c.number_after-after_end.ensures
+      ∙ c.end_after-end.ensures
+      ∙ ap (λ limit. cond (c.args.is_last && nat_le c.saturating_add-last.result limit) c.saturating_add-last.result s.end)
+      (limit_is c.args.storage.now c.requires.parts)
+      ∙ end_after_at s _ c.saturating_add-last.result c.args.is_last c.saturating_add-last.ensures ends
+
+pub returns-then-not-can_end-clause-state : goal.returns-then-not-can_end-clause-state
+returns-then-not-can_end-clause-state c =
+    other_state _ _ c.args.pos c.args.bytes.now c.args.is_last
+    (other_end_is c.args.self.now c.args.storage.now c.args.runs.now c.requires.parts _ _ _ _ c.saturating_add-last.ensures
+    c.if-is_last.true c.can_end.ensures c.if-not-can_end.true)
+
+pub returns-then-not-can_end-clause-value : goal.returns-then-not-can_end-clause-value
+returns-then-not-can_end-clause-value c =
+    other_result _ _ c.args.pos c.args.bytes.now c.args.is_last
+    (other_end_is c.args.self.now c.args.storage.now c.args.runs.now c.requires.parts _ _ _ _ c.saturating_add-last.ensures
+    c.if-is_last.true c.can_end.ensures c.if-not-can_end.true)
+
+pub returns-then-not-can_end-clause-stored : goal.returns-then-not-can_end-clause-stored
+returns-then-not-can_end-clause-stored c =
+    other_stores c.args.self.now c.args.storage.now c.args.runs.now c.args.pos c.args.bytes.now c.args.is_last
+    (other_end_is c.args.self.now c.args.storage.now c.args.runs.now c.requires.parts _ _ _ _ c.saturating_add-last.ensures
+    c.if-is_last.true c.can_end.ensures c.if-not-can_end.true)
 
 pub returns-in-Ok-clause-state : goal.returns-in-Ok-clause-state
 returns-in-Ok-clause-state c =
@@ -41,8 +66,8 @@ returns-in-Ok-clause-value c =
 pub returns-in-Ok-clause-sound : goal.returns-in-Ok-clause-sound
 returns-in-Ok-clause-sound c =
     let s = finite_of c.args.self.now c.args.storage.now c.args.runs.now in
-    let after = sound_after (length c.args.runs.now) s c.args.pos c.args.bytes.now c.args.is_last c.requires.end in
-    record { parts = c.keep.ensures.sound; end = subst IsSoundEnd (sym (returns-in-Ok-clause-state c)) after }
+    let after = sound_after (length c.args.runs.now) s c.args.pos c.args.bytes.now c.args.is_last (has_sound_end _ _ _ c.requires) in
+    sound_finite _ _ _ c.keep.ensures.sound (subst IsSoundEnd (sym (returns-in-Ok-clause-state c)) after)
 
 pub returns-in-Err-clause-state : goal.returns-in-Err-clause-state
 returns-in-Err-clause-state c =

@@ -13,4 +13,4 @@ returns-then-head-eq0 g c =
     let xs = g.S.Storage.elements c.args.storage in
     let rs = c.args.runs in
     ap (parts h.first h.count_read (queue (ring_at xs h.place)) (spare (ring_at xs h.place)))
-    (c.new.ensures.empty rs ∙ sym (no_runs (runs_of h.held rs) (length-runs_of h.held rs c.requires.runs ∙ c.if-head-eq0.true)))
+    (c.new.ensures.empty rs ∙ sym (no_runs (runs_of h.held rs) (length-runs_of h.held rs c.requires.held.runs ∙ c.if-head-eq0.true)))

@@ -17,8 +17,8 @@ stored g c =
     (g.met.S.Storage.part_written c.self.inside.storage 0 c.keep.new.storage)
 
 sound_is : (g : given.Over) (c : goal.After-self-2-1 g) →
-    HasSoundParts c.keep.new.self (g.S.Storage.elements (g.S.Storage.with_part c.self.inside.storage 0 c.keep.new.storage)) c.keep.new.runs
-sound_is g c = subst (λ xs. HasSoundParts c.keep.new.self xs c.keep.new.runs) (sym (stored g c)) c.keep.ensures.sound
+    HasSoundParts c.keep.new.self (length (g.S.Storage.elements (g.S.Storage.with_part c.self.inside.storage 0 c.keep.new.storage))) c.keep.new.runs
+sound_is g c = subst (λ xs. HasSoundParts c.keep.new.self (length xs) c.keep.new.runs) (sym (stored g c)) c.keep.ensures.sound
 
 runs_are : (g : given.Over) (c : goal.After-self-2-1 g) → length c.keep.new.runs ≡ g.row.N
 runs_are g c = c.keep.auto.runs ∙ c.self.invariant.1
@@ -53,6 +53,6 @@ returns g c =
       kept = any.1;
       queued = any.2;
       in_order = kept_in_order g.row.N v c.args.pos c.args.bytes.now c.keep.result (counts_are g c);
-      setting = stays g.row.N v _ (Segment c.args.pos c.args.bytes.now) (state_is g c) (sound_for (sound_is g c) g.row.N (runs_are g c));
+      setting = stays g.row.N v _ (Segment c.args.pos c.args.bytes.now) (state_is g c) (sound_for _ (sound_is g c) g.row.N (runs_are g c));
       receives = λ f x r h. segment_receives g.row.N f x v _ c.args.pos c.args.bytes.now (state_is g c) r h;
     }

@@ -6,7 +6,7 @@ use Rattle.net_receiver.proofs.Theorems.{fresh_refines}
 use Rattle.net_receiver.proofs.receiver.ReceiverOver.over_at.Goals as goal
 
 pub invariant_of-result : goal.invariant_of-result
-invariant_of-result g c = (c.new.ensures.sound (g.S.Storage.elements c.args.storage) _, length-replicate g.row.N (0, 0), c.new.ensures.canonical)
+invariant_of-result g c = (c.new.ensures.sound (length (g.S.Storage.elements c.args.storage)) _, length-replicate g.row.N (0, 0), c.new.ensures.canonical)
 
 pub returns-clause-refines : goal.returns-clause-refines
 returns-clause-refines g c =

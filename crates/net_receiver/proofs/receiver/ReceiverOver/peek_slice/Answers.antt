@@ -7,7 +7,7 @@ use Rattle.net_receiver.proofs.receiver.ReceiverOver.peek_slice.Goals as goal
 pub returns-clause-count : goal.returns-clause-count
 returns-clause-count g c =
     c.peek_slice.ensures.count
-    ∙ ap (min (length c.args.into.now)) (sym (queue_size c.self.invariant.0) ∙ ap (λ (v : ReceiverState). length v.queue) c.self.view_is)
+    ∙ ap (min (length c.args.into.now)) (sym (queue_size _ c.self.invariant.0) ∙ ap (λ (v : ReceiverState). length v.queue) c.self.view_is)
 
 pub returns-clause-into : goal.returns-clause-into
 returns-clause-into g c =

@@ -24,7 +24,7 @@ returns-clause-state g c =
 pub returns-clause-count : goal.returns-clause-count
 returns-clause-count g c =
     c.read.ensures.count
-    ∙ ap (min (length c.args.into.now)) (sym (queue_size c.self.invariant.0) ∙ ap (λ (v : ReceiverState). length v.queue) c.self.view_is)
+    ∙ ap (min (length c.args.into.now)) (sym (queue_size _ c.self.invariant.0) ∙ ap (λ (v : ReceiverState). length v.queue) c.self.view_is)
 
 pub returns-clause-into : goal.returns-clause-into
 returns-clause-into g c =
@@ -40,4 +40,4 @@ returns-clause-reply g c =
 pub returns-clause-setting : goal.returns-clause-setting
 returns-clause-setting g c =
     stays g.row.N c.args.self.now _ (Read (length c.args.into.now)) (returns-clause-state g c)
-    (sound_for (invariant_of-self g c).0 g.row.N c.self.invariant.1)
+    (sound_for _ (invariant_of-self g c).0 g.row.N c.self.invariant.1)

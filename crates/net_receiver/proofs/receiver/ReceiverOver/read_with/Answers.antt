@@ -1,7 +1,7 @@
 -- `f` was run on the queue's first part; what it counts is taken off, as by a read of that many bytes.
 use Rattle.std.proofs.Common.{sym, ap, subst, ◌∙◌, length, arith}
 use Rattle.net_assembler.specs.RunLists.{IsCanonical}
-use Rattle.net_receiver.specs.{Read, receiver_after_read}
+use Rattle.net_receiver.specs.{Read, receiver_after_read, HasSoundParts}
 use Rattle.net_receiver.proofs.OneStream.{stays}
 use Rattle.net_receiver.proofs.Heads.{sound_for}
 use Rattle.net_receiver.proofs.receiver.ReceiverOver.read_with.Goals as goal
@@ -11,20 +11,21 @@ f-answer-requires g c = c.requires.callable c.first_slice-part.result c.first_sl
 
 pub invariant_of-self : goal.invariant_of-self
 invariant_of-self g c = (
-  c.remove.ensures.sound (g.S.Storage.elements c.self.inside.storage) c.self.inside.runs (sym c.count.ensures) c.self.invariant.0,
+  subst (λ n. HasSoundParts c.remove.new.self n c.self.inside.runs) c.count.ensures (c.remove.ensures.sound c.self.inside.runs (subst (λ n. HasSoundParts c.self.inside.head n c.self.inside.runs) (sym c.count.ensures) c.self.invariant.0)),
   c.self.invariant.1,
   subst (λ h. IsCanonical h.held) (sym c.remove.ensures.head) c.self.invariant.2,
 )
 
 pub returns-clause-state : goal.returns-clause-state
 returns-clause-state g c =
-    c.remove.ensures.state (g.S.Storage.elements c.self.inside.storage) c.self.inside.runs (sym c.count.ensures) c.self.invariant.0
+    c.remove.ensures.state (g.S.Storage.elements c.self.inside.storage) c.self.inside.runs (sym c.count.ensures)
+    (subst (λ n. HasSoundParts c.self.inside.head n c.self.inside.runs) (sym c.count.ensures) c.self.invariant.0)
     ∙ ap (λ v. receiver_after_read v c.f-answer.result.0) c.self.view_is
 
 pub returns-clause-setting : goal.returns-clause-setting
 returns-clause-setting g c =
     stays g.row.N c.args.self.now _ (Read c.f-answer.result.0) (returns-clause-state g c)
-    (sound_for (invariant_of-self g c).0 g.row.N c.self.invariant.1)
+    (sound_for _ (invariant_of-self g c).0 g.row.N c.self.invariant.1)
 
 pub prove-unreachable-requires : goal.prove-unreachable-requires
 prove-unreachable-requires g c =

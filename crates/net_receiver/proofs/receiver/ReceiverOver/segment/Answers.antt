@@ -18,8 +18,8 @@ stored g c =
     (g.met.S.Storage.part_written c.self.inside.storage 0 c.segment.new.storage)
 
 sound_is : (g : given.Over) (c : goal.After-self-2-1 g) →
-    HasSoundParts c.segment.new.self (g.S.Storage.elements (g.S.Storage.with_part c.self.inside.storage 0 c.segment.new.storage)) c.segment.new.runs
-sound_is g c = subst (λ xs. HasSoundParts c.segment.new.self xs c.segment.new.runs) (sym (stored g c)) c.segment.ensures.sound
+    HasSoundParts c.segment.new.self (length (g.S.Storage.elements (g.S.Storage.with_part c.self.inside.storage 0 c.segment.new.storage))) c.segment.new.runs
+sound_is g c = subst (λ xs. HasSoundParts c.segment.new.self (length xs) c.segment.new.runs) (sym (stored g c)) c.segment.ensures.sound
 
 runs_are : (g : given.Over) (c : goal.After-self-2-1 g) → length c.segment.new.runs ≡ g.row.N
 runs_are g c = c.segment.auto.runs ∙ c.self.invariant.1
@@ -52,7 +52,7 @@ returns g c =
     record {
       state = state_is g c;
       reply = ap (λ r. SegmentReply r) (result_is g c);
-      setting = stays g.row.N v _ (Segment c.args.pos c.args.bytes.now) (state_is g c) (sound_for (sound_is g c) g.row.N (runs_are g c));
+      setting = stays g.row.N v _ (Segment c.args.pos c.args.bytes.now) (state_is g c) (sound_for _ (sound_is g c) g.row.N (runs_are g c));
       keeps = keeps;
       in_order = joins;
       unchanged = keeps.refused;

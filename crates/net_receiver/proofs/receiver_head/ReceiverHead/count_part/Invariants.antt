@@ -1,6 +1,6 @@
 use Rattle.std.proofs.Common.{◌≡◌, ◌+◌, max}
 use Rattle.net_assembler.specs.Positions.{maximal_runs}
-use Rattle.net_receiver.specs.{domain, receiver_of}
+use Rattle.net_receiver.specs.{held_at}
 use Rattle.net_receiver.proofs.NewestRuns.{missing_in}
 use Rattle.net_receiver.proofs.receiver_head.ReceiverHead.count_part.Given as goal
 
@@ -10,4 +10,4 @@ invariant-loop-start l =
     (goal.iterator-loop-start).can_next l.start-iterator
     × (goal.iterator-loop-start).is_finite l.start-iterator
     × (l.count + missing_in l.end l.at l.start-iterator
-    ≡ missing_in l.end (max l.next l.position) (maximal_runs (domain (receiver_of l.self l.storage l.runs).held)))
+    ≡ missing_in l.end (max l.next l.position) (maximal_runs (held_at l.self l.runs)))

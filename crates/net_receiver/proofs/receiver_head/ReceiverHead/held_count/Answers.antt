@@ -10,4 +10,4 @@ pub returns-clause-state : goal.returns-clause-state
 returns-clause-state c = λ storage runs s.
     let h = c.args.self.now in
     let g = ring_at storage h.place in
-    sym (held_count h.first h.count_read (queue g) (spare g) (set_of h.held runs) ∙ runs-set_of h.held runs s.runs)
+    sym (held_count h.first h.count_read (queue g) (spare g) (set_of h.held runs) ∙ runs-set_of h.held runs s.held.runs)

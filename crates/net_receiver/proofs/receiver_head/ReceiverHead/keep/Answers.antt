@@ -15,31 +15,31 @@ use Rattle.net_receiver.proofs.receiver_head.ReceiverHead.keep.Goals as goal
 
 pub returns-in_err-queued-clause-state : goal.returns-in_err-queued-clause-state
 returns-in_err-queued-clause-state c =
-    let cut = cut_of c.requires.sound c.next-next.ensures c.window-window.ensures c.saturating_sub-late.ensures c.saturating_sub-ahead.ensures
+    let cut = cut_of c.args.storage.now c.requires.sound c.next-next.ensures c.window-window.ensures c.saturating_sub-late.ensures c.saturating_sub-ahead.ensures
     c.if-late-bytes.false c.if-ahead-window.false c.min-kept.ensures in
     let why = c.in_err-queued.ensures.both.refused.0 refl in
-    (refused c.requires.sound cut c.requires.fits _ _ why.0 ((too_many _ _ _ c.min-kept.result).0 why.1).1 c.in_err-queued.ensures.unchanged.0 c.in_err-queued.ensures.unchanged.1).0
+    (refused c.args.storage.now c.requires.sound cut c.requires.fits _ _ why.0 ((too_many _ _ _ c.min-kept.result).0 why.1).1 c.in_err-queued.ensures.unchanged.0 c.in_err-queued.ensures.unchanged.1).0
 
 pub returns-in_err-queued-clause-numbers : goal.returns-in_err-queued-clause-numbers
 returns-in_err-queued-clause-numbers c =
-    let cut = cut_of c.requires.sound c.next-next.ensures c.window-window.ensures c.saturating_sub-late.ensures c.saturating_sub-ahead.ensures
+    let cut = cut_of c.args.storage.now c.requires.sound c.next-next.ensures c.window-window.ensures c.saturating_sub-late.ensures c.saturating_sub-ahead.ensures
     c.if-late-bytes.false c.if-ahead-window.false c.min-kept.ensures in
     let why = c.in_err-queued.ensures.both.refused.0 refl in
     only_err c.from_residual.result c.from_residual.ensures.0
-    ∙ (refused c.requires.sound cut c.requires.fits _ _ why.0 ((too_many _ _ _ c.min-kept.result).0 why.1).1 c.in_err-queued.ensures.unchanged.0 c.in_err-queued.ensures.unchanged.1).1
+    ∙ (refused c.args.storage.now c.requires.sound cut c.requires.fits _ _ why.0 ((too_many _ _ _ c.min-kept.result).0 why.1).1 c.in_err-queued.ensures.unchanged.0 c.in_err-queued.ensures.unchanged.1).1
 
 pub returns-in_err-queued-clause-stored : goal.returns-in_err-queued-clause-stored
 returns-in_err-queued-clause-stored c =
-    let cut = cut_of c.requires.sound c.next-next.ensures c.window-window.ensures c.saturating_sub-late.ensures c.saturating_sub-ahead.ensures
+    let cut = cut_of c.args.storage.now c.requires.sound c.next-next.ensures c.window-window.ensures c.saturating_sub-late.ensures c.saturating_sub-ahead.ensures
     c.if-late-bytes.false c.if-ahead-window.false c.min-kept.ensures in
     let why = c.in_err-queued.ensures.both.refused.0 refl in
-    refused_stores c.requires.sound cut c.requires.fits why.0 ((too_many _ _ _ c.min-kept.result).0 why.1).1
+    refused_stores c.args.storage.now c.requires.sound cut c.requires.fits why.0 ((too_many _ _ _ c.min-kept.result).0 why.1).1
 
 pub enqueue-requires-clause-free : goal.enqueue-requires-clause-free
 enqueue-requires-clause-free c =
-    let cut = cut_of c.requires.sound c.next-next.ensures c.window-window.ensures c.saturating_sub-late.ensures c.saturating_sub-ahead.ensures
+    let cut = cut_of c.args.storage.now c.requires.sound c.next-next.ensures c.window-window.ensures c.saturating_sub-late.ensures c.saturating_sub-ahead.ensures
     c.if-late-bytes.false c.if-ahead-window.false c.min-kept.ensures in
-    let few = joined_fits c.requires.sound cut c.requires.fits c.add_then_remove_front.new.self c.add_then_remove_front.new.runs
+    let few = joined_fits c.args.storage.now c.requires.sound cut c.requires.fits c.add_then_remove_front.new.self c.add_then_remove_front.new.runs
     (front_removed _ _ _ c.in_ok-queued.ensures.both.value.0 c.in_ok-queued.ensures.both.value.1) in
     omega (arith, few, c.write_unallocated.ensures.size)
 
@@ -64,11 +64,11 @@ all : (c : goal.After-enqueue) →
     let x = verdict (length c.args.runs.now) v (piece c.args.pos c.args.bytes.now) in
     (receiver_of h c.write_unallocated.new.storage c.add_then_remove_front.new.runs ≡ state_after v x)
     × (Ok (record { kept = c.min-kept.result; queued = c.in_ok-queued.queued }) ≡ numbers v x)
-    × HasSoundParts h c.write_unallocated.new.storage c.add_then_remove_front.new.runs
+    × HasSoundParts h (length c.write_unallocated.new.storage) c.add_then_remove_front.new.runs
 all c =
-    let cut = cut_of c.requires.sound c.next-next.ensures c.window-window.ensures c.saturating_sub-late.ensures c.saturating_sub-ahead.ensures
+    let cut = cut_of c.args.storage.now c.requires.sound c.next-next.ensures c.window-window.ensures c.saturating_sub-late.ensures c.saturating_sub-ahead.ensures
     c.if-late-bytes.false c.if-ahead-window.false c.min-kept.ensures in
-    kept_is c.requires.sound cut c.requires.fits c.add_then_remove_front.new.self c.add_then_remove_front.new.runs
+    kept_is c.args.storage.now c.requires.sound cut c.requires.fits c.add_then_remove_front.new.self c.add_then_remove_front.new.runs
     (front_removed _ _ _ c.in_ok-queued.ensures.both.value.0 c.in_ok-queued.ensures.both.value.1)
     c.in_ok-queued.ensures.sound c.in_ok-queued.ensures.both.bound c.add_then_remove_front.auto.runs (added c) _ _ _
     c.write_unallocated.ensures.written c.write_unallocated.ensures.size (ap (take c.min-kept.result) (take_rest c.args.bytes.now c.saturating_sub-late.result))
@@ -85,9 +85,9 @@ returns-clause-sound c = (all c).2
 
 pub returns-clause-stored : goal.returns-clause-stored
 returns-clause-stored c =
-    let cut = cut_of c.requires.sound c.next-next.ensures c.window-window.ensures c.saturating_sub-late.ensures c.saturating_sub-ahead.ensures
+    let cut = cut_of c.args.storage.now c.requires.sound c.next-next.ensures c.window-window.ensures c.saturating_sub-late.ensures c.saturating_sub-ahead.ensures
     c.if-late-bytes.false c.if-ahead-window.false c.min-kept.ensures in
-    kept_stores c.requires.sound cut c.requires.fits (added c) _ _ _ c.write_unallocated.ensures.ring
+    kept_stores c.args.storage.now c.requires.sound cut c.requires.fits (added c) _ _ _ c.write_unallocated.ensures.ring
     (ap (take c.min-kept.result) (take_rest c.args.bytes.now c.saturating_sub-late.result)) c.write_unallocated.ensures.count
 
 pub returns-clause-receives : goal.returns-clause-receives

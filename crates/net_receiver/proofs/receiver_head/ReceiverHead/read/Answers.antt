@@ -1,11 +1,11 @@
-use Rattle.std.proofs.Common.{◌≡◌, ◌∙◌, ◌+◌, ℕ, min, length, sym, ap, subst}
+use Rattle.std.proofs.Common.{◌≡◌, ◌∙◌, ◌+◌, ℕ, min, length, sym, ap, subst, arith}
 use Rattle.net_ring.specs.RingHead.{IsSound as IsSoundPlace, ring_at, dequeued_place}
 use Rattle.net_ring.specs.Ring.{RingState, queue}
 use Rattle.net_ring.specs.declared.head.RingHead.{RingHead}
 use Rattle.net_ring.proofs.Rotations.{length-queue}
 use Rattle.net_receiver.specs.{receiver_of, HasSoundParts}
 use Rattle.net_receiver.proofs.OneStream.{read_receives, read_bytes}
-use Rattle.net_receiver.proofs.Heads.{after_read, given_is}
+use Rattle.net_receiver.proofs.Heads.{after_read, read_sound, given_is}
 use Rattle.net_receiver.proofs.receiver_head.ReceiverHead.read.Goals as goal
 
 -- the numbers of the ring that is left
@@ -33,15 +33,14 @@ returns-clause-head c = λ i. record {
 
 pub returns-clause-sound : goal.returns-clause-sound
 returns-clause-sound c = λ rs s.
-    subst (λ h. HasSoundParts h c.args.storage.now rs) (sym (returns-clause-head c))
-    (after_read s c.dequeue_slice-count.result (length c.args.into.now) c.dequeue_slice-count.ensures.count
-    (subst (IsSoundPlace (length c.args.storage.now)) (place_is c) c.dequeue_slice-count.ensures.sound)).1
+    subst (λ h. HasSoundParts h (length c.args.storage.now) rs) (sym (returns-clause-head c))
+    (read_sound s c.dequeue_slice-count.result (omega (arith, c.dequeue_slice-count.ensures.count))
+    (subst (IsSoundPlace (length c.args.storage.now)) (place_is c) c.dequeue_slice-count.ensures.sound))
 
 pub returns-clause-state : goal.returns-clause-state
 returns-clause-state c = λ rs s.
     ap (λ h. receiver_of h c.args.storage.now rs) (returns-clause-head c)
-    ∙ (after_read s c.dequeue_slice-count.result (length c.args.into.now) c.dequeue_slice-count.ensures.count
-    (subst (IsSoundPlace (length c.args.storage.now)) (place_is c) c.dequeue_slice-count.ensures.sound)).0
+    ∙ after_read c.args.storage.now s c.dequeue_slice-count.result (length c.args.into.now) c.dequeue_slice-count.ensures.count
 
 -- what is given, by the queue
 count_is : (c : goal.After-self-1) → c.dequeue_slice-count.result

@@ -1,8 +1,8 @@
 use Rattle.std.proofs.Common.{◌∙◌, ◌+◌, sym, ap, subst, arith}
-use Rattle.net_ring.specs.RingHead.{IsSound as IsSoundPlace, dequeued_place}
+use Rattle.net_ring.specs.RingHead.{IsSound as IsSoundPlace}
 use Rattle.net_receiver.specs.{receiver_of, HasSoundParts, head_after_read}
 use Rattle.net_receiver.proofs.OneStream.{read_receives, head_bytes}
-use Rattle.net_receiver.proofs.Heads.{after_read, queue_size}
+use Rattle.net_receiver.proofs.Heads.{after_read, read_sound, queue_size}
 use Rattle.net_receiver.proofs.receiver_head.ReceiverHead.remove.Goals as goal
 
 pub returns-clause-head : goal.returns-clause-head
@@ -14,22 +14,19 @@ returns-clause-head c = λ i. record {
 }
 
 pub returns-clause-sound : goal.returns-clause-sound
-returns-clause-sound c = λ xs rs size s.
-    let place = subst (λ n. IsSoundPlace n (dequeued_place n c.args.count c.args.self.now.place)) (sym size)
-    (subst (IsSoundPlace c.args.capacity) c.dequeue.ensures.place c.dequeue.ensures.sound) in
-    subst (λ h. HasSoundParts h xs rs)
-    (sym (returns-clause-head c ∙ ap (λ n. head_after_read n c.args.count c.args.self.now) (sym size)))
-    (after_read s c.args.count c.args.count (omega (arith, c.requires.queued)) place).1
+returns-clause-sound c = λ rs s.
+    subst (λ h. HasSoundParts h c.args.capacity rs) (sym (returns-clause-head c))
+    (read_sound s c.args.count c.requires.queued (subst (IsSoundPlace c.args.capacity) c.dequeue.ensures.place c.dequeue.ensures.sound))
 
 pub returns-clause-state : goal.returns-clause-state
 returns-clause-state c = λ xs rs size s.
-    let place = subst (λ n. IsSoundPlace n (dequeued_place n c.args.count c.args.self.now.place)) (sym size)
-    (subst (IsSoundPlace c.args.capacity) c.dequeue.ensures.place c.dequeue.ensures.sound) in
+    let over = subst (λ n. HasSoundParts c.args.self.now n rs) (sym size) s in
     ap (λ h. receiver_of h xs rs) (returns-clause-head c ∙ ap (λ n. head_after_read n c.args.count c.args.self.now) (sym size))
-    ∙ (after_read s c.args.count c.args.count (omega (arith, c.requires.queued)) place).0
+    ∙ after_read xs over c.args.count c.args.count (omega (arith, c.requires.queued))
 
 pub returns-clause-receives : goal.returns-clause-receives
-returns-clause-receives c = λ xs rs size s f x r. (
-  read_receives f x _ _ c.args.count (returns-clause-state c xs rs size s) r,
-  head_bytes f x (receiver_of c.args.self.now xs rs) c.args.count (omega (arith, c.requires.queued, queue_size s)) r,
-)
+returns-clause-receives c = λ xs rs size s f x r.
+    let over = subst (λ n. HasSoundParts c.args.self.now n rs) (sym size) s in (
+      read_receives f x _ _ c.args.count (returns-clause-state c xs rs size s) r,
+      head_bytes f x (receiver_of c.args.self.now xs rs) c.args.count (omega (arith, c.requires.queued, queue_size xs over)) r,
+    )
