@@ -3,19 +3,20 @@
 --     CallsNext rest results last      what calls of `next`, one after another, return and leave
 --     results_of_next rest n       what n of them return
 -- The others are laws.
-use Rattle.std.specs.Prelude.{◌≡◌, ◌↔◌, ℕ, zero, suc, ◌+◌, ◌-◌, ◌<◌, ◌≤◌, ◌^◌, Bool, ◌&&◌, ◌||◌}
-use Rattle.std.specs.Prelude.{List, [], ◌∷◌, length, drop, nat_le, nat_eq, Option, Some, None}
-use Rattle.std.specs.Prelude.{Result, Ok, IsTrue, IsFalse, IsOk, IsErr, OnOk, OnErr, MatchResult}
+-- Lists of ranges of positions, each an offset and a size.
+use Rattle.std.specs.Prelude.{◌≡◌, ◌↔◌, ℕ, zero, suc, ◌+◌, ◌-◌, ◌<◌, ◌≤◌, ◌^◌, Bool, ◌&&◌, ◌||◌, List, [], ◌∷◌}
+use Rattle.std.specs.Prelude.{length, drop, nat_le, nat_eq, Option, Some, None, Result, Ok, IsTrue, IsFalse, IsOk}
+use Rattle.std.specs.Prelude.{IsErr, OnOk, OnErr, MatchResult}
 use Rattle.std.specs.List.{list_any, slice_get}
 use Rattle.std.specs.Iterator.{YieldsFirst}
 use Rattle.net_assembler.specs.declared.assembler.error.TooManyHolesError.{TooManyHolesError}
-use Rattle.net_assembler.specs.Positions.{Positions, contains, nothing, set_of_list, with_range, runs}
-use Rattle.net_assembler.specs.Positions.{first_missing, front, shift_down, shift_up, maximal_runs}
-use Rattle.net_assembler.specs.Positions.{runs_shifted_up, lies_in, are_same, IsFirstMissing}
-use Rattle.net_assembler.specs.Positions.{IsMaximalRun, AreMaximalRuns}
+use Rattle.net_assembler.specs.Positions.{Positions, contains, nothing, set_of_list, with_range, runs, first_missing}
+use Rattle.net_assembler.specs.Positions.{front, shift_down, shift_up, maximal_runs, runs_shifted_up, lies_in}
+use Rattle.net_assembler.specs.Positions.{are_same, IsFirstMissing, IsMaximalRun, AreMaximalRuns}
 use Rattle.net_assembler.specs.Assembler.{MakesTooManyRuns}
 use Rattle.net_assembler.specs.Turns.{binary_digits}
 
+-- ---- Laws of sets of positions and of the contracts of an assembler's calls.
 -- the contract of `add`, of one call
 pub record Adds (most_runs : ℕ) (old : Positions) (offset size : ℕ)
     (result : Result (Unit {0}) TooManyHolesError) (new : Positions) : Type 0 where
@@ -182,3 +183,13 @@ IteratesMaximalRuns = (most_runs : ℕ) (s : Positions) (left last : List (ℕ �
     Iterates most_runs s left → CallsNext left results last →
     AreMaximalRuns s left × (length left ≤ most_runs)
     × (results ≡ results_of_next left (length results)) × (last ≡ drop (length results) left)
+
+-- ---- Lists of ranges of positions, each an offset and a size.
+-- s with the ranges, one after another
+abbrev pub with_ranges : Positions → List (ℕ × ℕ) → Positions
+with_ranges s [] = s
+with_ranges s (range ∷ ranges) = with_ranges (with_range s range.0 range.1) ranges
+
+-- whether p is a position of one of the ranges
+abbrev pub lies_in_some : ℕ → List (ℕ × ℕ) → Bool
+lies_in_some p ranges = list_any (λ range. lies_in p (range.0, range.0 + range.1)) ranges

@@ -7,7 +7,8 @@ use Rattle.net_assembler.specs.declared.assembler.error.TooManyHolesError.{TooMa
 use Rattle.net_assembler.specs.declared.assembler.head.AssemblerHead.{AssemblerHead}
 use Rattle.net_assembler.specs.AssemblerLaws.{Adds}
 use Rattle.net_assembler.specs.Positions.{front, runs, shift_down, with_range}
-use Rattle.net_assembler.specs.RunLists.{HasSoundRuns, IsCanonical, runs_of, runs_shifted_down, set_of, set_of_runs, start_at}
+use Rattle.net_assembler.specs.RunLists.{HasSoundRuns, IsCanonical, runs_of, runs_shifted_down, set_of, set_of_runs}
+use Rattle.net_assembler.specs.RunLists.{start_at}
 use Rattle.net_assembler.specs.Turns.{TurnsWithin, binary_digits}
 use Rattle.net_assembler.specs.Width.{IsUsize}
 

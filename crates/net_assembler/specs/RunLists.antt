@@ -9,8 +9,8 @@
 --     IsCanonical head      that a head without runs is 0 in both numbers
 --     zero_head      the head of two zeros
 --     contig_text c      a hole and the data after it, as text
-use Rattle.std.specs.Prelude.{◌≡◌, ℕ, ◌+◌, ◌-◌, ◌<◌, ◌≤◌, ◌^◌, ◌%◌, List, [], ◌∷◌, ◌++◌, length, take, map}
-use Rattle.std.specs.Prelude.{flat_map, get_or, cond, nat_lt, min, max}
+use Rattle.std.specs.Prelude.{◌≡◌, ℕ, ◌+◌, ◌-◌, ◌<◌, ◌≤◌, ◌^◌, ◌%◌, List, [], ◌∷◌, ◌++◌, length, take, map, flat_map}
+use Rattle.std.specs.Prelude.{get_or, cond, nat_lt, min, max}
 use Rattle.std.specs.Fmt.{decimal}
 use Rattle.std.specs.List.{range_with_len}
 use Rattle.net_assembler.specs.Assembler.{hole_text}

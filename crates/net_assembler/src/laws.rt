@@ -4,7 +4,7 @@
 ghost use Rattle.std.specs.Prelude.{◌≡◌, ◌||◌, ℕ, List};
 ghost use Rattle.std.specs.List.Sorted.{IsPermutation};
 ghost use Rattle.net_assembler.specs.Positions.{Positions, contains, front, shift_down};
-ghost use Rattle.net_assembler.specs.Ranges.{with_ranges, lies_in_some};
+ghost use Rattle.net_assembler.specs.AssemblerLaws.{with_ranges, lies_in_some};
 ghost use Rattle.net_assembler.specs.Width.{IsUsize};
 
 use crate::assembler::laws::{front as front_is_least, members};

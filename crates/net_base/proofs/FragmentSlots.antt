@@ -12,7 +12,7 @@ use Rattle.std.proofs.lemmas.List.{get_or_default}
 use Rattle.std.proofs.lemmas.List.Sums.{position_or_len_is}
 use Rattle.net_assembler.specs.Assembler.{MakesTooManyRuns}
 use Rattle.net_assembler.specs.Positions.{contains, nothing}
-use Rattle.net_assembler.proofs.Positions.{contains-nothing}
+use Rattle.net_assembler.proofs.Sets.{contains-nothing}
 use Rattle.net_base.specs.Fragments.{FragmentsState, begun, with_piece, HasOtherEnd, Differs, Accepts}
 use Rattle.net_base.specs.declared.storage.fragments.FragmentError.{FragmentError}
 use Rattle.net_base.specs.declared.storage.fragments.table.AcceptError.{AcceptError}

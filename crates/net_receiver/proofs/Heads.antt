@@ -13,7 +13,7 @@ use Rattle.std.proofs.lemmas.List.{drop_min, take_min, length-take-le}
 use Rattle.net_assembler.specs.declared.assembler.error.TooManyHolesError.{TooManyHolesError}
 use Rattle.net_ring.specs.Overwrite.{overwrite}
 use Rattle.net_assembler.specs.Assembler.{MakesTooManyRuns}
-use Rattle.net_assembler.proofs.Positions.{too_many}
+use Rattle.net_assembler.proofs.Sets.{too_many}
 use Rattle.net_receiver.proofs.Schedules.{read_less}
 use Rattle.net_receiver.proofs.Places.{IsReceiver, HasRoom, IsFrontRemoved, held_count, read_parts, joined_parts}
 use Rattle.net_receiver.proofs.Places.{queued_is, m_within, refused_verdict, kept_verdict, clip_is, stays_at, read_on}

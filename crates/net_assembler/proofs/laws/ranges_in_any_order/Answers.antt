@@ -3,8 +3,7 @@ use Rattle.std.proofs.Math.Bool.{or_assoc, or-false}
 use Rattle.std.proofs.lemmas.List.Sorted.{list_any-IsPermutation}
 use Rattle.std.specs.List.Sorted.{IsPermutation}
 use Rattle.net_assembler.specs.Positions.{Positions, contains, with_range, lies_in}
-use Rattle.net_assembler.specs.AssemblerLaws.{EqualSets, MembersWithRange}
-use Rattle.net_assembler.specs.Ranges.{with_ranges, lies_in_some}
+use Rattle.net_assembler.specs.AssemblerLaws.{EqualSets, MembersWithRange, with_ranges, lies_in_some}
 use Rattle.net_assembler.proofs.laws.ranges_in_any_order.Goals as goal
 
 members : MembersWithRange → (s : Positions) (ranges : List (ℕ × ℕ)) (p : ℕ) →

@@ -1,7 +1,7 @@
 use Rattle.std.proofs.Common.{ap, length, arith}
 use Rattle.net_assembler.specs.Positions.{runs}
 use Rattle.net_assembler.specs.RunLists.{set_of}
-use Rattle.net_assembler.proofs.Heads.{added_accepted, added_more}
+use Rattle.net_assembler.proofs.SoundHeads.{added_accepted, added_more}
 use Rattle.net_assembler.proofs.assembler.Assembler.add.Goals as goal
 
 pub returns-clause-accepted : goal.returns-clause-accepted

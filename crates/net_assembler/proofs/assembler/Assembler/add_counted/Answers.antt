@@ -1,8 +1,8 @@
 use Rattle.std.proofs.Common.{ap, length, arith}
 use Rattle.net_assembler.specs.Positions.{runs}
 use Rattle.net_assembler.specs.RunLists.{set_of}
-use Rattle.net_assembler.proofs.AssemblerLaws.{few_binary_digits}
-use Rattle.net_assembler.proofs.Heads.{added_accepted, added_more}
+use Rattle.net_assembler.proofs.Calls.{few_binary_digits}
+use Rattle.net_assembler.proofs.SoundHeads.{added_accepted, added_more}
 use Rattle.net_assembler.proofs.assembler.Assembler.add_counted.Goals as goal
 
 pub returns-clause-accepted : goal.returns-clause-accepted

@@ -1,7 +1,7 @@
 use Rattle.std.proofs.Common.{ap, length, arith}
 use Rattle.net_assembler.specs.Positions.{runs}
 use Rattle.net_assembler.specs.RunLists.{set_of}
-use Rattle.net_assembler.proofs.Heads.{both_accepted}
+use Rattle.net_assembler.proofs.SoundHeads.{both_accepted}
 use Rattle.net_assembler.proofs.assembler.Assembler.add_then_remove_front.Goals as goal
 
 pub returns-clause-accepted : goal.returns-clause-accepted

@@ -1,6 +1,6 @@
 use Rattle.std.proofs.Common.{◌∙◌, ap, arith}
 use Rattle.net_assembler.specs.Positions.{runs}
-use Rattle.net_assembler.proofs.RunLists.{runs-nothing}
+use Rattle.net_assembler.proofs.Joins.{runs-nothing}
 use Rattle.net_assembler.proofs.assembler.Assembler.clear.Goals as goal
 
 pub returns-clause-no_run : goal.returns-clause-no_run

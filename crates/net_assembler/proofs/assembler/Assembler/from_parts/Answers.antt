@@ -1,8 +1,8 @@
 use Rattle.std.proofs.Common.{◌∙◌, sym, ap, arith}
 use Rattle.net_assembler.specs.Positions.{runs}
 use Rattle.net_assembler.specs.RunLists.{runs_of}
-use Rattle.net_assembler.proofs.RunLists.{no_runs, runs-nothing}
-use Rattle.net_assembler.proofs.Heads.{few_held, length-runs_of}
+use Rattle.net_assembler.proofs.Joins.{no_runs, runs-nothing}
+use Rattle.net_assembler.proofs.SoundHeads.{few_held, length-runs_of}
 use Rattle.net_assembler.proofs.assembler.Assembler.from_parts.Goals as goal
 
 pub returns-then-head-eq0-clause-set : goal.returns-then-head-eq0-clause-set

@@ -1,5 +1,5 @@
 use Rattle.std.proofs.Common.{arith}
-use Rattle.net_assembler.proofs.Heads.{few_held}
+use Rattle.net_assembler.proofs.SoundHeads.{few_held}
 use Rattle.net_assembler.proofs.assembler.Assembler.shift.Goals as goal
 
 pub returns-clause-bound : goal.returns-clause-bound

@@ -1,7 +1,7 @@
 use Rattle.std.proofs.Common.{◌∙◌, ◌-◌, ap, nat_lt, sym, arith}
 use Rattle.std.proofs.lemmas.Bool.{le-ltb}
 use Rattle.net_assembler.proofs.Runs.{contains-set_of_runs}
-use Rattle.net_assembler.proofs.RunLists.{in_run_at, not_before}
+use Rattle.net_assembler.proofs.Joins.{in_run_at, not_before}
 use Rattle.net_assembler.proofs.assembler.head.holds.Goals as goal
 
 pub returns-then-count-gt0 : goal.returns-then-count-gt0

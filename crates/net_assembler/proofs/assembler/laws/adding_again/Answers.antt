@@ -1,4 +1,4 @@
-use Rattle.net_assembler.proofs.AssemblerLaws.{range_again, adding_again}
+use Rattle.net_assembler.proofs.Calls.{range_again, adding_again}
 use Rattle.net_assembler.proofs.assembler.laws.adding_again.Goals as goal
 
 pub returns-clause-set : goal.returns-clause-set

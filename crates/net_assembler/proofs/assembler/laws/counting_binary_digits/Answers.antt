@@ -1,6 +1,6 @@
 use Rattle.std.proofs.Common.{refl}
 use Rattle.net_assembler.specs.Turns.{binary_digits}
-use Rattle.net_assembler.proofs.AssemblerLaws.{enough_binary_digits}
+use Rattle.net_assembler.proofs.Calls.{enough_binary_digits}
 use Rattle.net_assembler.proofs.assembler.laws.counting_binary_digits.Goals as goal
 
 pub returns-clause-enough : goal.returns-clause-enough

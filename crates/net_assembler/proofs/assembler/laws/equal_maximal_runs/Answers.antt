@@ -1,4 +1,4 @@
-use Rattle.net_assembler.proofs.AssemblerLaws.{equal_runs}
+use Rattle.net_assembler.proofs.Calls.{equal_runs}
 use Rattle.net_assembler.proofs.assembler.laws.equal_maximal_runs.Goals as goal
 
 pub returns : goal.returns

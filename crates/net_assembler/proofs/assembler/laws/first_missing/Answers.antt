@@ -1,4 +1,4 @@
-use Rattle.net_assembler.proofs.AssemblerLaws.{first_missing_is_least}
+use Rattle.net_assembler.proofs.Calls.{first_missing_is_least}
 use Rattle.net_assembler.proofs.assembler.laws.first_missing.Goals as goal
 
 pub returns : goal.returns

@@ -1,4 +1,4 @@
-use Rattle.net_assembler.proofs.AssemblerLaws.{front_is_least_missing}
+use Rattle.net_assembler.proofs.Calls.{front_is_least_missing}
 use Rattle.net_assembler.proofs.assembler.laws.front.Goals as goal
 
 pub returns : goal.returns

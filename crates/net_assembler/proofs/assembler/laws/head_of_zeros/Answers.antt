@@ -1,5 +1,5 @@
 use Rattle.std.proofs.Common.{refl}
-use Rattle.net_assembler.proofs.RunLists.{no_runs}
+use Rattle.net_assembler.proofs.Joins.{no_runs}
 use Rattle.net_assembler.proofs.assembler.laws.head_of_zeros.Goals as goal
 
 pub returns-clause-empty : goal.returns-clause-empty

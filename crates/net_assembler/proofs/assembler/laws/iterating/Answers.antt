@@ -1,4 +1,4 @@
-use Rattle.net_assembler.proofs.AssemblerLaws.{iterates_maximal_runs}
+use Rattle.net_assembler.proofs.Calls.{iterates_maximal_runs}
 use Rattle.net_assembler.proofs.assembler.laws.iterating.Goals as goal
 
 pub returns : goal.returns

@@ -1,4 +1,4 @@
-use Rattle.net_assembler.proofs.AssemblerLaws.{runs_by_number}
+use Rattle.net_assembler.proofs.Calls.{runs_by_number}
 use Rattle.net_assembler.proofs.assembler.laws.maximal_runs_by_number.Goals as goal
 
 pub returns : goal.returns

@@ -1,6 +1,5 @@
-use Rattle.net_assembler.proofs.Positions.{contains-nothing, contains-with_range, contains-shift_down}
-use Rattle.net_assembler.proofs.Positions.{contains-shift_up}
-use Rattle.net_assembler.proofs.AssemblerLaws.{equal_sets, members_of_list}
+use Rattle.net_assembler.proofs.Sets.{contains-nothing, contains-with_range, contains-shift_down, contains-shift_up}
+use Rattle.net_assembler.proofs.Calls.{equal_sets, members_of_list}
 use Rattle.net_assembler.proofs.assembler.laws.members.Goals as goal
 
 pub returns-clause-equal : goal.returns-clause-equal

@@ -1,5 +1,5 @@
-use Rattle.net_assembler.proofs.MaximalRuns.{one_run_more}
-use Rattle.net_assembler.proofs.RunLists.{runs-nothing}
+use Rattle.net_assembler.proofs.Runs.{one_run_more}
+use Rattle.net_assembler.proofs.Joins.{runs-nothing}
 use Rattle.net_assembler.proofs.assembler.laws.number_of_runs.Goals as goal
 
 pub returns-clause-of_nothing : goal.returns-clause-of_nothing

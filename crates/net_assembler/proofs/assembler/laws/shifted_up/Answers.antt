@@ -1,4 +1,4 @@
-use Rattle.net_assembler.proofs.Positions.{maximal_runs-shift_up, runs-shift_up}
+use Rattle.net_assembler.proofs.Sets.{maximal_runs-shift_up, runs-shift_up}
 use Rattle.net_assembler.proofs.assembler.laws.shifted_up.Goals as goal
 
 pub returns-clause-maximal_runs : goal.returns-clause-maximal_runs

@@ -1,7 +1,7 @@
 use Rattle.std.proofs.Common.{[], length, refl, sym, subst, inl, append-nil, arith}
 use Rattle.net_ring.specs.RingHead.{ring_at}
 use Rattle.net_ring.specs.Ring.{spare}
-use Rattle.net_assembler.proofs.RunLists.{runs-nothing}
+use Rattle.net_assembler.proofs.Joins.{runs-nothing}
 use Rattle.net_assembler.specs.RunLists.{set_of}
 use Rattle.net_receiver.specs.{IsSound, Fits64Bits}
 use Rattle.net_receiver.proofs.Places.{fresh_read_at}

@@ -1,10 +1,10 @@
 use Rattle.std.proofs.Common.{rules, ◌+◌, ◌≡◌, ◌∙◌, ◌<◌, length, ap, sym, refl, arith}
 use Rattle.net_assembler.specs.Positions.{front, runs, shift_down, with_range}
 use Rattle.net_assembler.specs.RunLists.{runs_of, set_of, set_of_runs, used_runs}
-use Rattle.net_assembler.proofs.Heads.{dropped, dropped_number, few_held, length-runs_of, lowered, next_alone, runs-set_of}
-use Rattle.net_assembler.proofs.Positions.{too_many}
+use Rattle.net_assembler.proofs.SoundHeads.{dropped, dropped_number, few_held, length-runs_of, lowered, next_alone}
+use Rattle.net_assembler.proofs.SoundHeads.{runs-set_of}
+use Rattle.net_assembler.proofs.Sets.{too_many, shift_down-zero}
 use Rattle.net_assembler.proofs.ShiftedRuns.{down-less, down-none}
-use Rattle.net_assembler.proofs.RunLists.{shift_down-zero}
 use Rattle.net_assembler.proofs.assembler.head.AssemblerHead.add_then_remove_front.Goals as goal
 
 pub returns-then-size-self-clause-sound : goal.returns-then-size-self-clause-sound

@@ -1,12 +1,13 @@
-use Rattle.std.proofs.Common.{◌≡◌, ◌∙◌, ◌+◌, ◌-◌, ◌<◌, ◌≤◌, ◌^◌, ◌%◌, ℕ, List, ap, length, sym, subst, take, drop, arith}
+use Rattle.std.proofs.Common.{◌≡◌, ◌∙◌, ◌+◌, ◌-◌, ◌<◌, ◌≤◌, ◌^◌, ◌%◌, ℕ, List, ap, length, sym, subst, take, drop}
+use Rattle.std.proofs.Common.{arith}
 use Rattle.net_assembler.specs.declared.assembler.head.AssemblerHead.{AssemblerHead}
 use Rattle.net_assembler.specs.Positions.{runs_shifted_up}
-use Rattle.net_assembler.specs.RunLists.{AreRuns, AreUsize, IsRising, FitsFrom, HasSoundRuns, StartsAtZero, runs_wrapped}
-use Rattle.net_assembler.specs.RunLists.{used_runs, runs_of, runs_shifted_down, start_at}
+use Rattle.net_assembler.specs.RunLists.{AreRuns, AreUsize, IsRising, FitsFrom, HasSoundRuns, StartsAtZero}
+use Rattle.net_assembler.specs.RunLists.{runs_wrapped, used_runs, runs_of, runs_shifted_down, start_at}
 use Rattle.net_assembler.proofs.Runs.{rising-runs_shifted_down}
-use Rattle.net_assembler.proofs.RunLists.{rest_rises, rest_starts}
-use Rattle.net_assembler.proofs.ShiftedRuns.{first-down, fits-down, fits-drop, fits-less, up-down}
-use Rattle.net_assembler.proofs.WrappedRuns.{negated, usize-down, wrapped-down}
+use Rattle.net_assembler.proofs.Joins.{rest_rises, rest_starts}
+use Rattle.net_assembler.proofs.ShiftedRuns.{first-down, fits-down, fits-drop, fits-less, up-down, negated}
+use Rattle.net_assembler.proofs.ShiftedRuns.{usize-down, wrapped-down}
 use Rattle.net_assembler.proofs.assembler.head.AssemblerHead.drop_front.Goals as goal
 use Rattle.net_assembler.proofs.assembler.head.AssemblerHead.drop_front.Goals.{then-count-used, else-count-used}
 

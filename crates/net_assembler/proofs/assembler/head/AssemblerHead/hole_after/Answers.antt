@@ -1,6 +1,6 @@
 use Rattle.std.proofs.Common.{◌≡◌, ◌∙◌, ◌+◌, ◌<◌, suc, Some, sym, arith}
 use Rattle.net_assembler.specs.RunLists.{end_at, runs_of, start_at}
-use Rattle.net_assembler.proofs.Heads.{are_runs, length-runs_of, pair_fits, pair_rises, pairs_apart, run_at}
+use Rattle.net_assembler.proofs.SoundHeads.{are_runs, length-runs_of, pair_fits, pair_rises, pairs_apart, run_at}
 use Rattle.net_assembler.proofs.Holes.{hole_between, no_hole}
 use Rattle.net_assembler.proofs.assembler.head.AssemblerHead.hole_after.Goals as goal
 

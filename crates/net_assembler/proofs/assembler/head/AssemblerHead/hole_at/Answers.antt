@@ -3,7 +3,7 @@ use Rattle.std.specs.List.{slice_get}
 use Rattle.std.proofs.lemmas.Option.{slice_get_past}
 use Rattle.net_assembler.specs.Positions.{holes_before}
 use Rattle.net_assembler.specs.RunLists.{runs_of}
-use Rattle.net_assembler.proofs.Heads.{holes-set_of, length-runs_of, run_start}
+use Rattle.net_assembler.proofs.SoundHeads.{holes-set_of, length-runs_of, run_start}
 use Rattle.net_assembler.proofs.Holes.{few_holes, hole_first, later_hole, none_first}
 use Rattle.net_assembler.proofs.assembler.head.AssemblerHead.hole_at.Goals as goal
 

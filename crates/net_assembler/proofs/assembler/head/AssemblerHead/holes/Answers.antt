@@ -1,7 +1,7 @@
 use Rattle.std.proofs.Common.{◌∙◌, length, drop, ap, sym, subst, arith}
 use Rattle.net_assembler.specs.Positions.{holes_before}
 use Rattle.net_assembler.specs.RunLists.{IsRising, end_at, runs_of}
-use Rattle.net_assembler.proofs.Heads.{are_runs, holes-set_of, length-runs_of, maximal_runs-set_of, run_start}
+use Rattle.net_assembler.proofs.SoundHeads.{are_runs, holes-set_of, length-runs_of, maximal_runs-set_of, run_start}
 use Rattle.net_assembler.proofs.Holes.{few_holes, none_first, rises_after}
 use Rattle.net_assembler.proofs.assembler.head.AssemblerHead.holes.Goals as goal
 

@@ -1,8 +1,8 @@
 use Rattle.std.proofs.Common.{◌∙◌, sym}
 use Rattle.std.proofs.lemmas.Bool.{eqb-true, eq-eqb}
 use Rattle.net_assembler.specs.RunLists.{runs_of}
-use Rattle.net_assembler.proofs.RunLists.{empty-set_of_runs, no_runs}
-use Rattle.net_assembler.proofs.Heads.{are_runs, length-runs_of}
+use Rattle.net_assembler.proofs.Joins.{empty-set_of_runs, no_runs}
+use Rattle.net_assembler.proofs.SoundHeads.{are_runs, length-runs_of}
 use Rattle.net_assembler.proofs.assembler.head.AssemblerHead.is_empty.Goals as goal
 
 pub returns-clause-empty : goal.returns-clause-empty

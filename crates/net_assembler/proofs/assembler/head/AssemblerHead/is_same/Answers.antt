@@ -4,9 +4,9 @@ use Rattle.std.proofs.lemmas.Bool.{eqb-true, eq-eqb}
 use Rattle.std.proofs.lemmas.Bool.Decides.{same_from_decides, Decides-and, Decides-eqb}
 use Rattle.net_assembler.specs.Positions.{runs_shifted_up}
 use Rattle.net_assembler.specs.RunLists.{used_runs, runs_of, set_of, set_of_runs}
-use Rattle.net_assembler.proofs.Positions.{are_same_decides}
-use Rattle.net_assembler.proofs.RunLists.{no_runs}
-use Rattle.net_assembler.proofs.Heads.{length-runs_of, same_first_start, same_number, same_pairs}
+use Rattle.net_assembler.proofs.Sets.{are_same_decides}
+use Rattle.net_assembler.proofs.Joins.{no_runs}
+use Rattle.net_assembler.proofs.SoundHeads.{length-runs_of, same_first_start, same_number, same_pairs}
 use Rattle.net_assembler.proofs.assembler.head.AssemblerHead.is_same.Goals as goal
 use Rattle.net_assembler.proofs.assembler.head.AssemblerHead.is_same.Goals.{Then-self-eq0, Else-self-other, After-eq}
 

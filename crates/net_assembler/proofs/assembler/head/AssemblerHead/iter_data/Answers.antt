@@ -1,5 +1,5 @@
 use Rattle.std.proofs.Common.{◌∙◌, sym}
-use Rattle.net_assembler.proofs.Heads.{maximal_runs-set_of}
+use Rattle.net_assembler.proofs.SoundHeads.{maximal_runs-set_of}
 use Rattle.net_assembler.proofs.assembler.head.AssemblerHead.iter_data.Goals as goal
 
 pub returns-clause-runs : goal.returns-clause-runs

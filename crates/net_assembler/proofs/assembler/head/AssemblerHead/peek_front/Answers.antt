@@ -1,5 +1,5 @@
 use Rattle.std.proofs.Common.{◌∙◌, arith}
-use Rattle.net_assembler.proofs.Heads.{first_front, no_front}
+use Rattle.net_assembler.proofs.SoundHeads.{first_front, no_front}
 use Rattle.net_assembler.proofs.assembler.head.AssemblerHead.peek_front.Goals as goal
 
 pub returns-then-self-ne0 : goal.returns-then-self-ne0

@@ -1,9 +1,10 @@
 use Rattle.std.proofs.Common.{◌≡◌, ◌∙◌, ◌<◌, ap, sym, arith}
 use Rattle.net_assembler.specs.Positions.{front, shift_down}
 use Rattle.net_assembler.specs.RunLists.{runs_of, set_of, set_of_runs}
-use Rattle.net_assembler.proofs.RunLists.{shift_down-zero, shifted_down_set}
-use Rattle.net_assembler.proofs.Heads.{are_runs, dropped, dropped_number, few_held, first_front, no_front, pair_rises, pairs_apart}
-use Rattle.net_assembler.proofs.Heads.{runs-set_of}
+use Rattle.net_assembler.proofs.Sets.{shift_down-zero}
+use Rattle.net_assembler.proofs.Joins.{shifted_down_set}
+use Rattle.net_assembler.proofs.SoundHeads.{are_runs, dropped, dropped_number, few_held, first_front, no_front}
+use Rattle.net_assembler.proofs.SoundHeads.{pair_rises, pairs_apart, runs-set_of}
 use Rattle.net_assembler.proofs.assembler.head.AssemblerHead.remove_front.Goals as goal
 use Rattle.net_assembler.proofs.assembler.head.AssemblerHead.remove_front.Goals.{then-self-ne0-via-then-self-ne0}
 use Rattle.net_assembler.proofs.assembler.head.AssemblerHead.remove_front.Goals.{then-self-ne0-via-else-self-ne0+then-self-eq0}

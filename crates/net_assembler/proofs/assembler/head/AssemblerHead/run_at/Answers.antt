@@ -3,7 +3,7 @@ use Rattle.std.specs.Prelude.{Some}
 use Rattle.std.specs.List.{slice_get}
 use Rattle.std.proofs.lemmas.Option.{slice_get-get_or, slice_get_past}
 use Rattle.net_assembler.specs.RunLists.{runs_of}
-use Rattle.net_assembler.proofs.Heads.{length-runs_of, maximal_runs-set_of, pair_fits, pair_rises, run_at}
+use Rattle.net_assembler.proofs.SoundHeads.{length-runs_of, maximal_runs-set_of, pair_fits, pair_rises, run_at}
 use Rattle.net_assembler.proofs.assembler.head.AssemblerHead.run_at.Goals as goal
 
 pub overflow_add-start : goal.overflow_add-start

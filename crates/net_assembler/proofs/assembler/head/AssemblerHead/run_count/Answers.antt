@@ -1,5 +1,5 @@
 use Rattle.std.proofs.Common.{sym}
-use Rattle.net_assembler.proofs.Heads.{runs-set_of}
+use Rattle.net_assembler.proofs.SoundHeads.{runs-set_of}
 use Rattle.net_assembler.proofs.assembler.head.AssemblerHead.run_count.Goals as goal
 
 pub returns-clause-count : goal.returns-clause-count

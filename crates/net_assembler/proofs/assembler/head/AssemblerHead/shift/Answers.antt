@@ -3,9 +3,9 @@ use Rattle.net_assembler.specs.Positions.{shift_down}
 use Rattle.net_assembler.specs.RunLists.{runs_of, set_of, set_of_runs, used_runs}
 use Rattle.net_assembler.proofs.Runs.{set-shifted_down}
 use Rattle.net_assembler.proofs.ShiftedRuns.{down-less, down-none}
-use Rattle.net_assembler.proofs.Heads.{cut_fits, cut_left, cut_rises, dropped_number, ends_rise, left_set}
-use Rattle.net_assembler.proofs.Heads.{length-runs_of, length-used_runs, lowered, pairs_apart, runs-set_of}
-use Rattle.net_assembler.proofs.Heads.{starts_by}
+use Rattle.net_assembler.proofs.SoundHeads.{cut_fits, cut_left, cut_rises, dropped_number, ends_rise, left_set}
+use Rattle.net_assembler.proofs.SoundHeads.{length-runs_of, length-used_runs, lowered, pairs_apart, runs-set_of}
+use Rattle.net_assembler.proofs.SoundHeads.{starts_by}
 use Rattle.net_assembler.proofs.assembler.head.AssemblerHead.shift.Goals as goal
 
 pub returns-then-count-self-clause-sound : goal.returns-then-count-self-clause-sound

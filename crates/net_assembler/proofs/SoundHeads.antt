@@ -9,26 +9,24 @@ use Rattle.net_assembler.specs.declared.assembler.head.AssemblerHead.{AssemblerH
 use Rattle.net_assembler.specs.AssemblerLaws.{Adds, AddsThenRemovesFront}
 use Rattle.net_assembler.specs.Heads.{AddsInPlace, FrontEnds}
 use Rattle.net_assembler.specs.Turns.{TurnsWithin, binary_digits}
-use Rattle.net_assembler.specs.Positions.{Positions, front, holes, holes_before, runs, runs_shifted_up}
-use Rattle.net_assembler.specs.Positions.{contains, with_range, maximal_runs, shift_down}
-use Rattle.net_assembler.specs.RunLists.{start_at, end_at, AreRuns, HasSoundRuns, StartsAtZero, FitsFrom}
-use Rattle.net_assembler.specs.RunLists.{used_runs, runs_of, set_of, set_of_runs, runs_with_range}
-use Rattle.net_assembler.specs.RunLists.{runs_shifted_down}
+use Rattle.net_assembler.specs.Positions.{Positions, front, holes, holes_before, runs, runs_shifted_up, contains}
+use Rattle.net_assembler.specs.Positions.{with_range, maximal_runs, shift_down}
+use Rattle.net_assembler.specs.RunLists.{start_at, end_at, AreRuns, HasSoundRuns, StartsAtZero, FitsFrom, used_runs}
+use Rattle.net_assembler.specs.RunLists.{runs_of, set_of, set_of_runs, runs_with_range, runs_shifted_down}
 use Rattle.std.proofs.lemmas.Bool.{cases_lt}
 use Rattle.std.proofs.Math.Seq.{take-set-lt}
-use Rattle.net_assembler.proofs.MaximalRuns.{one_run_more}
-use Rattle.net_assembler.proofs.Positions.{either, too_many}
-use Rattle.net_assembler.proofs.Runs.{rising-runs_with_range, set-shifted_down, front_of_runs, step_after, step_before, step_meets}
-use Rattle.net_assembler.proofs.Runs.{contains-set_of_runs, front-set_of_runs, runs-set_of_runs, maximal_runs-set_of_runs}
-use Rattle.net_assembler.proofs.Runs.{set_of_runs_injective, set-runs_with_range, runs-runs_with_range}
-use Rattle.net_assembler.proofs.RunLists.{front_none, shift_down-zero, Completed, completed_at, at_run, apart}
-use Rattle.net_assembler.proofs.RunLists.{front_some, shifted_down_set, with_range-none, top_of}
-use Rattle.net_assembler.proofs.ShiftedRuns.{end_at-up, top_before, down-zero, start_at-up}
-use Rattle.net_assembler.proofs.ShiftedRuns.{first-runs_with_range, up-none}
-use Rattle.net_assembler.proofs.ShiftedRuns.{fits-runs_with_range, fits-up, up-runs_with_range, up-up}
-use Rattle.net_assembler.proofs.ShiftedRuns.{zero-runs_with_range, length-up, drop-up, runs-up, down-up}
-use Rattle.net_assembler.proofs.ShiftedRuns.{fits-at, start-up, first_at, get_or-up, up-injective, fits-less}
-use Rattle.net_assembler.proofs.ShiftedRuns.{rising-cut, fits-cut, down-cut, in_runs-fits}
+use Rattle.net_assembler.proofs.Runs.{one_run_more, rising-runs_with_range, set-shifted_down, front_of_runs}
+use Rattle.net_assembler.proofs.Runs.{step_after, step_before, step_meets, contains-set_of_runs, front-set_of_runs}
+use Rattle.net_assembler.proofs.Runs.{runs-set_of_runs, maximal_runs-set_of_runs, set_of_runs_injective}
+use Rattle.net_assembler.proofs.Runs.{set-runs_with_range, runs-runs_with_range}
+use Rattle.net_assembler.proofs.Sets.{either, too_many, shift_down-zero, with_range-none}
+use Rattle.net_assembler.proofs.Joins.{front_none, Completed, completed_at, at_run, apart, front_some}
+use Rattle.net_assembler.proofs.Joins.{shifted_down_set, top_of}
+use Rattle.net_assembler.proofs.ShiftedRuns.{end_at-up, top_before, down-zero, start_at-up, first-runs_with_range}
+use Rattle.net_assembler.proofs.ShiftedRuns.{up-none, fits-runs_with_range, fits-up, up-runs_with_range, up-up}
+use Rattle.net_assembler.proofs.ShiftedRuns.{zero-runs_with_range, length-up, drop-up, runs-up, down-up, fits-at}
+use Rattle.net_assembler.proofs.ShiftedRuns.{start-up, first_at, get_or-up, up-injective, fits-less, rising-cut}
+use Rattle.net_assembler.proofs.ShiftedRuns.{fits-cut, down-cut, in_runs-fits}
 
 module _ (h : AssemblerHead) (xs : List (ℕ × ℕ)) (s : HasSoundRuns h xs) where
   pub length-used_runs : length (used_runs h xs) ≡ h.used

@@ -1,24 +1,22 @@
 -- Where a range joins a list of runs.
-use Rattle.std.proofs.Common.{◌≡◌, ℕ, zero, suc, ◌+◌, ◌-◌, ◌*◌, ◌<◌, ◌≤◌, ◌^◌, max, min, true, false, cond}
-use Rattle.std.proofs.Common.{◌&&◌, ◌||◌, ◌==◌, List, [], ◌∷◌, ◌++◌, length, take, drop, set, nat_le}
-use Rattle.std.proofs.Common.{nat_lt, refl, sym, ap, subst, ◌∙◌, arith, ◌≢◌}
+use Rattle.std.proofs.Common.{◌≡◌, ℕ, zero, suc, ◌+◌, ◌-◌, ◌*◌, ◌<◌, ◌≤◌, ◌^◌, max, min, true, false, cond, ◌&&◌}
+use Rattle.std.proofs.Common.{◌||◌, ◌==◌, List, [], ◌∷◌, ◌++◌, length, take, drop, set, nat_le, nat_lt, refl, sym, ap}
+use Rattle.std.proofs.Common.{subst, ◌∙◌, arith, ◌≢◌}
 use Rattle.std.proofs.Math.Bool.{or-false}
 use Rattle.std.proofs.Math.Nat.{pow-suc}
 use Rattle.std.proofs.Math.Seq.{take-set-lt}
-use Rattle.std.proofs.lemmas.List.{drop_all, append_assoc, length-append}
-use Rattle.std.proofs.lemmas.List.{length-take-le, length-drop, take_more_set, drop-set-lt, take-append-drop}
-use Rattle.std.proofs.lemmas.List.{take-take, get_or-take}
+use Rattle.std.proofs.lemmas.List.{drop_all, append_assoc, length-append, length-take-le, length-drop, take_more_set}
+use Rattle.std.proofs.lemmas.List.{drop-set-lt, take-append-drop, take-take, get_or-take}
 use Rattle.std.proofs.lemmas.Bool.{cases_lt, cases_eq, eq-eqb, ne_eqb, lt-ltb, le-ltb, cond-true, cond-false}
 use Rattle.std.proofs.lemmas.Bool.Decides.{nat_tests}
 use Rattle.net_assembler.specs.Positions.{Positions, contains, nothing, front, with_range, runs, shift_down}
 use Rattle.net_assembler.specs.Positions.{set_of_list}
-use Rattle.net_assembler.specs.RunLists.{start_at, end_at, IsRising, AreRuns, runs_with_range}
-use Rattle.net_assembler.specs.RunLists.{runs_shifted_down, set_of_runs}
-use Rattle.net_assembler.proofs.Positions.{either, same_positions, contains-with_range, contains-shift_down}
+use Rattle.net_assembler.specs.RunLists.{start_at, end_at, IsRising, AreRuns, runs_with_range, runs_shifted_down}
+use Rattle.net_assembler.specs.RunLists.{set_of_runs}
+use Rattle.net_assembler.proofs.Sets.{either, same_positions, contains-with_range, contains-shift_down}
 use Rattle.net_assembler.proofs.Runs.{in_runs, in_first, past_first, not_in_runs, front_of_runs, step_before}
 use Rattle.net_assembler.proofs.Runs.{step_after, step_meets, rising-runs_with_range, front-set_of_runs}
-use Rattle.net_assembler.proofs.Runs.{set_of_runs_injective, set-without_front, runs-set_of_runs}
-use Rattle.net_assembler.proofs.Runs.{set-runs_with_range}
+use Rattle.net_assembler.proofs.Runs.{set_of_runs_injective, set-without_front, runs-set_of_runs, set-runs_with_range}
 
 -- what rising runs say of the run k
 pub at_run : (low : ℕ) (rs : List (ℕ × ℕ)) (k : ℕ) → IsRising low rs → k < length rs → (low ≤ start_at rs k) × (start_at rs k < end_at rs k)
@@ -119,16 +117,6 @@ no_runs (r ∷ rs) e = absurd (omega arith)
 
 pub empty-set_of_runs : (rs : List (ℕ × ℕ)) → AreRuns rs → set_of_runs rs ≡ nothing → length rs ≡ 0
 empty-set_of_runs rs h e = ap length (set_of_runs_injective rs [] h tt (e ∙ set_of_no_runs))
-
-no_range : (o n q : ℕ) → n ≡ 0 → (nat_le o q && nat_lt q (o + n)) ≡ false
-no_range o n q e = grind (arith, nat_tests)
-
--- a set with the range (o, 0) is itself
-pub with_range-none : (s : Positions) (o n : ℕ) → n ≡ 0 → with_range s o n ≡ s
-with_range-none s o n e = same_positions _ _ (λ q. contains-with_range s o n q ∙ ap (λ b. contains s q || b) (no_range o n q e) ∙ or-false (contains s q))
-
-pub shift_down-zero : (s : Positions) (m : ℕ) → m ≡ 0 → shift_down s m ≡ s
-shift_down-zero s m e = same_positions _ _ (λ q. let z : q + m ≡ q = omega arith in contains-shift_down s m q ∙ ap (contains s) z)
 
 -- the removal of the front
 pub shifted_down_set : (rs : List (ℕ × ℕ)) (m : ℕ) → AreRuns rs → m ≡ front (set_of_runs rs) → 0 < m →

@@ -1,6 +1,6 @@
 -- Laws of sets of positions and of what the contracts of an assembler's calls say.
-use Rattle.std.proofs.Common.{◌≡◌, ℕ, zero, suc, ◌+◌, ◌/◌, ◌<◌, ◌≤◌, ◌^◌, ◌&&◌, ◌||◌, ◌==◌, List, []}
-use Rattle.std.proofs.Common.{◌∷◌, length, drop, nat_le, nat_lt, nat_eq, refl, sym, ap, subst, ◌∙◌, arith}
+use Rattle.std.proofs.Common.{◌≡◌, ℕ, zero, suc, ◌+◌, ◌/◌, ◌<◌, ◌≤◌, ◌^◌, ◌&&◌, ◌||◌, ◌==◌, List, [], ◌∷◌, length}
+use Rattle.std.proofs.Common.{drop, nat_le, nat_lt, nat_eq, refl, sym, ap, subst, ◌∙◌, arith}
 use Rattle.std.specs.Prelude.{Option, Some, None, Ok, Err}
 use Rattle.std.specs.List.{list_any}
 use Rattle.std.specs.Int.Digits.{digits_of}
@@ -15,13 +15,11 @@ use Rattle.net_assembler.specs.Turns.{TurnsWithin, binary_digits}
 use Rattle.net_assembler.specs.Assembler.{MakesTooManyRuns}
 use Rattle.net_assembler.specs.AssemblerLaws.{CallsNext, results_of_next, EqualSets, MembersOfList}
 use Rattle.net_assembler.specs.AssemblerLaws.{FirstMissingIsLeast, FrontIsLeastMissing, EqualMaximalRuns}
-use Rattle.net_assembler.specs.AssemblerLaws.{MaximalRunsByNumber, EnoughBinaryDigits, EqualAssemblers}
-use Rattle.net_assembler.specs.AssemblerLaws.{RangeAgain, AddingAgain, AddingInBothOrders}
-use Rattle.net_assembler.specs.AssemblerLaws.{IteratesMaximalRuns}
-use Rattle.net_assembler.proofs.Positions.{has, same_positions, contains-set_of_list}
-use Rattle.net_assembler.proofs.Positions.{contains-with_range, first_missing-misses, first_missing-has}
-use Rattle.net_assembler.proofs.Positions.{first_missing-le, too_many}
-use Rattle.net_assembler.proofs.MaximalRuns.{are_maximal_runs, equal_maximal_runs, run_by_number, no_run_by_number}
+use Rattle.net_assembler.specs.AssemblerLaws.{MaximalRunsByNumber, EnoughBinaryDigits, EqualAssemblers, RangeAgain}
+use Rattle.net_assembler.specs.AssemblerLaws.{AddingAgain, AddingInBothOrders, IteratesMaximalRuns}
+use Rattle.net_assembler.proofs.Sets.{has, same_positions, contains-set_of_list, contains-with_range}
+use Rattle.net_assembler.proofs.Sets.{first_missing-misses, first_missing-has, first_missing-le, too_many}
+use Rattle.net_assembler.proofs.Runs.{are_maximal_runs, equal_maximal_runs, run_by_number, no_run_by_number}
 
 pub equal_sets : EqualSets
 equal_sets s t = (λ e p. ap (λ (u : Positions). contains u p) e, λ is. same_positions s t is)
