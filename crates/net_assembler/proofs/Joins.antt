@@ -104,7 +104,7 @@ rising-drop low [] (suc n) m h above = tt
 rising-drop low (r ∷ rs) zero m h above = (above 0 (omega arith) (omega arith), h.1, h.2)
 rising-drop low (r ∷ rs) (suc n) m h above = rising-drop (r.1 + 1) rs n m h.2 (λ k b d. above (suc k) (omega arith) (omega arith))
 
-set_of_no_runs : nothing ≡ set_of_runs []
+pub set_of_no_runs : nothing ≡ set_of_runs []
 unfolding set_of_runs set_of_list
 set_of_no_runs = refl
 

@@ -214,26 +214,6 @@ pub contains-shift_down : (s : Positions) (m q : ℕ) → contains (shift_down s
 unfolding shift_down
 contains-shift_down s m q = contains-set_of_list _ q ∙ has-shifted m (positions s) q ∙ sym (contains-positions s (q + m))
 
-no_range : (o n q : ℕ) → n ≡ 0 → (nat_le o q && nat_lt q (o + n)) ≡ false
-no_range o n q e = grind (arith, nat_tests)
-
--- a set with the range (o, 0) is itself
-pub with_range-none : (s : Positions) (o n : ℕ) → n ≡ 0 → with_range s o n ≡ s
-with_range-none s o n e = same_positions _ _ (λ q. contains-with_range s o n q ∙ ap (λ b. contains s q || b) (no_range o n q e) ∙ or-false (contains s q))
-
-pub shift_down-zero : (s : Positions) (m : ℕ) → m ≡ 0 → shift_down s m ≡ s
-shift_down-zero s m e = same_positions _ _ (λ q. let z : q + m ≡ q = omega arith in contains-shift_down s m q ∙ ap (contains s) z)
-
--- there is one maximal run for each start
-pub runs-maximal_runs : (s : Positions) → runs s ≡ length (maximal_runs s)
-unfolding maximal_runs runs
-runs-maximal_runs s = sym (length-map (run_starts s) (λ p. (p, first_missing s p)))
-
--- a set that was shifted up
-rises_up : (n low high : ℕ) (ks : List ℕ) → high ≤ n + low → Rises low ks → Rises high (map (λ p. n + p) ks)
-rises_up n low high [] l h = tt
-rises_up n low high (k ∷ ks) l h = (omega (arith, h.0), rises_up n (k + 1) (n + k + 1) ks (omega arith) h.1)
-
 up_step : (n k q : ℕ) (b : Bool) → ((q == n + k) || (nat_le n q && b)) ≡ (nat_le n q && ((q - n == k) || b))
 up_step n k q true = grind (arith, nat_tests)
 up_step n k q false = grind (arith, nat_tests)
@@ -245,6 +225,26 @@ has-up n (k ∷ ks) q = ap (λ b. (q == n + k) || b) (has-up n ks q) ∙ up_step
 pub contains-shift_up : (s : Positions) (n q : ℕ) → contains (shift_up s n) q ≡ (nat_le n q && contains s (q - n))
 unfolding shift_up
 contains-shift_up s n q = contains-set_of_list _ q ∙ has-up n (positions s) q ∙ ap (λ b. nat_le n q && b) (sym (contains-positions s (q - n)))
+
+-- what is in a set that was made from others
+pub ruleset sets = (contains-with_range, contains-shift_up, contains-shift_down, contains-nothing, nat_tests)
+
+-- a set with the range (o, 0) is itself
+pub with_range-none : (s : Positions) (o n : ℕ) → n ≡ 0 → with_range s o n ≡ s
+with_range-none s o n e = same_positions _ _ (λ q. grind (arith, sets))
+
+pub shift_down-zero : (s : Positions) (m : ℕ) → m ≡ 0 → shift_down s m ≡ s
+shift_down-zero s m e = same_positions _ _ (λ q. grind (arith, sets))
+
+-- there is one maximal run for each start
+pub runs-maximal_runs : (s : Positions) → runs s ≡ length (maximal_runs s)
+unfolding maximal_runs runs
+runs-maximal_runs s = sym (length-map (run_starts s) (λ p. (p, first_missing s p)))
+
+-- a set that was shifted up
+rises_up : (n low high : ℕ) (ks : List ℕ) → high ≤ n + low → Rises low ks → Rises high (map (λ p. n + p) ks)
+rises_up n low high [] l h = tt
+rises_up n low high (k ∷ ks) l h = (omega (arith, h.0), rises_up n (k + 1) (n + k + 1) ks (omega arith) h.1)
 
 filter_up : (f g : ℕ → Bool) (n : ℕ) (ks : List ℕ) → ((k : ℕ) → f (n + k) ≡ g k) → filter f (map (λ p. n + p) ks) ≡ map (λ p. n + p) (filter g ks)
 filter_up f g n [] same = refl
