@@ -19,10 +19,12 @@ use Rattle.net_assembler.specs.Turns.{TurnsWithin, binary_digits}
 use Rattle.net_assembler.specs.Assembler.{MakesTooManyRuns}
 use Rattle.net_assembler.specs.AssemblerLaws.{Adds, Compares, Iterates, CallsNext, results_of_next, EqualMaximalRuns}
 use Rattle.net_assembler.specs.AssemblerLaws.{with_ranges, lies_in_some}
-use Rattle.net_assembler.proofs.Sets.{sets, has, same_positions, contains-set_of_list, contains-nothing, contains-with_range}
-use Rattle.net_assembler.proofs.Sets.{contains-shift_down, contains-shift_up, first_missing-misses, first_missing-has}
-use Rattle.net_assembler.proofs.Sets.{first_missing-le, maximal_runs-shift_up, runs-shift_up, too_many}
-use Rattle.net_assembler.proofs.Runs.{are_maximal_runs, equal_maximal_runs, run_by_number, no_run_by_number, one_run_more}
+use Rattle.net_assembler.proofs.Sets.{sets, has, same_positions, contains-set_of_list, contains-nothing}
+use Rattle.net_assembler.proofs.Sets.{contains-with_range, contains-shift_down, contains-shift_up}
+use Rattle.net_assembler.proofs.Sets.{first_missing-misses, first_missing-has, first_missing-le}
+use Rattle.net_assembler.proofs.Sets.{maximal_runs-shift_up, runs-shift_up, too_many}
+use Rattle.net_assembler.proofs.Runs.{are_maximal_runs, equal_maximal_runs, run_by_number, no_run_by_number}
+use Rattle.net_assembler.proofs.Runs.{one_run_more}
 use Rattle.net_assembler.proofs.Joins.{runs-nothing, set_of_no_runs}
 
 list_any-has : (ks : List ℕ) (p : ℕ) → has ks p ≡ list_any (nat_eq p) ks

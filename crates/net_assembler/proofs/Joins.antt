@@ -149,13 +149,13 @@ completed rs n size h l m upto after =
     (first, set-without_front all rises ∙ (λ i. shift_down (set i) (front (set i))) ∙ ap (shift_down (with_range (set_of_runs rs) 0 size)) (sym first))
 
 -- what the first run says of the front
-pub front_none : (rs : List (ℕ × ℕ)) → (0 < length rs → start_at rs 0 ≢ 0) → 0 ≡ front_of_runs rs
-front_none [] h = refl
-front_none (r ∷ rs) h = sym (cond-false _ _ _ (ne_eqb r.0 0 (h (omega arith))))
+pub front_of_runs-none : (rs : List (ℕ × ℕ)) → (0 < length rs → start_at rs 0 ≢ 0) → 0 ≡ front_of_runs rs
+front_of_runs-none [] h = refl
+front_of_runs-none (r ∷ rs) h = sym (cond-false _ _ _ (ne_eqb r.0 0 (h (omega arith))))
 
-pub front_some : (rs : List (ℕ × ℕ)) → 0 < length rs → start_at rs 0 ≡ 0 → end_at rs 0 ≡ front_of_runs rs
-front_some [] l h = absurd (omega arith)
-front_some (r ∷ rs) l h = sym (cond-true _ _ _ (eq-eqb r.0 0 h))
+pub front_of_runs-some : (rs : List (ℕ × ℕ)) → 0 < length rs → start_at rs 0 ≡ 0 → end_at rs 0 ≡ front_of_runs rs
+front_of_runs-some [] l h = absurd (omega arith)
+front_of_runs-some (r ∷ rs) l h = sym (cond-true _ _ _ (eq-eqb r.0 0 h))
 
 start-drop : (rs : List (ℕ × ℕ)) (k : ℕ) → start_at (drop k rs) 0 ≡ start_at rs k
 start-drop rs zero = refl

@@ -15,7 +15,7 @@ use Rattle.std.specs.FinMap.{nat_cmp-IsAntisymmetric, entries_sorted}
 use Rattle.std.specs.FinMap.Entries.{is_sorted, below_all, is_some-find}
 use Rattle.std.proofs.lemmas.Bool.Decides.{nat_tests, Decides-and, Decides-ltb}
 use Rattle.net_assembler.specs.Assembler.{MakesTooManyRuns, makes_too_many_runs}
-use Rattle.net_assembler.specs.Positions.{Positions, contains, positions, set_of_list, nothing, with_range}
+use Rattle.net_assembler.specs.Positions.{front, Positions, contains, positions, set_of_list, nothing, with_range}
 use Rattle.net_assembler.specs.Positions.{begins_run, run_starts, runs, maximal_runs, runs_shifted_up, shift_down}
 use Rattle.net_assembler.specs.Positions.{shift_up, bound_of, missing_within, first_missing, are_same}
 use Rattle.std.specs.Cmp.Lexicographic.{bytes_decides}
@@ -235,6 +235,15 @@ with_range-none s o n e = same_positions _ _ (λ q. grind (arith, sets))
 
 pub shift_down-zero : (s : Positions) (m : ℕ) → m ≡ 0 → shift_down s m ≡ s
 shift_down-zero s m e = same_positions _ _ (λ q. grind (arith, sets))
+
+-- a set with the positions below n, where n is missing: n is the front, and what is after it is as it was
+pub front-with_range : (s : Positions) (n : ℕ) → contains s n ≡ false → front (with_range s 0 n) ≡ n
+unfolding front
+front-with_range s n misses =
+    first_missing-is _ 0 n (omega arith) (contains-with_range s 0 n n ∙ grind (arith, nat_tests)) (λ q l m. contains-with_range s 0 n q ∙ grind (arith, nat_tests))
+
+pub shift_down-with_range : (s : Positions) (m n : ℕ) → m ≤ n → shift_down (with_range s 0 m) n ≡ shift_down s n
+shift_down-with_range s m n l = same_positions _ _ (λ q. grind (arith, sets))
 
 -- there is one maximal run for each start
 pub runs-maximal_runs : (s : Positions) → runs s ≡ length (maximal_runs s)

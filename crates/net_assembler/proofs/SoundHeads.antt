@@ -1,7 +1,18 @@
 -- A head and runs that are those of an assembler: its runs as a list, and their set.
 use Rattle.std.proofs.Common.{◌≡◌, ℕ, ◌+◌, ◌-◌, ◌*◌, ◌<◌, ◌≤◌, ◌^◌, List, [], ◌∷◌, length, take, drop, set, get_or}
 use Rattle.std.proofs.Common.{max, min, refl, sym, ap, subst, ◌∙◌, arith}
-use Rattle.std.specs.Prelude.{Result, Ok, Err, IsOk, IsErr, IsTrue, OnErr}
+use Rattle.std.specs.List.{slice_get}
+use Rattle.std.proofs.lemmas.Option.{slice_get-get_or, slice_get_past}
+use Rattle.net_assembler.proofs.Holes.{few_holes, hole_between, no_hole, rises_after}
+use Rattle.net_assembler.specs.RunLists.{IsRising, start_at, end_at, AreRuns, HasSoundRuns, StartsAtZero, FitsFrom}
+use Rattle.net_assembler.specs.RunLists.{used_runs, runs_of, set_of, set_of_runs, runs_with_range, runs_shifted_down}
+use Rattle.net_assembler.proofs.ShiftedRuns.{down-less, down-none, in_runs-up, in_runs-below, end_at-up, top_before}
+use Rattle.net_assembler.proofs.ShiftedRuns.{down-zero, start_at-up, first-runs_with_range, up-none}
+use Rattle.net_assembler.proofs.ShiftedRuns.{fits-runs_with_range, fits-up, up-runs_with_range, up-up}
+use Rattle.net_assembler.proofs.ShiftedRuns.{zero-runs_with_range, length-up, drop-up, runs-up, down-up, fits-at}
+use Rattle.net_assembler.proofs.ShiftedRuns.{start-up, first_at, get_or-up, up-injective, fits-less, rising-cut}
+use Rattle.net_assembler.proofs.ShiftedRuns.{fits-cut, down-cut, in_runs-fits}
+use Rattle.std.specs.Prelude.{false, suc, Some, None, Result, Ok, Err, IsOk, IsErr, IsTrue, OnErr}
 use Rattle.std.proofs.lemmas.List.{nil_from_length, length-map, length-take-le, length-drop, get_or-take}
 use Rattle.net_assembler.specs.Width.{shortfall}
 use Rattle.net_assembler.specs.declared.assembler.error.TooManyHolesError.{TooManyHolesError}
@@ -11,22 +22,17 @@ use Rattle.net_assembler.specs.Heads.{AddsInPlace, FrontEnds}
 use Rattle.net_assembler.specs.Turns.{TurnsWithin, binary_digits}
 use Rattle.net_assembler.specs.Positions.{Positions, front, holes, holes_before, runs, runs_shifted_up, contains}
 use Rattle.net_assembler.specs.Positions.{with_range, maximal_runs, shift_down}
-use Rattle.net_assembler.specs.RunLists.{start_at, end_at, AreRuns, HasSoundRuns, StartsAtZero, FitsFrom, used_runs}
-use Rattle.net_assembler.specs.RunLists.{runs_of, set_of, set_of_runs, runs_with_range, runs_shifted_down}
 use Rattle.std.proofs.lemmas.Bool.{cases_lt}
 use Rattle.std.proofs.Math.Seq.{take-set-lt}
 use Rattle.net_assembler.proofs.Runs.{one_run_more, rising-runs_with_range, set-shifted_down, front_of_runs}
 use Rattle.net_assembler.proofs.Runs.{step_after, step_before, step_meets, contains-set_of_runs, front-set_of_runs}
 use Rattle.net_assembler.proofs.Runs.{runs-set_of_runs, maximal_runs-set_of_runs, set_of_runs_injective}
 use Rattle.net_assembler.proofs.Runs.{set-runs_with_range, runs-runs_with_range}
-use Rattle.net_assembler.proofs.Sets.{either, too_many, shift_down-zero, with_range-none}
-use Rattle.net_assembler.proofs.Joins.{front_none, Completed, completed_at, at_run, apart, front_some}
-use Rattle.net_assembler.proofs.Joins.{shifted_down_set, top_of}
-use Rattle.net_assembler.proofs.ShiftedRuns.{end_at-up, top_before, down-zero, start_at-up, first-runs_with_range}
-use Rattle.net_assembler.proofs.ShiftedRuns.{up-none, fits-runs_with_range, fits-up, up-runs_with_range, up-up}
-use Rattle.net_assembler.proofs.ShiftedRuns.{zero-runs_with_range, length-up, drop-up, runs-up, down-up, fits-at}
-use Rattle.net_assembler.proofs.ShiftedRuns.{start-up, first_at, get_or-up, up-injective, fits-less, rising-cut}
-use Rattle.net_assembler.proofs.ShiftedRuns.{fits-cut, down-cut, in_runs-fits}
+use Rattle.net_assembler.proofs.Joins.{no_runs, runs-nothing, set_of_no_runs, front_of_runs-none, Completed}
+use Rattle.net_assembler.proofs.Joins.{completed_at, at_run, apart, front_of_runs-some, shifted_down_set, top_of}
+use Rattle.net_assembler.proofs.Sets.{contains-nothing, front-with_range, shift_down-with_range, either, too_many}
+use Rattle.net_assembler.proofs.Sets.{shift_down-zero, with_range-none}
+use Rattle.net_assembler.proofs.Calls.{few_binary_digits}
 
 module _ (h : AssemblerHead) (xs : List (ℕ × ℕ)) (s : HasSoundRuns h xs) where
   pub length-used_runs : length (used_runs h xs) ≡ h.used
@@ -89,20 +95,43 @@ module _ (h : AssemblerHead) (xs : List (ℕ × ℕ)) (s : HasSoundRuns h xs) wh
       get_or-up h.first_start (used_runs h xs) k (omega (arith, length-used_runs))
       ∙ (λ i. (h.first_start + start_of k l i, h.first_start + end_of k l i))
 
+  pub run_listed : (k : ℕ) → k < h.used →
+      slice_get (maximal_runs (set_of h xs)) k ≡ Some (h.first_start + start_at xs k, h.first_start + end_at xs k)
+  run_listed k l =
+      ap (λ rs. slice_get rs k) maximal_runs-set_of ∙ slice_get-get_or (runs_of h xs) k (0, 0) (omega (arith, length-runs_of))
+      ∙ ap Some (run_at k l)
+
+  pub no_run_listed : (k : ℕ) → h.used ≤ k → slice_get (maximal_runs (set_of h xs)) k ≡ None
+  no_run_listed k l =
+      ap (λ rs. slice_get rs k) maximal_runs-set_of ∙ slice_get_past (runs_of h xs) k (omega (arith, length-runs_of))
+
+  -- the hole after the run k
+  pub hole_after : (k : ℕ) → k + 1 < h.used → slice_get (holes_before (end_at (runs_of h xs) 0) (drop 1 (runs_of h xs))) k
+      ≡ Some (h.first_start + end_at xs k, h.first_start + start_at xs (k + 1))
+  hole_after k l =
+      let next : suc k ≡ k + 1 = omega arith in
+      hole_between 0 (runs_of h xs) k are_runs (omega (arith, length-runs_of))
+      ∙ (λ i. Some (end_at (runs_of h xs) k, start_at (runs_of h xs) (next i)))
+      ∙ (λ i. Some ((run_at k (omega arith) i).1, (run_at (k + 1) l i).0))
+
+  pub no_hole_after : (k : ℕ) → h.used ≤ k + 1 →
+      slice_get (holes_before (end_at (runs_of h xs) 0) (drop 1 (runs_of h xs))) k ≡ None
+  no_hole_after k l = no_hole (runs_of h xs) k (omega (arith, length-runs_of))
+
   pub run_start : 0 < h.used → start_at (runs_of h xs) 0 ≡ h.first_start
   run_start l = start-up h.first_start (used_runs h xs) (omega (arith, length-used_runs)) s.first
 
   -- no run at 0
   pub no_front : (0 < h.used → 0 < h.first_start) → 0 ≡ front (set_of h xs)
   no_front later =
-      front_none (runs_of h xs) (λ l e. let some = length-runs_of in absurd (omega (arith, run_start (omega arith), later (omega arith))))
+      front_of_runs-none (runs_of h xs) (λ l e. let some = length-runs_of in absurd (omega (arith, run_start (omega arith), later (omega arith))))
       ∙ sym front-set_of
 
   -- a run at 0
   pub first_front : 0 < h.used → h.first_start ≡ 0 → end_at xs 0 ≡ front (set_of h xs)
   first_front some zeroth =
       let ends = end_at-up h.first_start (used_runs h xs) 0 (omega (arith, length-used_runs)) in
-      let is = front_some (runs_of h xs) (omega (arith, length-runs_of)) (omega (arith, run_start some)) in
+      let is = front_of_runs-some (runs_of h xs) (omega (arith, length-runs_of)) (omega (arith, run_start some)) in
       omega (arith, is, front-set_of, ends, end_of 0 some)
 
   -- what is left of the pairs, counted lower
@@ -118,27 +147,69 @@ module _ (h : AssemblerHead) (xs : List (ℕ × ℕ)) (s : HasSoundRuns h xs) wh
       either (cases_lt 0 (n - 1)) (λ b. before (n - 1) b (omega arith))
       (λ b. let zeroth : n - 1 ≡ 0 = omega arith in omega (arith, ap (start_at xs) zeroth, first_pair (omega arith)))
 
+  -- a position is in the set if it is in the runs, counted from where the first of them starts
+  pub fits_from : (m : ℕ) → m ≤ h.first_start → FitsFrom m (used_runs h xs)
+  fits_from m l = fits-less m h.first_start (used_runs h xs) l s.fits
+
+  pub contains-from : (q : ℕ) → h.first_start ≤ q →
+      contains (set_of h xs) q ≡ contains (set_of_runs (used_runs h xs)) (q - h.first_start)
+  contains-from q l =
+      contains-set_of_runs (runs_of h xs) q ∙ in_runs-up h.first_start (used_runs h xs) q l
+      ∙ sym (contains-set_of_runs (used_runs h xs) (q - h.first_start))
+
+  pub contains-below : (q : ℕ) → q < h.first_start → contains (set_of h xs) q ≡ false
+  contains-below q l = contains-set_of_runs (runs_of h xs) q ∙ in_runs-below h.first_start (used_runs h xs) q l
+
+  pub contains-none : (q : ℕ) → h.used ≡ 0 → contains (set_of h xs) q ≡ false
+  contains-none q e = ap (λ (t : Positions). contains t q) (no_runs (runs_of h xs) (length-runs_of ∙ e)) ∙ contains-nothing q
+
+  -- runs that start later rise from 1 on, and those after the first from its end
+  pub later_runs : 0 < h.first_start → IsRising 1 (maximal_runs (set_of h xs))
+  later_runs l = subst (IsRising 1) (sym maximal_runs-set_of)
+      (rises_after (runs_of h xs) are_runs (λ some. omega (arith, run_start (omega (arith, length-runs_of)))))
+
+  pub runs_after : (r : ℕ × ℕ) (rest : List (ℕ × ℕ)) → maximal_runs (set_of h xs) ≡ r ∷ rest → IsRising (r.1 + 1) rest
+  runs_after r rest e = (subst (IsRising 0) (sym maximal_runs-set_of ∙ e) are_runs).2
+
   -- each position is below the greatest number of `usize`
   pub position_fits : (p : ℕ) → IsTrue (contains (set_of h xs) p) → p + 1 + shortfall < 2 ^ 64
   position_fits p m = in_runs-fits h.first_start (used_runs h xs) p s.fits (sym (contains-set_of_runs (runs_of h xs) p) ∙ m)
 
   -- where only `first_start` changes
   pub lowered : (m : ℕ) → HasSoundRuns (record { used = h.used; first_start = h.first_start - m }) xs
-  lowered m = record {
-    room = s.room;
-    runs = s.runs;
-    first = s.first;
-    fits = fits-less (h.first_start - m) h.first_start (used_runs h xs) (omega arith) s.fits;
-  }
+  lowered m = record { room = s.room; runs = s.runs; first = s.first; fits = fits_from (h.first_start - m) (omega arith) }
+
+  pub lowered_set : (m : ℕ) → m ≤ h.first_start →
+      set_of (record { used = h.used; first_start = h.first_start - m }) xs ≡ shift_down (set_of h xs) m
+  lowered_set m l =
+      ap set_of_runs (sym (down-less h.first_start m (used_runs h xs) l))
+      ∙ set-shifted_down (runs_of h xs) 0 m (λ k b. absurd (omega arith))
+
+  pub shift_down-none : (m : ℕ) → h.used ≡ 0 → shift_down (set_of h xs) m ≡ set_of h xs
+  shift_down-none m e =
+      sym (set-shifted_down (runs_of h xs) 0 m (λ k b. absurd (omega arith)))
+      ∙ ap set_of_runs (down-none m (runs_of h xs) (length-runs_of ∙ e))
 
   -- what is left of the set where all is counted from m on, and the first n runs end by then
-  pub left_set : (n m : ℕ) (g : AssemblerHead) (ys : List (ℕ × ℕ)) → n ≤ h.used →
-      ((k : ℕ) → k < n → end_at xs k ≤ m) → runs_of g ys ≡ runs_shifted_down m (drop n (used_runs h xs)) →
-      set_of g ys ≡ shift_down (set_of h xs) (h.first_start + m)
-  left_set n m g ys few ends e =
-      ap set_of_runs (e ∙ dropped n m (h.first_start + m) refl)
-      ∙ set-shifted_down (runs_of h xs) n (h.first_start + m)
-      (λ k l. let at = ap (λ (r : ℕ × ℕ). r.1) (run_at k (omega arith)) in let by = ends k l in omega arith)
+  pub left_set : (n m top : ℕ) (g : AssemblerHead) (ys : List (ℕ × ℕ)) → n ≤ h.used → (0 < n → end_at xs (n - 1) ≤ m) →
+      top ≡ h.first_start + m → runs_of g ys ≡ runs_shifted_down m (drop n (used_runs h xs)) → set_of g ys ≡ shift_down (set_of h xs) top
+  left_set n m top g ys few last is e =
+      ap set_of_runs (e ∙ dropped n m top is)
+      ∙ set-shifted_down (runs_of h xs) n top (λ k l.
+      let at = ap (λ (r : ℕ × ℕ). r.1) (run_at k (omega arith)) in
+      let by = ends_rise k (n - 1) (omega arith) (omega arith) in
+      omega (arith, last (omega arith)))
+
+  pub left_after_front : (m : ℕ) (g : AssemblerHead) (ys : List (ℕ × ℕ)) → 0 < h.used → h.first_start ≡ 0 → m ≡ end_at xs 0 →
+      runs_of g ys ≡ runs_shifted_down m (drop 1 (used_runs h xs)) → set_of g ys ≡ shift_down (set_of h xs) (front (set_of h xs))
+  left_after_front m g ys some zeroth is e =
+      left_set 1 m (front (set_of h xs)) g ys some (λ _. omega arith) (omega (arith, first_front some zeroth)) e
+
+  pub front_none : h.used ≡ 0 → front (set_of h xs) ≡ 0
+  front_none e = sym (no_front (λ some. absurd (omega arith)))
+
+  pub front_later : 0 < h.first_start → front (set_of h xs) ≡ 0
+  front_later l = sym (no_front (λ _. l))
 
   -- the run n begins at m instead
   module _ (n m e : ℕ) (l : n < h.used) (is : e ≡ end_at xs n) (a : start_at xs n ≤ m) (b : m < e) where
@@ -157,6 +228,10 @@ module _ (h : AssemblerHead) (xs : List (ℕ × ℕ)) (s : HasSoundRuns h xs) wh
     cut_left =
         ap (λ rs. runs_shifted_down m (drop n rs)) cut_used
         ∙ down-cut (used_runs h xs) n m (omega (arith, a, start_of n l))
+
+pub lowered_runs : (h : AssemblerHead) (xs : List (ℕ × ℕ)) → HasSoundRuns h xs → (m : ℕ) →
+    runs (set_of (record { used = h.used; first_start = h.first_start - m }) xs) ≡ h.used
+lowered_runs h xs s m = runs-set_of _ _ (lowered h xs s m)
 
 pub holes-set_of : (h : AssemblerHead) (xs : List (ℕ × ℕ)) → HasSoundRuns h xs → holes (set_of h xs) ≡ holes_before 0 (runs_of h xs)
 unfolding holes
@@ -321,25 +396,17 @@ searched h xs o k r g ys old counts new all few most same looks = record {
   };
 }
 
--- data that comes next, and reaches no run
-pub next_alone : (h : AssemblerHead) (xs : List (ℕ × ℕ)) → HasSoundRuns h xs → (k : ℕ) → (0 < h.used → k < h.first_start) →
-    Completed (runs_of h xs) 0 k k
-next_alone h xs s k gap =
-    let count = length-runs_of h xs s in
-    let pairs = length-used_runs h xs s in
-    either (cases_lt 0 k)
-    (λ l.
-    completed_at (runs_of h xs) 0 k k (are_runs h xs s) l (omega arith) (λ i a. absurd (omega arith))
-    (λ i a b. let g = gap (omega arith) in omega (arith, start_at-up h.first_start (used_runs h xs) i (omega arith))) refl)
-    (λ l.
-    let none : k ≡ 0 = omega arith in
-    let same = with_range-none (set_of h xs) 0 k none in
-    let missing = front_none (runs_of h xs)
-    (λ m e. let g = gap (omega arith) in absurd (omega (arith, e, run_start h xs s (omega arith)))) in (
-      none ∙ missing ∙ sym (front-set_of h xs s) ∙ ap front (sym same),
-      ap set_of_runs (down-zero k (runs_of h xs) none) ∙ sym (shift_down-zero (set_of h xs) k none)
-          ∙ ap (λ u. shift_down u k) (sym same),
-    ))
+-- data that comes next, and reaches no run, is the front and removed
+pub next_removed : (most_runs o n : ℕ) (s t : Positions) → o ≡ 0 → contains s n ≡ false → t ≡ shift_down s n → runs t ≤ most_runs →
+    AddsThenRemovesFront most_runs s o n (Ok n) t
+next_removed most_runs o n s t z misses e few = record {
+  value = (
+    sym (ap (λ k. front (with_range s k n)) z ∙ front-with_range s n misses),
+    e ∙ sym (ap (λ k. shift_down (with_range s k n) n) z ∙ shift_down-with_range s n n (omega arith)),
+  );
+  refused = (λ f. absurd (cc), λ over. absurd (omega (arith, over.0)));
+  bound = few;
+}
 
 -- data that comes next, and reaches the first n runs: end is where the front ends, counted as the runs are
 pub reached : (h : AssemblerHead) (xs : List (ℕ × ℕ)) → HasSoundRuns h xs → (n size end : ℕ) → 1 ≤ n → n ≤ h.used →
@@ -478,3 +545,11 @@ both_accepted n s o k (Err e) t a few =
     let over = (too_many n s o k).0 (a.refused.0 refl).1 in
     let more = one_run_more s o k in
     absurd (omega (arith, over.1))
+
+pub ruleset heads = (length-used_runs, length-runs_of, are_runs, runs-set_of, few_held, maximal_runs-set_of, front-set_of, pair_rises, run_listed,
+  pairs_apart, pair_fits, first_pair, run_start, no_front, first_front, lowered, holes-set_of, set_of_no_runs, runs-nothing, no_run_listed,
+  hole_after, no_hole_after, fits_from, contains-from, contains-below, later_runs, few_holes,
+  front_none, lowered_runs, front_later, shift_down-zero, left_set,
+  left_after_front, lowered_set, shift_down-none)
+
+pub ruleset assemblers = (few_held, runs-nothing, set_of_no_runs, added_accepted, added_more, both_accepted, few_binary_digits)

@@ -1,4 +1,5 @@
 //! The assembler of ranges that arrive out of order.
+#![tactic(auto, using(crate::proofs::SoundHeads::assemblers))]
 ghost use Rattle.std.specs.Prelude.{◌≡◌, ◌+◌, ◌<◌, ◌≤◌, ◌*◌, ◌↔◌, length, Some, IsTrue, IsOk, IsErr, IfSome};
 ghost use Rattle.std.specs.Prelude.{OnOk, OnErr, MatchResult};
 ghost use Rattle.std.specs.List.{slice_get};

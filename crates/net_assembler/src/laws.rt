@@ -30,9 +30,7 @@ pub fn ranges_in_any_order()
         with_ranges s ranges ≡ with_ranges s others }
     ensures reordered { (s : Positions) (ranges others : List (ℕ × ℕ)) →
         IsPermutation ranges others → with_ranges s ranges ≡ with_ranges s others }
-{
-    members();
-}
+{}
 
 /// States that a number of type `usize` is a number of the machine's `usize`, however many bits that has.
 ///
