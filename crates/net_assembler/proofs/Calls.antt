@@ -1,12 +1,11 @@
 -- Laws of sets of positions and of an assembler's calls, and how many binary digits a number has.
-use Rattle.std.proofs.Common.{◌≡◌, ℕ, zero, suc, ◌+◌, ◌-◌, ◌/◌, ◌<◌, ◌≤◌, ◌^◌, Bool, ◌&&◌, ◌||◌, ◌==◌, List, [], ◌∷◌}
-use Rattle.std.proofs.Common.{length, drop, nat_le, nat_lt, nat_eq, refl, sym, ap, subst, ◌∙◌, arith}
-use Rattle.std.specs.Prelude.{Option, Some, None, Result, Ok, Err, IsTrue, IsErr, OnOk, OnErr, ◌↔◌}
-use Rattle.std.specs.List.{list_any, slice_get}
+use Rattle.std.proofs.Common.{◌||◌, ◌≡◌, ℕ, zero, suc, ◌+◌, ◌/◌, ◌<◌, ◌≤◌, ◌^◌, Bool, ◌==◌, List, [], ◌∷◌, length}
+use Rattle.std.proofs.Common.{nat_eq, refl, sym, ap, ◌∙◌, arith}
+use Rattle.std.specs.Prelude.{Result, Ok, Err, IsTrue, IsErr, OnOk, OnErr, ◌↔◌}
+use Rattle.std.specs.List.{list_any}
 use Rattle.std.specs.List.Sorted.{IsPermutation}
 use Rattle.std.specs.Int.Digits.{digits_of}
-use Rattle.std.proofs.Math.Bool.{or_assoc, or_comm, or_self, or-false}
-use Rattle.std.proofs.Math.Seq.{drop-nil}
+use Rattle.std.proofs.Math.Bool.{or_assoc, or-false}
 use Rattle.std.proofs.Math.Nat.{pow-suc}
 use Rattle.std.proofs.Math.Pow.{pow_mono}
 use Rattle.std.proofs.lemmas.Nat.{pow_pos}
@@ -14,17 +13,15 @@ use Rattle.std.proofs.lemmas.Int.Digits.{length-digits_of_step, length-digits_of
 use Rattle.std.proofs.lemmas.List.Sorted.{list_any-IsPermutation}
 use Rattle.net_assembler.specs.declared.assembler.error.TooManyHolesError.{TooManyHolesError}
 use Rattle.net_assembler.specs.Positions.{Positions, contains, with_range, first_missing, front, runs, maximal_runs}
-use Rattle.net_assembler.specs.Positions.{set_of_list, lies_in, IsFirstMissing, IsMaximalRun, AreMaximalRuns}
+use Rattle.net_assembler.specs.Positions.{set_of_list, lies_in, IsFirstMissing}
 use Rattle.net_assembler.specs.Turns.{TurnsWithin, binary_digits}
 use Rattle.net_assembler.specs.Assembler.{MakesTooManyRuns}
-use Rattle.net_assembler.specs.AssemblerLaws.{Adds, Compares, Iterates, CallsNext, results_of_next, EqualMaximalRuns}
-use Rattle.net_assembler.specs.AssemblerLaws.{with_ranges, lies_in_some}
+use Rattle.net_assembler.specs.AssemblerLaws.{Compares, EqualMaximalRuns, with_ranges, lies_in_some}
 use Rattle.net_assembler.proofs.Sets.{sets, has, same_positions, contains-set_of_list, contains-nothing}
 use Rattle.net_assembler.proofs.Sets.{contains-with_range, contains-shift_down, contains-shift_up}
 use Rattle.net_assembler.proofs.Sets.{first_missing-misses, first_missing-has, first_missing-le}
 use Rattle.net_assembler.proofs.Sets.{maximal_runs-shift_up, runs-shift_up, too_many}
-use Rattle.net_assembler.proofs.Runs.{are_maximal_runs, equal_maximal_runs, run_by_number, no_run_by_number}
-use Rattle.net_assembler.proofs.Runs.{one_run_more}
+use Rattle.net_assembler.proofs.Runs.{equal_maximal_runs, one_run_more}
 use Rattle.net_assembler.proofs.Joins.{runs-nothing, set_of_no_runs}
 
 list_any-has : (ks : List ℕ) (p : ℕ) → has ks p ≡ list_any (nat_eq p) ks

@@ -1,22 +1,16 @@
 -- Where a range joins a list of runs.
-use Rattle.std.proofs.Common.{◌≡◌, ℕ, zero, suc, ◌+◌, ◌-◌, ◌*◌, ◌<◌, ◌≤◌, ◌^◌, max, min, true, false, cond, ◌&&◌}
-use Rattle.std.proofs.Common.{◌||◌, ◌==◌, List, [], ◌∷◌, ◌++◌, length, take, drop, set, nat_le, nat_lt, refl, sym, ap}
-use Rattle.std.proofs.Common.{subst, ◌∙◌, arith, ◌≢◌}
-use Rattle.std.proofs.Math.Bool.{or-false}
+use Rattle.std.proofs.Common.{◌≡◌, ℕ, zero, suc, ◌+◌, ◌-◌, ◌*◌, ◌<◌, ◌≤◌, ◌^◌, max, min, false, List, [], ◌∷◌, ◌++◌}
+use Rattle.std.proofs.Common.{length, take, drop, set, nat_lt, refl, sym, ap, subst, ◌∙◌, arith, ◌≢◌}
 use Rattle.std.proofs.Math.Nat.{pow-suc}
 use Rattle.std.proofs.Math.Seq.{take-set-lt}
 use Rattle.std.proofs.lemmas.List.{drop_all, append_assoc, length-append, length-take-le, length-drop, take_more_set}
 use Rattle.std.proofs.lemmas.List.{drop-set-lt, take-append-drop, take-take, get_or-take}
-use Rattle.std.proofs.lemmas.Bool.{cases_lt, cases_eq, eq-eqb, ne_eqb, lt-ltb, le-ltb, cond-true, cond-false}
-use Rattle.std.proofs.lemmas.Bool.Decides.{nat_tests}
-use Rattle.net_assembler.specs.Positions.{Positions, contains, nothing, front, with_range, runs, shift_down}
-use Rattle.net_assembler.specs.Positions.{set_of_list}
-use Rattle.net_assembler.specs.RunLists.{start_at, end_at, IsRising, AreRuns, runs_with_range, runs_shifted_down}
-use Rattle.net_assembler.specs.RunLists.{set_of_runs}
-use Rattle.net_assembler.proofs.Sets.{either, same_positions, contains-with_range, contains-shift_down}
+use Rattle.std.proofs.lemmas.Bool.{cases_lt, eq-eqb, ne_eqb, lt-ltb, le-ltb, cond-true, cond-false}
+use Rattle.net_assembler.specs.Positions.{nothing, runs, set_of_list}
+use Rattle.net_assembler.specs.RunLists.{start_at, end_at, IsRising, AreRuns, runs_with_range, set_of_runs}
+use Rattle.net_assembler.proofs.Sets.{either}
 use Rattle.net_assembler.proofs.Runs.{in_runs, in_first, past_first, not_in_runs, front_of_runs, step_before}
-use Rattle.net_assembler.proofs.Runs.{step_after, step_meets, rising-runs_with_range, front-set_of_runs}
-use Rattle.net_assembler.proofs.Runs.{set_of_runs_injective, set-without_front, runs-set_of_runs, set-runs_with_range}
+use Rattle.net_assembler.proofs.Runs.{step_after, step_meets, runs-set_of_runs}
 
 -- what rising runs say of the run k
 pub at_run : (low : ℕ) (rs : List (ℕ × ℕ)) (k : ℕ) → IsRising low rs → k < length rs → (low ≤ start_at rs k) × (start_at rs k < end_at rs k)
@@ -114,39 +108,6 @@ runs-nothing = ap runs set_of_no_runs ∙ runs-set_of_runs [] tt
 pub no_runs : (rs : List (ℕ × ℕ)) → length rs ≡ 0 → set_of_runs rs ≡ nothing
 no_runs [] e = sym set_of_no_runs
 no_runs (r ∷ rs) e = absurd (omega arith)
-
-pub empty-set_of_runs : (rs : List (ℕ × ℕ)) → AreRuns rs → set_of_runs rs ≡ nothing → length rs ≡ 0
-empty-set_of_runs rs h e = ap length (set_of_runs_injective rs [] h tt (e ∙ set_of_no_runs))
-
--- the removal of the front
-pub shifted_down_set : (rs : List (ℕ × ℕ)) (m : ℕ) → AreRuns rs → m ≡ front (set_of_runs rs) → 0 < m →
-    set_of_runs (runs_shifted_down m (drop 1 rs)) ≡ shift_down (set_of_runs rs) m
-shifted_down_set [] m h e l = let f = front-set_of_runs [] h in absurd (omega arith)
-shifted_down_set (r ∷ rs) m h e l =
-    let f = front-set_of_runs (r ∷ rs) h in
-    either (cases_eq r.0 0)
-    (λ z. let is : (r.0 == 0) ≡ true = eq-eqb r.0 0 z in
-    ap (λ n. set_of_runs (runs_shifted_down n rs)) (e ∙ f ∙ ap (λ b. cond b r.1 0) is)
-    ∙ ap (λ b. set_of_runs (cond b (runs_shifted_down r.1 rs) (r ∷ rs))) (sym is) ∙ set-without_front (r ∷ rs) h
-    ∙ ap (shift_down (set_of_runs (r ∷ rs))) (sym e))
-    (λ ne. let z = ap (λ b. cond b r.1 0) (ne_eqb r.0 0 ne) in absurd (omega arith))
-
--- a range at 0 that was joined with the first n runs, and removed
-pub completed : (rs : List (ℕ × ℕ)) (n size : ℕ) → AreRuns rs → 0 < size → n ≤ length rs →
-    ((k : ℕ) → k < n → start_at rs k ≤ size) → ((k : ℕ) → n ≤ k → k < length rs → size < start_at rs k) →
-    (top_of rs n size ≡ front (with_range (set_of_runs rs) 0 size)) ×
-    (set_of_runs (runs_shifted_down (top_of rs n size) (drop n rs))
-    ≡ shift_down (with_range (set_of_runs rs) 0 size) (top_of rs n size))
-completed rs n size h l m upto after =
-    let same = absorbed 0 rs n 0 size h (omega arith) m upto after in
-    let top = top_of rs n size in
-    let size_is : size ≡ 0 + size = omega arith in
-    let all : List (ℕ × ℕ) = (0, top) ∷ drop n rs in
-    let rises : AreRuns all = subst (IsRising 0) same (rising-runs_with_range 0 rs 0 size h (omega arith) l) in
-    let set : set_of_runs all ≡ with_range (set_of_runs rs) 0 size = ap set_of_runs (sym same)
-    ∙ ap (λ k. set_of_runs (runs_with_range rs 0 k)) size_is ∙ set-runs_with_range rs 0 size h l in
-    let first : top ≡ front (with_range (set_of_runs rs) 0 size) = sym (front-set_of_runs all rises) ∙ ap front set in
-    (first, set-without_front all rises ∙ (λ i. shift_down (set i) (front (set i))) ∙ ap (shift_down (with_range (set_of_runs rs) 0 size)) (sym first))
 
 -- what the first run says of the front
 pub front_of_runs-none : (rs : List (ℕ × ℕ)) → (0 < length rs → start_at rs 0 ≢ 0) → 0 ≡ front_of_runs rs
@@ -276,18 +237,6 @@ module _ (xs : List (ℕ × ℕ)) (used : ℕ) (h : AreRuns (take used xs)) (roo
       grown_run i start end (start_at xs i) hi (omega arith)
       (λ k a. let p = apart 0 cs k i h a (omega (arith, len)) in omega (arith, same, pair_is k (omega arith)))
       (omega arith) (omega arith) (λ k a b. absurd (omega arith)) (omega arith) high
-
--- what is left after a range at 0 that ends at top once it is joined with the first n runs, and removed
-abbrev pub Completed : List (ℕ × ℕ) → ℕ → ℕ → ℕ → Type 0
-Completed rs n size top = let all = with_range (set_of_runs rs) 0 size in
-    (top ≡ front all) × (set_of_runs (runs_shifted_down top (drop n rs)) ≡ shift_down all top)
-
-pub completed_at : (rs : List (ℕ × ℕ)) (n size top : ℕ) → AreRuns rs → 0 < size → n ≤ length rs →
-    ((k : ℕ) → k < n → start_at rs k ≤ size) →
-    ((k : ℕ) → n ≤ k → k < length rs → size < start_at rs k) → top ≡ top_of rs n size → Completed rs n size top
-completed_at rs n size top h l m upto after e =
-    let both = completed rs n size h l m upto after in
-    (e ∙ both.0, ap (λ t. set_of_runs (runs_shifted_down t (drop n rs))) e ∙ both.1 ∙ ap (shift_down (with_range (set_of_runs rs) 0 size)) (sym e))
 
 -- a position before the first run
 pub not_before : (low : ℕ) (rs : List (ℕ × ℕ)) (q : ℕ) → IsRising low rs → (0 < length rs → q < start_at rs 0) → in_runs rs q ≡ false

@@ -1,5 +1,5 @@
 -- Rising lists of runs and the sets of positions that they represent, and the maximal runs of every set.
-use Rattle.std.proofs.Common.{◌≡◌, ℕ, zero, suc, ◌+◌, ◌-◌, ◌<◌, ◌≤◌, max, min, Bool, true, false, cond, ◌&&◌, ◌||◌}
+use Rattle.std.proofs.Common.{◌||◌, ◌≡◌, ℕ, zero, suc, ◌+◌, ◌-◌, ◌<◌, ◌≤◌, max, min, Bool, true, false, cond, ◌&&◌}
 use Rattle.std.proofs.Common.{List, [], ◌∷◌, ◌++◌, map, filter, length, get_or, drop, nat_le, nat_lt, nat_eq, refl}
 use Rattle.std.proofs.Common.{sym, ap, subst, ◌∙◌, arith, ◌==◌}
 use Rattle.std.proofs.Math.Bool.{or_assoc, or_comm, or-false}
@@ -180,11 +180,6 @@ abbrev pub front_of_runs : List (ℕ × ℕ) → ℕ
 front_of_runs [] = 0
 front_of_runs (r ∷ rs) = cond (nat_eq r.0 0) r.1 0
 
--- the runs without a first one at 0, counted from its end
-abbrev pub without_front : List (ℕ × ℕ) → List (ℕ × ℕ)
-without_front [] = []
-without_front (r ∷ rs) = cond (nat_eq r.0 0) (runs_shifted_down r.1 rs) (r ∷ rs)
-
 pub front-set_of_runs : (rs : List (ℕ × ℕ)) → IsRising 0 rs → front (set_of_runs rs) ≡ front_of_runs rs
 unfolding front
 front-set_of_runs [] h = first_missing-is (set_of_runs []) 0 0 (omega arith) (contains-set_of_runs [] 0) (λ q l m. absurd (omega arith))
@@ -213,21 +208,6 @@ rising-runs_shifted_down m low high (r ∷ rs) l h = (
 pub in_runs-down : (rs : List (ℕ × ℕ)) (m q : ℕ) → in_runs (runs_shifted_down m rs) q ≡ in_runs rs (q + m)
 in_runs-down [] m q = refl
 in_runs-down (r ∷ rs) m q = let rest = in_runs-down rs m q in grind (arith, nat_tests)
-
-in_runs-without_front : (rs : List (ℕ × ℕ)) (q : ℕ) → IsRising 0 rs → in_runs (without_front rs) q ≡ in_runs rs (q + front_of_runs rs)
-in_runs-without_front [] q h = refl
-in_runs-without_front (r ∷ rs) q h =
-    elim (nat_eq r.0 0) as (λ b. in_runs (cond b (runs_shifted_down r.1 rs) (r ∷ rs)) q ≡ in_runs (r ∷ rs) (q + cond b r.1 0)) [
-      | true ↦ in_runs-down rs r.1 q ∙ sym (past_first r.0 r.1 (q + r.1) rs (omega arith))
-      | false ↦ ap (in_runs (r ∷ rs)) (omega arith)
-    ]
-
-pub set-without_front : (rs : List (ℕ × ℕ)) → IsRising 0 rs → set_of_runs (without_front rs) ≡ shift_down (set_of_runs rs) (front (set_of_runs rs))
-set-without_front rs h =
-    same_positions _ _ (λ q. contains-set_of_runs _ q ∙ in_runs-without_front rs q h
-    ∙ sym (contains-set_of_runs rs (q + front_of_runs rs))
-    ∙ sym (contains-shift_down (set_of_runs rs) (front_of_runs rs) q))
-    ∙ ap (shift_down (set_of_runs rs)) (sym (front-set_of_runs rs h))
 
 -- without the first j, which end at or before q
 in_runs-drop : (rs : List (ℕ × ℕ)) (j q : ℕ) → ((k : ℕ) → k < j → (get_or rs k (0, 0)).1 ≤ q) → in_runs (drop j rs) q ≡ in_runs rs q
@@ -432,7 +412,7 @@ pub set_of_maximal_runs : (s : Positions) → set_of_runs (maximal_runs s) ≡ s
 set_of_maximal_runs s = equal_maximal_runs _ s (maximal_runs-set_of_runs (maximal_runs s) (rising-maximal_runs s))
 
 -- a range joins the runs of a list as one run more, or as none
-few_with_range : (rs : List (ℕ × ℕ)) (lo hi : ℕ) → length (runs_with_range rs lo hi) ≤ length rs + 1
+pub few_with_range : (rs : List (ℕ × ℕ)) (lo hi : ℕ) → length (runs_with_range rs lo hi) ≤ length rs + 1
 few_with_range [] lo hi = omega arith
 few_with_range (r ∷ rs) lo hi =
     let Few : List (ℕ × ℕ) → Type 0 = λ l. length l ≤ length (r ∷ rs) + 1 in

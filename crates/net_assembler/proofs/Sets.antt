@@ -1,10 +1,9 @@
 -- What membership, runs and shifts of a set of positions come to, whatever holds the set.
-use Rattle.std.proofs.Common.{◌≡◌, ℕ, zero, suc, ◌+◌, ◌-◌, ◌<◌, ◌≤◌, Bool, true, false, cond, not, ◌&&◌, ◌||◌, ◌==◌}
+use Rattle.std.proofs.Common.{◌||◌, ◌≡◌, ℕ, zero, suc, ◌+◌, ◌-◌, ◌<◌, ◌≤◌, Bool, true, false, cond, not, ◌&&◌, ◌==◌}
 use Rattle.std.proofs.Common.{List, [], ◌∷◌, ◌++◌, map, filter, length, nat_le, nat_lt, refl, sym, ap, subst, ◌∙◌}
 use Rattle.std.proofs.Common.{◌⊎◌, inl, inr, arith, Decides, le-leb}
 use Rattle.std.proofs.lemmas.Bool.{false≢true, eqb-true, eq-eqb, cases_lt, cases_eq, cases_Bool, lt-leb, and_parts}
 use Rattle.std.proofs.lemmas.Bool.{and_right, or_cases, or_left, or_right, cond_both, false_from_ne_true}
-use Rattle.std.proofs.Math.Bool.{or-false}
 use Rattle.std.proofs.lemmas.List.{length-map}
 use Rattle.std.specs.List.{range_with_len, list_any}
 use Rattle.std.specs.Prelude.{T, is_some, Option, Some, None}
@@ -236,11 +235,14 @@ with_range-none s o n e = same_positions _ _ (λ q. grind (arith, sets))
 pub shift_down-zero : (s : Positions) (m : ℕ) → m ≡ 0 → shift_down s m ≡ s
 shift_down-zero s m e = same_positions _ _ (λ q. grind (arith, sets))
 
--- a set with the positions below n, where n is missing: n is the front, and what is after it is as it was
-pub front-with_range : (s : Positions) (n : ℕ) → contains s n ≡ false → front (with_range s 0 n) ≡ n
+-- the front, and a set with the positions below m, counted from n on
+pub front-is : (s : Positions) (n : ℕ) → contains s n ≡ false → ((q : ℕ) → q < n → contains s q ≡ true) → front s ≡ n
 unfolding front
+front-is s n misses all = first_missing-is s 0 n (omega arith) misses (λ q _ l. all q l)
+
+pub front-with_range : (s : Positions) (n : ℕ) → contains s n ≡ false → front (with_range s 0 n) ≡ n
 front-with_range s n misses =
-    first_missing-is _ 0 n (omega arith) (contains-with_range s 0 n n ∙ grind (arith, nat_tests)) (λ q l m. contains-with_range s 0 n q ∙ grind (arith, nat_tests))
+    front-is _ n (contains-with_range s 0 n n ∙ grind (arith, nat_tests)) (λ q l. contains-with_range s 0 n q ∙ grind (arith, nat_tests))
 
 pub shift_down-with_range : (s : Positions) (m n : ℕ) → m ≤ n → shift_down (with_range s 0 m) n ≡ shift_down s n
 shift_down-with_range s m n l = same_positions _ _ (λ q. grind (arith, sets))

@@ -1,6 +1,6 @@
 -- Runs that are counted from where the first of them starts, and the sets that they represent.
 -- Runs that are counted by numbers that wrap, and a range that joins runs, each counted higher.
-use Rattle.std.proofs.Common.{◌≡◌, ℕ, zero, suc, ◌+◌, ◌-◌, ◌<◌, ◌≤◌, ◌^◌, max, min, true, false, ◌&&◌, ◌||◌, List, []}
+use Rattle.std.proofs.Common.{◌||◌, ◌≡◌, ℕ, zero, suc, ◌+◌, ◌-◌, ◌<◌, ◌≤◌, ◌^◌, max, min, true, false, ◌&&◌, List, []}
 use Rattle.std.proofs.Common.{◌∷◌, length, map, drop, set, get_or, nat_le, nat_lt, refl, sym, ap, subst, ◌∙◌, arith}
 use Rattle.std.proofs.Common.{◌%◌, ◌++◌, take, ◌*◌}
 use Rattle.std.proofs.lemmas.List.{drop-map, length-map, get_or-map, map-id, length-drop, length-take-le, take-take}
@@ -12,7 +12,7 @@ use Rattle.net_assembler.specs.Positions.{runs_shifted_up}
 use Rattle.net_assembler.specs.RunLists.{start_at, end_at, IsRising, AreRuns, StartsAtZero, FitsFrom, runs_with_range}
 use Rattle.net_assembler.specs.RunLists.{runs_shifted_down, AreUsize, runs_wrapped, wrapped_run}
 use Rattle.net_assembler.proofs.Sets.{either}
-use Rattle.net_assembler.proofs.Joins.{top_of, apart_at, joined_at, length_apart, rising-drop}
+use Rattle.net_assembler.proofs.Joins.{apart_at, joined_at, length_apart, rising-drop}
 use Rattle.net_assembler.proofs.Runs.{in_runs, rising_from, step_before, step_after, step_meets}
 use Rattle.std.proofs.Math.Nat.{mod-eq_of_lt}
 use Rattle.std.proofs.lemmas.Nat.{mod-mul-add}
@@ -89,6 +89,12 @@ up-runs_with_range n (r ∷ rs) lo hi =
     ∙ up-runs_with_range n rs (min r.0 lo) (max r.1 hi)
     ∙ (λ i. runs_with_range ups (least i) (most i))
     ∙ sym (step_meets q ups (n + lo) (n + hi) (omega arith) (omega arith))))
+
+-- runs without their first
+pub rest_of_runs : (n : ℕ) (rs : List (ℕ × ℕ)) (r : ℕ × ℕ) (rest : List (ℕ × ℕ)) → rs ≡ r ∷ rest → AreRuns rs → FitsFrom n rs →
+    AreRuns rest × FitsFrom n rest
+rest_of_runs n rs r rest e h f =
+    (rising_from 0 (r.1 + 1) rest (omega arith) (subst AreRuns e h).2, (subst (FitsFrom n) e f).1)
 
 -- their ends fit
 pub fits-at : (n : ℕ) (rs : List (ℕ × ℕ)) (k : ℕ) → FitsFrom n rs → k < length rs →
@@ -212,12 +218,6 @@ in_runs-fits n (r ∷ rs) q f m =
     either (or_cases (nat_le (n + r.0) q && nat_lt q (n + r.1)) (in_runs (runs_shifted_up n rs) q) m)
     (λ e. let l : q < n + r.1 = grind (arith, nat_tests) in omega (arith, f.0))
     (λ e. in_runs-fits n rs q f.1 e)
-
-pub top_before : (rs : List (ℕ × ℕ)) (n hi : ℕ) → 0 < n → top_of rs n hi ≡ max (end_at rs (n - 1)) hi
-top_before rs zero hi l = absurd (omega arith)
-top_before rs (suc n) hi l =
-    let last : n ≡ suc n - 1 = omega arith in
-    ap (λ k. max (end_at rs k) hi) last
 
 pub down-none : (n : ℕ) (rs : List (ℕ × ℕ)) → length rs ≡ 0 → runs_shifted_down n rs ≡ rs
 down-none n [] e = refl

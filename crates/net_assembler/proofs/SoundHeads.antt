@@ -1,19 +1,18 @@
 -- A head and runs that are those of an assembler: its runs as a list, and their set.
 use Rattle.std.proofs.Common.{◌≡◌, ℕ, ◌+◌, ◌-◌, ◌*◌, ◌<◌, ◌≤◌, ◌^◌, List, [], ◌∷◌, length, take, drop, set, get_or}
-use Rattle.std.proofs.Common.{max, min, refl, sym, ap, subst, ◌∙◌, arith}
+use Rattle.std.proofs.Common.{max, min, refl, sym, ap, subst, ◌∙◌, arith, nat_lt}
 use Rattle.std.specs.List.{slice_get}
 use Rattle.std.proofs.lemmas.Option.{slice_get-get_or, slice_get_past}
 use Rattle.net_assembler.proofs.Holes.{few_holes, hole_between, no_hole, rises_after}
 use Rattle.net_assembler.specs.RunLists.{IsRising, start_at, end_at, AreRuns, HasSoundRuns, StartsAtZero, FitsFrom}
 use Rattle.net_assembler.specs.RunLists.{used_runs, runs_of, set_of, set_of_runs, runs_with_range, runs_shifted_down}
-use Rattle.net_assembler.proofs.ShiftedRuns.{down-less, down-none, in_runs-up, in_runs-below, end_at-up, top_before}
-use Rattle.net_assembler.proofs.ShiftedRuns.{down-zero, start_at-up, first-runs_with_range, up-none}
-use Rattle.net_assembler.proofs.ShiftedRuns.{fits-runs_with_range, fits-up, up-runs_with_range, up-up}
-use Rattle.net_assembler.proofs.ShiftedRuns.{zero-runs_with_range, length-up, drop-up, runs-up, down-up, fits-at}
-use Rattle.net_assembler.proofs.ShiftedRuns.{start-up, first_at, get_or-up, up-injective, fits-less, rising-cut}
-use Rattle.net_assembler.proofs.ShiftedRuns.{fits-cut, down-cut, in_runs-fits}
-use Rattle.std.specs.Prelude.{false, suc, Some, None, Result, Ok, Err, IsOk, IsErr, IsTrue, OnErr}
-use Rattle.std.proofs.lemmas.List.{nil_from_length, length-map, length-take-le, length-drop, get_or-take}
+use Rattle.net_assembler.proofs.ShiftedRuns.{rest_of_runs, down-less, down-none, in_runs-up, in_runs-below, end_at-up}
+use Rattle.net_assembler.proofs.ShiftedRuns.{first-runs_with_range, up-none, fits-runs_with_range, fits-up}
+use Rattle.net_assembler.proofs.ShiftedRuns.{up-runs_with_range, up-up, zero-runs_with_range, length-up, drop-up}
+use Rattle.net_assembler.proofs.ShiftedRuns.{runs-up, down-up, fits-at, start-up, first_at, get_or-up, up-injective}
+use Rattle.net_assembler.proofs.ShiftedRuns.{fits-less, rising-cut, fits-cut, down-cut, in_runs-fits}
+use Rattle.std.specs.Prelude.{false, suc, Some, None, Result, Ok, Err, IsOk, IsErr, IsTrue}
+use Rattle.std.proofs.lemmas.List.{nil_from_length, length-take-le, get_or-take}
 use Rattle.net_assembler.specs.Width.{shortfall}
 use Rattle.net_assembler.specs.declared.assembler.error.TooManyHolesError.{TooManyHolesError}
 use Rattle.net_assembler.specs.declared.assembler.head.AssemblerHead.{AssemblerHead}
@@ -25,13 +24,15 @@ use Rattle.net_assembler.specs.Positions.{with_range, maximal_runs, shift_down}
 use Rattle.std.proofs.lemmas.Bool.{cases_lt}
 use Rattle.std.proofs.Math.Seq.{take-set-lt}
 use Rattle.net_assembler.proofs.Runs.{one_run_more, rising-runs_with_range, set-shifted_down, front_of_runs}
-use Rattle.net_assembler.proofs.Runs.{step_after, step_before, step_meets, contains-set_of_runs, front-set_of_runs}
-use Rattle.net_assembler.proofs.Runs.{runs-set_of_runs, maximal_runs-set_of_runs, set_of_runs_injective}
-use Rattle.net_assembler.proofs.Runs.{set-runs_with_range, runs-runs_with_range}
-use Rattle.net_assembler.proofs.Joins.{no_runs, runs-nothing, set_of_no_runs, front_of_runs-none, Completed}
-use Rattle.net_assembler.proofs.Joins.{completed_at, at_run, apart, front_of_runs-some, shifted_down_set, top_of}
-use Rattle.net_assembler.proofs.Sets.{contains-nothing, front-with_range, shift_down-with_range, either, too_many}
-use Rattle.net_assembler.proofs.Sets.{shift_down-zero, with_range-none}
+use Rattle.net_assembler.proofs.Runs.{step_meets, contains-set_of_runs, front-set_of_runs, runs-set_of_runs}
+use Rattle.net_assembler.proofs.Runs.{maximal_runs-set_of_runs, set_of_runs_injective, set-runs_with_range}
+use Rattle.net_assembler.proofs.Runs.{runs-runs_with_range, few_with_range}
+use Rattle.net_assembler.proofs.Joins.{no_runs, runs-nothing, set_of_no_runs, front_of_runs-none, at_run, apart}
+use Rattle.net_assembler.proofs.Joins.{front_of_runs-some, in_run_at, used_ends_rise, used_starts_rise}
+use Rattle.std.proofs.lemmas.Bool.Decides.{nat_tests}
+use Rattle.net_assembler.proofs.Sets.{front-is, contains-with_range, are_same_decides, contains-nothing}
+use Rattle.net_assembler.proofs.Sets.{front-with_range, shift_down-with_range, either, too_many, shift_down-zero}
+use Rattle.net_assembler.proofs.Sets.{with_range-none}
 use Rattle.net_assembler.proofs.Calls.{few_binary_digits}
 
 module _ (h : AssemblerHead) (xs : List (ℕ × ℕ)) (s : HasSoundRuns h xs) where
@@ -77,9 +78,7 @@ module _ (h : AssemblerHead) (xs : List (ℕ × ℕ)) (s : HasSoundRuns h xs) wh
       omega (arith, p, start_of k m, end_of i (omega arith))
 
   pub ends_rise : (i k : ℕ) → i ≤ k → k < h.used → end_at xs i ≤ end_at xs k
-  ends_rise i k l m =
-      either (cases_lt i k) (λ b. omega (arith, pairs_apart i k b m, pair_rises k m))
-      (λ b. let e : i ≡ k = omega arith in let same = ap (end_at xs) e in omega arith)
+  ends_rise i k l m = used_ends_rise xs h.used s.runs s.room i k l m
 
   pub pair_fits : (k : ℕ) → k < h.used → h.first_start + end_at xs k + shortfall < 2 ^ 64
   pair_fits k l =
@@ -287,15 +286,6 @@ module _ (h : AssemblerHead) (xs : List (ℕ × ℕ)) (g : AssemblerHead) (ys : 
         bound = omega arith;
       }
 
--- how many runs are left
-pub dropped_number : (h : AssemblerHead) (xs : List (ℕ × ℕ)) → HasSoundRuns h xs → (k m : ℕ) (g : AssemblerHead)
-    (ys : List (ℕ × ℕ)) → HasSoundRuns g ys →
-    runs_of g ys ≡ runs_shifted_down m (drop k (used_runs h xs)) → runs (set_of g ys) ≡ h.used - k
-dropped_number h xs s k m g ys t e =
-    runs-set_of g ys t ∙ sym (length-runs_of g ys t) ∙ ap length e
-    ∙ length-map (drop k (used_runs h xs)) (λ (r : ℕ × ℕ). (r.0 - m, r.1 - m))
-    ∙ length-drop k (used_runs h xs) ∙ ap (λ l. l - k) (length-used_runs h xs s)
-
 -- the range (o, 0)
 pub none_added : (h : AssemblerHead) (xs : List (ℕ × ℕ)) → HasSoundRuns h xs → (o k : ℕ) → k ≡ 0 →
     Adds (length xs) (set_of h xs) o k (Ok tt) (set_of h xs)
@@ -408,28 +398,6 @@ next_removed most_runs o n s t z misses e few = record {
   bound = few;
 }
 
--- data that comes next, and reaches the first n runs: end is where the front ends, counted as the runs are
-pub reached : (h : AssemblerHead) (xs : List (ℕ × ℕ)) → HasSoundRuns h xs → (n size end : ℕ) → 1 ≤ n → n ≤ h.used →
-    0 < size → h.first_start ≤ size →
-    ((k : ℕ) → 1 ≤ k → k < n → start_at (used_runs h xs) k ≤ size - h.first_start) →
-    ((k : ℕ) → n ≤ k → k < length (used_runs h xs) → size - h.first_start < start_at (used_runs h xs) k) →
-    end ≡ max (end_at xs (n - 1)) (size - h.first_start) → Completed (runs_of h xs) n size (h.first_start + end)
-reached h xs s n size end some few l from before after ends =
-    let count = length-used_runs h xs s in
-    let count_runs = length-runs_of h xs s in
-    let last = end_at-up h.first_start (used_runs h xs) (n - 1) (omega arith) in
-    let read = end_of h xs s (n - 1) (omega arith) in
-    let top : h.first_start + end ≡ top_of (runs_of h xs) n size = omega (arith, top_before (runs_of h xs) n size some) in
-    completed_at (runs_of h xs) n size (h.first_start + end) (are_runs h xs s) l (omega arith)
-    (λ k a.
-    let start = start_at-up h.first_start (used_runs h xs) k (omega arith) in
-    either (cases_lt 0 k) (λ b. omega (arith, before k b a))
-    (λ b.
-    let zeroth : k ≡ 0 = omega arith in
-    omega (arith, ap (start_at (used_runs h xs)) zeroth, start_of h xs s 0 (omega arith), first_pair h xs s (omega arith))))
-    (λ k a b. omega (arith, start_at-up h.first_start (used_runs h xs) k (omega arith), after k a (omega arith)))
-    top
-
 -- a range at 0 that reaches the first run makes no more runs
 pub reaches_some : (h : AssemblerHead) (xs : List (ℕ × ℕ)) → HasSoundRuns h xs → (size : ℕ) → 0 < h.used → h.first_start ≤ size →
     (t : Positions) → t ≡ with_range (set_of h xs) 0 size → runs t ≤ h.used
@@ -445,17 +413,18 @@ reaches_some h xs s size some reach t e =
     let same : t ≡ set_of h xs = e ∙ with_range-none (set_of h xs) 0 size (omega arith) in
     omega (arith, ap runs same, all))
   where
-    one_more : (rs : List (ℕ × ℕ)) (lo hi : ℕ) → length (runs_with_range rs lo hi) ≤ length rs + 1
-    one_more [] lo hi = omega arith
-    one_more (r ∷ rs) lo hi =
-        either (cases_lt r.1 lo) (λ b. omega (arith, ap length (step_before r rs lo hi b), one_more rs lo hi))
-        (λ b. either (cases_lt hi r.0) (λ c. omega (arith, ap length (step_after r rs lo hi b c)))
-        (λ c. omega (arith, ap length (step_meets r rs lo hi b c), one_more rs (min r.0 lo) (max r.1 hi))))
-
     meets_first : (rs : List (ℕ × ℕ)) (lo hi : ℕ) → 0 < length rs → lo ≤ end_at rs 0 → start_at rs 0 ≤ hi →
         length (runs_with_range rs lo hi) ≤ length rs
     meets_first [] lo hi l a b = absurd (omega arith)
-    meets_first (r ∷ rs) lo hi l a b = omega (arith, ap length (step_meets r rs lo hi a b), one_more rs (min r.0 lo) (max r.1 hi))
+    meets_first (r ∷ rs) lo hi l a b = omega (arith, ap length (step_meets r rs lo hi a b), few_with_range rs (min r.0 lo) (max r.1 hi))
+
+-- the set without the first run, counted from a position at or after its end
+without_first : (h : AssemblerHead) (xs : List (ℕ × ℕ)) → HasSoundRuns h xs → (end : ℕ) → 0 < h.used → end_at xs 0 ≤ end →
+    set_of_runs (runs_shifted_down (h.first_start + end) (drop 1 (runs_of h xs))) ≡ shift_down (set_of h xs) (h.first_start + end)
+without_first h xs s end some last =
+    set-shifted_down (runs_of h xs) 1 (h.first_start + end) (λ k l.
+    let zeroth : k ≡ 0 = omega arith in
+    omega (arith, ap (end_at (runs_of h xs)) zeroth, ap (λ (r : ℕ × ℕ). r.1) (run_at h xs s 0 some)))
 
 -- a front that is there
 front_there : (h : AssemblerHead) (xs : List (ℕ × ℕ)) → HasSoundRuns h xs → (end : ℕ) → 0 < end → end ≡ front (set_of h xs) →
@@ -472,19 +441,17 @@ pub front_ends : (h : AssemblerHead) (xs : List (ℕ × ℕ)) (o k : ℕ) (g : A
     HasSoundRuns g ys → set_of g ys ≡ with_range (set_of h xs) o k → g.used ≤ h.used + 1 → (0 < o → length ys ≤ length xs) →
     end ≡ front (set_of g ys) → FrontEnds h xs o k g ys end
 front_ends h xs o k g ys end t same few long is =
-    let top : 0 < end → end ≡ g.first_start + end = λ some. omega (arith, (front_there g ys t end some is).1) in
+    let there = λ (some : 0 < end). front_there g ys t end some is in
     record {
       sound = t;
       few = few;
       room = λ past. omega (arith, ap runs same, few_held g ys t, long past);
       none = λ z. (sym z ∙ is ∙ ap front same, same);
-      some = λ some. (front_there g ys t end some is).0;
-      second = λ some l. omega (arith, (front_there g ys t end some is).2, pairs_apart g ys t 0 1 (omega arith) l);
-      fits = λ some. omega (arith, (front_there g ys t end some is).2, pair_fits g ys t 0 (front_there g ys t end some is).0);
-      front = λ some. sym (top some) ∙ is ∙ ap front same;
-      rest = λ some. ap (λ n. set_of_runs (runs_shifted_down n (drop 1 (runs_of g ys)))) (sym (top some))
-          ∙ shifted_down_set (runs_of g ys) end (are_runs g ys t) is some
-          ∙ (λ i. shift_down (same i) (top some i));
+      some = λ some. (there some).0;
+      second = λ some l. omega (arith, (there some).2, pairs_apart g ys t 0 1 (omega arith) l);
+      fits = λ some. omega (arith, (there some).2, pair_fits g ys t 0 (there some).0);
+      front = λ some. omega (arith, (there some).1, is, ap front same);
+      rest = λ some. without_first g ys t end (there some).0 (omega (arith, (there some).2)) ∙ ap (λ u. shift_down u (g.first_start + end)) same;
     }
 
 -- a range at 0 that reaches the first run, and not the second
@@ -492,13 +459,21 @@ pub first_reached : (h : AssemblerHead) (xs : List (ℕ × ℕ)) → HasSoundRun
     size + shortfall < 2 ^ 64 → end ≡ max (end_at xs 0) (size - h.first_start) → (1 < h.used → size - h.first_start < start_at xs 1) →
     FrontEnds h xs 0 size h xs end
 first_reached h xs s size end some reach fits is second =
+    let rs = runs_of h xs in
+    let n = h.first_start + end in
+    let count = length-runs_of h xs s in
+    let first = run_at h xs s 0 some in
+    let begin : start_at rs 0 ≡ h.first_start = run_start h xs s some in
+    let ends : end_at rs 0 ≡ h.first_start + end_at xs 0 = ap (λ (r : ℕ × ℕ). r.1) first in
     let rises = pair_rises h xs s 0 some in
-    either (cases_lt 0 size)
-    (λ l.
-    let both = reached h xs s 1 size end (omega arith) (omega arith) l reach (λ k a b. absurd (omega arith))
-    (λ k a b.
-    let used : k < h.used = omega (arith, length-used_runs h xs s) in
-    omega (arith, second (omega arith), later_start h xs s 1 k a used, start_of h xs s k used)) is in
+    let later : (k : ℕ) → 0 < k → k < length rs → n < start_at rs k = λ k a b.
+        let l : k < h.used = omega (arith, b, count) in
+        let at = ap (λ (r : ℕ × ℕ). r.0) (run_at h xs s k l) in
+        let next = used_starts_rise xs h.used s.runs s.room 1 k a l in
+        omega (arith, at, is, next, second (omega arith), pairs_apart h xs s 0 k a l) in
+    let held : (q : ℕ) → h.first_start ≤ q → q ≤ n → contains (set_of h xs) q ≡ nat_lt q (end_at rs 0) = λ q a b.
+        contains-set_of_runs rs q
+        ∙ in_run_at 0 rs 0 q (are_runs h xs s) (omega (arith, count)) (omega (arith, begin)) (λ k c d. let l = later k c d in omega arith) in
     record {
       sound = s;
       few = omega arith;
@@ -507,22 +482,12 @@ first_reached h xs s size end some reach fits is second =
       some = λ _. some;
       second = λ _ m. omega (arith, is, second m, pairs_apart h xs s 0 1 (omega arith) m);
       fits = λ _. omega (arith, is, pair_fits h xs s 0 some);
-      front = λ _. both.0;
-      rest = λ _. both.1;
-    })
-    (λ none.
-    front_ends h xs 0 size h xs end s (sym (with_range-none (set_of h xs) 0 size (omega arith))) (omega arith) (λ past. absurd (omega arith))
-    (let ends : end ≡ end_at xs 0 = omega arith in ends ∙ first_front h xs s some (omega arith)))
-  where
-    later_start : (h : AssemblerHead) (xs : List (ℕ × ℕ)) → HasSoundRuns h xs → (i k : ℕ) → i ≤ k → k < h.used → start_at xs i ≤ start_at xs k
-    later_start h xs s i k l m = either (cases_lt i k)
-        (λ b. omega (arith, pairs_apart h xs s i k b m, pair_rises h xs s i (omega arith)))
-        (λ b. let e : i ≡ k = omega arith in let same = ap (start_at xs) e in omega arith)
-
--- what holds of each refusal
-pub on_err : (P : Type 0) (r : Result (Unit {0}) TooManyHolesError) → P → OnErr r P
-on_err P (Ok u) p = tt
-on_err P (Err e) p = p
+      front = λ _. sym (front-is _ n
+          (contains-with_range (set_of h xs) 0 size n ∙ (let missing = held n (omega arith) (omega arith) in grind (arith, nat_tests)))
+          (λ q l. contains-with_range (set_of h xs) 0 size q ∙ either (cases_lt q size) (λ b. grind (arith, nat_tests))
+          (λ b. let there = held q (omega arith) (omega arith) in grind (arith, nat_tests))));
+      rest = λ _. without_first h xs s end some (omega arith) ∙ sym (shift_down-with_range (set_of h xs) size n (omega arith));
+    }
 
 -- what follows from how a range is added
 pub added_accepted : (n : ℕ) (s : Positions) (o k : ℕ) (r : Result (Unit {0}) TooManyHolesError)
@@ -550,6 +515,6 @@ pub ruleset heads = (length-used_runs, length-runs_of, are_runs, runs-set_of, fe
   pairs_apart, pair_fits, first_pair, run_start, no_front, first_front, lowered, holes-set_of, set_of_no_runs, runs-nothing, no_run_listed,
   hole_after, no_hole_after, fits_from, contains-from, contains-below, later_runs, few_holes,
   front_none, lowered_runs, front_later, shift_down-zero, left_set,
-  left_after_front, lowered_set, shift_down-none)
+  left_after_front, lowered_set, shift_down-none, are_same_decides)
 
-pub ruleset assemblers = (few_held, runs-nothing, set_of_no_runs, added_accepted, added_more, both_accepted, few_binary_digits)
+pub ruleset assemblers = (few_held, runs-nothing, set_of_no_runs, added_accepted, added_more, both_accepted, few_binary_digits, rest_of_runs)

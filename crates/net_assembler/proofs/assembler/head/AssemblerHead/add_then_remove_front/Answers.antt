@@ -1,5 +1,5 @@
-use Rattle.std.proofs.Common.{◌∙◌, ◌<◌, length, refl, sym, ap, arith}
-use Rattle.net_assembler.specs.RunLists.{set_of, set_of_runs}
+use Rattle.std.proofs.Common.{◌∙◌, ◌<◌, refl, sym, ap, arith}
+use Rattle.net_assembler.specs.RunLists.{set_of_runs}
 use Rattle.net_assembler.proofs.Sets.{too_many, shift_down-zero}
 use Rattle.net_assembler.proofs.SoundHeads.{contains-below, contains-none, dropped, few_held, lowered, lowered_set}
 use Rattle.net_assembler.proofs.SoundHeads.{next_removed, shift_down-none}
