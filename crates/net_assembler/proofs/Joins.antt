@@ -3,14 +3,14 @@ use Rattle.std.proofs.Common.{◌≡◌, ℕ, zero, suc, ◌+◌, ◌-◌, ◌*�
 use Rattle.std.proofs.Common.{length, take, drop, set, nat_lt, refl, sym, ap, subst, ◌∙◌, arith, ◌≢◌}
 use Rattle.std.proofs.Math.Nat.{pow-suc}
 use Rattle.std.proofs.Math.Seq.{take-set-lt}
-use Rattle.std.proofs.lemmas.List.{drop_all, append_assoc, length-append, length-take-le, length-drop, take_more_set}
-use Rattle.std.proofs.lemmas.List.{drop-set-lt, take-append-drop, take-take, get_or-take}
+use Rattle.std.proofs.lemmas.List.{take-set, drop-set, drop_all, length-append, length-take-le, length-drop}
+use Rattle.std.proofs.lemmas.List.{take_more_set, take-append-drop, take-take, get_or-take}
 use Rattle.std.proofs.lemmas.Bool.{cases_lt, eq-eqb, ne_eqb, lt-ltb, le-ltb, cond-true, cond-false}
 use Rattle.net_assembler.specs.Positions.{nothing, runs, set_of_list}
-use Rattle.net_assembler.specs.RunLists.{start_at, end_at, IsRising, AreRuns, runs_with_range, set_of_runs}
+use Rattle.net_assembler.specs.RunLists.{start_at, end_at, IsRising, AreRuns, set_of_runs}
+use Rattle.net_assembler.proofs.Runs.{runs_with_range, in_runs, in_first, past_first, not_in_runs, front_of_runs}
+use Rattle.net_assembler.proofs.Runs.{step_before, step_after, step_meets, runs-set_of_runs}
 use Rattle.net_assembler.proofs.Sets.{either}
-use Rattle.net_assembler.proofs.Runs.{in_runs, in_first, past_first, not_in_runs, front_of_runs, step_before}
-use Rattle.net_assembler.proofs.Runs.{step_after, step_meets, runs-set_of_runs}
 
 -- what rising runs say of the run k
 pub at_run : (low : ℕ) (rs : List (ℕ × ℕ)) (k : ℕ) → IsRising low rs → k < length rs → (low ≤ start_at rs k) × (start_at rs k < end_at rs k)
@@ -164,42 +164,6 @@ module _ (xs : List (ℕ × ℕ)) (used : ℕ) (h : AreRuns (take used xs)) (roo
       (λ l. omega (arith, start-drop cs m, is l, pair_is m l))
       (λ l. omega (arith, ap (λ rs. start_at rs 0) (drop_all m cs (omega (arith, len)))))
 
-  replaced : (i j : ℕ) (v : ℕ × ℕ) → i < j → j ≤ used →
-      take (i + 1) (set xs i v) ++ drop j (take used (set xs i v)) ≡ take i cs ++ v ∷ drop j cs
-  replaced i j v l m =
-      (λ k. take_more_set xs i v (omega (arith, room)) k ++ (ap (drop j) (take-set-lt used xs i v (omega (arith, room))) ∙ drop-set-lt j cs i v l) k)
-      ∙ append_assoc (take i xs) (v ∷ []) (drop j cs)
-      ∙ ap (λ zs. zs ++ v ∷ drop j cs) (sym (take-take i used xs (omega arith)))
-
-  -- one entry in the place of those from i up to j
-  replaced_run : (i j start end lo hi : ℕ) → i < j → j ≤ used → ((k : ℕ) → k < i → end_at xs k < start) → start ≤ end_at xs i →
-      ((k : ℕ) → i ≤ k → k < j → start_at xs k ≤ end) → ((k : ℕ) → j ≤ k → k < used → end < start_at xs k) →
-      lo ≡ min (start_at xs i) start → hi ≡ max (end_at xs (j - 1)) end →
-      take (i + 1) (set xs i (lo, hi)) ++ drop j (take used (set xs i (lo, hi))) ≡ runs_with_range cs start end
-  replaced_run i j start end lo hi l m before from upto after low high =
-      let last : suc (j - 1) ≡ j = omega arith in
-      let lo_is : lo ≡ min (start_at cs i) start = omega (arith, low, pair_is i (omega arith)) in
-      let hi_is : hi ≡ max (end_at cs (j - 1)) end = omega (arith, high, pair_is (j - 1) (omega arith)) in
-      replaced i j (lo, hi) l m
-      ∙ (λ k. take i cs ++ (lo_is k, hi_is k) ∷ drop (sym last k) cs)
-      ∙ sym (joined_at 0 cs i (j - 1) start end h (omega arith) (omega (arith, len))
-      (λ k a. omega (arith, before k a, pair_is k (omega arith))) (omega (arith, pair_is i (omega arith)))
-      (λ k a b. omega (arith, upto k a (omega arith), pair_is k (omega arith)))
-      (λ k a b. omega (arith, after k (omega arith) (omega (arith, len)), pair_is k (omega (arith, len)))))
-
-  -- one entry more
-  pub inserted_run : (i start end : ℕ) → i ≤ used → start < end → ((k : ℕ) → k < i → end_at cs k < start) →
-      ((k : ℕ) → i ≤ k → k < used → end < start_at cs k) → take i xs ++ (start, end) ∷ drop i cs ≡ runs_with_range cs start end
-  inserted_run i start end l m before after =
-      ap (λ zs. zs ++ (start, end) ∷ drop i cs) (sym (take-take i used xs l))
-      ∙ sym (apart_at 0 cs i start end h (omega (arith, len)) m before (λ k a b. after k a (omega (arith, len))))
-
-  pub refused_run : (i start end : ℕ) → i ≤ used → start < end → ((k : ℕ) → k < i → end_at cs k < start) →
-      ((k : ℕ) → i ≤ k → k < used → end < start_at cs k) → length (runs_with_range cs start end) ≡ used + 1
-  refused_run i start end l m before after =
-      ap length (apart_at 0 cs i start end h (omega (arith, len)) m before (λ k a b. after k a (omega (arith, len))))
-      ∙ length_apart cs i (start, end) (omega (arith, len)) ∙ omega (arith, len)
-
   -- runs that all end before a range
   all_before : (start : ℕ) → (0 < used → end_at xs (used - 1) < start) → (k : ℕ) → k < used → end_at cs k < start
   all_before start last k m =
@@ -207,26 +171,37 @@ module _ (xs : List (ℕ × ℕ)) (used : ℕ) (h : AreRuns (take used xs)) (roo
       let q = last (omega arith) in
       omega (arith, pair_is (used - 1) (omega arith))
 
+  alone : (start end : ℕ) → start < end → (0 < used → end_at xs (used - 1) < start) →
+      runs_with_range cs start end ≡ take used cs ++ (start, end) ∷ drop used cs
+  alone start end m last = apart_at 0 cs used start end h (omega (arith, len)) m (all_before start last) (λ k a b. absurd (omega (arith, len)))
+
   pub pushed_run : (start end : ℕ) → used < length xs → start < end → (0 < used → end_at xs (used - 1) < start) →
       take (used + 1) (set xs used (start, end)) ≡ runs_with_range cs start end
   pushed_run start end l m last =
-      take_more_set xs used (start, end) l ∙ ap (λ ts. take used xs ++ (start, end) ∷ ts) (sym (drop_all used cs (omega (arith, len))))
-      ∙ inserted_run used start end (omega arith) m (all_before start last) (λ k a b. absurd (omega arith))
+      take_more_set xs used (start, end) l
+      ∙ (λ k. sym (take-take used used xs (omega arith)) k ++ (start, end) ∷ sym (drop_all used cs (omega (arith, len))) k)
+      ∙ sym (alone start end m last)
 
   pub not_pushed : (start end : ℕ) → start < end → (0 < used → end_at xs (used - 1) < start) → length (runs_with_range cs start end) ≡ used + 1
-  not_pushed start end m last = refused_run used start end (omega arith) m (all_before start last) (λ k a b. absurd (omega arith))
+  not_pushed start end m last = ap length (alone start end m last) ∙ length_apart cs used (start, end) (omega (arith, len)) ∙ omega (arith, len)
 
   -- a range that meets the run i alone
   pub grown_run : (i start end lo hi : ℕ) → i < used → ((k : ℕ) → k < i → end_at xs k < start) → start ≤ end_at xs i → start_at xs i ≤ end →
       ((k : ℕ) → i + 1 ≤ k → k < used → end < start_at xs k) → lo ≡ min (start_at xs i) start → hi ≡ max (end_at xs i) end →
       take used (set xs i (lo, hi)) ≡ runs_with_range cs start end
   grown_run i start end lo hi l before from upto after low high =
-      let ys = set xs i (lo, hi) in
-      let at : i + 1 - 1 ≡ i = omega arith in
-      sym (take-append-drop (i + 1) (take used ys)) ∙ ap (λ zs. zs ++ drop (i + 1) (take used ys)) (take-take (i + 1) used ys (omega arith))
-      ∙ replaced_run i (i + 1) start end lo hi (omega arith) (omega arith) before from
-      (λ k a b. omega (arith, used_starts_rise k i (omega arith) (omega arith)))
-      after low (high ∙ ap (λ k. max (end_at xs k) end) (sym at))
+      let next : i + 1 ≡ suc i = omega arith in
+      let same = pair_is i l in
+      let lo_is : lo ≡ min (start_at cs i) start = omega (arith, low) in
+      let hi_is : hi ≡ max (end_at cs i) end = omega (arith, high) in
+      take-set-lt used xs i (lo, hi) l
+      ∙ sym (take-append-drop i (set cs i (lo, hi)))
+      ∙ (λ k. take-set cs i (lo, hi) k ++ drop-set cs i (lo, hi) (omega (arith, len)) k)
+      ∙ (λ k. take i cs ++ (lo_is k, hi_is k) ∷ drop (next k) cs)
+      ∙ sym (joined_at 0 cs i i start end h (omega arith) (omega (arith, len))
+      (λ k a. omega (arith, before k a, pair_is k (omega arith))) (omega arith)
+      (λ k a b. let here : k ≡ i = omega arith in omega (arith, ap (start_at cs) here))
+      (λ k a b. omega (arith, after k (omega arith) (omega (arith, len)), pair_is k (omega (arith, len)))))
 
   -- a range that meets the last run alone
   pub extended_run : (start end hi : ℕ) → 0 < used → start < end → start_at xs (used - 1) ≤ start → start ≤ end_at xs (used - 1) →

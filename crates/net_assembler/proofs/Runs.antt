@@ -2,7 +2,7 @@
 use Rattle.std.proofs.Common.{◌||◌, ◌≡◌, ℕ, zero, suc, ◌+◌, ◌-◌, ◌<◌, ◌≤◌, max, min, Bool, true, false, cond, ◌&&◌}
 use Rattle.std.proofs.Common.{List, [], ◌∷◌, ◌++◌, map, filter, length, get_or, drop, nat_le, nat_lt, nat_eq, refl}
 use Rattle.std.proofs.Common.{sym, ap, subst, ◌∙◌, arith, ◌==◌}
-use Rattle.std.proofs.Math.Bool.{or_assoc, or_comm, or-false}
+use Rattle.std.proofs.Math.Bool.{or-false}
 use Rattle.std.proofs.lemmas.Bool.{false≢true, eq-eqb, cases_lt, cases_eq, lt-ltb, le-ltb, ne_eqb, or_cases}
 use Rattle.std.proofs.lemmas.Bool.{cond-true, cond-false, false_from_ne_true, eqb-true, cases_Bool, cond_both}
 use Rattle.std.proofs.lemmas.Bool.{or_left, or_right, true_from_ne_false}
@@ -11,7 +11,7 @@ use Rattle.std.proofs.lemmas.Bool.Decides.{nat_tests, same_from_decides}
 use Rattle.net_assembler.specs.Positions.{Positions, contains, positions, with_range, begins_run, run_starts, runs}
 use Rattle.net_assembler.specs.Positions.{first_missing, front, maximal_runs, shift_down, lies_in, IsMaximalRun}
 use Rattle.net_assembler.specs.Positions.{AreMaximalRuns}
-use Rattle.net_assembler.specs.RunLists.{IsRising, run_positions, set_of_runs, runs_with_range, runs_shifted_down}
+use Rattle.net_assembler.specs.RunLists.{IsRising, run_positions, set_of_runs, runs_shifted_down}
 use Rattle.net_assembler.proofs.Sets.{has, has-append, has-range_with_len, contains-set_of_list, contains-with_range}
 use Rattle.net_assembler.proofs.Sets.{same_positions, Rises, positions-set_of_list, either, first_missing-is}
 use Rattle.net_assembler.proofs.Sets.{begins-true, begins-false, contains-shift_down, runs-maximal_runs}
@@ -22,6 +22,13 @@ use Rattle.std.proofs.lemmas.List.Elements.{All-from_recursion, All-head, All-ta
 use Rattle.std.proofs.lemmas.Option.{slice_get_past, slice_get_within, slice_get-get_or, get_or_from_slice_get}
 use Rattle.std.proofs.lemmas.List.Kept.{AllPairs-cons}
 use Rattle.std.proofs.lemmas.List.Sums.{sum_by-cons}
+
+-- the runs with the positions from lo to hi - 1, where what meets or touches becomes one run
+abbrev pub runs_with_range : List (ℕ × ℕ) → ℕ → ℕ → List (ℕ × ℕ)
+runs_with_range [] lo hi = (lo, hi) ∷ []
+runs_with_range (r ∷ rs) lo hi =
+    cond (nat_lt r.1 lo) (r ∷ runs_with_range rs lo hi)
+    (cond (nat_lt hi r.0) ((lo, hi) ∷ r ∷ rs) (runs_with_range rs (min r.0 lo) (max r.1 hi)))
 
 -- whether a position is in one of the runs
 abbrev pub in_runs : List (ℕ × ℕ) → ℕ → Bool
@@ -143,25 +150,18 @@ rising-runs_with_range low (r ∷ rs) lo hi h l m =
     (rising-runs_with_range low rs (min r.0 lo) (max r.1 hi)
     (rising_from low (r.1 + 1) rs (omega (arith, h.0, h.1)) h.2) (omega (arith, h.0)) (omega (arith, h.1)))))
 
-joined : (a b c m : Bool) → m ≡ (a || c) → (b || m) ≡ ((a || b) || c)
-joined a b c m e = ap (λ x. b || x) e ∙ sym (or_assoc b a c) ∙ ap (λ x. x || c) (or_comm b a)
-
-merged : (x y lo hi q : ℕ) → x < y → lo < hi → lo ≤ y → x ≤ hi →
-    (nat_le (min x lo) q && nat_lt q (max y hi)) ≡ ((nat_le x q && nat_lt q y) || (nat_le lo q && nat_lt q hi))
-merged x y lo hi q k l m n = grind (arith, nat_tests)
-
 pub in_runs-runs_with_range : (low : ℕ) (rs : List (ℕ × ℕ)) (lo hi q : ℕ) → IsRising low rs → lo < hi →
     in_runs (runs_with_range rs lo hi) q ≡ (in_runs rs q || (nat_le lo q && nat_lt q hi))
 in_runs-runs_with_range low [] lo hi q h m = or-false _
 in_runs-runs_with_range low (r ∷ rs) lo hi q h m =
-    let here = nat_le r.0 q && nat_lt q r.1 in
-    let new = nat_le lo q && nat_lt q hi in
-    either (cases_lt r.1 lo) (λ b. ap (λ ts. in_runs ts q) (step_before r rs lo hi b) ∙ ap (λ x. here || x)
-    (in_runs-runs_with_range (r.1 + 1) rs lo hi q h.2 m) ∙ sym (or_assoc here (in_runs rs q) new))
-    (λ b. either (cases_lt hi r.0) (λ c. ap (λ ts. in_runs ts q) (step_after r rs lo hi b c) ∙ or_comm new (here || in_runs rs q))
-    (λ c. ap (λ ts. in_runs ts q) (step_meets r rs lo hi b c)
-    ∙ in_runs-runs_with_range (r.1 + 1) rs (min r.0 lo) (max r.1 hi) q h.2 (omega (arith, h.1))
-    ∙ joined here (in_runs rs q) new _ (merged r.0 r.1 lo hi q h.1 m b c)))
+    either (cases_lt r.1 lo)
+    (λ b. let rest = in_runs-runs_with_range (r.1 + 1) rs lo hi q h.2 m in
+    ap (λ ts. in_runs ts q) (step_before r rs lo hi b) ∙ grind (arith, nat_tests))
+    (λ b. either (cases_lt hi r.0)
+    (λ c. ap (λ ts. in_runs ts q) (step_after r rs lo hi b c) ∙ grind (arith, nat_tests))
+    (λ c. let rest = in_runs-runs_with_range (r.1 + 1) rs (min r.0 lo) (max r.1 hi) q h.2 (omega (arith, h.1)) in
+    let some = h.1 in
+    ap (λ ts. in_runs ts q) (step_meets r rs lo hi b c) ∙ grind (arith, nat_tests)))
 
 -- to add a run of n positions from o on is to add these positions to the set
 pub set-runs_with_range : (rs : List (ℕ × ℕ)) (o n : ℕ) → IsRising 0 rs → 0 < n → set_of_runs (runs_with_range rs o (o + n)) ≡ with_range (set_of_runs rs) o n

@@ -9,11 +9,11 @@ use Rattle.std.proofs.lemmas.Bool.{cases_lt, cond_both, false≢true, or_cases}
 use Rattle.std.proofs.lemmas.Bool.Decides.{nat_tests}
 use Rattle.net_assembler.specs.Width.{shortfall, IsUsize}
 use Rattle.net_assembler.specs.Positions.{runs_shifted_up}
-use Rattle.net_assembler.specs.RunLists.{start_at, end_at, IsRising, AreRuns, StartsAtZero, FitsFrom, runs_with_range}
+use Rattle.net_assembler.specs.RunLists.{start_at, end_at, IsRising, AreRuns, StartsAtZero, FitsFrom}
 use Rattle.net_assembler.specs.RunLists.{runs_shifted_down, AreUsize, runs_wrapped, wrapped_run}
+use Rattle.net_assembler.proofs.Runs.{runs_with_range, in_runs, rising_from, step_before, step_after, step_meets}
 use Rattle.net_assembler.proofs.Sets.{either}
 use Rattle.net_assembler.proofs.Joins.{apart_at, joined_at, length_apart, rising-drop}
-use Rattle.net_assembler.proofs.Runs.{in_runs, rising_from, step_before, step_after, step_meets}
 use Rattle.std.proofs.Math.Nat.{mod-eq_of_lt}
 use Rattle.std.proofs.lemmas.Nat.{mod-mul-add}
 

@@ -5,7 +5,11 @@ use Rattle.std.specs.List.{slice_get}
 use Rattle.std.proofs.lemmas.Option.{slice_get-get_or, slice_get_past}
 use Rattle.net_assembler.proofs.Holes.{few_holes, hole_between, no_hole, rises_after}
 use Rattle.net_assembler.specs.RunLists.{IsRising, start_at, end_at, AreRuns, HasSoundRuns, StartsAtZero, FitsFrom}
-use Rattle.net_assembler.specs.RunLists.{used_runs, runs_of, set_of, set_of_runs, runs_with_range, runs_shifted_down}
+use Rattle.net_assembler.specs.RunLists.{used_runs, runs_of, set_of, set_of_runs, runs_shifted_down}
+use Rattle.net_assembler.proofs.Runs.{runs_with_range, one_run_more, rising-runs_with_range, set-shifted_down}
+use Rattle.net_assembler.proofs.Runs.{front_of_runs, step_meets, contains-set_of_runs, front-set_of_runs}
+use Rattle.net_assembler.proofs.Runs.{runs-set_of_runs, maximal_runs-set_of_runs, set_of_runs_injective}
+use Rattle.net_assembler.proofs.Runs.{set-runs_with_range, runs-runs_with_range, few_with_range}
 use Rattle.net_assembler.proofs.ShiftedRuns.{rest_of_runs, down-less, down-none, in_runs-up, in_runs-below, end_at-up}
 use Rattle.net_assembler.proofs.ShiftedRuns.{first-runs_with_range, up-none, fits-runs_with_range, fits-up}
 use Rattle.net_assembler.proofs.ShiftedRuns.{up-runs_with_range, up-up, zero-runs_with_range, length-up, drop-up}
@@ -23,10 +27,6 @@ use Rattle.net_assembler.specs.Positions.{Positions, front, holes, holes_before,
 use Rattle.net_assembler.specs.Positions.{with_range, maximal_runs, shift_down}
 use Rattle.std.proofs.lemmas.Bool.{cases_lt}
 use Rattle.std.proofs.Math.Seq.{take-set-lt}
-use Rattle.net_assembler.proofs.Runs.{one_run_more, rising-runs_with_range, set-shifted_down, front_of_runs}
-use Rattle.net_assembler.proofs.Runs.{step_meets, contains-set_of_runs, front-set_of_runs, runs-set_of_runs}
-use Rattle.net_assembler.proofs.Runs.{maximal_runs-set_of_runs, set_of_runs_injective, set-runs_with_range}
-use Rattle.net_assembler.proofs.Runs.{runs-runs_with_range, few_with_range}
 use Rattle.net_assembler.proofs.Joins.{no_runs, runs-nothing, set_of_no_runs, front_of_runs-none, at_run, apart}
 use Rattle.net_assembler.proofs.Joins.{front_of_runs-some, in_run_at, used_ends_rise, used_starts_rise}
 use Rattle.std.proofs.lemmas.Bool.Decides.{nat_tests}

@@ -1,5 +1,5 @@
 -- What the contracts of an assembler's calls say of sets, and laws that proofs of other crates name.
---     Adds, RemovesFront, AddsThenRemovesFront, Compares, Iterates      what a call's contract says of it
+--     Adds, RemovesFront, AddsThenRemovesFront, Compares      what a call's contract says of it
 --     CallsNext rest results last      what calls of `next`, one after another, return and leave
 --     results_of_next rest n       what n of them return
 --     with_ranges s ranges, lies_in_some p ranges      a set with ranges (offset, size), and whether p is in one
@@ -40,11 +40,6 @@ pub record AddsThenRemovesFront (most_runs : ℕ) (old : Positions) (offset size
 pub record Compares (s t : Positions) (result : Bool) : Type 0 where
   pub test : result ≡ are_same s t
   pub same : IsTrue result ↔ (s ≡ t)
-
--- the contract of `iter_data`, of one call
-pub record Iterates (most_runs : ℕ) (s : Positions) (result : List (ℕ × ℕ)) : Type 0 where
-  pub listed : result ≡ maximal_runs s
-  pub bound : length result ≤ most_runs
 
 -- the results of calls of `next`, one after another, and what they leave, by its contract
 abbrev pub CallsNext : List (ℕ × ℕ) → List (Option (ℕ × ℕ)) → List (ℕ × ℕ) → Type 0

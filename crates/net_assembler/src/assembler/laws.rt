@@ -10,7 +10,7 @@ ghost use Rattle.std.specs.List.{list_any, slice_get};
 ghost use Rattle.net_assembler.specs.declared.assembler.error.TooManyHolesError.{TooManyHolesError};
 ghost use Rattle.net_assembler.specs.Assembler.{MakesTooManyRuns};
 ghost use Rattle.net_assembler.specs.AssemblerLaws.{Adds, AddsThenRemovesFront, CallsNext, Compares, EqualMaximalRuns};
-ghost use Rattle.net_assembler.specs.AssemblerLaws.{Iterates, MaximalRunsOfEverySet, MembersOfNothing};
+ghost use Rattle.net_assembler.specs.AssemblerLaws.{MaximalRunsOfEverySet, MembersOfNothing};
 ghost use Rattle.net_assembler.specs.AssemblerLaws.{MembersWithRange, RemovesFront, results_of_next};
 ghost use Rattle.net_assembler.specs.Positions.{AreMaximalRuns, IsFirstMissing, IsMaximalRun, Positions, contains};
 ghost use Rattle.net_assembler.specs.Positions.{first_missing, front, maximal_runs, nothing, runs, runs_shifted_up};
@@ -126,7 +126,7 @@ pub fn adding_then_removing()
 pub fn iterating()
     ensures { (most_runs : ℕ) (s : Positions) (left last : List (ℕ × ℕ))
         (results : List (Option (ℕ × ℕ))) →
-        Iterates most_runs s left → CallsNext left results last →
+        left ≡ maximal_runs s → length left ≤ most_runs → CallsNext left results last →
         AreMaximalRuns s left × (length left ≤ most_runs)
         × (results ≡ results_of_next left (length results))
         × (last ≡ drop (length results) left) }

@@ -26,6 +26,6 @@ next_results (l ∷ left) last (Some r ∷ results) h =
     ((λ i. Some (sym same i) ∷ rest.0 i) ∙ ap (λ xs. Some l ∷ results_of_next xs n) (sym others), rest.1 ∙ ap (drop n) (sym others))
 
 pub returns : goal.returns
-returns c = λ most_runs s left last results first calls.
+returns c = λ most_runs s left last results listed few calls.
     let given = next_results left last results calls in
-    (subst (AreMaximalRuns s) (sym first.listed) (are_maximal_runs s), first.bound, given.0, given.1)
+    (subst (AreMaximalRuns s) (sym listed) (are_maximal_runs s), few, given.0, given.1)

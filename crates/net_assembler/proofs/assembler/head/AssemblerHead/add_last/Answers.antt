@@ -4,7 +4,8 @@ use Rattle.std.proofs.lemmas.Bool.{cases_lt}
 use Rattle.std.proofs.lemmas.Bool.Decides.{nat_tests}
 use Rattle.std.proofs.lemmas.List.{length-set}
 use Rattle.net_assembler.specs.Positions.{runs_shifted_up}
-use Rattle.net_assembler.specs.RunLists.{end_at, runs_with_range, start_at, used_runs}
+use Rattle.net_assembler.specs.RunLists.{end_at, start_at, used_runs}
+use Rattle.net_assembler.proofs.Runs.{runs_with_range}
 use Rattle.net_assembler.proofs.Calls.{no_turn}
 use Rattle.net_assembler.proofs.SoundHeads.{joined_in_place, none_added, plain, refused_in_place}
 use Rattle.net_assembler.proofs.Sets.{either}

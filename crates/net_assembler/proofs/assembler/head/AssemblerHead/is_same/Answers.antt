@@ -1,4 +1,4 @@
-use Rattle.std.proofs.Common.{◌≡◌, ℕ, Bool, Decides, sym, ◌∙◌, ap, ◌==◌, ◌&&◌, arith}
+use Rattle.std.proofs.Common.{◌≡◌, ℕ, Decides, sym, ◌∙◌, ap, ◌==◌, ◌&&◌, arith}
 use Rattle.std.specs.Cmp.Lexicographic.{pointwise_decides}
 use Rattle.std.proofs.lemmas.Bool.{eqb-true}
 use Rattle.std.proofs.lemmas.Bool.Decides.{same_from_decides, Decides-and, Decides-eqb}
