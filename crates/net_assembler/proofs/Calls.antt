@@ -63,7 +63,8 @@ below_binary_digits n = below_digits n n (omega arith)
 
 pub enough_binary_digits : (n b : ℕ) → (n < 2 ^ b) ↔ (binary_digits n ≤ b)
 unfolding binary_digits
-enough_binary_digits n b = (length-digits_of-le 2 b n (omega arith), λ l. let p = below_binary_digits n in let q = pow_mono l in omega arith)
+enough_binary_digits n b =
+    (length-digits_of-le 2 b n (omega arith), λ l. let p = below_binary_digits n in let q = pow_mono l in omega arith)
 
 below_power : (n : ℕ) → n < 2 ^ n
 below_power zero = omega arith
@@ -73,25 +74,31 @@ below_power (suc n) = let ih = below_power n in omega (arith, pow-suc 2 n)
 pub few_binary_digits : (n : ℕ) → binary_digits n ≤ n
 few_binary_digits n = (enough_binary_digits n n).0 (below_power n)
 
-pub equal_assemblers : (s t : Positions) (equal : Bool) → Compares s t equal → IsTrue equal ↔ ((p : ℕ) → contains s p ≡ contains t p)
-equal_assemblers s t b c = (λ e p. ap (λ (u : Positions). contains u p) (c.same.0 e), λ is. c.same.1 (same_positions s t is))
+pub equal_assemblers : (s t : Positions) (equal : Bool) → Compares s t equal →
+    IsTrue equal ↔ ((p : ℕ) → contains s p ≡ contains t p)
+equal_assemblers s t b c =
+    (λ e p. ap (λ (u : Positions). contains u p) (c.same.0 e), λ is. c.same.1 (same_positions s t is))
 
 pub range_again : (s : Positions) (o n : ℕ) → with_range (with_range s o n) o n ≡ with_range s o n
 range_again s o n = same_positions _ _ (λ q. grind (arith, sets))
 
 -- a set that has a range already has no more runs with it
-again_runs : (most_runs o n : ℕ) (s once : Positions) → once ≡ with_range s o n → runs once ≤ most_runs → MakesTooManyRuns most_runs once o n → ⊥
+again_runs : (most_runs o n : ℕ) (s once : Positions) → once ≡ with_range s o n → runs once ≤ most_runs →
+    MakesTooManyRuns most_runs once o n → ⊥
 again_runs most_runs o n s once e l over =
-    let same : runs (with_range once o n) ≡ runs once = ap (λ (t : Positions). runs (with_range t o n)) e ∙ ap runs (range_again s o n) ∙ ap runs (sym e) in
+    let same : runs (with_range once o n) ≡ runs once =
+        ap (λ (t : Positions). runs (with_range t o n)) e ∙ ap runs (range_again s o n) ∙ ap runs (sym e) in
     let more = ((too_many most_runs once o n).0 over).1 in
     omega arith
 
 pub adding_again : (most_runs o n : ℕ) (s once twice : Positions) (again : Result (Unit {0}) TooManyHolesError) →
-    once ≡ with_range s o n → runs once ≤ most_runs → OnOk again (twice ≡ with_range once o n) → OnErr again (twice ≡ once) →
+    once ≡ with_range s o n → runs once ≤ most_runs → OnOk again (twice ≡ with_range once o n) →
+    OnErr again (twice ≡ once) →
     (IsErr again ↔ MakesTooManyRuns most_runs once o n) → (again ≡ Ok tt) × (twice ≡ once)
 adding_again most_runs o n s once twice (Ok u) e l ok err refused =
     (refl, ok ∙ ap (λ (t : Positions). with_range t o n) e ∙ range_again s o n ∙ sym e)
-adding_again most_runs o n s once twice (Err x) e l ok err refused = absurd (again_runs most_runs o n s once e l (refused.0 refl))
+adding_again most_runs o n s once twice (Err x) e l ok err refused =
+    absurd (again_runs most_runs o n s once e l (refused.0 refl))
 
 -- counts that stay as they are
 pub no_turn : (looks moves : ℕ) (t : ℕ × ℕ) → TurnsWithin looks moves t t
@@ -111,24 +118,30 @@ unfolding binary_digits
 digits_of_32 = refl
 
 -- ranges that are added one after another, in any order
-pub contains-with_ranges : (s : Positions) (ranges : List (ℕ × ℕ)) (p : ℕ) → contains (with_ranges s ranges) p ≡ (contains s p || lies_in_some p ranges)
+pub contains-with_ranges : (s : Positions) (ranges : List (ℕ × ℕ)) (p : ℕ) →
+    contains (with_ranges s ranges) p ≡ (contains s p || lies_in_some p ranges)
 contains-with_ranges s [] p = sym (or-false (contains s p))
 contains-with_ranges s (range ∷ ranges) p =
     contains-with_ranges (with_range s range.0 range.1) ranges p
     ∙ ap (λ b. b || lies_in_some p ranges) (contains-with_range s range.0 range.1 p)
     ∙ or_assoc (contains s p) (lies_in p (range.0, range.0 + range.1)) (lies_in_some p ranges)
 
-pub same_ranges : (s : Positions) (ranges others : List (ℕ × ℕ)) → ((p : ℕ) → lies_in_some p ranges ≡ lies_in_some p others) →
+pub same_ranges : (s : Positions) (ranges others : List (ℕ × ℕ)) →
+    ((p : ℕ) → lies_in_some p ranges ≡ lies_in_some p others) →
     with_ranges s ranges ≡ with_ranges s others
 same_ranges s ranges others is =
-    same_positions _ _ (λ p. contains-with_ranges s ranges p ∙ ap (λ b. contains s p || b) (is p) ∙ sym (contains-with_ranges s others p))
+    same_positions _ _
+    (λ p. contains-with_ranges s ranges p ∙ ap (λ b. contains s p || b) (is p) ∙ sym (contains-with_ranges s others p))
 
-pub reordered_ranges : (s : Positions) (ranges others : List (ℕ × ℕ)) → IsPermutation ranges others → with_ranges s ranges ≡ with_ranges s others
+pub reordered_ranges : (s : Positions) (ranges others : List (ℕ × ℕ)) → IsPermutation ranges others →
+    with_ranges s ranges ≡ with_ranges s others
 reordered_ranges s ranges others moved =
-    same_ranges s ranges others (λ p. list_any-IsPermutation (λ range. lies_in p (range.0, range.0 + range.1)) ranges others moved)
+    same_ranges s ranges others
+    (λ p. list_any-IsPermutation (λ range. lies_in p (range.0, range.0 + range.1)) ranges others moved)
 
 pub ruleset laws = (contains-nothing, members_of_list, contains-with_range, contains-shift_down, contains-shift_up,
   first_missing_is_least, front_is_least_missing, equal_runs, maximal_runs-shift_up, runs-shift_up, equal_assemblers,
-  range_again, adding_again, runs-nothing, one_run_more, enough_binary_digits, digits_of_4, digits_of_32, set_of_no_runs)
+  range_again, adding_again, runs-nothing, one_run_more, enough_binary_digits, digits_of_4, digits_of_32,
+  set_of_no_runs)
 
 pub ruleset orders = (contains-with_ranges, same_ranges, reordered_ranges)

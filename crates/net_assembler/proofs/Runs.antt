@@ -40,7 +40,9 @@ has-one_run a e q = let h = has-range_with_len a (e - a) q in grind (arith, nat_
 
 has-run_positions : (rs : List (ℕ × ℕ)) (q : ℕ) → has (run_positions rs) q ≡ in_runs rs q
 has-run_positions [] q = refl
-has-run_positions (r ∷ rs) q = has-append (range_with_len r.0 (r.1 - r.0)) (run_positions rs) q ∙ (λ i. has-one_run r.0 r.1 q i || has-run_positions rs q i)
+has-run_positions (r ∷ rs) q =
+    has-append (range_with_len r.0 (r.1 - r.0)) (run_positions rs) q
+    ∙ (λ i. has-one_run r.0 r.1 q i || has-run_positions rs q i)
 
 pub contains-set_of_runs : (rs : List (ℕ × ℕ)) (q : ℕ) → contains (set_of_runs rs) q ≡ in_runs rs q
 unfolding set_of_runs
@@ -77,7 +79,8 @@ filter_inner : (s : Positions) (n b : ℕ) (ks : List ℕ) → ((q : ℕ) → b 
     filter (begins_run s) (range_with_len b n ++ ks) ≡ filter (begins_run s) ks
 filter_inner s zero b ks h = refl
 filter_inner s (suc n) b ks h =
-    cond-false _ _ _ (h b (omega arith) (omega arith)) ∙ filter_inner s n (b + 1) ks (λ q l m. h q (omega arith) (omega arith))
+    cond-false _ _ _ (h b (omega arith) (omega arith))
+    ∙ filter_inner s n (b + 1) ks (λ q l m. h q (omega arith) (omega arith))
 
 filter_run : (s : Positions) (n a : ℕ) (ks : List ℕ) → 0 < n → begins_run s a ≡ true →
     ((q : ℕ) → a ≤ q → q < a + n → contains s q ≡ true) →
@@ -101,13 +104,16 @@ runs_shown : (s : Positions) (low : ℕ) (rs : List (ℕ × ℕ)) → IsRising l
 runs_shown s low [] h is = refl
 runs_shown s low (r ∷ rs) h is =
     let a = r.0 in let e = r.1 in
-    let all : (q : ℕ) → a ≤ q → q < e → contains s q ≡ true = λ q l m. is q (omega (arith, h.0)) ∙ in_first a e q rs l m in
+    let all : (q : ℕ) → a ≤ q → q < e → contains s q ≡ true =
+        λ q l m. is q (omega (arith, h.0)) ∙ in_first a e q rs l m in
     let starts : begins_run s a ≡ true = begins-true s a (λ l. is (a - 1) (omega (arith, h.0)) ∙ not_in_runs a
     (r ∷ rs) (a - 1) (omega arith, h.1, h.2) (omega arith)) in
     let end : first_missing s a ≡ e = first_missing-is s a e (omega (arith, h.1)) (is e (omega (arith, h.0, h.1))
     ∙ past_first a e e rs (omega arith) ∙ not_in_runs (e + 1) rs e h.2 (omega arith)) all in
-    let rest = runs_shown s (e + 1) rs h.2 (λ q l. is q (omega (arith, h.0, h.1)) ∙ past_first a e q rs (omega arith)) in
-    ap (map (λ p. (p, first_missing s p))) (filter_run s (e - a) a (run_positions rs) (omega (arith, h.1)) starts (λ q l m. all q l (omega (arith, h.1))))
+    let rest =
+        runs_shown s (e + 1) rs h.2 (λ q l. is q (omega (arith, h.0, h.1)) ∙ past_first a e q rs (omega arith)) in
+    ap (map (λ p. (p, first_missing s p)))
+    (filter_run s (e - a) a (run_positions rs) (omega (arith, h.1)) starts (λ q l m. all q l (omega (arith, h.1))))
     ∙ (λ i. (a, end i) ∷ rest i)
 
 positions-set_of_runs : (rs : List (ℕ × ℕ)) → IsRising 0 rs → positions (set_of_runs rs) ≡ run_positions rs
@@ -126,26 +132,32 @@ pub runs-set_of_runs : (rs : List (ℕ × ℕ)) → IsRising 0 rs → runs (set_
 runs-set_of_runs rs h = runs-maximal_runs (set_of_runs rs) ∙ ap length (maximal_runs-set_of_runs rs h)
 
 -- two rising lists of runs that represent one set are equal
-pub set_of_runs_injective : (rs ts : List (ℕ × ℕ)) → IsRising 0 rs → IsRising 0 ts → set_of_runs rs ≡ set_of_runs ts → rs ≡ ts
-set_of_runs_injective rs ts h g e = sym (maximal_runs-set_of_runs rs h) ∙ ap maximal_runs e ∙ maximal_runs-set_of_runs ts g
+pub set_of_runs_injective : (rs ts : List (ℕ × ℕ)) → IsRising 0 rs → IsRising 0 ts → set_of_runs rs ≡ set_of_runs ts →
+    rs ≡ ts
+set_of_runs_injective rs ts h g e =
+    sym (maximal_runs-set_of_runs rs h) ∙ ap maximal_runs e ∙ maximal_runs-set_of_runs ts g
 
 -- the three cases of a step
-pub step_before : (r : ℕ × ℕ) (rs : List (ℕ × ℕ)) (lo hi : ℕ) → r.1 < lo → runs_with_range (r ∷ rs) lo hi ≡ r ∷ runs_with_range rs lo hi
+pub step_before : (r : ℕ × ℕ) (rs : List (ℕ × ℕ)) (lo hi : ℕ) → r.1 < lo →
+    runs_with_range (r ∷ rs) lo hi ≡ r ∷ runs_with_range rs lo hi
 step_before r rs lo hi l = cond-true _ _ _ (lt-ltb r.1 lo l)
 
-pub step_after : (r : ℕ × ℕ) (rs : List (ℕ × ℕ)) (lo hi : ℕ) → lo ≤ r.1 → hi < r.0 → runs_with_range (r ∷ rs) lo hi ≡ (lo, hi) ∷ r ∷ rs
+pub step_after : (r : ℕ × ℕ) (rs : List (ℕ × ℕ)) (lo hi : ℕ) → lo ≤ r.1 → hi < r.0 →
+    runs_with_range (r ∷ rs) lo hi ≡ (lo, hi) ∷ r ∷ rs
 step_after r rs lo hi l m = cond-false _ _ _ (le-ltb r.1 lo l) ∙ cond-true _ _ _ (lt-ltb hi r.0 m)
 
 pub step_meets : (r : ℕ × ℕ) (rs : List (ℕ × ℕ)) (lo hi : ℕ) → lo ≤ r.1 → r.0 ≤ hi →
     runs_with_range (r ∷ rs) lo hi ≡ runs_with_range rs (min r.0 lo) (max r.1 hi)
 step_meets r rs lo hi l m = cond-false _ _ _ (le-ltb r.1 lo l) ∙ cond-false _ _ _ (le-ltb hi r.0 m)
 
-pub rising-runs_with_range : (low : ℕ) (rs : List (ℕ × ℕ)) (lo hi : ℕ) → IsRising low rs → low ≤ lo → lo < hi → IsRising low (runs_with_range rs lo hi)
+pub rising-runs_with_range : (low : ℕ) (rs : List (ℕ × ℕ)) (lo hi : ℕ) → IsRising low rs → low ≤ lo → lo < hi →
+    IsRising low (runs_with_range rs lo hi)
 rising-runs_with_range low [] lo hi h l m = (l, m, tt)
 rising-runs_with_range low (r ∷ rs) lo hi h l m =
     either (cases_lt r.1 lo) (λ b. subst (IsRising low) (sym (step_before r rs lo hi b))
     (h.0, h.1, rising-runs_with_range (r.1 + 1) rs lo hi h.2 (omega arith) m))
-    (λ b. either (cases_lt hi r.0) (λ c. subst (IsRising low) (sym (step_after r rs lo hi b c)) (l, m, (omega arith, h.1, h.2)))
+    (λ b. either (cases_lt hi r.0)
+    (λ c. subst (IsRising low) (sym (step_after r rs lo hi b c)) (l, m, (omega arith, h.1, h.2)))
     (λ c. subst (IsRising low) (sym (step_meets r rs lo hi b c))
     (rising-runs_with_range low rs (min r.0 lo) (max r.1 hi)
     (rising_from low (r.1 + 1) rs (omega (arith, h.0, h.1)) h.2) (omega (arith, h.0)) (omega (arith, h.1)))))
@@ -164,7 +176,8 @@ in_runs-runs_with_range low (r ∷ rs) lo hi q h m =
     ap (λ ts. in_runs ts q) (step_meets r rs lo hi b c) ∙ grind (arith, nat_tests)))
 
 -- to add a run of n positions from o on is to add these positions to the set
-pub set-runs_with_range : (rs : List (ℕ × ℕ)) (o n : ℕ) → IsRising 0 rs → 0 < n → set_of_runs (runs_with_range rs o (o + n)) ≡ with_range (set_of_runs rs) o n
+pub set-runs_with_range : (rs : List (ℕ × ℕ)) (o n : ℕ) → IsRising 0 rs → 0 < n →
+    set_of_runs (runs_with_range rs o (o + n)) ≡ with_range (set_of_runs rs) o n
 set-runs_with_range rs o n h l =
     same_positions _ _ (λ q. contains-set_of_runs _ q ∙ in_runs-runs_with_range 0 rs o (o + n) q h (omega arith)
     ∙ ap (λ b. b || (nat_le o q && nat_lt q (o + n))) (sym (contains-set_of_runs rs q))
@@ -182,7 +195,8 @@ front_of_runs (r ∷ rs) = cond (nat_eq r.0 0) r.1 0
 
 pub front-set_of_runs : (rs : List (ℕ × ℕ)) → IsRising 0 rs → front (set_of_runs rs) ≡ front_of_runs rs
 unfolding front
-front-set_of_runs [] h = first_missing-is (set_of_runs []) 0 0 (omega arith) (contains-set_of_runs [] 0) (λ q l m. absurd (omega arith))
+front-set_of_runs [] h =
+    first_missing-is (set_of_runs []) 0 0 (omega arith) (contains-set_of_runs [] 0) (λ q l m. absurd (omega arith))
 front-set_of_runs (r ∷ rs) h =
     let s = set_of_runs (r ∷ rs) in
     either (cases_eq r.0 0)
@@ -195,7 +209,8 @@ front-set_of_runs (r ∷ rs) h =
     (omega arith, h.1, h.2) (omega arith)) (λ q l m. absurd (omega arith))
     ∙ sym (cond-false _ _ _ (ne_eqb r.0 0 e)))
 
-pub rising-runs_shifted_down : (m low high : ℕ) (rs : List (ℕ × ℕ)) → m + low ≤ high → IsRising high rs → IsRising low (runs_shifted_down m rs)
+pub rising-runs_shifted_down : (m low high : ℕ) (rs : List (ℕ × ℕ)) → m + low ≤ high → IsRising high rs →
+    IsRising low (runs_shifted_down m rs)
 rising-runs_shifted_down m low high [] l h = tt
 rising-runs_shifted_down m low high (r ∷ rs) l h = (
   omega (arith, h.0),
@@ -210,7 +225,8 @@ in_runs-down [] m q = refl
 in_runs-down (r ∷ rs) m q = let rest = in_runs-down rs m q in grind (arith, nat_tests)
 
 -- without the first j, which end at or before q
-in_runs-drop : (rs : List (ℕ × ℕ)) (j q : ℕ) → ((k : ℕ) → k < j → (get_or rs k (0, 0)).1 ≤ q) → in_runs (drop j rs) q ≡ in_runs rs q
+in_runs-drop : (rs : List (ℕ × ℕ)) (j q : ℕ) → ((k : ℕ) → k < j → (get_or rs k (0, 0)).1 ≤ q) →
+    in_runs (drop j rs) q ≡ in_runs rs q
 in_runs-drop rs zero q ends = refl
 in_runs-drop [] (suc j) q ends = refl
 in_runs-drop (r ∷ rs) (suc j) q ends =
@@ -252,11 +268,13 @@ Within s ks = (k : ℕ) → has ks k ≡ true → contains s k ≡ true
 has_tail : (k q : ℕ) (ks : List ℕ) → has ks q ≡ true → has (k ∷ ks) q ≡ true
 has_tail k q ks h = grind (arith, nat_tests)
 
-all_maximal : (s : Positions) (ks : List ℕ) → Within s ks → AllByRecursion (IsMaximalRun s) (map (run_from s) (filter (begins_run s) ks))
+all_maximal : (s : Positions) (ks : List ℕ) → Within s ks →
+    AllByRecursion (IsMaximalRun s) (map (run_from s) (filter (begins_run s) ks))
 all_maximal s [] w = tt
 all_maximal s (k ∷ ks) w =
     let rest = all_maximal s ks (λ q h. w q (has_tail k q ks h)) in
-    cond_both (begins_run s k) _ _ (λ l. AllByRecursion (IsMaximalRun s) (map (run_from s) l)) (λ e. (is_maximal s k (w k (has_head k ks)) e, rest)) (λ e. rest)
+    cond_both (begins_run s k) _ _ (λ l. AllByRecursion (IsMaximalRun s) (map (run_from s) l))
+    (λ e. (is_maximal s k (w k (has_head k ks)) e, rest)) (λ e. rest)
 
 -- the runs rise with a gap
 after_run : (s : Positions) (k j : ℕ) → k < j → begins_run s j ≡ true → first_missing s k + 1 ≤ j
@@ -275,7 +293,8 @@ rising_runs s low from (k ∷ ks) above h w =
     (λ e. (
       above k (has_head k ks) e,
       some_at s k (w k (has_head k ks)),
-      rising_runs s (first_missing s k + 1) (k + 1) ks (λ j m b. after_run s k j (let l = rises-has (k + 1) ks j h.1 m in omega arith) b) h.1 rest,
+      rising_runs s (first_missing s k + 1) (k + 1) ks
+      (λ j m b. after_run s k j (let l = rises-has (k + 1) ks j h.1 m in omega arith) b) h.1 rest,
     ))
     (λ e. rising_runs s low (k + 1) ks (λ j m b. above j (has_tail k j ks m) b) h.1 rest)
 
@@ -328,9 +347,12 @@ begins-suc s q h =
 
 run_of : (s : Positions) (q : ℕ) → contains s q ≡ true → RunOf s q
 run_of s zero h = own_run s 0 h (begins-zero s)
-run_of s (suc q) h = either (cases_Bool (begins_run s (suc q))) (own_run s (suc q) h) (λ e. next_in_run s q h (run_of s q (begins-suc s q e)))
+run_of s (suc q) h =
+    either (cases_Bool (begins_run s (suc q))) (own_run s (suc q) h)
+    (λ e. next_in_run s q h (run_of s q (begins-suc s q e)))
 
-in_runs-start : (s : Positions) (ks : List ℕ) (a q : ℕ) → has ks a ≡ true → a ≤ q → q < first_missing s a → in_runs (map (run_from s) ks) q ≡ true
+in_runs-start : (s : Positions) (ks : List ℕ) (a q : ℕ) → has ks a ≡ true → a ≤ q → q < first_missing s a →
+    in_runs (map (run_from s) ks) q ≡ true
 in_runs-start s [] a q h l m = h
 in_runs-start s (k ∷ ks) a q h l m =
     either (or_cases (a == k) (has ks a) h)
@@ -347,19 +369,25 @@ in_maximal_runs s q h =
     (sym (contains-positions s r.start) ∙ r.member)) r.low r.high
 
 -- in rising runs a position is in at most one
-count-lies_in : (low : ℕ) (rs : List (ℕ × ℕ)) (q : ℕ) → IsRising low rs → count_by (lies_in q) rs ≡ cond (in_runs rs q) 1 0
+count-lies_in : (low : ℕ) (rs : List (ℕ × ℕ)) (q : ℕ) → IsRising low rs →
+    count_by (lies_in q) rs ≡ cond (in_runs rs q) 1 0
 count-lies_in low [] q h = refl
 count-lies_in low (r ∷ rs) q h =
-    sum_by-cons (λ x. cond (lies_in q x) 1 0) r rs ∙ ap (λ n. cond (lies_in q r) 1 0 + n) (count-lies_in (r.1 + 1) rs q h.2)
-    ∙ elim (lies_in q r) as (λ b. lies_in q r ≡ b → cond b 1 0 + cond (in_runs rs q) 1 0 ≡ cond (b || in_runs rs q) 1 0) [
-      | true ↦ λ e. let below : q < r.1 + 1 = grind (arith, nat_tests) in ap (λ b. 1 + cond b 1 0) (not_in_runs (r.1 + 1) rs q h.2 below)
+    sum_by-cons (λ x. cond (lies_in q x) 1 0) r rs
+    ∙ ap (λ n. cond (lies_in q r) 1 0 + n) (count-lies_in (r.1 + 1) rs q h.2)
+    ∙ elim (lies_in q r) as
+    (λ b. lies_in q r ≡ b → cond b 1 0 + cond (in_runs rs q) 1 0 ≡ cond (b || in_runs rs q) 1 0) [
+      | true ↦ λ e.
+          let below : q < r.1 + 1 = grind (arith, nat_tests) in
+          ap (λ b. 1 + cond b 1 0) (not_in_runs (r.1 + 1) rs q h.2 below)
       | false ↦ λ e. omega arith
     ] refl
 
 -- rising runs rise pair by pair
 above_low : (low : ℕ) (rs : List (ℕ × ℕ)) → IsRising (low + 1) rs → AllByRecursion (λ r. low < r.0) rs
 above_low low [] h = tt
-above_low low (r ∷ rs) h = (omega (arith, h.0), above_low low rs (rising_from (low + 1) (r.1 + 1) rs (omega (arith, h.0, h.1)) h.2))
+above_low low (r ∷ rs) h =
+    (omega (arith, h.0), above_low low rs (rising_from (low + 1) (r.1 + 1) rs (omega (arith, h.0, h.1)) h.2))
 
 pairs_rise : (low : ℕ) (rs : List (ℕ × ℕ)) → IsRising low rs → AllPairs (λ (q r : ℕ × ℕ). q.1 < r.0) rs
 pairs_rise low [] h = λ i j d l m. absurd (omega arith)
@@ -373,13 +401,15 @@ maximal_all s = All-from_recursion (IsMaximalRun s) _ (all_maximal s (positions 
 pub are_maximal_runs : (s : Positions) → AreMaximalRuns s (maximal_runs s)
 are_maximal_runs s = record {
   maximal = maximal_all s;
-  complete = λ p h. count-lies_in 0 (maximal_runs s) p (rising-maximal_runs s) ∙ ap (λ b. cond b 1 0) (in_maximal_runs s p h);
+  complete =
+      λ p h. count-lies_in 0 (maximal_runs s) p (rising-maximal_runs s) ∙ ap (λ b. cond b 1 0) (in_maximal_runs s p h);
   rising = pairs_rise 0 (maximal_runs s) (rising-maximal_runs s);
   number = sym (runs-maximal_runs s);
 }
 
 -- a position that is in one of a set's maximal runs is in the set
-member : (s : Positions) (q : ℕ) (rs : List (ℕ × ℕ)) → All (IsMaximalRun s) rs → in_runs rs q ≡ true → contains s q ≡ true
+member : (s : Positions) (q : ℕ) (rs : List (ℕ × ℕ)) → All (IsMaximalRun s) rs → in_runs rs q ≡ true →
+    contains s q ≡ true
 member s q [] all h = absurd (false≢true h)
 member s q (r ∷ rs) all h =
     either (or_cases (nat_le r.0 q && nat_lt q r.1) (in_runs rs q) h)
@@ -388,15 +418,19 @@ member s q (r ∷ rs) all h =
 
 -- sets that have the same maximal runs are equal
 pub equal_maximal_runs : (s t : Positions) → maximal_runs s ≡ maximal_runs t → s ≡ t
-equal_maximal_runs s t e = same_positions s t (λ q. same_from_decides {P = contains s q ≡ true} _ _ (λ h. h, λ h. h) (into t s (sym e) q, into s t e q))
+equal_maximal_runs s t e =
+    same_positions s t
+    (λ q. same_from_decides {P = contains s q ≡ true} _ _ (λ h. h, λ h. h) (into t s (sym e) q, into s t e q))
   where
     into : (s t : Positions) → maximal_runs s ≡ maximal_runs t → (q : ℕ) → contains s q ≡ true → contains t q ≡ true
-    into s t e q h = member t q (maximal_runs t) (maximal_all t) (ap (λ rs. in_runs rs q) (sym e) ∙ in_maximal_runs s q h)
+    into s t e q h =
+        member t q (maximal_runs t) (maximal_all t) (ap (λ rs. in_runs rs q) (sym e) ∙ in_maximal_runs s q h)
 
 -- the run with number k
 pub run_by_number : (s : Positions) (k : ℕ) (run : ℕ × ℕ) → slice_get (maximal_runs s) k ≡ Some run → IsMaximalRun s run
 run_by_number s k run e =
-    subst (IsMaximalRun s) (get_or_from_slice_get (maximal_runs s) k run (0, 0) e) (maximal_all s k (0, 0) (slice_get_within (maximal_runs s) k run e))
+    subst (IsMaximalRun s) (get_or_from_slice_get (maximal_runs s) k run (0, 0) e)
+    (maximal_all s k (0, 0) (slice_get_within (maximal_runs s) k run e))
 
 pub no_run_by_number : (s : Positions) (k : ℕ) → (slice_get (maximal_runs s) k ≡ None) ↔ (runs s ≤ k)
 no_run_by_number s k =
@@ -418,7 +452,8 @@ few_with_range (r ∷ rs) lo hi =
     let Few : List (ℕ × ℕ) → Type 0 = λ l. length l ≤ length (r ∷ rs) + 1 in
     let before = few_with_range rs lo hi in
     let meets = few_with_range rs (min r.0 lo) (max r.1 hi) in
-    cond_both (nat_lt r.1 lo) _ _ Few (λ e. omega arith) (λ e. cond_both (nat_lt hi r.0) _ _ Few (λ e. omega arith) (λ e. omega arith))
+    cond_both (nat_lt r.1 lo) _ _ Few (λ e. omega arith)
+    (λ e. cond_both (nat_lt hi r.0) _ _ Few (λ e. omega arith) (λ e. omega arith))
 
 -- and so of a set
 pub one_run_more : (s : Positions) (o n : ℕ) → runs (with_range s o n) ≤ runs s + 1
@@ -428,6 +463,8 @@ one_run_more s o n =
     let count = runs-maximal_runs s in
     either (cases_eq n 0) (λ e. let same = ap runs (with_range-none s o n e) in omega arith)
     (λ ne.
-    let all = ap (λ (t : Positions). runs (with_range t o n)) (sym is) ∙ runs-runs_with_range rs o n (rising-maximal_runs s) (omega arith) in
+    let all =
+        ap (λ (t : Positions). runs (with_range t o n)) (sym is)
+        ∙ runs-runs_with_range rs o n (rising-maximal_runs s) (omega arith) in
     let few = few_with_range rs o (o + n) in
     omega arith)

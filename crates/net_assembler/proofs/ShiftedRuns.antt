@@ -36,7 +36,8 @@ runs-up n rs h = rising-up n 0 0 rs (omega arith) h
 
 -- twice: pairs of which each part was changed by g, and then by f
 moved_twice : (f g h : ℕ → ℕ) → ((x : ℕ) → f (g x) ≡ h x) → (rs : List (ℕ × ℕ)) →
-    let each : (ℕ → ℕ) → List (ℕ × ℕ) → List (ℕ × ℕ) = λ k ps. map {B = ℕ × ℕ} (λ r. (k r.0, k r.1)) ps in each f (each g rs) ≡ each h rs
+    let each : (ℕ → ℕ) → List (ℕ × ℕ) → List (ℕ × ℕ) =
+        λ k ps. map {B = ℕ × ℕ} (λ r. (k r.0, k r.1)) ps in each f (each g rs) ≡ each h rs
 moved_twice f g h is [] = refl
 moved_twice f g h is (r ∷ rs) = λ i. (is r.0 i, is r.1 i) ∷ moved_twice f g h is rs i
 
@@ -63,7 +64,9 @@ pub down-less : (n m : ℕ) (rs : List (ℕ × ℕ)) → m ≤ n →
 down-less n m rs l = moved_twice (λ x. x - m) (λ x. n + x) (λ x. n - m + x) (λ x. omega arith) rs
 
 pub up-none : (n : ℕ) (rs : List (ℕ × ℕ)) → n ≡ 0 → runs_shifted_up n rs ≡ rs
-up-none n rs e = sym (moved_twice (λ x. x) (λ x. x) (λ x. n + x) (λ x. omega arith) rs) ∙ ap (map (λ (r : ℕ × ℕ). (r.0, r.1))) (map-id rs) ∙ map-id rs
+up-none n rs e =
+    sym (moved_twice (λ x. x) (λ x. x) (λ x. n + x) (λ x. omega arith) rs)
+    ∙ ap (map (λ (r : ℕ × ℕ). (r.0, r.1))) (map-id rs) ∙ map-id rs
 
 -- a range that joins them, counted alike
 pub up-runs_with_range : (n : ℕ) (rs : List (ℕ × ℕ)) (lo hi : ℕ) →
@@ -91,7 +94,8 @@ up-runs_with_range n (r ∷ rs) lo hi =
     ∙ sym (step_meets q ups (n + lo) (n + hi) (omega arith) (omega arith))))
 
 -- runs without their first
-pub rest_of_runs : (n : ℕ) (rs : List (ℕ × ℕ)) (r : ℕ × ℕ) (rest : List (ℕ × ℕ)) → rs ≡ r ∷ rest → AreRuns rs → FitsFrom n rs →
+pub rest_of_runs : (n : ℕ) (rs : List (ℕ × ℕ)) (r : ℕ × ℕ) (rest : List (ℕ × ℕ)) → rs ≡ r ∷ rest → AreRuns rs →
+    FitsFrom n rs →
     AreRuns rest × FitsFrom n rest
 rest_of_runs n rs r rest e h f =
     (rising_from 0 (r.1 + 1) rest (omega arith) (subst AreRuns e h).2, (subst (FitsFrom n) e f).1)
@@ -224,13 +228,16 @@ down-none n [] e = refl
 down-none n (r ∷ rs) e = absurd (omega arith)
 
 pub down-zero : (n : ℕ) (rs : List (ℕ × ℕ)) → n ≡ 0 → runs_shifted_down n rs ≡ rs
-down-zero n rs e = ap (runs_shifted_down n) (sym (map-id rs)) ∙ moved_twice (λ x. x - n) (λ x. x) (λ x. x) (λ x. omega arith) rs ∙ map-id rs
+down-zero n rs e =
+    ap (runs_shifted_down n) (sym (map-id rs)) ∙ moved_twice (λ x. x - n) (λ x. x) (λ x. x) (λ x. omega arith) rs
+    ∙ map-id rs
 
 pub some-runs_with_range : (rs : List (ℕ × ℕ)) (lo hi : ℕ) → 0 < length (runs_with_range rs lo hi)
 some-runs_with_range [] lo hi = omega arith
 some-runs_with_range (r ∷ rs) lo hi =
     cond_both (nat_lt r.1 lo) _ _ (λ l. 0 < length l) (λ _. omega arith) (λ _.
-    cond_both (nat_lt hi r.0) _ _ (λ l. 0 < length l) (λ _. omega arith) (λ _. some-runs_with_range rs (min r.0 lo) (max r.1 hi)))
+    cond_both (nat_lt hi r.0) _ _ (λ l. 0 < length l) (λ _. omega arith)
+    (λ _. some-runs_with_range rs (min r.0 lo) (max r.1 hi)))
 
 -- rising runs of which the run k begins later
 pub rising-cut : (low : ℕ) (rs : List (ℕ × ℕ)) (k m : ℕ) → IsRising low rs → start_at rs k ≤ m → m < end_at rs k →
@@ -248,11 +255,13 @@ pub down-cut : (rs : List (ℕ × ℕ)) (k m : ℕ) → start_at rs k ≤ m →
     runs_shifted_down m (drop k (set rs k (m, end_at rs k))) ≡ runs_shifted_down m (drop k rs)
 down-cut [] zero m a = refl
 down-cut [] (suc k) m a = refl
-down-cut (r ∷ rs) zero m a = let zeroth : m - m ≡ r.0 - m = omega arith in λ i. (zeroth i, r.1 - m) ∷ runs_shifted_down m rs
+down-cut (r ∷ rs) zero m a =
+    let zeroth : m - m ≡ r.0 - m = omega arith in λ i. (zeroth i, r.1 - m) ∷ runs_shifted_down m rs
 down-cut (r ∷ rs) (suc k) m a = down-cut rs k m a
 
 -- runs whose ends fit don't wrap
-pub wrapped-up : (by low : ℕ) (rs : List (ℕ × ℕ)) → IsRising low rs → FitsFrom by rs → runs_wrapped by rs ≡ runs_shifted_up by rs
+pub wrapped-up : (by low : ℕ) (rs : List (ℕ × ℕ)) → IsRising low rs → FitsFrom by rs →
+    runs_wrapped by rs ≡ runs_shifted_up by rs
 wrapped-up by low [] h f = refl
 wrapped-up by low (r ∷ rs) h f =
     let start : (by + r.0) % 2 ^ 64 ≡ by + r.0 = mod-eq_of_lt (omega (arith, h.1, f.0)) in
@@ -284,7 +293,8 @@ usize-up by low (r ∷ rs) h f =
 pub tail_usize : (by n : ℕ) (rs : List (ℕ × ℕ)) → AreRuns rs → FitsFrom by rs → AreUsize (runs_wrapped by (drop n rs))
 tail_usize by n rs h f = usize-up by 0 (drop n rs) (rising-drop 0 rs n 0 h (λ k a b. omega arith)) (fits-drop by n rs f)
 
-pub usize-down : (n m : ℕ) (rs : List (ℕ × ℕ)) → n + m ≡ 2 ^ 64 → IsRising m rs → FitsFrom 0 rs → AreUsize (runs_wrapped n rs)
+pub usize-down : (n m : ℕ) (rs : List (ℕ × ℕ)) → n + m ≡ 2 ^ 64 → IsRising m rs → FitsFrom 0 rs →
+    AreUsize (runs_wrapped n rs)
 usize-down n m [] e h f = tt
 usize-down n m (r ∷ rs) e h f =
     let start = wraps n m r.0 e h.0 (omega (arith, h.1, f.0)) in
@@ -316,7 +326,8 @@ moved_usize by at used k xs ys a l room f held =
 -- a range, and the first pairs of an array that it meets, each counted by higher: those from first up to next
 module _ (xs : List (ℕ × ℕ)) (used by start end first next : ℕ) (h : AreRuns (take used xs)) (room : used ≤ length xs)
     (f : FitsFrom by (take used xs)) (some : start < end) (one_way : 0 < by → start ≡ 0) (within : next ≤ used)
-    (before : (k : ℕ) → k < first → end_at xs k < start) (after : (k : ℕ) → next ≤ k → k < used → end < by + start_at xs k) where
+    (before : (k : ℕ) → k < first → end_at xs k < start)
+    (after : (k : ℕ) → next ≤ k → k < used → end < by + start_at xs k) where
   abbrev cs : List (ℕ × ℕ)
   cs = take used xs
 
@@ -327,7 +338,8 @@ module _ (xs : List (ℕ × ℕ)) (used by start end first next : ℕ) (h : AreR
   len = length-take-le used xs room
 
   pair_is : (k : ℕ) → k < used → (start_at cs k ≡ start_at xs k) × (end_at cs k ≡ end_at xs k)
-  pair_is k l = let same = get_or-take used xs k (0, 0) l in (ap (λ (r : ℕ × ℕ). r.0) same, ap (λ (r : ℕ × ℕ). r.1) same)
+  pair_is k l =
+      let same = get_or-take used xs k (0, 0) l in (ap (λ (r : ℕ × ℕ). r.0) same, ap (λ (r : ℕ × ℕ). r.1) same)
 
   ups_len : length ups ≡ used
   ups_len = length-up by cs ∙ len
@@ -336,7 +348,8 @@ module _ (xs : List (ℕ × ℕ)) (used by start end first next : ℕ) (h : AreR
   up_before few k l =
       let at = end_at-up by cs k (omega (arith, len)) in
       let p = before k l in
-      either (cases_lt 0 by) (λ b. let zeroth = one_way b in absurd (omega arith)) (λ b. omega (arith, pair_is k (omega arith)))
+      either (cases_lt 0 by) (λ b. let zeroth = one_way b in absurd (omega arith))
+      (λ b. omega (arith, pair_is k (omega arith)))
 
   up_after : (k : ℕ) → next ≤ k → k < length ups → end < start_at ups k
   up_after k a b =
@@ -344,14 +357,17 @@ module _ (xs : List (ℕ × ℕ)) (used by start end first next : ℕ) (h : AreR
       omega (arith, start_at-up by cs k (omega (arith, len)), after k a l, pair_is k l)
 
   tail : (n : ℕ) → runs_wrapped by (drop n cs) ≡ drop n ups
-  tail n = wrapped-up by 0 (drop n cs) (rising-drop 0 cs n 0 h (λ k a b. omega arith)) (fits-drop by n cs f) ∙ sym (drop-up by n cs)
+  tail n =
+      wrapped-up by 0 (drop n cs) (rising-drop 0 cs n 0 h (λ k a b. omega arith)) (fits-drop by n cs f)
+      ∙ sym (drop-up by n cs)
 
   start_same : first ≤ used → take first xs ≡ take first ups
   start_same few =
       either (cases_lt 0 first)
       (λ l.
       let p = before 0 l in
-      let same : by ≡ 0 = either (cases_lt 0 by) (λ b. let zeroth = one_way b in absurd (omega arith)) (λ b. omega arith) in
+      let same : by ≡ 0 =
+          either (cases_lt 0 by) (λ b. let zeroth = one_way b in absurd (omega arith)) (λ b. omega arith) in
       sym (take-take first used xs few) ∙ ap (take first) (sym (up-none by cs same)))
       (λ l. let zeroth : first ≡ 0 = omega arith in ap (λ n. take n xs) zeroth ∙ ap (λ n. take n ups) (sym zeroth))
 
@@ -364,21 +380,28 @@ module _ (xs : List (ℕ × ℕ)) (used by start end first next : ℕ) (h : AreR
     inserted_run = (λ i. start_same (omega arith) i ++ (start, end) ∷ tail first i) ∙ sym alone
 
     pub refused_run : length (runs_with_range ups start end) ≡ used + 1
-    refused_run = ap length alone ∙ length_apart ups first (start, end) (omega (arith, ups_len)) ∙ omega (arith, ups_len)
+    refused_run =
+        ap length alone ∙ length_apart ups first (start, end) (omega (arith, ups_len)) ∙ omega (arith, ups_len)
 
-  module _ (few : first < next) (from : start ≤ end_at xs first) (upto : (k : ℕ) → first ≤ k → k < next → by + start_at xs k ≤ end) (lo hi : ℕ)
+  module _ (few : first < next) (from : start ≤ end_at xs first)
+      (upto : (k : ℕ) → first ≤ k → k < next → by + start_at xs k ≤ end) (lo hi : ℕ)
       (low : lo ≡ min (by + start_at xs first) start) (high : hi ≡ max (by + end_at xs (next - 1)) end) where
     pub joined_run : take first xs ++ (lo, hi) ∷ runs_wrapped by (drop next cs) ≡ runs_with_range ups start end
     joined_run =
         let last : suc (next - 1) ≡ next = omega arith in
         let at_first = pair_is first (omega arith) in
-        let lo_is : lo ≡ min (start_at ups first) start = omega (arith, low, at_first, start_at-up by cs first (omega (arith, len))) in
-        let hi_is : hi ≡ max (end_at ups (next - 1)) end = omega (arith, high, pair_is (next - 1) (omega arith), end_at-up by cs (next - 1) (omega (arith, len))) in
+        let lo_is : lo ≡ min (start_at ups first) start =
+            omega (arith, low, at_first, start_at-up by cs first (omega (arith, len))) in
+        let hi_is : hi ≡ max (end_at ups (next - 1)) end =
+            omega (arith, high, pair_is (next - 1) (omega arith), end_at-up by cs (next - 1) (omega (arith, len))) in
         (λ i. start_same (omega arith) i ++ (lo_is i, hi_is i) ∷ tail next i)
-        ∙ (λ i. take first ups ++ (min (start_at ups first) start, max (end_at ups (next - 1)) end) ∷ drop (sym last i) ups)
-        ∙ sym (joined_at 0 ups first (next - 1) start end (runs-up by cs h) (omega arith) (omega (arith, ups_len)) (up_before (omega arith))
+        ∙ (λ i. take first ups
+        ++ (min (start_at ups first) start, max (end_at ups (next - 1)) end) ∷ drop (sym last i) ups)
+        ∙ sym (joined_at 0 ups first (next - 1) start end (runs-up by cs h) (omega arith) (omega (arith, ups_len))
+        (up_before (omega arith))
         (omega (arith, from, at_first, end_at-up by cs first (omega (arith, len))))
-        (λ k a b. omega (arith, upto k a (omega arith), pair_is k (omega arith), start_at-up by cs k (omega (arith, len))))
+        (λ k a b.
+        omega (arith, upto k a (omega arith), pair_is k (omega arith), start_at-up by cs k (omega (arith, len))))
         (λ k a b. up_after k (omega arith) b))
 
 -- a number and its negative, if it isn't 0

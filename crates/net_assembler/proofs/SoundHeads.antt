@@ -97,7 +97,8 @@ module _ (h : AssemblerHead) (xs : List (ℕ × ℕ)) (s : HasSoundRuns h xs) wh
   pub run_listed : (k : ℕ) → k < h.used →
       slice_get (maximal_runs (set_of h xs)) k ≡ Some (h.first_start + start_at xs k, h.first_start + end_at xs k)
   run_listed k l =
-      ap (λ rs. slice_get rs k) maximal_runs-set_of ∙ slice_get-get_or (runs_of h xs) k (0, 0) (omega (arith, length-runs_of))
+      ap (λ rs. slice_get rs k) maximal_runs-set_of
+      ∙ slice_get-get_or (runs_of h xs) k (0, 0) (omega (arith, length-runs_of))
       ∙ ap Some (run_at k l)
 
   pub no_run_listed : (k : ℕ) → h.used ≤ k → slice_get (maximal_runs (set_of h xs)) k ≡ None
@@ -105,7 +106,8 @@ module _ (h : AssemblerHead) (xs : List (ℕ × ℕ)) (s : HasSoundRuns h xs) wh
       ap (λ rs. slice_get rs k) maximal_runs-set_of ∙ slice_get_past (runs_of h xs) k (omega (arith, length-runs_of))
 
   -- the hole after the run k
-  pub hole_after : (k : ℕ) → k + 1 < h.used → slice_get (holes_before (end_at (runs_of h xs) 0) (drop 1 (runs_of h xs))) k
+  pub hole_after : (k : ℕ) → k + 1 < h.used →
+      slice_get (holes_before (end_at (runs_of h xs) 0) (drop 1 (runs_of h xs))) k
       ≡ Some (h.first_start + end_at xs k, h.first_start + start_at xs (k + 1))
   hole_after k l =
       let next : suc k ≡ k + 1 = omega arith in
@@ -123,7 +125,8 @@ module _ (h : AssemblerHead) (xs : List (ℕ × ℕ)) (s : HasSoundRuns h xs) wh
   -- no run at 0
   pub no_front : (0 < h.used → 0 < h.first_start) → 0 ≡ front (set_of h xs)
   no_front later =
-      front_of_runs-none (runs_of h xs) (λ l e. let some = length-runs_of in absurd (omega (arith, run_start (omega arith), later (omega arith))))
+      front_of_runs-none (runs_of h xs)
+      (λ l e. let some = length-runs_of in absurd (omega (arith, run_start (omega arith), later (omega arith))))
       ∙ sym front-set_of
 
   -- a run at 0
@@ -141,7 +144,8 @@ module _ (h : AssemblerHead) (xs : List (ℕ × ℕ)) (s : HasSoundRuns h xs) wh
       ∙ (λ i. runs_shifted_down (sym e i) (sym (drop-up h.first_start k (used_runs h xs)) i))
 
   -- the last of n runs, of which all but the first start by m
-  pub starts_by : (n m : ℕ) → 0 < n → n ≤ h.used → ((k : ℕ) → 1 ≤ k → k < n → start_at xs k ≤ m) → start_at xs (n - 1) ≤ m
+  pub starts_by : (n m : ℕ) → 0 < n → n ≤ h.used → ((k : ℕ) → 1 ≤ k → k < n → start_at xs k ≤ m) →
+      start_at xs (n - 1) ≤ m
   starts_by n m some few before =
       either (cases_lt 0 (n - 1)) (λ b. before (n - 1) b (omega arith))
       (λ b. let zeroth : n - 1 ≡ 0 = omega arith in omega (arith, ap (start_at xs) zeroth, first_pair (omega arith)))
@@ -160,7 +164,8 @@ module _ (h : AssemblerHead) (xs : List (ℕ × ℕ)) (s : HasSoundRuns h xs) wh
   contains-below q l = contains-set_of_runs (runs_of h xs) q ∙ in_runs-below h.first_start (used_runs h xs) q l
 
   pub contains-none : (q : ℕ) → h.used ≡ 0 → contains (set_of h xs) q ≡ false
-  contains-none q e = ap (λ (t : Positions). contains t q) (no_runs (runs_of h xs) (length-runs_of ∙ e)) ∙ contains-nothing q
+  contains-none q e =
+      ap (λ (t : Positions). contains t q) (no_runs (runs_of h xs) (length-runs_of ∙ e)) ∙ contains-nothing q
 
   -- runs that start later rise from 1 on, and those after the first from its end
   pub later_runs : 0 < h.first_start → IsRising 1 (maximal_runs (set_of h xs))
@@ -172,11 +177,13 @@ module _ (h : AssemblerHead) (xs : List (ℕ × ℕ)) (s : HasSoundRuns h xs) wh
 
   -- each position is below the greatest number of `usize`
   pub position_fits : (p : ℕ) → IsTrue (contains (set_of h xs) p) → p + 1 + shortfall < 2 ^ 64
-  position_fits p m = in_runs-fits h.first_start (used_runs h xs) p s.fits (sym (contains-set_of_runs (runs_of h xs) p) ∙ m)
+  position_fits p m =
+      in_runs-fits h.first_start (used_runs h xs) p s.fits (sym (contains-set_of_runs (runs_of h xs) p) ∙ m)
 
   -- where only `first_start` changes
   pub lowered : (m : ℕ) → HasSoundRuns (record { used = h.used; first_start = h.first_start - m }) xs
-  lowered m = record { room = s.room; runs = s.runs; first = s.first; fits = fits_from (h.first_start - m) (omega arith) }
+  lowered m =
+      record { room = s.room; runs = s.runs; first = s.first; fits = fits_from (h.first_start - m) (omega arith) }
 
   pub lowered_set : (m : ℕ) → m ≤ h.first_start →
       set_of (record { used = h.used; first_start = h.first_start - m }) xs ≡ shift_down (set_of h xs) m
@@ -191,7 +198,8 @@ module _ (h : AssemblerHead) (xs : List (ℕ × ℕ)) (s : HasSoundRuns h xs) wh
 
   -- what is left of the set where all is counted from m on, and the first n runs end by then
   pub left_set : (n m top : ℕ) (g : AssemblerHead) (ys : List (ℕ × ℕ)) → n ≤ h.used → (0 < n → end_at xs (n - 1) ≤ m) →
-      top ≡ h.first_start + m → runs_of g ys ≡ runs_shifted_down m (drop n (used_runs h xs)) → set_of g ys ≡ shift_down (set_of h xs) top
+      top ≡ h.first_start + m → runs_of g ys ≡ runs_shifted_down m (drop n (used_runs h xs)) →
+      set_of g ys ≡ shift_down (set_of h xs) top
   left_set n m top g ys few last is e =
       ap set_of_runs (e ∙ dropped n m top is)
       ∙ set-shifted_down (runs_of h xs) n top (λ k l.
@@ -199,8 +207,10 @@ module _ (h : AssemblerHead) (xs : List (ℕ × ℕ)) (s : HasSoundRuns h xs) wh
       let by = ends_rise k (n - 1) (omega arith) (omega arith) in
       omega (arith, last (omega arith)))
 
-  pub left_after_front : (m : ℕ) (g : AssemblerHead) (ys : List (ℕ × ℕ)) → 0 < h.used → h.first_start ≡ 0 → m ≡ end_at xs 0 →
-      runs_of g ys ≡ runs_shifted_down m (drop 1 (used_runs h xs)) → set_of g ys ≡ shift_down (set_of h xs) (front (set_of h xs))
+  pub left_after_front : (m : ℕ) (g : AssemblerHead) (ys : List (ℕ × ℕ)) → 0 < h.used → h.first_start ≡ 0 →
+      m ≡ end_at xs 0 →
+      runs_of g ys ≡ runs_shifted_down m (drop 1 (used_runs h xs)) →
+      set_of g ys ≡ shift_down (set_of h xs) (front (set_of h xs))
   left_after_front m g ys some zeroth is e =
       left_set 1 m (front (set_of h xs)) g ys some (λ _. omega arith) (omega (arith, first_front some zeroth)) e
 
@@ -223,7 +233,8 @@ module _ (h : AssemblerHead) (xs : List (ℕ × ℕ)) (s : HasSoundRuns h xs) wh
     pub cut_fits : FitsFrom h.first_start (used_runs h (set xs n (m, e)))
     cut_fits = subst (FitsFrom h.first_start) (sym cut_used) (fits-cut h.first_start (used_runs h xs) n m s.fits)
 
-    pub cut_left : runs_shifted_down m (drop n (used_runs h (set xs n (m, e)))) ≡ runs_shifted_down m (drop n (used_runs h xs))
+    pub cut_left : runs_shifted_down m (drop n (used_runs h (set xs n (m, e))))
+        ≡ runs_shifted_down m (drop n (used_runs h xs))
     cut_left =
         ap (λ rs. runs_shifted_down m (drop n rs)) cut_used
         ∙ down-cut (used_runs h xs) n m (omega (arith, a, start_of n l))
@@ -232,7 +243,8 @@ pub lowered_runs : (h : AssemblerHead) (xs : List (ℕ × ℕ)) → HasSoundRuns
     runs (set_of (record { used = h.used; first_start = h.first_start - m }) xs) ≡ h.used
 lowered_runs h xs s m = runs-set_of _ _ (lowered h xs s m)
 
-pub holes-set_of : (h : AssemblerHead) (xs : List (ℕ × ℕ)) → HasSoundRuns h xs → holes (set_of h xs) ≡ holes_before 0 (runs_of h xs)
+pub holes-set_of : (h : AssemblerHead) (xs : List (ℕ × ℕ)) → HasSoundRuns h xs →
+    holes (set_of h xs) ≡ holes_before 0 (runs_of h xs)
 unfolding holes
 holes-set_of h xs s = ap (holes_before 0) (maximal_runs-set_of h xs s)
 
@@ -251,7 +263,8 @@ module _ (h : AssemblerHead) (xs : List (ℕ × ℕ)) (g : AssemblerHead) (ys : 
       ∙ run_start g ys t (omega (arith, same_number e))
 
   pub same_pairs : 0 < h.used → set_of h xs ≡ set_of g ys → used_runs h xs ≡ used_runs g ys
-  same_pairs l e = up-injective h.first_start g.first_start (used_runs h xs) (used_runs g ys) (same_first_start l e) (same_runs e)
+  same_pairs l e =
+      up-injective h.first_start g.first_start (used_runs h xs) (used_runs g ys) (same_first_start l e) (same_runs e)
 
 -- a range that was added, and one that wasn't
 module _ (h : AssemblerHead) (xs : List (ℕ × ℕ)) (g : AssemblerHead) (ys : List (ℕ × ℕ)) (s : HasSoundRuns h xs)
@@ -296,7 +309,8 @@ none_added h xs s o k e = record {
   bound = few_held h xs s;
 }
 
--- a range that joins the runs, where all is counted from low on: by higher than the first run starts, which is f; without a run
+-- a range that joins the runs, where all is counted from low on: by higher than the first run starts, which is f;
+-- without a run
 -- f is where the range starts
 module _ (h : AssemblerHead) (xs : List (ℕ × ℕ)) (s : HasSoundRuns h xs) (o k f low by lo hi : ℕ) (l : lo < hi)
     (up : low + by ≡ f) (at : low + lo ≡ o) (upto : low + hi ≡ o + k) (one_way : 0 < by → lo ≡ 0)
@@ -318,15 +332,21 @@ module _ (h : AssemblerHead) (xs : List (ℕ × ℕ)) (s : HasSoundRuns h xs) (o
       (λ b. let start = waits b in fits-up low by h.first_start (used_runs h xs) (omega arith) s.fits)
       (λ b. subst (FitsFrom low) (sym (ap (runs_shifted_up by) (nil (omega arith)))) tt)
 
-  joined_sound : (m : ℕ) (ys : List (ℕ × ℕ)) → m ≤ length ys → o + k + shortfall < 2 ^ 64 → take m ys ≡ runs_with_range counted lo hi →
+  joined_sound : (m : ℕ) (ys : List (ℕ × ℕ)) → m ≤ length ys → o + k + shortfall < 2 ^ 64 →
+      take m ys ≡ runs_with_range counted lo hi →
       HasSoundRuns (record { used = m; first_start = low }) ys
   joined_sound m ys room fits e = record {
     room = room;
-    runs = subst AreRuns (sym e) (rising-runs_with_range 0 counted lo hi (runs-up by (used_runs h xs) s.runs) (omega arith) l);
+    runs =
+        subst AreRuns (sym e)
+        (rising-runs_with_range 0 counted lo hi (runs-up by (used_runs h xs) s.runs) (omega arith) l);
     first = subst StartsAtZero (sym e) (either (cases_lt 0 by)
         (λ b. zero-runs_with_range counted lo hi (one_way b))
-        (λ b. first-runs_with_range counted lo hi (subst StartsAtZero (sym (up-none by (used_runs h xs) (omega arith))) s.first)
-        (λ z. let begin = none (omega (arith, z, length-up by (used_runs h xs), length-used_runs h xs s)) in omega arith)));
+        (λ b.
+        let unmoved = up-none by (used_runs h xs) (omega arith) in
+        let count = length-up by (used_runs h xs) in
+        first-runs_with_range counted lo hi (subst StartsAtZero (sym unmoved) s.first)
+        (λ z. let begin = none (omega (arith, z, count, length-used_runs h xs s)) in omega arith)));
     fits = subst (FitsFrom low) (sym e) (fits-runs_with_range low counted lo hi counted_fits (omega arith));
   }
 
@@ -340,7 +360,8 @@ module _ (h : AssemblerHead) (xs : List (ℕ × ℕ)) (s : HasSoundRuns h xs) (o
   joined_length : length (runs_with_range (runs_of h xs) o (o + k)) ≡ length (runs_with_range counted lo hi)
   joined_length = ap length (sym shown) ∙ length-up low (runs_with_range counted lo hi)
 
-  pub joined_in_place : (m : ℕ) (ys : List (ℕ × ℕ)) (counts new_counts : ℕ × ℕ) → length ys ≡ length xs → m ≤ length ys → 0 < m → 0 < k →
+  pub joined_in_place : (m : ℕ) (ys : List (ℕ × ℕ)) (counts new_counts : ℕ × ℕ) → length ys ≡ length xs →
+      m ≤ length ys → 0 < m → 0 < k →
       o + k + shortfall < 2 ^ 64 → take m ys ≡ runs_with_range counted lo hi →
       TurnsWithin (2 * binary_digits (length xs)) (length xs) counts new_counts →
       AddsInPlace h xs o k (Ok tt) (record { used = m; first_start = low }) ys counts new_counts
@@ -370,8 +391,9 @@ module _ (h : AssemblerHead) (xs : List (ℕ × ℕ)) (s : HasSoundRuns h xs) (o
   plain e = ap (λ rs. runs_with_range rs lo hi) (sym (up-none by (used_runs h xs) e))
 
 -- a range that is added after a search
-pub searched : (h : AssemblerHead) (xs : List (ℕ × ℕ)) (o k : ℕ) (r : Result (Unit {0}) TooManyHolesError) (g : AssemblerHead) (ys : List (ℕ × ℕ))
-    (old counts new : ℕ × ℕ) → AddsInPlace h xs o k r g ys counts new → old.0 ≤ counts.0 → counts.0 ≤ old.0 + binary_digits (length xs) →
+pub searched : (h : AssemblerHead) (xs : List (ℕ × ℕ)) (o k : ℕ) (r : Result (Unit {0}) TooManyHolesError)
+    (g : AssemblerHead) (ys : List (ℕ × ℕ)) (old counts new : ℕ × ℕ) → AddsInPlace h xs o k r g ys counts new →
+    old.0 ≤ counts.0 → counts.0 ≤ old.0 + binary_digits (length xs) →
     counts.1 ≡ old.1 → new.0 ≤ counts.0 + binary_digits (length xs) → AddsInPlace h xs o k r g ys old new
 searched h xs o k r g ys old counts new all few most same looks = record {
   sound = all.sound;
@@ -387,7 +409,8 @@ searched h xs o k r g ys old counts new all few most same looks = record {
 }
 
 -- data that comes next, and reaches no run, is the front and removed
-pub next_removed : (most_runs o n : ℕ) (s t : Positions) → o ≡ 0 → contains s n ≡ false → t ≡ shift_down s n → runs t ≤ most_runs →
+pub next_removed : (most_runs o n : ℕ) (s t : Positions) → o ≡ 0 → contains s n ≡ false → t ≡ shift_down s n →
+    runs t ≤ most_runs →
     AddsThenRemovesFront most_runs s o n (Ok n) t
 next_removed most_runs o n s t z misses e few = record {
   value = (
@@ -399,7 +422,8 @@ next_removed most_runs o n s t z misses e few = record {
 }
 
 -- a range at 0 that reaches the first run makes no more runs
-pub reaches_some : (h : AssemblerHead) (xs : List (ℕ × ℕ)) → HasSoundRuns h xs → (size : ℕ) → 0 < h.used → h.first_start ≤ size →
+pub reaches_some : (h : AssemblerHead) (xs : List (ℕ × ℕ)) → HasSoundRuns h xs → (size : ℕ) → 0 < h.used →
+    h.first_start ≤ size →
     (t : Positions) → t ≡ with_range (set_of h xs) 0 size → runs t ≤ h.used
 reaches_some h xs s size some reach t e =
     let count = length-runs_of h xs s in
@@ -416,18 +440,22 @@ reaches_some h xs s size some reach t e =
     meets_first : (rs : List (ℕ × ℕ)) (lo hi : ℕ) → 0 < length rs → lo ≤ end_at rs 0 → start_at rs 0 ≤ hi →
         length (runs_with_range rs lo hi) ≤ length rs
     meets_first [] lo hi l a b = absurd (omega arith)
-    meets_first (r ∷ rs) lo hi l a b = omega (arith, ap length (step_meets r rs lo hi a b), few_with_range rs (min r.0 lo) (max r.1 hi))
+    meets_first (r ∷ rs) lo hi l a b =
+        omega (arith, ap length (step_meets r rs lo hi a b), few_with_range rs (min r.0 lo) (max r.1 hi))
 
 -- the set without the first run, counted from a position at or after its end
-without_first : (h : AssemblerHead) (xs : List (ℕ × ℕ)) → HasSoundRuns h xs → (end : ℕ) → 0 < h.used → end_at xs 0 ≤ end →
-    set_of_runs (runs_shifted_down (h.first_start + end) (drop 1 (runs_of h xs))) ≡ shift_down (set_of h xs) (h.first_start + end)
+without_first : (h : AssemblerHead) (xs : List (ℕ × ℕ)) → HasSoundRuns h xs → (end : ℕ) → 0 < h.used →
+    end_at xs 0 ≤ end →
+    set_of_runs (runs_shifted_down (h.first_start + end) (drop 1 (runs_of h xs)))
+    ≡ shift_down (set_of h xs) (h.first_start + end)
 without_first h xs s end some last =
     set-shifted_down (runs_of h xs) 1 (h.first_start + end) (λ k l.
     let zeroth : k ≡ 0 = omega arith in
     omega (arith, ap (end_at (runs_of h xs)) zeroth, ap (λ (r : ℕ × ℕ). r.1) (run_at h xs s 0 some)))
 
 -- a front that is there
-front_there : (h : AssemblerHead) (xs : List (ℕ × ℕ)) → HasSoundRuns h xs → (end : ℕ) → 0 < end → end ≡ front (set_of h xs) →
+front_there : (h : AssemblerHead) (xs : List (ℕ × ℕ)) → HasSoundRuns h xs → (end : ℕ) → 0 < end →
+    end ≡ front (set_of h xs) →
     (0 < h.used) × (h.first_start ≡ 0) × (end ≡ end_at xs 0)
 front_there h xs s end some is =
     either (cases_lt 0 h.used)
@@ -438,7 +466,8 @@ front_there h xs s end some is =
 
 -- the front of a sound head, once the range (o, k) is in its set
 pub front_ends : (h : AssemblerHead) (xs : List (ℕ × ℕ)) (o k : ℕ) (g : AssemblerHead) (ys : List (ℕ × ℕ)) (end : ℕ) →
-    HasSoundRuns g ys → set_of g ys ≡ with_range (set_of h xs) o k → g.used ≤ h.used + 1 → (0 < o → length ys ≤ length xs) →
+    HasSoundRuns g ys → set_of g ys ≡ with_range (set_of h xs) o k → g.used ≤ h.used + 1 →
+    (0 < o → length ys ≤ length xs) →
     end ≡ front (set_of g ys) → FrontEnds h xs o k g ys end
 front_ends h xs o k g ys end t same few long is =
     let there = λ (some : 0 < end). front_there g ys t end some is in
@@ -451,12 +480,16 @@ front_ends h xs o k g ys end t same few long is =
       second = λ some l. omega (arith, (there some).2, pairs_apart g ys t 0 1 (omega arith) l);
       fits = λ some. omega (arith, (there some).2, pair_fits g ys t 0 (there some).0);
       front = λ some. omega (arith, (there some).1, is, ap front same);
-      rest = λ some. without_first g ys t end (there some).0 (omega (arith, (there some).2)) ∙ ap (λ u. shift_down u (g.first_start + end)) same;
+      rest =
+          λ some. without_first g ys t end (there some).0 (omega (arith, (there some).2))
+          ∙ ap (λ u. shift_down u (g.first_start + end)) same;
     }
 
 -- a range at 0 that reaches the first run, and not the second
-pub first_reached : (h : AssemblerHead) (xs : List (ℕ × ℕ)) → HasSoundRuns h xs → (size end : ℕ) → 0 < h.used → h.first_start ≤ size →
-    size + shortfall < 2 ^ 64 → end ≡ max (end_at xs 0) (size - h.first_start) → (1 < h.used → size - h.first_start < start_at xs 1) →
+pub first_reached : (h : AssemblerHead) (xs : List (ℕ × ℕ)) → HasSoundRuns h xs → (size end : ℕ) → 0 < h.used →
+    h.first_start ≤ size →
+    size + shortfall < 2 ^ 64 → end ≡ max (end_at xs 0) (size - h.first_start) →
+    (1 < h.used → size - h.first_start < start_at xs 1) →
     FrontEnds h xs 0 size h xs end
 first_reached h xs s size end some reach fits is second =
     let rs = runs_of h xs in
@@ -473,7 +506,8 @@ first_reached h xs s size end some reach fits is second =
         omega (arith, at, is, next, second (omega arith), pairs_apart h xs s 0 k a l) in
     let held : (q : ℕ) → h.first_start ≤ q → q ≤ n → contains (set_of h xs) q ≡ nat_lt q (end_at rs 0) = λ q a b.
         contains-set_of_runs rs q
-        ∙ in_run_at 0 rs 0 q (are_runs h xs s) (omega (arith, count)) (omega (arith, begin)) (λ k c d. let l = later k c d in omega arith) in
+        ∙ in_run_at 0 rs 0 q (are_runs h xs s) (omega (arith, count)) (omega (arith, begin))
+        (λ k c d. let l = later k c d in omega arith) in
     record {
       sound = s;
       few = omega arith;
@@ -483,10 +517,13 @@ first_reached h xs s size end some reach fits is second =
       second = λ _ m. omega (arith, is, second m, pairs_apart h xs s 0 1 (omega arith) m);
       fits = λ _. omega (arith, is, pair_fits h xs s 0 some);
       front = λ _. sym (front-is _ n
-          (contains-with_range (set_of h xs) 0 size n ∙ (let missing = held n (omega arith) (omega arith) in grind (arith, nat_tests)))
+          (contains-with_range (set_of h xs) 0 size n
+          ∙ (let missing = held n (omega arith) (omega arith) in grind (arith, nat_tests)))
           (λ q l. contains-with_range (set_of h xs) 0 size q ∙ either (cases_lt q size) (λ b. grind (arith, nat_tests))
           (λ b. let there = held q (omega arith) (omega arith) in grind (arith, nat_tests))));
-      rest = λ _. without_first h xs s end some (omega arith) ∙ sym (shift_down-with_range (set_of h xs) size n (omega arith));
+      rest =
+          λ _. without_first h xs s end some (omega arith)
+          ∙ sym (shift_down-with_range (set_of h xs) size n (omega arith));
     }
 
 -- what follows from how a range is added
@@ -511,10 +548,12 @@ both_accepted n s o k (Err e) t a few =
     let more = one_run_more s o k in
     absurd (omega (arith, over.1))
 
-pub ruleset heads = (length-used_runs, length-runs_of, are_runs, runs-set_of, few_held, maximal_runs-set_of, front-set_of, pair_rises, run_listed,
-  pairs_apart, pair_fits, first_pair, run_start, no_front, first_front, lowered, holes-set_of, set_of_no_runs, runs-nothing, no_run_listed,
-  hole_after, no_hole_after, fits_from, contains-from, contains-below, later_runs, few_holes,
-  front_none, lowered_runs, front_later, shift_down-zero, left_set,
-  left_after_front, lowered_set, shift_down-none, are_same_decides)
+-- what the goals of a head's calls, and of an assembler's, are closed by
+pub ruleset heads = (length-used_runs, length-runs_of, are_runs, runs-set_of, few_held, maximal_runs-set_of,
+  front-set_of, pair_rises, pairs_apart, pair_fits, first_pair, run_start, run_listed, no_run_listed, hole_after, no_hole_after,
+  no_front, first_front, front_none, front_later, fits_from, contains-from, contains-below, later_runs, few_holes,
+  lowered, lowered_set, lowered_runs, left_set, left_after_front, holes-set_of, shift_down-zero, shift_down-none,
+  set_of_no_runs, runs-nothing, are_same_decides)
 
-pub ruleset assemblers = (few_held, runs-nothing, set_of_no_runs, added_accepted, added_more, both_accepted, few_binary_digits, rest_of_runs)
+pub ruleset assemblers = (few_held, runs-nothing, set_of_no_runs, added_accepted, added_more, both_accepted,
+  few_binary_digits, rest_of_runs)

@@ -42,13 +42,11 @@ loop-start-init g c =
 
 pub overflow_sub-contig : goal.overflow_sub-contig
 overflow_sub-contig g c =
-    (rises_next c.loop-start.from c.in-Some.start c.in-Some.end c.loop-start.start-iterator c.next.new.self c.in-Some.ensures.steps
-    c.loop-start.invariant.rises).0
+    (rises_next _ c.in-Some.start c.in-Some.end _ _ c.in-Some.ensures.steps c.loop-start.invariant.rises).0
 
 pub overflow_sub-contig-in-loop-start : goal.overflow_sub-contig-in-loop-start
 overflow_sub-contig-in-loop-start g c =
-    let next = rises_next c.loop-start.from c.in-Some.start c.in-Some.end c.loop-start.start-iterator c.next.new.self
-    c.in-Some.ensures.steps c.loop-start.invariant.rises in
+    let next = rises_next _ c.in-Some.start c.in-Some.end _ _ c.in-Some.ensures.steps c.loop-start.invariant.rises in
     omega (arith, next.1)
 
 pub loop-start-preserved : goal.loop-start-preserved
@@ -63,7 +61,8 @@ loop-start-preserved g c =
       rises = (rises_next from start end left c.next.new.self c.in-Some.ensures.steps c.loop-start.invariant.rises).2;
       written = (
         done ++ next,
-        text_next from start end left c.next.new.self (text_from 0 (maximal_runs c.args.self.now)) done c.in-Some.ensures.steps
+        text_next from start end left c.next.new.self
+        (text_from 0 (maximal_runs c.args.self.now)) done c.in-Some.ensures.steps
             c.loop-start.invariant.written.1,
         λ p.
             has_written_of_eq _ _ _ _ _ (append_assoc (codes "[ ") done next)
@@ -75,5 +74,5 @@ pub returns-clause-writes : goal.returns-clause-writes
 returns-clause-writes g c p ok =
     let inv = c.loop-start.invariant in
     has_written_of_eq _ _ _ _ _
-    (text_is c.args.self.now c.loop-start.from c.loop-start.start-iterator inv.written.0 c.in-None.ensures.steps.0 inv.written.1)
+    (text_is _ c.loop-start.from c.loop-start.start-iterator _ c.in-None.ensures.steps.0 inv.written.1)
     (has_written_append _ _ _ _ _ _ (inv.written.2 p) (search rules))

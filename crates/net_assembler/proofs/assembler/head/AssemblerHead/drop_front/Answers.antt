@@ -52,7 +52,8 @@ module _ (c : After-wrapping_neg) where
   usize : AreUsize (runs_wrapped c.wrapping_neg.result rest)
   usize = usize-down _ start rest turn rises fits_from_zero
 
-  module _ (n : ℕ) (ys : List (ℕ × ℕ)) (room : n ≤ length ys) (moved : take n ys ≡ runs_wrapped c.wrapping_neg.result rest) where
+  module _ (n : ℕ) (ys : List (ℕ × ℕ)) (room : n ≤ length ys)
+      (moved : take n ys ≡ runs_wrapped c.wrapping_neg.result rest) where
     abbrev g : AssemblerHead
     g = record { used = n; first_start = start - c.args.end }
 
@@ -63,8 +64,8 @@ module _ (c : After-wrapping_neg) where
     sound = record {
       room = room;
       runs = subst AreRuns (sym down) (rising-runs_shifted_down start 0 start rest (omega arith) rises);
-      first = subst StartsAtZero (sym down)
-          (first-down start rest (rest_starts xs h.used c.requires.runs c.requires.room c.args.count start c.requires.count is));
+      first = subst StartsAtZero (sym down) (first-down start rest
+          (rest_starts xs h.used c.requires.runs c.requires.room c.args.count start c.requires.count is));
       fits = subst (FitsFrom (start - c.args.end)) (sym down)
           (fits-down (start - c.args.end) start h.first_start rest (omega arith) rises fits);
     }
@@ -78,9 +79,11 @@ take_out-self-requires-clause-fits c = usize (goal.at.take_out-self-requires-cla
 pub returns-clause-sound : goal.returns-clause-sound
 returns-clause-sound c =
     sound (goal.at.returns-clause-sound c).After-wrapping_neg _ _
-    (omega (arith, c.requires.room, c.take_out-self.auto.runs, c.take_out-self.ensures.count)) c.take_out-self.ensures.runs
+    (omega (arith, c.requires.room, c.take_out-self.auto.runs, c.take_out-self.ensures.count))
+    c.take_out-self.ensures.runs
 
 pub returns-clause-runs : goal.returns-clause-runs
 returns-clause-runs c =
     left (goal.at.returns-clause-runs c).After-wrapping_neg _ _
-    (omega (arith, c.requires.room, c.take_out-self.auto.runs, c.take_out-self.ensures.count)) c.take_out-self.ensures.runs
+    (omega (arith, c.requires.room, c.take_out-self.auto.runs, c.take_out-self.ensures.count))
+    c.take_out-self.ensures.runs

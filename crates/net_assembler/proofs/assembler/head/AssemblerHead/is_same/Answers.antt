@@ -15,16 +15,20 @@ pair_decides x y =
     (λ t. let p = d.0 t in λ i. (p.0 i, p.1 i), λ e. d.1 (ap (λ (r : ℕ × ℕ). r.0) e, ap (λ (r : ℕ × ℕ). r.1) e))
 
 -- the first runs start at one position, and the pairs are compared
-compared : (c : After-eq) → Decides c.eq.result (set_of c.args.self.now c.args.runs.now ≡ set_of c.args.other.now c.args.other_runs.now)
+compared : (c : After-eq) →
+    Decides c.eq.result (set_of c.args.self.now c.args.runs.now ≡ set_of c.args.other.now c.args.other_runs.now)
 compared c =
-    let d = pointwise_decides pair_decides (used_runs c.args.self.now c.args.runs.now) (used_runs c.args.other.now c.args.other_runs.now) in
+    let d =
+        pointwise_decides pair_decides (used_runs c.args.self.now c.args.runs.now)
+        (used_runs c.args.other.now c.args.other_runs.now) in
     let start : c.args.self.now.first_start ≡ c.args.other.now.first_start = omega arith in (
       λ e. let pairs = d.0 (sym c.eq.ensures ∙ e) in λ i. set_of_runs (runs_shifted_up (start i) (pairs i)),
       λ e. c.eq.ensures ∙ d.1 (same_pairs _ _ _ _ c.requires.sound c.requires.other_sound (omega arith) e),
     )
 
 pub returns-then-self-other : goal.returns-then-self-other
-returns-then-self-other c = record { test = same_from_decides _ _ (compared c) (are_same_decides _ _); same = compared c }
+returns-then-self-other c =
+    record { test = same_from_decides _ _ (compared c) (are_same_decides _ _); same = compared c }
 
 -- they start at different positions
 pub returns-else-self-other : goal.returns-else-self-other
@@ -32,6 +36,7 @@ returns-else-self-other c =
     let apart : Decides (c.args.self.now.first_start == c.args.other.now.first_start)
         (set_of c.args.self.now c.args.runs.now ≡ set_of c.args.other.now c.args.other_runs.now) = (
       λ t. absurd (c.if-self-other.false (eqb-true _ _ t)),
-      λ e. absurd (c.if-self-other.false (same_first_start _ _ _ _ c.requires.sound c.requires.other_sound (omega arith) e)),
+      λ e. absurd
+      (c.if-self-other.false (same_first_start _ _ _ _ c.requires.sound c.requires.other_sound (omega arith) e)),
     ) in
     record { test = same_from_decides _ _ apart (are_same_decides _ _); same = apart }

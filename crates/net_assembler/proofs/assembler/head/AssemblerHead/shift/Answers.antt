@@ -18,7 +18,8 @@ module _ (c : Else-end-by) where
   start : start_at c.args.runs.now last ≤ by
   start =
       let met = c.runs_starting_by-met.ensures in
-      starts_by _ _ c.requires c.runs_starting_by-met.result by (omega (arith, met.from)) (omega (arith, met.within)) met.before
+      starts_by _ _ c.requires c.runs_starting_by-met.result by (omega (arith, met.from))
+      (omega (arith, met.within)) met.before
 
 pub drop_front-requires-2-clause-runs : goal.drop_front-requires-2-clause-runs
 drop_front-requires-2-clause-runs c =
@@ -34,6 +35,8 @@ pub returns-clause-set : goal.returns-clause-set
 returns-clause-set c =
     let e = (goal.at.returns-clause-set c).Else-end-by in
     left_set _ _ c.requires (last e) (by e) c.args.count _ _ (omega (arith, within e))
-    (λ some. omega (arith, start e, pairs_apart _ _ c.requires (last e - 1) (last e) (omega arith) (within e))) (omega arith)
+    (λ some. omega (arith, start e, pairs_apart _ _ c.requires (last e - 1) (last e) (omega arith) (within e)))
+    (omega arith)
     (c.drop_front-2.ensures.runs
-    ∙ cut_left _ _ c.requires (last e) (by e) c.end_of-end.result (within e) c.end_of-end.ensures (start e) (omega arith))
+    ∙ cut_left _ _ c.requires (last e) (by e) c.end_of-end.result (within e) c.end_of-end.ensures (start e)
+    (omega arith))
