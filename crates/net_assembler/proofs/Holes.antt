@@ -1,8 +1,8 @@
 -- The holes before rising runs.
-use Rattle.std.proofs.Common.{◌≡◌, ℕ, zero, suc, ◌+◌, ◌<◌, ◌≤◌, ◌==◌, List, [], ◌∷◌, length, drop, Some, None}
-use Rattle.std.proofs.Common.{refl, sym, ap, ◌∙◌, arith}
+use Rattle.std.proofs.Common.{◌≡◌, ℕ, zero, suc, ◌+◌, ◌<◌, ◌≤◌, ◌==◌, List, [], ◌∷◌, length, drop, Some, None, refl}
+use Rattle.std.proofs.Common.{ap, ◌∙◌, arith}
 use Rattle.std.specs.List.{slice_get}
-use Rattle.std.proofs.lemmas.Bool.{cond_both, cond-true, cond-false, eq-eqb, ne_eqb}
+use Rattle.std.proofs.lemmas.Bool.{cond_both, cond-false, ne_eqb}
 use Rattle.std.proofs.lemmas.List.{length-drop}
 use Rattle.std.proofs.lemmas.Option.{slice_get_past}
 use Rattle.net_assembler.specs.Positions.{holes_before}
@@ -33,22 +33,6 @@ pub no_hole : (rs : List (ℕ × ℕ)) (k : ℕ) → length rs ≤ k + 1 →
 no_hole rs k l =
     slice_get_past (holes_before (end_at rs 0) (drop 1 rs)) k
     (omega (arith, few_holes (end_at rs 0) (drop 1 rs), length-drop 1 rs))
-
--- where the first run is at 0, or there is none
-pub none_first : (rs : List (ℕ × ℕ)) → (0 < length rs → start_at rs 0 ≡ 0) →
-    holes_before 0 rs ≡ holes_before (end_at rs 0) (drop 1 rs)
-none_first [] first = refl
-none_first (r ∷ rs) first = cond-true _ _ _ (eq-eqb 0 r.0 (sym (first (omega arith))))
-
--- where a hole is before the first run
-pub hole_first : (rs : List (ℕ × ℕ)) → 0 < length rs → 0 < start_at rs 0 → slice_get (holes_before 0 rs) 0 ≡ Some (0, start_at rs 0)
-hole_first [] some first = absurd (omega arith)
-hole_first (r ∷ rs) some first = ap (λ hs. slice_get hs 0) (first_hole 0 r rs first)
-
-pub later_hole : (rs : List (ℕ × ℕ)) (k : ℕ) → (0 < length rs → 0 < start_at rs 0) →
-    slice_get (holes_before 0 rs) (suc k) ≡ slice_get (holes_before (end_at rs 0) (drop 1 rs)) k
-later_hole [] k first = refl
-later_hole (r ∷ rs) k first = ap (λ hs. slice_get hs (suc k)) (first_hole 0 r rs (first (omega arith)))
 
 pub rises_after : (rs : List (ℕ × ℕ)) → AreRuns rs → (0 < length rs → 0 < start_at rs 0) → IsRising 1 rs
 rises_after [] h first = tt

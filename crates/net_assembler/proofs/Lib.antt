@@ -1,11 +1,8 @@
-pub mod Positions
+pub mod Sets
 pub mod Runs
-pub mod RunLists
+pub mod Joins
 pub mod ShiftedRuns
-pub mod Heads
+pub mod SoundHeads
 pub mod Holes
 pub mod Moves
-pub mod WrappedRuns
-pub mod AssemblerText
-pub mod MaximalRuns
-pub mod AssemblerLaws
+pub mod Calls

@@ -1,5 +1,4 @@
 pub mod Positions
-pub mod Ranges
 pub mod RunLists
 pub mod Turns
 pub mod Width

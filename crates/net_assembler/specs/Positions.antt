@@ -8,9 +8,9 @@
 --     first_missing s p, front s, IsFirstMissing s p n      the first missing position, and the front
 --     shift_down s m, shift_up s n, runs_shifted_up n rs      sets and runs, counted from elsewhere
 --     are_same s t      whether two sets are one
-use Rattle.std.specs.Prelude.{◌≡◌, ℕ, zero, suc, ◌+◌, ◌-◌, ◌<◌, ◌≤◌, max, Bool, cond, not}
-use Rattle.std.specs.Prelude.{◌&&◌, ◌||◌, ◌==◌, List, [], ◌∷◌, ◌++◌, map, filter, length, nat_le}
-use Rattle.std.specs.Prelude.{nat_lt, nat_eq, IsTrue, IsFalse, All, AllPairs, count_by}
+use Rattle.std.specs.Prelude.{◌||◌, ◌≡◌, ℕ, zero, suc, ◌+◌, ◌-◌, ◌<◌, ◌≤◌, max, Bool, cond, not, ◌&&◌, ◌==◌, List, []}
+use Rattle.std.specs.Prelude.{◌∷◌, ◌++◌, map, filter, length, nat_le, nat_lt, nat_eq, IsTrue, IsFalse, All, AllPairs}
+use Rattle.std.specs.Prelude.{count_by}
 use Rattle.std.specs.List.{range_with_len}
 use Rattle.std.specs.Ordering.{nat_cmp}
 use Rattle.std.specs.Cmp.Lexicographic.{pointwise}

@@ -1,22 +1,17 @@
 -- Lists of runs (start, end), end not included, and the sets of positions that they represent.
 --     AreRuns rs      runs that rise, with a hole between neighbours
 --     run_positions rs, set_of_runs rs      their positions, as a list and as a set
---     runs_with_range rs lo hi      runs with a range
 --     runs_shifted_down m rs, StartsAtZero rs, FitsFrom n rs      how runs are counted
 --     AreUsize rs      that each start and end is a number of `usize`
 --     used_runs head rs, runs_of head rs, set_of head rs      what a head and runs represent
 --     HasSoundRuns head rs      that they are those of an assembler
 --     IsCanonical head      that a head without runs is 0 in both numbers
 --     zero_head      the head of two zeros
---     contig_text c      a hole and the data after it, as text
-use Rattle.std.specs.Prelude.{◌≡◌, ℕ, ◌+◌, ◌-◌, ◌<◌, ◌≤◌, ◌^◌, ◌%◌, List, [], ◌∷◌, ◌++◌, length, take, map}
-use Rattle.std.specs.Prelude.{flat_map, get_or, cond, nat_lt, min, max}
-use Rattle.std.specs.Fmt.{decimal}
+use Rattle.std.specs.Prelude.{◌≡◌, ℕ, ◌+◌, ◌-◌, ◌<◌, ◌≤◌, ◌^◌, ◌%◌, List, [], ◌∷◌, length, take, map, flat_map}
+use Rattle.std.specs.Prelude.{get_or}
 use Rattle.std.specs.List.{range_with_len}
-use Rattle.net_assembler.specs.Assembler.{hole_text}
 use Rattle.net_assembler.specs.Positions.{Positions, set_of_list, runs_shifted_up}
 use Rattle.net_assembler.specs.Width.{IsUsize}
-use Rattle.net_assembler.specs.declared.assembler.Contig.{Contig}
 use Rattle.net_assembler.specs.declared.assembler.head.AssemblerHead.{AssemblerHead}
 
 -- where the run k starts
@@ -43,13 +38,6 @@ run_positions rs = flat_map (λ r. range_with_len r.0 (r.1 - r.0)) rs
 -- the set of these positions
 unfoldable pub set_of_runs : List (ℕ × ℕ) → Positions
 set_of_runs rs = set_of_list (run_positions rs)
-
--- the runs with the positions from lo to hi - 1, where what meets or touches becomes one run
-abbrev pub runs_with_range : List (ℕ × ℕ) → ℕ → ℕ → List (ℕ × ℕ)
-runs_with_range [] lo hi = (lo, hi) ∷ []
-runs_with_range (r ∷ rs) lo hi =
-    cond (nat_lt r.1 lo) (r ∷ runs_with_range rs lo hi)
-    (cond (nat_lt hi r.0) ((lo, hi) ∷ r ∷ rs) (runs_with_range rs (min r.0 lo) (max r.1 hi)))
 
 -- runs, each counted m lower
 abbrev pub runs_shifted_down : ℕ → List (ℕ × ℕ) → List (ℕ × ℕ)
@@ -105,7 +93,3 @@ IsCanonical head = head.used ≡ 0 → head.first_start ≡ 0
 -- the head whose numbers are 0
 abbrev pub zero_head : AssemblerHead
 zero_head = record { used = 0; first_start = 0 }
-
--- a hole in parentheses, if there is one, and the data after it
-abbrev pub contig_text : Contig → List ℕ
-contig_text c = hole_text c.hole_size ++ decimal c.data_size

@@ -1,13 +1,14 @@
 //! The assembler of ranges that arrive out of order.
+#![tactic(auto, using(crate::proofs::SoundHeads::assemblers))]
 ghost use Rattle.std.specs.Prelude.{◌≡◌, ◌+◌, ◌<◌, ◌≤◌, ◌*◌, ◌↔◌, length, Some, IsTrue, IsOk, IsErr, IfSome};
-ghost use Rattle.std.specs.Prelude.{OnOk, OnErr, MatchResult};
+ghost use Rattle.std.specs.Prelude.{◌++◌, OnOk, OnErr, MatchResult};
+ghost use Rattle.std.specs.Fmt.{decimal};
 ghost use Rattle.std.specs.List.{slice_get};
-ghost use Rattle.net_assembler.specs.Assembler.{MakesTooManyRuns, display_text};
+ghost use Rattle.net_assembler.specs.Assembler.{MakesTooManyRuns, display_text, hole_text};
 ghost use Rattle.net_assembler.specs.Positions.{RangeFits, contains, front, holes, holes_before, maximal_runs};
 ghost use Rattle.net_assembler.specs.Positions.{nothing, runs, runs as run_count, runs_shifted_up, shift_down};
 ghost use Rattle.net_assembler.specs.Positions.{with_range};
-ghost use Rattle.net_assembler.specs.RunLists.{AreRuns, FitsFrom, HasSoundRuns, IsCanonical, IsRising, contig_text};
-ghost use Rattle.net_assembler.specs.RunLists.{set_of};
+ghost use Rattle.net_assembler.specs.RunLists.{AreRuns, FitsFrom, HasSoundRuns, IsCanonical, IsRising, set_of};
 ghost use Rattle.net_assembler.specs.Turns.{binary_digits};
 
 mod error;
@@ -514,7 +515,7 @@ struct Contig {
 
 /// The hole in parentheses, left out if it is 0, and the data.
 impl fmt::Display for Contig {
-    ghost output = { λ c. Some (contig_text c) };
+    ghost output = { λ c. Some (hole_text c.hole_size ++ decimal c.data_size) };
 
     fn fmt<W: fmt::Write>(&self, f: &mut fmt::Formatter<W>) -> fmt::Result {
         if self.hole_size != 0 {

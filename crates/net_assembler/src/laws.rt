@@ -1,10 +1,11 @@
 //! Laws of calls one after another.
 //!
 //! Each function does nothing.
+#![tactic(auto, using(crate::proofs::Calls::orders))]
 ghost use Rattle.std.specs.Prelude.{◌≡◌, ◌||◌, ℕ, List};
 ghost use Rattle.std.specs.List.Sorted.{IsPermutation};
 ghost use Rattle.net_assembler.specs.Positions.{Positions, contains, front, shift_down};
-ghost use Rattle.net_assembler.specs.Ranges.{with_ranges, lies_in_some};
+ghost use Rattle.net_assembler.specs.AssemblerLaws.{with_ranges, lies_in_some};
 ghost use Rattle.net_assembler.specs.Width.{IsUsize};
 
 use crate::assembler::laws::{front as front_is_least, members};
@@ -29,9 +30,7 @@ pub fn ranges_in_any_order()
         with_ranges s ranges ≡ with_ranges s others }
     ensures reordered { (s : Positions) (ranges others : List (ℕ × ℕ)) →
         IsPermutation ranges others → with_ranges s ranges ≡ with_ranges s others }
-{
-    members();
-}
+{}
 
 /// States that a number of type `usize` is a number of the machine's `usize`, however many bits that has.
 ///

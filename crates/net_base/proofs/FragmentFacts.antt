@@ -12,7 +12,7 @@ use Rattle.std.proofs.lemmas.List.Elements.{All-head, All-tail}
 use Rattle.std.proofs.lemmas.Option.{get_or_from_slice_get, slice_get_within, slice_get-get_or}
 use Rattle.net_assembler.specs.Positions.{Positions, IsMaximalRun, AreMaximalRuns, contains, lies_in, nothing}
 use Rattle.net_assembler.specs.Positions.{with_range}
-use Rattle.net_assembler.proofs.Positions.{contains-nothing}
+use Rattle.net_assembler.proofs.Sets.{contains-nothing}
 use Rattle.net_base.specs.Fragments.{IsBelow, Meets, meets_one, HasOther, FragmentsState, with_fragment}
 use Rattle.net_base.specs.Fragments.{after_fragments, covers, last_byte, Adds, with_piece}
 use Rattle.net_base.specs.declared.storage.fragments.FragmentError.{FragmentError}

@@ -11,8 +11,8 @@ use Rattle.std.proofs.lemmas.Int.{ints}
 use Rattle.std.proofs.lemmas.List.{get_or_default}
 use Rattle.std.proofs.lemmas.List.Sums.{position_or_len_is}
 use Rattle.net_assembler.specs.Positions.{contains, nothing}
-use Rattle.net_assembler.proofs.Positions.{contains-nothing}
-use Rattle.net_base.specs.Fragments.{FragmentsState, begun, with_piece, Differs, Adds, Accepts}
+use Rattle.net_assembler.proofs.Sets.{contains-nothing}
+use Rattle.net_base.specs.Fragments.{FragmentsState, begun, with_piece, Differs, Adds, Accepts, HasOtherEnd}
 use Rattle.net_base.specs.declared.storage.fragments.FragmentError.{FragmentError}
 use Rattle.net_base.specs.declared.storage.fragments.table.AcceptError.{AcceptError}
 use Rattle.net_base.specs.declared.storage.fragments.FragmentError.TheVariants as fragment

@@ -16,7 +16,6 @@ pub use Rattle.net_packets.specs.PacketLends
 pub use Rattle.net_packets.specs.PacketHistory
 pub use Rattle.net_packets.specs.PacketCalls
 pub use Rattle.net_assembler.specs.Positions
-pub use Rattle.net_assembler.specs.Ranges
 pub use Rattle.net_assembler.specs.RunLists
 pub use Rattle.net_assembler.specs.Turns
 pub use Rattle.net_assembler.specs.Assembler

@@ -10,7 +10,7 @@ use Rattle.std.proofs.lemmas.Bool.{and_from, cases_Bool, cond-false, cond-true, 
 use Rattle.std.proofs.lemmas.Bool.Decides.{nat_tests}
 use Rattle.std.proofs.lemmas.Grind.{common_steps}
 use Rattle.net_assembler.specs.Positions.{bound_of, positions, contains, Positions}
-use Rattle.net_assembler.proofs.Positions.{has, contains-positions}
+use Rattle.net_assembler.proofs.Sets.{has, contains-positions}
 use Rattle.net_receiver.specs.{Piece, piece, piece_byte_at, piece_within, Segment, state_after, verdict, numbers}
 use Rattle.net_receiver.specs.{domain, next_position, limit_of, receiver_with_piece, receiver_after_command}
 use Rattle.net_receiver.specs.{receiver_after_read, fresh_receiver, FiniteState, no_end, top_of, knows_end, can_end}

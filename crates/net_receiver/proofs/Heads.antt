@@ -16,15 +16,14 @@ use Rattle.std.proofs.lemmas.List.{drop_min, take_min, length-take-le}
 use Rattle.net_assembler.specs.declared.assembler.error.TooManyHolesError.{TooManyHolesError}
 use Rattle.net_ring.specs.Overwrite.{overwrite}
 use Rattle.net_assembler.specs.Assembler.{MakesTooManyRuns}
-use Rattle.net_assembler.proofs.Positions.{too_many, contains-shift_up, maximal_runs-shift_up, same_positions}
-use Rattle.net_assembler.proofs.Heads.{few_held}
+use Rattle.net_assembler.proofs.Sets.{too_many, contains-shift_up, maximal_runs-shift_up, same_positions}
+use Rattle.net_assembler.proofs.SoundHeads.{few_held}
 use Rattle.net_receiver.proofs.Schedules.{read_less}
 use Rattle.net_receiver.proofs.Places.{IsReceiver, HasRoom, IsFrontRemoved, held_count, read_parts, joined_parts}
 use Rattle.net_receiver.proofs.Places.{queued_is, m_within, refused_verdict, kept_verdict, clip_is, stays_at}
 use Rattle.net_receiver.proofs.Places.{domain_moved, resumed, are_within, index_is}
-use Rattle.net_ring.specs.Ring.{index_after}
-use Rattle.net_ring.specs.Ring.{RingState, queue, spare, with_enqueued, with_dequeued, WritesSpare, spare_index}
-use Rattle.net_ring.specs.Ring.{with_elements_wrapping}
+use Rattle.net_ring.specs.Ring.{index_after, RingState, queue, spare, with_enqueued, with_dequeued, WritesSpare}
+use Rattle.net_ring.specs.Ring.{spare_index, with_elements_wrapping}
 use Rattle.net_ring.specs.declared.head.RingHead.{RingHead}
 use Rattle.net_ring.specs.RingHead.{IsSound as IsSoundPlace, ring_at, enqueued_place, dequeued_place}
 use Rattle.net_ring.proofs.Rotations.{length-queue, length-spare, length-overwrite}

@@ -12,9 +12,9 @@ use Rattle.std.proofs.lemmas.List.Elements.{filter_agree, All-nil, All-cons, All
 use Rattle.std.specs.List.{range_with_len, prefix_len, take-map}
 use Rattle.net_assembler.specs.Positions.{Positions, contains, positions, run_starts, begins_run, maximal_runs}
 use Rattle.net_assembler.specs.Positions.{first_missing, runs, with_range}
-use Rattle.net_assembler.proofs.Positions.{has, Rises, positions_rise, rising_unique, contains-positions}
-use Rattle.net_assembler.proofs.Positions.{has-range_with_len, first_missing-is, contains-with_range}
-use Rattle.net_assembler.proofs.Positions.{runs-maximal_runs, too_many, few_enough, same_positions}
+use Rattle.net_assembler.proofs.Sets.{has, Rises, positions_rise, rising_unique, contains-positions}
+use Rattle.net_assembler.proofs.Sets.{has-range_with_len, first_missing-is, contains-with_range}
+use Rattle.net_assembler.proofs.Sets.{runs-maximal_runs, too_many, few_enough, same_positions}
 use Rattle.net_receiver.specs.{Setting, KeptState, Piece, piece_byte_at, piece_within, ReplyValue, SegmentReply}
 use Rattle.net_receiver.specs.{is_covered, unread, window, queued, missing, is_held, held_runs, with_kept, keeps}
 use Rattle.net_receiver.specs.{after_part, CommandValue, Segment, Read, Show, ReadReply, ShowReply, first_three}

@@ -10,11 +10,12 @@ use Rattle.std.proofs.lemmas.List.Elements.{All-head, All-tail}
 use Rattle.net_assembler.specs.Positions.{Positions, contains, first_missing, maximal_runs, IsMaximalRun, lies_in}
 use Rattle.net_assembler.specs.Positions.{positions, front, runs, with_range, shift_up, shift_down, runs_shifted_up}
 use Rattle.net_assembler.specs.Positions.{nothing}
-use Rattle.net_assembler.proofs.Positions.{either, first_missing-is, first_missing-misses, Rises}
-use Rattle.net_assembler.proofs.Positions.{positions-set_of_list, same_positions, contains-nothing}
-use Rattle.net_assembler.proofs.Positions.{contains-with_range, contains-shift_up, contains-shift_down}
-use Rattle.net_assembler.proofs.Positions.{first_missing-has, first_missing-le, maximal_runs-shift_up}
-use Rattle.net_assembler.proofs.MaximalRuns.{are_maximal_runs, rising-maximal_runs, set_of_maximal_runs}
+use Rattle.net_assembler.proofs.Sets.{either, first_missing-is, first_missing-misses, Rises, positions-set_of_list}
+use Rattle.net_assembler.proofs.Sets.{same_positions, contains-nothing, contains-with_range, contains-shift_up}
+use Rattle.net_assembler.proofs.Sets.{contains-shift_down, first_missing-has, first_missing-le, maximal_runs-shift_up}
+use Rattle.net_assembler.proofs.Sets.{with_range-none}
+use Rattle.net_assembler.proofs.Runs.{are_maximal_runs, rising-maximal_runs, set_of_maximal_runs}
+use Rattle.net_assembler.proofs.Runs.{rising_from}
 use Rattle.net_receiver.specs.{IsNextHole, board, reported_by, sizes, offsets_of, beyond, IsEnd, HasNoRoom}
 use Rattle.net_receiver.specs.{IsSoundBoard, IsSoundScoreboard, runs_above, tell_loss, IsLossBound, LossesCountAll}
 use Rattle.std.proofs.lemmas.List.FromFn.{length-range_with_len}
@@ -22,9 +23,7 @@ use Rattle.net_assembler.specs.Assembler.{MakesTooManyRuns, makes_too_many_runs}
 use Rattle.net_assembler.specs.AssemblerLaws.{Adds}
 use Rattle.net_assembler.specs.declared.assembler.error.TooManyHolesError.{TooManyHolesError}
 use Rattle.net_assembler.specs.RunLists.{IsRising, run_positions, set_of, set_of_runs}
-use Rattle.net_assembler.proofs.Runs.{rising_from}
-use Rattle.net_assembler.proofs.RunLists.{with_range-none}
-use Rattle.net_assembler.proofs.Heads.{maximal_runs-set_of, length-runs_of}
+use Rattle.net_assembler.proofs.SoundHeads.{maximal_runs-set_of, length-runs_of}
 use Rattle.net_assembler.proofs.ShiftedRuns.{length-up}
 use Rattle.net_receiver.specs.declared.scoreboard_head.ScoreboardHead.{ScoreboardHead}
 use Rattle.net_receiver.proofs.Sets.{IsShiftedUp, runs_shifted, begins_above, ends_below, ends_within}

@@ -4,7 +4,7 @@ use Rattle.std.proofs.Common.{ap, min, max, length-append, length-drop, Bool, tr
 use Rattle.std.proofs.Common.{refl, subst, append_assoc, append-nil, All, ⊎_elim}
 use Rattle.std.proofs.lemmas.Bool.{cases_lt, cond_both, and_parts, leb-true, eqb-true, cond-false}
 use Rattle.std.proofs.lemmas.Bool.Decides.{nat_tests}
-use Rattle.net_assembler.proofs.Positions.{either}
+use Rattle.net_assembler.proofs.Sets.{either}
 use Rattle.std.proofs.lemmas.List.{drop_all, get_or-take, drop-drop, get_or-drop, drop-append-le, nil_from_length}
 use Rattle.net_receiver.specs.{MatchesStream, MatchesWhatIsThere, sender_state, Sends, end_of, contiguous_end}
 use Rattle.net_receiver.specs.{with_written, sender_from, sender_of, MatchesLonger, FiniteSenderState, first_number}

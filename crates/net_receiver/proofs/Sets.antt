@@ -7,9 +7,9 @@ use Rattle.std.proofs.lemmas.Bool.{cases_order, both_ways, cond-true, cond-false
 use Rattle.std.proofs.lemmas.Bool.{and_parts, and_from, or_right}
 use Rattle.net_assembler.specs.Positions.{Positions, contains, first_missing, runs, maximal_runs, shift_up}
 use Rattle.net_assembler.specs.Positions.{runs_shifted_up, IsMaximalRun}
-use Rattle.net_assembler.proofs.Positions.{first_missing-misses, first_missing-has, first_missing-le, has}
-use Rattle.net_assembler.proofs.Positions.{contains-set_of_list, same_positions, contains-shift_up}
-use Rattle.net_assembler.proofs.Positions.{runs-shift_up}
+use Rattle.net_assembler.proofs.Sets.{first_missing-misses, first_missing-has, first_missing-le, has}
+use Rattle.net_assembler.proofs.Sets.{contains-set_of_list, same_positions, contains-shift_up, runs-shift_up}
+use Rattle.net_assembler.proofs.Sets.{maximal_runs-shift_up}
 use Rattle.std.specs.List.{range_with_len, list_any}
 use Rattle.std.proofs.lemmas.List.{take_min}
 use Rattle.std.proofs.lemmas.List.FromFn.{length-map-range_with_len, take-map-range_with_len}

@@ -11,8 +11,8 @@ use Rattle.std.proofs.lemmas.Bool.{both_ways, cases_lt, cond-false, and_right, a
 use Rattle.std.proofs.lemmas.Bool.{or_left, or_right, false_from_ne_true, ltb-true, ltb-false, or_parts, or_from}
 use Rattle.net_assembler.specs.Positions.{Positions, contains, nothing, runs, maximal_runs, lies_in, IsMaximalRun}
 use Rattle.net_assembler.specs.Positions.{positions, run_starts, begins_run, with_range}
-use Rattle.net_assembler.proofs.Positions.{contains-nothing, same_positions, has, contains-positions}
-use Rattle.net_assembler.proofs.Positions.{contains-with_range, positions_rise, rising_unique}
+use Rattle.net_assembler.proofs.Sets.{contains-nothing, same_positions, has, contains-positions}
+use Rattle.net_assembler.proofs.Sets.{contains-with_range, positions_rise, rising_unique}
 use Rattle.net_receiver.specs.{CommandValue, ReplyValue, byte_at, byte, queued, queue, missing, is_held, state_from}
 use Rattle.net_receiver.specs.{SegmentReply, replies, replies_from, step, held_bytes, parts, Setting}
 use Rattle.net_receiver.specs.{KeptState, fresh_kept, bytes_read, IsAccepted, HasRoom, fresh_receiver, setting}
@@ -44,7 +44,7 @@ use Rattle.std.proofs.lemmas.Option.{slice_get_within}
 use Rattle.std.specs.Cmp.Lexicographic.{pointwise, bytes_decides}
 use Rattle.net_receiver.specs.WorkedExample.{WorkedSchedule, WorkedRefusal}
 use Rattle.std.proofs.lemmas.Bool.Decides.{nat_tests}
-use Rattle.net_assembler.proofs.RunLists.{runs-nothing}
+use Rattle.net_assembler.proofs.Joins.{runs-nothing}
 use Rattle.net_receiver.proofs.Heads.{sound_joined, sound_read}
 use Rattle.std.specs.FinMap as fin
 

@@ -1,6 +1,7 @@
 //! An assembler in parts: a head of two numbers, and runs that are kept elsewhere.
 //!
 //! What is inline, and what is a call of its own, was chosen by counted instructions and bytes.
+#![tactic(auto, using(crate::proofs::SoundHeads::heads))]
 ghost use Rattle.std.specs.Prelude.{◌≡◌, ℕ, List, ◌+◌, ◌-◌, ◌*◌, ◌<◌, ◌≤◌, ◌++◌, ◌∷◌, ◌^◌, ◌↔◌, drop, get_or, max};
 ghost use Rattle.std.specs.Prelude.{length, take, IsFalse, IsTrue, IfSome, MatchOption, MatchResult, OnErr};
 ghost use Rattle.net_assembler.specs.Assembler.{MakesTooManyRuns};
@@ -678,6 +679,7 @@ impl AssemblerHead {
         ensures sound { HasSoundRuns self.new runs.new }
         ensures runs { runs_of self.new runs.new
             ≡ runs_shifted_down end (drop count (used_runs self.old runs.old)) }
+        ensures number { self.new.used + count ≡ self.old.used }
         ensures canonical { IsCanonical self.new }
     {
         let used = self.used;

@@ -3,20 +3,20 @@
 //! Each function does nothing: its contract is the law, for all sets, ranges and results. The laws
 //! of calls are about everything that the contracts of these calls allow, so they hold of every
 //! body that meets the contracts.
-ghost use Rattle.std.specs.Prelude.{◌≡◌, ℕ, List, IsTrue};
-ghost use Rattle.net_assembler.specs.Turns.{binary_digits};
-ghost use Rattle.net_assembler.specs.AssemblerLaws.{EqualSets, MembersOfNothing, MembersOfList};
-ghost use Rattle.net_assembler.specs.AssemblerLaws.{MembersWithRange, MembersShiftedDown};
-ghost use Rattle.net_assembler.specs.AssemblerLaws.{MembersShiftedUp, FirstMissingIsLeast};
-ghost use Rattle.net_assembler.specs.AssemblerLaws.{FrontIsLeastMissing, MaximalRunsOfEverySet};
-ghost use Rattle.net_assembler.specs.AssemblerLaws.{EqualMaximalRuns, MaximalRunsByNumber};
-ghost use Rattle.net_assembler.specs.AssemblerLaws.{MaximalRunsShiftedUp, AsManyRunsShiftedUp};
-ghost use Rattle.net_assembler.specs.AssemblerLaws.{EqualAssemblers, AddingAgain, RangeAgain};
-ghost use Rattle.net_assembler.specs.AssemblerLaws.{NothingHasNoRun, OneRunMore, AddingInBothOrders};
-ghost use Rattle.net_assembler.specs.AssemblerLaws.{AddingThenRemoving, RangeAtZeroIsNeverRefused};
-ghost use Rattle.net_assembler.specs.AssemblerLaws.{IteratesMaximalRuns, EnoughBinaryDigits};
-ghost use Rattle.net_assembler.specs.Positions.{nothing};
+#![tactic(auto, using(crate::proofs::Calls::laws))]
+ghost use Rattle.std.specs.Prelude.{◌≡◌, ◌↔◌, ℕ, ◌+◌, ◌-◌, ◌<◌, ◌≤◌, ◌^◌, ◌&&◌, Bool, List, length, drop, nat_le};
+ghost use Rattle.std.specs.Prelude.{nat_eq, Option, Some, None, Result, Ok, IsTrue, IsOk, IsErr, OnOk, OnErr};
+ghost use Rattle.std.specs.List.{list_any, slice_get};
+ghost use Rattle.net_assembler.specs.declared.assembler.error.TooManyHolesError.{TooManyHolesError};
+ghost use Rattle.net_assembler.specs.Assembler.{MakesTooManyRuns};
+ghost use Rattle.net_assembler.specs.AssemblerLaws.{Adds, AddsThenRemovesFront, CallsNext, Compares, EqualMaximalRuns};
+ghost use Rattle.net_assembler.specs.AssemblerLaws.{MaximalRunsOfEverySet, MembersOfNothing};
+ghost use Rattle.net_assembler.specs.AssemblerLaws.{MembersWithRange, RemovesFront, results_of_next};
+ghost use Rattle.net_assembler.specs.Positions.{AreMaximalRuns, IsFirstMissing, IsMaximalRun, Positions, contains};
+ghost use Rattle.net_assembler.specs.Positions.{first_missing, front, maximal_runs, nothing, runs, runs_shifted_up};
+ghost use Rattle.net_assembler.specs.Positions.{set_of_list, shift_down, shift_up, with_range};
 ghost use Rattle.net_assembler.specs.RunLists.{HasSoundRuns, IsCanonical, set_of, zero_head};
+ghost use Rattle.net_assembler.specs.Turns.{binary_digits};
 
 use super::TooManyHolesError;
 
@@ -24,23 +24,26 @@ use super::TooManyHolesError;
 /// of the empty set, of the set of a list, of a set with a range, and of a set that was shifted
 /// down or up.
 pub fn members()
-    ensures equal { EqualSets }
+    ensures equal { (s t : Positions) → (s ≡ t) ↔ ((p : ℕ) → contains s p ≡ contains t p) }
     ensures nothing { MembersOfNothing }
-    ensures of_list { MembersOfList }
+    ensures of_list { (ks : List ℕ) (p : ℕ) →
+        contains (set_of_list ks) p ≡ list_any (nat_eq p) ks }
     ensures with_range { MembersWithRange }
-    ensures shifted_down { MembersShiftedDown }
-    ensures shifted_up { MembersShiftedUp }
+    ensures shifted_down { (s : Positions) (m p : ℕ) →
+        contains (shift_down s m) p ≡ contains s (p + m) }
+    ensures shifted_up { (s : Positions) (n p : ℕ) →
+        contains (shift_up s n) p ≡ (nat_le n p && contains s (p - n)) }
 {}
 
 /// States that the first missing position from any position on is the least one from there on that
 /// is not in the set.
 pub fn first_missing()
-    ensures { FirstMissingIsLeast }
+    ensures { (s : Positions) (p : ℕ) → IsFirstMissing s p (first_missing s p) }
 {}
 
 /// States that the front of a set is the least position that is not in it.
 pub fn front()
-    ensures { FrontIsLeastMissing }
+    ensures { (s : Positions) → IsFirstMissing s 0 (front s) }
 {}
 
 /// States that the list of maximal runs has, for every set, exactly its maximal runs: each position
@@ -53,7 +56,9 @@ pub fn maximal_runs()
 /// States that a run that `run_at` returns is a maximal run of the set, and that it returns `None`
 /// exactly if the set has no run with that number.
 pub fn maximal_runs_by_number()
-    ensures { MaximalRunsByNumber }
+    ensures { (s : Positions) (k : ℕ) →
+        ((run : ℕ × ℕ) → slice_get (maximal_runs s) k ≡ Some run → IsMaximalRun s run)
+        × ((slice_get (maximal_runs s) k ≡ None) ↔ (runs s ≤ k)) }
 {}
 
 /// States that two sets are equal exactly if their lists of maximal runs are.
@@ -63,50 +68,74 @@ pub fn equal_maximal_runs()
 
 /// States that a set that was shifted up has its maximal runs shifted up, and so as many of them.
 pub fn shifted_up()
-    ensures maximal_runs { MaximalRunsShiftedUp }
-    ensures number { AsManyRunsShiftedUp }
+    ensures maximal_runs { (s : Positions) (n : ℕ) →
+        maximal_runs (shift_up s n) ≡ runs_shifted_up n (maximal_runs s) }
+    ensures number { (s : Positions) (n : ℕ) → runs (shift_up s n) ≡ runs s }
 {}
 
 /// States that two assemblers are equal exactly if their sets have the same members.
 pub fn equal_assemblers()
-    ensures { EqualAssemblers }
+    ensures { (s t : Positions) (equal : Bool) → Compares s t equal →
+        IsTrue equal ↔ ((p : ℕ) → contains s p ≡ contains t p) }
 {}
 
-/// States that adding an accepted range again is accepted and changes nothing.
+/// States that adding an accepted range again is accepted and changes nothing, by the clauses of
+/// `add` for the second call.
 pub fn adding_again()
-    ensures set { RangeAgain }
-    ensures calls { AddingAgain }
+    ensures set { (s : Positions) (offset size : ℕ) →
+        with_range (with_range s offset size) offset size ≡ with_range s offset size }
+    ensures calls { (most_runs offset size : ℕ) (s once twice : Positions)
+        (again : Result (Unit {0}) TooManyHolesError) →
+        once ≡ with_range s offset size → runs once ≤ most_runs →
+        OnOk again (twice ≡ with_range once offset size) → OnErr again (twice ≡ once) →
+        (IsErr again ↔ MakesTooManyRuns most_runs once offset size) →
+        (again ≡ Ok tt) × (twice ≡ once) }
 {}
 
 /// States that the empty set has no run, and a range makes at most one run more. So a range is
 /// accepted if there are fewer than `N` runs.
 pub fn number_of_runs()
-    ensures of_nothing { NothingHasNoRun }
-    ensures with_range { OneRunMore }
+    ensures of_nothing { runs nothing ≡ 0 }
+    ensures with_range { (s : Positions) (offset size : ℕ) →
+        runs (with_range s offset size) ≤ runs s + 1 }
 {}
 
 /// States that two ranges that are accepted in both orders leave equal assemblers.
 pub fn adding_in_both_orders()
-    ensures { AddingInBothOrders }
+    ensures { (most_runs a m b n : ℕ) (s one two ab ba : Positions) (equal : Bool) →
+        Adds most_runs s a m (Ok tt) one → Adds most_runs one b n (Ok tt) ab →
+        Adds most_runs s b n (Ok tt) two → Adds most_runs two a m (Ok tt) ba →
+        Compares ab ba equal → IsTrue equal }
 {}
 
 /// States that `add_then_remove_front` does what `add` and then `remove_front` do whenever that
 /// `add` is accepted, and with offset 0 it is never refused.
 pub fn adding_then_removing()
-    ensures same { AddingThenRemoving }
-    ensures at_zero { RangeAtZeroIsNeverRefused }
+    ensures same { (most_runs offset size count : ℕ) (s all rest both : Positions)
+        (result : Result ℕ TooManyHolesError) →
+        Adds most_runs s offset size (Ok tt) all → RemovesFront most_runs all count rest →
+        AddsThenRemovesFront most_runs s offset size result both →
+        (result ≡ Ok count) × (both ≡ rest) }
+    ensures at_zero { (most_runs size : ℕ) (s both : Positions)
+        (result : Result ℕ TooManyHolesError) →
+        AddsThenRemovesFront most_runs s 0 size result both → IsOk result }
 {}
 
 /// States that `iter_data` gives the maximal runs, at most as many as the assembler has room for,
-/// and ends.
+/// and ends: however often `next` is called, it returns the runs in turn and then `None`.
 pub fn iterating()
-    ensures { IteratesMaximalRuns }
+    ensures { (most_runs : ℕ) (s : Positions) (left last : List (ℕ × ℕ))
+        (results : List (Option (ℕ × ℕ))) →
+        left ≡ maximal_runs s → length left ≤ most_runs → CallsNext left results last →
+        AreMaximalRuns s left × (length left ≤ most_runs)
+        × (results ≡ results_of_next left (length results))
+        × (last ≡ drop (length results) left) }
 {}
 
 /// States how many binary digits a number has, which bounds the looks of `add_counted`: b digits
 /// are enough exactly for the numbers below 2 to the power b, so 4 has 3 of them, and 32 has 6.
 pub fn counting_binary_digits()
-    ensures enough { EnoughBinaryDigits }
+    ensures enough { (n b : ℕ) → (n < 2 ^ b) ↔ (binary_digits n ≤ b) }
     ensures of_4 { binary_digits 4 ≡ 3 }
     ensures of_32 { binary_digits 32 ≡ 6 }
 {}

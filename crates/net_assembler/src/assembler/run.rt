@@ -7,7 +7,8 @@ use std::marker::Model;
 /// A range of positions that is stored as a run: from `start` on, up to `end`, which is not
 /// included.
 ///
-/// An assembler counts both from where its first run starts. smoltcp stores a hole's size and the size of the data after it.
+/// An assembler counts both from where its first run starts. smoltcp stores a hole's size and the
+/// size of the data after it.
 #[repr(C)]
 #[derive(Debug, Clone, Copy, PartialEq, Eq)]
 pub struct Run {

@@ -2,7 +2,7 @@ use Rattle.std.proofs.Common.{◌≡◌, ◌∙◌, ◌+◌, ◌-◌, ap, sym, t
 use Rattle.std.proofs.lemmas.List.{length-set}
 use Rattle.net_assembler.specs.RunLists.{runs_wrapped, wrapped_run}
 use Rattle.net_assembler.proofs.Moves.{below_at, below_less, raise_more, written_below}
-use Rattle.net_assembler.proofs.WrappedRuns.{moved_usize}
+use Rattle.net_assembler.proofs.ShiftedRuns.{moved_usize}
 use Rattle.net_assembler.proofs.assembler.head.insert_run.Goals as goal
 
 pub wrapped-requires-clause-fits : goal.wrapped-requires-clause-fits

@@ -2,8 +2,8 @@ use Rattle.std.proofs.Common.{◌+◌, ◌-◌, ◌*◌, ◌/◌, ◌≤◌, ari
 use Rattle.std.proofs.lemmas.Bool.{cases_lt}
 use Rattle.std.proofs.lemmas.Bool.Decides.{not_from_Decides}
 use Rattle.net_assembler.specs.RunLists.{end_at}
-use Rattle.net_assembler.proofs.Positions.{either}
-use Rattle.net_assembler.proofs.RunLists.{halved, used_ends_rise}
+use Rattle.net_assembler.proofs.Sets.{either}
+use Rattle.net_assembler.proofs.Joins.{halved, used_ends_rise}
 use Rattle.net_assembler.proofs.assembler.head.runs_ending_before.Goals as goal
 use Rattle.net_assembler.proofs.assembler.head.runs_ending_before.Goals.{then-ends_before, else-ends_before}
 

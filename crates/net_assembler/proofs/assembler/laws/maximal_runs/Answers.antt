@@ -1,4 +1,4 @@
-use Rattle.net_assembler.proofs.MaximalRuns.{are_maximal_runs}
+use Rattle.net_assembler.proofs.Runs.{are_maximal_runs}
 use Rattle.net_assembler.proofs.assembler.laws.maximal_runs.Goals as goal
 
 pub returns : goal.returns

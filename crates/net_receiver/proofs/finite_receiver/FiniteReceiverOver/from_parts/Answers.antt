@@ -1,7 +1,7 @@
 use Rattle.std.proofs.Common.{◌∙◌, ap, sym}
 use Rattle.net_assembler.specs.RunLists.{runs_of}
-use Rattle.net_assembler.proofs.RunLists.{no_runs}
-use Rattle.net_assembler.proofs.Heads.{length-runs_of}
+use Rattle.net_assembler.proofs.Joins.{no_runs}
+use Rattle.net_assembler.proofs.SoundHeads.{length-runs_of}
 use Rattle.net_ring.specs.Ring.{queue, spare}
 use Rattle.net_ring.specs.RingHead.{ring_at}
 use Rattle.net_receiver.specs.{parts}

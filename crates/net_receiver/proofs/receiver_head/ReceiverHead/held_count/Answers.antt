@@ -2,7 +2,7 @@ use Rattle.std.proofs.Common.{◌∙◌, sym}
 use Rattle.net_ring.specs.Ring.{queue, spare}
 use Rattle.net_ring.specs.RingHead.{ring_at}
 use Rattle.net_assembler.specs.RunLists.{set_of}
-use Rattle.net_assembler.proofs.Heads.{runs-set_of}
+use Rattle.net_assembler.proofs.SoundHeads.{runs-set_of}
 use Rattle.net_receiver.proofs.Places.{held_count}
 use Rattle.net_receiver.proofs.receiver_head.ReceiverHead.held_count.Goals as goal
 

@@ -2,7 +2,7 @@ use Rattle.std.proofs.Common.{◌+◌, ◌-◌, ◌<◌, ℕ, false, refl, ap, �
 use Rattle.std.proofs.lemmas.Bool.{both_ways}
 use Rattle.std.proofs.lemmas.List.{get_or_default}
 use Rattle.net_assembler.specs.RunLists.{end_at}
-use Rattle.net_assembler.proofs.Heads.{pair_fits}
+use Rattle.net_assembler.proofs.SoundHeads.{pair_fits}
 use Rattle.net_receiver.proofs.Places.{none_there, start_there, end_there, between}
 use Rattle.net_receiver.proofs.receiver_head.ReceiverHead.is_held_below.Goals as goal
 

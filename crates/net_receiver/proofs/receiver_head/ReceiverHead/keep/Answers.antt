@@ -5,7 +5,7 @@ use Rattle.std.proofs.lemmas.List.{take_rest}
 use Rattle.net_receiver.specs.declared.receiver_head.ReceiverHead.{ReceiverHead}
 use Rattle.net_assembler.specs.Positions.{with_range, runs}
 use Rattle.net_assembler.specs.RunLists.{set_of}
-use Rattle.net_assembler.proofs.Positions.{too_many}
+use Rattle.net_assembler.proofs.Sets.{too_many}
 use Rattle.net_receiver.specs.{piece, verdict, state_after, numbers, receiver_of, HasSoundParts}
 use Rattle.net_receiver.proofs.OneStream.{segment_receives}
 use Rattle.net_receiver.proofs.Heads.{cut_of, refused, refused_stores, joined_fits, kept_is, kept_stores, only_err}

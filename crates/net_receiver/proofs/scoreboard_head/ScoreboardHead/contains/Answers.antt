@@ -2,7 +2,7 @@ use Rattle.std.proofs.Common.{◌∙◌, ◌-◌, sym, arith}
 use Rattle.std.proofs.lemmas.Bool.{false_from_ne_true}
 use Rattle.net_assembler.specs.Positions.{contains}
 use Rattle.net_assembler.specs.RunLists.{set_of}
-use Rattle.net_assembler.proofs.Heads.{position_fits}
+use Rattle.net_assembler.proofs.SoundHeads.{position_fits}
 use Rattle.net_receiver.proofs.Scoreboards.{board_below, board_from}
 use Rattle.net_receiver.proofs.scoreboard_head.ScoreboardHead.contains.Goals as goal
 

@@ -1,7 +1,7 @@
 use Rattle.std.proofs.Common.{◌^◌, ◌∙◌, sym, ap, subst}
 use Rattle.net_assembler.specs.Positions.{maximal_runs, runs_shifted_up, shift_up}
 use Rattle.net_assembler.specs.RunLists.{set_of}
-use Rattle.net_assembler.proofs.Positions.{maximal_runs-shift_up}
+use Rattle.net_assembler.proofs.Sets.{maximal_runs-shift_up}
 use Rattle.net_receiver.specs.{EndBelow}
 use Rattle.net_receiver.proofs.Scoreboards.{beyond_board, beyond_fits}
 use Rattle.net_receiver.proofs.Sets.{ends_below}

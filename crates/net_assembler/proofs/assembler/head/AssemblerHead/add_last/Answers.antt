@@ -1,13 +1,15 @@
-use Rattle.std.proofs.Common.{◌≡◌, ◌==◌, ◌∙◌, ◌+◌, ◌-◌, ◌<◌, ◌≤◌, ℕ, true, false, ap, length, max, refl, set, subst, sym, take, arith}
+use Rattle.std.proofs.Common.{◌≡◌, ◌==◌, ◌∙◌, ◌+◌, ◌-◌, ◌<◌, ◌≤◌, ℕ, true, false, ap, length, max, refl, set, subst}
+use Rattle.std.proofs.Common.{sym, take, arith}
 use Rattle.std.proofs.lemmas.Bool.{cases_lt}
 use Rattle.std.proofs.lemmas.Bool.Decides.{nat_tests}
 use Rattle.std.proofs.lemmas.List.{length-set}
 use Rattle.net_assembler.specs.Positions.{runs_shifted_up}
-use Rattle.net_assembler.specs.RunLists.{end_at, runs_with_range, start_at, used_runs}
-use Rattle.net_assembler.proofs.AssemblerLaws.{no_turn}
-use Rattle.net_assembler.proofs.Heads.{joined_in_place, none_added, plain, refused_in_place}
-use Rattle.net_assembler.proofs.Positions.{either}
-use Rattle.net_assembler.proofs.RunLists.{extended_run, not_pushed, pushed_run}
+use Rattle.net_assembler.specs.RunLists.{end_at, start_at, used_runs}
+use Rattle.net_assembler.proofs.Runs.{runs_with_range}
+use Rattle.net_assembler.proofs.Calls.{no_turn}
+use Rattle.net_assembler.proofs.SoundHeads.{joined_in_place, none_added, plain, refused_in_place}
+use Rattle.net_assembler.proofs.Sets.{either}
+use Rattle.net_assembler.proofs.Joins.{extended_run, not_pushed, pushed_run}
 use Rattle.net_assembler.proofs.ShiftedRuns.{some-runs_with_range}
 use Rattle.net_assembler.proofs.assembler.head.AssemblerHead.add_last.Goals as goal
 

@@ -2,8 +2,8 @@ use Rattle.std.proofs.Common.{◌≡◌, ◌+◌, ◌-◌, ◌≤◌, ℕ, ap, l
 use Rattle.net_assembler.specs.Heads.{AddsInPlace}
 use Rattle.net_assembler.specs.RunLists.{start_at}
 use Rattle.net_assembler.specs.Turns.{binary_digits}
-use Rattle.net_assembler.proofs.AssemblerLaws.{below_binary_digits}
-use Rattle.net_assembler.proofs.Heads.{first_pair, pair_rises, searched}
+use Rattle.net_assembler.proofs.Calls.{below_binary_digits}
+use Rattle.net_assembler.proofs.SoundHeads.{first_pair, pair_rises, searched}
 use Rattle.net_assembler.proofs.assembler.head.AssemblerHead.join.Goals as goal
 use Rattle.net_assembler.proofs.assembler.head.AssemblerHead.join.Goals.{then-offset-self, else-offset-self}
 

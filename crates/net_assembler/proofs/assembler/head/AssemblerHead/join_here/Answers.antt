@@ -1,16 +1,15 @@
 use Rattle.std.proofs.Common.{◌≡◌, ◌∙◌, ◌+◌, ◌-◌, ◌<◌, ◌≤◌, ap, length, refl, set, subst, sym, take, arith}
 use Rattle.std.proofs.lemmas.Bool.{cases_lt}
 use Rattle.std.proofs.lemmas.List.{length-set}
-use Rattle.net_assembler.specs.RunLists.{AreUsize, FitsFrom, end_at, runs_with_range, runs_wrapped, start_at, used_runs}
-use Rattle.net_assembler.specs.RunLists.{wrapped_run}
+use Rattle.net_assembler.specs.RunLists.{AreUsize, FitsFrom, end_at, runs_wrapped, start_at, used_runs, wrapped_run}
+use Rattle.net_assembler.proofs.Runs.{runs_with_range}
 use Rattle.net_assembler.specs.Turns.{binary_digits}
-use Rattle.net_assembler.proofs.AssemblerLaws.{below_binary_digits, no_turn}
-use Rattle.net_assembler.proofs.Heads.{joined_in_place, pair_fits, refused_in_place}
+use Rattle.net_assembler.proofs.Calls.{below_binary_digits, no_turn}
+use Rattle.net_assembler.proofs.SoundHeads.{joined_in_place, pair_fits, refused_in_place}
 use Rattle.net_assembler.proofs.Moves.{rest_written, written_above}
-use Rattle.net_assembler.proofs.Positions.{either}
-use Rattle.net_assembler.proofs.RunLists.{grown_run, used_starts_rise}
-use Rattle.net_assembler.proofs.ShiftedRuns.{fits-less, up-none}
-use Rattle.net_assembler.proofs.WrappedRuns.{inserted_run, joined_run, refused_run, tail_usize}
+use Rattle.net_assembler.proofs.Sets.{either}
+use Rattle.net_assembler.proofs.Joins.{grown_run, used_starts_rise}
+use Rattle.net_assembler.proofs.ShiftedRuns.{fits-less, up-none, inserted_run, joined_run, refused_run, tail_usize}
 use Rattle.net_assembler.proofs.assembler.head.AssemblerHead.join_here.Goals as goal
 
 pub overflow_add-last_end : goal.overflow_add-last_end

@@ -4,10 +4,11 @@ use Rattle.net_assembler.specs.declared.assembler.error.TooManyHolesError.{TooMa
 use Rattle.net_assembler.specs.Heads.{FrontEnds}
 use Rattle.net_assembler.specs.Positions.{with_range}
 use Rattle.net_assembler.specs.RunLists.{set_of}
-use Rattle.net_assembler.proofs.Heads.{added_more, first_reached, front_ends, reaches_some, runs-set_of}
-use Rattle.net_assembler.proofs.Positions.{too_many}
+use Rattle.net_assembler.proofs.SoundHeads.{added_more, first_reached, front_ends, reaches_some, runs-set_of}
+use Rattle.net_assembler.proofs.Sets.{too_many}
 use Rattle.net_assembler.proofs.assembler.head.AssemblerHead.reach_front.Goals as goal
-use Rattle.net_assembler.proofs.assembler.head.AssemblerHead.reach_front.Goals.{then-offset-eq0+else-end-gt0, else-offset-eq0}
+use Rattle.net_assembler.proofs.assembler.head.AssemblerHead.reach_front.Goals.{then-offset-eq0+else-end-gt0}
+use Rattle.net_assembler.proofs.assembler.head.AssemblerHead.reach_front.Goals.{else-offset-eq0}
 
 pub returns-then-end-gt0-clause-front : goal.returns-then-end-gt0-clause-front
 returns-then-end-gt0-clause-front c =

@@ -1,6 +1,6 @@
 use Rattle.std.proofs.Common.{◌≡◌, ◌∙◌, ◌-◌, ℕ, ap, arith}
 use Rattle.net_assembler.specs.RunLists.{start_at}
-use Rattle.net_assembler.proofs.Heads.{pair_fits, pair_rises}
+use Rattle.net_assembler.proofs.SoundHeads.{pair_fits, pair_rises}
 use Rattle.net_assembler.proofs.assembler.head.AssemblerHead.starts_in_runs.Goals as goal
 
 pub overflow_add-start : goal.overflow_add-start

@@ -1,10 +1,9 @@
 -- What membership, runs and shifts of a set of positions come to, whatever holds the set.
-use Rattle.std.proofs.Common.{◌≡◌, ℕ, zero, suc, ◌+◌, ◌-◌, ◌<◌, ◌≤◌, Bool, true, false, cond, not, ◌&&◌, ◌||◌}
-use Rattle.std.proofs.Common.{◌==◌, List, [], ◌∷◌, ◌++◌, map, filter, length, nat_le, nat_lt, refl, sym, ap}
-use Rattle.std.proofs.Common.{subst, ◌∙◌, ◌⊎◌, inl, inr, arith, Decides, le-leb}
-use Rattle.std.proofs.lemmas.Bool.{false≢true, eqb-true, eq-eqb, cases_lt, cases_eq, cases_Bool, lt-leb}
-use Rattle.std.proofs.lemmas.Bool.{and_parts, and_right, or_cases, or_left, or_right, cond_both}
-use Rattle.std.proofs.lemmas.Bool.{false_from_ne_true}
+use Rattle.std.proofs.Common.{◌||◌, ◌≡◌, ℕ, zero, suc, ◌+◌, ◌-◌, ◌<◌, ◌≤◌, Bool, true, false, cond, not, ◌&&◌, ◌==◌}
+use Rattle.std.proofs.Common.{List, [], ◌∷◌, ◌++◌, map, filter, length, nat_le, nat_lt, refl, sym, ap, subst, ◌∙◌}
+use Rattle.std.proofs.Common.{◌⊎◌, inl, inr, arith, Decides, le-leb}
+use Rattle.std.proofs.lemmas.Bool.{false≢true, eqb-true, eq-eqb, cases_lt, cases_eq, cases_Bool, lt-leb, and_parts}
+use Rattle.std.proofs.lemmas.Bool.{and_right, or_cases, or_left, or_right, cond_both, false_from_ne_true}
 use Rattle.std.proofs.lemmas.List.{length-map}
 use Rattle.std.specs.List.{range_with_len, list_any}
 use Rattle.std.specs.Prelude.{T, is_some, Option, Some, None}
@@ -15,10 +14,9 @@ use Rattle.std.specs.FinMap.{nat_cmp-IsAntisymmetric, entries_sorted}
 use Rattle.std.specs.FinMap.Entries.{is_sorted, below_all, is_some-find}
 use Rattle.std.proofs.lemmas.Bool.Decides.{nat_tests, Decides-and, Decides-ltb}
 use Rattle.net_assembler.specs.Assembler.{MakesTooManyRuns, makes_too_many_runs}
-use Rattle.net_assembler.specs.Positions.{Positions, contains, positions, set_of_list, nothing, with_range}
-use Rattle.net_assembler.specs.Positions.{begins_run, run_starts, runs, maximal_runs, runs_shifted_up}
-use Rattle.net_assembler.specs.Positions.{shift_down, shift_up, bound_of, missing_within, first_missing}
-use Rattle.net_assembler.specs.Positions.{are_same}
+use Rattle.net_assembler.specs.Positions.{front, Positions, contains, positions, set_of_list, nothing, with_range}
+use Rattle.net_assembler.specs.Positions.{begins_run, run_starts, runs, maximal_runs, runs_shifted_up, shift_down}
+use Rattle.net_assembler.specs.Positions.{shift_up, bound_of, missing_within, first_missing, are_same}
 use Rattle.std.specs.Cmp.Lexicographic.{bytes_decides}
 
 -- membership in a list
@@ -41,7 +39,8 @@ pub contains-set_of_list : (ks : List ℕ) (q : ℕ) → contains (set_of_list k
 unfolding set_of_list
 contains-set_of_list ks q =
     let es : List (ℕ × Unit {0}) = map (λ k. (k, tt)) ks in
-    ap is_some (get-from_entries nat_cmp_total es q) ∙ is_some-find nat_cmp q es ∙ ap (list_any (eq_by_cmp nat_cmp q)) (unit_keys ks) ∙ has-list_any ks q
+    ap is_some (get-from_entries nat_cmp_total es q) ∙ is_some-find nat_cmp q es
+    ∙ ap (list_any (eq_by_cmp nat_cmp q)) (unit_keys ks) ∙ has-list_any ks q
 
 pub contains-nothing : (q : ℕ) → contains nothing q ≡ false
 contains-nothing q = ap is_some (get-empty nat_cmp q)
@@ -54,10 +53,12 @@ pub has-range_with_len : (o n q : ℕ) → has (range_with_len o n) q ≡ (nat_l
 has-range_with_len o zero q = grind (arith, nat_tests)
 has-range_with_len o (suc n) q = let ih = has-range_with_len (o + 1) n q in grind (arith, nat_tests)
 
-pub contains-with_range : (s : Positions) (o n q : ℕ) → contains (with_range s o n) q ≡ (contains s q || (nat_le o q && nat_lt q (o + n)))
+pub contains-with_range : (s : Positions) (o n q : ℕ) →
+    contains (with_range s o n) q ≡ (contains s q || (nat_le o q && nat_lt q (o + n)))
 unfolding with_range
 contains-with_range s o n q =
-    contains-set_of_list _ q ∙ has-append (positions s) (range_with_len o n) q ∙ (λ i. sym (contains-positions s q) i || has-range_with_len o n q i)
+    contains-set_of_list _ q ∙ has-append (positions s) (range_with_len o n) q
+    ∙ (λ i. sym (contains-positions s q) i || has-range_with_len o n q i)
 
 abbrev marked : Bool → Option (Unit {0})
 marked b = cond b (Some tt) None
@@ -68,7 +69,8 @@ marks (Some u) = refl
 
 -- two sets with the same members are equal
 pub same_positions : (s t : Positions) → ((q : ℕ) → contains s q ≡ contains t q) → s ≡ t
-same_positions s t is = same_map nat_cmp_total nat_cmp-IsAntisymmetric s t (λ q. marks _ ∙ ap marked (is q) ∙ sym (marks _))
+same_positions s t is =
+    same_map nat_cmp_total nat_cmp-IsAntisymmetric s t (λ q. marks _ ∙ ap marked (is q) ∙ sym (marks _))
 
 -- a list that strictly rises, from low on
 abbrev pub Rises : ℕ → List ℕ → Type 0
@@ -98,7 +100,8 @@ begins_above : (k : ℕ) (es : List (ℕ × Unit {0})) → below_all nat_cmp k e
 begins_above k [] h = tt
 begins_above k (e ∷ es) h = let p = is_lt-nat_cmp k e.0 (and_parts _ _ h).0 in omega arith
 
-sorted_rises : (low : ℕ) (es : List (ℕ × Unit {0})) → T (is_sorted nat_cmp es) → BeginsAt low es → Rises low (map (λ e. e.0) es)
+sorted_rises : (low : ℕ) (es : List (ℕ × Unit {0})) → T (is_sorted nat_cmp es) → BeginsAt low es →
+    Rises low (map (λ e. e.0) es)
 sorted_rises low [] h b = tt
 sorted_rises low (e ∷ es) h b = (b, sorted_rises (e.0 + 1) es (second_T _ _ h) (begins_above e.0 es (first_T _ _ h)))
 
@@ -124,7 +127,8 @@ has_head x xs = ap (λ b. b || has xs x) (eq-eqb x x refl)
 has_tail : (x : ℕ) (xs : List ℕ) (q : ℕ) → x < q → has (x ∷ xs) q ≡ has xs q
 has_tail x xs q l = grind (arith, nat_tests)
 
-tails : (x : ℕ) (xs ys : List ℕ) → Rises (x + 1) xs → Rises (x + 1) ys → ((q : ℕ) → has (x ∷ xs) q ≡ has (x ∷ ys) q) → (q : ℕ) → has xs q ≡ has ys q
+tails : (x : ℕ) (xs ys : List ℕ) → Rises (x + 1) xs → Rises (x + 1) ys → ((q : ℕ) → has (x ∷ xs) q ≡ has (x ∷ ys) q) →
+    (q : ℕ) → has xs q ≡ has ys q
 tails x xs ys h g is q =
     either (cases_lt x q) (λ l. sym (has_tail x xs q l) ∙ is q ∙ has_tail x ys q l)
     (λ l. not_has (x + 1) xs q h (omega arith) ∙ sym (not_has (x + 1) ys q g (omega arith)))
@@ -154,19 +158,23 @@ has-below (k ∷ ks) q m = either (or_cases (q == k) (has ks q) m)
     (λ e. let same = eqb-true q k e in omega arith) (λ e. let l = has-below ks q e in omega arith)
 
 missing-at : (s : Positions) (n p : ℕ) → bound_of (positions s) ≤ p + n → contains s (missing_within s p n) ≡ false
-missing-at s zero p h = false_from_ne_true _ (λ m. let l = has-below (positions s) p (sym (contains-positions s p) ∙ m) in omega arith)
-missing-at s (suc n) p h = cond_both (contains s p) _ _ (λ k. contains s k ≡ false) (λ e. missing-at s n (p + 1) (omega arith)) (λ e. e)
+missing-at s zero p h =
+    false_from_ne_true _ (λ m. let l = has-below (positions s) p (sym (contains-positions s p) ∙ m) in omega arith)
+missing-at s (suc n) p h =
+    cond_both (contains s p) _ _ (λ k. contains s k ≡ false) (λ e. missing-at s n (p + 1) (omega arith)) (λ e. e)
 
 missing-below : (s : Positions) (n p q : ℕ) → p ≤ q → q < missing_within s p n → contains s q ≡ true
 missing-below s zero p q h = λ l. absurd (omega arith)
 missing-below s (suc n) p q h =
     cond_both (contains s p) _ _ (λ k. q < k → contains s q ≡ true)
-    (λ e l. either (cases_eq p q) (λ same. subst (λ (k : ℕ). contains s k ≡ true) same e) (λ other. missing-below s n (p + 1) q (omega arith) l))
+    (λ e l. either (cases_eq p q) (λ same. subst (λ (k : ℕ). contains s k ≡ true) same e)
+    (λ other. missing-below s n (p + 1) q (omega arith) l))
     (λ e l. absurd (omega arith))
 
 missing-le : (s : Positions) (n p : ℕ) → p ≤ missing_within s p n
 missing-le s zero p = omega arith
-missing-le s (suc n) p = let l = missing-le s n (p + 1) in cond_both (contains s p) _ _ (λ k. p ≤ k) (λ e. omega arith) (λ e. omega arith)
+missing-le s (suc n) p =
+    let l = missing-le s n (p + 1) in cond_both (contains s p) _ _ (λ k. p ≤ k) (λ e. omega arith) (λ e. omega arith)
 
 -- the first missing position is missing, all before it are there, and it is the only such
 pub first_missing-misses : (s : Positions) (p : ℕ) → contains s (first_missing s p) ≡ false
@@ -181,18 +189,21 @@ pub first_missing-le : (s : Positions) (p : ℕ) → p ≤ first_missing s p
 unfolding first_missing
 first_missing-le s p = missing-le s _ p
 
-pub first_missing-is : (s : Positions) (p e : ℕ) → p ≤ e → contains s e ≡ false → ((q : ℕ) → p ≤ q → q < e → contains s q ≡ true) → first_missing s p ≡ e
+pub first_missing-is : (s : Positions) (p e : ℕ) → p ≤ e → contains s e ≡ false →
+    ((q : ℕ) → p ≤ q → q < e → contains s q ≡ true) → first_missing s p ≡ e
 first_missing-is s p e h misses all =
     let m = first_missing s p in
     let least : p ≤ m = first_missing-le s p in
     let not_below : m < e → ⊥ = λ l. false≢true (sym (first_missing-misses s p) ∙ all m least l) in
     let not_above : e < m → ⊥ = λ l. false≢true (sym misses ∙ first_missing-has s p e h l) in
-    either (cases_lt m e) (λ l. absurd (not_below l)) (λ l. either (cases_lt e m) (λ k. absurd (not_above k)) (λ k. omega arith))
+    either (cases_lt m e) (λ l. absurd (not_below l))
+    (λ l. either (cases_lt e m) (λ k. absurd (not_above k)) (λ k. omega arith))
 
 -- where a run begins
 pub begins-true : (s : Positions) (p : ℕ) → (0 < p → contains s (p - 1) ≡ false) → begins_run s p ≡ true
 unfolding begins_run
-begins-true s p h = either (cases_eq p 0) (λ e. or_left (p == 0) _ (eq-eqb p 0 e)) (λ e. or_right (p == 0) _ (ap not (h (omega arith))))
+begins-true s p h =
+    either (cases_eq p 0) (λ e. or_left (p == 0) _ (eq-eqb p 0 e)) (λ e. or_right (p == 0) _ (ap not (h (omega arith))))
 
 pub begins-false : (s : Positions) (p : ℕ) → 0 < p → contains s (p - 1) ≡ true → begins_run s p ≡ false
 unfolding begins_run
@@ -209,21 +220,13 @@ has-shifted : (m : ℕ) (ks : List ℕ) (q : ℕ) → has (map (λ p. p - m) (fi
 has-shifted m [] q = refl
 has-shifted m (k ∷ ks) q =
     cond_both (nat_le m k) _ _ (λ l. has (map (λ p. p - m) l) q ≡ has (k ∷ ks) (q + m))
-    (λ e i. shifted_eq m k q e i || has-shifted m ks q i) (λ e. has-shifted m ks q ∙ ap (λ b. b || has ks (q + m)) (sym (shifted_ne m k q e)))
+    (λ e i. shifted_eq m k q e i || has-shifted m ks q i)
+    (λ e. has-shifted m ks q ∙ ap (λ b. b || has ks (q + m)) (sym (shifted_ne m k q e)))
 
 pub contains-shift_down : (s : Positions) (m q : ℕ) → contains (shift_down s m) q ≡ contains s (q + m)
 unfolding shift_down
-contains-shift_down s m q = contains-set_of_list _ q ∙ has-shifted m (positions s) q ∙ sym (contains-positions s (q + m))
-
--- there is one maximal run for each start
-pub runs-maximal_runs : (s : Positions) → runs s ≡ length (maximal_runs s)
-unfolding maximal_runs runs
-runs-maximal_runs s = sym (length-map (run_starts s) (λ p. (p, first_missing s p)))
-
--- a set that was shifted up
-rises_up : (n low high : ℕ) (ks : List ℕ) → high ≤ n + low → Rises low ks → Rises high (map (λ p. n + p) ks)
-rises_up n low high [] l h = tt
-rises_up n low high (k ∷ ks) l h = (omega (arith, h.0), rises_up n (k + 1) (n + k + 1) ks (omega arith) h.1)
+contains-shift_down s m q =
+    contains-set_of_list _ q ∙ has-shifted m (positions s) q ∙ sym (contains-positions s (q + m))
 
 up_step : (n k q : ℕ) (b : Bool) → ((q == n + k) || (nat_le n q && b)) ≡ (nat_le n q && ((q - n == k) || b))
 up_step n k q true = grind (arith, nat_tests)
@@ -235,14 +238,51 @@ has-up n (k ∷ ks) q = ap (λ b. (q == n + k) || b) (has-up n ks q) ∙ up_step
 
 pub contains-shift_up : (s : Positions) (n q : ℕ) → contains (shift_up s n) q ≡ (nat_le n q && contains s (q - n))
 unfolding shift_up
-contains-shift_up s n q = contains-set_of_list _ q ∙ has-up n (positions s) q ∙ ap (λ b. nat_le n q && b) (sym (contains-positions s (q - n)))
+contains-shift_up s n q =
+    contains-set_of_list _ q ∙ has-up n (positions s) q ∙ ap (λ b. nat_le n q && b) (sym (contains-positions s (q - n)))
 
-filter_up : (f g : ℕ → Bool) (n : ℕ) (ks : List ℕ) → ((k : ℕ) → f (n + k) ≡ g k) → filter f (map (λ p. n + p) ks) ≡ map (λ p. n + p) (filter g ks)
+-- what is in a set that was made from others
+pub ruleset sets = (contains-with_range, contains-shift_up, contains-shift_down, contains-nothing, nat_tests)
+
+-- a set with the range (o, 0) is itself
+pub with_range-none : (s : Positions) (o n : ℕ) → n ≡ 0 → with_range s o n ≡ s
+with_range-none s o n e = same_positions _ _ (λ q. grind (arith, sets))
+
+pub shift_down-zero : (s : Positions) (m : ℕ) → m ≡ 0 → shift_down s m ≡ s
+shift_down-zero s m e = same_positions _ _ (λ q. grind (arith, sets))
+
+-- the front, and a set with the positions below m, counted from n on
+pub front-is : (s : Positions) (n : ℕ) → contains s n ≡ false → ((q : ℕ) → q < n → contains s q ≡ true) → front s ≡ n
+unfolding front
+front-is s n misses all = first_missing-is s 0 n (omega arith) misses (λ q _ l. all q l)
+
+pub front-with_range : (s : Positions) (n : ℕ) → contains s n ≡ false → front (with_range s 0 n) ≡ n
+front-with_range s n misses =
+    front-is _ n (contains-with_range s 0 n n ∙ grind (arith, nat_tests))
+    (λ q l. contains-with_range s 0 n q ∙ grind (arith, nat_tests))
+
+pub shift_down-with_range : (s : Positions) (m n : ℕ) → m ≤ n → shift_down (with_range s 0 m) n ≡ shift_down s n
+shift_down-with_range s m n l = same_positions _ _ (λ q. grind (arith, sets))
+
+-- there is one maximal run for each start
+pub runs-maximal_runs : (s : Positions) → runs s ≡ length (maximal_runs s)
+unfolding maximal_runs runs
+runs-maximal_runs s = sym (length-map (run_starts s) (λ p. (p, first_missing s p)))
+
+-- a set that was shifted up
+rises_up : (n low high : ℕ) (ks : List ℕ) → high ≤ n + low → Rises low ks → Rises high (map (λ p. n + p) ks)
+rises_up n low high [] l h = tt
+rises_up n low high (k ∷ ks) l h = (omega (arith, h.0), rises_up n (k + 1) (n + k + 1) ks (omega arith) h.1)
+
+filter_up : (f g : ℕ → Bool) (n : ℕ) (ks : List ℕ) → ((k : ℕ) → f (n + k) ≡ g k) →
+    filter f (map (λ p. n + p) ks) ≡ map (λ p. n + p) (filter g ks)
 filter_up f g n [] same = refl
 filter_up f g n (k ∷ ks) same =
     let more = map (λ p. n + p) ks in
     ap (λ b. cond b ((n + k) ∷ filter f more) (filter f more)) (same k)
-    ∙ elim (g k) as (λ b. cond b ((n + k) ∷ filter f more) (filter f more) ≡ map (λ p. n + p) (cond b (k ∷ filter g ks) (filter g ks))) [
+    ∙ elim (g k) as
+    (λ b. cond b ((n + k) ∷ filter f more) (filter f more)
+    ≡ map (λ p. n + p) (cond b (k ∷ filter g ks) (filter g ks))) [
       | true ↦ ap (λ xs. (n + k) ∷ xs) (filter_up f g n ks same)
       | false ↦ filter_up f g n ks same
     ]
@@ -254,7 +294,8 @@ ends_up f g n (k ∷ ks) same = λ i. (n + k, same k i) ∷ ends_up f g n ks sam
 
 module _ (s : Positions) (n : ℕ) where
   there : (q p : ℕ) → q ≡ n + p → contains (shift_up s n) q ≡ contains s p
-  there q p e = contains-shift_up s n q ∙ (λ i. le-leb n q (omega arith) i && contains s (q - n)) ∙ ap (contains s) (omega arith)
+  there q p e =
+      contains-shift_up s n q ∙ (λ i. le-leb n q (omega arith) i && contains s (q - n)) ∙ ap (contains s) (omega arith)
 
   gone : (q : ℕ) → q < n → contains (shift_up s n) q ≡ false
   gone q l = contains-shift_up s n q ∙ ap (λ b. b && contains s (q - n)) (lt-leb n q l)
@@ -267,9 +308,11 @@ module _ (s : Positions) (n : ℕ) where
   begins-shift_up p =
       either (cases_lt 0 p)
       (λ l. let same = there (n + p - 1) (p - 1) (omega arith) in
-      either (cases_Bool (contains s (p - 1))) (λ e. begins-false (shift_up s n) (n + p) (omega arith) (same ∙ e) ∙ sym (begins-false s p l e))
+      either (cases_Bool (contains s (p - 1)))
+      (λ e. begins-false (shift_up s n) (n + p) (omega arith) (same ∙ e) ∙ sym (begins-false s p l e))
       (λ e. begins-true (shift_up s n) (n + p) (λ _. same ∙ e) ∙ sym (begins-true s p (λ _. e))))
-      (λ l. begins-true (shift_up s n) (n + p) (λ k. gone (n + p - 1) (omega arith)) ∙ sym (begins-true s p (λ k. absurd (omega arith))))
+      (λ l. begins-true (shift_up s n) (n + p) (λ k. gone (n + p - 1) (omega arith))
+      ∙ sym (begins-true s p (λ k. absurd (omega arith))))
 
   first_missing-shift_up : (p : ℕ) → first_missing (shift_up s n) (n + p) ≡ n + first_missing s p
   first_missing-shift_up p =

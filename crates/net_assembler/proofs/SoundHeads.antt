@@ -1,34 +1,39 @@
 -- A head and runs that are those of an assembler: its runs as a list, and their set.
 use Rattle.std.proofs.Common.{◌≡◌, ℕ, ◌+◌, ◌-◌, ◌*◌, ◌<◌, ◌≤◌, ◌^◌, List, [], ◌∷◌, length, take, drop, set, get_or}
-use Rattle.std.proofs.Common.{max, min, refl, sym, ap, subst, ◌∙◌, arith}
-use Rattle.std.specs.Prelude.{Result, Ok, Err, IsOk, IsErr, IsTrue, OnErr}
-use Rattle.std.proofs.lemmas.List.{nil_from_length, length-map, length-take-le, length-drop, get_or-take}
+use Rattle.std.proofs.Common.{max, min, refl, sym, ap, subst, ◌∙◌, arith, nat_lt}
+use Rattle.std.specs.List.{slice_get}
+use Rattle.std.proofs.lemmas.Option.{slice_get-get_or, slice_get_past}
+use Rattle.net_assembler.proofs.Holes.{few_holes, hole_between, no_hole, rises_after}
+use Rattle.net_assembler.specs.RunLists.{IsRising, start_at, end_at, AreRuns, HasSoundRuns, StartsAtZero, FitsFrom}
+use Rattle.net_assembler.specs.RunLists.{used_runs, runs_of, set_of, set_of_runs, runs_shifted_down}
+use Rattle.net_assembler.proofs.Runs.{runs_with_range, one_run_more, rising-runs_with_range, set-shifted_down}
+use Rattle.net_assembler.proofs.Runs.{front_of_runs, step_meets, contains-set_of_runs, front-set_of_runs}
+use Rattle.net_assembler.proofs.Runs.{runs-set_of_runs, maximal_runs-set_of_runs, set_of_runs_injective}
+use Rattle.net_assembler.proofs.Runs.{set-runs_with_range, runs-runs_with_range, few_with_range}
+use Rattle.net_assembler.proofs.ShiftedRuns.{rest_of_runs, down-less, down-none, in_runs-up, in_runs-below, end_at-up}
+use Rattle.net_assembler.proofs.ShiftedRuns.{first-runs_with_range, up-none, fits-runs_with_range, fits-up}
+use Rattle.net_assembler.proofs.ShiftedRuns.{up-runs_with_range, up-up, zero-runs_with_range, length-up, drop-up}
+use Rattle.net_assembler.proofs.ShiftedRuns.{runs-up, down-up, fits-at, start-up, first_at, get_or-up, up-injective}
+use Rattle.net_assembler.proofs.ShiftedRuns.{fits-less, rising-cut, fits-cut, down-cut, in_runs-fits}
+use Rattle.std.specs.Prelude.{false, suc, Some, None, Result, Ok, Err, IsOk, IsErr, IsTrue}
+use Rattle.std.proofs.lemmas.List.{nil_from_length, length-take-le, get_or-take}
 use Rattle.net_assembler.specs.Width.{shortfall}
 use Rattle.net_assembler.specs.declared.assembler.error.TooManyHolesError.{TooManyHolesError}
 use Rattle.net_assembler.specs.declared.assembler.head.AssemblerHead.{AssemblerHead}
 use Rattle.net_assembler.specs.AssemblerLaws.{Adds, AddsThenRemovesFront}
 use Rattle.net_assembler.specs.Heads.{AddsInPlace, FrontEnds}
 use Rattle.net_assembler.specs.Turns.{TurnsWithin, binary_digits}
-use Rattle.net_assembler.specs.Positions.{Positions, front, holes, holes_before, runs, runs_shifted_up}
-use Rattle.net_assembler.specs.Positions.{contains, with_range, maximal_runs, shift_down}
-use Rattle.net_assembler.specs.RunLists.{start_at, end_at, AreRuns, HasSoundRuns, StartsAtZero, FitsFrom}
-use Rattle.net_assembler.specs.RunLists.{used_runs, runs_of, set_of, set_of_runs, runs_with_range}
-use Rattle.net_assembler.specs.RunLists.{runs_shifted_down}
+use Rattle.net_assembler.specs.Positions.{Positions, front, holes, holes_before, runs, runs_shifted_up, contains}
+use Rattle.net_assembler.specs.Positions.{with_range, maximal_runs, shift_down}
 use Rattle.std.proofs.lemmas.Bool.{cases_lt}
 use Rattle.std.proofs.Math.Seq.{take-set-lt}
-use Rattle.net_assembler.proofs.MaximalRuns.{one_run_more}
-use Rattle.net_assembler.proofs.Positions.{either, too_many}
-use Rattle.net_assembler.proofs.Runs.{rising-runs_with_range, set-shifted_down, front_of_runs, step_after, step_before, step_meets}
-use Rattle.net_assembler.proofs.Runs.{contains-set_of_runs, front-set_of_runs, runs-set_of_runs, maximal_runs-set_of_runs}
-use Rattle.net_assembler.proofs.Runs.{set_of_runs_injective, set-runs_with_range, runs-runs_with_range}
-use Rattle.net_assembler.proofs.RunLists.{front_none, shift_down-zero, Completed, completed_at, at_run, apart}
-use Rattle.net_assembler.proofs.RunLists.{front_some, shifted_down_set, with_range-none, top_of}
-use Rattle.net_assembler.proofs.ShiftedRuns.{end_at-up, top_before, down-zero, start_at-up}
-use Rattle.net_assembler.proofs.ShiftedRuns.{first-runs_with_range, up-none}
-use Rattle.net_assembler.proofs.ShiftedRuns.{fits-runs_with_range, fits-up, up-runs_with_range, up-up}
-use Rattle.net_assembler.proofs.ShiftedRuns.{zero-runs_with_range, length-up, drop-up, runs-up, down-up}
-use Rattle.net_assembler.proofs.ShiftedRuns.{fits-at, start-up, first_at, get_or-up, up-injective, fits-less}
-use Rattle.net_assembler.proofs.ShiftedRuns.{rising-cut, fits-cut, down-cut, in_runs-fits}
+use Rattle.net_assembler.proofs.Joins.{no_runs, runs-nothing, set_of_no_runs, front_of_runs-none, at_run, apart}
+use Rattle.net_assembler.proofs.Joins.{front_of_runs-some, in_run_at, used_ends_rise, used_starts_rise}
+use Rattle.std.proofs.lemmas.Bool.Decides.{nat_tests}
+use Rattle.net_assembler.proofs.Sets.{front-is, contains-with_range, are_same_decides, contains-nothing}
+use Rattle.net_assembler.proofs.Sets.{front-with_range, shift_down-with_range, either, too_many, shift_down-zero}
+use Rattle.net_assembler.proofs.Sets.{with_range-none}
+use Rattle.net_assembler.proofs.Calls.{few_binary_digits}
 
 module _ (h : AssemblerHead) (xs : List (ℕ × ℕ)) (s : HasSoundRuns h xs) where
   pub length-used_runs : length (used_runs h xs) ≡ h.used
@@ -73,9 +78,7 @@ module _ (h : AssemblerHead) (xs : List (ℕ × ℕ)) (s : HasSoundRuns h xs) wh
       omega (arith, p, start_of k m, end_of i (omega arith))
 
   pub ends_rise : (i k : ℕ) → i ≤ k → k < h.used → end_at xs i ≤ end_at xs k
-  ends_rise i k l m =
-      either (cases_lt i k) (λ b. omega (arith, pairs_apart i k b m, pair_rises k m))
-      (λ b. let e : i ≡ k = omega arith in let same = ap (end_at xs) e in omega arith)
+  ends_rise i k l m = used_ends_rise xs h.used s.runs s.room i k l m
 
   pub pair_fits : (k : ℕ) → k < h.used → h.first_start + end_at xs k + shortfall < 2 ^ 64
   pair_fits k l =
@@ -91,20 +94,46 @@ module _ (h : AssemblerHead) (xs : List (ℕ × ℕ)) (s : HasSoundRuns h xs) wh
       get_or-up h.first_start (used_runs h xs) k (omega (arith, length-used_runs))
       ∙ (λ i. (h.first_start + start_of k l i, h.first_start + end_of k l i))
 
+  pub run_listed : (k : ℕ) → k < h.used →
+      slice_get (maximal_runs (set_of h xs)) k ≡ Some (h.first_start + start_at xs k, h.first_start + end_at xs k)
+  run_listed k l =
+      ap (λ rs. slice_get rs k) maximal_runs-set_of
+      ∙ slice_get-get_or (runs_of h xs) k (0, 0) (omega (arith, length-runs_of))
+      ∙ ap Some (run_at k l)
+
+  pub no_run_listed : (k : ℕ) → h.used ≤ k → slice_get (maximal_runs (set_of h xs)) k ≡ None
+  no_run_listed k l =
+      ap (λ rs. slice_get rs k) maximal_runs-set_of ∙ slice_get_past (runs_of h xs) k (omega (arith, length-runs_of))
+
+  -- the hole after the run k
+  pub hole_after : (k : ℕ) → k + 1 < h.used →
+      slice_get (holes_before (end_at (runs_of h xs) 0) (drop 1 (runs_of h xs))) k
+      ≡ Some (h.first_start + end_at xs k, h.first_start + start_at xs (k + 1))
+  hole_after k l =
+      let next : suc k ≡ k + 1 = omega arith in
+      hole_between 0 (runs_of h xs) k are_runs (omega (arith, length-runs_of))
+      ∙ (λ i. Some (end_at (runs_of h xs) k, start_at (runs_of h xs) (next i)))
+      ∙ (λ i. Some ((run_at k (omega arith) i).1, (run_at (k + 1) l i).0))
+
+  pub no_hole_after : (k : ℕ) → h.used ≤ k + 1 →
+      slice_get (holes_before (end_at (runs_of h xs) 0) (drop 1 (runs_of h xs))) k ≡ None
+  no_hole_after k l = no_hole (runs_of h xs) k (omega (arith, length-runs_of))
+
   pub run_start : 0 < h.used → start_at (runs_of h xs) 0 ≡ h.first_start
   run_start l = start-up h.first_start (used_runs h xs) (omega (arith, length-used_runs)) s.first
 
   -- no run at 0
   pub no_front : (0 < h.used → 0 < h.first_start) → 0 ≡ front (set_of h xs)
   no_front later =
-      front_none (runs_of h xs) (λ l e. let some = length-runs_of in absurd (omega (arith, run_start (omega arith), later (omega arith))))
+      front_of_runs-none (runs_of h xs)
+      (λ l e. let some = length-runs_of in absurd (omega (arith, run_start (omega arith), later (omega arith))))
       ∙ sym front-set_of
 
   -- a run at 0
   pub first_front : 0 < h.used → h.first_start ≡ 0 → end_at xs 0 ≡ front (set_of h xs)
   first_front some zeroth =
       let ends = end_at-up h.first_start (used_runs h xs) 0 (omega (arith, length-used_runs)) in
-      let is = front_some (runs_of h xs) (omega (arith, length-runs_of)) (omega (arith, run_start some)) in
+      let is = front_of_runs-some (runs_of h xs) (omega (arith, length-runs_of)) (omega (arith, run_start some)) in
       omega (arith, is, front-set_of, ends, end_of 0 some)
 
   -- what is left of the pairs, counted lower
@@ -115,32 +144,81 @@ module _ (h : AssemblerHead) (xs : List (ℕ × ℕ)) (s : HasSoundRuns h xs) wh
       ∙ (λ i. runs_shifted_down (sym e i) (sym (drop-up h.first_start k (used_runs h xs)) i))
 
   -- the last of n runs, of which all but the first start by m
-  pub starts_by : (n m : ℕ) → 0 < n → n ≤ h.used → ((k : ℕ) → 1 ≤ k → k < n → start_at xs k ≤ m) → start_at xs (n - 1) ≤ m
+  pub starts_by : (n m : ℕ) → 0 < n → n ≤ h.used → ((k : ℕ) → 1 ≤ k → k < n → start_at xs k ≤ m) →
+      start_at xs (n - 1) ≤ m
   starts_by n m some few before =
       either (cases_lt 0 (n - 1)) (λ b. before (n - 1) b (omega arith))
       (λ b. let zeroth : n - 1 ≡ 0 = omega arith in omega (arith, ap (start_at xs) zeroth, first_pair (omega arith)))
 
+  -- a position is in the set if it is in the runs, counted from where the first of them starts
+  pub fits_from : (m : ℕ) → m ≤ h.first_start → FitsFrom m (used_runs h xs)
+  fits_from m l = fits-less m h.first_start (used_runs h xs) l s.fits
+
+  pub contains-from : (q : ℕ) → h.first_start ≤ q →
+      contains (set_of h xs) q ≡ contains (set_of_runs (used_runs h xs)) (q - h.first_start)
+  contains-from q l =
+      contains-set_of_runs (runs_of h xs) q ∙ in_runs-up h.first_start (used_runs h xs) q l
+      ∙ sym (contains-set_of_runs (used_runs h xs) (q - h.first_start))
+
+  pub contains-below : (q : ℕ) → q < h.first_start → contains (set_of h xs) q ≡ false
+  contains-below q l = contains-set_of_runs (runs_of h xs) q ∙ in_runs-below h.first_start (used_runs h xs) q l
+
+  pub contains-none : (q : ℕ) → h.used ≡ 0 → contains (set_of h xs) q ≡ false
+  contains-none q e =
+      ap (λ (t : Positions). contains t q) (no_runs (runs_of h xs) (length-runs_of ∙ e)) ∙ contains-nothing q
+
+  -- runs that start later rise from 1 on, and those after the first from its end
+  pub later_runs : 0 < h.first_start → IsRising 1 (maximal_runs (set_of h xs))
+  later_runs l = subst (IsRising 1) (sym maximal_runs-set_of)
+      (rises_after (runs_of h xs) are_runs (λ some. omega (arith, run_start (omega (arith, length-runs_of)))))
+
+  pub runs_after : (r : ℕ × ℕ) (rest : List (ℕ × ℕ)) → maximal_runs (set_of h xs) ≡ r ∷ rest → IsRising (r.1 + 1) rest
+  runs_after r rest e = (subst (IsRising 0) (sym maximal_runs-set_of ∙ e) are_runs).2
+
   -- each position is below the greatest number of `usize`
   pub position_fits : (p : ℕ) → IsTrue (contains (set_of h xs) p) → p + 1 + shortfall < 2 ^ 64
-  position_fits p m = in_runs-fits h.first_start (used_runs h xs) p s.fits (sym (contains-set_of_runs (runs_of h xs) p) ∙ m)
+  position_fits p m =
+      in_runs-fits h.first_start (used_runs h xs) p s.fits (sym (contains-set_of_runs (runs_of h xs) p) ∙ m)
 
   -- where only `first_start` changes
   pub lowered : (m : ℕ) → HasSoundRuns (record { used = h.used; first_start = h.first_start - m }) xs
-  lowered m = record {
-    room = s.room;
-    runs = s.runs;
-    first = s.first;
-    fits = fits-less (h.first_start - m) h.first_start (used_runs h xs) (omega arith) s.fits;
-  }
+  lowered m =
+      record { room = s.room; runs = s.runs; first = s.first; fits = fits_from (h.first_start - m) (omega arith) }
+
+  pub lowered_set : (m : ℕ) → m ≤ h.first_start →
+      set_of (record { used = h.used; first_start = h.first_start - m }) xs ≡ shift_down (set_of h xs) m
+  lowered_set m l =
+      ap set_of_runs (sym (down-less h.first_start m (used_runs h xs) l))
+      ∙ set-shifted_down (runs_of h xs) 0 m (λ k b. absurd (omega arith))
+
+  pub shift_down-none : (m : ℕ) → h.used ≡ 0 → shift_down (set_of h xs) m ≡ set_of h xs
+  shift_down-none m e =
+      sym (set-shifted_down (runs_of h xs) 0 m (λ k b. absurd (omega arith)))
+      ∙ ap set_of_runs (down-none m (runs_of h xs) (length-runs_of ∙ e))
 
   -- what is left of the set where all is counted from m on, and the first n runs end by then
-  pub left_set : (n m : ℕ) (g : AssemblerHead) (ys : List (ℕ × ℕ)) → n ≤ h.used →
-      ((k : ℕ) → k < n → end_at xs k ≤ m) → runs_of g ys ≡ runs_shifted_down m (drop n (used_runs h xs)) →
-      set_of g ys ≡ shift_down (set_of h xs) (h.first_start + m)
-  left_set n m g ys few ends e =
-      ap set_of_runs (e ∙ dropped n m (h.first_start + m) refl)
-      ∙ set-shifted_down (runs_of h xs) n (h.first_start + m)
-      (λ k l. let at = ap (λ (r : ℕ × ℕ). r.1) (run_at k (omega arith)) in let by = ends k l in omega arith)
+  pub left_set : (n m top : ℕ) (g : AssemblerHead) (ys : List (ℕ × ℕ)) → n ≤ h.used → (0 < n → end_at xs (n - 1) ≤ m) →
+      top ≡ h.first_start + m → runs_of g ys ≡ runs_shifted_down m (drop n (used_runs h xs)) →
+      set_of g ys ≡ shift_down (set_of h xs) top
+  left_set n m top g ys few last is e =
+      ap set_of_runs (e ∙ dropped n m top is)
+      ∙ set-shifted_down (runs_of h xs) n top (λ k l.
+      let at = ap (λ (r : ℕ × ℕ). r.1) (run_at k (omega arith)) in
+      let by = ends_rise k (n - 1) (omega arith) (omega arith) in
+      omega (arith, last (omega arith)))
+
+  pub left_after_front : (m : ℕ) (g : AssemblerHead) (ys : List (ℕ × ℕ)) → 0 < h.used → h.first_start ≡ 0 →
+      m ≡ end_at xs 0 →
+      runs_of g ys ≡ runs_shifted_down m (drop 1 (used_runs h xs)) →
+      set_of g ys ≡ shift_down (set_of h xs) (front (set_of h xs))
+  left_after_front m g ys some zeroth is e =
+      left_set 1 m (front (set_of h xs)) g ys some (λ _. omega arith) (omega (arith, first_front some zeroth)) e
+
+  pub front_none : h.used ≡ 0 → front (set_of h xs) ≡ 0
+  front_none e = sym (no_front (λ some. absurd (omega arith)))
+
+  pub front_later : 0 < h.first_start → front (set_of h xs) ≡ 0
+  front_later l = sym (no_front (λ _. l))
 
   -- the run n begins at m instead
   module _ (n m e : ℕ) (l : n < h.used) (is : e ≡ end_at xs n) (a : start_at xs n ≤ m) (b : m < e) where
@@ -155,12 +233,18 @@ module _ (h : AssemblerHead) (xs : List (ℕ × ℕ)) (s : HasSoundRuns h xs) wh
     pub cut_fits : FitsFrom h.first_start (used_runs h (set xs n (m, e)))
     cut_fits = subst (FitsFrom h.first_start) (sym cut_used) (fits-cut h.first_start (used_runs h xs) n m s.fits)
 
-    pub cut_left : runs_shifted_down m (drop n (used_runs h (set xs n (m, e)))) ≡ runs_shifted_down m (drop n (used_runs h xs))
+    pub cut_left : runs_shifted_down m (drop n (used_runs h (set xs n (m, e))))
+        ≡ runs_shifted_down m (drop n (used_runs h xs))
     cut_left =
         ap (λ rs. runs_shifted_down m (drop n rs)) cut_used
         ∙ down-cut (used_runs h xs) n m (omega (arith, a, start_of n l))
 
-pub holes-set_of : (h : AssemblerHead) (xs : List (ℕ × ℕ)) → HasSoundRuns h xs → holes (set_of h xs) ≡ holes_before 0 (runs_of h xs)
+pub lowered_runs : (h : AssemblerHead) (xs : List (ℕ × ℕ)) → HasSoundRuns h xs → (m : ℕ) →
+    runs (set_of (record { used = h.used; first_start = h.first_start - m }) xs) ≡ h.used
+lowered_runs h xs s m = runs-set_of _ _ (lowered h xs s m)
+
+pub holes-set_of : (h : AssemblerHead) (xs : List (ℕ × ℕ)) → HasSoundRuns h xs →
+    holes (set_of h xs) ≡ holes_before 0 (runs_of h xs)
 unfolding holes
 holes-set_of h xs s = ap (holes_before 0) (maximal_runs-set_of h xs s)
 
@@ -179,7 +263,8 @@ module _ (h : AssemblerHead) (xs : List (ℕ × ℕ)) (g : AssemblerHead) (ys : 
       ∙ run_start g ys t (omega (arith, same_number e))
 
   pub same_pairs : 0 < h.used → set_of h xs ≡ set_of g ys → used_runs h xs ≡ used_runs g ys
-  same_pairs l e = up-injective h.first_start g.first_start (used_runs h xs) (used_runs g ys) (same_first_start l e) (same_runs e)
+  same_pairs l e =
+      up-injective h.first_start g.first_start (used_runs h xs) (used_runs g ys) (same_first_start l e) (same_runs e)
 
 -- a range that was added, and one that wasn't
 module _ (h : AssemblerHead) (xs : List (ℕ × ℕ)) (g : AssemblerHead) (ys : List (ℕ × ℕ)) (s : HasSoundRuns h xs)
@@ -214,15 +299,6 @@ module _ (h : AssemblerHead) (xs : List (ℕ × ℕ)) (g : AssemblerHead) (ys : 
         bound = omega arith;
       }
 
--- how many runs are left
-pub dropped_number : (h : AssemblerHead) (xs : List (ℕ × ℕ)) → HasSoundRuns h xs → (k m : ℕ) (g : AssemblerHead)
-    (ys : List (ℕ × ℕ)) → HasSoundRuns g ys →
-    runs_of g ys ≡ runs_shifted_down m (drop k (used_runs h xs)) → runs (set_of g ys) ≡ h.used - k
-dropped_number h xs s k m g ys t e =
-    runs-set_of g ys t ∙ sym (length-runs_of g ys t) ∙ ap length e
-    ∙ length-map (drop k (used_runs h xs)) (λ (r : ℕ × ℕ). (r.0 - m, r.1 - m))
-    ∙ length-drop k (used_runs h xs) ∙ ap (λ l. l - k) (length-used_runs h xs s)
-
 -- the range (o, 0)
 pub none_added : (h : AssemblerHead) (xs : List (ℕ × ℕ)) → HasSoundRuns h xs → (o k : ℕ) → k ≡ 0 →
     Adds (length xs) (set_of h xs) o k (Ok tt) (set_of h xs)
@@ -233,7 +309,8 @@ none_added h xs s o k e = record {
   bound = few_held h xs s;
 }
 
--- a range that joins the runs, where all is counted from low on: by higher than the first run starts, which is f; without a run
+-- a range that joins the runs, where all is counted from low on: by higher than the first run starts, which is f;
+-- without a run
 -- f is where the range starts
 module _ (h : AssemblerHead) (xs : List (ℕ × ℕ)) (s : HasSoundRuns h xs) (o k f low by lo hi : ℕ) (l : lo < hi)
     (up : low + by ≡ f) (at : low + lo ≡ o) (upto : low + hi ≡ o + k) (one_way : 0 < by → lo ≡ 0)
@@ -255,15 +332,21 @@ module _ (h : AssemblerHead) (xs : List (ℕ × ℕ)) (s : HasSoundRuns h xs) (o
       (λ b. let start = waits b in fits-up low by h.first_start (used_runs h xs) (omega arith) s.fits)
       (λ b. subst (FitsFrom low) (sym (ap (runs_shifted_up by) (nil (omega arith)))) tt)
 
-  joined_sound : (m : ℕ) (ys : List (ℕ × ℕ)) → m ≤ length ys → o + k + shortfall < 2 ^ 64 → take m ys ≡ runs_with_range counted lo hi →
+  joined_sound : (m : ℕ) (ys : List (ℕ × ℕ)) → m ≤ length ys → o + k + shortfall < 2 ^ 64 →
+      take m ys ≡ runs_with_range counted lo hi →
       HasSoundRuns (record { used = m; first_start = low }) ys
   joined_sound m ys room fits e = record {
     room = room;
-    runs = subst AreRuns (sym e) (rising-runs_with_range 0 counted lo hi (runs-up by (used_runs h xs) s.runs) (omega arith) l);
+    runs =
+        subst AreRuns (sym e)
+        (rising-runs_with_range 0 counted lo hi (runs-up by (used_runs h xs) s.runs) (omega arith) l);
     first = subst StartsAtZero (sym e) (either (cases_lt 0 by)
         (λ b. zero-runs_with_range counted lo hi (one_way b))
-        (λ b. first-runs_with_range counted lo hi (subst StartsAtZero (sym (up-none by (used_runs h xs) (omega arith))) s.first)
-        (λ z. let begin = none (omega (arith, z, length-up by (used_runs h xs), length-used_runs h xs s)) in omega arith)));
+        (λ b.
+        let unmoved = up-none by (used_runs h xs) (omega arith) in
+        let count = length-up by (used_runs h xs) in
+        first-runs_with_range counted lo hi (subst StartsAtZero (sym unmoved) s.first)
+        (λ z. let begin = none (omega (arith, z, count, length-used_runs h xs s)) in omega arith)));
     fits = subst (FitsFrom low) (sym e) (fits-runs_with_range low counted lo hi counted_fits (omega arith));
   }
 
@@ -277,7 +360,8 @@ module _ (h : AssemblerHead) (xs : List (ℕ × ℕ)) (s : HasSoundRuns h xs) (o
   joined_length : length (runs_with_range (runs_of h xs) o (o + k)) ≡ length (runs_with_range counted lo hi)
   joined_length = ap length (sym shown) ∙ length-up low (runs_with_range counted lo hi)
 
-  pub joined_in_place : (m : ℕ) (ys : List (ℕ × ℕ)) (counts new_counts : ℕ × ℕ) → length ys ≡ length xs → m ≤ length ys → 0 < m → 0 < k →
+  pub joined_in_place : (m : ℕ) (ys : List (ℕ × ℕ)) (counts new_counts : ℕ × ℕ) → length ys ≡ length xs →
+      m ≤ length ys → 0 < m → 0 < k →
       o + k + shortfall < 2 ^ 64 → take m ys ≡ runs_with_range counted lo hi →
       TurnsWithin (2 * binary_digits (length xs)) (length xs) counts new_counts →
       AddsInPlace h xs o k (Ok tt) (record { used = m; first_start = low }) ys counts new_counts
@@ -307,8 +391,9 @@ module _ (h : AssemblerHead) (xs : List (ℕ × ℕ)) (s : HasSoundRuns h xs) (o
   plain e = ap (λ rs. runs_with_range rs lo hi) (sym (up-none by (used_runs h xs) e))
 
 -- a range that is added after a search
-pub searched : (h : AssemblerHead) (xs : List (ℕ × ℕ)) (o k : ℕ) (r : Result (Unit {0}) TooManyHolesError) (g : AssemblerHead) (ys : List (ℕ × ℕ))
-    (old counts new : ℕ × ℕ) → AddsInPlace h xs o k r g ys counts new → old.0 ≤ counts.0 → counts.0 ≤ old.0 + binary_digits (length xs) →
+pub searched : (h : AssemblerHead) (xs : List (ℕ × ℕ)) (o k : ℕ) (r : Result (Unit {0}) TooManyHolesError)
+    (g : AssemblerHead) (ys : List (ℕ × ℕ)) (old counts new : ℕ × ℕ) → AddsInPlace h xs o k r g ys counts new →
+    old.0 ≤ counts.0 → counts.0 ≤ old.0 + binary_digits (length xs) →
     counts.1 ≡ old.1 → new.0 ≤ counts.0 + binary_digits (length xs) → AddsInPlace h xs o k r g ys old new
 searched h xs o k r g ys old counts new all few most same looks = record {
   sound = all.sound;
@@ -323,50 +408,22 @@ searched h xs o k r g ys old counts new all few most same looks = record {
   };
 }
 
--- data that comes next, and reaches no run
-pub next_alone : (h : AssemblerHead) (xs : List (ℕ × ℕ)) → HasSoundRuns h xs → (k : ℕ) → (0 < h.used → k < h.first_start) →
-    Completed (runs_of h xs) 0 k k
-next_alone h xs s k gap =
-    let count = length-runs_of h xs s in
-    let pairs = length-used_runs h xs s in
-    either (cases_lt 0 k)
-    (λ l.
-    completed_at (runs_of h xs) 0 k k (are_runs h xs s) l (omega arith) (λ i a. absurd (omega arith))
-    (λ i a b. let g = gap (omega arith) in omega (arith, start_at-up h.first_start (used_runs h xs) i (omega arith))) refl)
-    (λ l.
-    let none : k ≡ 0 = omega arith in
-    let same = with_range-none (set_of h xs) 0 k none in
-    let missing = front_none (runs_of h xs)
-    (λ m e. let g = gap (omega arith) in absurd (omega (arith, e, run_start h xs s (omega arith)))) in (
-      none ∙ missing ∙ sym (front-set_of h xs s) ∙ ap front (sym same),
-      ap set_of_runs (down-zero k (runs_of h xs) none) ∙ sym (shift_down-zero (set_of h xs) k none)
-          ∙ ap (λ u. shift_down u k) (sym same),
-    ))
-
--- data that comes next, and reaches the first n runs: end is where the front ends, counted as the runs are
-pub reached : (h : AssemblerHead) (xs : List (ℕ × ℕ)) → HasSoundRuns h xs → (n size end : ℕ) → 1 ≤ n → n ≤ h.used →
-    0 < size → h.first_start ≤ size →
-    ((k : ℕ) → 1 ≤ k → k < n → start_at (used_runs h xs) k ≤ size - h.first_start) →
-    ((k : ℕ) → n ≤ k → k < length (used_runs h xs) → size - h.first_start < start_at (used_runs h xs) k) →
-    end ≡ max (end_at xs (n - 1)) (size - h.first_start) → Completed (runs_of h xs) n size (h.first_start + end)
-reached h xs s n size end some few l from before after ends =
-    let count = length-used_runs h xs s in
-    let count_runs = length-runs_of h xs s in
-    let last = end_at-up h.first_start (used_runs h xs) (n - 1) (omega arith) in
-    let read = end_of h xs s (n - 1) (omega arith) in
-    let top : h.first_start + end ≡ top_of (runs_of h xs) n size = omega (arith, top_before (runs_of h xs) n size some) in
-    completed_at (runs_of h xs) n size (h.first_start + end) (are_runs h xs s) l (omega arith)
-    (λ k a.
-    let start = start_at-up h.first_start (used_runs h xs) k (omega arith) in
-    either (cases_lt 0 k) (λ b. omega (arith, before k b a))
-    (λ b.
-    let zeroth : k ≡ 0 = omega arith in
-    omega (arith, ap (start_at (used_runs h xs)) zeroth, start_of h xs s 0 (omega arith), first_pair h xs s (omega arith))))
-    (λ k a b. omega (arith, start_at-up h.first_start (used_runs h xs) k (omega arith), after k a (omega arith)))
-    top
+-- data that comes next, and reaches no run, is the front and removed
+pub next_removed : (most_runs o n : ℕ) (s t : Positions) → o ≡ 0 → contains s n ≡ false → t ≡ shift_down s n →
+    runs t ≤ most_runs →
+    AddsThenRemovesFront most_runs s o n (Ok n) t
+next_removed most_runs o n s t z misses e few = record {
+  value = (
+    sym (ap (λ k. front (with_range s k n)) z ∙ front-with_range s n misses),
+    e ∙ sym (ap (λ k. shift_down (with_range s k n) n) z ∙ shift_down-with_range s n n (omega arith)),
+  );
+  refused = (λ f. absurd (cc), λ over. absurd (omega (arith, over.0)));
+  bound = few;
+}
 
 -- a range at 0 that reaches the first run makes no more runs
-pub reaches_some : (h : AssemblerHead) (xs : List (ℕ × ℕ)) → HasSoundRuns h xs → (size : ℕ) → 0 < h.used → h.first_start ≤ size →
+pub reaches_some : (h : AssemblerHead) (xs : List (ℕ × ℕ)) → HasSoundRuns h xs → (size : ℕ) → 0 < h.used →
+    h.first_start ≤ size →
     (t : Positions) → t ≡ with_range (set_of h xs) 0 size → runs t ≤ h.used
 reaches_some h xs s size some reach t e =
     let count = length-runs_of h xs s in
@@ -380,20 +437,25 @@ reaches_some h xs s size some reach t e =
     let same : t ≡ set_of h xs = e ∙ with_range-none (set_of h xs) 0 size (omega arith) in
     omega (arith, ap runs same, all))
   where
-    one_more : (rs : List (ℕ × ℕ)) (lo hi : ℕ) → length (runs_with_range rs lo hi) ≤ length rs + 1
-    one_more [] lo hi = omega arith
-    one_more (r ∷ rs) lo hi =
-        either (cases_lt r.1 lo) (λ b. omega (arith, ap length (step_before r rs lo hi b), one_more rs lo hi))
-        (λ b. either (cases_lt hi r.0) (λ c. omega (arith, ap length (step_after r rs lo hi b c)))
-        (λ c. omega (arith, ap length (step_meets r rs lo hi b c), one_more rs (min r.0 lo) (max r.1 hi))))
-
     meets_first : (rs : List (ℕ × ℕ)) (lo hi : ℕ) → 0 < length rs → lo ≤ end_at rs 0 → start_at rs 0 ≤ hi →
         length (runs_with_range rs lo hi) ≤ length rs
     meets_first [] lo hi l a b = absurd (omega arith)
-    meets_first (r ∷ rs) lo hi l a b = omega (arith, ap length (step_meets r rs lo hi a b), one_more rs (min r.0 lo) (max r.1 hi))
+    meets_first (r ∷ rs) lo hi l a b =
+        omega (arith, ap length (step_meets r rs lo hi a b), few_with_range rs (min r.0 lo) (max r.1 hi))
+
+-- the set without the first run, counted from a position at or after its end
+without_first : (h : AssemblerHead) (xs : List (ℕ × ℕ)) → HasSoundRuns h xs → (end : ℕ) → 0 < h.used →
+    end_at xs 0 ≤ end →
+    set_of_runs (runs_shifted_down (h.first_start + end) (drop 1 (runs_of h xs)))
+    ≡ shift_down (set_of h xs) (h.first_start + end)
+without_first h xs s end some last =
+    set-shifted_down (runs_of h xs) 1 (h.first_start + end) (λ k l.
+    let zeroth : k ≡ 0 = omega arith in
+    omega (arith, ap (end_at (runs_of h xs)) zeroth, ap (λ (r : ℕ × ℕ). r.1) (run_at h xs s 0 some)))
 
 -- a front that is there
-front_there : (h : AssemblerHead) (xs : List (ℕ × ℕ)) → HasSoundRuns h xs → (end : ℕ) → 0 < end → end ≡ front (set_of h xs) →
+front_there : (h : AssemblerHead) (xs : List (ℕ × ℕ)) → HasSoundRuns h xs → (end : ℕ) → 0 < end →
+    end ≡ front (set_of h xs) →
     (0 < h.used) × (h.first_start ≡ 0) × (end ≡ end_at xs 0)
 front_there h xs s end some is =
     either (cases_lt 0 h.used)
@@ -404,36 +466,48 @@ front_there h xs s end some is =
 
 -- the front of a sound head, once the range (o, k) is in its set
 pub front_ends : (h : AssemblerHead) (xs : List (ℕ × ℕ)) (o k : ℕ) (g : AssemblerHead) (ys : List (ℕ × ℕ)) (end : ℕ) →
-    HasSoundRuns g ys → set_of g ys ≡ with_range (set_of h xs) o k → g.used ≤ h.used + 1 → (0 < o → length ys ≤ length xs) →
+    HasSoundRuns g ys → set_of g ys ≡ with_range (set_of h xs) o k → g.used ≤ h.used + 1 →
+    (0 < o → length ys ≤ length xs) →
     end ≡ front (set_of g ys) → FrontEnds h xs o k g ys end
 front_ends h xs o k g ys end t same few long is =
-    let top : 0 < end → end ≡ g.first_start + end = λ some. omega (arith, (front_there g ys t end some is).1) in
+    let there = λ (some : 0 < end). front_there g ys t end some is in
     record {
       sound = t;
       few = few;
       room = λ past. omega (arith, ap runs same, few_held g ys t, long past);
       none = λ z. (sym z ∙ is ∙ ap front same, same);
-      some = λ some. (front_there g ys t end some is).0;
-      second = λ some l. omega (arith, (front_there g ys t end some is).2, pairs_apart g ys t 0 1 (omega arith) l);
-      fits = λ some. omega (arith, (front_there g ys t end some is).2, pair_fits g ys t 0 (front_there g ys t end some is).0);
-      front = λ some. sym (top some) ∙ is ∙ ap front same;
-      rest = λ some. ap (λ n. set_of_runs (runs_shifted_down n (drop 1 (runs_of g ys)))) (sym (top some))
-          ∙ shifted_down_set (runs_of g ys) end (are_runs g ys t) is some
-          ∙ (λ i. shift_down (same i) (top some i));
+      some = λ some. (there some).0;
+      second = λ some l. omega (arith, (there some).2, pairs_apart g ys t 0 1 (omega arith) l);
+      fits = λ some. omega (arith, (there some).2, pair_fits g ys t 0 (there some).0);
+      front = λ some. omega (arith, (there some).1, is, ap front same);
+      rest =
+          λ some. without_first g ys t end (there some).0 (omega (arith, (there some).2))
+          ∙ ap (λ u. shift_down u (g.first_start + end)) same;
     }
 
 -- a range at 0 that reaches the first run, and not the second
-pub first_reached : (h : AssemblerHead) (xs : List (ℕ × ℕ)) → HasSoundRuns h xs → (size end : ℕ) → 0 < h.used → h.first_start ≤ size →
-    size + shortfall < 2 ^ 64 → end ≡ max (end_at xs 0) (size - h.first_start) → (1 < h.used → size - h.first_start < start_at xs 1) →
+pub first_reached : (h : AssemblerHead) (xs : List (ℕ × ℕ)) → HasSoundRuns h xs → (size end : ℕ) → 0 < h.used →
+    h.first_start ≤ size →
+    size + shortfall < 2 ^ 64 → end ≡ max (end_at xs 0) (size - h.first_start) →
+    (1 < h.used → size - h.first_start < start_at xs 1) →
     FrontEnds h xs 0 size h xs end
 first_reached h xs s size end some reach fits is second =
+    let rs = runs_of h xs in
+    let n = h.first_start + end in
+    let count = length-runs_of h xs s in
+    let first = run_at h xs s 0 some in
+    let begin : start_at rs 0 ≡ h.first_start = run_start h xs s some in
+    let ends : end_at rs 0 ≡ h.first_start + end_at xs 0 = ap (λ (r : ℕ × ℕ). r.1) first in
     let rises = pair_rises h xs s 0 some in
-    either (cases_lt 0 size)
-    (λ l.
-    let both = reached h xs s 1 size end (omega arith) (omega arith) l reach (λ k a b. absurd (omega arith))
-    (λ k a b.
-    let used : k < h.used = omega (arith, length-used_runs h xs s) in
-    omega (arith, second (omega arith), later_start h xs s 1 k a used, start_of h xs s k used)) is in
+    let later : (k : ℕ) → 0 < k → k < length rs → n < start_at rs k = λ k a b.
+        let l : k < h.used = omega (arith, b, count) in
+        let at = ap (λ (r : ℕ × ℕ). r.0) (run_at h xs s k l) in
+        let next = used_starts_rise xs h.used s.runs s.room 1 k a l in
+        omega (arith, at, is, next, second (omega arith), pairs_apart h xs s 0 k a l) in
+    let held : (q : ℕ) → h.first_start ≤ q → q ≤ n → contains (set_of h xs) q ≡ nat_lt q (end_at rs 0) = λ q a b.
+        contains-set_of_runs rs q
+        ∙ in_run_at 0 rs 0 q (are_runs h xs s) (omega (arith, count)) (omega (arith, begin))
+        (λ k c d. let l = later k c d in omega arith) in
     record {
       sound = s;
       few = omega arith;
@@ -442,22 +516,15 @@ first_reached h xs s size end some reach fits is second =
       some = λ _. some;
       second = λ _ m. omega (arith, is, second m, pairs_apart h xs s 0 1 (omega arith) m);
       fits = λ _. omega (arith, is, pair_fits h xs s 0 some);
-      front = λ _. both.0;
-      rest = λ _. both.1;
-    })
-    (λ none.
-    front_ends h xs 0 size h xs end s (sym (with_range-none (set_of h xs) 0 size (omega arith))) (omega arith) (λ past. absurd (omega arith))
-    (let ends : end ≡ end_at xs 0 = omega arith in ends ∙ first_front h xs s some (omega arith)))
-  where
-    later_start : (h : AssemblerHead) (xs : List (ℕ × ℕ)) → HasSoundRuns h xs → (i k : ℕ) → i ≤ k → k < h.used → start_at xs i ≤ start_at xs k
-    later_start h xs s i k l m = either (cases_lt i k)
-        (λ b. omega (arith, pairs_apart h xs s i k b m, pair_rises h xs s i (omega arith)))
-        (λ b. let e : i ≡ k = omega arith in let same = ap (start_at xs) e in omega arith)
-
--- what holds of each refusal
-pub on_err : (P : Type 0) (r : Result (Unit {0}) TooManyHolesError) → P → OnErr r P
-on_err P (Ok u) p = tt
-on_err P (Err e) p = p
+      front = λ _. sym (front-is _ n
+          (contains-with_range (set_of h xs) 0 size n
+          ∙ (let missing = held n (omega arith) (omega arith) in grind (arith, nat_tests)))
+          (λ q l. contains-with_range (set_of h xs) 0 size q ∙ either (cases_lt q size) (λ b. grind (arith, nat_tests))
+          (λ b. let there = held q (omega arith) (omega arith) in grind (arith, nat_tests))));
+      rest =
+          λ _. without_first h xs s end some (omega arith)
+          ∙ sym (shift_down-with_range (set_of h xs) size n (omega arith));
+    }
 
 -- what follows from how a range is added
 pub added_accepted : (n : ℕ) (s : Positions) (o k : ℕ) (r : Result (Unit {0}) TooManyHolesError)
@@ -480,3 +547,13 @@ both_accepted n s o k (Err e) t a few =
     let over = (too_many n s o k).0 (a.refused.0 refl).1 in
     let more = one_run_more s o k in
     absurd (omega (arith, over.1))
+
+-- what the goals of a head's calls, and of an assembler's, are closed by
+pub ruleset heads = (length-used_runs, length-runs_of, are_runs, runs-set_of, few_held, maximal_runs-set_of,
+  front-set_of, pair_rises, pairs_apart, pair_fits, first_pair, run_start, run_listed, no_run_listed, hole_after, no_hole_after,
+  no_front, first_front, front_none, front_later, fits_from, contains-from, contains-below, later_runs, few_holes,
+  lowered, lowered_set, lowered_runs, left_set, left_after_front, holes-set_of, shift_down-zero, shift_down-none,
+  set_of_no_runs, runs-nothing, are_same_decides)
+
+pub ruleset assemblers = (few_held, runs-nothing, set_of_no_runs, added_accepted, added_more, both_accepted,
+  few_binary_digits, rest_of_runs)

@@ -1,5 +1,0 @@
-use Rattle.net_assembler.proofs.AssemblerLaws.{equal_assemblers}
-use Rattle.net_assembler.proofs.assembler.laws.equal_assemblers.Goals as goal
-
-pub returns : goal.returns
-returns c = equal_assemblers

@@ -1,5 +1,0 @@
-use Rattle.net_assembler.proofs.AssemblerLaws.{equal_runs}
-use Rattle.net_assembler.proofs.assembler.laws.equal_maximal_runs.Goals as goal
-
-pub returns : goal.returns
-returns c = equal_runs

@@ -1,5 +1,0 @@
-use Rattle.net_assembler.proofs.AssemblerLaws.{first_missing_is_least}
-use Rattle.net_assembler.proofs.assembler.laws.first_missing.Goals as goal
-
-pub returns : goal.returns
-returns c = first_missing_is_least

@@ -1,6 +1,0 @@
-use Rattle.std.proofs.Common.{refl}
-use Rattle.net_assembler.proofs.RunLists.{no_runs}
-use Rattle.net_assembler.proofs.assembler.laws.head_of_zeros.Goals as goal
-
-pub returns-clause-empty : goal.returns-clause-empty
-returns-clause-empty c = λ runs. no_runs _ refl

@@ -1,9 +1,0 @@
-use Rattle.net_assembler.proofs.MaximalRuns.{one_run_more}
-use Rattle.net_assembler.proofs.RunLists.{runs-nothing}
-use Rattle.net_assembler.proofs.assembler.laws.number_of_runs.Goals as goal
-
-pub returns-clause-of_nothing : goal.returns-clause-of_nothing
-returns-clause-of_nothing c = runs-nothing
-
-pub returns-clause-with_range : goal.returns-clause-with_range
-returns-clause-with_range c = one_run_more
