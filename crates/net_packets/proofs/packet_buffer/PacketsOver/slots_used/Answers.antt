@@ -1,7 +1,5 @@
-use Rattle.std.proofs.Common.{ap, ◌∙◌}
-use Rattle.net_packets.specs.{slots_used}
-use Rattle.net_packets.proofs.HeadParts.{parts_count}
+use Rattle.net_packets.proofs.HeadParts.{queue_at, slots_count}
 use Rattle.net_packets.proofs.packet_buffer.PacketsOver.slots_used.Goals as goal
 
 pub returns : goal.returns
-returns g c = parts_count _ _ _ c.self.invariant ∙ ap (λ q. slots_used q.packets) c.self.view_is
+returns g c = slots_count (queue_at _ _ _ c.self.invariant c.self.view_is)
