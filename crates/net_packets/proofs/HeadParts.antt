@@ -173,6 +173,9 @@ module _ {H : Type 0} {h : PacketsHead} {ms : List (PacketMetadata H)} {xs : Lis
   pub is_full : nat_eq h.slots.length (length ms) ≡ (v.slot_count - slots_used v.packets == 0)
   is_full = let n = slots_count in let fits = k.sound.0.1 in let all = slots_of in grind (arith, nat_tests, n, fits, all)
 
+  pub is_empty : (h.slots.length == 0) ≡ (length v.packets == 0)
+  is_empty = let n = slots_count in let some = slots_pos v.packets in grind (arith, nat_tests)
+
   pub none_in : h.slots.length ≡ 0 → length v.packets ≡ 0
   none_in z = omega (arith, slots_count, slots_pos v.packets)
 

@@ -185,9 +185,6 @@ module _ {H : Type 0} where
     pub count_is : m.count ≡ slots_used ps
     count_is = sym (length-queue m h.0) ∙ ap length h.2 ∙ length-slots ps
 
-    pub empty_is : (m.count == 0) ≡ (length ps == 0)
-    empty_is = let n = count_is in let some = slots_pos ps in grind (arith, nat_tests)
-
   -- ---- a slot more
   pub gap_slot_one : (gap : ℕ) → 0 < gap → gap_slot {H = H} gap ≡ slot gap None ∷ []
   gap_slot_one zero p = absurd (omega arith)
