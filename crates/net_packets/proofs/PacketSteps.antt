@@ -23,8 +23,8 @@ use Rattle.net_packets.specs.Packets.{with_first_size, first_gap, first_size, wi
 use Rattle.net_packets.specs.Packets.{without_gap, IsFirstSized, with_first_header, with_first_bytes}
 use Rattle.net_packets.specs.Packets.{without_first, IsWellPlaced, with_bytes}
 use Rattle.net_packets.specs.PacketsHead.{packets_head, placement_in}
-use Rattle.net_packets.specs.PacketSlots.{slot, gap_slot, packet_slots, packets_in, Represents}
-use Rattle.net_packets.specs.PacketSlots.{packets_state}
+use Rattle.net_packets.specs.PacketsHead.{slot, gap_slot, packet_slots, packets_in, Represents}
+use Rattle.net_packets.specs.PacketsHead.{packets_state}
 use Rattle.net_packets.specs.declared.packet_metadata.PacketMetadata.{PacketMetadata}
 use Rattle.net_ring.proofs.RingFacts.{rewound_ring, rewind_cases, rewind_wf, rewound_is}
 use Rattle.net_ring.proofs.Rotations.{length-queue, length-overwrite, with_dequeued_parts}

@@ -6,7 +6,7 @@ use Rattle.net_ring.proofs.Rotations.{length-overwrite}
 use Rattle.net_packets.specs.Packets.{IsFirst, after_hand_out, without_gap}
 use Rattle.net_packets.specs.PacketsHead.{with_slot_taken}
 use Rattle.net_packets.specs.PacketHistory.{contents}
-use Rattle.net_packets.specs.PacketSlots.{slot}
+use Rattle.net_packets.specs.PacketsHead.{slot}
 use Rattle.net_packets.specs.declared.head.PacketsHead.{PacketsHead}
 use Rattle.net_packets.specs.declared.packet_metadata.PacketMetadata.{PacketMetadata}
 use Rattle.net_packets.proofs.HeadParts.{IsQueue, IsFirstIn, queue_at, some_in, slot_at, headed_first, first_at, first_fits, first_in}
