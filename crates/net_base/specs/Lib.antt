@@ -2,7 +2,6 @@ pub use Rattle.net_ring.specs.Overwrite
 pub use Rattle.net_ring.specs.Managed
 pub use Rattle.net_ring.specs.StorageLaws
 pub use Rattle.net_ring.specs.ManagedLends
-pub use Rattle.net_ring.specs.WholeLends
 pub use Rattle.net_ring.specs.Ring
 pub use Rattle.net_ring.specs.RingLends
 pub use Rattle.net_ring.specs.RingCalls
@@ -11,7 +10,6 @@ pub use Rattle.net_ring.specs.RingHead
 pub use Rattle.net_ring.specs.RingHistory
 pub use Rattle.net_packets.specs.Packets
 pub use Rattle.net_packets.specs.PacketsHead
-pub use Rattle.net_packets.specs.PacketSlots
 pub use Rattle.net_packets.specs.PacketLends
 pub use Rattle.net_packets.specs.PacketHistory
 pub use Rattle.net_packets.specs.PacketCalls

@@ -1,5 +1,5 @@
 -- The queue that a head, slots with headers and bytes represent, after a step on the head's numbers.
-use Rattle.std.proofs.Common.{◌≡◌, ℕ, zero, suc, ◌++◌, ◌+◌, ◌-◌, ◌<◌, ◌≤◌, List, [], ◌∷◌, get_or, min, length}
+use Rattle.std.proofs.Common.{◌≡◌, ℕ, zero, suc, ◌++◌, ◌+◌, ◌-◌, ◌<◌, ◌≤◌, List, [], ◌∷◌, get_or, length}
 use Rattle.std.proofs.Common.{length-append, length-take, length-drop, append_assoc, take, drop, refl, sym, ap, ap₂}
 use Rattle.std.proofs.Common.{◌∙◌, subst, arith, nat_eq, if◌then◌else◌, ◌==◌, ◌≢◌}
 use Rattle.std.proofs.lemmas.Bool.Decides.{nat_tests}
@@ -9,43 +9,36 @@ use Rattle.std.proofs.lemmas.Option.{gets, slice_get_read}
 use Rattle.std.specs.Prelude.{Option, true, false, set}
 use Rattle.std.specs.List.{slice_get}
 use Rattle.net_ring.specs.Overwrite.{overwrite}
-use Rattle.net_ring.specs.Ring.{RingState, queue_index, index_after, queue, storage_index, IsWellFormed, ring}
+use Rattle.net_ring.specs.Ring.{RingState, index_after, queue, storage_index, IsWellFormed, ring}
 use Rattle.net_ring.specs.Ring.{with_dequeued, with_elements, window, write_at, with_enqueued, Enqueues}
-use Rattle.net_ring.specs.RingHead.{ring_at, place, enqueued_place, rewound, contiguous_free}
+use Rattle.net_ring.specs.RingHead.{ring_at, place, enqueued_place, dequeued_place, rewound, contiguous_free, IsSound}
 use Rattle.std.specs.declared.option.Option.TheVariants.{Some, None}
-use Rattle.net_packets.specs.{PacketsState, packet, bytes_used, slots_used, slots_for, gap_for, IsWellPlaced}
+use Rattle.net_packets.specs.{Packet, PacketsState, packet, byte_ring, bytes_used, slots_used, slots_for, gap_for, IsWellPlaced}
 use Rattle.net_packets.specs.{IsFirstSized, first_gap, first_size, without_gap, without_first, placement, with_packet}
 use Rattle.net_packets.specs.{with_packet_if, with_packet_if_room, only_last, last_index, last_bytes, with_last_bytes}
-use Rattle.net_packets.specs.{with_last_size, IsRoom, with_first_bytes, with_bytes, first_bytes, AreLastDequeued}
-use Rattle.net_packets.specs.{last_dequeued_bytes_index, last_dequeued_bytes, slot, gap_slot, packet_slots}
-use Rattle.net_packets.specs.{packets_in, Represents, packets_at, AreSoundParts, slots_with, with_slot_taken}
+use Rattle.net_packets.specs.{with_last_size, IsRoom, with_first_bytes, with_bytes, first_bytes}
+use Rattle.net_packets.specs.{last_dequeued_bytes_index, slot, gap_slot, packet_slots}
+use Rattle.net_packets.specs.{packets_in, packets_at, AreSoundParts, slots_with, with_slot_taken}
 use Rattle.net_packets.specs.{placement_in, place_after_gap, with_packet_placed}
 use Rattle.net_ring.specs.declared.head.RingHead.{RingHead}
 use Rattle.net_packets.specs.declared.head.PacketsHead.{PacketsHead}
 use Rattle.net_packets.specs.declared.head.PacketPlace.{PacketPlace}
 use Rattle.net_packets.specs.declared.packet_metadata.PacketMetadata.{PacketMetadata}
-use Rattle.net_ring.proofs.Rotations.{length-overwrite, with_dequeued_parts, length-queue, storage_index_is}
-use Rattle.net_ring.proofs.RingFacts.{rewound_ring, queue_head, queue_law, written_wf, enqueued_one}
+use Rattle.net_ring.proofs.Rotations.{length-overwrite, with_dequeued_parts, length-queue, storage_index_is, overwrite_at}
+use Rattle.net_ring.proofs.RingFacts.{written_wf, rewound_ring, queue_head, queue_law, written_wf, enqueued_one}
 use Rattle.net_packets.proofs.PacketSteps.{placed_alike, count_is, ends_in, slots_append, place_zero, slots_pos}
-use Rattle.net_packets.proofs.PacketSteps.{slots_some, slots_for_pos, off_wf, on_left, off_left, well_placed, cut_is}
+use Rattle.net_packets.proofs.PacketSteps.{held, shorter_is, shorter_bytes, shorter_well}
+use Rattle.net_packets.proofs.PacketSteps.{slots_some, slots_for_pos, off_wf, on_left, slots_are, off_left, well_placed, cut_is}
 use Rattle.net_packets.proofs.PacketSteps.{head_fits, is_first, bytes_are, last_ends, written_holds, slice_get_end}
 use Rattle.net_packets.proofs.PacketSteps.{last_append, gap_of, push_left, skip_left, take_left, pushed_slot}
 
-no_elements : {T : Type 0} (l : List T) → length l ≡ 0 → l ≡ []
-no_elements [] z = refl
-no_elements (x ∷ xs) z = absurd (omega arith)
-
 -- s elements from an index on are lent
 module _ (xs : List ℕ) (from s : ℕ) (now : List ℕ) (is : now ≡ take (from + s - from) (drop from xs)) where
-  pub shown_is : now ≡ take s (drop from xs)
+  shown_is : now ≡ take s (drop from xs)
   shown_is = is ∙ ap (λ k. take k (drop from xs)) (omega arith)
 
-  pub shown_size : from + s ≤ length xs → length now ≡ s
-  shown_size fits =
-      let one = length-take s (drop from xs) in
-      let two = length-drop from xs in
-      let size = ap length shown_is in
-      omega arith
+  shown_size : from + s ≤ length xs → length now ≡ s
+  shown_size fits = omega (arith, length-take s (drop from xs), length-drop from xs, ap length shown_is)
 
 -- ---- one element of a storage
 module _ {T : Type 0} where
@@ -54,52 +47,73 @@ module _ {T : Type 0} where
   set_is (y ∷ ys) zero x = ap (λ l. x ∷ l) (sym (take_all (length ys) ys (omega arith)))
   set_is (y ∷ ys) (suc i) x = ap (λ l. y ∷ l) (set_is ys i x)
 
-  pub queue_get : (g : RingState T) → IsWellFormed g → (i : ℕ) (x : T) → i < g.count → slice_get g.storage (storage_index g i) ≡ Some x
-      → slice_get (queue g) i ≡ Some x
+  pub queue_get : (g : RingState T) → IsWellFormed g → (i : ℕ) (x : T) → i < g.count
+      → slice_get g.storage (storage_index g i) ≡ Some x → slice_get (queue g) i ≡ Some x
   queue_get g wf i x lt at = grind (arith, places, gets, nat_tests)
 
--- an element is set after the queue of a ring
-pub push_set : {T : Type 0} (st : List T) (r n p : ℕ) (x : T) → IsWellFormed (ring st r n) → n < length st → p ≡ index_after (length st) r n
-    → (queue (ring (set st p x) r (n + 1)) ≡ queue (ring st r n) ++ (x ∷ [])) × IsWellFormed (ring (set st p x) r (n + 1))
-push_set st r n p x wf lt e =
-    let g = ring st r n in
-    let some : window g ≢ 0 = λ z. omega arith in
-    let is : ring (set st p x) r (n + 1) ≡ with_elements (with_enqueued 1 g) (write_at g) (x ∷ []) =
-    ap (λ l. ring l r (n + 1)) (set_is st p x ∙ ap (λ (j : ℕ). overwrite st j (x ∷ [])) e) in
-    let all = pushed_slot g (ring (set st p x) r (n + 1)) x wf some is (subst (Enqueues g (x ∷ [])) (sym is) (enqueued_one g wf x some)) in
-    (all.0, all.1)
+  -- an element is set after the queue of a ring
+  push_set : (st : List T) (r n p : ℕ) (x : T) → IsWellFormed (ring st r n) → n < length st → p ≡ index_after (length st) r n →
+      (queue (ring (set st p x) r (n + 1)) ≡ queue (ring st r n) ++ (x ∷ [])) × IsWellFormed (ring (set st p x) r (n + 1))
+  push_set st r n p x wf lt e =
+      let g = ring st r n in
+      let some : window g ≢ 0 = λ z. omega arith in
+      let is : ring (set st p x) r (n + 1) ≡ with_elements (with_enqueued 1 g) (write_at g) (x ∷ []) =
+      ap (λ l. ring l r (n + 1)) (set_is st p x ∙ ap (λ (j : ℕ). overwrite st j (x ∷ [])) e) in
+      let all = pushed_slot g (ring (set st p x) r (n + 1)) x wf some is
+      (subst (Enqueues g (x ∷ [])) (sym is) (enqueued_one g wf x some)) in
+      (all.0, all.1)
 
--- a place by its parts
-pub place_is : (n c : ℕ) (h : PacketsHead) (p : PacketPlace)
-    → (p.gap_slot ≡ index_after n h.slots.read_at h.slots.length)
+  head_written : (l : List T) (x : T) → 0 < length l → overwrite l 0 (x ∷ []) ≡ x ∷ drop 1 l
+  head_written [] x some = absurd (omega arith)
+  head_written (y ∷ ys) x some = sym (set_is (y ∷ ys) 0 x)
+
+  -- the first element in use is set
+  head_set : (ms : List T) (p : RingHead) (x : T) → IsSound (length ms) p → 1 ≤ p.length → p.read_at < length ms →
+      queue (ring_at (set ms p.read_at x) p) ≡ x ∷ drop 1 (queue (ring_at ms p))
+  head_set ms p x wf some within =
+      let m = ring_at ms p in
+      let at : storage_index m 0 ≡ p.read_at = place_zero (length ms) p.read_at wf.0 in
+      let is : ring_at (set ms p.read_at x) p ≡ with_elements m (storage_index m 0) (x ∷ []) =
+      ap (λ l. ring_at l p) (set_is ms p.read_at x ∙ ap (λ (j : ℕ). overwrite ms j (x ∷ [])) (sym at)) in
+      let long = length-queue m wf in
+      let write = queue_law m wf 0 (storage_index m 0) (x ∷ []) (omega arith) (omega (arith, within)) (storage_index_is m 0) in
+      ap queue is ∙ write.0 ∙ head_written (queue m) x (omega arith)
+
+-- ---- a place
+-- the slots and the first byte of a packet that is placed at p
+abbrev pub HasSlots : ℕ → PacketsHead → PacketPlace → Type 0
+HasSlots n h p =
+    (p.gap_slot ≡ index_after n h.slots.read_at h.slots.length)
     × (p.slot ≡ index_after n h.slots.read_at (h.slots.length + (slots_for p.gap - 1)))
-    → p.from ≡ index_after c (rewound h.bytes).read_at ((rewound h.bytes).length + p.gap) → p ≡ place_after_gap n c h p.gap
-place_is n c h p slots from =
-    ap₂ (λ (i j : ℕ). record { gap = p.gap; gap_slot = i; slot = j; from = p.from }) slots.0 slots.1
-    ∙ ap (λ (k : ℕ). record {
-      gap = p.gap;
-      gap_slot = index_after n h.slots.read_at h.slots.length;
-      slot = index_after n h.slots.read_at (h.slots.length + (slots_for p.gap - 1));
-      from = k;
-    }) from
 
--- the place p of a packet of s bytes in the queue v that a head, slots and bytes represent, of which n and c were counted
-pub record IsPlaceIn {H : Type 0} (h : PacketsHead) (ms : List (PacketMetadata H)) (xs : List ℕ) (v : PacketsState H) (n c s : ℕ)
-    (p : PacketPlace) : Type 0 where
-  pub sound : AreSoundParts h ms xs
-  pub seen : packets_at h ms xs ≡ v
-  pub slot_count : n ≡ length ms
-  pub capacity : c ≡ length xs
-  pub gap : placement_in n c h s ≡ Some p.gap
-  pub slots : (p.gap_slot ≡ index_after n h.slots.read_at h.slots.length)
-      × (p.slot ≡ index_after n h.slots.read_at (h.slots.length + (slots_for p.gap - 1)))
-  pub from : p.from ≡ index_after c (rewound h.bytes).read_at ((rewound h.bytes).length + p.gap)
+abbrev pub BeginsAt : ℕ → PacketsHead → PacketPlace → Type 0
+BeginsAt c h p = let b = rewound h.bytes in p.from ≡ index_after c b.read_at (b.length + p.gap)
+
+-- it is one by its parts
+pub place_is : (n c : ℕ) (h : PacketsHead) (p : PacketPlace) → HasSlots n h p → BeginsAt c h p → p ≡ place_after_gap n c h p.gap
+place_is n c h p slots from =
+    ap₂ (λ (i j : ℕ). record p { gap_slot = i; slot = j }) slots.0 slots.1
+    ∙ ap (λ (k : ℕ). record (place_after_gap n c h p.gap) { from = k }) from
 
 module _ {H : Type 0} where
+  -- the head h, the slots ms and the bytes xs represent the queue v
+  pub record IsQueue (h : PacketsHead) (ms : List (PacketMetadata H)) (xs : List ℕ) (v : PacketsState H) : Type 0 where
+    pub sound : AreSoundParts h ms xs
+    pub seen : packets_at h ms xs ≡ v
+
+  pub queue_at : (h : PacketsHead) (ms : List (PacketMetadata H)) (xs : List ℕ) {v : PacketsState H} → AreSoundParts h ms xs →
+      packets_at h ms xs ≡ v → IsQueue h ms xs v
+  queue_at h ms xs sound seen = record { sound = sound; seen = seen }
+
+  -- by what a step leaves
+  left_at : (h : PacketsHead) (ms : List (PacketMetadata H)) (xs : List ℕ) {v : PacketsState H} {n : ℕ} → length ms ≡ n →
+      AreSoundParts h ms xs × (length ms ≡ n → packets_at h ms xs ≡ v) → IsQueue h ms xs v
+  left_at h ms xs long all = record { sound = all.0; seen = all.1 long }
+
   -- the slots of a packet and its gap are set after those in use
-  slots_pushed : (c : ℕ) (h : PacketsHead) (ms : List (PacketMetadata H)) (s gap : ℕ) (hd : H) → IsWellFormed (ring_at ms h.slots)
-      → h.slots.length + slots_for gap ≤ length ms
-      → let m2 = ring_at (slots_with (place_after_gap (length ms) c h gap) s hd ms) (enqueued_place (slots_for gap) h.slots) in
+  slots_pushed : (c : ℕ) (h : PacketsHead) (ms : List (PacketMetadata H)) (s gap : ℕ) (hd : H) → IsWellFormed (ring_at ms h.slots) →
+      h.slots.length + slots_for gap ≤ length ms →
+      let m2 = ring_at (slots_with (place_after_gap (length ms) c h gap) s hd ms) (enqueued_place (slots_for gap) h.slots) in
       (queue m2 ≡ queue (ring_at ms h.slots) ++ (gap_slot gap ++ (slot s (Some hd) ∷ []))) × IsWellFormed m2
   slots_pushed c h ms s zero hd wf fit =
       let r = h.slots.read_at in
@@ -130,260 +144,219 @@ module _ {H : Type 0} where
   pub slots_long : (p : PacketPlace) (s : ℕ) (hd : H) (ms : List (PacketMetadata H)) → length (slots_with p s hd ms) ≡ length ms
   slots_long p s hd ms = grind (arith, length-set)
 
-  head_written : (l : List (PacketMetadata H)) (x : PacketMetadata H) → 0 < length l → overwrite l 0 (x ∷ []) ≡ x ∷ drop 1 l
-  head_written [] x some = absurd (omega arith)
-  head_written (y ∷ ys) x some = sym (set_is (y ∷ ys) 0 x)
+-- ---- a queue
+module _ {H : Type 0} {h : PacketsHead} {ms : List (PacketMetadata H)} {xs : List ℕ} {v : PacketsState H} (k : IsQueue h ms xs v) where
+  abbrev m : RingState (PacketMetadata H)
+  m = ring_at ms h.slots
 
-  -- the first slot in use is written
-  pub head_set : (ms : List (PacketMetadata H)) (p : RingHead) (x : PacketMetadata H) → IsWellFormed (ring_at ms p) → 1 ≤ p.length → p.read_at < length ms
-      → (queue (ring_at (set ms p.read_at x) p) ≡ x ∷ drop 1 (queue (ring_at ms p))) × IsWellFormed (ring_at (set ms p.read_at x) p)
-  head_set ms p x wf some within =
-      let m = ring_at ms p in
-      let at : storage_index m 0 ≡ p.read_at = place_zero (length ms) p.read_at wf.0 in
-      let is : ring_at (set ms p.read_at x) p ≡ with_elements m (storage_index m 0) (x ∷ []) =
-      ap (λ l. ring l p.read_at p.length) (set_is ms p.read_at x ∙ ap (λ (j : ℕ). overwrite ms j (x ∷ [])) (sym at)) in
-      let long = length-queue m wf in
-      let write = queue_law m wf 0 (storage_index m 0) (x ∷ []) (omega arith) (omega (arith, within)) (storage_index_is m 0) in (
-        ap queue is ∙ write.0 ∙ head_written (queue m) x (omega arith),
-        subst IsWellFormed (sym is) (written_wf m wf (storage_index m 0) (x ∷ [])),
-      )
+  abbrev b : RingState ℕ
+  b = ring_at xs h.bytes
 
-  module _ (h : PacketsHead) (ms : List (PacketMetadata H)) (xs : List ℕ) (all : AreSoundParts h ms xs) where
-    abbrev m : RingState (PacketMetadata H)
-    m = ring_at ms h.slots
+  pub well : IsWellPlaced v
+  well = well_placed m b k.sound v k.seen
 
-    abbrev b : RingState ℕ
-    b = ring_at xs h.bytes
+  pub slots_of : length ms ≡ v.slot_count
+  slots_of = ap (λ o. o.slot_count) k.seen
 
-    abbrev q : PacketsState H
-    q = packets_at h ms xs
+  pub stored : xs ≡ v.storage
+  stored = ap (λ o. o.storage) k.seen
 
-    pub parts_well : IsWellPlaced q
-    parts_well = well_placed m b all q refl
+  read_here : h.bytes.read_at ≡ v.read_at
+  read_here = ap (λ o. o.read_at) k.seen
 
-    pub parts_count : h.slots.length ≡ slots_used q.packets
-    parts_count = count_is m b q.packets all
+  bytes_count : h.bytes.length ≡ bytes_used v.packets
+  bytes_count = ap (λ o. o.count) (bytes_are m b k.sound v k.seen)
 
-    pub parts_full_slots : nat_eq h.slots.length (length ms) ≡ (length ms - slots_used q.packets == 0)
-    parts_full_slots = let n = parts_count in let fits = all.0.1 in grind (arith, nat_tests, n, fits)
+  pub slots_count : h.slots.length ≡ slots_used v.packets
+  slots_count = count_is m b (packets_in 0 (queue m)) k.sound ∙ ap (λ o. slots_used o.packets) k.seen
 
-    pub parts_placement : (s : ℕ) → placement_in (length ms) (length xs) h s ≡ placement q s
-    parts_placement s = placed_alike q (length ms) (length xs) h.slots h.bytes s refl parts_count refl (ap (place h.bytes.read_at) all.3)
+  pub is_full : nat_eq h.slots.length (length ms) ≡ (v.slot_count - slots_used v.packets == 0)
+  is_full = let n = slots_count in let fits = k.sound.0.1 in let all = slots_of in grind (arith, nat_tests, n, fits, all)
 
-    -- a packet of k bytes is written where one of s bytes was placed
-    module _ (gap s : ℕ) (e : placement q s ≡ Some gap) (k : ℕ) (le : k ≤ s) (hd : H) where
-      slots_fit : h.slots.length + slots_for gap ≤ length ms
-      slots_fit =
-          let r = rewound h.bytes in
-          let all_some = slots_some (length ms - h.slots.length) (gap_for s (contiguous_free (length xs) r) (length xs - r.length)) gap (parts_placement s ∙ e) in
-          let some = slots_for_pos gap in
-          omega (arith, all_some.1, all.0)
+  pub is_empty : (h.slots.length == 0) ≡ (length v.packets == 0)
+  is_empty = let n = slots_count in let some = slots_pos v.packets in grind (arith, nat_tests)
 
-      pub parts_pushed : (h2 : PacketsHead) → h2.slots ≡ enqueued_place (slots_for gap) h.slots → h2.bytes ≡ enqueued_place (gap + k) (rewound h.bytes)
-          → (ms2 : List (PacketMetadata H)) → ms2 ≡ slots_with (place_after_gap (length ms) (length xs) h gap) k hd ms
-          → AreSoundParts h2 ms2 xs × (packets_at h2 ms2 xs ≡ with_packet q gap k hd)
-      parts_pushed h2 es eb ms2 wrote =
-          let p = place_after_gap (length ms) (length xs) h gap in
-          let filled = slots_with p k hd ms in
-          let pushed = slots_pushed (length xs) h ms k gap hd all.0 slots_fit in
-          let same : ring_at ms2 h2.slots ≡ ring_at filled (enqueued_place (slots_for gap) h.slots) = λ i. ring_at (wrote i) (es i) in
-          let left = push_left q parts_well gap s e m b all refl (ring_at xs (rewound h.bytes)) (rewound_ring xs h.bytes) hd k le
-          (ring_at ms2 h2.slots) (ap queue same ∙ pushed.0) (subst IsWellFormed (sym same) pushed.1) (ring_at xs h2.bytes) (ap (ring_at xs) eb) in
-          (left.0, left.1 (ap length wrote ∙ slots_long p k hd ms))
+  pub none_in : h.slots.length ≡ 0 → length v.packets ≡ 0
+  none_in z = omega (arith, slots_count, slots_pos v.packets)
 
-    -- the gap before the first packet is taken off
-    pub parts_skipped : (s : ℕ) → first_gap q.packets ≡ s → 0 < s → (h2 : PacketsHead) → h2 ≡ with_slot_taken (length ms) (length xs) s h
-        → AreSoundParts h2 ms xs × (packets_at h2 ms xs ≡ without_gap q)
-    parts_skipped s size some h2 is =
-        let left = skip_left m b all s q (ring_at ms h2.slots) (ring_at xs h2.bytes) refl (sym size) some
-        (ap (λ (o : PacketsHead). ring_at ms o.slots) is) (ap (λ (o : PacketsHead). ring_at xs o.bytes) is) in
-        (left.0, left.1 refl)
+  pub some_in : 1 ≤ h.slots.length → length v.packets ≡ 0 → ⊥
+  some_in some none = omega (arith, slots_count, slots_pos v.packets)
 
-    -- by the first slot in use
-    pub parts_none : h.slots.length ≡ 0 → q.packets ≡ []
-    parts_none z = no_elements q.packets (let used = parts_count in let few = slots_pos q.packets in omega arith)
+  -- with the numbers n and c that were counted
+  pub placement_is : (n c : ℕ) → n ≡ length ms → c ≡ length xs → (s : ℕ) → placement_in n c h s ≡ placement v s
+  placement_is n c en ec s =
+      placed_alike v n c h.slots h.bytes s (en ∙ slots_of) slots_count (ec ∙ ap length stored) (ap₂ place read_here bytes_count)
 
-    module _ (x : PacketMetadata H) (some : 1 ≤ h.slots.length) (at : slice_get ms h.slots.read_at ≡ Some x) where
-      pub parts_first : queue m ≡ x ∷ drop 1 (queue m)
-      parts_first = queue_head m all.0 x (sym (get_or_from_slice_get ms h.slots.read_at x x at)) (λ z. omega arith)
+  -- bytes that are lent are those of its storage, and it has those that are left there
+  module _ (from s : ℕ) (now : List ℕ) (is : now ≡ take (from + s - from) (drop from xs)) where
+    pub lent_is : now ≡ take s (drop from v.storage)
+    lent_is = shown_is xs from s now is ∙ ap (λ l. take s (drop from l)) stored
 
-    pub parts_gap : (s : ℕ) → 1 ≤ h.slots.length → slice_get ms h.slots.read_at ≡ Some (slot s None) → (first_gap q.packets ≡ s) × (0 < s)
-    parts_gap s some at = gap_of q.packets s (drop 1 (queue m)) (sym (sym all.2 ∙ parts_first (slot s None) some at))
+    pub lent_size : from + s ≤ length xs → length now ≡ s
+    lent_size = shown_size xs from s now is
 
-    pub parts_no_gap : (s : ℕ) (hd : H) → 1 ≤ h.slots.length → slice_get ms h.slots.read_at ≡ Some (slot s (Some hd)) → first_gap q.packets ≡ 0
-    parts_no_gap s hd some at = ap (λ l. first_gap (packets_in 0 l)) (parts_first (slot s (Some hd)) some at)
+  pub written : (from : ℕ) (w xs2 : List ℕ) → xs2 ≡ overwrite xs from w → IsQueue h ms xs2 (with_bytes v from w)
+  written from w xs2 is = record {
+    sound = subst (AreSoundParts h ms) (sym is) (written_holds m b k.sound v k.seen from w);
+    seen = ap (packets_at h ms) is ∙ ap (λ o. with_bytes o from w) k.seen;
+  }
 
-    -- the first packet, whose gap is gone, is taken off, and its slot has no header then
-    module _ (z : first_gap q.packets ≡ 0) (s : ℕ) (hd : H) (some : 1 ≤ h.slots.length) (at : slice_get ms h.slots.read_at ≡ Some (slot s (Some hd))) where
-      pub parts_taken : (ms2 : List (PacketMetadata H)) → ms2 ≡ set ms h.slots.read_at (slot s None) → (h2 : PacketsHead)
-          → h2 ≡ with_slot_taken (length ms) (length xs) s h → AreSoundParts h2 ms2 xs × (packets_at h2 ms2 xs ≡ without_first q)
-      parts_taken ms2 wrote h2 is =
-          let r = h.slots.read_at in
-          let x : PacketMetadata H = slot s None in
-          let within = slice_get_within ms r (slot s (Some hd)) at in
-          let lifted = head_set ms h.slots x all.0 some within in
-          let m1 = ring_at (set ms r x) h.slots in
-          let long = length-set ms r x in
-          let off : ring_at ms2 h2.slots ≡ with_dequeued 1 m1 = (λ i. ring_at (wrote i) ((is i).slots))
-          ∙ ap (λ (k : ℕ). ring_at (set ms r x) (place (index_after k r 1) (h.slots.length - 1))) (sym long) in
-          let left = take_left m b all q refl z s hd (parts_first (slot s (Some hd)) some at) (ring_at ms2 h2.slots)
-          (subst IsWellFormed (sym off) (off_wf m1 _ _ lifted.1 lifted.0)) (ring_at xs h2.bytes)
-          (ap queue off ∙ (with_dequeued_parts m1 lifted.1 1 some).0 ∙ ap (drop 1) lifted.0)
-          (ap (λ (o : PacketsHead). ring_at xs o.bytes) is) in
-          (left.0, left.1 (ap length wrote ∙ long))
+  -- a packet of j bytes is written where one of s bytes was placed
+  pushed : (gap s : ℕ) → placement v s ≡ Some gap → (j : ℕ) → j ≤ s → (hd : H) (h2 : PacketsHead)
+      → h2.slots ≡ enqueued_place (slots_for gap) h.slots → h2.bytes ≡ enqueued_place (gap + j) (rewound h.bytes)
+      → (ms2 : List (PacketMetadata H)) → ms2 ≡ slots_with (place_after_gap (length ms) (length xs) h gap) j hd ms
+      → IsQueue h2 ms2 xs (with_packet v gap j hd)
+  pushed gap s e j le hd h2 es eb ms2 wrote =
+      let r = rewound h.bytes in
+      let fits = slots_some (length ms - h.slots.length) (gap_for s (contiguous_free (length xs) r) (length xs - r.length)) gap
+      (placement_is (length ms) (length xs) refl refl s ∙ e) in
+      let some = slots_for_pos gap in
+      let p = place_after_gap (length ms) (length xs) h gap in
+      let set_there = slots_pushed (length xs) h ms j gap hd k.sound.0 (omega (arith, fits.1, k.sound.0)) in
+      let same : ring_at ms2 h2.slots ≡ ring_at (slots_with p j hd ms) (enqueued_place (slots_for gap) h.slots) =
+      λ i. ring_at (wrote i) (es i) in
+      left_at h2 ms2 xs (ap length wrote ∙ slots_long p j hd ms ∙ slots_of)
+      (push_left v well gap s e m b k.sound k.seen (ring_at xs r) (rewound_ring xs h.bytes) hd j le (ring_at ms2 h2.slots)
+      (ap queue same ∙ set_there.0) (subst IsWellFormed (sym same) set_there.1) (ring_at xs h2.bytes) (ap (ring_at xs) eb))
 
-    -- of a queue v, with the numbers n and c that were counted
-    module _ (v : PacketsState H) (seen : q ≡ v) (n c : ℕ) (en : n ≡ length ms) (ec : c ≡ length xs) (s : ℕ) where
-      counted_is : placement_in n c h s ≡ placement v s
-      counted_is = ap₂ (λ (i j : ℕ). placement_in i j h s) en ec ∙ parts_placement s ∙ ap (λ o. placement o s) seen
+  -- the gap before the first packet is taken off
+  pub skipped : (s : ℕ) → first_gap v.packets ≡ s → 0 < s → (h2 : PacketsHead) → h2 ≡ with_slot_taken (length ms) (length xs) s h
+      → IsQueue h2 ms xs (without_gap v)
+  skipped s size some h2 is =
+      left_at h2 ms xs slots_of (skip_left m b k.sound s v (ring_at ms h2.slots) (ring_at xs h2.bytes) k.seen (sym size) some
+      (ap (λ (o : PacketsHead). ring_at ms o.slots) is) (ap (λ (o : PacketsHead). ring_at xs o.bytes) is))
 
-      pub no_place : placement_in n c h s ≡ None → placement v s ≡ None
-      no_place none = sym counted_is ∙ none
+  -- ---- the first slot in use
+  module _ (some : 1 ≤ h.slots.length) where
+    pub first_is : (x : PacketMetadata H) → slice_get ms h.slots.read_at ≡ Some x → queue m ≡ x ∷ drop 1 (queue m)
+    first_is x at = queue_head m k.sound.0 x (sym (get_or_from_slice_get ms h.slots.read_at x x at)) (λ z. omega arith)
 
-      pub place_in : (p : PacketPlace) → placement_in n c h s ≡ Some p.gap
-          → (p.gap_slot ≡ index_after n h.slots.read_at h.slots.length) × (p.slot ≡ index_after n h.slots.read_at (h.slots.length + (slots_for p.gap - 1)))
-          → p.from ≡ index_after c (rewound h.bytes).read_at ((rewound h.bytes).length + p.gap) → IsPlaceIn h ms xs v n c s p
-      place_in p gap slots from =
-          record { sound = all; seen = seen; slot_count = en; capacity = ec; gap = gap; slots = slots; from = from }
+    pub gap_first : (s : ℕ) → slice_get ms h.slots.read_at ≡ Some (slot s None) → (first_gap v.packets ≡ s) × (0 < s)
+    gap_first s at = gap_of v.packets s (drop 1 (queue m)) (sym (first_is (slot s None) at) ∙ slots_are m b k.sound v k.seen)
 
-    -- the size in the last slot in use is that of the last packet
-    pub parts_last : (x : PacketMetadata H) → 1 ≤ h.slots.length → slice_get ms (index_after (length ms) h.slots.read_at (h.slots.length - 1)) ≡ Some x
-        → x.size ≡ first_size (only_last q.packets)
-    parts_last x some at =
-        let end = h.slots.length - 1 in
-        let found = queue_get m all.0 end x (omega arith) at in
-        let used = parts_count in
-        let ends = ends_in q.packets (λ z. let none = ap slots_used z in omega arith) in
-        let y : PacketMetadata H = slot ends.1.size (Some ends.1.header) in
-        let others : List (PacketMetadata H) = packet_slots ends.0 ++ gap_slot ends.1.gap in
-        let slots : queue m ≡ others ++ (y ∷ []) = all.2 ∙ ap packet_slots ends.2 ∙ slots_append ends.0 ends.1
-        ∙ sym (append_assoc (packet_slots ends.0) (gap_slot ends.1.gap) (y ∷ [])) in
-        let long = length-queue m all.0 in
-        let sum = length-append others (y ∷ []) in
-        let place : end ≡ length others = omega (arith, ap length slots) in
-        let same = sym found ∙ ap₂ slice_get slots place ∙ slice_get_end others y in
-        ap (λ o. o.size) (cond_some true x y same).1
-        ∙ sym (ap (λ l. first_size (only_last l)) ends.2 ∙ ap first_size (last_append ends.0 ends.1))
+    pub packet_first : (s : ℕ) (hd : H) → slice_get ms h.slots.read_at ≡ Some (slot s (Some hd)) → first_gap v.packets ≡ 0
+    packet_first s hd at =
+        ap (λ o. first_gap o.packets) (sym k.seen) ∙ ap (λ l. first_gap (packets_in 0 l)) (first_is (slot s (Some hd)) at)
 
-    -- its bytes, of a queue v
-    module _ (v : PacketsState H) (seen : q ≡ v) (c : ℕ) (ec : c ≡ length xs) (s : ℕ) (es : s ≡ first_size (only_last v.packets)) where
-      used_is : h.bytes.length ≡ bytes_used v.packets
-      used_is = ap (λ o. o.count) (bytes_are m b all v seen)
-
-      pub parts_last_in : s ≤ h.bytes.length
-      parts_last_in = let ends = last_ends v (well_placed m b all v seen) in omega (arith, used_is)
-
-      pub parts_last_at : index_after c h.bytes.read_at (h.bytes.length - s) ≡ last_index v
-      parts_last_at =
-          ap (λ n. index_after n h.bytes.read_at (h.bytes.length - s)) ec
-          ∙ ap (λ o. index_after (length o.storage) o.read_at (h.bytes.length - s)) seen
-          ∙ ap (index_after (length v.storage) v.read_at) (ap₂ ◌-◌ used_is es)
-
-      pub parts_last_fits : index_after c h.bytes.read_at (h.bytes.length - s) + s ≤ length xs
-      parts_last_fits =
-          let ends = last_ends v (well_placed m b all v seen) in
-          let at = parts_last_at in
-          let long = ap (λ o. length o.storage) seen in
-          omega arith
-
-      -- lent, and written
-      pub parts_last_shown : (from : ℕ) → from ≡ last_index v → (now : List ℕ) → now ≡ take (from + s - from) (drop from xs) → now ≡ last_bytes v
-      parts_last_shown from at now is =
-          let n : from + s - from ≡ first_size (only_last v.packets) = omega arith in
-          is ∙ ap₂ (λ (k p : ℕ). take k (drop p xs)) n at
-          ∙ ap (λ o. take (first_size (only_last v.packets)) (drop (last_index v) o.storage)) seen
-
-      pub parts_last_size : (from : ℕ) → from + s ≤ length xs → (now : List ℕ) → now ≡ take (from + s - from) (drop from xs)
-          → length now ≡ first_size (only_last v.packets)
-      parts_last_size from fits now is =
-          let k = from + s - from in
-          let one = length-take k (drop from xs) in
-          let two = length-drop from xs in
-          let size = ap length is in
-          omega arith
-
-      pub parts_last_sound : (from : ℕ) (w xs2 : List ℕ) → xs2 ≡ overwrite xs from w → AreSoundParts h ms xs2
-      parts_last_sound from w xs2 is = subst (AreSoundParts h ms) (sym is) (written_holds m b all v seen from w)
-
-      pub parts_last_written : (from : ℕ) → from ≡ last_index v → (w xs2 : List ℕ) → xs2 ≡ overwrite xs from w → packets_at h ms xs2 ≡ with_last_bytes v w
-      parts_last_written from at w xs2 is =
-          ap (packets_at h ms) (is ∙ ap (λ p. overwrite xs p w) at) ∙ ap (λ o. with_bytes o (last_index v) w) seen
-
-    -- a used slot after no gap has a header
-    pub parts_has_header : first_gap q.packets ≡ 0 → 1 ≤ h.slots.length
-        → ((s : ℕ) (hd : H) → slice_get ms h.slots.read_at ≡ Some (slot s (Some hd)) → ⊥) → ⊥
-    parts_has_header z some other =
+    -- it has a header after no gap
+    pub has_header : first_gap v.packets ≡ 0 → ((s : ℕ) (hd : H) → slice_get ms h.slots.read_at ≡ Some (slot s (Some hd)) → ⊥) → ⊥
+    has_header z other =
         let d : PacketMetadata H = slot 0 None in
         let x = get_or ms h.slots.read_at d in
-        go x.header x.size (slice_get-get_or ms h.slots.read_at d (omega (arith, all.0)))
+        go x.header x.size (slice_get-get_or ms h.slots.read_at d (omega (arith, k.sound.0)))
       where
         go : (o : Option H) (s : ℕ) → slice_get ms h.slots.read_at ≡ Some (slot s o) → ⊥
-        go None s at = let gap = parts_gap s some at in omega (arith, gap)
+        go None s at = let gap = gap_first s at in omega (arith, gap)
         go (Some hd) s at = other s hd at
 
-    -- of the first slot in use, which is lent
-    module _ (x : PacketMetadata H) (some : 1 ≤ h.slots.length) (is : x ≡ get_or ms h.slots.read_at x) where
-      pub parts_slot : (o : Option H) → o ≡ x.header → slice_get ms h.slots.read_at ≡ Some (slot x.size o)
-      parts_slot o header =
-          slice_get_read ms (length ms) h.slots.read_at x refl (omega (arith, all.0, some)) is ∙ ap (λ (y : Option H). Some (slot x.size y)) (sym header)
+    -- it is lent
+    module _ (x : PacketMetadata H) (is : x ≡ get_or ms h.slots.read_at x) where
+      pub slot_at : (o : Option H) → o ≡ x.header → slice_get ms h.slots.read_at ≡ Some (slot x.size o)
+      slot_at o header =
+          slice_get_read ms (length ms) h.slots.read_at x refl (omega (arith, k.sound.0, some)) is
+          ∙ ap (λ (y : Option H). Some (slot x.size y)) (sym header)
 
-      pub parts_headed : first_gap q.packets ≡ 0 → None ≡ x.header → ⊥
-      parts_headed z none = let gap = parts_gap x.size some (parts_slot None none) in omega (arith, gap, z)
+      pub headed_first : first_gap v.packets ≡ 0 → None ≡ x.header → ⊥
+      headed_first z none = let gap = gap_first x.size (slot_at None none) in omega (arith, gap, z)
 
-    pub parts_some : 1 ≤ h.slots.length → length q.packets ≡ 0 → ⊥
-    parts_some some none = let used = parts_count in let few = slots_pos q.packets in omega arith
+  -- ---- the last packet
+  module _ (some : 1 ≤ h.slots.length) where
+    -- the packets end in it
+    pub ends : (ps : List (Packet H)) × (p : Packet H) × (v.packets ≡ ps ++ (p ∷ []))
+    ends = ends_in v.packets (λ z. let none = ap slots_used z in omega (arith, slots_count))
 
-    module _ (z : first_gap q.packets ≡ 0) (s : ℕ) (hd : H) (some : 1 ≤ h.slots.length) (at : slice_get ms h.slots.read_at ≡ Some (slot s (Some hd))) where
-      pub parts_sized : IsFirstSized q.packets hd s
-      parts_sized = (is_first m b all q refl z s hd (parts_first (slot s (Some hd)) some at)).0
+    -- its slots before the last one
+    abbrev others : List (PacketMetadata H)
+    others = packet_slots ends.0 ++ gap_slot ends.1.gap
 
-      pub parts_first_in : s ≤ h.bytes.length
-      parts_first_in = let used = ap bytes_used parts_sized in omega (arith, all.3)
+    slots_end : queue m ≡ others ++ (slot ends.1.size (Some ends.1.header) ∷ [])
+    slots_end =
+        slots_are m b k.sound v k.seen ∙ ap packet_slots ends.2 ∙ slots_append ends.0 ends.1
+        ∙ sym (append_assoc (packet_slots ends.0) (gap_slot ends.1.gap) (slot ends.1.size (Some ends.1.header) ∷ []))
 
-      pub parts_first_fits : h.bytes.read_at + s ≤ length xs
-      parts_first_fits =
-          let size = ap first_size parts_sized in
-          let fits = head_fits (length xs) h.bytes.read_at q.packets all.1.0 (omega (arith, all.3, all.1.1)) all.4 z in
-          omega arith
+    others_long : length others ≡ h.slots.length - 1
+    others_long =
+        omega (arith, ap length slots_end, length-queue m k.sound.0, length-append others (slot ends.1.size (Some ends.1.header) ∷ []))
 
-      module _ (now : List ℕ) (is : now ≡ take (h.bytes.read_at + s - h.bytes.read_at) (drop h.bytes.read_at xs)) (v : PacketsState H) (seen : q ≡ v) where
-        pub parts_first_sized : IsFirstSized v.packets hd (length now)
-        parts_first_sized =
-            subst (λ (o : PacketsState H). IsFirstSized o.packets hd (length now)) seen
-            (subst (IsFirstSized q.packets hd) (sym (shown_size xs h.bytes.read_at s now is parts_first_fits)) parts_sized)
+    module _ (x : PacketMetadata H) (at : slice_get ms (index_after (length ms) h.slots.read_at (h.slots.length - 1)) ≡ Some x) where
+      last_slot_is : x ≡ slot ends.1.size (Some ends.1.header)
+      last_slot_is =
+          let y : PacketMetadata H = slot ends.1.size (Some ends.1.header) in
+          let found = queue_get m k.sound.0 (h.slots.length - 1) x (omega arith) at in
+          (cond_some true x y (sym found ∙ ap₂ slice_get slots_end (sym others_long) ∙ slice_get_end others y)).1
 
-        pub parts_first_bytes : now ≡ first_bytes v
-        parts_first_bytes =
-            shown_is xs h.bytes.read_at s now is ∙ ap (λ k. take k (drop h.bytes.read_at xs)) (sym (ap first_size parts_sized)) ∙ ap first_bytes seen
+      -- the size in the slot is the packet's
+      pub last_size_is : x.size ≡ first_size (only_last v.packets)
+      last_size_is =
+          ap (λ o. o.size) last_slot_is
+          ∙ sym (ap (λ l. first_size (only_last l)) ends.2 ∙ ap first_size (last_append ends.0 ends.1))
 
-    -- the bytes before the read index, of a queue v
-    module _ (v : PacketsState H) (seen : q ≡ v) (c : ℕ) (ec : c ≡ length xs) (s : ℕ) (from : ℕ) (at : from ≡ index_after c h.bytes.read_at (c - s)) where
-      pub parts_dequeued_at : from ≡ last_dequeued_bytes_index v s
-      parts_dequeued_at = at ∙ ap (λ n. index_after n h.bytes.read_at (n - s)) ec ∙ ap (λ o. last_dequeued_bytes_index o s) seen
+      -- n bytes fewer are written to it
+      pub shortened : (n : ℕ) → n ≤ x.size → (h2 : PacketsHead) → h2.slots ≡ h.slots → h2.bytes ≡ place h.bytes.read_at (h.bytes.length - n) →
+          (ms2 : List (PacketMetadata H)) →
+          ms2 ≡ set ms (index_after (length ms) h.slots.read_at (h.slots.length - 1)) (slot (x.size - n) (Some ends.1.header)) →
+          IsQueue h2 ms2 xs (with_last_size (x.size - n) v)
+      shortened n few h2 slots bytes ms2 wrote =
+          let end = h.slots.length - 1 in
+          let i = index_after (length ms) h.slots.read_at end in
+          let p = ends.1 in
+          let j = x.size - n in
+          let y : PacketMetadata H = slot j (Some p.header) in
+          let z : PacketMetadata H = slot p.size (Some p.header) in
+          let size : x.size ≡ p.size = ap (λ o. o.size) last_slot_is in
+          let le : j ≤ p.size = omega (arith, size) in
+          let set_there : ring_at ms2 h2.slots ≡ with_elements m i (y ∷ []) = ap₂ (λ (l : List (PacketMetadata H)) (o : RingHead). ring_at l o)
+          (wrote ∙ set_is ms i y) slots in
+          let write = queue_law m k.sound.0 end i (y ∷ []) (omega arith) (omega (arith, slice_get_within ms i x at)) (storage_index_is m end) in
+          let over : overwrite (others ++ ((z ∷ []) ++ [])) end (y ∷ []) ≡ others ++ ((y ∷ []) ++ []) =
+          overwrite_at others (z ∷ []) [] (y ∷ []) end others_long refl in
+          let queued = ap queue set_there ∙ write.0 ∙ ap (λ l. overwrite l end (y ∷ [])) slots_end ∙ over
+          ∙ append_assoc (packet_slots ends.0) (gap_slot p.gap) (y ∷ []) ∙ sym (slots_append ends.0 (packet p.header j p.gap)) in
+          let is = shorter_is v well ends.0 p ends.2 j le in
+          let count : h.bytes.length - n ≡ bytes_used (ends.0 ++ (packet p.header j p.gap ∷ [])) =
+          omega (arith, shorter_bytes v well ends.0 p ends.2 j le, size, bytes_count) in
+          left_at h2 ms2 xs (ap length wrote ∙ length-set ms i y ∙ slots_of)
+          (held (with_last_size j v) (shorter_well v well ends.0 p ends.2 j le) (ring_at ms2 h2.slots)
+          (subst IsWellFormed (sym set_there) (written_wf m k.sound.0 i (y ∷ []))) (queued ∙ ap (λ o. packet_slots o.packets) (sym is))
+          (ring_at xs h2.bytes)
+          (ap (ring_at xs) bytes ∙ (λ t. ring (stored t) (read_here t) (count t)) ∙ ap byte_ring (sym is)))
 
-      pub parts_dequeued_shown : (now : List ℕ) → now ≡ take (from + s - from) (drop from xs) → now ≡ last_dequeued_bytes v s
-      parts_dequeued_shown now is =
-          shown_is xs from s now is ∙ ap (λ p. take s (drop p xs)) parts_dequeued_at
-          ∙ ap (λ o. take s (drop (last_dequeued_bytes_index v s) o.storage)) seen
+  -- its bytes are found by its size
+  module _ (c : ℕ) (ec : c ≡ length xs) (s : ℕ) (es : s ≡ first_size (only_last v.packets)) where
+    pub last_in : s ≤ h.bytes.length
+    last_in = omega (arith, bytes_count, last_ends v well)
 
-      pub parts_dequeued_size : AreLastDequeued v s → (now : List ℕ) → now ≡ take (from + s - from) (drop from xs) → length now ≡ s
-      parts_dequeued_size free now is =
-          let place = parts_dequeued_at in
-          let long = ap (λ o. length o.storage) seen in
-          shown_size xs from s now is (omega (arith, place))
+    pub last_at : index_after c h.bytes.read_at (h.bytes.length - s) ≡ last_index v
+    last_at =
+        ap (λ n. index_after n h.bytes.read_at (h.bytes.length - s)) (ec ∙ ap length stored)
+        ∙ ap₂ (index_after (length v.storage)) read_here (ap₂ ◌-◌ bytes_count es)
 
-      pub parts_dequeued_sound : (w xs2 : List ℕ) → xs2 ≡ overwrite xs from w → AreSoundParts h ms xs2
-      parts_dequeued_sound w xs2 is = subst (AreSoundParts h ms) (sym is) (written_holds m b all v seen from w)
+    pub last_fits : index_after c h.bytes.read_at (h.bytes.length - s) + s ≤ length xs
+    last_fits =
+        let ends = last_ends v well in
+        let at = last_at in
+        let long = ap length stored in
+        omega arith
 
-      pub parts_dequeued_written : (w xs2 : List ℕ) → xs2 ≡ overwrite xs from w → packets_at h ms xs2 ≡ with_bytes v (last_dequeued_bytes_index v s) w
-      parts_dequeued_written w xs2 is =
-          ap (packets_at h ms) (is ∙ ap (λ p. overwrite xs p w) parts_dequeued_at) ∙ ap (λ o. with_bytes o (last_dequeued_bytes_index v s) w) seen
+  -- ---- the bytes before the read index
+  pub dequeued_at : (c : ℕ) → c ≡ length xs → (s : ℕ) → index_after c h.bytes.read_at (c - s) ≡ last_dequeued_bytes_index v s
+  dequeued_at c ec s = ap₂ (λ n r. index_after n r (n - s)) (ec ∙ ap length stored) read_here
 
 -- ---- a packet that is placed, as clauses say it
+-- the place p of a packet of s bytes in the queue v, of whose slots and bytes n and c were counted
+pub record IsPlaceIn {H : Type 0} (h : PacketsHead) (ms : List (PacketMetadata H)) (xs : List ℕ) (v : PacketsState H) (n c s : ℕ)
+    (p : PacketPlace) : Type 0 where
+  pub queue : IsQueue h ms xs v
+  pub slot_count : n ≡ length ms
+  pub capacity : c ≡ length xs
+  pub gap : placement_in n c h s ≡ Some p.gap
+  pub slots : HasSlots n h p
+  pub from : BeginsAt c h p
+
 module _ {H : Type 0} {h : PacketsHead} {ms : List (PacketMetadata H)} {xs : List ℕ} {v : PacketsState H} {n c s : ℕ} {p : PacketPlace}
     (at : IsPlaceIn h ms xs v n c s p) where
   pub gap_is : placement v s ≡ Some p.gap
-  gap_is = sym (counted_is h ms xs at.sound v at.seen n c at.slot_count at.capacity s) ∙ at.gap
+  gap_is = sym (placement_is at.queue n c at.slot_count at.capacity s) ∙ at.gap
 
   pub has_place : placement v s ≡ None → ⊥
   has_place none = none-some p.gap (sym none ∙ gap_is)
@@ -391,123 +364,136 @@ module _ {H : Type 0} {h : PacketsHead} {ms : List (PacketMetadata H)} {xs : Lis
   pub placed_is : (hd : H) → with_packet v p.gap s hd ≡ with_packet_if_room v s hd
   placed_is hd = sym (ap (λ o. with_packet_if v o s hd) gap_is)
 
-  -- its slots are those of k bytes
-  module _ (k : ℕ) (le : k ≤ s) (hd : H) (h2 : PacketsHead) (es : h2.slots ≡ enqueued_place (slots_for p.gap) h.slots)
-      (eb : h2.bytes ≡ enqueued_place (p.gap + k) (rewound h.bytes)) (ms2 : List (PacketMetadata H)) (wrote : ms2 ≡ slots_with p k hd ms) where
-    pushed_all : AreSoundParts h2 ms2 xs × (packets_at h2 ms2 xs ≡ with_packet (packets_at h ms xs) p.gap k hd)
-    pushed_all =
-        let there = place_is n c h p at.slots at.from ∙ ap₂ (λ (i j : ℕ). place_after_gap i j h p.gap) at.slot_count at.capacity in
-        parts_pushed h ms xs at.sound p.gap s (ap (λ o. placement o s) at.seen ∙ gap_is) k le hd h2 es eb ms2
-        (wrote ∙ ap (λ o. slots_with o k hd ms) there)
+  -- its slots are those of j bytes
+  pub placed : (j : ℕ) → j ≤ s → (hd : H) (h2 : PacketsHead) → h2.slots ≡ enqueued_place (slots_for p.gap) h.slots
+      → h2.bytes ≡ enqueued_place (p.gap + j) (rewound h.bytes) → (ms2 : List (PacketMetadata H)) → ms2 ≡ slots_with p j hd ms
+      → IsQueue h2 ms2 xs (with_packet v p.gap j hd)
+  placed j le hd h2 es eb ms2 wrote =
+      let there = place_is n c h p at.slots at.from ∙ ap₂ (λ (i l : ℕ). place_after_gap i l h p.gap) at.slot_count at.capacity in
+      pushed at.queue p.gap s gap_is j le hd h2 es eb ms2 (wrote ∙ ap (λ o. slots_with o j hd ms) there)
 
-    pub placed_sound : AreSoundParts h2 ms2 xs
-    placed_sound = pushed_all.0
+  -- a closure writes its bytes
+  module _ (hd : H) where
+    abbrev w : PacketsState H
+    w = with_packet v p.gap s hd
 
-    pub placed_as : packets_at h2 ms2 xs ≡ with_packet v p.gap k hd
-    placed_as = pushed_all.1 ∙ ap (λ o. with_packet o p.gap k hd) at.seen
+    pub size_is : first_size (only_last w.packets) ≡ s
+    size_is = ap first_size (last_append v.packets (packet hd s p.gap))
 
-    pub placed_size : first_size (only_last (packets_at h2 ms2 xs).packets) ≡ k
-    placed_size = ap (λ o. first_size (only_last o.packets)) placed_as ∙ ap first_size (last_append v.packets (packet hd k p.gap))
+    room_at : p.from ≡ last_index w
+    room_at =
+        let k = placed s (omega arith) hd (with_packet_placed p.gap s h) refl refl (slots_with p s hd ms) refl in
+        let last : (rewound h.bytes).length + p.gap ≡ (rewound h.bytes).length + (p.gap + s) - s = omega arith in
+        at.from ∙ ap (index_after c (rewound h.bytes).read_at) last ∙ last_at k c at.capacity s (sym size_is)
 
--- a closure writes its bytes
-module _ {H : Type 0} {h : PacketsHead} {ms : List (PacketMetadata H)} {xs : List ℕ} {v : PacketsState H} {n c s : ℕ} {p : PacketPlace}
-    (at : IsPlaceIn h ms xs v n c s p) (hd : H) where
-  abbrev w : PacketsState H
-  w = with_packet v p.gap s hd
+    pub room_is : p.from + s ≤ c → (now : List ℕ) → now ≡ take (p.from + s - p.from) (drop p.from xs) → IsRoom v s hd now
+    room_is fits now is =
+        let shown = lent_is at.queue p.from s now is ∙ ap₂ (λ (l i : ℕ). take l (drop i v.storage)) (sym size_is) room_at in
+        (has_place, shown ∙ ap last_bytes (placed_is hd), lent_size at.queue p.from s now is (omega (arith, at.capacity)))
 
-  room_at : p.from ≡ last_index w
-  room_at =
-      let h2 = with_packet_placed p.gap s h in
-      let ms2 = slots_with p s hd ms in
-      let sound = placed_sound at s (omega arith) hd h2 refl refl ms2 refl in
-      let is = placed_as at s (omega arith) hd h2 refl refl ms2 refl in
-      let size = sym (ap first_size (last_append v.packets (packet hd s p.gap))) in
-      let last : (rewound h.bytes).length + p.gap ≡ (rewound h.bytes).length + (p.gap + s) - s = omega arith in
-      at.from ∙ ap (index_after c (rewound h.bytes).read_at) last ∙ parts_last_at h2 ms2 xs sound w is c at.capacity s size
+    -- it wrote ws, and the first j of them are the packet
+    pub filled : (j : ℕ) → j ≤ s → (ws : List ℕ) (h2 : PacketsHead) → h2.slots ≡ enqueued_place (slots_for p.gap) h.slots
+        → h2.bytes ≡ place (rewound h.bytes).read_at ((rewound h.bytes).length + (p.gap + s) - (s - j))
+        → (ms2 : List (PacketMetadata H)) → ms2 ≡ slots_with p j hd ms → (xs2 : List ℕ) → xs2 ≡ overwrite xs p.from ws
+        → IsQueue h2 ms2 xs2 (with_last_size j (with_last_bytes (with_packet_if_room v s hd) ws))
+    filled j le ws h2 es eb ms2 wrote xs2 left =
+        let n : (rewound h.bytes).length + (p.gap + s) - (s - j) ≡ (rewound h.bytes).length + (p.gap + j) = omega arith in
+        let k = placed j le hd h2 es (eb ∙ ap (place (rewound h.bytes).read_at) n) ms2 wrote in
+        subst (IsQueue h2 ms2 xs2) (ap (λ i. with_bytes (with_packet v p.gap j hd) i ws) room_at
+        ∙ cut_is v (well at.queue) p.gap s gap_is hd j ws) (written k p.from ws xs2 left)
 
-  pub parts_room : p.from + s ≤ c → (now : List ℕ) → now ≡ take (p.from + s - p.from) (drop p.from xs) → IsRoom v s hd now
-  parts_room fits now is =
-      let long = shown_size xs p.from s now is (omega (arith, at.capacity)) in
-      let size = ap first_size (last_append v.packets (packet hd s p.gap)) in
-      let shown = shown_is xs p.from s now is ∙ ap₂ (λ (k i : ℕ). take k (drop i xs)) (sym size) room_at
-      ∙ ap (λ o. take (first_size (only_last w.packets)) (drop (last_index w) o.storage)) at.seen in
-      (has_place at, shown ∙ ap last_bytes (placed_is at hd), long)
+-- ---- the first packet, which has no gap
+-- its slot is the first one in use, and has s bytes and the header hd
+pub record IsFirstIn {H : Type 0} (h : PacketsHead) (ms : List (PacketMetadata H)) (xs : List ℕ) (v : PacketsState H) (s : ℕ) (hd : H) : Type 0 where
+  pub queue : IsQueue h ms xs v
+  pub no_gap : first_gap v.packets ≡ 0
+  pub some : 1 ≤ h.slots.length
+  pub at : slice_get ms h.slots.read_at ≡ Some (slot s (Some hd))
 
-  -- it wrote ws, and the first k of them are the packet
-  module _ (k : ℕ) (le : k ≤ s) (ws : List ℕ) (h2 : PacketsHead) (es : h2.slots ≡ enqueued_place (slots_for p.gap) h.slots)
-      (eb : h2.bytes ≡ place (rewound h.bytes).read_at ((rewound h.bytes).length + (p.gap + s) - (s - k))) (ms2 : List (PacketMetadata H))
-      (wrote : ms2 ≡ slots_with p k hd ms) (xs2 : List ℕ) (left : xs2 ≡ overwrite xs p.from ws) where
-    bytes_are_k : h2.bytes ≡ enqueued_place (p.gap + k) (rewound h.bytes)
-    bytes_are_k =
-        let n : (rewound h.bytes).length + (p.gap + s) - (s - k) ≡ (rewound h.bytes).length + (p.gap + k) = omega arith in
-        eb ∙ ap (place (rewound h.bytes).read_at) n
+module _ {H : Type 0} {h : PacketsHead} {ms : List (PacketMetadata H)} {xs : List ℕ} {v : PacketsState H} {s : ℕ} {hd : H} where
+  pub first_at : IsQueue h ms xs v → first_gap v.packets ≡ 0 → 1 ≤ h.slots.length → slice_get ms h.slots.read_at ≡ Some (slot s (Some hd))
+      → IsFirstIn h ms xs v s hd
+  first_at k z some at = record { queue = k; no_gap = z; some = some; at = at }
 
-    short_sound : AreSoundParts h2 ms2 xs
-    short_sound = placed_sound at k le hd h2 es bytes_are_k ms2 wrote
+module _ {H : Type 0} {h : PacketsHead} {ms : List (PacketMetadata H)} {xs : List ℕ} {v : PacketsState H} {s : ℕ} {hd : H}
+    (first : IsFirstIn h ms xs v s hd) where
+  abbrev k : IsQueue h ms xs v
+  k = first.queue
 
-    pub filled_sound : AreSoundParts h2 ms2 xs2
-    filled_sound =
-        subst (AreSoundParts h2 ms2) (sym left) (written_holds (ring_at ms2 h2.slots) (ring_at xs h2.bytes) short_sound _ refl p.from ws)
+  slots_are_first : queue (m k) ≡ slot s (Some hd) ∷ drop 1 (queue (m k))
+  slots_are_first = first_is k first.some (slot s (Some hd)) first.at
 
-    pub filled_as : packets_at h2 ms2 xs2 ≡ with_last_size k (with_last_bytes (with_packet_if_room v s hd) ws)
-    filled_as =
-        let is = placed_as at k le hd h2 es bytes_are_k ms2 wrote in
-        let ok = well_placed (ring_at ms h.slots) (ring_at xs h.bytes) at.sound v at.seen in
-        ap (packets_at h2 ms2) left ∙ ap (λ o. with_bytes o p.from ws) is ∙ ap (λ i. with_bytes (with_packet v p.gap k hd) i ws) room_at
-        ∙ cut_is v ok p.gap s (gap_is at) hd k ws
+  pub sized : IsFirstSized v.packets hd s
+  sized = (is_first (m k) (b k) k.sound v k.seen first.no_gap s hd slots_are_first).0
 
--- ---- a closure is handed the first packet, whose gap is gone, and leaves the header new and the bytes ws
-module _ {H : Type 0} (h : PacketsHead) (ms : List (PacketMetadata H)) (xs : List ℕ) (all : AreSoundParts h ms xs)
-    (v : PacketsState H) (seen : packets_at h ms xs ≡ v) (z : first_gap v.packets ≡ 0) (s : ℕ) (hd : H) (some : 1 ≤ h.slots.length)
-    (at : slice_get ms h.slots.read_at ≡ Some (slot s (Some hd))) (ws : List ℕ) (new : H) (xs2 : List ℕ) (left : xs2 ≡ overwrite xs h.bytes.read_at ws) where
-  abbrev r : ℕ
-  r = h.slots.read_at
+  pub first_in : s ≤ h.bytes.length
+  first_in = omega (arith, ap bytes_used sized, bytes_count k)
 
-  within : r < length ms
-  within = slice_get_within ms r (slot s (Some hd)) at
+  pub first_fits : h.bytes.read_at + s ≤ length xs
+  first_fits =
+      let ok = well k in
+      let fits = head_fits (length v.storage) v.read_at v.packets ok.0.0 ok.0.1 ok.1 first.no_gap in
+      omega (arith, fits, ap first_size sized, read_here k, ap length (stored k))
 
-  first_is : queue (ring_at ms h.slots) ≡ slot s (Some hd) ∷ drop 1 (queue (ring_at ms h.slots))
-  first_is = parts_first h ms xs all (slot s (Some hd)) some at
+  module _ (now : List ℕ) (is : now ≡ take (h.bytes.read_at + s - h.bytes.read_at) (drop h.bytes.read_at xs)) where
+    pub first_sized : IsFirstSized v.packets hd (length now)
+    first_sized = subst (IsFirstSized v.packets hd) (sym (lent_size k h.bytes.read_at s now is first_fits)) sized
 
-  place_is_zero : h.bytes.read_at ≡ queue_index (ring_at xs h.bytes) 0
-  place_is_zero =
-      let n : min 0 h.bytes.length ≡ 0 = omega arith in
-      sym (ap (index_after (length xs) h.bytes.read_at) n ∙ place_zero (length xs) h.bytes.read_at all.1.0)
+    pub first_shown : now ≡ first_bytes v
+    first_shown = lent_is k h.bytes.read_at s now is ∙ ap₂ (λ n p. take n (drop p v.storage)) (sym (ap first_size sized)) (read_here k)
 
-  stored_is : xs2 ≡ overwrite xs (queue_index (ring_at xs h.bytes) 0) ws
-  stored_is = left ∙ ap (λ i. overwrite xs i ws) place_is_zero
+  -- it is taken off, and the other slots in use are as they were
+  module _ (ms2 : List (PacketMetadata H)) (long : length ms2 ≡ length ms) (rest : drop 1 (queue (ring_at ms2 h.slots)) ≡ drop 1 (queue (m k)))
+      (h2 : PacketsHead) (is : h2 ≡ with_slot_taken (length ms) (length xs) s h) where
+    sound_slots : IsWellFormed (ring_at ms2 h.slots)
+    sound_slots = subst (λ n. IsSound n h.slots) (sym long) k.sound.0
 
-  module _ (ms2 : List (PacketMetadata H)) (wrote : ms2 ≡ set ms r (slot s (Some new))) where
-    put : (queue (ring_at (set ms r (slot s (Some new))) h.slots) ≡ slot s (Some new) ∷ drop 1 (queue (ring_at ms h.slots)))
-        × IsWellFormed (ring_at (set ms r (slot s (Some new))) h.slots)
-    put = head_set ms h.slots (slot s (Some new)) all.0 some within
+    slots_off : ring_at ms2 h2.slots ≡ with_dequeued 1 (ring_at ms2 h.slots)
+    slots_off = ap (λ (o : PacketsHead). ring_at ms2 o.slots) is ∙ ap (λ n. ring_at ms2 (dequeued_place n 1 h.slots)) (sym long)
 
-    handed_on : Represents (ring_at ms2 h.slots) (ring_at xs2 h.bytes) (packets_in 0 (queue (ring_at ms2 h.slots)))
-        × (length ms2 ≡ v.slot_count → packets_at h ms2 xs2 ≡ with_first_bytes v new ws)
-    handed_on =
-        let same : ring_at ms2 h.slots ≡ ring_at (set ms r (slot s (Some new))) h.slots = ap (λ l. ring_at l h.slots) wrote in
-        on_left (ring_at ms h.slots) (ring_at xs h.bytes) all v seen z s hd first_is (ring_at ms2 h.slots) (subst IsWellFormed (sym same) put.1)
-        (ring_at xs2 h.bytes) ws new (ap queue same ∙ put.0) (ap (λ l. ring_at l h.bytes) stored_is)
+    slots_left : queue (ring_at ms2 h2.slots) ≡ drop 1 (queue (m k))
+    slots_left = ap queue slots_off ∙ (with_dequeued_parts (ring_at ms2 h.slots) sound_slots 1 first.some).0 ∙ rest
 
-    -- it stays
-    pub handed_back : AreSoundParts h ms2 xs2 × (packets_at h ms2 xs2 ≡ with_first_bytes v new ws)
-    handed_back = (handed_on.0, handed_on.1 (ap length wrote ∙ length-set ms r (slot s (Some new)) ∙ ap (λ o. o.slot_count) seen))
+    sound_left : IsWellFormed (ring_at ms2 h2.slots)
+    sound_left = subst IsWellFormed (sym slots_off) (off_wf (ring_at ms2 h.slots) sound_slots first.some)
 
-    -- it is gone, and its header stays in the slot
-    module _ (h2 : PacketsHead) (is : h2 ≡ with_slot_taken (length ms) (length xs) s h) where
-      off : ring_at ms2 h2.slots ≡ with_dequeued 1 (ring_at (set ms r (slot s (Some new))) h.slots)
-      off = (λ i. ring_at (wrote i) ((is i).slots))
-          ∙ ap (λ (k : ℕ). ring_at (set ms r (slot s (Some new))) (place (index_after k r 1) (h.slots.length - 1)))
-          (sym (length-set ms r (slot s (Some new))))
+    pub off_as_it_is : IsQueue h2 ms2 xs (without_first v)
+    off_as_it_is =
+        left_at h2 ms2 xs (long ∙ slots_of k) (take_left (m k) (b k) k.sound v k.seen first.no_gap s hd slots_are_first
+        (ring_at ms2 h2.slots) sound_left (ring_at xs h2.bytes) slots_left (ap (λ (o : PacketsHead). ring_at xs o.bytes) is))
 
-      bytes_off : ring_at xs2 h2.bytes ≡ with_dequeued s (with_elements (ring_at xs h.bytes) (queue_index (ring_at xs h.bytes) 0) ws)
-      bytes_off = (λ i. ring_at (stored_is i) ((is i).bytes))
-          ∙ ap (λ (k : ℕ). ring_at (overwrite xs (queue_index (ring_at xs h.bytes) 0) ws) (place (index_after k h.bytes.read_at s) (h.bytes.length - s)))
-          (sym (length-overwrite xs (queue_index (ring_at xs h.bytes) 0) ws))
+    -- after it was handed to a closure, which left the bytes ws
+    pub off_written : (ws xs2 : List ℕ) → xs2 ≡ overwrite xs h.bytes.read_at ws → (new : H)
+        → IsQueue h2 ms2 xs2 (without_first (with_first_bytes v new ws))
+    off_written ws xs2 wrote new =
+        let left : ring_at xs2 h2.bytes ≡ with_dequeued s (ring_at xs2 h.bytes) = ap (λ (o : PacketsHead). ring_at xs2 o.bytes) is
+        ∙ ap (λ n. ring_at xs2 (dequeued_place n s h.bytes)) (sym (ap length wrote ∙ length-overwrite xs h.bytes.read_at ws)) in
+        left_at h2 ms2 xs2 (long ∙ slots_of k) (off_left (m k) (b k) k.sound v k.seen first.no_gap s hd slots_are_first
+        (ring_at ms2 h2.slots) sound_left (ring_at xs2 h2.bytes) ws new slots_left
+        (left ∙ ap (λ l. with_dequeued s (ring_at l h.bytes)) wrote))
 
-      pub handed_gone : AreSoundParts h2 ms2 xs2 × (packets_at h2 ms2 xs2 ≡ without_first (with_first_bytes v new ws))
-      handed_gone =
-          let all_left = off_left (ring_at ms h.slots) (ring_at xs h.bytes) all v seen z s hd first_is (ring_at ms2 h2.slots)
-          (subst IsWellFormed (sym off) (off_wf (ring_at (set ms r (slot s (Some new))) h.slots) _ _ put.1 put.0)) (ring_at xs2 h2.bytes) ws new
-          (ap queue off ∙ (with_dequeued_parts (ring_at (set ms r (slot s (Some new))) h.slots) put.1 1 some).0 ∙ ap (drop 1) put.0) bytes_off in
-          (all_left.0, all_left.1 (ap length wrote ∙ length-set ms r (slot s (Some new)) ∙ ap (λ o. o.slot_count) seen))
+  -- its slot is set
+  module _ (x : PacketMetadata H) (ms2 : List (PacketMetadata H)) (wrote : ms2 ≡ set ms h.slots.read_at x) where
+    set_long : length ms2 ≡ length ms
+    set_long = ap length wrote ∙ length-set ms h.slots.read_at x
+
+    set_queue : queue (ring_at ms2 h.slots) ≡ x ∷ drop 1 (queue (m k))
+    set_queue =
+        ap (λ l. queue (ring_at l h.slots)) wrote
+        ∙ head_set ms h.slots x k.sound.0 first.some (slice_get_within ms h.slots.read_at (slot s (Some hd)) first.at)
+
+    pub taken : (h2 : PacketsHead) → h2 ≡ with_slot_taken (length ms) (length xs) s h → IsQueue h2 ms2 xs (without_first v)
+    taken h2 is = off_as_it_is ms2 set_long (ap (drop 1) set_queue) h2 is
+
+    pub handed_gone : (ws xs2 : List ℕ) → xs2 ≡ overwrite xs h.bytes.read_at ws → (new : H) (h2 : PacketsHead)
+        → h2 ≡ with_slot_taken (length ms) (length xs) s h → IsQueue h2 ms2 xs2 (without_first (with_first_bytes v new ws))
+    handed_gone ws xs2 left new h2 is = off_written ms2 set_long (ap (drop 1) set_queue) h2 is ws xs2 left new
+
+  -- it stays, with the header new and the bytes ws
+  pub handed_back : (new : H) (ms2 : List (PacketMetadata H)) → ms2 ≡ set ms h.slots.read_at (slot s (Some new)) → (ws xs2 : List ℕ)
+      → xs2 ≡ overwrite xs h.bytes.read_at ws → IsQueue h ms2 xs2 (with_first_bytes v new ws)
+  handed_back new ms2 wrote ws xs2 left =
+      let x : PacketMetadata H = slot s (Some new) in
+      let long = set_long x ms2 wrote in
+      left_at h ms2 xs2 (long ∙ slots_of k) (on_left (m k) (b k) k.sound v k.seen first.no_gap s hd slots_are_first (ring_at ms2 h.slots)
+      (subst (λ n. IsSound n h.slots) (sym long) k.sound.0) (ring_at xs2 h.bytes) ws new (set_queue x ms2 wrote) (ap (λ l. ring_at l h.bytes) left))

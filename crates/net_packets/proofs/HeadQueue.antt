@@ -1,25 +1,22 @@
 -- The queue that a head and slots without headers represent, after a step on its numbers.
 use Rattle.std.proofs.Common.{◌≢◌, ◌≡◌, ℕ, zero, suc, ◌++◌, ◌+◌, ◌-◌, ◌<◌, ◌≤◌, List, [], ◌∷◌, get_or, length}
-use Rattle.std.proofs.Common.{length-append, append_assoc, drop, refl, sym, ap, ap₂, ◌∙◌, subst, inl, inr, arith, ◌⊎◌}
+use Rattle.std.proofs.Common.{drop, refl, sym, ap, ap₂, ◌∙◌, subst, inl, inr, arith, ◌⊎◌}
 use Rattle.std.proofs.Common.{map, nat_eq, if◌then◌else◌}
 use Rattle.std.proofs.lemmas.Bool.{cases_Bool, cond-true, cond-false}
 use Rattle.std.proofs.lemmas.Bool.Decides.{nat_tests}
-use Rattle.std.proofs.lemmas.List.{length-map, length-replicate, length-set, map-set}
-use Rattle.std.proofs.lemmas.Option.{slice_get-get_or, slice_get-map, get_or_from_slice_get, cond_some, none-some}
-use Rattle.std.proofs.lemmas.Option.{slice_get_within}
+use Rattle.std.proofs.lemmas.List.{length-map, length-replicate, map-set}
+use Rattle.std.proofs.lemmas.Option.{slice_get-get_or, slice_get-map, get_or_from_slice_get, none-some}
 use Rattle.std.proofs.Math.Seq.{drop-cons}
 use Rattle.std.specs.Option.{option_map}
 use Rattle.std.specs.Prelude.{IfSome, IsNone, ⊤, Option, Bool, true, false, replicate, set}
 use Rattle.std.specs.List.{slice_get}
-use Rattle.net_ring.specs.Overwrite.{overwrite}
-use Rattle.net_ring.specs.Ring.{RingState, index_after, queue, storage_index, IsWellFormed, ring, with_dequeued}
-use Rattle.net_ring.specs.Ring.{with_elements}
-use Rattle.net_ring.specs.RingHead.{ring_at, place}
+use Rattle.net_ring.specs.Ring.{index_after, queue, storage_index}
+use Rattle.net_ring.specs.RingHead.{place, IsSound}
 use Rattle.std.specs.declared.option.Option.TheVariants.{Some, None}
-use Rattle.net_packets.specs.{Packet, PacketsState, packet, bytes_used, slots_used, byte_ring, IsPlaced, ArePlaced}
-use Rattle.net_packets.specs.{IsWellPlaced, first_gap, first_size, without_first_gap, without_gap}
-use Rattle.net_packets.specs.{without_first_and_gap, without_first, with_last_size, with_first_size, with_packet_if}
-use Rattle.net_packets.specs.{with_packet_if_room, before_last, only_last, slot, gap_slot, packet_slots, packets_in}
+use Rattle.net_packets.specs.{Packet, packet, slots_used, IsPlaced, ArePlaced}
+use Rattle.net_packets.specs.{first_gap, first_size, without_first_gap, without_gap}
+use Rattle.net_packets.specs.{without_first_and_gap, without_first, with_last_size, with_packet_if}
+use Rattle.net_packets.specs.{with_packet_if_room, slot, gap_slot, packet_slots, packets_in}
 use Rattle.net_packets.specs.{AreSoundParts, IsSoundHead, with_slot_taken, placement_in, place_after_gap}
 use Rattle.net_packets.specs.{with_packet_placed, AreSlotsAfter, metadata, slot_ring, queue_of, HasSoundSlots}
 use Rattle.net_packets.specs.{CanTake, after_slot, first_slot, head_after_gap, HasFirst, first_packet}
@@ -31,13 +28,13 @@ use Rattle.net_packets.specs.declared.head.FirstPacket.{FirstPacket}
 use Rattle.net_packets.specs.declared.head.PacketPlace.{PacketPlace}
 use Rattle.net_packets.specs.declared.packet_metadata.PacketMetadata.{PacketMetadata}
 use Rattle.net_packets.specs.declared.packet_slot.PacketSlot.{PacketSlot}
-use Rattle.net_ring.proofs.Rotations.{with_dequeued_parts, length-queue, overwrite_at, storage_index_is}
-use Rattle.net_ring.proofs.RingFacts.{queue_head, queue_law, written_wf}
-use Rattle.net_packets.proofs.PacketSteps.{count_is, ends_in, place_cases, place_zero, off_wf, bytes_append}
-use Rattle.net_packets.proofs.PacketSteps.{slots_of_append, slots_append, head_or, close_gap, mk, held, before_append}
-use Rattle.net_packets.proofs.PacketSteps.{last_append, well_placed, slice_get_end, skip_left, take_left, gap_of}
-use Rattle.net_packets.proofs.PacketSteps.{gap_fits, head_fits}
-use Rattle.net_packets.proofs.HeadParts.{set_is, queue_get, no_place, place_in, placed_is, placed_sound, placed_as}
+use Rattle.net_ring.proofs.Rotations.{length-queue}
+use Rattle.net_packets.proofs.PacketSteps.{place_cases, place_zero}
+use Rattle.net_packets.proofs.PacketSteps.{head_or, close_gap, mk}
+use Rattle.net_packets.proofs.PacketSteps.{gap_of}
+use Rattle.net_packets.proofs.PacketSteps.{gap_fits}
+use Rattle.net_packets.proofs.HeadParts.{queue_get, IsQueue, IsFirstIn, IsPlaceIn, placement_is, slots_count, skipped, packet_first}
+use Rattle.net_packets.proofs.HeadParts.{gap_first, first_at, sized, first_in, first_fits, off_as_it_is, shortened, placed, placed_is}
 
 -- a slot is a packet's or a gap's
 kind_of : (s : PacketSlot) → ((s.is_gap ≡ 0) × (metadata s ≡ slot s.size (Some tt)) × (nat_eq s.is_gap 0 ≡ true))
@@ -47,86 +44,73 @@ kind_of s = elim (cases_Bool (nat_eq s.is_gap 0)) [
   | inr f ↦ inr (grind (arith, nat_tests, f), ap (λ (z : Bool). slot s.size (if z then Some tt else None)) f, f)
 ]
 
--- two rings that represent packets are those of a head with sound slots
-sound_again : (h : PacketsHead) (ss : List PacketSlot) (xs : List ℕ) → AreSoundParts h (map metadata ss) xs → HasSoundSlots (length xs) h ss
-sound_again h ss xs r =
-    let wf = subst (λ (n : ℕ). ((h.slots.read_at ≡ 0) ⊎ (h.slots.read_at < n)) × (h.slots.length ≤ n)) (length-map ss metadata) r.0 in
-    ((wf, r.1), r.2, r.3, r.4)
-
--- so it is enough that they do over each storage of c bytes
-sound_over : (c : ℕ) (h : PacketsHead) (ss : List PacketSlot)
-    → ((xs : List ℕ) → length xs ≡ c → AreSoundParts h (map metadata ss) xs) → HasSoundSlots c h ss
+-- the head and the slots are those of a queue if they represent one with each storage of c bytes
+sound_over : (c : ℕ) (h : PacketsHead) (ss : List PacketSlot) → ((xs : List ℕ) → length xs ≡ c → AreSoundParts h (map metadata ss) xs)
+    → HasSoundSlots c h ss
 sound_over c h ss r =
     let e = length-replicate c 0 in
-    subst (λ (n : ℕ). HasSoundSlots n h ss) e (sound_again h ss (replicate c 0) (r (replicate c 0) e))
+    let all = r (replicate c 0) e in (
+      (subst (λ n. IsSound n h.slots) (length-map ss metadata) all.0, subst (λ n. IsSound n h.bytes) e all.1),
+      all.2,
+      all.3,
+      subst (λ (n : ℕ). ArePlaced n h.bytes.read_at 0 (packets_in 0 (queue (slot_ring h ss)))) e all.4,
+    )
 
 module _ (c : ℕ) (h : PacketsHead) (ss : List PacketSlot) (hs : HasSoundSlots c h ss) where
-  pub slots_wf : IsWellFormed (slot_ring h ss)
-  slots_wf =
-      subst (λ (n : ℕ). ((h.slots.read_at ≡ 0) ⊎ (h.slots.read_at < n)) × (h.slots.length ≤ n)) (sym (length-map ss metadata)) hs.0.0
+  -- and they represent one with each
+  represented : (xs : List ℕ) → length xs ≡ c → IsQueue h (map metadata ss) xs (queue_of h ss xs)
+  represented xs e = record {
+    sound = (
+      subst (λ n. IsSound n h.slots) (sym (length-map ss metadata)) hs.0.0,
+      subst (λ n. IsSound n h.bytes) (sym e) hs.0.1,
+      hs.1,
+      hs.2,
+      subst (λ (n : ℕ). ArePlaced n h.bytes.read_at 0 (packets_in 0 (queue (slot_ring h ss)))) (sym e) hs.3,
+    );
+    seen = refl;
+  }
 
-  pub represented : (xs : List ℕ) → length xs ≡ c → AreSoundParts h (map metadata ss) xs
-  represented xs e =
-      let ms = queue (slot_ring h ss) in
-      subst (λ (k : ℕ). IsWellFormed (slot_ring h ss) × (((h.bytes.read_at ≡ 0) ⊎ (h.bytes.read_at < k)) × (h.bytes.length ≤ k))
-      × (ms ≡ packet_slots (packets_in 0 ms)) × (h.bytes.length ≡ bytes_used (packets_in 0 ms)) × ArePlaced k h.bytes.read_at 0 (packets_in 0 ms))
-      (sym e) (slots_wf, hs.0.1, hs.1, hs.2, hs.3)
+  some_bytes : IsQueue h (map metadata ss) (replicate c 0) (queue_of h ss (replicate c 0))
+  some_bytes = represented (replicate c 0) (length-replicate c 0)
 
-  -- the first slot
+  -- the first slot is that of the first packet, or of its gap
   module _ (s : PacketSlot) (some : 1 ≤ h.slots.length) (at : slice_get ss h.slots.read_at ≡ Some s) where
-    pub first_is : queue (slot_ring h ss) ≡ metadata s ∷ drop 1 (queue (slot_ring h ss))
-    first_is =
+    first_kind : (xs : List ℕ) → length xs ≡ c →
+        ((s.is_gap ≡ 0) × (nat_eq s.is_gap 0 ≡ true) × IsFirstIn h (map metadata ss) xs (queue_of h ss xs) s.size tt)
+        ⊎ ((s.is_gap ≢ 0) × (nat_eq s.is_gap 0 ≡ false) × (first_gap (queue_of h ss xs).packets ≡ s.size) × (0 < s.size))
+    first_kind xs e =
+        let k = represented xs e in
         let found = slice_get-map metadata ss h.slots.read_at ∙ ap (option_map metadata) at in
-        queue_head (slot_ring h ss) slots_wf (metadata s)
-        (sym (get_or_from_slice_get (map metadata ss) h.slots.read_at (metadata s) (metadata s) found)) (λ z. omega arith)
-
-    can : CanTake c h s
-    can =
-        let ms = queue (slot_ring h ss) in
-        let ps = packets_in 0 ms in
-        let fits : bytes_used ps ≤ c = omega (arith, hs.2, hs.0.1.1) in
         elim (kind_of s) [
-          | inl k ↦
-              let all = first_is ∙ ap (λ x. x ∷ drop 1 ms) k.1 in
-              let z : first_gap ps ≡ 0 = ap (λ l. first_gap (packets_in 0 l)) all in
-              let size : first_size ps ≡ s.size = ap (λ l. first_size (packets_in 0 l)) all in
-              let at = head_fits c h.bytes.read_at ps hs.0.1.0 fits hs.3 z in
-              (some, omega (arith, hs.2), omega arith, λ n. absurd (n k.0))
-          | inr k ↦
-              let gap = gap_of ps s.size (drop 1 ms) (sym (sym hs.1 ∙ first_is ∙ ap (λ x. x ∷ drop 1 ms) k.1)) in
-              let at = gap_fits c h.bytes.read_at 0 ps hs.3 (omega arith) in
-              let zero_at = place_zero c h.bytes.read_at hs.0.1.0 in
-              (some, omega (arith, hs.2), omega arith, λ n. (gap.1, omega arith))
+          | inl a ↦
+              let is = found ∙ ap (λ x. Some x) a.1 in
+              inl (a.0, a.2, first_at k (packet_first k some s.size tt is) some is)
+          | inr a ↦
+              let gap = gap_first k some s.size (found ∙ ap (λ x. Some x) a.1) in
+              inr (a.0, a.2, gap.0, gap.1)
         ]
 
-    module _ (xs : List ℕ) (e : length xs ≡ c) where
-      abbrev after : PacketsHead
-      after = with_slot_taken (length ss) c s.size h
+    can : CanTake c h s
+    can = elim (first_kind (replicate c 0) (length-replicate c 0)) [
+      | inl f ↦ (some, first_in f.2, omega (arith, first_fits f.2, length-replicate {A = ℕ} c 0), λ n. absurd (n f.0))
+      | inr f ↦
+          let at = gap_fits c h.bytes.read_at 0 (queue_of h ss (replicate c 0)).packets hs.3 (omega (arith, f.2, f.3)) in
+          let zero_at = place_zero c h.bytes.read_at hs.0.1.0 in
+          (some, omega (arith, hs.2, f.2), omega (arith, f.2), λ n. (f.3, omega (arith, f.2)))
+    ]
 
-      slots_off : slot_ring after ss ≡ with_dequeued 1 (slot_ring h ss)
-      slots_off = ap (λ (n : ℕ). ring_at (map metadata ss) (place (index_after n h.slots.read_at 1) (h.slots.length - 1))) (sym (length-map ss metadata))
-
-      bytes_off : ring_at xs after.bytes ≡ with_dequeued s.size (ring_at xs h.bytes)
-      bytes_off = ap (λ (n : ℕ). ring_at xs (place (index_after n h.bytes.read_at s.size) (h.bytes.length - s.size))) (sym e)
-
-      pub taken : AreSoundParts after (map metadata ss) xs × (queue_of after ss xs ≡ after_slot s (queue_of h ss xs))
-      taken =
-          let m = slot_ring h ss in
-          let b = ring_at xs h.bytes in
-          let all = represented xs e in
+    module _ (n : ℕ) (en : length ss ≡ n) (h2 : PacketsHead) (is : h2 ≡ with_slot_taken n c s.size h) (xs : List ℕ) (e : length xs ≡ c) where
+      slot_taken : IsQueue h2 (map metadata ss) xs (after_slot s (queue_of h ss xs))
+      slot_taken =
           let q = queue_of h ss xs in
-          elim (kind_of s) [
-            | inl k ↦
-                let first = first_is ∙ ap (λ x. x ∷ drop 1 (queue m)) k.1 in
-                let z : first_gap q.packets ≡ 0 = ap (λ l. first_gap (packets_in 0 l)) first in
-                let wfm = subst IsWellFormed (sym slots_off) (off_wf m _ _ slots_wf first) in
-                let off = ap queue slots_off ∙ (with_dequeued_parts m slots_wf 1 some).0 in
-                let left = take_left m b all q refl z s.size tt first (slot_ring after ss) wfm (ring_at xs after.bytes) off bytes_off in
-                (left.0, left.1 refl ∙ sym (cond-true (nat_eq s.is_gap 0) (without_first q) (without_gap q) k.2))
-            | inr k ↦
-                let gap = gap_of q.packets s.size (drop 1 (queue m)) (sym (sym hs.1 ∙ first_is ∙ ap (λ x. x ∷ drop 1 (queue m)) k.1)) in
-                let left = skip_left m b all s.size q (slot_ring after ss) (ring_at xs after.bytes) refl (sym gap.0) gap.1 slots_off bytes_off in
-                (left.0, left.1 refl ∙ sym (cond-false (nat_eq s.is_gap 0) (without_first q) (without_gap q) k.2))
+          let same = is ∙ ap₂ (λ (i j : ℕ). with_slot_taken i j s.size h) (sym (length-map ss metadata ∙ en)) (sym e) in
+          elim (first_kind xs e) [
+            | inl f ↦
+                subst (IsQueue h2 (map metadata ss) xs) (sym (cond-true (nat_eq s.is_gap 0) (without_first q) (without_gap q) f.1))
+                (off_as_it_is f.2 (map metadata ss) refl refl h2 same)
+            | inr f ↦
+                subst (IsQueue h2 (map metadata ss) xs) (sym (cond-false (nat_eq s.is_gap 0) (without_first q) (without_gap q) f.1))
+                (skipped (represented xs e) s.size f.2 f.3 h2 same)
           ]
 
 -- as clauses say it
@@ -138,156 +122,37 @@ module _ (n c : ℕ) (h : PacketsHead) (s : PacketSlot) (can : CanTake c h s) (h
     (ss : List PacketSlot) where
   pub first_taken : (xs : List ℕ) → length ss ≡ n → length xs ≡ c → HasSoundSlots c h ss → slice_get ss h.slots.read_at ≡ Some s
       → queue_of h2 ss xs ≡ after_slot s (queue_of h ss xs)
-  first_taken xs en ec hs at =
-      let same = is ∙ ap (λ k. with_slot_taken k c s.size h) (sym en) in
-      ap (λ k. queue_of k ss xs) same ∙ (taken c h ss hs s can.0 at xs ec).1
+  first_taken xs en ec hs at = (slot_taken c h ss hs s can.0 at n en h2 is xs ec).seen
 
   pub sound_taken : length ss ≡ n → HasSoundSlots c h ss → slice_get ss h.slots.read_at ≡ Some s → HasSoundSlots c h2 ss
-  sound_taken en hs at =
-      let same = is ∙ ap (λ k. with_slot_taken k c s.size h) (sym en) in
-      subst (λ (k : PacketsHead). HasSoundSlots c k ss) (sym same)
-      (sound_over c (with_slot_taken (length ss) c s.size h) ss (λ xs ec. (taken c h ss hs s can.0 at xs ec).0))
+  sound_taken en hs at = sound_over c h2 ss (λ xs ec. (slot_taken c h ss hs s can.0 at n en h2 is xs ec).sound)
 
 -- the slot of a packet with fewer bytes
 pub lower_slot : (k : ℕ) (s : PacketSlot) → s.is_gap ≡ 0 → record { size = k; is_gap = s.is_gap } ≡ packet_slot k
 lower_slot k s e = ap (λ (n : ℕ). record { size = k; is_gap = n }) e
 
 -- ---- the last packet becomes shorter
-shrunk : (c r o k : ℕ) (ps : List (Packet ⊤)) (p : Packet ⊤) → k ≤ p.size → ArePlaced c r o (ps ++ (p ∷ []))
-    → ArePlaced c r o (ps ++ (packet p.header k p.gap ∷ []))
-shrunk c r o k [] p le a = ((omega (arith, a.0.0), a.0.1), tt)
-shrunk c r o k (q ∷ ps) p le a = (a.0, shrunk c r (o + q.gap + q.size) k ps p le a.1)
-
-module _ (q : PacketsState ⊤) (ok : IsWellPlaced q) (ps : List (Packet ⊤)) (p : Packet ⊤) (is : q.packets ≡ ps ++ (p ∷ []))
-    (k : ℕ) (le : k ≤ p.size) where
-  shorter_is : with_last_size k q ≡ mk q.slot_count q.storage q.read_at (ps ++ (packet p.header k p.gap ∷ []))
-  shorter_is =
-      ap (λ l. mk q.slot_count q.storage q.read_at (before_last l ++ with_first_size k (only_last l))) is
-      ∙ ap₂ (λ (before back : List (Packet ⊤)). mk q.slot_count q.storage q.read_at (before ++ with_first_size k back))
-      (before_append ps p) (last_append ps p)
-
-  shorter_bytes : bytes_used (ps ++ (packet p.header k p.gap ∷ [])) + (p.size - k) ≡ bytes_used q.packets
-  shorter_bytes =
-      let one = bytes_append ps p in
-      let two = bytes_append ps (packet p.header k p.gap) in
-      let all = ap bytes_used is in
-      omega arith
-
-  shorter_well : IsWellPlaced (with_last_size k q)
-  shorter_well =
-      let bytes = shorter_bytes in
-      let one = slots_of_append ps p in
-      let two = slots_of_append ps (packet p.header k p.gap) in
-      let all = ap slots_used is in
-      let placed = shrunk (length q.storage) q.read_at 0 k ps p le (subst (ArePlaced (length q.storage) q.read_at 0) is ok.1) in
-      subst IsWellPlaced (sym shorter_is) ((ok.0.0, omega (arith, ok.0.1)), placed, omega (arith, ok.2))
-
-module _ (c : ℕ) (h : PacketsHead) (ss : List PacketSlot) (hs : HasSoundSlots c h ss) (last : PacketSlot) (k : ℕ) (can : CanShorten h last k)
-    (at : slice_get ss (last_slot_index h ss) ≡ Some last) (h2 : PacketsHead) (slots : h2.slots ≡ h.slots)
-    (bytes : h2.bytes ≡ place h.bytes.read_at (h.bytes.length - k)) where
-  abbrev written : List PacketSlot
-  written = set ss (last_slot_index h ss) (packet_slot (last.size - k))
-
-  abbrev m : RingState (PacketMetadata ⊤)
-  m = slot_ring h ss
-
-  abbrev end : ℕ
-  end = h.slots.length - 1
-
-  end_at : storage_index m end ≡ last_slot_index h ss
-  end_at = ap (λ (n : ℕ). index_after n h.slots.read_at end) (length-map ss metadata)
-
-  end_is : slice_get (queue m) end ≡ Some (metadata last)
-  end_is =
-      let found = slice_get-map metadata ss (last_slot_index h ss) ∙ ap (option_map metadata) at in
-      queue_get m (slots_wf c h ss hs) end (metadata last) (omega (arith, can.0))
-      (ap (slice_get m.storage) end_at ∙ found)
-
-  -- the packets end in one
-  ends : (ps : List (Packet ⊤)) × (p : Packet ⊤) × (packets_in 0 (queue m) ≡ ps ++ (p ∷ []))
-  ends =
-      let n = count_is m (ring_at (replicate c 0) h.bytes) (packets_in 0 (queue m)) (represented c h ss hs (replicate c 0) (length-replicate c 0)) in
-      ends_in (packets_in 0 (queue m)) (λ z. let none = ap slots_used z in omega (arith, can.0))
-
-  -- its slots before the last one
-  abbrev others : List (PacketMetadata ⊤)
-  others = packet_slots ends.0 ++ gap_slot ends.1.gap
-
-  slots_end_in : queue m ≡ others ++ (slot ends.1.size (Some ends.1.header) ∷ [])
-  slots_end_in =
-      hs.1 ∙ ap packet_slots ends.2 ∙ slots_append ends.0 ends.1
-      ∙ sym (append_assoc (packet_slots ends.0) (gap_slot ends.1.gap) (slot ends.1.size (Some ends.1.header) ∷ []))
-
-  others_long : length others ≡ end
-  others_long =
-      let all = ap length slots_end_in in
-      let long = length-queue m (slots_wf c h ss hs) in
-      let sum = length-append others (slot ends.1.size (Some ends.1.header) ∷ []) in
-      omega arith
-
-  size_is : ends.1.size ≡ last.size
-  size_is =
-      let found = sym (ap₂ slice_get slots_end_in (sym others_long) ∙ slice_get_end others (slot ends.1.size (Some ends.1.header))) ∙ end_is in
-      ap (λ x. x.size) (cond_some true _ _ found).1
-
-  -- the slots once its slot is written
-  slots_are_written : slot_ring h2 written ≡ with_elements m (storage_index m end) (slot (last.size - k) (Some tt) ∷ [])
-  slots_are_written =
-      let x = packet_slot (last.size - k) in
-      let i = last_slot_index h ss in
-      ap₂ (λ (l : List (PacketMetadata ⊤)) (p : RingHead). ring_at l p)
-      (map-set metadata ss i x ∙ set_is (map metadata ss) i (metadata x) ∙ ap (λ (j : ℕ). overwrite (map metadata ss) j (metadata x ∷ [])) (sym end_at)) slots
-
-  end_in : end + 1 ≤ m.count
-  end_in = omega (arith, can.0)
-
-  slots_left : queue (slot_ring h2 written) ≡ packet_slots (ends.0 ++ (packet ends.1.header (last.size - k) ends.1.gap ∷ []))
-  slots_left =
-      let wf = slots_wf c h ss hs in
-      let x = slot (last.size - k) (Some tt) in
-      let z = slot ends.1.size (Some ends.1.header) in
-      let within : last_slot_index h ss < length ss = slice_get_within ss (last_slot_index h ss) last at in
-      let long = length-map ss metadata in
-      let write = queue_law m wf end (storage_index m end) (x ∷ []) end_in (omega (arith, end_at)) (storage_index_is m end) in
-      let over : overwrite (others ++ ((z ∷ []) ++ [])) end (x ∷ []) ≡ others ++ ((x ∷ []) ++ []) =
-      overwrite_at others (z ∷ []) [] (x ∷ []) end others_long refl in
-      ap queue slots_are_written ∙ write.0 ∙ ap (λ l. overwrite l end (x ∷ [])) slots_end_in ∙ over
-      ∙ append_assoc (packet_slots ends.0) (gap_slot ends.1.gap) (x ∷ [])
-      ∙ sym (slots_append ends.0 (packet ends.1.header (last.size - k) ends.1.gap))
-
-  pub shortened : (xs : List ℕ) → length xs ≡ c → AreSoundParts h2 (map metadata written) xs
-      × (queue_of h2 written xs ≡ with_last_size (last.size - k) (queue_of h ss xs))
-  shortened xs e =
-      let q = queue_of h ss xs in
-      let all = represented c h ss hs xs e in
-      let ok = well_placed m (ring_at xs h.bytes) all q refl in
-      let j = last.size - k in
-      let le : j ≤ ends.1.size = omega (arith, size_is) in
-      let is = shorter_is q ok ends.0 ends.1 ends.2 j le in
-      let used = shorter_bytes q ok ends.0 ends.1 ends.2 j le in
-      let wf = subst IsWellFormed (sym slots_are_written) (written_wf m (slots_wf c h ss hs) (storage_index m end) (slot j (Some tt) ∷ [])) in
-      let count : h.bytes.length - k ≡ bytes_used (ends.0 ++ (packet ends.1.header j ends.1.gap ∷ [])) = omega (arith, size_is, hs.2, can.2, can.3) in
-      let left = held (with_last_size j q) (shorter_well q ok ends.0 ends.1 ends.2 j le) (slot_ring h2 written) wf
-      (slots_left ∙ ap (λ o. packet_slots o.packets) (sym is)) (ring_at xs h2.bytes)
-      (ap (ring_at xs) bytes ∙ ap (λ (n : ℕ). ring xs h.bytes.read_at n) count ∙ ap byte_ring (sym is)) in
-      let long = length-map written metadata ∙ length-set ss (last_slot_index h ss) (packet_slot j) ∙ sym (length-map ss metadata) in
-      (left.0, left.1 long)
-
--- as clauses say it
 module _ (h : PacketsHead) (last : PacketSlot) (k : ℕ) (can : CanShorten h last k) (new : PacketSlot) (is : new ≡ packet_slot (last.size - k))
     (h2 : PacketsHead) (slots : h2.slots ≡ h.slots) (bytes : h2.bytes ≡ place h.bytes.read_at (h.bytes.length - k)) (c : ℕ)
     (ss : List PacketSlot) where
+  last_left : HasSoundSlots c h ss → slice_get ss (last_slot_index h ss) ≡ Some last → (xs : List ℕ) → length xs ≡ c
+      → IsQueue h2 (map metadata (set ss (last_slot_index h ss) new)) xs (with_last_size (last.size - k) (queue_of h ss xs))
+  last_left hs at xs e =
+      let i = last_slot_index h ss in
+      let same : index_after (length (map metadata ss)) h.slots.read_at (h.slots.length - 1) ≡ i =
+      ap (λ (n : ℕ). index_after n h.slots.read_at (h.slots.length - 1)) (length-map ss metadata) in
+      let found = ap (slice_get (map metadata ss)) same ∙ slice_get-map metadata ss i ∙ ap (option_map metadata) at in
+      shortened (represented c h ss hs xs e) can.0 (metadata last) found k can.3 h2 slots bytes _
+      (ap (λ x. map metadata (set ss i x)) is ∙ map-set metadata ss i (packet_slot (last.size - k))
+      ∙ ap (λ (j : ℕ). set (map metadata ss) j (slot (last.size - k) (Some tt))) (sym same))
+
   pub last_shortened : (xs : List ℕ) → length xs ≡ c → HasSoundSlots c h ss → slice_get ss (last_slot_index h ss) ≡ Some last
       → queue_of h2 (set ss (last_slot_index h ss) new) xs ≡ with_last_size (last.size - k) (queue_of h ss xs)
-  last_shortened xs e hs at =
-      ap (λ x. queue_of h2 (set ss (last_slot_index h ss) x) xs) is ∙ (shortened c h ss hs last k can at h2 slots bytes xs e).1
+  last_shortened xs e hs at = (last_left hs at xs e).seen
 
   pub sound_shortened : HasSoundSlots c h ss → slice_get ss (last_slot_index h ss) ≡ Some last
       → HasSoundSlots c h2 (set ss (last_slot_index h ss) new)
-  sound_shortened hs at =
-      let i = last_slot_index h ss in
-      subst (λ (x : PacketSlot). HasSoundSlots c h2 (set ss i x)) (sym is)
-      (sound_over c h2 (set ss i (packet_slot (last.size - k))) (λ xs ec. (shortened c h ss hs last k can at h2 slots bytes xs ec).0))
+  sound_shortened hs at = sound_over c h2 (set ss (last_slot_index h ss) new) (λ xs e. (last_left hs at xs e).sound)
 
 -- ---- a packet comes last
 -- the slots that are written are those of a queue whose headers are `tt`
@@ -301,51 +166,38 @@ written_as p s ss =
     gap_as true = refl
     gap_as false = map-set metadata ss p.gap_slot (record { size = p.gap; is_gap = 1 })
 
-module _ (c : ℕ) (h : PacketsHead) (ss : List PacketSlot) (hs : HasSoundSlots c h ss) (gap s : ℕ)
-    (e : placement_in (length ss) c h s ≡ Some gap) where
-  abbrev p : PacketPlace
-  p = place_after_gap (length ss) c h gap
-
-  abbrev h2 : PacketsHead
-  h2 = with_packet_placed gap s h
-
-  abbrev filled : List PacketSlot
-  filled = slots_written p s ss
-
-  pub enqueued : (xs : List ℕ) → length xs ≡ c → AreSoundParts h2 (map metadata filled) xs
-      × (queue_of h2 filled xs ≡ with_packet_if_room (queue_of h ss xs) s tt)
-  enqueued xs ec =
-      let at = place_in h (map metadata ss) xs (represented c h ss hs xs ec) (queue_of h ss xs) refl (length ss) c (sym (length-map ss metadata)) (sym ec) s
-      p e (refl, refl) refl in
-      let wrote = written_as p s ss in (
-        placed_sound at s (omega arith) tt h2 refl refl (map metadata filled) wrote,
-        placed_as at s (omega arith) tt h2 refl refl (map metadata filled) wrote ∙ placed_is at tt,
-      )
-
 -- as clauses say it
-module _ (c : ℕ) (h : PacketsHead) (ss : List PacketSlot) (s : ℕ) (p : PacketPlace) (placed : placement_in (length ss) c h s ≡ Some p.gap)
+module _ (c : ℕ) (h : PacketsHead) (ss : List PacketSlot) (s : ℕ) (p : PacketPlace) (gap : placement_in (length ss) c h s ≡ Some p.gap)
     (at : p ≡ place_after_gap (length ss) c h p.gap) (h2 : PacketsHead) (is : h2 ≡ with_packet_placed p.gap s h) (ss2 : List PacketSlot)
     (wrote : ss2 ≡ slots_written p s ss) where
+  packet_left : HasSoundSlots c h ss → (xs : List ℕ) → length xs ≡ c → IsQueue h2 (map metadata ss2) xs (with_packet_if_room (queue_of h ss xs) s tt)
+  packet_left hs xs e =
+      let there : IsPlaceIn h (map metadata ss) xs (queue_of h ss xs) (length ss) c s p = record {
+        queue = represented c h ss hs xs e;
+        slot_count = sym (length-map ss metadata);
+        capacity = sym e;
+        gap = gap;
+        slots = (ap (λ o. o.gap_slot) at, ap (λ o. o.slot) at);
+        from = ap (λ o. o.from) at;
+      } in
+      subst (IsQueue h2 (map metadata ss2) xs) (placed_is there tt)
+      (placed there s (omega arith) tt h2 (ap (λ (o : PacketsHead). o.slots) is) (ap (λ (o : PacketsHead). o.bytes) is) (map metadata ss2)
+      (ap (map metadata) wrote ∙ written_as p s ss))
+
   pub packet_enqueued : (xs : List ℕ) → length xs ≡ c → HasSoundSlots c h ss
       → queue_of h2 ss2 xs ≡ with_packet_if_room (queue_of h ss xs) s tt
-  packet_enqueued xs e hs =
-      ap₂ (λ (k : PacketsHead) (l : List PacketSlot). queue_of k l xs) is (wrote ∙ ap (λ o. slots_written o s ss) at)
-      ∙ (enqueued c h ss hs p.gap s placed xs e).1
+  packet_enqueued xs e hs = (packet_left hs xs e).seen
 
   pub sound_enqueued : HasSoundSlots c h ss → HasSoundSlots c h2 ss2
-  sound_enqueued hs =
-      let o = place_after_gap (length ss) c h p.gap in
-      subst (λ (k : PacketsHead). HasSoundSlots c k ss2) (sym is)
-      (subst (λ (l : List PacketSlot). HasSoundSlots c (with_packet_placed p.gap s h) l) (sym (wrote ∙ ap (λ o. slots_written o s ss) at))
-      (sound_over c (with_packet_placed p.gap s h) (slots_written o s ss) (λ xs ec. (enqueued c h ss hs p.gap s placed xs ec).0)))
+  sound_enqueued hs = sound_over c h2 ss2 (λ xs e. (packet_left hs xs e).sound)
 
 -- where none is placed
 pub none_enqueued : (c : ℕ) (h : PacketsHead) (ss : List PacketSlot) (s : ℕ) → placement_in (length ss) c h s ≡ None → (xs : List ℕ) → length xs ≡ c
     → HasSoundSlots c h ss → queue_of h ss xs ≡ with_packet_if_room (queue_of h ss xs) s tt
 none_enqueued c h ss s none xs e hs =
     let q = queue_of h ss xs in
-    sym (ap (λ o. with_packet_if q o s tt) (no_place h (map metadata ss) xs (represented c h ss hs xs e) q refl (length ss) c (sym (length-map ss metadata))
-    (sym e) s none))
+    let is = placement_is (represented c h ss hs xs e) (length ss) c (sym (length-map ss metadata)) (sym e) s in
+    sym (ap (λ o. with_packet_if q o s tt) (sym is ∙ none))
 
 -- ---- the first packet leaves
 -- what two steps that both succeed say of it
@@ -375,107 +227,90 @@ module _ (c : ℕ) (h : PacketsHead) (ss : List PacketSlot) (hs : HasSoundSlots 
   abbrev k : PacketsHead
   k = head_after_gap c h ss
 
-  pub first_at : slice_get ss h.slots.read_at ≡ Some s
-  first_at = slice_get-get_or ss h.slots.read_at (packet_slot 0) (omega (arith, hs.0.0))
+  slot_at_index : slice_get ss h.slots.read_at ≡ Some s
+  slot_at_index = slice_get-get_or ss h.slots.read_at (packet_slot 0) (omega (arith, hs.0.0))
 
   -- the head and the queue without the gap
-  pub skipped : HasSoundSlots c k ss × ((xs : List ℕ) → length xs ≡ c → queue_of k ss xs ≡ without_gap (queue_of h ss xs))
-  skipped = elim (kind_of s) [
-    | inl a ↦
-        let is : k ≡ h = cond-true (nat_eq s.is_gap 0) h (with_slot_taken (length ss) c s.size h) a.2 in
-        let first = first_is c h ss hs s some first_at ∙ ap (λ x. x ∷ drop 1 (queue (slot_ring h ss))) a.1 in (
-          subst (λ (o : PacketsHead). HasSoundSlots c o ss) (sym is) hs,
-          λ xs e. (
-              let q = queue_of h ss xs in
-              let z : first_gap q.packets ≡ 0 = ap (λ l. first_gap (packets_in 0 l)) first in
-              let same = ap₂ (λ (r : ℕ) (ps : List (Packet ⊤)). mk q.slot_count xs r ps)
-              (ap (index_after (length xs) h.bytes.read_at) z ∙ place_zero (length xs) h.bytes.read_at
-              (subst (λ (n : ℕ). (h.bytes.read_at ≡ 0) ⊎ (h.bytes.read_at < n)) (sym e) hs.0.1.0)) (no_gap q.packets z) in
-              ap (λ o. queue_of o ss xs) is ∙ sym same),
-        )
-    | inr a ↦
-        let is : k ≡ with_slot_taken (length ss) c s.size h = cond-false (nat_eq s.is_gap 0) h (with_slot_taken (length ss) c s.size h) a.2 in
-        let can = can c h ss hs s some first_at in (
-          sound_taken (length ss) c h s can k is ss refl hs first_at,
-          λ xs e.
-              first_taken (length ss) c h s can k is ss xs refl e hs first_at
-              ∙ cond-false (nat_eq s.is_gap 0) (without_first (queue_of h ss xs)) (without_gap (queue_of h ss xs)) a.2,
-        )
+  gap_skipped : (xs : List ℕ) → length xs ≡ c → IsQueue k (map metadata ss) xs (without_gap (queue_of h ss xs))
+  gap_skipped xs e = elim (first_kind c h ss hs s some slot_at_index xs e) [
+    | inl f ↦
+        let is : k ≡ h = cond-true (nat_eq s.is_gap 0) h (with_slot_taken (length ss) c s.size h) f.1 in
+        let q = queue_of h ss xs in
+        let same = ap₂ (λ (r : ℕ) (ps : List (Packet ⊤)). mk q.slot_count xs r ps)
+        (ap (index_after (length xs) h.bytes.read_at) f.2.no_gap ∙ place_zero (length xs) h.bytes.read_at f.2.queue.sound.1.0)
+        (no_gap q.packets f.2.no_gap) in
+        subst (λ (o : PacketsHead). IsQueue o (map metadata ss) xs (without_gap q)) (sym is)
+        (subst (IsQueue h (map metadata ss) xs) (sym same) (represented c h ss hs xs e))
+    | inr f ↦
+        let is : k ≡ with_slot_taken (length ss) c s.size h = cond-false (nat_eq s.is_gap 0) h (with_slot_taken (length ss) c s.size h) f.1 in
+        subst (IsQueue k (map metadata ss) xs)
+        (cond-false (nat_eq s.is_gap 0) (without_first (queue_of h ss xs)) (without_gap (queue_of h ss xs)) f.1)
+        (slot_taken c h ss hs s some slot_at_index (length ss) refl k is xs e)
   ]
+
+  sound_skipped : HasSoundSlots c k ss
+  sound_skipped = sound_over c k ss (λ xs e. (gap_skipped xs e).sound)
 
   -- it is not yet the end
   some_left : 1 ≤ k.slots.length
   some_left =
       let xs = replicate c 0 in
-      let ec = length-replicate c 0 in
-      let q = queue_of h ss xs in
-      let before = count_is (slot_ring h ss) (ring_at xs h.bytes) q.packets (represented c h ss hs xs ec) in
-      let after = count_is (slot_ring k ss) (ring_at xs k.bytes) (queue_of k ss xs).packets (represented c k ss skipped.0 xs ec) in
-      let is = ap (λ o. slots_used o.packets) (skipped.1 xs ec) in
-      let left = used_skip q.packets (omega arith) in
+      let e = length-replicate c 0 in
+      let before = slots_count (some_bytes c h ss hs) in
+      let after = slots_count (gap_skipped xs e) in
+      let left = used_skip (queue_of h ss xs).packets (omega arith) in
       omega (arith, after)
 
   abbrev s2 : PacketSlot
   s2 = first_slot k ss
 
   second_at : slice_get ss k.slots.read_at ≡ Some s2
-  second_at = slice_get-get_or ss k.slots.read_at (packet_slot 0) (omega (arith, skipped.0.0.0, some_left))
+  second_at = slice_get-get_or ss k.slots.read_at (packet_slot 0) (omega (arith, sound_skipped.0.0, some_left))
 
-  second_first : (xs : List ℕ) → length xs ≡ c → first_gap (queue_of k ss xs).packets ≡ 0
-  second_first xs e = ap (λ o. first_gap o.packets) (skipped.1 xs e) ∙ close_gap (queue_of h ss xs).packets
-
-  second_kind : (s2.is_gap ≡ 0) × (metadata s2 ≡ slot s2.size (Some tt)) × (nat_eq s2.is_gap 0 ≡ true)
-  second_kind = elim (kind_of s2) [
-    | inl a ↦ a
-    | inr a ↦
-        let ms = queue (slot_ring k ss) in
-        let gap = gap_of (packets_in 0 ms) s2.size (drop 1 ms)
-        (sym (sym skipped.0.1 ∙ first_is c k ss skipped.0 s2 some_left second_at ∙ ap (λ x. x ∷ drop 1 ms) a.1)) in
-        let none = second_first (replicate c 0) (length-replicate c 0) in
-        absurd (omega arith)
+  second_is : (xs : List ℕ) → length xs ≡ c
+      → (s2.is_gap ≡ 0) × (nat_eq s2.is_gap 0 ≡ true) × IsFirstIn k (map metadata ss) xs (queue_of k ss xs) s2.size tt
+  second_is xs e = elim (first_kind c k ss sound_skipped s2 some_left second_at xs e) [
+    | inl f ↦ f
+    | inr f ↦
+        let none = ap (λ o. first_gap o.packets) (gap_skipped xs e).seen ∙ close_gap (queue_of h ss xs).packets in
+        absurd (omega (arith, f.2, f.3))
   ]
 
   pub has_first : HasFirst c h ss
-  has_first = (λ n. can c h ss hs s some first_at, second_kind.0, can c k ss skipped.0 s2 some_left second_at)
+  has_first = (
+    λ n. can c h ss hs s some slot_at_index,
+    (second_is (replicate c 0) (length-replicate c 0)).0,
+    can c k ss sound_skipped s2 some_left second_at,
+  )
 
-  abbrev left_head : PacketsHead
-  left_head = head_after_first c h ss
+  first_left : (xs : List ℕ) → length xs ≡ c
+      → IsQueue (head_after_first c h ss) (map metadata ss) xs (without_first_and_gap (queue_of h ss xs))
+  first_left xs e =
+      subst (IsQueue (head_after_first c h ss) (map metadata ss) xs)
+      (cond-true (nat_eq s2.is_gap 0) (without_first (queue_of k ss xs)) (without_gap (queue_of k ss xs)) (second_is xs e).1
+      ∙ ap without_first (gap_skipped xs e).seen)
+      (slot_taken c k ss sound_skipped s2 some_left second_at (length ss) refl (head_after_first c h ss) refl xs e)
 
-  pub sound_first : HasSoundSlots c left_head ss
-  sound_first = sound_taken (length ss) c k s2 has_first.2 left_head refl ss refl skipped.0 second_at
-
-  module _ (xs : List ℕ) (e : length xs ≡ c) where
-    pub first_left : queue_of left_head ss xs ≡ without_first_and_gap (queue_of h ss xs)
-    first_left =
-        first_taken (length ss) c k s2 has_first.2 left_head refl ss xs refl e skipped.0 second_at
-        ∙ cond-true (nat_eq s2.is_gap 0) (without_first (queue_of k ss xs)) (without_gap (queue_of k ss xs)) second_kind.2
-        ∙ ap without_first (skipped.1 xs e)
-
-    pub first_parts : IsFirstAt (queue_of h ss xs) (first_packet c h ss)
-    first_parts =
-        let q = queue_of h ss xs in
-        let left = skipped.1 xs e in
-        let ms = queue (slot_ring h ss) in
-        let gap : (first_packet c h ss).gap ≡ first_gap q.packets = elim (kind_of s) [
-          | inl a ↦
-              cond-true (nat_eq s.is_gap 0) 0 s.size a.2
-              ∙ sym (ap (λ l. first_gap (packets_in 0 l)) (first_is c h ss hs s some first_at ∙ ap (λ x. x ∷ drop 1 ms) a.1))
-          | inr a ↦
-              cond-false (nat_eq s.is_gap 0) 0 s.size a.2
-              ∙ sym (gap_of q.packets s.size (drop 1 ms) (sym (sym hs.1 ∙ first_is c h ss hs s some first_at ∙ ap (λ x. x ∷ drop 1 ms) a.1))).0
-        ] in
-        let ns = queue (slot_ring k ss) in
-        let size : s2.size ≡ first_size (queue_of k ss xs).packets =
-        sym (ap (λ l. first_size (packets_in 0 l)) (first_is c k ss skipped.0 s2 some_left second_at ∙ ap (λ x. x ∷ drop 1 ns) second_kind.1)) in
-        (gap, ap (λ o. o.read_at) left, size ∙ ap (λ o. first_size o.packets) left ∙ skip_size q.packets)
+  first_parts : (xs : List ℕ) → length xs ≡ c → IsFirstAt (queue_of h ss xs) (first_packet c h ss)
+  first_parts xs e =
+      let q = queue_of h ss xs in
+      let left = (gap_skipped xs e).seen in
+      let gap : (first_packet c h ss).gap ≡ first_gap q.packets = elim (first_kind c h ss hs s some slot_at_index xs e) [
+        | inl f ↦ cond-true (nat_eq s.is_gap 0) 0 s.size f.1 ∙ sym f.2.no_gap
+        | inr f ↦ cond-false (nat_eq s.is_gap 0) 0 s.size f.1 ∙ sym f.2
+      ] in
+      let size = sym (ap first_size (sized (second_is xs e).2)) in
+      (gap, ap (λ o. o.read_at) left, size ∙ ap (λ o. first_size o.packets) left ∙ skip_size q.packets)
 
 -- as clauses say it
 module _ (c : ℕ) (h : PacketsHead) (ss : List PacketSlot) (some : 1 ≤ h.slots.length) (new : PacketsHead) (is : new ≡ head_after_first c h ss) where
   pub packet_dequeued : (xs : List ℕ) → length xs ≡ c → HasSoundSlots c h ss → queue_of new ss xs ≡ without_first_and_gap (queue_of h ss xs)
-  packet_dequeued xs e hs = ap (λ o. queue_of o ss xs) is ∙ first_left c h ss hs some xs e
+  packet_dequeued xs e hs = ap (λ o. queue_of o ss xs) is ∙ (first_left c h ss hs some xs e).seen
 
   pub sound_dequeued : HasSoundSlots c h ss → HasSoundSlots c new ss
-  sound_dequeued hs = subst (λ (o : PacketsHead). HasSoundSlots c o ss) (sym is) (sound_first c h ss hs some)
+  sound_dequeued hs =
+      subst (λ (o : PacketsHead). HasSoundSlots c o ss) (sym is)
+      (sound_over c (head_after_first c h ss) ss (λ xs e. (first_left c h ss hs some xs e).sound))
 
 pub shown_first : (c : ℕ) (h : PacketsHead) (ss : List PacketSlot) → 1 ≤ h.slots.length → (p : FirstPacket) → p ≡ first_packet c h ss
     → (xs : List ℕ) → length xs ≡ c → HasSoundSlots c h ss → IsFirstAt (queue_of h ss xs) p

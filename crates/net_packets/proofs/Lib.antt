@@ -3,6 +3,4 @@ mod HeadParts
 mod HeadQueue
 pub mod PacketOrder
 pub mod PacketRuns
-mod LendInside
-mod ResultParts
-mod WalkedQueue
+mod QueueWalks

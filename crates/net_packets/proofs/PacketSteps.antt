@@ -12,7 +12,7 @@ use Rattle.std.specs.Prelude.{Option, true, filter, is_some}
 use Rattle.std.specs.declared.option.Option.TheVariants.{Some, None}
 use Rattle.net_ring.specs.Ring.{RingState, index_after, capacity, window, queue, write_at, IsWellFormed}
 use Rattle.net_ring.specs.Ring.{Enqueues, with_enqueued, with_dequeued, with_elements}
-use Rattle.net_ring.specs.Ring.{contiguous_window, ring, storage_index, rewind_if_empty, queue_index}
+use Rattle.net_ring.specs.Ring.{contiguous_window, ring, rewind_if_empty}
 use Rattle.net_ring.specs.RingHead.{place, rewound, contiguous_free}
 use Rattle.net_ring.specs.declared.head.RingHead.{RingHead}
 use Rattle.net_packets.specs.Packets.{Packet, packet, bytes_used, slots_used, slots_for, IsPlaced}
@@ -23,8 +23,8 @@ use Rattle.net_packets.specs.Packets.{with_first_size, first_gap, first_size, wi
 use Rattle.net_packets.specs.Packets.{without_gap, IsFirstSized, with_first_header, with_first_bytes}
 use Rattle.net_packets.specs.Packets.{without_first, IsWellPlaced, with_bytes}
 use Rattle.net_packets.specs.PacketsHead.{packets_head, placement_in}
-use Rattle.net_packets.specs.PacketSlots.{slot, gap_slot, packet_slots, packets_in, Represents}
-use Rattle.net_packets.specs.PacketSlots.{packets_state}
+use Rattle.net_packets.specs.PacketsHead.{slot, gap_slot, packet_slots, packets_in, Represents}
+use Rattle.net_packets.specs.PacketsHead.{packets_state}
 use Rattle.net_packets.specs.declared.packet_metadata.PacketMetadata.{PacketMetadata}
 use Rattle.net_ring.proofs.RingFacts.{rewound_ring, rewind_cases, rewind_wf, rewound_is}
 use Rattle.net_ring.proofs.Rotations.{length-queue, length-overwrite, with_dequeued_parts}
@@ -185,9 +185,6 @@ module _ {H : Type 0} where
     pub count_is : m.count ≡ slots_used ps
     count_is = sym (length-queue m h.0) ∙ ap length h.2 ∙ length-slots ps
 
-    pub empty_is : (m.count == 0) ≡ (length ps == 0)
-    empty_is = let n = count_is in let some = slots_pos ps in grind (arith, nat_tests)
-
   -- ---- a slot more
   pub gap_slot_one : (gap : ℕ) → 0 < gap → gap_slot {H = H} gap ≡ slot gap None ∷ []
   gap_slot_one zero p = absurd (omega arith)
@@ -207,11 +204,8 @@ pushed_slot g h w wf some e q =
     (q.0, (elim wf.0 [ inl z ↦ inl (r ∙ z) | inr l ↦ inr (omega arith) ], omega arith), omega arith, cap)
 
 -- and after the first one was taken off as it is
-pub off_wf : {T : Type 0} (g : RingState T) (x : T) (xs : List T) → IsWellFormed g → queue g ≡ x ∷ xs → IsWellFormed (with_dequeued 1 g)
-off_wf g x xs wf e =
-    let long = length-queue g wf in
-    let n = ap length e in
-    (place_wf (capacity g) g.read_at 1 wf.0 (omega (arith, wf.1)), omega (arith, wf.1))
+pub off_wf : {T : Type 0} (g : RingState T) → IsWellFormed g → 1 ≤ g.count → IsWellFormed (with_dequeued 1 g)
+off_wf g wf some = (place_wf (capacity g) g.read_at 1 wf.0 (omega (arith, wf.1)), omega (arith, wf.1))
 
 -- ---- where a packet is placed
 -- the head of the queue q places a packet where q does
@@ -429,6 +423,32 @@ module _ {H : Type 0} where
         let at = ap (index_after (length q.storage) q.read_at) z in
         (all.0, omega (arith, all.1))
 
+  -- it becomes shorter
+  shrunk : (c r o j : ℕ) (ps : List (Packet H)) (p : Packet H) → j ≤ p.size → ArePlaced c r o (ps ++ (p ∷ [])) →
+      ArePlaced c r o (ps ++ (packet p.header j p.gap ∷ []))
+  shrunk c r o j [] p le a = ((omega (arith, a.0.0), a.0.1), tt)
+  shrunk c r o j (q ∷ ps) p le a = (a.0, shrunk c r (o + q.gap + q.size) j ps p le a.1)
+
+  module _ (q : PacketsState H) (ok : IsWellPlaced q) (ps : List (Packet H)) (p : Packet H) (is : q.packets ≡ ps ++ (p ∷ []))
+      (j : ℕ) (le : j ≤ p.size) where
+    pub shorter_is : with_last_size j q ≡ mk q.slot_count q.storage q.read_at (ps ++ (packet p.header j p.gap ∷ []))
+    shorter_is =
+        ap (λ l. mk q.slot_count q.storage q.read_at (before_last l ++ with_first_size j (only_last l))) is
+        ∙ ap₂ (λ (before back : List (Packet H)). mk q.slot_count q.storage q.read_at (before ++ with_first_size j back))
+        (before_append ps p) (last_append ps p)
+
+    pub shorter_bytes : bytes_used (ps ++ (packet p.header j p.gap ∷ [])) + (p.size - j) ≡ bytes_used q.packets
+    shorter_bytes = omega (arith, bytes_append ps p, bytes_append ps (packet p.header j p.gap), ap bytes_used is)
+
+    pub shorter_well : IsWellPlaced (with_last_size j q)
+    shorter_well =
+        let bytes = shorter_bytes in
+        let one = slots_of_append ps p in
+        let two = slots_of_append ps (packet p.header j p.gap) in
+        let all = ap slots_used is in
+        let placed = shrunk (length q.storage) q.read_at 0 j ps p le (subst (ArePlaced (length q.storage) q.read_at 0) is ok.1) in
+        subst IsWellPlaced (sym shorter_is) ((ok.0.0, omega (arith, ok.0.1)), placed, omega (arith, ok.2))
+
   -- ---- the gap before the first packet goes
   pub skipped_well : (q : PacketsState H) → IsWellPlaced q → IsWellPlaced (without_gap q)
   skipped_well q ok = go q.packets ok
@@ -469,7 +489,7 @@ module _ {H : Type 0} where
         let all = slots_are m b h q is ∙ skipped_slots q.packets (omega (arith, size)) in
         let many : 1 ≤ m.count = omega (arith, length-queue m h.0, ap length all) in
         let slots = ap queue off ∙ (with_dequeued_parts m h.0 1 many).0 ∙ ap (drop 1) all in
-        let wfm = subst IsWellFormed (sym off) (off_wf m _ _ h.0 all) in
+        let wfm = subst IsWellFormed (sym off) (off_wf m h.0 many) in
         held (without_gap q) (skipped_well q (well_placed m b h q is)) m2 wfm slots b2
         (dequeued ∙ ap₂ with_dequeued size (bytes_are m b h q is) ∙ skipped_ring q)
 
@@ -572,28 +592,23 @@ module _ {H : Type 0} where
     size : first_size q.packets ≡ s
     size = ap first_size is_first.0
 
-    head_at : queue_index b 0 ≡ q.read_at
-    head_at =
-        let n : min 0 b.count ≡ 0 = omega arith in
-        ap (storage_index b) n ∙ ap (λ o. storage_index o 0) bytes ∙ place_zero (length q.storage) q.read_at ok.0.0
-
     module _ (m2 : RingState (PacketMetadata H)) (wfm : IsWellFormed m2) (b2 : RingState ℕ) where
       pub take_left : queue m2 ≡ drop 1 (queue m) → b2 ≡ with_dequeued s b
           → Represents m2 b2 (packets_in 0 (queue m2)) × (capacity m2 ≡ q.slot_count → packets_state m2 b2 ≡ without_first q)
       take_left em after = popped q ok z m2 wfm (em ∙ is_first.1) b2 (after ∙ ap₂ with_dequeued (sym size) bytes)
 
       module _ (ws : List ℕ) (new : H) where
-        over_is : with_elements b (queue_index b 0) ws ≡ byte_ring (with_first_bytes q new ws)
-        over_is = ap₂ (λ (o : RingState ℕ) (p : ℕ). with_elements o p ws) bytes head_at ∙ headed_ring q new ws
+        over_is : with_elements b b.read_at ws ≡ byte_ring (with_first_bytes q new ws)
+        over_is = ap (λ (o : RingState ℕ). with_elements o o.read_at ws) bytes ∙ headed_ring q new ws
 
-        pub off_left : queue m2 ≡ drop 1 (queue m) → b2 ≡ with_dequeued s (with_elements b (queue_index b 0) ws)
+        pub off_left : queue m2 ≡ drop 1 (queue m) → b2 ≡ with_dequeued s (with_elements b b.read_at ws)
             → Represents m2 b2 (packets_in 0 (queue m2)) × (capacity m2 ≡ q.slot_count → packets_state m2 b2 ≡ without_first (with_first_bytes q new ws))
         off_left em after =
             let same = headed new q.packets in
             popped (with_first_bytes q new ws) (headed_well q ok new ws) (same.0 ∙ z) m2 wfm (em ∙ is_first.1 ∙ ap packet_slots (sym same.2)) b2
             (after ∙ ap₂ with_dequeued (sym (same.1 ∙ size)) over_is)
 
-        pub on_left : queue m2 ≡ slot s (Some new) ∷ drop 1 (queue m) → b2 ≡ with_elements b (queue_index b 0) ws
+        pub on_left : queue m2 ≡ slot s (Some new) ∷ drop 1 (queue m) → b2 ≡ with_elements b b.read_at ws
             → Represents m2 b2 (packets_in 0 (queue m2)) × (capacity m2 ≡ q.slot_count → packets_state m2 b2 ≡ with_first_bytes q new ws)
         on_left em after =
             let slots = ap (λ l. packet_slots (with_first_header new l)) is_first.0 ∙ head_slots (drop 1 q.packets) (packet new s (first_gap q.packets)) z in

@@ -1,4 +1,9 @@
--- The numbers of a packet queue apart from its storages: those of its ring of n slots, and of its ring of c bytes.
+-- A queue of packets by the two rings that store it.
+--     slot s h, packet_slots ps, packets_in gap ms      a slot, the slots of packets, and back
+--     Represents m b ps, packets_state m b      two rings represent packets; the queue that they represent
+--     packets_at h ms xs, AreSoundParts h ms xs      the same by a head, slots and bytes
+--     slots_with p s h ms      the slots of a packet of s bytes are written
+-- The numbers of such a queue apart from its storages: those of its ring of n slots, and of its ring of c bytes.
 --     packets_head slots bytes, IsSoundHead n c h      the numbers, and what is true of those of a queue
 --     placement_in n c h s      the gap before a packet of s bytes, if it is not refused
 --     place_after_gap n c h gap      where a packet is placed after a gap
@@ -15,21 +20,78 @@
 --     HasFirst c h ss, first_packet c h ss, head_after_gap c h ss, head_after_first c h ss,
 --         IsFirstAt q p      the first packet
 --     packet_slot s, slots_written p s ss      the slots of a packet of s bytes
-use Rattle.std.specs.Prelude.{ℕ, ◌+◌, ◌-◌, Option, ◌≡◌, ◌≢◌, ◌<◌, ◌≤◌, nat_eq, if◌then◌else◌, List}
-use Rattle.std.specs.Prelude.{◌++◌, ⊤, length, map, set, get_or, slice_get}
-use Rattle.net_ring.specs.RingHead.{IsSound, rewound, contiguous_free, enqueued_place, dequeued_place, ring_at}
-use Rattle.net_ring.specs.Ring.{index_after, RingState, queue}
-use Rattle.net_ring.specs.declared.head.RingHead.{RingHead}
-use Rattle.net_packets.specs.Packets.{gap_for, if_slots, slots_for, PacketsState, bytes_used, ArePlaced}
-use Rattle.net_packets.specs.Packets.{first_gap, first_size, without_gap, without_first}
+use Rattle.std.specs.Prelude.{◌≡◌, ℕ, zero, suc, ◌+◌, List, [], ◌∷◌, ◌++◌, set, nat_eq, if◌then◌else◌}
+use Rattle.std.specs.Prelude.{Option, ◌-◌, ◌≢◌, ◌<◌, ◌≤◌, ⊤, length, map, get_or, slice_get}
+use Rattle.std.specs.declared.option.Option.TheVariants.{Some, None}
+use Rattle.net_ring.specs.Ring.{RingState, capacity, queue, IsWellFormed, index_after}
+use Rattle.net_ring.specs.RingHead.{ring_at, IsSound, rewound, contiguous_free, enqueued_place}
+use Rattle.net_ring.specs.RingHead.{dequeued_place}
+use Rattle.net_packets.specs.Packets.{Packet, PacketsState, packet, bytes_used, ArePlaced, gap_for}
+use Rattle.net_packets.specs.Packets.{if_slots, slots_for, first_gap, first_size, without_gap}
+use Rattle.net_packets.specs.Packets.{without_first}
+use Rattle.net_packets.specs.declared.packet_metadata.PacketMetadata.{PacketMetadata}
 use Rattle.net_packets.specs.declared.head.PacketsHead.{PacketsHead}
 use Rattle.net_packets.specs.declared.head.PacketPlace.{PacketPlace}
-use Rattle.std.specs.declared.option.Option.TheVariants.{Some, None}
-use Rattle.net_packets.specs.PacketSlots.{slot, gap_slot, packet_slots, packets_in, packets_state}
+use Rattle.net_ring.specs.declared.head.RingHead.{RingHead}
 use Rattle.net_packets.specs.declared.head.FirstPacket.{FirstPacket}
-use Rattle.net_packets.specs.declared.packet_metadata.PacketMetadata.{PacketMetadata}
 use Rattle.net_packets.specs.declared.packet_slot.PacketSlot.{PacketSlot}
 
+-- ---- a queue of packets by the two rings that store it
+module _ {H : Type 0} where
+  -- the slot of s bytes with the header h, or with none
+  abbrev pub slot : ℕ → Option H → PacketMetadata H
+  slot s h = record { size = s; header = h }
+
+  -- the slots of a gap: a gap of size 0 has none
+  abbrev pub gap_slot : ℕ → List (PacketMetadata H)
+  gap_slot zero = []
+  gap_slot (suc g) = slot (suc g) None ∷ []
+
+  -- the slots of packets: a gap has one with no header, before that of its packet
+  abbrev pub packet_slots : List (Packet H) → List (PacketMetadata H)
+  packet_slots [] = []
+  packet_slots (p ∷ ps) = gap_slot p.gap ++ (slot p.size (Some p.header) ∷ packet_slots ps)
+
+  -- the packets of slots, after gap bytes of gaps
+  abbrev pub packets_in : ℕ → List (PacketMetadata H) → List (Packet H)
+  packets_in gap [] = []
+  packets_in gap (m ∷ ms) =
+      elim m.header [
+        | None ↦ packets_in (gap + m.size) ms
+        | Some h ↦ packet h m.size gap ∷ packets_in 0 ms
+      ]
+
+  -- the rings represent these packets
+  abbrev pub Represents : RingState (PacketMetadata H) → RingState ℕ → List (Packet H) → Type 0
+  Represents m b ps =
+      IsWellFormed m × IsWellFormed b × (queue m ≡ packet_slots ps) × (b.count ≡ bytes_used ps)
+      × ArePlaced (capacity b) b.read_at 0 ps
+
+  -- the queue that the two rings represent
+  abbrev pub packets_state : RingState (PacketMetadata H) → RingState ℕ → PacketsState H
+  packets_state m b =
+      record {
+        slot_count = capacity m;
+        storage = b.storage;
+        read_at = b.read_at;
+        packets = packets_in 0 (queue m);
+      }
+
+  -- the queue that a head, slots and bytes represent
+  abbrev pub packets_at : PacketsHead → List (PacketMetadata H) → List ℕ → PacketsState H
+  packets_at h ms xs = packets_state (ring_at ms h.slots) (ring_at xs h.bytes)
+
+  -- they represent one
+  abbrev pub AreSoundParts : PacketsHead → List (PacketMetadata H) → List ℕ → Type 0
+  AreSoundParts h ms xs =
+      Represents (ring_at ms h.slots) (ring_at xs h.bytes) (packets_in 0 (queue (ring_at ms h.slots)))
+
+  -- the slots with those of a packet of s bytes with the header h, and of its gap, at their places
+  abbrev pub slots_with : PacketPlace → ℕ → H → List (PacketMetadata H) → List (PacketMetadata H)
+  slots_with p s h ms =
+      set (if nat_eq p.gap 0 then ms else set ms p.gap_slot (slot p.gap None)) p.slot (slot s (Some h))
+
+-- ---- the numbers of a queue
 -- the numbers of the slots, and of the bytes
 abbrev pub packets_head : RingHead → RingHead → PacketsHead
 packets_head slots bytes = record { slots = slots; bytes = bytes }

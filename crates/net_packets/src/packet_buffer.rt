@@ -84,6 +84,7 @@ impl<H, M: Storage<PacketMetadata<H>>, B: Storage<u8>> Model for PacketsOver<H, 
 impl<H, M: Storage<PacketMetadata<H>>, B: Storage<u8>> PacketsOver<H, M, B> {
     /// Returns a queue with no packets over storages of any type. smoltcp has no such call:
     /// [`PacketBuffer::new`] is the one for two [`ManagedSlice`].
+    #[tactic(auto, using(crate::proofs::PacketRuns::no_contents))]
     pub const fn over(slots: M, bytes: B) -> Self
         ensures empty { contents result ≡ [] }
         ensures made { result ≡ no_packets (length (M.elements slots)) (B.elements bytes) }
@@ -126,6 +127,7 @@ impl<H, M: Storage<PacketMetadata<H>>, B: Storage<u8>> PacketsOver<H, M, B> {
     /// assert!(queue.enqueue(2, ()).is_ok());
     /// assert!(queue.is_full());
     /// ```
+    #[tactic(auto, using(crate::proofs::HeadParts::is_full))]
     #[inline]
     pub fn is_full(&self) -> bool
         ensures { result ≡ (self.now.slot_count - slots_used self.now.packets == 0) }
@@ -209,6 +211,7 @@ impl<H, M: Storage<PacketMetadata<H>>, B: Storage<u8>> PacketsOver<H, M, B> {
     /// assert!(queue.enqueue(3, ()).is_ok());
     /// assert_eq!(queue.slots_used(), 1);
     /// ```
+    #[tactic(auto, using(crate::proofs::HeadParts::slots_count))]
     #[inline]
     pub fn slots_used(&self) -> usize
         ensures { result ≡ slots_used self.now.packets }
@@ -254,6 +257,7 @@ impl<H, M: Storage<PacketMetadata<H>>, B: Storage<u8>> PacketsOver<H, M, B> {
     /// queue.reset();
     /// assert!(queue.is_empty());
     /// ```
+    #[tactic(auto, using(crate::proofs::PacketRuns::no_contents))]
     pub fn reset(&mut self)
         ensures empty { contents self.new ≡ [] }
         ensures made { self.new ≡ no_packets self.old.slot_count self.old.storage }

@@ -2,7 +2,6 @@ pub mod Overwrite
 pub mod Managed
 pub mod StorageLaws
 pub mod ManagedLends
-pub mod WholeLends
 pub mod Ring
 pub mod RingLends
 pub mod RingCalls

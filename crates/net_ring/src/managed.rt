@@ -3,7 +3,7 @@ ghost use Rattle.std.specs.Prelude.{◌≡◌, ◌≤◌, ◌<◌, ◌-◌, leng
 ghost use Rattle.std.specs.Prelude.{slice_index_or, Some};
 ghost use Rattle.std.specs.Borrow.{sem, Lends, Array};
 ghost use Rattle.net_ring.specs.{overwrite};
-ghost use Rattle.net_ring.specs.WholeLends.{lends_lent, lends_owned};
+ghost use Rattle.net_ring.specs.ManagedLends.{lends_lent, lends_owned};
 
 use std::ops::IndexMut;
 

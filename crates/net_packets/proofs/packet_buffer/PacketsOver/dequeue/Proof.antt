@@ -1,77 +1,51 @@
 -- `dequeue` takes the first packet off by `take`, and hands on its header and what `last_dequeued_mut` lends.
-use mathlib.Core.Path.{◌≡◌, refl, sym, subst, ap, ap₂, ◌∙◌}
-use mathlib.Core.Logic.{◌≢◌, inl, inr}
-use mathlib.Core.List.{List, [], ◌∷◌, ◌++◌}
-use Prim.Native.Nat.{ℕ, ◌<◌, ◌^◌}
-use lib.ListN.{length, take as take-list, drop as drop-list}
-use lib.Dec.{T, lit<}
-use seplogic.Ra.Ura.{Ura}
-use mir.Syntax.{Fn, named, erased, mut, w8, w64, ty_int, ty_ref}
-use mir.MapTy.{inst_fn}
-use mir.Val.{Val, vint, vptr, vstruct, of_list, has_ty, WT}
-use base.Logic.{SProp, ent, sep, emp, id⊢}
-use base.Fml.{GName, Share, Fml, flft, fres}
-use prog.Wp.{Env, WpFn, Wp, after_seq, at_return}
-use prog.Model.{Model}
-use types.Logic.{Logic, sem}
-use contract.BorrowLft.{◌⊑◌, ⊑_trans, meet_⊑_right}
-use contract.Lifetimes.{Lfts, Shares, AllOutlive}
-use contract.Monad.{fact, fact_i}
-use contract.Running.{Running, MachineTables, tables}
-use types.Kit.{mean, any_q, Post as After, rewrite, frame, ‵, raw, ◌⊛◌, some, later, at_ret, ◌$◌, ◌∵◌, !, qed}
-use types.Kit.{by, move, keep, drop, split, split3, join, fsplit, fsplit3, fjoin, feq_i, fpack, pick}
-use types.Kit.{suffices, use0, use1, use2, use3, await, done}
-use types.Run.{stop, fld, addr, lit, of_opd, no_more, and_then, first, switches_on, exec, returns}
-use types.Run.{returns_within, enter}
-use types.ByLocal.{lands_as, alloc_all, pass_all, free_all, look_at, get, get_in, get_tag, through, sets}
-use types.ByLocal.{sets_last, env}
-use types.Part.{agg, sub, whole}
-use types.Match.{live, vrt, in_variant}
-use denote.Exit.{no}
-use denote.RattleType.{RattleType, Valss, owns}
-use denote.Laws.{Is, shows}
-use denote.Signature.{plain, mut_ref_to}
-use denote.Builtin.{u8, usize}
-use denote.Ref.{MutBor, MutRef, mut_vals, mut_Tells}
-use denote.Plain.{uint_Makes}
-use denote.Param.{layout}
-use denote.Param.Laws.{param_laws}
-use denote.Array.{Array}
-use denote.Slice.{MutSlice, slice_ty, slice_val}
-use denote.Struct.Struct.{within}
-use denote.Struct.Tuple.{Tuple}
-use denote.Struct.Declared as Declared
-use denote.Follow.{follows, follows_by}
-use denote.Steps.{nothing, owned, heard, peeks, only}
-use denote.Triple.Clauses.{Clauses, Ended, lasts}
-use denote.Triple.Entry.{on_entry}
-use denote.Triple.Spec.{Meets, triple_of}
-use denote.Triple.Statement.{Contract}
-use denote.Triple.Table.{framed}
-use denote.Triple.Call.{calls_at}
-use denote.Triple.Walked.{Stays, stay_dropped, walk_of, ends_at, Goes-spent_ref}
-use Rattle.std.proofs.VecSteps.Shapes.{after, front, arm_body}
+use Rattle.net_packets.proofs.QueueWalks.{◌≡◌, refl, sym, subst, ap, ◌∙◌, ◌≢◌, inl, inr, List, [], ◌∷◌, ◌++◌, ℕ}
+use Rattle.net_packets.proofs.QueueWalks.{◌<◌, ◌^◌, length, T, lit<, Ura, Fn, named, w64, inst_fn, Val, vint}
+use Rattle.net_packets.proofs.QueueWalks.{vptr, vstruct, of_list, has_ty, WT, SProp, ent, sep, emp, id⊢, GName}
+use Rattle.net_packets.proofs.QueueWalks.{Share, Fml, flft, fres, Env, WpFn, Wp, after_seq, at_return, Model}
+use Rattle.net_packets.proofs.QueueWalks.{Logic, sem, ◌⊑◌, ⊑_trans, meet_⊑_right, Lfts, Shares, AllOutlive}
+use Rattle.net_packets.proofs.QueueWalks.{fact, fact_i, Running, MachineTables, tables, mean, any_q, After}
+use Rattle.net_packets.proofs.QueueWalks.{rewrite, frame, ‵, raw, ◌⊛◌, some, later, at_ret, ◌$◌, ◌∵◌, !, qed}
+use Rattle.net_packets.proofs.QueueWalks.{by, move, keep, drop, split, split3, join, fsplit, fsplit3, fjoin}
+use Rattle.net_packets.proofs.QueueWalks.{feq_i, fpack, pick, suffices, use0, use1, use2, use3, await, done}
+use Rattle.net_packets.proofs.QueueWalks.{stop, fld, addr, lit, of_opd, no_more, and_then, first, switches_on}
+use Rattle.net_packets.proofs.QueueWalks.{exec, returns, returns_within, enter, lands_as, alloc_all, pass_all}
+use Rattle.net_packets.proofs.QueueWalks.{free_all, look_at, get, get_tag, through, sets, env, agg, whole, live}
+use Rattle.net_packets.proofs.QueueWalks.{vrt, no, RattleType, Valss, owns, Is, shows, plain, mut_ref_to, u8}
+use Rattle.net_packets.proofs.QueueWalks.{usize, MutBor, MutRef, mut_vals, mut_Tells, uint_Makes, layout}
+use Rattle.net_packets.proofs.QueueWalks.{param_laws, Array, MutSlice, slice_val, within, Tuple, follows}
+use Rattle.net_packets.proofs.QueueWalks.{follows_by, nothing, owned, heard, peeks, only, Clauses, Ended, lasts}
+use Rattle.net_packets.proofs.QueueWalks.{on_entry, Meets, triple_of, Contract, framed, calls_at, Stays}
+use Rattle.net_packets.proofs.QueueWalks.{stay_dropped, walk_of, ends_at, Goes-spent_ref, after, front}
+use Rattle.net_packets.proofs.QueueWalks.{arm_body, ok_of, err_of, Ok, Err, IsErr, OnOk, OnErr, ◌↔◌, lent, Back}
+use Rattle.net_packets.proofs.QueueWalks.{lends_inside, comes_inside, no_fields, alone, ok_or_err, ok_had}
+use Rattle.net_packets.proofs.QueueWalks.{err_had, pair_had, pair_of, pair_val, pair_typed, and_fact, says_all}
+use Rattle.net_packets.proofs.QueueWalks.{Given, args, Header, Self, Q, Live, others, Asked, asked, lives}
+use mathlib.Core.Path.{ap₂}
+use lib.ListN.{take as take-list, drop as drop-list}
+use mir.Syntax.{erased, mut, w8, ty_int, ty_ref}
+use types.ByLocal.{get_in, sets_last}
+use types.Part.{sub}
+use types.Match.{in_variant}
+use denote.Slice.{slice_ty}
 use Rattle.std.proofs.raw_atomic.Walks.{proved}
-use Rattle.std.proofs.ResultValues.{ok_of, err_of, and_tt}
-use Rattle.std.specs.Prelude.{Ok, Err, IsErr, IfOk, OnOk, OnErr, ◌↔◌}
-use Rattle.std.specs.contracts.result.Result as RS
+use Rattle.std.proofs.ResultValues.{and_tt}
+use Rattle.std.specs.Prelude.{IfOk}
 use Rattle.net_packets.specs.Packets.{without_gap, without_first_and_gap, last_dequeued_bytes_index}
 use Rattle.net_packets.specs.Packets.{last_dequeued_bytes, AreLastDequeued, IsFirstSized, IsFirst, first_size}
 use Rattle.net_packets.specs.Packets.{without_first_gap, with_bytes}
-use Rattle.net_ring.specs.contracts.error.Empty as EM
 use Rattle.net_packets.specs.PacketHistory.{contents, Makes, Take as Taken, WriteLastDequeued}
-use Rattle.net_packets.proofs.LendInside.{lent, Back, lends_inside, comes_inside}
-use Rattle.net_packets.proofs.ResultParts.{no_fields, alone, ok_or_err, ok_had, err_had, pair_had, pair_of}
-use Rattle.net_packets.proofs.ResultParts.{pair_val, pair_typed, and_fact, says_all}
-use Rattle.net_packets.proofs.WalkedQueue.{Given, args, Header, Self, Q, Live, others, Asked, asked, lives}
-use Rattle.net_packets.specs.contracts.packet_buffer.PacketsOver.take as take
 use Rattle.net_packets.proofs.packet_buffer.PacketsOver.take.Symbol.{name as #take}
+use Rattle.net_packets.proofs.packet_buffer.PacketsOver.last_dequeued_mut.Symbol.{name as #last_dequeued}
+use Rattle.net_packets.specs.contracts.packet_buffer.PacketsOver.dequeue.Key.{name as #self}
+use denote.Struct.Declared as Declared
+use Rattle.std.specs.contracts.result.Result as RS
+use Rattle.net_ring.specs.contracts.error.Empty as EM
+use Rattle.net_packets.specs.contracts.packet_buffer.PacketsOver.take as take
 use Rattle.net_packets.proofs.packet_buffer.PacketsOver.take.Met as take_met
 use Rattle.net_packets.specs.contracts.packet_buffer.PacketsOver.last_dequeued_mut as last_dequeued
-use Rattle.net_packets.proofs.packet_buffer.PacketsOver.last_dequeued_mut.Symbol.{name as #last_dequeued}
 use Rattle.net_packets.proofs.packet_buffer.PacketsOver.last_dequeued_mut.Met as last_dequeued_met
 use Rattle.net_packets.specs.contracts.packet_buffer.PacketsOver.dequeue as F
-use Rattle.net_packets.specs.contracts.packet_buffer.PacketsOver.dequeue.Key.{name as #self}
 use Rattle.net_packets.proofs.packet_buffer.PacketsOver.dequeue.Statement as stated
 use Rattle.net_packets.proofs.packet_buffer.PacketsOver.dequeue.Code as code
 

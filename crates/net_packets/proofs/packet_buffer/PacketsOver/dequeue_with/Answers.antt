@@ -1,56 +1,102 @@
-use Rattle.std.proofs.Common.{◌≡◌, [], ◌∷◌, List, ℕ, refl, sym, ap, ap₂, ◌∙◌, subst, is_ok, length, rules, arith}
+use Rattle.std.proofs.Common.{◌≡◌, ℕ, List, length, true, false, refl, sym, ap, ap₂, ◌∙◌, subst, is_ok, rules, arith}
 use Rattle.std.proofs.lemmas.Bool.{false≢true}
-use Rattle.std.proofs.lemmas.List.{length-set}
 use Rattle.std.specs.declared.option.Option.TheVariants.{Some}
 use Rattle.net_ring.specs.RingHead.{IsSound}
 use Rattle.net_ring.proofs.Rotations.{length-overwrite}
-use Rattle.net_packets.specs.Packets.{Packet, IsFirst, after_hand_out, first_gap, without_gap, without_first_gap}
+use Rattle.net_packets.specs.Packets.{IsFirst, after_hand_out, without_gap}
 use Rattle.net_packets.specs.PacketsHead.{with_slot_taken}
 use Rattle.net_packets.specs.PacketHistory.{contents}
-use Rattle.net_packets.specs.PacketSlots.{slot}
-use Rattle.net_packets.proofs.HeadParts.{parts_some, parts_slot, parts_headed, parts_first_fits, parts_first_in}
-use Rattle.net_packets.proofs.HeadParts.{parts_first_sized, parts_first_bytes, handed_gone, handed_back}
+use Rattle.net_packets.specs.PacketsHead.{slot}
+use Rattle.net_packets.specs.declared.head.PacketsHead.{PacketsHead}
+use Rattle.net_packets.specs.declared.packet_metadata.PacketMetadata.{PacketMetadata}
+use Rattle.net_packets.proofs.HeadParts.{IsQueue, IsFirstIn, queue_at, some_in, slot_at, headed_first, first_at, first_fits, first_in}
+use Rattle.net_packets.proofs.HeadParts.{first_sized, first_shown, handed_gone, handed_back, stored, slots_of}
 use Rattle.net_packets.proofs.PacketOrder as order
-use Rattle.net_packets.proofs.PacketRuns.{handed_contents, dequeue_with_call, none_of}
+use Rattle.net_packets.proofs.PacketRuns.{handed_contents, dequeue_with_call, none_of, still_there}
 use Rattle.net_packets.proofs.PacketSteps.{close_gap, close_first}
+use Rattle.net_packets.proofs.packet_buffer.PacketsOver.dequeue_with.Given as given
 use Rattle.net_packets.proofs.packet_buffer.PacketsOver.dequeue_with.Goals as goal
-use Rattle.net_packets.proofs.packet_buffer.PacketsOver.dequeue_with.Goals.{then-is_ok, else-is_ok}
-
--- as many packets are left without the gap
-gapless : {H : Type 0} (ps : List (Packet H)) → length (without_first_gap ps) ≡ length ps
-gapless [] = refl
-gapless (p ∷ ps) = refl
+use Rattle.net_packets.proofs.packet_buffer.PacketsOver.dequeue_with.Goals.{then-is_ok, else-is_ok, In-Some}
+use Rattle.net_packets.proofs.packet_buffer.PacketsOver.dequeue_with.Goals.{After-part_mut}
 
 pub returns-then-self-eq0-clause-empty : goal.returns-then-self-eq0-clause-empty
 returns-then-self-eq0-clause-empty g c = none_of c.args.self.now (search rules)
 
+-- the first slot in use has a header
+headless : (g : given.Over) (c : goal.After-drop-f-in_default g) → ⊥
+headless g c =
+    headed_first (queue_at _ _ _ c.self.invariant (c.self.view_is ∙ c.skip.ensures.skipped)) (omega (arith, c.if-self-eq0.false))
+    c.element_mut-slot.result.now c.element_mut-slot.ensures.value (close_gap c.args.self.now.packets) c.in_default.ensures.value
+
 pub invariant_of-self : goal.invariant_of-self
-invariant_of-self g c = absurd (parts_headed _ _ _ c.self.invariant c.element_mut-slot.result.now (omega (arith, c.if-self-eq0.false)) c.element_mut-slot.ensures.value (ap (λ o. first_gap o.packets) (c.self.view_is ∙ c.skip.ensures.skipped) ∙ (close_gap c.args.self.now.packets)) c.in_default.ensures.value)
+invariant_of-self g c = absurd (headless g c)
 
 pub returns-in_default-clause-empty : goal.returns-in_default-clause-empty
-returns-in_default-clause-empty g c = absurd (parts_headed _ _ _ c.self.invariant c.element_mut-slot.result.now (omega (arith, c.if-self-eq0.false)) c.element_mut-slot.ensures.value (ap (λ o. first_gap o.packets) (c.self.view_is ∙ c.skip.ensures.skipped) ∙ (close_gap c.args.self.now.packets)) c.in_default.ensures.value)
+returns-in_default-clause-empty g c = absurd (headless g c)
 
 pub returns-in_default-clause-no_packet : goal.returns-in_default-clause-no_packet
-returns-in_default-clause-no_packet g c = absurd (parts_headed _ _ _ c.self.invariant c.element_mut-slot.result.now (omega (arith, c.if-self-eq0.false)) c.element_mut-slot.ensures.value (ap (λ o. first_gap o.packets) (c.self.view_is ∙ c.skip.ensures.skipped) ∙ (close_gap c.args.self.now.packets)) c.in_default.ensures.value)
+returns-in_default-clause-no_packet g c = absurd (headless g c)
 
 pub returns-in_default-clause-unchanged : goal.returns-in_default-clause-unchanged
-returns-in_default-clause-unchanged g c = absurd (parts_headed _ _ _ c.self.invariant c.element_mut-slot.result.now (omega (arith, c.if-self-eq0.false)) c.element_mut-slot.ensures.value (ap (λ o. first_gap o.packets) (c.self.view_is ∙ c.skip.ensures.skipped) ∙ (close_gap c.args.self.now.packets)) c.in_default.ensures.value)
+returns-in_default-clause-unchanged g c = absurd (headless g c)
 
 pub returns-in_default-clause-capacity : goal.returns-in_default-clause-capacity
-returns-in_default-clause-capacity g c = absurd (parts_headed _ _ _ c.self.invariant c.element_mut-slot.result.now (omega (arith, c.if-self-eq0.false)) c.element_mut-slot.ensures.value (ap (λ o. first_gap o.packets) (c.self.view_is ∙ c.skip.ensures.skipped) ∙ (close_gap c.args.self.now.packets)) c.in_default.ensures.value)
+returns-in_default-clause-capacity g c = absurd (headless g c)
+
+-- the first packet is what it has
+first : (g : given.Over) (c : In-Some g)
+    → IsFirstIn c.self.inside.head (g.M.Storage.elements c.self.inside.slots) (g.B.Storage.elements c.self.inside.bytes)
+    (without_gap c.args.self.now) c.element_mut-slot.result.now.size c.in-Some.header.now
+first g c =
+    let k = queue_at _ _ _ c.self.invariant (c.self.view_is ∙ c.skip.ensures.skipped) in
+    first_at k (close_gap c.args.self.now.packets) (omega (arith, c.if-self-eq0.false))
+    (slot_at k (omega (arith, c.if-self-eq0.false)) c.element_mut-slot.result.now c.element_mut-slot.ensures.value (Some c.in-Some.header.now)
+    c.in-Some.ensures.value)
 
 pub overflow_add-from : goal.overflow_add-from
 overflow_add-from g c =
-    let fits = parts_first_fits _ _ _ c.self.invariant (ap (λ o. first_gap o.packets) (c.self.view_is ∙ c.skip.ensures.skipped) ∙ (close_gap c.args.self.now.packets)) c.element_mut-slot.result.now.size c.in-Some.header.now (omega (arith, c.if-self-eq0.false)) (parts_slot _ _ _ c.self.invariant c.element_mut-slot.result.now (omega (arith, c.if-self-eq0.false)) c.element_mut-slot.ensures.value (Some c.in-Some.header.now) c.in-Some.ensures.value) in
+    let fits = first_fits (first g (goal.at.overflow_add-from g c).In-Some) in
     omega (arith, fits, c.count-capacity.ensures, c.count-capacity.type_inv)
 
 pub part_mut-requires : goal.part_mut-requires
-part_mut-requires g c = let fits = parts_first_fits _ _ _ c.self.invariant (ap (λ o. first_gap o.packets) (c.self.view_is ∙ c.skip.ensures.skipped) ∙ (close_gap c.args.self.now.packets)) c.element_mut-slot.result.now.size c.in-Some.header.now (omega (arith, c.if-self-eq0.false)) (parts_slot _ _ _ c.self.invariant c.element_mut-slot.result.now (omega (arith, c.if-self-eq0.false)) c.element_mut-slot.ensures.value (Some c.in-Some.header.now) c.in-Some.ensures.value) in record { count = (omega arith, omega (arith, fits)) }
+part_mut-requires g c =
+    let fits = first_fits (first g (goal.at.part_mut-requires g c).In-Some) in
+    record { count = (omega arith, omega (arith, fits)) }
+
+-- the closure is handed it, and leaves the header new and the bytes ws
+module _ (g : given.Over) (c : After-part_mut g) where
+  shown : IsFirst c.args.self.now c.in-Some.header.now c.part_mut.result.now
+  shown =
+      let f = first g (goal.at.f-answer-requires g c).In-Some in (
+        close_first c.args.self.now.packets c.in-Some.header.now (length c.part_mut.result.now) (first_sized f _ c.part_mut.ensures.value),
+        first_shown f _ c.part_mut.ensures.value,
+      )
+
+  module _ (new : g.row.H.Denot) (ws : List ℕ) where
+    abbrev slots : List (PacketMetadata g.row.H.Denot)
+    slots = g.M.Storage.elements (g.M.Storage.with_element c.self.inside.slots c.self.inside.head.slots.read_at
+        (slot c.element_mut-slot.result.now.size (Some new)))
+
+    abbrev bytes : List ℕ
+    bytes = g.B.Storage.elements (g.B.Storage.with_part c.self.inside.bytes c.self.inside.head.bytes.read_at ws)
+
+    gone : (h : PacketsHead) → h ≡ with_slot_taken c.count-slot_count.result c.count-capacity.result c.element_mut-slot.result.now.size c.self.inside.head
+        → IsQueue h slots bytes (after_hand_out true c.args.self.now new ws)
+    gone h is =
+        handed_gone (first g (goal.at.f-answer-requires g c).In-Some) _ slots
+        (g.met.M.Storage.element_set c.self.inside.slots c.self.inside.head.slots.read_at _) ws bytes
+        (g.met.B.Storage.part_written c.self.inside.bytes c.self.inside.head.bytes.read_at ws) new h
+        (is ∙ ap₂ (λ (n k : ℕ). with_slot_taken n k c.element_mut-slot.result.now.size c.self.inside.head)
+        c.count-slot_count.ensures c.count-capacity.ensures)
+
+    stays : IsQueue c.self.inside.head slots bytes (after_hand_out false c.args.self.now new ws)
+    stays =
+        handed_back (first g (goal.at.f-answer-requires g c).In-Some) new slots
+        (g.met.M.Storage.element_set c.self.inside.slots c.self.inside.head.slots.read_at _) ws bytes
+        (g.met.B.Storage.part_written c.self.inside.bytes c.self.inside.head.bytes.read_at ws)
 
 pub f-answer-requires : goal.f-answer-requires
-f-answer-requires g c =
-    let first : IsFirst c.args.self.now c.in-Some.header.now c.part_mut.result.now = (close_first c.args.self.now.packets c.in-Some.header.now (length c.part_mut.result.now) (parts_first_sized _ _ _ c.self.invariant (ap (λ o. first_gap o.packets) (c.self.view_is ∙ c.skip.ensures.skipped) ∙ (close_gap c.args.self.now.packets)) c.element_mut-slot.result.now.size c.in-Some.header.now (omega (arith, c.if-self-eq0.false)) (parts_slot _ _ _ c.self.invariant c.element_mut-slot.result.now (omega (arith, c.if-self-eq0.false)) c.element_mut-slot.ensures.value (Some c.in-Some.header.now) c.in-Some.ensures.value) c.part_mut.result.now c.part_mut.ensures.value (without_gap c.args.self.now) (c.self.view_is ∙ c.skip.ensures.skipped)), parts_first_bytes _ _ _ c.self.invariant (ap (λ o. first_gap o.packets) (c.self.view_is ∙ c.skip.ensures.skipped) ∙ (close_gap c.args.self.now.packets)) c.element_mut-slot.result.now.size c.in-Some.header.now (omega (arith, c.if-self-eq0.false)) (parts_slot _ _ _ c.self.invariant c.element_mut-slot.result.now (omega (arith, c.if-self-eq0.false)) c.element_mut-slot.ensures.value (Some c.in-Some.header.now) c.in-Some.ensures.value) c.part_mut.result.now c.part_mut.ensures.value (without_gap c.args.self.now) (c.self.view_is ∙ c.skip.ensures.skipped)) in
-    c.requires c.in-Some.header.now c.part_mut.result.now first c.in-Some.header c.part_mut.result refl refl
+f-answer-requires g c = c.requires c.in-Some.header.now c.part_mut.result.now (shown g c) c.in-Some.header c.part_mut.result refl refl
 
 pub take-requires-clause-sound : goal.take-requires-clause-sound
 take-requires-clause-sound g c = (
@@ -59,17 +105,22 @@ take-requires-clause-sound g c = (
 )
 
 pub take-requires-clause-size : goal.take-requires-clause-size
-take-requires-clause-size g c = parts_first_in _ _ _ c.self.invariant (ap (λ o. first_gap o.packets) (c.self.view_is ∙ c.skip.ensures.skipped) ∙ (close_gap c.args.self.now.packets)) c.element_mut-slot.result.now.size c.in-Some.header.now (omega (arith, c.if-self-eq0.false)) (parts_slot _ _ _ c.self.invariant c.element_mut-slot.result.now (omega (arith, c.if-self-eq0.false)) c.element_mut-slot.ensures.value (Some c.in-Some.header.now) c.in-Some.ensures.value)
+take-requires-clause-size g c = first_in (first g (goal.at.take-requires-clause-size g c).In-Some)
 
 pub invariant_of-self-then-is_ok : goal.invariant_of-self-then-is_ok
-invariant_of-self-then-is_ok g c = (handed_gone _ _ _ c.self.invariant (without_gap c.args.self.now) (c.self.view_is ∙ c.skip.ensures.skipped) (close_gap c.args.self.now.packets) c.element_mut-slot.result.now.size c.in-Some.header.now (omega (arith, c.if-self-eq0.false)) (parts_slot _ _ _ c.self.invariant c.element_mut-slot.result.now (omega (arith, c.if-self-eq0.false)) c.element_mut-slot.ensures.value (Some c.in-Some.header.now) c.in-Some.ensures.value) c.f-answer.new.arg3 c.f-answer.new.arg2 _ (g.met.B.Storage.part_written c.self.inside.bytes c.self.inside.head.bytes.read_at c.f-answer.new.arg3) _ (g.met.M.Storage.element_set c.self.inside.slots c.self.inside.head.slots.read_at (slot c.element_mut-slot.result.now.size (Some c.f-answer.new.arg2))) _ (c.take.ensures.taken ∙ ap₂ (λ (n k : ℕ). with_slot_taken n k c.element_mut-slot.result.now.size c.self.inside.head) c.count-slot_count.ensures c.count-capacity.ensures)).0
+invariant_of-self-then-is_ok g c =
+    (gone g (goal.at.invariant_of-self-then-is_ok g c).After-part_mut c.f-answer.new.arg2 c.f-answer.new.arg3 _ c.take.ensures.taken).sound
 
 pub invariant_of-self-else-is_ok : goal.invariant_of-self-else-is_ok
-invariant_of-self-else-is_ok g c = (handed_back _ _ _ c.self.invariant (without_gap c.args.self.now) (c.self.view_is ∙ c.skip.ensures.skipped) (close_gap c.args.self.now.packets) c.element_mut-slot.result.now.size c.in-Some.header.now (omega (arith, c.if-self-eq0.false)) (parts_slot _ _ _ c.self.invariant c.element_mut-slot.result.now (omega (arith, c.if-self-eq0.false)) c.element_mut-slot.ensures.value (Some c.in-Some.header.now) c.in-Some.ensures.value) c.f-answer.new.arg3 c.f-answer.new.arg2 _ (g.met.B.Storage.part_written c.self.inside.bytes c.self.inside.head.bytes.read_at c.f-answer.new.arg3) _ (g.met.M.Storage.element_set c.self.inside.slots c.self.inside.head.slots.read_at (slot c.element_mut-slot.result.now.size (Some c.f-answer.new.arg2)))).0
+invariant_of-self-else-is_ok g c =
+    (stays g (goal.at.invariant_of-self-else-is_ok g c).After-part_mut c.f-answer.new.arg2 c.f-answer.new.arg3).sound
 
 pub returns-clause-no_packet : goal.returns-clause-no_packet
-returns-clause-no_packet g c =
-    (λ e. absurd (false≢true e), λ zero. absurd (parts_some _ _ _ c.self.invariant (omega (arith, c.if-self-eq0.false)) (ap (λ o. length o.packets) (c.self.view_is ∙ c.skip.ensures.skipped) ∙ gapless _ ∙ zero)))
+returns-clause-no_packet g c = (
+  λ e. absurd (false≢true e),
+  λ zero. absurd (some_in (first g (goal.at.returns-clause-no_packet g c).In-Some).queue
+      (omega (arith, c.if-self-eq0.false)) (still_there c.args.self.now ∙ zero)),
+)
 
 pub returns-clause-empty : goal.returns-clause-empty
 returns-clause-empty g c = none_of c.args.self.now (returns-clause-no_packet g c)
@@ -82,12 +133,12 @@ returns-clause-handed g c =
     let new = c.f-answer.new.arg2 in
     let ws = c.f-answer.new.arg3 in
     let answer = c.f-answer.result in
-    let ok = c.skip.ensures.well_placed in
-    let before : IsFirst q hd now = (close_first c.args.self.now.packets c.in-Some.header.now (length c.part_mut.result.now) (parts_first_sized _ _ _ c.self.invariant (ap (λ o. first_gap o.packets) (c.self.view_is ∙ c.skip.ensures.skipped) ∙ (close_gap c.args.self.now.packets)) c.element_mut-slot.result.now.size c.in-Some.header.now (omega (arith, c.if-self-eq0.false)) (parts_slot _ _ _ c.self.invariant c.element_mut-slot.result.now (omega (arith, c.if-self-eq0.false)) c.element_mut-slot.ensures.value (Some c.in-Some.header.now) c.in-Some.ensures.value) c.part_mut.result.now c.part_mut.ensures.value (without_gap c.args.self.now) (c.self.view_is ∙ c.skip.ensures.skipped)), parts_first_bytes _ _ _ c.self.invariant (ap (λ o. first_gap o.packets) (c.self.view_is ∙ c.skip.ensures.skipped) ∙ (close_gap c.args.self.now.packets)) c.element_mut-slot.result.now.size c.in-Some.header.now (omega (arith, c.if-self-eq0.false)) (parts_slot _ _ _ c.self.invariant c.element_mut-slot.result.now (omega (arith, c.if-self-eq0.false)) c.element_mut-slot.ensures.value (Some c.in-Some.header.now) c.in-Some.ensures.value) c.part_mut.result.now c.part_mut.ensures.value (without_gap c.args.self.now) (c.self.view_is ∙ c.skip.ensures.skipped)) in
+    let at = (goal.at.returns-clause-handed g c).After-part_mut in
+    let before : IsFirst q hd now = shown g at in
     let long : length ws ≡ length now = c.f-answer.auto.arg3 in
     let made : c.if-is_ok.self ≡ after_hand_out (is_ok answer) q new ws = elim c.if-is_ok.branch [
-      | then-is_ok w ↦ w.self-is ∙ (handed_gone _ _ _ c.self.invariant (without_gap c.args.self.now) (c.self.view_is ∙ c.skip.ensures.skipped) (close_gap c.args.self.now.packets) c.element_mut-slot.result.now.size c.in-Some.header.now (omega (arith, c.if-self-eq0.false)) (parts_slot _ _ _ c.self.invariant c.element_mut-slot.result.now (omega (arith, c.if-self-eq0.false)) c.element_mut-slot.ensures.value (Some c.in-Some.header.now) c.in-Some.ensures.value) c.f-answer.new.arg3 c.f-answer.new.arg2 _ (g.met.B.Storage.part_written c.self.inside.bytes c.self.inside.head.bytes.read_at c.f-answer.new.arg3) _ (g.met.M.Storage.element_set c.self.inside.slots c.self.inside.head.slots.read_at (slot c.element_mut-slot.result.now.size (Some c.f-answer.new.arg2))) _ (w.take.ensures.taken ∙ ap₂ (λ (n k : ℕ). with_slot_taken n k c.element_mut-slot.result.now.size c.self.inside.head) c.count-slot_count.ensures c.count-capacity.ensures)).1 ∙ ap (λ t. after_hand_out t q new ws) w.if-is_ok.ensures.value
-      | else-is_ok w ↦ w.self-is ∙ (handed_back _ _ _ c.self.invariant (without_gap c.args.self.now) (c.self.view_is ∙ c.skip.ensures.skipped) (close_gap c.args.self.now.packets) c.element_mut-slot.result.now.size c.in-Some.header.now (omega (arith, c.if-self-eq0.false)) (parts_slot _ _ _ c.self.invariant c.element_mut-slot.result.now (omega (arith, c.if-self-eq0.false)) c.element_mut-slot.ensures.value (Some c.in-Some.header.now) c.in-Some.ensures.value) c.f-answer.new.arg3 c.f-answer.new.arg2 _ (g.met.B.Storage.part_written c.self.inside.bytes c.self.inside.head.bytes.read_at c.f-answer.new.arg3) _ (g.met.M.Storage.element_set c.self.inside.slots c.self.inside.head.slots.read_at (slot c.element_mut-slot.result.now.size (Some c.f-answer.new.arg2)))).1 ∙ ap (λ t. after_hand_out t q new ws) w.if-is_ok.ensures.value
+      | then-is_ok w ↦ w.self-is ∙ (gone g at new ws _ w.take.ensures.taken).seen ∙ ap (λ t. after_hand_out t q new ws) w.if-is_ok.ensures.value
+      | else-is_ok w ↦ w.self-is ∙ (stays g at new ws).seen ∙ ap (λ t. after_hand_out t q new ws) w.if-is_ok.ensures.value
     ] in
     record {
       header = hd;
@@ -97,18 +148,18 @@ returns-clause-handed g c =
       first = before;
       gives = record { header = c.in-Some.header; bytes = _; shows = (refl, refl); left = _; met = c.f-answer.ensures; leaves = (refl, refl) };
       size = long;
-      shown = order.shown q ok hd now before;
-      left = ap contents made ∙ handed_contents q ok hd now new ws (is_ok answer) before long;
+      shown = order.shown q c.skip.ensures.well_placed hd now before;
+      left = ap contents made ∙ handed_contents q c.skip.ensures.well_placed hd now new ws (is_ok answer) before long;
       made = made;
       call = dequeue_with_call q hd now new ws (is_ok answer) before long _ made;
     }
 
 pub returns-clause-capacity : goal.returns-clause-capacity
 returns-clause-capacity g c =
-    let stored = ap length (g.met.B.Storage.part_written c.self.inside.bytes c.self.inside.head.bytes.read_at c.f-answer.new.arg3) ∙ length-overwrite _ c.self.inside.head.bytes.read_at c.f-answer.new.arg3 ∙ ap (λ q. length q.storage) (c.self.view_is ∙ c.skip.ensures.skipped) in
-    let slots = ap length (g.met.M.Storage.element_set c.self.inside.slots c.self.inside.head.slots.read_at (slot c.element_mut-slot.result.now.size (Some c.f-answer.new.arg2)))
-    ∙ length-set _ _ _ ∙ ap (λ q. q.slot_count) (c.self.view_is ∙ c.skip.ensures.skipped) in
+    let at = (goal.at.returns-clause-capacity g c).After-part_mut in
+    let k = stays g at c.f-answer.new.arg2 c.f-answer.new.arg3 in
+    let bytes_long = ap length (stored k) ∙ length-overwrite _ _ c.f-answer.new.arg3 in
     elim c.if-is_ok.branch [
-      | then-is_ok w ↦ (ap (λ q. q.slot_count) w.self-is ∙ slots, ap (λ q. length q.storage) w.self-is ∙ stored)
-      | else-is_ok w ↦ (ap (λ q. q.slot_count) w.self-is ∙ slots, ap (λ q. length q.storage) w.self-is ∙ stored)
+      | then-is_ok w ↦ (ap (λ q. q.slot_count) w.self-is ∙ slots_of k, ap (λ q. length q.storage) w.self-is ∙ bytes_long)
+      | else-is_ok w ↦ (ap (λ q. q.slot_count) w.self-is ∙ slots_of k, ap (λ q. length q.storage) w.self-is ∙ bytes_long)
     ]

@@ -1,74 +1,47 @@
 -- `enqueue` places the packet by `place`, and hands on what `last_part_mut` lends.
-use mathlib.Core.Path.{◌≡◌, refl, sym, subst, ap, ◌∙◌}
-use mathlib.Core.Logic.{◌≢◌, inl, inr}
-use mathlib.Core.List.{List, [], ◌∷◌, ◌++◌}
-use Prim.Native.Nat.{ℕ, ◌<◌, ◌^◌}
-use lib.ListN.{length}
-use lib.Dec.{T, lit<}
-use seplogic.Ra.Ura.{Ura}
-use mir.Syntax.{Fn, named, w64}
-use mir.MapTy.{inst_fn}
-use mir.Val.{Val, vint, vptr, of_list, has_ty, WT}
-use base.Logic.{SProp, ent, sep, emp, id⊢}
-use base.Fml.{GName, Share, Fml, flft, fres}
-use prog.Wp.{Env, WpFn, Wp, after_seq, at_return}
-use prog.Model.{Model}
-use types.Logic.{Logic, sem}
-use contract.BorrowLft.{◌⊑◌, ⊑_trans, meet_⊑_right}
-use contract.Lifetimes.{Lfts, Shares, AllOutlive}
-use contract.Monad.{fact, fact_i}
-use contract.Running.{Running, MachineTables, tables}
-use types.Kit.{mean, any_q, Post as After, rewrite, frame, ‵, raw, ◌⊛◌, some, later, at_ret, ◌$◌, ◌∵◌, !, qed, by}
-use types.Kit.{move, keep, drop, split, split3, join, fsplit, fsplit3, fjoin, feq_i, fpack, pick, suffices, use0}
-use types.Kit.{use1, use2, use3, await, done}
-use types.Run.{stop, fld, addr, lit, of_opd, no_more, and_then, first, skips, switches_on, exec, returns}
-use types.Run.{returns_within, enter}
-use types.ByLocal.{lands_as, alloc_all, pass_all, free_all, look_at, get, get_tag, through, sets, env}
-use types.Part.{agg, whole}
-use types.Match.{live, vrt}
-use denote.Exit.{yes, no}
-use denote.RattleType.{RattleType, Valss, owns}
-use denote.Laws.{Are, Ises, Is, shows}
-use denote.Signature.{types_at, plain, mut_ref_to}
-use denote.Builtin.{u8, usize, unit}
-use denote.Ref.{MutBor, MutRef, mut_vals, mut_Tells}
-use denote.Plain.{uint_Makes}
-use denote.Param.{layout}
-use denote.Param.Laws.{param_laws}
-use denote.Array.{Array}
-use denote.Slice.{MutSlice, slice_val}
-use denote.Struct.Struct.{within}
-use denote.Struct.Declared as Declared
-use denote.Follow.{follows, follows_by}
-use denote.Steps.{nothing, owned, heard, peeks, only}
-use denote.Triple.Clauses.{Clauses, Ended, lasts}
-use denote.Triple.Entry.{on_entry}
-use denote.Triple.Spec.{Meets, triple_of}
-use denote.Triple.Statement.{Contract}
-use denote.Triple.Table.{framed}
-use denote.Triple.Call.{calls_at}
-use denote.Triple.Walked.{Stays, stay_dropped, walk_of, ends_at, Goes-spent_ref, Goes-dropped}
-use Rattle.std.proofs.VecSteps.Shapes.{after, front, arm_body}
+use Rattle.net_packets.proofs.QueueWalks.{◌≡◌, refl, sym, subst, ap, ◌∙◌, ◌≢◌, inl, inr, List, [], ◌∷◌, ◌++◌, ℕ}
+use Rattle.net_packets.proofs.QueueWalks.{◌<◌, ◌^◌, length, T, lit<, Ura, Fn, named, w64, inst_fn, Val, vint}
+use Rattle.net_packets.proofs.QueueWalks.{vptr, of_list, has_ty, WT, SProp, ent, sep, emp, id⊢, GName, Share}
+use Rattle.net_packets.proofs.QueueWalks.{Fml, flft, fres, Env, WpFn, Wp, after_seq, at_return, Model, Logic}
+use Rattle.net_packets.proofs.QueueWalks.{sem, ◌⊑◌, ⊑_trans, meet_⊑_right, Lfts, Shares, AllOutlive, fact}
+use Rattle.net_packets.proofs.QueueWalks.{fact_i, Running, MachineTables, tables, mean, any_q, After, rewrite}
+use Rattle.net_packets.proofs.QueueWalks.{frame, ‵, raw, ◌⊛◌, some, later, at_ret, ◌$◌, ◌∵◌, !, qed, by, move}
+use Rattle.net_packets.proofs.QueueWalks.{keep, drop, split, split3, join, fsplit, fsplit3, fjoin, feq_i, fpack}
+use Rattle.net_packets.proofs.QueueWalks.{pick, suffices, use0, use1, use2, use3, await, done, stop, fld, addr}
+use Rattle.net_packets.proofs.QueueWalks.{lit, of_opd, no_more, and_then, first, switches_on, exec, returns}
+use Rattle.net_packets.proofs.QueueWalks.{returns_within, enter, lands_as, alloc_all, pass_all, free_all}
+use Rattle.net_packets.proofs.QueueWalks.{look_at, get, get_tag, through, sets, env, agg, whole, live, vrt, no}
+use Rattle.net_packets.proofs.QueueWalks.{RattleType, Valss, owns, Is, shows, plain, mut_ref_to, u8, usize}
+use Rattle.net_packets.proofs.QueueWalks.{MutBor, MutRef, mut_vals, mut_Tells, uint_Makes, layout, param_laws}
+use Rattle.net_packets.proofs.QueueWalks.{Array, MutSlice, slice_val, within, follows, follows_by, nothing}
+use Rattle.net_packets.proofs.QueueWalks.{owned, heard, peeks, only, Clauses, Ended, lasts, on_entry, Meets}
+use Rattle.net_packets.proofs.QueueWalks.{triple_of, Contract, framed, calls_at, Stays, stay_dropped, walk_of}
+use Rattle.net_packets.proofs.QueueWalks.{ends_at, Goes-spent_ref, after, front, arm_body, ok_of, err_of, Ok}
+use Rattle.net_packets.proofs.QueueWalks.{Err, IsErr, OnOk, OnErr, ◌↔◌, lent, Back, lends_inside, comes_inside}
+use Rattle.net_packets.proofs.QueueWalks.{no_fields, alone, ok_or_err, ok_had, err_had, and_fact, says_all}
+use Rattle.net_packets.proofs.QueueWalks.{Given, args, Header, Self, Q, Live, others, Asked, asked, lives}
+use types.Run.{skips}
+use denote.Exit.{yes}
+use denote.Laws.{Are, Ises}
+use denote.Signature.{types_at}
+use denote.Builtin.{unit}
+use denote.Triple.Walked.{Goes-dropped}
 use Rattle.std.proofs.raw_atomic.Walks.{proved_at}
-use Rattle.std.proofs.ResultValues.{ok_of, err_of}
-use Rattle.std.specs.Prelude.{Ok, Err, IsErr, OnOk, OnErr, ◌↔◌}
 use Rattle.std.specs.declared.option.Option.TheVariants.{None}
-use Rattle.std.specs.contracts.result.Result as RS
 use Rattle.net_packets.specs.{placement, with_packet_if, with_packet_if_room, only_last as last-of, first_size}
 use Rattle.net_packets.specs.{last_bytes, with_last_bytes, contents, Makes, Place as Placed}
-use Rattle.net_ring.specs.contracts.error.Full as FU
 use Rattle.net_packets.proofs.PacketRuns.{enqueue_call}
-use Rattle.net_packets.proofs.LendInside.{lent, Back, lends_inside, comes_inside}
-use Rattle.net_packets.proofs.ResultParts.{no_fields, alone, ok_or_err, ok_had, err_had, and_fact, says_all}
-use Rattle.net_packets.proofs.WalkedQueue.{Given, args, Header, Self, Q, Live, others, Asked, asked, lives}
-use Rattle.net_packets.specs.contracts.packet_buffer.PacketsOver.place as place
 use Rattle.net_packets.proofs.packet_buffer.PacketsOver.place.Symbol.{name as #place}
+use Rattle.net_packets.proofs.packet_buffer.PacketsOver.last_part_mut.Symbol.{name as #last}
+use Rattle.net_packets.specs.contracts.packet_buffer.PacketsOver.enqueue.Key.{name as #self}
+use denote.Struct.Declared as Declared
+use Rattle.std.specs.contracts.result.Result as RS
+use Rattle.net_ring.specs.contracts.error.Full as FU
+use Rattle.net_packets.specs.contracts.packet_buffer.PacketsOver.place as place
 use Rattle.net_packets.proofs.packet_buffer.PacketsOver.place.Met as place_met
 use Rattle.net_packets.specs.contracts.packet_buffer.PacketsOver.last_part_mut as last
-use Rattle.net_packets.proofs.packet_buffer.PacketsOver.last_part_mut.Symbol.{name as #last}
 use Rattle.net_packets.proofs.packet_buffer.PacketsOver.last_part_mut.Met as last_met
 use Rattle.net_packets.specs.contracts.packet_buffer.PacketsOver.enqueue as F
-use Rattle.net_packets.specs.contracts.packet_buffer.PacketsOver.enqueue.Key.{name as #self}
 use Rattle.net_packets.proofs.packet_buffer.PacketsOver.enqueue.Statement as stated
 use Rattle.net_packets.proofs.packet_buffer.PacketsOver.enqueue.Code as code
 

@@ -1,95 +1,97 @@
-use Rattle.std.proofs.Common.{◌≡◌, ◌-◌, length, refl, ap, ◌∙◌, arith}
-use Rattle.std.specs.Fn.{FnOnceReturnsAtMut}
+use Rattle.std.proofs.Common.{◌≡◌, ◌-◌, length, refl, sym, ap, ◌∙◌, arith}
 use Rattle.std.proofs.lemmas.Bool.{false≢true}
 use Rattle.net_ring.specs.RingHead.{place}
 use Rattle.net_ring.proofs.Rotations.{length-overwrite}
 use Rattle.net_ring.proofs.RingFacts.{returned}
-use Rattle.net_packets.specs.{contents}
+use Rattle.net_packets.specs.{IsRoom, contents, with_last_size, with_last_bytes, with_packet_if_room}
 use Rattle.net_packets.specs.declared.head.PacketsHead.{PacketsHead}
-use Rattle.net_packets.proofs.HeadParts.{no_place, place_in, has_place, parts_room, filled_sound, filled_as, slots_long}
+use Rattle.net_packets.proofs.HeadParts.{IsQueue, IsPlaceIn, queue_at, well, placement_is, has_place, room_is, filled, slots_of, slots_long, stored}
 use Rattle.net_packets.proofs.PacketOrder as order
 use Rattle.net_packets.proofs.PacketRuns.{enqueue_with_call}
-use Rattle.net_packets.proofs.PacketSteps.{well_placed}
+use Rattle.net_packets.proofs.packet_buffer.PacketsOver.enqueue_with_infallible.Given as given
 use Rattle.net_packets.proofs.packet_buffer.PacketsOver.enqueue_with_infallible.Goals as goal
+use Rattle.net_packets.proofs.packet_buffer.PacketsOver.enqueue_with_infallible.Goals.{After-part_mut}
 
 pub returns-in_default-clause-full : goal.returns-in_default-clause-full
-returns-in_default-clause-full g c = (
-  λ _. no_place _ _ _ c.self.invariant c.args.self.now c.self.view_is _ _ c.count-slot_count.ensures c.count-capacity.ensures c.args.max_size
-      (c.in_default.ensures.full.0 refl),
-  λ _. refl,
-)
+returns-in_default-clause-full g c =
+    let is = placement_is (queue_at _ _ _ c.self.invariant c.self.view_is) _ _ c.count-slot_count.ensures c.count-capacity.ensures c.args.max_size in
+    (λ _. sym is ∙ c.in_default.ensures.full.0 refl, λ _. refl)
+
+module _ (g : given.Over) (c : After-part_mut g) where
+  at : IsPlaceIn c.self.inside.head (g.M.Storage.elements c.self.inside.slots) (g.B.Storage.elements c.self.inside.bytes) c.args.self.now
+      c.count-slot_count.result c.count-capacity.result c.args.max_size c.in-Some.place
+  at =
+      let met = c.in-Some.ensures in
+      record {
+        queue = queue_at _ _ _ c.self.invariant c.self.view_is;
+        slot_count = c.count-slot_count.ensures;
+        capacity = c.count-capacity.ensures;
+        gap = met.gap;
+        slots = met.slots;
+        from = met.from;
+      }
+
+  room : IsRoom c.args.self.now c.args.max_size c.args.header c.part_mut.result.now
+  room = room_is at c.args.header c.in-Some.ensures.contiguous c.part_mut.result.now c.part_mut.ensures.value
 
 pub f-count-requires : goal.f-count-requires
-f-count-requires g c =
-    let at = place_in _ _ _ c.self.invariant c.args.self.now c.self.view_is _ _ c.count-slot_count.ensures c.count-capacity.ensures c.args.max_size
-    c.in-Some.place c.in-Some.ensures.gap c.in-Some.ensures.slots c.in-Some.ensures.from in
-    c.requires.callable c.part_mut.result.now (parts_room at c.args.header c.in-Some.ensures.contiguous c.part_mut.result.now c.part_mut.ensures.value)
-    c.part_mut.result refl
+f-count-requires g c = c.requires.callable c.part_mut.result.now (room g c) c.part_mut.result refl
 
 pub prove-unreachable-requires : goal.prove-unreachable-requires
 prove-unreachable-requires g c =
-    let at = place_in _ _ _ c.self.invariant c.args.self.now c.self.view_is _ _ c.count-slot_count.ensures c.count-capacity.ensures c.args.max_size
-    c.in-Some.place c.in-Some.ensures.gap c.in-Some.ensures.slots c.in-Some.ensures.from in
-    let room = parts_room at c.args.header c.in-Some.ensures.contiguous c.part_mut.result.now c.part_mut.ensures.value in
-    let le = c.requires.count c.part_mut.result.now c.f-count.new.arg2 c.f-count.result room (returned c.part_mut.result c.f-count.new.arg2 refl c.f-count.ensures) in
+    let after = c.f-count.new.arg2 in
+    let le = c.requires.count c.part_mut.result.now after c.f-count.result (room g (goal.at.prove-unreachable-requires g c).After-part_mut)
+    (returned c.part_mut.result after refl c.f-count.ensures) in
     omega (arith, c.if-prove.true)
 
-pub overflow_sub-max_size : goal.overflow_sub-max_size
-overflow_sub-max_size g c =
-    let at = place_in _ _ _ c.self.invariant c.args.self.now c.self.view_is _ _ c.count-slot_count.ensures c.count-capacity.ensures c.args.max_size
-    c.in-Some.place c.in-Some.ensures.gap c.in-Some.ensures.slots c.in-Some.ensures.from in
-    let room = parts_room at c.args.header c.in-Some.ensures.contiguous c.part_mut.result.now c.part_mut.ensures.value in
-    let le = c.requires.count c.part_mut.result.now c.f-count.new.arg2 c.f-count.result room (returned c.part_mut.result c.f-count.new.arg2 refl c.f-count.ensures) in
-    le
+-- the queue has a packet of the bytes that the closure counted
+left : (g : given.Over) (c : goal.After-self-2-1 g)
+    → IsQueue c.shorten_last.new.self (g.M.Storage.elements c.write_slots.new.slots)
+    (g.B.Storage.elements (g.B.Storage.with_part c.self.inside.bytes c.in-Some.place.from c.f-count.new.arg2))
+    (with_last_size c.f-count.result (with_last_bytes (with_packet_if_room c.args.self.now c.args.max_size c.args.header) c.f-count.new.arg2))
+left g c =
+    let head = c.in-Some.ensures.placed in
+    filled (at g (goal.at.invariant_of-self g c).After-part_mut) c.args.header c.f-count.result c.if-prove.false c.f-count.new.arg2
+    c.shorten_last.new.self (c.shorten_last.ensures.slots ∙ ap (λ (o : PacketsHead). o.slots) head)
+    (c.shorten_last.ensures.bytes
+    ∙ ap (λ (o : PacketsHead). place o.bytes.read_at (o.bytes.length - (c.args.max_size - c.f-count.result))) head)
+    _ c.write_slots.ensures _ (g.met.B.Storage.part_written c.self.inside.bytes c.in-Some.place.from c.f-count.new.arg2)
 
 pub invariant_of-self : goal.invariant_of-self
-invariant_of-self g c =
-    let at = place_in _ _ _ c.self.invariant c.args.self.now c.self.view_is _ _ c.count-slot_count.ensures c.count-capacity.ensures c.args.max_size
-    c.in-Some.place c.in-Some.ensures.gap c.in-Some.ensures.slots c.in-Some.ensures.from in
-    let room = parts_room at c.args.header c.in-Some.ensures.contiguous c.part_mut.result.now c.part_mut.ensures.value in
-    let le = c.requires.count c.part_mut.result.now c.f-count.new.arg2 c.f-count.result room (returned c.part_mut.result c.f-count.new.arg2 refl c.f-count.ensures) in
-    filled_sound at c.args.header c.f-count.result le c.f-count.new.arg2 _ (c.shorten_last.ensures.slots ∙ ap (λ (o : PacketsHead). o.slots) c.in-Some.ensures.placed)
-    (c.shorten_last.ensures.bytes ∙ ap (λ (o : PacketsHead). place o.bytes.read_at (o.bytes.length - (c.args.max_size - c.f-count.result))) c.in-Some.ensures.placed)
-    _ c.write_slots.ensures _ (g.met.B.Storage.part_written c.self.inside.bytes c.in-Some.place.from c.f-count.new.arg2)
+invariant_of-self g c = (left g c).sound
 
 pub returns-clause-full : goal.returns-clause-full
 returns-clause-full g c =
-    let at = place_in _ _ _ c.self.invariant c.args.self.now c.self.view_is _ _ c.count-slot_count.ensures c.count-capacity.ensures c.args.max_size
-    c.in-Some.place c.in-Some.ensures.gap c.in-Some.ensures.slots c.in-Some.ensures.from in
-    (λ e. absurd (false≢true e), λ none. absurd (has_place at none))
+    (λ e. absurd (false≢true e), λ none. absurd (has_place (at g (goal.at.returns-clause-full g c).After-part_mut) none))
 
 pub returns-clause-wrote : goal.returns-clause-wrote
 returns-clause-wrote g c =
-    let at = place_in _ _ _ c.self.invariant c.args.self.now c.self.view_is _ _ c.count-slot_count.ensures c.count-capacity.ensures c.args.max_size
-    c.in-Some.place c.in-Some.ensures.gap c.in-Some.ensures.slots c.in-Some.ensures.from in
+    let q = c.args.self.now in
+    let hd = c.args.header in
+    let p = (goal.at.returns-clause-wrote g c).After-part_mut in
+    let is_room = room g p in
     let now = c.part_mut.result.now in
-    let room = parts_room at c.args.header c.in-Some.ensures.contiguous now c.part_mut.ensures.value in
     let after = c.f-count.new.arg2 in
-    let met : FnOnceReturnsAtMut g.F.FnOnce c.args.f now c.f-count.result after = returned c.part_mut.result after refl c.f-count.ensures in
-    let le = c.requires.count now after c.f-count.result room met in
     let count = c.f-count.result in
-    let left = filled_as at c.args.header c.f-count.result le after _ (c.shorten_last.ensures.slots ∙ ap (λ (o : PacketsHead). o.slots) c.in-Some.ensures.placed)
-    (c.shorten_last.ensures.bytes ∙ ap (λ (o : PacketsHead). place o.bytes.read_at (o.bytes.length - (c.args.max_size - c.f-count.result))) c.in-Some.ensures.placed)
-    _ c.write_slots.ensures _ (g.met.B.Storage.part_written c.self.inside.bytes c.in-Some.place.from after) in
-    let ok = well_placed _ _ c.self.invariant _ c.self.view_is in
-    let long : length after ≡ c.args.max_size = c.f-count.auto.arg2 ∙ room.2 in
-    let accepted = ap contents left ∙ order.accepted_with c.args.self.now ok c.args.max_size c.args.header after room.0 long count le in
-    let call = enqueue_with_call c.args.self.now c.args.max_size c.args.header count after room.0 long le _ left in
+    let made = (left g c).seen in
+    let long : length after ≡ c.args.max_size = c.f-count.auto.arg2 ∙ is_room.2 in
     record {
       room = now;
       bytes = after;
-      is_room = room;
-      met = search met;
+      is_room = is_room;
+      met = returned c.part_mut.result after refl c.f-count.ensures;
       size = long;
-      at_most = search le;
-      accepted = search accepted;
-      made = search left;
-      call = search call;
+      at_most = c.if-prove.false;
+      accepted = ap contents made
+          ∙ order.accepted_with q (well (at g p).queue) c.args.max_size hd after is_room.0 long count c.if-prove.false;
+      made = made;
+      call = enqueue_with_call q c.args.max_size hd count after is_room.0 long c.if-prove.false _ made;
     }
 
 pub returns-clause-capacity : goal.returns-clause-capacity
-returns-clause-capacity g c = (
-  ap length c.write_slots.ensures ∙ slots_long c.in-Some.place c.f-count.result c.args.header _ ∙ ap (λ q. q.slot_count) c.self.view_is,
-  ap length (g.met.B.Storage.part_written c.self.inside.bytes c.in-Some.place.from c.f-count.new.arg2) ∙ length-overwrite _ c.in-Some.place.from c.f-count.new.arg2
-      ∙ ap (λ q. length q.storage) c.self.view_is,
-)
+returns-clause-capacity g c =
+    let k = queue_at _ _ _ c.self.invariant c.self.view_is in (
+      ap length c.write_slots.ensures ∙ slots_long c.in-Some.place c.f-count.result c.args.header _ ∙ slots_of k,
+      ap length (g.met.B.Storage.part_written c.self.inside.bytes c.in-Some.place.from c.f-count.new.arg2)
+          ∙ length-overwrite _ c.in-Some.place.from c.f-count.new.arg2 ∙ ap length (stored k),
+    )
