@@ -200,6 +200,7 @@ static void acknowledge(struct receiving *it, struct link *link, uint64_t positi
     put(link, &segment, now);
 }
 
+/* Takes a segment that has arrived, and acknowledges it. */
 static void take_segment(
     struct receiving *it, struct link *link, const struct segment *segment, int64_t now) {
     uint64_t next, position;
