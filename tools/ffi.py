@@ -1,7 +1,7 @@
 #!/usr/bin/env python3
 """Writes the declarations of the library for C from the exports of crates/net_ffi.
 
-    python3 tools/ffi.py               writes the exports of heads, header, shim and net_base.pc of c, and duties and refusals in docs/FFI.md
+    python3 tools/ffi.py               writes the exports of heads, header, shim and net_base.pc of c, and duties in docs/FFI.md
     python3 tools/ffi.py --check       compares the files with what it would write; status 1 if one is stale
     python3 tools/ffi.py --tests FILE  writes the program that calls each export at the values of exports.txt
     python3 tools/ffi.py --sequence FILE    writes the program that makes one long sequence of calls of all
@@ -15,7 +15,7 @@ It reads, in the order of the modules in lib.rt, but those in FIRST before,
 A slice is a pointer and then a length, with `_length` after the slice's name; `&T` and `&mut T` are pointers. In
 C a struct's name is in snake case, without `Net` before and `Head` after it, and has the prefix `net_base_`. The doc
 comment of a module heads its section; of a struct of another crate only its first paragraph is taken. The duties and
-refusals in the crate's own comment are in the header and in docs/FFI.md. The index in the header is that of heads.txt.
+refusals in the crate's own comment are in the header, and the duties in docs/FFI.md. The index in the header is that of heads.txt.
 """
 import argparse
 import dataclasses
@@ -433,12 +433,12 @@ def c_part(library, crate):
 
 
 def page(crate, path):
-    """The page with its duties and refusals written anew, and with a function of the program of a stream."""
+    """The page with its duties written anew, and with a function of the program of a stream."""
     text, parts = path.read_text(), []
     shown = STREAM.read_text().split(FROM, 1)[1].split(TO, 1)[0]
     text = between(text, STREAM_BEGIN, "\n" + "".join(f"    {it}".rstrip() + "\n" for it in (FROM + shown).rstrip().split("\n")) + "\n")
     for heading, words in root_sections(crate):
-        if heading in ("Duties", "Refusals"):
+        if heading == "Duties":
             words = re.sub(r"\n(?! *\d+\. |\n)", " ", words)
             parts.append(f"## {heading}\n\n" + "\n".join(wrapped_text(words, 120)))
     return between(text, PAGE_BEGIN, "\n\n".join(parts) + "\n")
