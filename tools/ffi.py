@@ -37,10 +37,6 @@ FIRST += ["finite_receiver", "finite_sender", "tcp", "advertised_window", "peer_
 PAGE = ROOT / "docs/FFI.md"
 PAGE_BEGIN = "<!-- Written by tools/ffi.py from crates/net_ffi/src/lib.rt, up to the line END. -->"
 PAGE_END = "<!-- END -->"
-# A program of which the page has a function, from its comment on up to another comment.
-STREAM = ROOT / "c/programs/stream.c"
-STREAM_BEGIN = "<!-- Written by tools/ffi.py from c/programs/stream.c, up to the line END. -->"
-FROM, TO = "/* Takes a segment that has arrived, and acknowledges it. */", "/* The end of what docs/FFI.md shows. */"
 BEGIN = "/* Written by tools/ffi.py, up to the line END. */"
 END = "/* END */"
 WIDTH = 100
@@ -433,15 +429,9 @@ def c_part(library, crate):
 
 
 def page(crate, path):
-    """The page with its duties written anew, and with a function of the program of a stream."""
-    text, parts = path.read_text(), []
-    shown = STREAM.read_text().split(FROM, 1)[1].split(TO, 1)[0]
-    text = between(text, STREAM_BEGIN, "\n" + "".join(f"    {it}".rstrip() + "\n" for it in (FROM + shown).rstrip().split("\n")) + "\n")
-    for heading, words in root_sections(crate):
-        if heading == "Duties":
-            words = re.sub(r"\n(?! *\d+\. |\n)", " ", words)
-            parts.append(f"## {heading}\n\n" + "\n".join(wrapped_text(words, 120)))
-    return between(text, PAGE_BEGIN, "\n\n".join(parts) + "\n")
+    """The page with its duties written anew."""
+    words = re.sub(r"\n(?! *\d+\. |\n)", " ", dict(root_sections(crate))["Duties"])
+    return between(path.read_text(), PAGE_BEGIN, "## Duties\n\n" + "\n".join(wrapped_text(words, 120)) + "\n")
 
 
 def between(text, begin, middle):
