@@ -4,6 +4,18 @@
     python3 models/make.py          writes the rows, rust/tests/rows/rows.txt, and the program's tables of net_program_tests
     python3 models/make.py --check  writes nothing, and names each file that is not as the models give it
 
+A row is `call => reply`. Blocks are divided by an empty line, and a block's first line makes what its other lines call. A
+reply is what the call gave, then `|`, and then what can be seen of the subject, as `show` of its model says. `forbidden`,
+of a call whose precondition doesn't hold, is a panic. `1:6c` is one byte in hex, `12#5f63c79e` 12 bytes and their digest
+(FNV-1a), `54-68` a run. This ring of 12 bytes takes 8, and lends the first to be written over by 46:
+
+    ring 12 0 => |0 12 12 12 1 0 e51f0b0e
+    enqueue_slice 8 1 => 8|8 4 4 12 0 0 9c0ad3b0
+    dequeue_one 46 => 1:6c|7 5 4 12 0 0 e7fb64de
+
+Of a drawn block the rows stay up to the last one that gives an answer of a model's rule that none before gave, or whose
+kind has fewer than 12 rows.
+
 Ends with status 1 if a file differs, or if no case gives some answer to a question of the models (branches.py). If the
 environment names a checkout of smoltcp, SMOLTCP=/path/to/smoltcp, each test that a worked row names has to be there;
 one without tests is status 2.

@@ -1,7 +1,7 @@
 #!/usr/bin/env python3
 """Writes the declarations of the library for C from the exports of crates/net_ffi.
 
-    python3 tools/ffi.py               writes the exports of heads, header, shim and net_base.pc of c, and duties and refusals in docs/FFI.md
+    python3 tools/ffi.py               writes the exports of heads, header, shim and net_base.pc of c, and duties in docs/FFI.md
     python3 tools/ffi.py --check       compares the files with what it would write; status 1 if one is stale
     python3 tools/ffi.py --tests FILE  writes the program that calls each export at the values of exports.txt
     python3 tools/ffi.py --sequence FILE    writes the program that makes one long sequence of calls of all
@@ -15,7 +15,7 @@ It reads, in the order of the modules in lib.rt, but those in FIRST before,
 A slice is a pointer and then a length, with `_length` after the slice's name; `&T` and `&mut T` are pointers. In
 C a struct's name is in snake case, without `Net` before and `Head` after it, and has the prefix `net_base_`. The doc
 comment of a module heads its section; of a struct of another crate only its first paragraph is taken. The duties and
-refusals in the crate's own comment are in the header and in docs/FFI.md. The index in the header is that of heads.txt.
+refusals in the crate's own comment are in the header, and the duties in docs/FFI.md. The index in the header is that of heads.txt.
 """
 import argparse
 import dataclasses
@@ -37,10 +37,6 @@ FIRST += ["finite_receiver", "finite_sender", "tcp", "advertised_window", "peer_
 PAGE = ROOT / "docs/FFI.md"
 PAGE_BEGIN = "<!-- Written by tools/ffi.py from crates/net_ffi/src/lib.rt, up to the line END. -->"
 PAGE_END = "<!-- END -->"
-# A program of which the page has the calls of both ends of a stream, from a comment on up to another.
-STREAM = ROOT / "c/programs/stream.c"
-STREAM_BEGIN = "<!-- Written by tools/ffi.py from c/programs/stream.c, up to the line END. -->"
-FROM, TO = "/* The two ends of a stream. */", "/* The end of what docs/FFI.md shows. */"
 BEGIN = "/* Written by tools/ffi.py, up to the line END. */"
 END = "/* END */"
 WIDTH = 100
@@ -433,15 +429,9 @@ def c_part(library, crate):
 
 
 def page(crate, path):
-    """The page with its duties and refusals written anew, and with the program of a stream."""
-    text, parts = path.read_text(), []
-    shown = STREAM.read_text().split(FROM, 1)[1].split(TO, 1)[0]
-    text = between(text, STREAM_BEGIN, "\n" + "".join(f"    {it}".rstrip() + "\n" for it in (FROM + shown).rstrip().split("\n")) + "\n")
-    for heading, words in root_sections(crate):
-        if heading in ("Duties", "Refusals"):
-            words = re.sub(r"\n(?! *\d+\. |\n)", " ", words)
-            parts.append(f"## {heading}\n\n" + "\n".join(wrapped_text(words, 120)))
-    return between(text, PAGE_BEGIN, "\n\n".join(parts) + "\n")
+    """The page with its duties written anew."""
+    words = re.sub(r"\n(?! *\d+\. |\n)", " ", dict(root_sections(crate))["Duties"])
+    return between(path.read_text(), PAGE_BEGIN, "## Duties\n\n" + "\n".join(wrapped_text(words, 120)) + "\n")
 
 
 def between(text, begin, middle):

@@ -200,6 +200,7 @@ static void acknowledge(struct receiving *it, struct link *link, uint64_t positi
     put(link, &segment, now);
 }
 
+/* Takes a segment that has arrived, and acknowledges it. */
 static void take_segment(
     struct receiving *it, struct link *link, const struct segment *segment, int64_t now) {
     uint64_t next, position;
@@ -218,7 +219,6 @@ static void take_segment(
     }
     if (arrival != NET_BASE_IGNORE) acknowledge(it, link, position, now);
 }
-/* The end of what docs/FFI.md shows. */
 
 /* One stream, which begins at a position, and whose reader is slow or isn't. */
 static void run(uint64_t first, const uint8_t *data, size_t size, bool is_slow) {
