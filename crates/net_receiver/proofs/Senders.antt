@@ -1,17 +1,19 @@
 -- What a sender lends and has sent, the laws of one whose stream ends, and what a receiver reads of it.
 use Rattle.std.proofs.Common.{◌≡◌, ℕ, ◌+◌, ◌-◌, ◌<◌, ◌≤◌, List, [], length, take, drop, get_or, ◌++◌, ◌∙◌, arith, sym}
 use Rattle.std.proofs.Common.{ap, min, max, length-append, length-drop, Bool, true, false, cond, ◌∷◌, nat_eq, nat_le}
-use Rattle.std.proofs.Common.{refl, subst, append_assoc, append-nil, All, ⊎_elim}
+use Rattle.std.proofs.Common.{refl, subst, append_assoc, append-nil, All, ⊎_elim, length-take, replicate}
 use Rattle.std.proofs.lemmas.Bool.{cases_lt, cond_both, and_parts, leb-true, eqb-true, cond-false}
 use Rattle.std.proofs.lemmas.Bool.Decides.{nat_tests}
 use Rattle.net_assembler.proofs.Sets.{either}
 use Rattle.std.proofs.lemmas.List.{drop_all, get_or-take, drop-drop, get_or-drop, drop-append-le, nil_from_length}
+use Rattle.std.proofs.lemmas.List.{length-replicate}
 use Rattle.net_receiver.specs.{MatchesStream, MatchesWhatIsThere, sender_state, Sends, end_of, contiguous_end}
 use Rattle.net_receiver.specs.{with_written, sender_from, sender_of, MatchesLonger, FiniteSenderState, first_number}
 use Rattle.net_receiver.specs.{numbers_end, finite_room, finite_sender_of, with_bytes, open_room, has_end_at, accepts}
 use Rattle.net_receiver.specs.{acknowledged_below, SenderCommand, Writes, Closes, Marks, Acknowledges, written_of}
 use Rattle.net_receiver.specs.{sender_after_command, sender_after_commands, bytes_written, IsLent, IsSoundSent}
-use Rattle.net_receiver.specs.{FreshSentIsSound, SoundSentStays, ClosedStays, LentIsOfStream, MatchesFinite}
+use Rattle.net_receiver.specs.{FreshSentIsSound, SoundSentStays, ClosedStays, LentIsOfStream, MatchesFinite, LendsAt}
+use Rattle.net_receiver.specs.{IsSoundFiniteSender}
 use Rattle.net_receiver.specs.{next_position, ReceivesFrom, fresh_finite, acknowledged, fresh_finite_sender}
 use Rattle.net_receiver.specs.{FiniteCommand, Arrives, Reads, CommandMatches, finite_after_commands}
 use Rattle.net_receiver.specs.SenderState.{SenderState}
@@ -204,35 +206,6 @@ closed_stays s (c ∷ cs) f w sound sends =
     )
 
 -- ---- what is lent
--- a segment from pos on, of numbers below limit, is one of what was written
-pub record Lends (s : FiniteSenderState) (pos limit : ℕ) (xs : List ℕ) (last : Bool) : Type 0 where
-  pub is : IsLent s pos limit xs last
-  pub says : (f : ℕ) (w : List ℕ) → Sends f w s.sender → s.sender.first_unacknowledged ≤ pos → MatchesFinite f w pos xs last
-
--- it is one if the head says so of the storage
-pub lent_of : (h : FiniteSenderHead) (storage : List ℕ) (v : FiniteSenderState) (pos limit from n : ℕ) (last : Bool) (now : List ℕ) →
-    finite_sender_of h storage ≡ v → IsSound (length storage) h.sender.place → length now ≡ n → now ≡ take n (drop from storage) →
-    take n (drop from storage) ≡ take n (drop (pos - h.sender.first_unacknowledged) (queue (ring_at storage h.sender.place))) →
-    (h.sender.first_unacknowledged ≤ pos → n ≡ min (limit - pos) (contiguous_end (sender_of h.sender storage) pos - pos)) →
-    (pos < h.sender.first_unacknowledged → n ≡ 0) →
-    (IsTrue last ↔ ((h.closed ≡ 1) × (pos + n ≡ h.sender.first_unacknowledged + h.sender.place.length) × (pos + n < limit) × (h.finished ≡ 0))) →
-    (h.sender.first_unacknowledged ≤ pos → (f : ℕ) (w : List ℕ) → Sends f w (sender_of h.sender storage) →
-    MatchesFinite f w pos (take n (drop from storage)) last) → Lends v pos limit now last
-lent_of h storage v pos limit from n last now is place long shown bytes count before end says =
-    let queued = length-queue (ring_at storage h.sender.place) place in
-    subst (λ o. Lends o pos limit now last) is (record {
-      is = record {
-        value = shown ∙ bytes ∙ ap (λ k. take k (drop (pos - h.sender.first_unacknowledged) (queue (ring_at storage h.sender.place)))) (sym long);
-        count = λ low. long ∙ count low;
-        before = λ below. nil_from_length now (long ∙ before below);
-        end = (
-          λ on. (let at = end.0 on in (at.0, omega (arith, at.1, long, queued), omega (arith, at.2, long), at.3)),
-          λ at. end.1 (at.0, omega (arith, at.1, long, queued), omega (arith, at.2, long), at.3),
-        );
-      };
-      says = λ f w s low. subst (λ ys. MatchesFinite f w pos ys last) (sym shown) (says low f w s);
-    })
-
 module _ (s : FiniteSenderState) (pos limit : ℕ) (xs : List ℕ) where
   -- no byte above the limit is lent, or above the last one
   lent_below : (last : Bool) → IsLent s pos limit xs last → pos + length xs ≤ max pos (min limit (end_of s.sender))
@@ -266,6 +239,23 @@ module _ (s : FiniteSenderState) (pos limit : ℕ) (xs : List ℕ) where
   pub lent_written : (last : Bool) → IsLent s pos limit xs last → pos ≤ end_of s.sender → pos + length xs ≤ end_of s.sender
   lent_written last lent low = omega (arith, lent_below last lent)
 
+-- what a head lends has numbers that there are
+pub sent_within : (capacity : ℕ) (h : FiniteSenderHead) (pos limit at total size : ℕ) (last : Bool) → IsSoundFiniteSender capacity h →
+    LendsAt capacity h pos limit at total size last → 0 < size + from_bool last →
+    pos + (size + from_bool last) ≤ h.sender.first_unacknowledged + h.sender.place.length + h.closed
+sent_within capacity h pos limit at total size last sound lends some =
+    let storage : List ℕ = replicate capacity 0 in
+    let all : length storage ≡ capacity = length-replicate capacity 0 in
+    let s = finite_sender_of h storage in
+    let xs = take size (drop at storage) in
+    let queued = length-queue (ring_at storage h.sender.place) (subst (λ k. IsSound k h.sender.place) (sym all) sound.sender.place) in
+    let long : length xs ≡ size = omega (arith, length-take size (drop at storage), length-drop at storage, lends.within, all) in
+    let lent = lends.lent storage all in
+    either (cases_lt (numbers_end s) pos)
+    (λ above. let none = lent_beyond s pos limit xs last lent above in
+        let empty = ap length none.0 in absurd (grind (arith, some, long, empty, none.1)))
+    (λ low. let numbers = lent_numbers s pos limit xs last lent low in omega (arith, numbers, long, queued))
+
 -- a segment of what was written is one of what is written in all: only the last one ends it
 pub matches_later : MatchesLonger → (f : ℕ) (w more : List ℕ) (pos : ℕ) (xs : List ℕ) (last : Bool) → (IsTrue last → more ≡ []) →
     MatchesFinite f w pos xs last → MatchesFinite f (w ++ more) pos xs last
@@ -274,16 +264,23 @@ matches_later says f w more pos xs last none m = record {
   end = λ on. m.end on ∙ ap (λ l. f + length l) (sym (ap (λ l. w ++ l) (none on) ∙ append-nil w));
 }
 
--- so what is lent is a segment of what is written in all
-pub lent_later : MatchesLonger → (s : FiniteSenderState) (pos limit : ℕ) (xs : List ℕ) (last : Bool) → Lends s pos limit xs last →
-    (f : ℕ) (w more : List ℕ) → Sends f w s.sender → s.sender.first_unacknowledged ≤ pos → (s.closed ≡ 1 → more ≡ []) →
-    MatchesFinite f (w ++ more) pos xs last
-lent_later longer s pos limit xs last lent f w more sends from ended =
-    matches_later longer f w more pos xs last (λ on. ended (lent.is.end.0 on).0) (lent.says f w sends from)
-
 longer : MatchesLonger
 unfolding MatchesStream
 longer f pos x more xs h = λ p b from is. longer_at x more _ b (h p b from is)
+
+-- what is lent is a segment of what was written, and of what is written in all
+pub lent_matches : (s : FiniteSenderState) (pos limit : ℕ) (xs : List ℕ) (last : Bool) → IsLent s pos limit xs last →
+    (f : ℕ) (w : List ℕ) → Sends f w s.sender → s.sender.first_unacknowledged ≤ pos → MatchesFinite f w pos xs last
+lent_matches s pos limit xs last lent f w sends low = record {
+  bytes = lent_says matches_what_is_there f w s.sender pos xs sends low lent.value;
+  end = λ on. (lent.end.0 on).1 ∙ sends.end;
+}
+
+pub lent_later : (s : FiniteSenderState) (pos limit : ℕ) (xs : List ℕ) (last : Bool) → IsLent s pos limit xs last →
+    (f : ℕ) (w more : List ℕ) → Sends f w s.sender → s.sender.first_unacknowledged ≤ pos → (s.closed ≡ 1 → more ≡ []) →
+    MatchesFinite f (w ++ more) pos xs last
+lent_later s pos limit xs last lent f w more sends from ended =
+    matches_later longer f w more pos xs last (λ on. ended (lent.end.0 on).0) (lent_matches s pos limit xs last lent f w sends from)
 
 pub lent_is_of_stream : LentIsOfStream
 lent_is_of_stream s cs f w pos xs sound sends low is =

@@ -2,6 +2,7 @@
 --     SenderCommand      bytes are written, the sender is closed, numbers are sent, or an acknowledgement arrives
 --     sender_after_commands s cs, bytes_written s cs      what they leave, and the bytes that were taken
 --     IsLent s pos limit xs last      what a sender lends from pos on, of numbers below limit
+--     LendsAt c h pos limit at total size last      where a head says that it is, in a storage of c bytes
 --     IsSoundSent s      what is true of every sender
 -- The others are laws.
 use Rattle.std.specs.Prelude.{◌≡◌, ℕ, ◌+◌, ◌-◌, ◌<◌, ◌≤◌, max, min, if◌then◌else◌, nat_le, List, [], ◌∷◌, ◌++◌}
@@ -9,7 +10,9 @@ use Rattle.std.specs.Prelude.{length, take, drop, Bool, IsTrue, ◌↔◌}
 use Rattle.net_receiver.specs.SenderState.{end_of, contiguous_end, Sends}
 use Rattle.net_receiver.specs.FiniteSender.{FiniteSenderState, fresh_finite_sender, first_number, numbers_end}
 use Rattle.net_receiver.specs.FiniteSender.{finite_room, with_bytes, closed_sender, has_end_at, accepts}
-use Rattle.net_receiver.specs.FiniteSender.{acknowledged_below}
+use Rattle.net_receiver.specs.FiniteSender.{acknowledged_below, finite_sender_of}
+use Rattle.net_receiver.specs.declared.finite_sender_head.FiniteSenderHead.{FiniteSenderHead}
+use Rattle.net_ring.specs.RingHead.{queued_index}
 use Rattle.net_receiver.specs.FiniteLaws.{MatchesFinite}
 
 -- the bytes from pos on that are queued, contiguous and below limit, and whether the end follows, below it too
@@ -19,6 +22,16 @@ pub record IsLent (s : FiniteSenderState) (pos limit : ℕ) (xs : List ℕ) (las
   pub before : pos < s.sender.first_unacknowledged → xs ≡ []
   pub end : IsTrue last
       ↔ ((s.closed ≡ 1) × (pos + length xs ≡ end_of s.sender) × (pos + length xs < limit) × (s.finished ≡ 0))
+
+-- of `total` bytes from the index `at` on, which are queued and below limit, `size` are contiguous: these are lent
+pub record LendsAt (capacity : ℕ) (h : FiniteSenderHead) (pos limit at total size : ℕ) (last : Bool) : Type 0 where
+  pub within : at + size ≤ capacity
+  pub from : h.sender.first_unacknowledged ≤ pos → at ≡ queued_index capacity h.sender.place (pos - h.sender.first_unacknowledged)
+  pub whole : h.sender.first_unacknowledged ≤ pos →
+      total ≡ min (limit - pos) (h.sender.place.length - (pos - h.sender.first_unacknowledged))
+  pub before : pos < h.sender.first_unacknowledged → (at ≡ 0) × (total ≡ 0) × (size ≡ 0)
+  pub lent : (storage : List ℕ) → length storage ≡ capacity →
+      IsLent (finite_sender_of h storage) pos limit (take size (drop at storage)) last
 
 -- commands
 pub data SenderCommand : Type 0 where

@@ -2,10 +2,10 @@
 ghost use Rattle.std.specs.Prelude.{◌≡◌, ◌↔◌, ◌+◌, ◌-◌, ◌<◌, ◌≤◌, ◌==◌, ◌++◌, ℕ, List};
 ghost use Rattle.std.specs.Prelude.{length, take, drop, min, max, IsTrue, IsFalse};
 ghost use Rattle.std.specs.Int.{from_bool};
-ghost use Rattle.net_ring.specs.Ring.{queue, rewind_if_empty, with_elements_wrapping, with_enqueued, write_at};
-ghost use Rattle.net_ring.specs.RingHead.{ring_at, queued_index};
-ghost use Rattle.net_receiver.specs.SenderState.{contiguous_end, Sends};
-ghost use Rattle.net_receiver.specs.FiniteLaws.{MatchesFinite};
+ghost use Rattle.net_ring.specs.Ring.{rewind_if_empty, with_elements_wrapping, with_enqueued, write_at};
+ghost use Rattle.net_ring.specs.RingHead.{ring_at};
+ghost use Rattle.net_receiver.specs.SenderState.{Sends};
+ghost use Rattle.net_receiver.specs.FiniteSenderLaws.{LendsAt};
 ghost use Rattle.net_receiver.specs.Finite.{no_end};
 ghost use Rattle.net_receiver.specs.NewHeads.{finite_sender_head};
 ghost use Rattle.net_receiver.specs.FiniteSender.{finite_sender_of, IsSoundFiniteSender};
@@ -160,38 +160,7 @@ impl FiniteSenderHead {
     #[inline]
     pub fn peek_at(&self, capacity: usize, pos: u64, limit: u64) -> (Span, bool)
         requires { IsSoundFiniteSender capacity self.now }
-        ensures within { result.0.from + result.0.contiguous ≤ capacity }
-        ensures count { (storage : List ℕ) → length storage ≡ capacity →
-            self.now.sender.first_unacknowledged ≤ pos → result.0.contiguous ≡ min (limit - pos)
-            (contiguous_end (finite_sender_of self.now storage).sender pos - pos) }
-        ensures before { pos < self.now.sender.first_unacknowledged →
-            (result.0.contiguous ≡ 0) × (result.0.from ≡ 0) × (result.0.count ≡ 0) }
-        ensures from { self.now.sender.first_unacknowledged ≤ pos →
-            result.0.from ≡ queued_index capacity self.now.sender.place
-            (pos - self.now.sender.first_unacknowledged) }
-        ensures whole { self.now.sender.first_unacknowledged ≤ pos →
-            result.0.count ≡ min (limit - pos)
-            (self.now.sender.place.length - (pos - self.now.sender.first_unacknowledged)) }
-        ensures end { IsTrue result.1 ↔ ((self.now.closed ≡ 1) × (pos + result.0.contiguous
-            ≡ self.now.sender.first_unacknowledged + self.now.sender.place.length)
-            × (pos + result.0.contiguous < limit) × (self.now.finished ≡ 0)) }
-        ensures room { pos ≤ limit → pos + result.0.contiguous + from_bool result.1 ≤ limit }
-        ensures none { limit ≤ pos → (result.0.contiguous ≡ 0) × IsFalse result.1 }
-        ensures numbers { 0 < result.0.contiguous + from_bool result.1 →
-            pos + (result.0.contiguous + from_bool result.1)
-            ≤ self.now.sender.first_unacknowledged + self.now.sender.place.length
-            + self.now.closed }
-        ensures fits { pos ≤ self.now.sender.first_unacknowledged + self.now.sender.place.length →
-            pos + result.0.contiguous < no_end }
-        ensures bytes { (storage : List ℕ) → length storage ≡ capacity →
-            take result.0.contiguous (drop result.0.from storage)
-            ≡ take result.0.contiguous (drop (pos - self.now.sender.first_unacknowledged)
-            (queue (ring_at storage self.now.sender.place))) }
-        ensures says { (storage : List ℕ) → length storage ≡ capacity →
-            self.now.sender.first_unacknowledged ≤ pos → (f : ℕ) (w : List ℕ) →
-            Sends f w (finite_sender_of self.now storage).sender →
-            MatchesFinite f w pos (take result.0.contiguous (drop result.0.from storage))
-            result.1 }
+        ensures { LendsAt capacity self.now pos limit result.0.from result.0.count result.0.contiguous result.1 }
     {
         let room = limit
             .saturating_sub(pos)
@@ -221,30 +190,8 @@ impl FiniteSenderHead {
         ensures sound { IsSoundFiniteSender capacity self.new }
         ensures mark { self.new ≡ head_after_sending self.old pos
             (result.0.contiguous + from_bool result.1) }
-        ensures within { result.0.from + result.0.contiguous ≤ capacity }
-        ensures count { (storage : List ℕ) → length storage ≡ capacity →
-            self.old.sender.first_unacknowledged ≤ pos → result.0.contiguous ≡ min (limit - pos)
-            (contiguous_end (finite_sender_of self.old storage).sender pos - pos) }
-        ensures before { pos < self.old.sender.first_unacknowledged →
-            (result.0.contiguous ≡ 0) × (result.0.from ≡ 0) × (result.0.count ≡ 0) }
-        ensures from { self.old.sender.first_unacknowledged ≤ pos →
-            result.0.from ≡ queued_index capacity self.old.sender.place
-            (pos - self.old.sender.first_unacknowledged) }
-        ensures whole { self.old.sender.first_unacknowledged ≤ pos →
-            result.0.count ≡ min (limit - pos)
-            (self.old.sender.place.length - (pos - self.old.sender.first_unacknowledged)) }
-        ensures end { IsTrue result.1 ↔ ((self.old.closed ≡ 1) × (pos + result.0.contiguous
-            ≡ self.old.sender.first_unacknowledged + self.old.sender.place.length)
-            × (pos + result.0.contiguous < limit) × (self.old.finished ≡ 0)) }
-        ensures bytes { (storage : List ℕ) → length storage ≡ capacity →
-            take result.0.contiguous (drop result.0.from storage)
-            ≡ take result.0.contiguous (drop (pos - self.old.sender.first_unacknowledged)
-            (queue (ring_at storage self.old.sender.place))) }
-        ensures says { (storage : List ℕ) → length storage ≡ capacity →
-            self.old.sender.first_unacknowledged ≤ pos → (f : ℕ) (w : List ℕ) →
-            Sends f w (finite_sender_of self.old storage).sender →
-            MatchesFinite f w pos (take result.0.contiguous (drop result.0.from storage))
-            result.1 }
+        ensures lends { LendsAt capacity self.old pos limit
+            result.0.from result.0.count result.0.contiguous result.1 }
     {
         let (span, is_last) = self.peek_at(capacity, pos, limit);
         let count = span.contiguous as u64 + u64::from(is_last);

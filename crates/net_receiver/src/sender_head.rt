@@ -4,13 +4,11 @@ ghost use Rattle.std.specs.Prelude.{length, take, drop, min, max, nat_le, IsTrue
 ghost use Rattle.net_ring.specs.Ring.{queue, rewind_if_empty, with_enqueued, write_at};
 ghost use Rattle.net_ring.specs.Ring.{with_elements_wrapping};
 ghost use Rattle.net_ring.specs.RingHead.{ring_at, queued_index, dequeued_place};
-ghost use Rattle.net_receiver.specs.OneStream.{MatchesStream};
 ghost use Rattle.net_receiver.specs.SenderState.{sender_state, room_of, contiguous_end, Sends};
 ghost use Rattle.net_receiver.specs.SenderState.{with_written, sender_from};
 ghost use Rattle.net_receiver.specs.NewHeads.{sender_head};
 ghost use Rattle.net_receiver.specs.SenderHeads.{sender_of, IsSoundHead};
 
-use crate::laws;
 use net_ring::{RingHead, Span};
 
 /// What a sender has besides its storage: numbers.
@@ -142,12 +140,7 @@ impl SenderHead {
             take result.contiguous (drop result.from storage)
             ≡ take result.contiguous (drop (pos - self.now.first_unacknowledged)
             (queue (ring_at storage self.now.place))) }
-        ensures says { (storage : List ℕ) → length storage ≡ capacity →
-            self.now.first_unacknowledged ≤ pos → (f : ℕ) (w : List ℕ) →
-            Sends f w (sender_of self.now storage) →
-            MatchesStream f w pos (take result.contiguous (drop result.from storage)) }
     {
-        laws::matches_stream();
         if pos < self.first_unacknowledged {
             return Span {
                 from: 0,

@@ -8,17 +8,17 @@
 // Written by tools/ffi.py.
 ghost use Rattle.net_ffi.specs.Refusals.{no_number};
 ghost use Rattle.net_receiver.specs.Finite.{no_end};
-ghost use Rattle.net_receiver.specs.FiniteLaws.{MatchesFinite};
 ghost use Rattle.net_receiver.specs.FiniteSender.{IsSoundFiniteSender, acknowledged_below, closed_sender};
 ghost use Rattle.net_receiver.specs.FiniteSender.{finite_room, finite_sender_of, fresh_finite_sender};
 ghost use Rattle.net_receiver.specs.FiniteSender.{head_after_sending, with_bytes};
+ghost use Rattle.net_receiver.specs.FiniteSenderLaws.{LendsAt};
 ghost use Rattle.net_receiver.specs.NewHeads.{finite_sender_head};
-ghost use Rattle.net_receiver.specs.SenderState.{Sends, contiguous_end};
-ghost use Rattle.net_ring.specs.Ring.{queue, rewind_if_empty, with_elements_wrapping, with_enqueued, write_at};
-ghost use Rattle.net_ring.specs.RingHead.{queued_index, ring_at};
+ghost use Rattle.net_receiver.specs.SenderState.{Sends};
+ghost use Rattle.net_ring.specs.Ring.{rewind_if_empty, with_elements_wrapping, with_enqueued, write_at};
+ghost use Rattle.net_ring.specs.RingHead.{ring_at};
 ghost use Rattle.std.specs.Int.{from_bool};
-ghost use Rattle.std.specs.Prelude.{IsFalse, IsTrue, List, drop, length, max, min, take, ℕ, ◌++◌, ◌+◌, ◌-◌, ◌<◌};
-ghost use Rattle.std.specs.Prelude.{◌==◌, ◌↔◌, ◌≡◌, ◌≢◌, ◌≤◌};
+ghost use Rattle.std.specs.Prelude.{IsFalse, IsTrue, List, length, max, min, take, ℕ, ◌++◌, ◌+◌, ◌<◌, ◌==◌, ◌↔◌};
+ghost use Rattle.std.specs.Prelude.{◌≡◌, ◌≢◌, ◌≤◌};
 
 use crate::refusals::{no_number, refused_segment_span};
 use crate::results::{SegmentSpan, segment_span};
@@ -191,37 +191,8 @@ pub extern "C" fn net_base_finite_sender_peek_at(
     position: u64,
     limit: u64,
 ) -> SegmentSpan
-    ensures within { IsSoundFiniteSender capacity sender.now → result.from + result.contiguous ≤ capacity }
-    ensures count { IsSoundFiniteSender capacity sender.now → (storage : List ℕ) → length storage ≡ capacity →
-        sender.now.sender.first_unacknowledged ≤ position → result.contiguous ≡ min (limit - position)
-        (contiguous_end (finite_sender_of sender.now storage).sender position - position) }
-    ensures before { IsSoundFiniteSender capacity sender.now → position < sender.now.sender.first_unacknowledged →
-        (result.contiguous ≡ 0) × (result.from ≡ 0) × (result.count ≡ 0) }
-    ensures from { IsSoundFiniteSender capacity sender.now → sender.now.sender.first_unacknowledged ≤ position →
-        result.from ≡ queued_index capacity sender.now.sender.place (position -
-        sender.now.sender.first_unacknowledged) }
-    ensures whole { IsSoundFiniteSender capacity sender.now → sender.now.sender.first_unacknowledged ≤ position →
-        result.count ≡ min (limit - position) (sender.now.sender.place.length - (position -
-        sender.now.sender.first_unacknowledged)) }
-    ensures end { IsSoundFiniteSender capacity sender.now → (IsTrue result.is_last ↔ ((sender.now.closed ≡ 1) ×
-        (position + result.contiguous ≡ sender.now.sender.first_unacknowledged + sender.now.sender.place.length) ×
-        (position + result.contiguous < limit) × (sender.now.finished ≡ 0))) }
-    ensures room { IsSoundFiniteSender capacity sender.now → position ≤ limit → position + result.contiguous +
-        from_bool result.is_last ≤ limit }
-    ensures none { IsSoundFiniteSender capacity sender.now → limit ≤ position → (result.contiguous ≡ 0) × IsFalse
-        result.is_last }
-    ensures numbers { IsSoundFiniteSender capacity sender.now → 0 < result.contiguous + from_bool result.is_last →
-        position + (result.contiguous + from_bool result.is_last) ≤ sender.now.sender.first_unacknowledged +
-        sender.now.sender.place.length + sender.now.closed }
-    ensures fits { IsSoundFiniteSender capacity sender.now → position ≤ sender.now.sender.first_unacknowledged +
-        sender.now.sender.place.length → position + result.contiguous < no_end }
-    ensures bytes { IsSoundFiniteSender capacity sender.now → (storage : List ℕ) → length storage ≡ capacity → take
-        result.contiguous (drop result.from storage) ≡ take result.contiguous (drop (position -
-        sender.now.sender.first_unacknowledged) (queue (ring_at storage sender.now.sender.place))) }
-    ensures says { IsSoundFiniteSender capacity sender.now → (storage : List ℕ) → length storage ≡ capacity →
-        sender.now.sender.first_unacknowledged ≤ position → (f : ℕ) (w : List ℕ) → Sends f w (finite_sender_of
-        sender.now storage).sender → MatchesFinite f w position (take result.contiguous (drop result.from storage))
-        result.is_last }
+    ensures value { IsSoundFiniteSender capacity sender.now → LendsAt capacity sender.now position limit result.from
+        result.count result.contiguous result.is_last }
     ensures refused { (IsSoundFiniteSender capacity sender.now → ⊥) → (result.from ≡ no_number) × (result.count ≡ 0)
         × (result.contiguous ≡ 0) × IsFalse result.is_last }
 {
@@ -247,28 +218,8 @@ pub extern "C" fn net_base_finite_sender_send_at(
     ensures sound { IsSoundFiniteSender capacity sender.old → IsSoundFiniteSender capacity sender.new }
     ensures mark { IsSoundFiniteSender capacity sender.old → sender.new ≡ head_after_sending sender.old position
         (result.contiguous + from_bool result.is_last) }
-    ensures within { IsSoundFiniteSender capacity sender.old → result.from + result.contiguous ≤ capacity }
-    ensures count { IsSoundFiniteSender capacity sender.old → (storage : List ℕ) → length storage ≡ capacity →
-        sender.old.sender.first_unacknowledged ≤ position → result.contiguous ≡ min (limit - position)
-        (contiguous_end (finite_sender_of sender.old storage).sender position - position) }
-    ensures before { IsSoundFiniteSender capacity sender.old → position < sender.old.sender.first_unacknowledged →
-        (result.contiguous ≡ 0) × (result.from ≡ 0) × (result.count ≡ 0) }
-    ensures from { IsSoundFiniteSender capacity sender.old → sender.old.sender.first_unacknowledged ≤ position →
-        result.from ≡ queued_index capacity sender.old.sender.place (position -
-        sender.old.sender.first_unacknowledged) }
-    ensures whole { IsSoundFiniteSender capacity sender.old → sender.old.sender.first_unacknowledged ≤ position →
-        result.count ≡ min (limit - position) (sender.old.sender.place.length - (position -
-        sender.old.sender.first_unacknowledged)) }
-    ensures end { IsSoundFiniteSender capacity sender.old → (IsTrue result.is_last ↔ ((sender.old.closed ≡ 1) ×
-        (position + result.contiguous ≡ sender.old.sender.first_unacknowledged + sender.old.sender.place.length) ×
-        (position + result.contiguous < limit) × (sender.old.finished ≡ 0))) }
-    ensures bytes { IsSoundFiniteSender capacity sender.old → (storage : List ℕ) → length storage ≡ capacity → take
-        result.contiguous (drop result.from storage) ≡ take result.contiguous (drop (position -
-        sender.old.sender.first_unacknowledged) (queue (ring_at storage sender.old.sender.place))) }
-    ensures says { IsSoundFiniteSender capacity sender.old → (storage : List ℕ) → length storage ≡ capacity →
-        sender.old.sender.first_unacknowledged ≤ position → (f : ℕ) (w : List ℕ) → Sends f w (finite_sender_of
-        sender.old storage).sender → MatchesFinite f w position (take result.contiguous (drop result.from storage))
-        result.is_last }
+    ensures lends { IsSoundFiniteSender capacity sender.old → LendsAt capacity sender.old position limit result.from
+        result.count result.contiguous result.is_last }
     ensures refused { (IsSoundFiniteSender capacity sender.old → ⊥) → (result.from ≡ no_number) × (result.count ≡ 0)
         × (result.contiguous ≡ 0) × IsFalse result.is_last × (sender.new ≡ sender.old) }
 {

@@ -208,8 +208,8 @@ pub fn heads_of_zeros() {
 
 /// States which numbers a segment has that a sender of a stream that ends lends, as clause `lent` of `peek_at` and
 /// `send_at` says it: some, if a byte from `pos` on is queued below `limit` (`some`); all below `limit` (`room`,
-/// `none`); all below the sender's end (`numbers`, `beyond`); and its bytes are written ones (`written`), so there is a number after
-/// the last (clause `fits` of `is_sound_sent`).
+/// `none`); all below the sender's end (`numbers`, `beyond`); and its bytes are written ones (`written`), so there is a
+/// number after the last (clause `fits` of `is_sound_sent`). It is a segment of what was written to the sender (`stream`).
 pub fn lent_segments() {}
 
 /// States what a receiver reads of what a sender sends, whatever the path between them does: if each segment that

@@ -1,7 +1,6 @@
 //! A sender in parts: a head of numbers, and a storage that is kept elsewhere.
 
 use crate::rattle::prelude::*;
-use crate::proved::net_receiver::laws;
 use crate::proved::net_ring::{RingHead, Span};
 
 /// What a sender has besides its storage: numbers.
@@ -88,7 +87,6 @@ impl SenderHead {
     /// The head is sound for a storage of `capacity` bytes.
     #[inline]
     pub fn peek_at(&self, capacity: usize, pos: u64, max: usize) -> Span {
-        laws::matches_stream();
         if pos < self.first_unacknowledged {
             return Span {
                 from: 0,

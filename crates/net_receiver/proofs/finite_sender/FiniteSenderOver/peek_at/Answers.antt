@@ -1,6 +1,7 @@
-use Rattle.std.proofs.Common.{sym, arith}
+use Rattle.std.proofs.Common.{List, ℕ, sym, subst, arith}
 use Rattle.net_ring.proofs.RingFacts.{part_is}
-use Rattle.net_receiver.proofs.Senders.{lent_of, lent_later}
+use Rattle.net_receiver.specs.{FiniteSenderState, finite_sender_of, IsLent}
+use Rattle.net_receiver.proofs.Senders.{lent_later}
 use Rattle.net_receiver.proofs.finite_sender.FiniteSenderOver.peek_at.Goals as goal
 
 pub returns : goal.returns
@@ -10,12 +11,10 @@ returns g c =
     let v = c.args.self.now in
     let p = c.args.pos in
     let l = c.args.limit in
-    let now = c.part.result.now in
     let span = c.peek_at-lent.result.0 in
     let last = c.peek_at-lent.result.1 in
     let met = c.peek_at-lent.ensures in
-    let size = sym c.count.ensures in
     let shown = part_is xs span.from _ span.contiguous (omega arith) (omega (arith, met.within, c.count.ensures)) _ c.part.ensures in
-    let lent = lent_of h xs v p l span.from span.contiguous last now c.self.view_is c.self.invariant.sender.place
-    shown.0 shown.1 (met.bytes xs size) (met.count xs size) (λ below. (met.before below).0) met.end (met.says xs size) in
-    record { lent = lent.is; later = lent_later c.matches_stream.ensures.longer v p l now last lent }
+    let there = subst (λ (ys : List ℕ). IsLent (finite_sender_of h xs) p l ys last) (sym shown.1) (met.lent xs (sym c.count.ensures)) in
+    let lent = subst (λ (s : FiniteSenderState). IsLent s p l c.part.result.now last) c.self.view_is there in
+    record { lent = lent; later = lent_later v p l c.part.result.now last lent }

@@ -1,9 +1,9 @@
-use Rattle.std.proofs.Common.{ℕ, ◌+◌, ◌∙◌, sym, ap, refl, arith}
+use Rattle.std.proofs.Common.{ℕ, ◌+◌, ◌∙◌, List, sym, subst, ap, refl, arith}
 use Rattle.std.specs.Int.{from_bool}
 use Rattle.net_ring.proofs.RingFacts.{part_is}
 use Rattle.net_receiver.specs.declared.finite_sender_head.FiniteSenderHead.{FiniteSenderHead}
-use Rattle.net_receiver.specs.{FiniteSenderState, finite_sender_of, sent_after}
-use Rattle.net_receiver.proofs.Senders.{lent_of, lent_later}
+use Rattle.net_receiver.specs.{FiniteSenderState, finite_sender_of, sent_after, IsLent}
+use Rattle.net_receiver.proofs.Senders.{lent_later}
 use Rattle.net_receiver.proofs.finite_sender.FiniteSenderOver.send_at.Goals as goal
 
 pub returns : goal.returns
@@ -15,21 +15,20 @@ returns g c =
     let now = c.part.result.now in
     let span = c.send_at-lent.result.0 in
     let last = c.send_at-lent.result.1 in
-    let met = c.send_at-lent.ensures in
-    let size = sym c.count.ensures in
+    let met = c.send_at-lent.ensures.lends in
     let shown = part_is xs span.from _ span.contiguous (omega arith) (omega (arith, met.within, c.count.ensures)) _ c.part.ensures in
-    let lent = lent_of c.self.inside.head xs v p l span.from span.contiguous last now c.self.view_is c.self.invariant.sender.place
-    shown.0 shown.1 (met.bytes xs size) (met.count xs size) (λ below. (met.before below).0) met.end (met.says xs size) in
+    let there = subst (λ (ys : List ℕ). IsLent (finite_sender_of c.self.inside.head xs) p l ys last) (sym shown.1) (met.lent xs (sym c.count.ensures)) in
+    let lent = subst (λ (s : FiniteSenderState). IsLent s p l now last) c.self.view_is there in
     let marked : FiniteSenderState → ℕ → FiniteSenderState = λ o n. record o { sent = sent_after o.sent p (n + from_bool last) } in (
       (
         refl,
         λ _. tt,
-        ap (λ (h : FiniteSenderHead). finite_sender_of h xs) met.mark ∙ ap (λ o. marked o span.contiguous) c.self.view_is
+        ap (λ (h : FiniteSenderHead). finite_sender_of h xs) c.send_at-lent.ensures.mark ∙ ap (λ o. marked o span.contiguous) c.self.view_is
             ∙ ap (marked v) (sym shown.0),
       ),
       record {
         marks = tt;
-        lent = lent.is;
-        later = lent_later c.matches_stream.ensures.longer v p l now last lent;
+        lent = lent;
+        later = lent_later v p l now last lent;
       },
     )

@@ -1,25 +1,40 @@
-use Rattle.std.proofs.Common.{◌≡◌, ◌≤◌, length, take, drop, sym, subst, arith, length-take, length-drop}
+use Rattle.std.proofs.Common.{◌≡◌, ◌≤◌, ℕ, ◌∙◌, ◌-◌, length, take, drop, ap, sym, subst, arith, length-take, length-drop}
 use Rattle.std.proofs.lemmas.Bool.Decides.{nat_tests}
+use Rattle.std.proofs.lemmas.List.{nil_from_length}
+use Rattle.net_ring.specs.Ring.{queue}
 use Rattle.net_ring.specs.RingHead.{IsSound, ring_at}
 use Rattle.net_ring.proofs.Rotations.{length-queue}
 use Rattle.net_receiver.specs.{sender_of, contiguous_end, end_of}
+use Rattle.net_receiver.specs.SenderState.{SenderState}
 use Rattle.net_receiver.proofs.finite_sender_head.FiniteSenderHead.peek_at.Goals as goal
 
-pub returns-clause-count : goal.returns-clause-count
-returns-clause-count c = λ storage size low.
-    let v = sender_of c.args.self.now.sender storage in
-    let queued = length-queue (ring_at storage c.args.self.now.sender.place) (subst (λ k. IsSound k c.args.self.now.sender.place) (sym size) c.requires.sender.place) in
-    let within : contiguous_end v c.args.pos ≤ end_of v = grind (arith, nat_tests) in
-    omega (arith, c.peek_at-span.ensures.end storage size low, queued, within, low, c.min-room.ensures, c.saturating_sub.ensures)
+contiguous_within : (v : SenderState) (pos : ℕ) → contiguous_end v pos ≤ end_of v
+contiguous_within v pos = grind (arith, nat_tests)
 
-pub returns-clause-says : goal.returns-clause-says
-returns-clause-says c = λ storage size low f w sends.
-    let n = c.peek_at-span.result.contiguous in
-    let from = c.peek_at-span.result.from in
-    let queued = length-queue (ring_at storage c.args.self.now.sender.place) (subst (λ k. IsSound k c.args.self.now.sender.place) (sym size) c.requires.sender.place) in
-    let lent : length (take n (drop from storage)) ≡ n =
-    omega (arith, length-take n (drop from storage), length-drop from storage, c.peek_at-span.ensures.within) in
+pub returns : goal.returns
+returns c =
+    let h = c.args.self.now in
+    let first = h.sender.first_unacknowledged in
+    let span = c.peek_at-span in
+    let n = span.result.contiguous in
     record {
-      bytes = c.peek_at-span.ensures.says storage size low f w sends;
-      end = λ on. (let at = (c.ends_below-is_last.ensures.0 on).1 in omega (arith, sends.end));
+      within = span.ensures.within;
+      from = span.ensures.from;
+      whole = λ low. omega (arith, span.ensures.count low, c.min-room.ensures, c.saturating_sub.ensures);
+      before = λ below. let none = span.ensures.before below in none;
+      lent = λ storage size.
+          let queued = length-queue (ring_at storage h.sender.place) (subst (λ k. IsSound k h.sender.place) (sym size) c.requires.sender.place) in
+          let xs = take n (drop span.result.from storage) in
+          let long : length xs ≡ n =
+              omega (arith, length-take n (drop span.result.from storage), length-drop span.result.from storage, span.ensures.within, size) in
+          let within = contiguous_within (sender_of h.sender storage) c.args.pos in
+          record {
+            value = span.ensures.bytes storage size ∙ ap (λ k. take k (drop (c.args.pos - first) (queue (ring_at storage h.sender.place)))) (sym long);
+            count = λ low. omega (arith, long, span.ensures.end storage size low, queued, within, low, c.min-room.ensures, c.saturating_sub.ensures);
+            before = λ below. nil_from_length xs (let none = span.ensures.before below in omega (arith, long, none.2));
+            end = (
+              λ on. (let at = c.ends_below-is_last.ensures.0 on in (at.0, omega (arith, at.1, long, queued), omega (arith, at.2, long), at.3)),
+              λ at. c.ends_below-is_last.ensures.1 (at.0, omega (arith, at.1, long, queued), omega (arith, at.2, long), at.3),
+            );
+          };
     }

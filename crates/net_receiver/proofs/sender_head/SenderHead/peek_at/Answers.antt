@@ -17,12 +17,3 @@ returns-clause-bytes c = λ xs size.
     (λ j. take (count j) (drop (at j) xs))
     ∙ queue_part_value g (subst (λ n. IsSound n p) (sym size) c.requires.place) i c.args.max
     ∙ sym (λ j. take (count j) (drop i (queue g)))
-
-pub returns-clause-says : goal.returns-clause-says
-returns-clause-says c = λ xs size from f w s.
-    let v = sender_of c.args.self.now xs in
-    let n = c.allocated.result.contiguous in
-    let lent = take n (drop c.allocated.result.from xs) in
-    let long : length lent ≡ n = omega (arith, length-take n (drop c.allocated.result.from xs), length-drop c.allocated.result.from xs, c.allocated.ensures.within, size) in
-    lent_says c.matches_stream.ensures.there f w v c.args.pos lent s from
-    (returns-clause-bytes c xs size ∙ ap (λ k. take k (drop (c.args.pos - v.first_unacknowledged) v.queue)) (sym long))
