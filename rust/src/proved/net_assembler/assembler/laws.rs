@@ -37,7 +37,8 @@ pub fn shifted_up() {}
 /// States that two assemblers are equal exactly if their sets have the same members.
 pub fn equal_assemblers() {}
 
-/// States that adding an accepted range again is accepted and changes nothing.
+/// States that adding an accepted range again is accepted and changes nothing, by the clauses of
+/// `add` for the second call.
 pub fn adding_again() {}
 
 /// States that the empty set has no run, and a range makes at most one run more. So a range is
@@ -52,7 +53,7 @@ pub fn adding_in_both_orders() {}
 pub fn adding_then_removing() {}
 
 /// States that `iter_data` gives the maximal runs, at most as many as the assembler has room for,
-/// and ends.
+/// and ends: however often `next` is called, it returns the runs in turn and then `None`.
 pub fn iterating() {}
 
 /// States how many binary digits a number has, which bounds the looks of `add_counted`: b digits
