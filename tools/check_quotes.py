@@ -45,6 +45,7 @@ ELSEWHERE = set("""
     c.storage-1.given
 """.split())
 NAME = re.compile(r"[A-Za-z_][A-Za-z0-9_]*")
+IMPL = re.compile(r"^impl(?:<[^{]*?>)? (?:\w+::)*(\w+)(?:<.*>)? for (\w+)", re.M)
 
 
 def dedented(lines):
@@ -138,14 +139,17 @@ def functions(crate):
 
 
 def names_of_sources():
-    """Each name of the sources, and of their files and folders."""
+    """Each name of the sources, of their files and folders, and of impls as the prover calls them, type and trait."""
     known = set()
     for path in (path for pattern in SOURCES for path in ROOT.glob(pattern)):
         if {"out", "target", "__pycache__"} & set(path.parts):
             continue
         known.update([path.name, path.stem])
         if path.is_file() and path.suffix != ".md":
-            known.update(NAME.findall(path.read_text(errors="replace")))
+            text = path.read_text(errors="replace")
+            known.update(NAME.findall(text))
+            if path.suffix == ".rt":
+                known.update(kind + trait for trait, kind in IMPL.findall(text))
     return known | ELSEWHERE
 
 

@@ -7,7 +7,7 @@ use Rattle.std.proofs.lemmas.Bool.{and_right, or_cases, or_left, or_right, cond_
 use Rattle.std.proofs.lemmas.List.{length-map}
 use Rattle.std.specs.List.{range_with_len, list_any}
 use Rattle.std.specs.Prelude.{T, is_some, Option, Some, None}
-use Rattle.std.specs.Ordering.{nat_cmp, eq_by_cmp, is_lt}
+use Rattle.std.specs.Ordering.{is_lt, nat_cmp, eq_by_cmp}
 use Rattle.std.specs.Cmp.{nat_cmp_total, unsigned_tied}
 use Rattle.std.specs.FinMap.{entries, contains_key-keys, get-from_entries, get-empty, same_map}
 use Rattle.std.specs.FinMap.{nat_cmp-IsAntisymmetric, entries_sorted}
@@ -210,31 +210,21 @@ unfolding begins_run
 begins-false s p l h = ap (λ b. (p == 0) || not b) h ∙ grind (arith, nat_tests)
 
 -- positions counted from m on
-shifted_eq : (m k q : ℕ) → nat_le m k ≡ true → (q == k - m) ≡ (q + m == k)
-shifted_eq m k q e = grind (arith, nat_tests)
-
-shifted_ne : (m k q : ℕ) → nat_le m k ≡ false → (q + m == k) ≡ false
-shifted_ne m k q e = grind (arith, nat_tests)
-
 has-shifted : (m : ℕ) (ks : List ℕ) (q : ℕ) → has (map (λ p. p - m) (filter (nat_le m) ks)) q ≡ has ks (q + m)
 has-shifted m [] q = refl
 has-shifted m (k ∷ ks) q =
+    let rest = has-shifted m ks q in
     cond_both (nat_le m k) _ _ (λ l. has (map (λ p. p - m) l) q ≡ has (k ∷ ks) (q + m))
-    (λ e i. shifted_eq m k q e i || has-shifted m ks q i)
-    (λ e. has-shifted m ks q ∙ ap (λ b. b || has ks (q + m)) (sym (shifted_ne m k q e)))
+    (λ e. grind (arith, nat_tests)) (λ e. grind (arith, nat_tests))
 
 pub contains-shift_down : (s : Positions) (m q : ℕ) → contains (shift_down s m) q ≡ contains s (q + m)
 unfolding shift_down
 contains-shift_down s m q =
     contains-set_of_list _ q ∙ has-shifted m (positions s) q ∙ sym (contains-positions s (q + m))
 
-up_step : (n k q : ℕ) (b : Bool) → ((q == n + k) || (nat_le n q && b)) ≡ (nat_le n q && ((q - n == k) || b))
-up_step n k q true = grind (arith, nat_tests)
-up_step n k q false = grind (arith, nat_tests)
-
 has-up : (n : ℕ) (ks : List ℕ) (q : ℕ) → has (map (λ p. n + p) ks) q ≡ (nat_le n q && has ks (q - n))
 has-up n [] q = sym (and_right (nat_le n q) false refl)
-has-up n (k ∷ ks) q = ap (λ b. (q == n + k) || b) (has-up n ks q) ∙ up_step n k q (has ks (q - n))
+has-up n (k ∷ ks) q = let rest = has-up n ks q in grind (arith, nat_tests)
 
 pub contains-shift_up : (s : Positions) (n q : ℕ) → contains (shift_up s n) q ≡ (nat_le n q && contains s (q - n))
 unfolding shift_up

@@ -283,26 +283,25 @@ wrapped-down n m (r ∷ rs) e h f =
     λ i. (start i, end i) ∷ wrapped-down n m rs e (rising_from m (r.1 + 1) rs (omega (arith, h.0, h.1)) h.2) f.1 i
 
 -- and are numbers of `usize`
-usize-up : (by low : ℕ) (rs : List (ℕ × ℕ)) → IsRising low rs → FitsFrom by rs → AreUsize (runs_wrapped by rs)
+usize-up : (by low : ℕ) (rs : List (ℕ × ℕ)) → IsRising low rs → FitsFrom by rs → AreUsize (runs_shifted_up by rs)
 usize-up by low [] h f = tt
-usize-up by low (r ∷ rs) h f =
-    let start : (by + r.0) % 2 ^ 64 ≡ by + r.0 = mod-eq_of_lt (omega (arith, h.1, f.0)) in
-    let end : (by + r.1) % 2 ^ 64 ≡ by + r.1 = mod-eq_of_lt (omega (arith, f.0)) in
-    (omega (arith, h.1, f.0), omega (arith, f.0), usize-up by (r.1 + 1) rs h.2 f.1)
+usize-up by low (r ∷ rs) h f = (omega (arith, h.1, f.0), omega (arith, f.0), usize-up by (r.1 + 1) rs h.2 f.1)
 
 pub tail_usize : (by n : ℕ) (rs : List (ℕ × ℕ)) → AreRuns rs → FitsFrom by rs → AreUsize (runs_wrapped by (drop n rs))
-tail_usize by n rs h f = usize-up by 0 (drop n rs) (rising-drop 0 rs n 0 h (λ k a b. omega arith)) (fits-drop by n rs f)
+tail_usize by n rs h f =
+    let rises = rising-drop 0 rs n 0 h (λ k a b. omega arith) in
+    let fits = fits-drop by n rs f in
+    subst AreUsize (sym (wrapped-up by 0 (drop n rs) rises fits)) (usize-up by 0 (drop n rs) rises fits)
 
 pub usize-down : (n m : ℕ) (rs : List (ℕ × ℕ)) → n + m ≡ 2 ^ 64 → IsRising m rs → FitsFrom 0 rs →
     AreUsize (runs_wrapped n rs)
-usize-down n m [] e h f = tt
-usize-down n m (r ∷ rs) e h f =
-    let start = wraps n m r.0 e h.0 (omega (arith, h.1, f.0)) in
-    let end = wraps n m r.1 e (omega (arith, h.0, h.1)) (omega (arith, f.0)) in (
-      omega (arith, h.1, f.0),
-      omega (arith, f.0),
-      usize-down n m rs e (rising_from m (r.1 + 1) rs (omega (arith, h.0, h.1)) h.2) f.1,
-    )
+usize-down n m rs e h f =
+    subst AreUsize (sym (wrapped-down n m rs e h f)) (lower m rs f (rising_from 0 m rs (omega arith) h))
+  where
+    lower : (m : ℕ) (rs : List (ℕ × ℕ)) → FitsFrom 0 rs → IsRising 0 rs → AreUsize (runs_shifted_down m rs)
+    lower m [] f h = tt
+    lower m (r ∷ rs) f h =
+        (omega (arith, h.1, f.0), omega (arith, f.0), lower m rs f.1 (rising_from 0 (r.1 + 1) rs (omega arith) h.2))
 
 usize-at : (by k : ℕ) (rs : List (ℕ × ℕ)) → AreUsize (runs_wrapped by rs) → k < length rs →
     IsUsize (wrapped_run by (get_or rs k (0, 0))).0 × IsUsize (wrapped_run by (get_or rs k (0, 0))).1

@@ -3,7 +3,7 @@ use Rattle.std.proofs.Common.{◌≡◌, ℕ, ◌+◌, ◌-◌, ◌*◌, ◌<◌
 use Rattle.std.proofs.Common.{max, min, refl, sym, ap, subst, ◌∙◌, arith, nat_lt}
 use Rattle.std.specs.List.{slice_get}
 use Rattle.std.proofs.lemmas.Option.{slice_get-get_or, slice_get_past}
-use Rattle.net_assembler.proofs.Holes.{few_holes, hole_between, no_hole, rises_after}
+use Rattle.net_assembler.proofs.Holes.{all_holes, few_holes, hole_between, no_hole, rises_after}
 use Rattle.net_assembler.specs.RunLists.{IsRising, start_at, end_at, AreRuns, HasSoundRuns, StartsAtZero, FitsFrom}
 use Rattle.net_assembler.specs.RunLists.{used_runs, runs_of, set_of, set_of_runs, runs_shifted_down}
 use Rattle.net_assembler.proofs.Runs.{runs_with_range, one_run_more, rising-runs_with_range, set-shifted_down}
@@ -556,4 +556,4 @@ pub ruleset heads = (length-used_runs, length-runs_of, are_runs, runs-set_of, fe
   set_of_no_runs, runs-nothing, are_same_decides)
 
 pub ruleset assemblers = (few_held, runs-nothing, set_of_no_runs, added_accepted, added_more, both_accepted,
-  few_binary_digits, rest_of_runs)
+  few_binary_digits, rest_of_runs, all_holes)

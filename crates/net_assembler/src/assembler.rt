@@ -663,7 +663,6 @@ impl<'a> Iterator for HoleIter<'a> {
         Some((from, start))
     }
 
-    #[tactic(auto, using(crate::proofs::Holes::all_holes))]
     #[inline]
     fn size_hint(&self) -> (usize, Option<usize>) {
         self.runs.size_hint()
