@@ -33,7 +33,7 @@ pub struct FiniteSenderHead {
     pub sent: u64,
 }
 
-// A parameter `_capacity` is there for the contract.
+// A parameter `_capacity` is there for the contract, and for the exports, which test the head by it.
 impl FiniteSenderHead {
     /// Returns the head of a sender of a stream that begins at position `first`; nothing was
     /// written. It is sound for every storage.
@@ -196,14 +196,14 @@ impl FiniteSenderHead {
             .saturating_sub(pos)
             .min(self.sender.place.length as u64) as usize;
         let span = self.sender.peek_at(capacity, pos, room);
-        let is_last = self.ends_below(capacity, pos + span.contiguous as u64, limit);
+        let is_last = self.ends_below(pos + span.contiguous as u64, limit);
         (span, is_last)
     }
 
     /// Returns whether a segment whose bytes end at `pos` ends the stream, with an end below `limit`.
     #[inline]
-    fn ends_below(&self, _capacity: usize, pos: u64, limit: u64) -> bool
-        requires { IsSoundFiniteSender _capacity self.now }
+    fn ends_below(&self, pos: u64, limit: u64) -> bool
+        requires { self.now.sender.first_unacknowledged + self.now.sender.place.length < no_end }
         ensures { IsTrue result ↔ ((self.now.closed ≡ 1) × (pos
             ≡ self.now.sender.first_unacknowledged + self.now.sender.place.length)
             × (pos < limit) × (self.now.finished ≡ 0)) }
