@@ -37,7 +37,7 @@ fn begins_at(head: &ScoreboardHead, runs: &[Run], first: u64) -> bool {
 /// Returns whether a sender of a stream that begins at 9 has its first number there.
 fn sends_from_nine() -> bool {
     let head = FiniteSenderHead::new(9);
-    head.is_sound(4) && head.first_number(4) == 9
+    head.is_sound(4) && head.first_number() == 9
 }
 
 #[test]
