@@ -1098,20 +1098,18 @@ bool net_base_finite_sender_is_sound(const struct net_base_finite_sender *sender
 
 /** Writes to `number` the first number that isn't acknowledged.
  *
- * It is refused if `sender` isn't that of a sender over `capacity` bytes: false, and nothing
- * changes.
+ * It is refused if the number doesn't fit 64 bits: false, and nothing changes.
  */
 bool net_base_finite_sender_first_number(
-    const struct net_base_finite_sender *sender, size_t capacity, uint64_t *number);
+    const struct net_base_finite_sender *sender, uint64_t *number);
 
 /** Writes to `number` the number after the last byte's, and after the end's once the sender is
  * closed.
  *
- * It is refused if `sender` isn't that of a sender over `capacity` bytes: false, and nothing
- * changes.
+ * It is refused if the number doesn't fit 64 bits: false, and nothing changes.
  */
 bool net_base_finite_sender_numbers_end(
-    const struct net_base_finite_sender *sender, size_t capacity, uint64_t *number);
+    const struct net_base_finite_sender *sender, uint64_t *number);
 
 /** Returns how many bytes `net_base_finite_sender_write` would take: none once the sender is
  * closed. The number 2^64 - 2 is kept for the end, which has one after it.
@@ -1131,12 +1129,8 @@ size_t net_base_finite_sender_write(
     struct net_base_finite_sender *sender, uint8_t *storage, size_t storage_length,
     const uint8_t *bytes, size_t bytes_length);
 
-/** Ends the stream after what was written. A second call changes nothing.
- *
- * It is refused if `sender` isn't that of a sender over `capacity` bytes: false, and nothing
- * changes.
- */
-bool net_base_finite_sender_close(struct net_base_finite_sender *sender, size_t capacity);
+/** Ends the stream after what was written. A second call changes nothing. */
+void net_base_finite_sender_close(struct net_base_finite_sender *sender);
 
 /** Returns where the bytes of a segment from `position` on are, none if the byte at `position`
  * isn't queued, and whether the segment ends the stream: the sender is closed, and the bytes end

@@ -94,7 +94,7 @@ static const struct net_base_timeout_bounds BOUNDS = {200000, 60000000, 1000};
 /* The numbers that calls of windows and timers take. */
 static struct net_base_sent_numbers numbers_of(const struct sending *it) {
     struct net_base_sent_numbers numbers = {0, it->sender.sent};
-    must(net_base_finite_sender_first_number(&it->sender, ROOM, &numbers.first_unacknowledged),
+    must(net_base_finite_sender_first_number(&it->sender, &numbers.first_unacknowledged),
         "first_number");
     return numbers;
 }
@@ -123,8 +123,8 @@ static uint64_t send(
 /* Sends what may be sent now: what is lost, what is new, or a probe of a window that is shut. */
 static void send_segments(struct sending *it, struct link *link, int64_t now) {
     uint64_t first, end, lost;
-    must(net_base_finite_sender_first_number(&it->sender, ROOM, &first), "first_number");
-    must(net_base_finite_sender_numbers_end(&it->sender, ROOM, &end), "numbers_end");
+    must(net_base_finite_sender_first_number(&it->sender, &first), "first_number");
+    must(net_base_finite_sender_numbers_end(&it->sender, &end), "numbers_end");
     bool has_expired = net_base_retransmission_timer_expire(&it->timer, &BOUNDS, now);
     if (has_expired) {
         /* All is sent again, whatever blocks said (RFC 2018, section 8). */
@@ -254,7 +254,7 @@ static void run(uint64_t first, const uint8_t *data, size_t size, bool is_slow) 
         must(now < INT64_C(40000000000), "it doesn't end");
         written += net_base_finite_sender_write(
             &from.sender, from.storage, ROOM, data + written, size - written);
-        if (written == size) must(net_base_finite_sender_close(&from.sender, ROOM), "close");
+        if (written == size) net_base_finite_sender_close(&from.sender);
         send_segments(&from, &there, now);
         while (take(&there, now, &segment)) take_segment(&to, &back, &segment, now);
         while (take(&back, now, &segment)) take_acknowledgement(&from, &segment, now);

@@ -481,17 +481,17 @@ pub extern "C" fn net_base_finite_sender_is_sound(sender: Option<&FiniteSenderHe
 }
 
 #[unsafe(no_mangle)]
-pub extern "C" fn net_base_finite_sender_first_number(sender: Option<&FiniteSenderHead>, capacity: usize, number: Option<&mut u64>) -> bool {
+pub extern "C" fn net_base_finite_sender_first_number(sender: Option<&FiniteSenderHead>, number: Option<&mut u64>) -> bool {
     let Some(sender) = sender else { return false };
     let Some(number) = number else { return false };
-    heads::finite_sender::net_base_finite_sender_first_number(sender, capacity, number)
+    heads::finite_sender::net_base_finite_sender_first_number(sender, number)
 }
 
 #[unsafe(no_mangle)]
-pub extern "C" fn net_base_finite_sender_numbers_end(sender: Option<&FiniteSenderHead>, capacity: usize, number: Option<&mut u64>) -> bool {
+pub extern "C" fn net_base_finite_sender_numbers_end(sender: Option<&FiniteSenderHead>, number: Option<&mut u64>) -> bool {
     let Some(sender) = sender else { return false };
     let Some(number) = number else { return false };
-    heads::finite_sender::net_base_finite_sender_numbers_end(sender, capacity, number)
+    heads::finite_sender::net_base_finite_sender_numbers_end(sender, number)
 }
 
 #[unsafe(no_mangle)]
@@ -509,9 +509,9 @@ pub unsafe extern "C" fn net_base_finite_sender_write(sender: Option<&mut Finite
 }
 
 #[unsafe(no_mangle)]
-pub extern "C" fn net_base_finite_sender_close(sender: Option<&mut FiniteSenderHead>, capacity: usize) -> bool {
-    let Some(sender) = sender else { return false };
-    heads::finite_sender::net_base_finite_sender_close(sender, capacity)
+pub extern "C" fn net_base_finite_sender_close(sender: Option<&mut FiniteSenderHead>) {
+    let Some(sender) = sender else { return };
+    heads::finite_sender::net_base_finite_sender_close(sender)
 }
 
 #[unsafe(no_mangle)]

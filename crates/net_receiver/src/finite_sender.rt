@@ -143,7 +143,7 @@ impl<S: Storage<u8>> FiniteSenderOver<S> {
     pub fn first_number(&self) -> u64
         ensures { result ≡ first_number self.now }
     {
-        self.head.first_number(self.storage.count())
+        self.head.first_number()
     }
 
     /// Returns the number after the last byte's, and after the end's once the sender is closed.
@@ -151,7 +151,7 @@ impl<S: Storage<u8>> FiniteSenderOver<S> {
     pub fn numbers_end(&self) -> u64
         ensures { result ≡ numbers_end self.now }
     {
-        self.head.numbers_end(self.storage.count())
+        self.head.numbers_end()
     }
 
     /// Returns the number after the last one that was ever sent: TCP's SND.MAX.
@@ -240,7 +240,7 @@ impl<S: Storage<u8>> FiniteSenderOver<S> {
             Sends f w self.new.sender }
         ensures number { first_number self.new ≡ first_number self.old }
     {
-        self.head.close(self.storage.count());
+        self.head.close();
     }
 
     /// Lends the bytes of a segment from `pos` on, as `Sender::peek_at` does, and returns whether the

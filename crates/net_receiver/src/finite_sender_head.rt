@@ -1,6 +1,6 @@
 //! A sender of a stream that ends, in parts.
 ghost use Rattle.std.specs.Prelude.{◌≡◌, ◌↔◌, ◌+◌, ◌-◌, ◌<◌, ◌≤◌, ◌==◌, ◌++◌, ℕ, List};
-ghost use Rattle.std.specs.Prelude.{length, take, drop, min, max, IsTrue, IsFalse};
+ghost use Rattle.std.specs.Prelude.{◌^◌, length, take, drop, min, max, IsTrue, IsFalse};
 ghost use Rattle.std.specs.Int.{from_bool};
 ghost use Rattle.net_ring.specs.Ring.{rewind_if_empty, with_elements_wrapping, with_enqueued, write_at};
 ghost use Rattle.net_ring.specs.RingHead.{ring_at};
@@ -33,7 +33,6 @@ pub struct FiniteSenderHead {
     pub sent: u64,
 }
 
-// A parameter `_capacity` is there for the contract.
 impl FiniteSenderHead {
     /// Returns the head of a sender of a stream that begins at position `first`; nothing was
     /// written. It is sound for every storage.
@@ -81,19 +80,24 @@ impl FiniteSenderHead {
     ///
     /// # Requires
     ///
-    /// The head is sound for a storage of `capacity` bytes, as in each call below.
+    /// It fits 64 bits, as it does where the head is sound.
     #[inline]
-    pub fn first_number(&self, _capacity: usize) -> u64
-        requires { IsSoundFiniteSender _capacity self.now }
+    pub fn first_number(&self) -> u64
+        requires { self.now.sender.first_unacknowledged + self.now.finished < 2 ^ 64 }
         ensures { result ≡ self.now.sender.first_unacknowledged + self.now.finished }
     {
         self.sender.first_unacknowledged + self.finished
     }
 
     /// Returns the number after the last byte's, and after the end's once the sender is closed.
+    ///
+    /// # Requires
+    ///
+    /// It fits 64 bits, as it does where the head is sound.
     #[inline]
-    pub fn numbers_end(&self, _capacity: usize) -> u64
-        requires { IsSoundFiniteSender _capacity self.now }
+    pub fn numbers_end(&self) -> u64
+        requires { self.now.sender.first_unacknowledged + self.now.sender.place.length
+            + self.now.closed < 2 ^ 64 }
         ensures { result ≡ self.now.sender.first_unacknowledged + self.now.sender.place.length
             + self.now.closed }
     {
@@ -102,6 +106,10 @@ impl FiniteSenderHead {
 
     /// Returns how many bytes `write` would take: none once the sender is closed. The number 2^64 - 2 is
     /// kept for the end, which has one after it.
+    ///
+    /// # Requires
+    ///
+    /// The head is sound for a storage of `capacity` bytes, as in each call below that takes one.
     #[inline]
     pub fn room(&self, capacity: usize) -> usize
         requires { IsSoundFiniteSender capacity self.now }
@@ -143,10 +151,10 @@ impl FiniteSenderHead {
 
     /// Ends the stream after what was written. A second call changes nothing.
     #[inline]
-    pub fn close(&mut self, _capacity: usize)
-        requires { IsSoundFiniteSender _capacity self.old }
-        ensures sound { IsSoundFiniteSender _capacity self.new }
-        ensures state { (storage : List ℕ) → length storage ≡ _capacity →
+    pub fn close(&mut self)
+        ensures sound { (capacity : ℕ) → IsSoundFiniteSender capacity self.old →
+            IsSoundFiniteSender capacity self.new }
+        ensures state { (storage : List ℕ) →
             finite_sender_of self.new storage ≡ closed_sender (finite_sender_of self.old storage) }
     {
         self.closed = 1;
@@ -166,14 +174,14 @@ impl FiniteSenderHead {
             .saturating_sub(pos)
             .min(self.sender.place.length as u64) as usize;
         let span = self.sender.peek_at(capacity, pos, room);
-        let is_last = self.ends_below(capacity, pos + span.contiguous as u64, limit);
+        let is_last = self.ends_below(pos + span.contiguous as u64, limit);
         (span, is_last)
     }
 
     /// Returns whether a segment whose bytes end at `pos` ends the stream, with an end below `limit`.
     #[inline]
-    fn ends_below(&self, _capacity: usize, pos: u64, limit: u64) -> bool
-        requires { IsSoundFiniteSender _capacity self.now }
+    fn ends_below(&self, pos: u64, limit: u64) -> bool
+        requires { self.now.sender.first_unacknowledged + self.now.sender.place.length < no_end }
         ensures { IsTrue result ↔ ((self.now.closed ≡ 1) × (pos
             ≡ self.now.sender.first_unacknowledged + self.now.sender.place.length)
             × (pos < limit) × (self.now.finished ≡ 0)) }
@@ -212,7 +220,7 @@ impl FiniteSenderHead {
         ensures mark { IsTrue result → self.new ≡ record self.old { sent = max self.old.sent pos } }
         ensures refused { IsFalse result → self.new ≡ self.old }
     {
-        if pos > self.numbers_end(capacity) {
+        if pos > self.numbers_end() {
             return false;
         }
         self.sent = pos.max(self.sent);
@@ -237,7 +245,7 @@ impl FiniteSenderHead {
             Sends f w (finite_sender_of self.new storage).sender }
         ensures refused { IsFalse result → self.new ≡ self.old }
     {
-        if next < self.first_number(capacity) || next > self.sent {
+        if next < self.first_number() || next > self.sent {
             return false;
         }
         let last = next.min(self.sender.end());

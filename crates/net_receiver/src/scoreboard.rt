@@ -255,7 +255,7 @@ impl<const N: usize> Scoreboard<N> {
     pub fn first_unreported(&self) -> u64
         ensures { result ≡ front self.now }
     {
-        self.head.first_unreported(&self.runs)
+        self.head.first_unreported()
     }
 
     /// Returns whether a position was reported.
@@ -368,6 +368,6 @@ impl<const N: usize> Scoreboard<N> {
     pub(crate) fn is_sound(&self)
         ensures { IsSoundScoreboard N self.now }
     {
-        let _ = self.head.first_unreported(&self.runs);
+        let _ = self.head.first_unreported();
     }
 }

@@ -166,13 +166,10 @@ impl ScoreboardHead {
     }
 
     /// Returns the first position that wasn't reported.
-    ///
-    /// # Requires
-    ///
-    /// The scoreboard is sound with the runs.
-    pub fn first_unreported(&self, _runs: &[Run]) -> u64
-        requires { IsSoundBoard self.now _runs.now }
-        ensures { result ≡ front (reported_by self.now _runs.now) }
+    pub fn first_unreported(&self) -> u64
+        ensures value { result ≡ self.now.base }
+        ensures state { (runs : List (ℕ × ℕ)) → IsSoundBoard self.now runs →
+            result ≡ front (reported_by self.now runs) }
     {
         self.base
     }

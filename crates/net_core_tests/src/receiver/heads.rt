@@ -31,13 +31,13 @@ fn has_nothing(head: &ReceiverHead, storage: &[u8], runs: &[Run]) -> bool {
 
 /// Returns whether this is the first position that wasn't reported to a scoreboard.
 fn begins_at(head: &ScoreboardHead, runs: &[Run], first: u64) -> bool {
-    head.is_sound(runs) && head.first_unreported(runs) == first
+    head.is_sound(runs) && head.first_unreported() == first
 }
 
 /// Returns whether a sender of a stream that begins at 9 has its first number there.
 fn sends_from_nine() -> bool {
     let head = FiniteSenderHead::new(9);
-    head.is_sound(4) && head.first_number(4) == 9
+    head.is_sound(4) && head.first_number() == 9
 }
 
 #[test]

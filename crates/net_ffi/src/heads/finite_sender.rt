@@ -17,8 +17,8 @@ ghost use Rattle.net_receiver.specs.SenderState.{Sends};
 ghost use Rattle.net_ring.specs.Ring.{rewind_if_empty, with_elements_wrapping, with_enqueued, write_at};
 ghost use Rattle.net_ring.specs.RingHead.{ring_at};
 ghost use Rattle.std.specs.Int.{from_bool};
-ghost use Rattle.std.specs.Prelude.{IsFalse, IsTrue, List, length, max, min, take, ℕ, ◌++◌, ◌+◌, ◌<◌, ◌==◌, ◌↔◌};
-ghost use Rattle.std.specs.Prelude.{◌≡◌, ◌≢◌, ◌≤◌};
+ghost use Rattle.std.specs.Prelude.{IsFalse, IsTrue, List, length, max, min, take, ℕ, ◌++◌, ◌+◌, ◌<◌, ◌==◌, ◌^◌};
+ghost use Rattle.std.specs.Prelude.{◌↔◌, ◌≡◌, ◌≢◌, ◌≤◌};
 
 use crate::refusals::{no_number, refused_segment_span};
 use crate::results::{SegmentSpan, segment_span};
@@ -60,45 +60,42 @@ pub extern "C" fn net_base_finite_sender_is_sound(
 
 /// Writes to `number` the first number that isn't acknowledged.
 ///
-/// It is refused if `sender` isn't that of a sender over `capacity` bytes: false, and nothing
-/// changes.
+/// It is refused if the number doesn't fit 64 bits: false, and nothing changes.
 #[unsafe(no_mangle)]
 pub extern "C" fn net_base_finite_sender_first_number(
     sender: &FiniteSenderHead,
-    capacity: usize,
     number: &mut u64,
 ) -> bool
-    ensures done { IsTrue result ↔ (IsSoundFiniteSender capacity sender.now) }
+    ensures done { IsTrue result ↔ (sender.now.sender.first_unacknowledged + sender.now.finished < 2 ^ 64) }
     ensures value { IsTrue result → number.new ≡ sender.now.sender.first_unacknowledged + sender.now.finished }
     ensures unchanged { IsFalse result → (number.new ≡ number.old) }
 {
-    if !sender.is_sound(capacity) {
+    if sender.finished > u64::MAX - sender.sender.first_unacknowledged {
         return false;
     }
-    *number = sender.first_number(capacity);
+    *number = sender.first_number();
     true
 }
 
 /// Writes to `number` the number after the last byte's, and after the end's once the sender is
 /// closed.
 ///
-/// It is refused if `sender` isn't that of a sender over `capacity` bytes: false, and nothing
-/// changes.
+/// It is refused if the number doesn't fit 64 bits: false, and nothing changes.
 #[unsafe(no_mangle)]
 pub extern "C" fn net_base_finite_sender_numbers_end(
     sender: &FiniteSenderHead,
-    capacity: usize,
     number: &mut u64,
 ) -> bool
-    ensures done { IsTrue result ↔ (IsSoundFiniteSender capacity sender.now) }
+    ensures done { IsTrue result ↔ (sender.now.sender.first_unacknowledged + sender.now.sender.place.length +
+        sender.now.closed < 2 ^ 64) }
     ensures value { IsTrue result → number.new ≡ sender.now.sender.first_unacknowledged +
         sender.now.sender.place.length + sender.now.closed }
     ensures unchanged { IsFalse result → (number.new ≡ number.old) }
 {
-    if !sender.is_sound(capacity) {
+    if sender.sender.place.length as u64 > u64::MAX - sender.sender.first_unacknowledged || sender.closed > u64::MAX - sender.sender.first_unacknowledged - sender.sender.place.length as u64 {
         return false;
     }
-    *number = sender.numbers_end(capacity);
+    *number = sender.numbers_end();
     true
 }
 
@@ -155,25 +152,14 @@ pub extern "C" fn net_base_finite_sender_write(
 }
 
 /// Ends the stream after what was written. A second call changes nothing.
-///
-/// It is refused if `sender` isn't that of a sender over `capacity` bytes: false, and nothing
-/// changes.
 #[unsafe(no_mangle)]
-pub extern "C" fn net_base_finite_sender_close(
-    sender: &mut FiniteSenderHead,
-    capacity: usize,
-) -> bool
-    ensures done { IsTrue result ↔ (IsSoundFiniteSender capacity sender.old) }
-    ensures sound { IsTrue result → IsSoundFiniteSender capacity sender.new }
-    ensures state { IsTrue result → (storage : List ℕ) → length storage ≡ capacity → finite_sender_of sender.new
-        storage ≡ closed_sender (finite_sender_of sender.old storage) }
-    ensures unchanged { IsFalse result → (sender.new ≡ sender.old) }
+pub extern "C" fn net_base_finite_sender_close(sender: &mut FiniteSenderHead)
+    ensures sound { (capacity : ℕ) → IsSoundFiniteSender capacity sender.old → IsSoundFiniteSender capacity
+        sender.new }
+    ensures state { (storage : List ℕ) → finite_sender_of sender.new storage ≡ closed_sender (finite_sender_of
+        sender.old storage) }
 {
-    if !sender.is_sound(capacity) {
-        return false;
-    }
-    sender.close(capacity);
-    true
+    sender.close();
 }
 
 /// Returns where the bytes of a segment from `position` on are, none if the byte at `position`

@@ -103,13 +103,13 @@ impl<S: Storage<u8>> FiniteSenderOver<S> {
     /// position, or the one after it once the end is acknowledged.
     #[must_use]
     pub fn first_number(&self) -> u64 {
-        self.head.first_number(self.storage.count())
+        self.head.first_number()
     }
 
     /// Returns the number after the last byte's, and after the end's once the sender is closed.
     #[must_use]
     pub fn numbers_end(&self) -> u64 {
-        self.head.numbers_end(self.storage.count())
+        self.head.numbers_end()
     }
 
     /// Returns the number after the last one that was ever sent: TCP's SND.MAX.
@@ -175,7 +175,7 @@ impl<S: Storage<u8>> FiniteSenderOver<S> {
 
     /// Ends the stream after what was written. A second call changes nothing.
     pub fn close(&mut self) {
-        self.head.close(self.storage.count());
+        self.head.close();
     }
 
     /// Lends the bytes of a segment from `pos` on, as `Sender::peek_at` does, and returns whether the

@@ -21,7 +21,6 @@ pub struct FiniteSenderHead {
     pub sent: u64,
 }
 
-// A parameter `_capacity` is there for the contract.
 impl FiniteSenderHead {
     /// Returns the head of a sender of a stream that begins at position `first`; nothing was
     /// written. It is sound for every storage.
@@ -61,20 +60,28 @@ impl FiniteSenderHead {
     ///
     /// # Panics, unless
     ///
-    /// The head is sound for a storage of `capacity` bytes, as in each call below.
+    /// It fits 64 bits, as it does where the head is sound.
     #[inline]
-    pub fn first_number(&self, _capacity: usize) -> u64 {
+    pub fn first_number(&self) -> u64 {
         self.sender.first_unacknowledged + self.finished
     }
 
     /// Returns the number after the last byte's, and after the end's once the sender is closed.
+    ///
+    /// # Panics, unless
+    ///
+    /// It fits 64 bits, as it does where the head is sound.
     #[inline]
-    pub fn numbers_end(&self, _capacity: usize) -> u64 {
+    pub fn numbers_end(&self) -> u64 {
         self.sender.end() + self.closed
     }
 
     /// Returns how many bytes `write` would take: none once the sender is closed. The number 2^64 - 2 is
     /// kept for the end, which has one after it.
+    ///
+    /// # Panics, unless
+    ///
+    /// The head is sound for a storage of `capacity` bytes, as in each call below that takes one.
     #[inline]
     pub fn room(&self, capacity: usize) -> usize {
         if self.closed != 0 {
@@ -97,7 +104,7 @@ impl FiniteSenderHead {
 
     /// Ends the stream after what was written. A second call changes nothing.
     #[inline]
-    pub fn close(&mut self, _capacity: usize) {
+    pub fn close(&mut self) {
         self.closed = 1;
     }
 
@@ -112,13 +119,13 @@ impl FiniteSenderHead {
             .saturating_sub(pos)
             .min(self.sender.place.length as u64) as usize;
         let span = self.sender.peek_at(capacity, pos, room);
-        let is_last = self.ends_below(capacity, pos + span.contiguous as u64, limit);
+        let is_last = self.ends_below(pos + span.contiguous as u64, limit);
         (span, is_last)
     }
 
     /// Returns whether a segment whose bytes end at `pos` ends the stream, with an end below `limit`.
     #[inline]
-    fn ends_below(&self, _capacity: usize, pos: u64, limit: u64) -> bool {
+    fn ends_below(&self, pos: u64, limit: u64) -> bool {
         self.closed == 1 && pos == self.sender.end() && pos < limit && self.finished == 0
     }
 
@@ -139,7 +146,7 @@ impl FiniteSenderHead {
     /// Returns false, and changes nothing, if `pos` is above `numbers_end`.
     #[inline]
     pub fn mark_sent(&mut self, capacity: usize, pos: u64) -> bool {
-        if pos > self.numbers_end(capacity) {
+        if pos > self.numbers_end() {
             return false;
         }
         self.sent = pos.max(self.sent);
@@ -150,7 +157,7 @@ impl FiniteSenderHead {
     /// Returns false, and changes nothing, if `next` is below `first_number` or above what was sent.
     #[inline]
     pub fn acknowledge(&mut self, capacity: usize, next: u64) -> bool {
-        if next < self.first_number(capacity) || next > self.sent {
+        if next < self.first_number() || next > self.sent {
             return false;
         }
         let last = next.min(self.sender.end());

@@ -201,7 +201,7 @@ impl<const N: usize> Scoreboard<N> {
     /// Returns the first position that wasn't reported.
     #[must_use]
     pub fn first_unreported(&self) -> u64 {
-        self.head.first_unreported(&self.runs)
+        self.head.first_unreported()
     }
 
     /// Returns whether a position was reported.
@@ -294,6 +294,6 @@ impl<const N: usize> Scoreboard<N> {
 
     /// States what is true of every scoreboard; it does nothing. Callers use `laws::is_sound_scoreboard`.
     pub(crate) fn is_sound(&self) {
-        let _ = self.head.first_unreported(&self.runs);
+        let _ = self.head.first_unreported();
     }
 }

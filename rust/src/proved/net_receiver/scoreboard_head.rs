@@ -117,11 +117,7 @@ impl ScoreboardHead {
     }
 
     /// Returns the first position that wasn't reported.
-    ///
-    /// # Panics, unless
-    ///
-    /// The scoreboard is sound with the runs.
-    pub fn first_unreported(&self, _runs: &[Run]) -> u64 {
+    pub fn first_unreported(&self) -> u64 {
         self.base
     }
 

@@ -25,26 +25,24 @@ pub fn net_base_finite_sender_is_sound(
 #[inline(always)]
 pub fn net_base_finite_sender_first_number(
     sender: &FiniteSenderHead,
-    capacity: usize,
     number: &mut u64,
 ) -> bool {
-    if !sender.is_sound(capacity) {
+    if sender.finished > u64::MAX - sender.sender.first_unacknowledged {
         return false;
     }
-    *number = sender.first_number(capacity);
+    *number = sender.first_number();
     true
 }
 
 #[inline(always)]
 pub fn net_base_finite_sender_numbers_end(
     sender: &FiniteSenderHead,
-    capacity: usize,
     number: &mut u64,
 ) -> bool {
-    if !sender.is_sound(capacity) {
+    if sender.sender.place.length as u64 > u64::MAX - sender.sender.first_unacknowledged || sender.closed > u64::MAX - sender.sender.first_unacknowledged - sender.sender.place.length as u64 {
         return false;
     }
-    *number = sender.numbers_end(capacity);
+    *number = sender.numbers_end();
     true
 }
 
@@ -69,15 +67,8 @@ pub fn net_base_finite_sender_write(
 }
 
 #[inline(always)]
-pub fn net_base_finite_sender_close(
-    sender: &mut FiniteSenderHead,
-    capacity: usize,
-) -> bool {
-    if !sender.is_sound(capacity) {
-        return false;
-    }
-    sender.close(capacity);
-    true
+pub fn net_base_finite_sender_close(sender: &mut FiniteSenderHead) {
+    sender.close();
 }
 
 #[inline(always)]
