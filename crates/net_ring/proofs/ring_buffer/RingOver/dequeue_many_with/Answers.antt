@@ -35,8 +35,14 @@ pub dequeue_contiguous-requires-clause-contiguous : goal.dequeue_contiguous-requ
 dequeue_contiguous-requires-clause-contiguous g c =
     let at = (goal.at.dequeue_contiguous-requires-clause-contiguous g c).After-part_mut in
     let is = c.self.view_is in
-    omega (arith, c.if-prove-2.false, queued_is g at, read_at_le _ (well _ _ is c.self.invariant), ap (λ o. o.read_at) is,
-    c.capacity-capacity.ensures.capacity)
+    omega (
+      arith,
+      c.if-prove-2.false,
+      queued_is g at,
+      read_at_le _ (well _ _ is c.self.invariant),
+      ap (λ o. o.read_at) is,
+      c.capacity-capacity.ensures.capacity,
+    )
 
 pub invariant_of-self : goal.invariant_of-self
 invariant_of-self g c =
