@@ -52,7 +52,8 @@ module _ {T : Type 0} where
   queue_get g wf i x lt at = grind (arith, places, gets, nat_tests)
 
   -- an element is set after the queue of a ring
-  push_set : (st : List T) (r n p : ℕ) (x : T) → IsWellFormed (ring st r n) → n < length st → p ≡ index_after (length st) r n →
+  push_set : (st : List T) (r n p : ℕ) (x : T) → IsWellFormed (ring st r n) → n < length st
+      → p ≡ index_after (length st) r n →
       (queue (ring (set st p x) r (n + 1)) ≡ queue (ring st r n) ++ (x ∷ [])) × IsWellFormed (ring (set st p x) r (n + 1))
   push_set st r n p x wf lt e =
       let g = ring st r n in
@@ -90,7 +91,8 @@ abbrev pub BeginsAt : ℕ → PacketsHead → PacketPlace → Type 0
 BeginsAt c h p = let b = rewound h.bytes in p.from ≡ index_after c b.read_at (b.length + p.gap)
 
 -- it is one by its parts
-pub place_is : (n c : ℕ) (h : PacketsHead) (p : PacketPlace) → HasSlots n h p → BeginsAt c h p → p ≡ place_after_gap n c h p.gap
+pub place_is : (n c : ℕ) (h : PacketsHead) (p : PacketPlace) → HasSlots n h p → BeginsAt c h p
+    → p ≡ place_after_gap n c h p.gap
 place_is n c h p slots from =
     ap₂ (λ (i j : ℕ). record p { gap_slot = i; slot = j }) slots.0 slots.1
     ∙ ap (λ (k : ℕ). record (place_after_gap n c h p.gap) { from = k }) from
@@ -101,17 +103,20 @@ module _ {H : Type 0} where
     pub sound : AreSoundParts h ms xs
     pub seen : packets_at h ms xs ≡ v
 
-  pub queue_at : (h : PacketsHead) (ms : List (PacketMetadata H)) (xs : List ℕ) {v : PacketsState H} → AreSoundParts h ms xs →
+  pub queue_at : (h : PacketsHead) (ms : List (PacketMetadata H)) (xs : List ℕ) {v : PacketsState H}
+      → AreSoundParts h ms xs →
       packets_at h ms xs ≡ v → IsQueue h ms xs v
   queue_at h ms xs sound seen = record { sound = sound; seen = seen }
 
   -- by what a step leaves
-  left_at : (h : PacketsHead) (ms : List (PacketMetadata H)) (xs : List ℕ) {v : PacketsState H} {n : ℕ} → length ms ≡ n →
+  left_at : (h : PacketsHead) (ms : List (PacketMetadata H)) (xs : List ℕ) {v : PacketsState H} {n : ℕ}
+      → length ms ≡ n →
       AreSoundParts h ms xs × (length ms ≡ n → packets_at h ms xs ≡ v) → IsQueue h ms xs v
   left_at h ms xs long all = record { sound = all.0; seen = all.1 long }
 
   -- the slots of a packet and its gap are set after those in use
-  slots_pushed : (c : ℕ) (h : PacketsHead) (ms : List (PacketMetadata H)) (s gap : ℕ) (hd : H) → IsWellFormed (ring_at ms h.slots) →
+  slots_pushed : (c : ℕ) (h : PacketsHead) (ms : List (PacketMetadata H)) (s gap : ℕ) (hd : H)
+      → IsWellFormed (ring_at ms h.slots) →
       h.slots.length + slots_for gap ≤ length ms →
       let m2 = ring_at (slots_with (place_after_gap (length ms) c h gap) s hd ms) (enqueued_place (slots_for gap) h.slots) in
       (queue m2 ≡ queue (ring_at ms h.slots) ++ (gap_slot gap ++ (slot s (Some hd) ∷ []))) × IsWellFormed m2
@@ -141,7 +146,8 @@ module _ {H : Type 0} where
         subst IsWellFormed (sym same) two.1,
       )
 
-  pub slots_long : (p : PacketPlace) (s : ℕ) (hd : H) (ms : List (PacketMetadata H)) → length (slots_with p s hd ms) ≡ length ms
+  pub slots_long : (p : PacketPlace) (s : ℕ) (hd : H) (ms : List (PacketMetadata H))
+      → length (slots_with p s hd ms) ≡ length ms
   slots_long p s hd ms = grind (arith, length-set)
 
 -- ---- a queue
@@ -171,7 +177,8 @@ module _ {H : Type 0} {h : PacketsHead} {ms : List (PacketMetadata H)} {xs : Lis
   slots_count = count_is m b (packets_in 0 (queue m)) k.sound ∙ ap (λ o. slots_used o.packets) k.seen
 
   pub is_full : nat_eq h.slots.length (length ms) ≡ (v.slot_count - slots_used v.packets == 0)
-  is_full = let n = slots_count in let fits = k.sound.0.1 in let all = slots_of in grind (arith, nat_tests, n, fits, all)
+  is_full =
+      let n = slots_count in let fits = k.sound.0.1 in let all = slots_of in grind (arith, nat_tests, n, fits, all)
 
   pub is_empty : (h.slots.length == 0) ≡ (length v.packets == 0)
   is_empty = let n = slots_count in let some = slots_pos v.packets in grind (arith, nat_tests)
@@ -220,7 +227,8 @@ module _ {H : Type 0} {h : PacketsHead} {ms : List (PacketMetadata H)} {xs : Lis
       (ap queue same ∙ set_there.0) (subst IsWellFormed (sym same) set_there.1) (ring_at xs h2.bytes) (ap (ring_at xs) eb))
 
   -- the gap before the first packet is taken off
-  pub skipped : (s : ℕ) → first_gap v.packets ≡ s → 0 < s → (h2 : PacketsHead) → h2 ≡ with_slot_taken (length ms) (length xs) s h
+  pub skipped : (s : ℕ) → first_gap v.packets ≡ s → 0 < s → (h2 : PacketsHead)
+      → h2 ≡ with_slot_taken (length ms) (length xs) s h
       → IsQueue h2 ms xs (without_gap v)
   skipped s size some h2 is =
       left_at h2 ms xs slots_of (skip_left m b k.sound s v (ring_at ms h2.slots) (ring_at xs h2.bytes) k.seen (sym size) some
@@ -232,14 +240,17 @@ module _ {H : Type 0} {h : PacketsHead} {ms : List (PacketMetadata H)} {xs : Lis
     first_is x at = queue_head m k.sound.0 x (sym (get_or_from_slice_get ms h.slots.read_at x x at)) (λ z. omega arith)
 
     pub gap_first : (s : ℕ) → slice_get ms h.slots.read_at ≡ Some (slot s None) → (first_gap v.packets ≡ s) × (0 < s)
-    gap_first s at = gap_of v.packets s (drop 1 (queue m)) (sym (first_is (slot s None) at) ∙ slots_are m b k.sound v k.seen)
+    gap_first s at =
+        gap_of v.packets s (drop 1 (queue m)) (sym (first_is (slot s None) at) ∙ slots_are m b k.sound v k.seen)
 
-    pub packet_first : (s : ℕ) (hd : H) → slice_get ms h.slots.read_at ≡ Some (slot s (Some hd)) → first_gap v.packets ≡ 0
+    pub packet_first : (s : ℕ) (hd : H) → slice_get ms h.slots.read_at ≡ Some (slot s (Some hd))
+        → first_gap v.packets ≡ 0
     packet_first s hd at =
         ap (λ o. first_gap o.packets) (sym k.seen) ∙ ap (λ l. first_gap (packets_in 0 l)) (first_is (slot s (Some hd)) at)
 
     -- it has a header after no gap
-    pub has_header : first_gap v.packets ≡ 0 → ((s : ℕ) (hd : H) → slice_get ms h.slots.read_at ≡ Some (slot s (Some hd)) → ⊥) → ⊥
+    pub has_header : first_gap v.packets ≡ 0
+        → ((s : ℕ) (hd : H) → slice_get ms h.slots.read_at ≡ Some (slot s (Some hd)) → ⊥) → ⊥
     has_header z other =
         let d : PacketMetadata H = slot 0 None in
         let x = get_or ms h.slots.read_at d in
@@ -292,7 +303,8 @@ module _ {H : Type 0} {h : PacketsHead} {ms : List (PacketMetadata H)} {xs : Lis
           ∙ sym (ap (λ l. first_size (only_last l)) ends.2 ∙ ap first_size (last_append ends.0 ends.1))
 
       -- n bytes fewer are written to it
-      pub shortened : (n : ℕ) → n ≤ x.size → (h2 : PacketsHead) → h2.slots ≡ h.slots → h2.bytes ≡ place h.bytes.read_at (h.bytes.length - n) →
+      pub shortened : (n : ℕ) → n ≤ x.size → (h2 : PacketsHead) → h2.slots ≡ h.slots
+          → h2.bytes ≡ place h.bytes.read_at (h.bytes.length - n) →
           (ms2 : List (PacketMetadata H)) →
           ms2 ≡ set ms (index_after (length ms) h.slots.read_at (h.slots.length - 1)) (slot (x.size - n) (Some ends.1.header)) →
           IsQueue h2 ms2 xs (with_last_size (x.size - n) v)
@@ -339,7 +351,8 @@ module _ {H : Type 0} {h : PacketsHead} {ms : List (PacketMetadata H)} {xs : Lis
         omega arith
 
   -- ---- the bytes before the read index
-  pub dequeued_at : (c : ℕ) → c ≡ length xs → (s : ℕ) → index_after c h.bytes.read_at (c - s) ≡ last_dequeued_bytes_index v s
+  pub dequeued_at : (c : ℕ) → c ≡ length xs → (s : ℕ)
+      → index_after c h.bytes.read_at (c - s) ≡ last_dequeued_bytes_index v s
   dequeued_at c ec s = ap₂ (λ n r. index_after n r (n - s)) (ec ∙ ap length stored) read_here
 
 -- ---- a packet that is placed, as clauses say it
@@ -366,7 +379,8 @@ module _ {H : Type 0} {h : PacketsHead} {ms : List (PacketMetadata H)} {xs : Lis
 
   -- its slots are those of j bytes
   pub placed : (j : ℕ) → j ≤ s → (hd : H) (h2 : PacketsHead) → h2.slots ≡ enqueued_place (slots_for p.gap) h.slots
-      → h2.bytes ≡ enqueued_place (p.gap + j) (rewound h.bytes) → (ms2 : List (PacketMetadata H)) → ms2 ≡ slots_with p j hd ms
+      → h2.bytes ≡ enqueued_place (p.gap + j) (rewound h.bytes) → (ms2 : List (PacketMetadata H))
+      → ms2 ≡ slots_with p j hd ms
       → IsQueue h2 ms2 xs (with_packet v p.gap j hd)
   placed j le hd h2 es eb ms2 wrote =
       let there = place_is n c h p at.slots at.from ∙ ap₂ (λ (i l : ℕ). place_after_gap i l h p.gap) at.slot_count at.capacity in
@@ -386,13 +400,15 @@ module _ {H : Type 0} {h : PacketsHead} {ms : List (PacketMetadata H)} {xs : Lis
         let last : (rewound h.bytes).length + p.gap ≡ (rewound h.bytes).length + (p.gap + s) - s = omega arith in
         at.from ∙ ap (index_after c (rewound h.bytes).read_at) last ∙ last_at k c at.capacity s (sym size_is)
 
-    pub room_is : p.from + s ≤ c → (now : List ℕ) → now ≡ take (p.from + s - p.from) (drop p.from xs) → IsRoom v s hd now
+    pub room_is : p.from + s ≤ c → (now : List ℕ) → now ≡ take (p.from + s - p.from) (drop p.from xs)
+        → IsRoom v s hd now
     room_is fits now is =
         let shown = lent_is at.queue p.from s now is ∙ ap₂ (λ (l i : ℕ). take l (drop i v.storage)) (sym size_is) room_at in
         (has_place, shown ∙ ap last_bytes (placed_is hd), lent_size at.queue p.from s now is (omega (arith, at.capacity)))
 
     -- it wrote ws, and the first j of them are the packet
-    pub filled : (j : ℕ) → j ≤ s → (ws : List ℕ) (h2 : PacketsHead) → h2.slots ≡ enqueued_place (slots_for p.gap) h.slots
+    pub filled : (j : ℕ) → j ≤ s → (ws : List ℕ) (h2 : PacketsHead)
+        → h2.slots ≡ enqueued_place (slots_for p.gap) h.slots
         → h2.bytes ≡ place (rewound h.bytes).read_at ((rewound h.bytes).length + (p.gap + s) - (s - j))
         → (ms2 : List (PacketMetadata H)) → ms2 ≡ slots_with p j hd ms → (xs2 : List ℕ) → xs2 ≡ overwrite xs p.from ws
         → IsQueue h2 ms2 xs2 (with_last_size j (with_last_bytes (with_packet_if_room v s hd) ws))
@@ -411,7 +427,8 @@ pub record IsFirstIn {H : Type 0} (h : PacketsHead) (ms : List (PacketMetadata H
   pub at : slice_get ms h.slots.read_at ≡ Some (slot s (Some hd))
 
 module _ {H : Type 0} {h : PacketsHead} {ms : List (PacketMetadata H)} {xs : List ℕ} {v : PacketsState H} {s : ℕ} {hd : H} where
-  pub first_at : IsQueue h ms xs v → first_gap v.packets ≡ 0 → 1 ≤ h.slots.length → slice_get ms h.slots.read_at ≡ Some (slot s (Some hd))
+  pub first_at : IsQueue h ms xs v → first_gap v.packets ≡ 0 → 1 ≤ h.slots.length
+      → slice_get ms h.slots.read_at ≡ Some (slot s (Some hd))
       → IsFirstIn h ms xs v s hd
   first_at k z some at = record { queue = k; no_gap = z; some = some; at = at }
 
@@ -449,7 +466,8 @@ module _ {H : Type 0} {h : PacketsHead} {ms : List (PacketMetadata H)} {xs : Lis
     sound_slots = subst (λ n. IsSound n h.slots) (sym long) k.sound.0
 
     slots_off : ring_at ms2 h2.slots ≡ with_dequeued 1 (ring_at ms2 h.slots)
-    slots_off = ap (λ (o : PacketsHead). ring_at ms2 o.slots) is ∙ ap (λ n. ring_at ms2 (dequeued_place n 1 h.slots)) (sym long)
+    slots_off =
+        ap (λ (o : PacketsHead). ring_at ms2 o.slots) is ∙ ap (λ n. ring_at ms2 (dequeued_place n 1 h.slots)) (sym long)
 
     slots_left : queue (ring_at ms2 h2.slots) ≡ drop 1 (queue (m k))
     slots_left = ap queue slots_off ∙ (with_dequeued_parts (ring_at ms2 h.slots) sound_slots 1 first.some).0 ∙ rest
@@ -482,15 +500,18 @@ module _ {H : Type 0} {h : PacketsHead} {ms : List (PacketMetadata H)} {xs : Lis
         ap (λ l. queue (ring_at l h.slots)) wrote
         ∙ head_set ms h.slots x k.sound.0 first.some (slice_get_within ms h.slots.read_at (slot s (Some hd)) first.at)
 
-    pub taken : (h2 : PacketsHead) → h2 ≡ with_slot_taken (length ms) (length xs) s h → IsQueue h2 ms2 xs (without_first v)
+    pub taken : (h2 : PacketsHead) → h2 ≡ with_slot_taken (length ms) (length xs) s h
+        → IsQueue h2 ms2 xs (without_first v)
     taken h2 is = off_as_it_is ms2 set_long (ap (drop 1) set_queue) h2 is
 
     pub handed_gone : (ws xs2 : List ℕ) → xs2 ≡ overwrite xs h.bytes.read_at ws → (new : H) (h2 : PacketsHead)
-        → h2 ≡ with_slot_taken (length ms) (length xs) s h → IsQueue h2 ms2 xs2 (without_first (with_first_bytes v new ws))
+        → h2 ≡ with_slot_taken (length ms) (length xs) s h
+        → IsQueue h2 ms2 xs2 (without_first (with_first_bytes v new ws))
     handed_gone ws xs2 left new h2 is = off_written ms2 set_long (ap (drop 1) set_queue) h2 is ws xs2 left new
 
   -- it stays, with the header new and the bytes ws
-  pub handed_back : (new : H) (ms2 : List (PacketMetadata H)) → ms2 ≡ set ms h.slots.read_at (slot s (Some new)) → (ws xs2 : List ℕ)
+  pub handed_back : (new : H) (ms2 : List (PacketMetadata H)) → ms2 ≡ set ms h.slots.read_at (slot s (Some new))
+      → (ws xs2 : List ℕ)
       → xs2 ≡ overwrite xs h.bytes.read_at ws → IsQueue h ms2 xs2 (with_first_bytes v new ws)
   handed_back new ms2 wrote ws xs2 left =
       let x : PacketMetadata H = slot s (Some new) in

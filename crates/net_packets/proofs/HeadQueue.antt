@@ -45,7 +45,8 @@ kind_of s = elim (cases_Bool (nat_eq s.is_gap 0)) [
 ]
 
 -- the head and the slots are those of a queue if they represent one with each storage of c bytes
-sound_over : (c : ℕ) (h : PacketsHead) (ss : List PacketSlot) → ((xs : List ℕ) → length xs ≡ c → AreSoundParts h (map metadata ss) xs)
+sound_over : (c : ℕ) (h : PacketsHead) (ss : List PacketSlot)
+    → ((xs : List ℕ) → length xs ≡ c → AreSoundParts h (map metadata ss) xs)
     → HasSoundSlots c h ss
 sound_over c h ss r =
     let e = length-replicate c 0 in
@@ -114,13 +115,15 @@ module _ (c : ℕ) (h : PacketsHead) (ss : List PacketSlot) (hs : HasSoundSlots 
           ]
 
 -- as clauses say it
-pub first_can : (n c : ℕ) (h : PacketsHead) (s : PacketSlot) (ss : List PacketSlot) → length ss ≡ n → HasSoundSlots c h ss
+pub first_can : (n c : ℕ) (h : PacketsHead) (s : PacketSlot) (ss : List PacketSlot) → length ss ≡ n
+    → HasSoundSlots c h ss
     → IsFirstSlot h ss s → CanTake c h s
 first_can n c h s ss e sound is = can c h ss sound s is.0 is.1
 
 module _ (n c : ℕ) (h : PacketsHead) (s : PacketSlot) (can : CanTake c h s) (h2 : PacketsHead) (is : h2 ≡ with_slot_taken n c s.size h)
     (ss : List PacketSlot) where
-  pub first_taken : (xs : List ℕ) → length ss ≡ n → length xs ≡ c → HasSoundSlots c h ss → slice_get ss h.slots.read_at ≡ Some s
+  pub first_taken : (xs : List ℕ) → length ss ≡ n → length xs ≡ c → HasSoundSlots c h ss
+      → slice_get ss h.slots.read_at ≡ Some s
       → queue_of h2 ss xs ≡ after_slot s (queue_of h ss xs)
   first_taken xs en ec hs at = (slot_taken c h ss hs s can.0 at n en h2 is xs ec).seen
 
@@ -146,7 +149,8 @@ module _ (h : PacketsHead) (last : PacketSlot) (k : ℕ) (can : CanShorten h las
       (ap (λ x. map metadata (set ss i x)) is ∙ map-set metadata ss i (packet_slot (last.size - k))
       ∙ ap (λ (j : ℕ). set (map metadata ss) j (slot (last.size - k) (Some tt))) (sym same))
 
-  pub last_shortened : (xs : List ℕ) → length xs ≡ c → HasSoundSlots c h ss → slice_get ss (last_slot_index h ss) ≡ Some last
+  pub last_shortened : (xs : List ℕ) → length xs ≡ c → HasSoundSlots c h ss
+      → slice_get ss (last_slot_index h ss) ≡ Some last
       → queue_of h2 (set ss (last_slot_index h ss) new) xs ≡ with_last_size (last.size - k) (queue_of h ss xs)
   last_shortened xs e hs at = (last_left hs at xs e).seen
 
@@ -156,7 +160,8 @@ module _ (h : PacketsHead) (last : PacketSlot) (k : ℕ) (can : CanShorten h las
 
 -- ---- a packet comes last
 -- the slots that are written are those of a queue whose headers are `tt`
-written_as : (p : PacketPlace) (s : ℕ) (ss : List PacketSlot) → map metadata (slots_written p s ss) ≡ slots_with p s tt (map metadata ss)
+written_as : (p : PacketPlace) (s : ℕ) (ss : List PacketSlot)
+    → map metadata (slots_written p s ss) ≡ slots_with p s tt (map metadata ss)
 written_as p s ss =
     map-set metadata (if nat_eq p.gap 0 then ss else set ss p.gap_slot (record { size = p.gap; is_gap = 1 })) p.slot (packet_slot s)
     ∙ ap (λ l. set l p.slot (slot s (Some tt))) (gap_as (nat_eq p.gap 0))
@@ -170,7 +175,8 @@ written_as p s ss =
 module _ (c : ℕ) (h : PacketsHead) (ss : List PacketSlot) (s : ℕ) (p : PacketPlace) (gap : placement_in (length ss) c h s ≡ Some p.gap)
     (at : p ≡ place_after_gap (length ss) c h p.gap) (h2 : PacketsHead) (is : h2 ≡ with_packet_placed p.gap s h) (ss2 : List PacketSlot)
     (wrote : ss2 ≡ slots_written p s ss) where
-  packet_left : HasSoundSlots c h ss → (xs : List ℕ) → length xs ≡ c → IsQueue h2 (map metadata ss2) xs (with_packet_if_room (queue_of h ss xs) s tt)
+  packet_left : HasSoundSlots c h ss → (xs : List ℕ) → length xs ≡ c
+      → IsQueue h2 (map metadata ss2) xs (with_packet_if_room (queue_of h ss xs) s tt)
   packet_left hs xs e =
       let there : IsPlaceIn h (map metadata ss) xs (queue_of h ss xs) (length ss) c s p = record {
         queue = represented c h ss hs xs e;
@@ -192,7 +198,8 @@ module _ (c : ℕ) (h : PacketsHead) (ss : List PacketSlot) (s : ℕ) (p : Packe
   sound_enqueued hs = sound_over c h2 ss2 (λ xs e. (packet_left hs xs e).sound)
 
 -- where none is placed
-pub none_enqueued : (c : ℕ) (h : PacketsHead) (ss : List PacketSlot) (s : ℕ) → placement_in (length ss) c h s ≡ None → (xs : List ℕ) → length xs ≡ c
+pub none_enqueued : (c : ℕ) (h : PacketsHead) (ss : List PacketSlot) (s : ℕ) → placement_in (length ss) c h s ≡ None
+    → (xs : List ℕ) → length xs ≡ c
     → HasSoundSlots c h ss → queue_of h ss xs ≡ with_packet_if_room (queue_of h ss xs) s tt
 none_enqueued c h ss s none xs e hs =
     let q = queue_of h ss xs in
@@ -201,7 +208,8 @@ none_enqueued c h ss s none xs e hs =
 
 -- ---- the first packet leaves
 -- what two steps that both succeed say of it
-pub both_steps : (c : ℕ) (h : PacketsHead) (ss : List PacketSlot) (k : PacketsHead) {P Q : Type 0} → k ≡ head_after_gap c h ss
+pub both_steps : (c : ℕ) (h : PacketsHead) (ss : List PacketSlot) (k : PacketsHead) {P Q : Type 0}
+    → k ≡ head_after_gap c h ss
     → (((1 ≤ h.slots.length) × ((first_slot h ss).is_gap ≢ 0 → CanTake c h (first_slot h ss)) → ⊥) → P) → (P → ⊥)
     → ((((first_slot k ss).is_gap ≡ 0) × CanTake c k (first_slot k ss) → ⊥) → Q) → (HasFirst c h ss → ⊥) → Q
 both_steps c h ss k is one not two none =
@@ -304,7 +312,8 @@ module _ (c : ℕ) (h : PacketsHead) (ss : List PacketSlot) (hs : HasSoundSlots 
 
 -- as clauses say it
 module _ (c : ℕ) (h : PacketsHead) (ss : List PacketSlot) (some : 1 ≤ h.slots.length) (new : PacketsHead) (is : new ≡ head_after_first c h ss) where
-  pub packet_dequeued : (xs : List ℕ) → length xs ≡ c → HasSoundSlots c h ss → queue_of new ss xs ≡ without_first_and_gap (queue_of h ss xs)
+  pub packet_dequeued : (xs : List ℕ) → length xs ≡ c → HasSoundSlots c h ss
+      → queue_of new ss xs ≡ without_first_and_gap (queue_of h ss xs)
   packet_dequeued xs e hs = ap (λ o. queue_of o ss xs) is ∙ (first_left c h ss hs some xs e).seen
 
   pub sound_dequeued : HasSoundSlots c h ss → HasSoundSlots c new ss
@@ -312,7 +321,8 @@ module _ (c : ℕ) (h : PacketsHead) (ss : List PacketSlot) (some : 1 ≤ h.slot
       subst (λ (o : PacketsHead). HasSoundSlots c o ss) (sym is)
       (sound_over c (head_after_first c h ss) ss (λ xs e. (first_left c h ss hs some xs e).sound))
 
-pub shown_first : (c : ℕ) (h : PacketsHead) (ss : List PacketSlot) → 1 ≤ h.slots.length → (p : FirstPacket) → p ≡ first_packet c h ss
+pub shown_first : (c : ℕ) (h : PacketsHead) (ss : List PacketSlot) → 1 ≤ h.slots.length → (p : FirstPacket)
+    → p ≡ first_packet c h ss
     → (xs : List ℕ) → length xs ≡ c → HasSoundSlots c h ss → IsFirstAt (queue_of h ss xs) p
 shown_first c h ss some p is xs e hs = subst (IsFirstAt (queue_of h ss xs)) (sym is) (first_parts c h ss hs some xs e)
 
@@ -327,31 +337,37 @@ module _ {X : Type 0} {P Q : X → Type 0} where
   either (Some x) n p q f = f x p q
 
 -- ---- the test of the slots
-cancel : (g : ℕ) (x : PacketMetadata ⊤) (l m : List (PacketMetadata ⊤)) → gap_slot g ++ (x ∷ l) ≡ gap_slot g ++ (x ∷ m) → l ≡ m
+cancel : (g : ℕ) (x : PacketMetadata ⊤) (l m : List (PacketMetadata ⊤))
+    → gap_slot g ++ (x ∷ l) ≡ gap_slot g ++ (x ∷ m) → l ≡ m
 cancel zero x l m e = ap (drop 1) e
 cancel (suc g) x l m e = ap (drop 2) e
 
 -- no gap comes after a gap
-two_gaps : (ps : List (Packet ⊤)) (k n : ℕ) (ms : List (PacketMetadata ⊤)) → slot k None ∷ (slot n None ∷ ms) ≡ packet_slots ps → ⊥
+two_gaps : (ps : List (Packet ⊤)) (k n : ℕ) (ms : List (PacketMetadata ⊤))
+    → slot k None ∷ (slot n None ∷ ms) ≡ packet_slots ps → ⊥
 two_gaps [] k n ms e = let z = ap length e in omega arith
 two_gaps (p ∷ ps) k n ms e = go p.gap p.size p.header (packet_slots ps) e
   where
-    go : (g s : ℕ) (hd : ⊤) (rest : List (PacketMetadata ⊤)) → slot k None ∷ (slot n None ∷ ms) ≡ gap_slot g ++ (slot s (Some hd) ∷ rest) → ⊥
+    go : (g s : ℕ) (hd : ⊤) (rest : List (PacketMetadata ⊤))
+        → slot k None ∷ (slot n None ∷ ms) ≡ gap_slot g ++ (slot s (Some hd) ∷ rest) → ⊥
     go zero s hd rest e = none-some hd (ap (λ x. x.header) (ap (head_or (slot k None)) e))
     go (suc g) s hd rest e = none-some hd (ap (λ x. x.header) (ap (λ l. head_or (slot k None) (drop 1 l)) e))
 
 module _ (c : ℕ) (b : RingHead) (o : ℕ) where
   after_packet : (g n : ℕ) (ms : List (PacketMetadata ⊤)) → AreSlotsAfter c b o g (slot n (Some tt) ∷ ms)
       → IsPlaced c b.read_at o (packet {H = ⊤} tt n g) × AreSlotsAfter c b (o + g + n) 0 ms
-  after_packet g n ms a = (a.2.0, (cancel g (slot {H = ⊤} n (Some tt)) ms (packet_slots (packets_in 0 ms)) a.0, omega (arith, a.1), a.2.1))
+  after_packet g n ms a =
+      (a.2.0, (cancel g (slot {H = ⊤} n (Some tt)) ms (packet_slots (packets_in 0 ms)) a.0, omega (arith, a.1), a.2.1))
 
   one_gap : (g n : ℕ) (ms : List (PacketMetadata ⊤)) → AreSlotsAfter c b o g (slot n None ∷ ms) → g ≡ 0
   one_gap zero n ms a = refl
   one_gap (suc g) n ms a = absurd (two_gaps (packets_in (suc g + n) ms) (suc g) n ms a.0)
 
   -- what is true of a slot that follows
-  pub follows : (g : ℕ) (s : PacketSlot) (ms : List (PacketMetadata ⊤)) → (b.read_at ≡ 0) ⊎ (b.read_at < c) → o + g ≤ b.length → b.length ≤ c
-      → AreSlotsAfter c b o g (metadata s ∷ ms) → (o + g + s.size ≤ b.length) × (index_after c b.read_at (o + g) + s.size ≤ c)
+  pub follows : (g : ℕ) (s : PacketSlot) (ms : List (PacketMetadata ⊤)) → (b.read_at ≡ 0) ⊎ (b.read_at < c)
+      → o + g ≤ b.length → b.length ≤ c
+      → AreSlotsAfter c b o g (metadata s ∷ ms)
+      → (o + g + s.size ≤ b.length) × (index_after c b.read_at (o + g) + s.size ≤ c)
       × (s.is_gap ≢ 0 → (g ≡ 0) × (0 < s.size) × (index_after c b.read_at (o + g) + s.size ≡ c))
   follows g s ms wf le fits a = elim (kind_of s) [
     | inl k ↦
@@ -369,7 +385,8 @@ module _ (c : ℕ) (b : RingHead) (o : ℕ) where
   ]
 
 -- the slot that is tested next
-pub next_slot : (n c : ℕ) (h : PacketsHead) (ss : List PacketSlot) → IsSoundHead n c h → n ≡ length ss → (k i : ℕ) → k < h.slots.length
+pub next_slot : (n c : ℕ) (h : PacketsHead) (ss : List PacketSlot) → IsSoundHead n c h → n ≡ length ss → (k i : ℕ)
+    → k < h.slots.length
     → i ≡ index_after n h.slots.read_at k → (d : PacketSlot)
     → drop k (queue (slot_ring h ss)) ≡ metadata (get_or ss i d) ∷ drop (k + 1) (queue (slot_ring h ss))
 next_slot n c h ss sound en k i lt at d =
@@ -386,7 +403,8 @@ next_slot n c h ss sound en k i lt at d =
     ∙ ap (λ (j : ℕ). get_or (queue m) k (metadata d) ∷ drop j (queue m)) step
     ∙ ap (λ x. x ∷ drop (k + 1) (queue m)) (get_or_from_slice_get (queue m) k (metadata (get_or ss i d)) (metadata d) got)
 
-pub from_start : (c : ℕ) (h : PacketsHead) (ss : List PacketSlot) → HasSoundSlots c h ss → AreSlotsAfter c h.bytes 0 0 (queue (slot_ring h ss))
+pub from_start : (c : ℕ) (h : PacketsHead) (ss : List PacketSlot) → HasSoundSlots c h ss
+    → AreSlotsAfter c h.bytes 0 0 (queue (slot_ring h ss))
 from_start c h ss hs = (hs.1, omega (arith, hs.2), hs.3)
 
 -- the last slot in use

@@ -463,3 +463,8 @@ module _ {H : Type 0} where
 
   pub empty_too_long : (q : PacketsState H) (size : ℕ) → contents q ≡ [] → length q.storage < size → placement q size ≡ None
   empty_too_long q size none long = placement_empty q size none ∙ ap (if_slots q.slot_count) (gap_refused size (length q.storage) long)
+
+-- ---- by which laws are proved
+pub ruleset empty_queues = (empty_taken, empty_no_slot, empty_too_long)
+
+pub ruleset first_packets = (peeked_contents, still_there, kept_contents)

@@ -2,7 +2,7 @@
 -- What a queue of packets is after a step on its two rings.
 use Rattle.std.proofs.Common.{◌≢◌, zero, suc, ◌≡◌, ℕ, ◌+◌, ◌-◌, ◌<◌, ◌≤◌, List, [], ◌∷◌, ◌++◌, length}
 use Rattle.std.proofs.Common.{min, refl, sym, ap, ap₂, ◌∙◌, subst, inl, inr, arith, ◌⊎◌, append_assoc}
-use Rattle.std.proofs.Common.{length-append, nat_le, if◌then◌else◌, Bool, ◌==◌, drop}
+use Rattle.std.proofs.Common.{length-append, nat_le, if◌then◌else◌, Bool, drop}
 use Rattle.std.proofs.lemmas.Bool.{cases_lt, cases_Bool, cond-true, cond-false, leb-true, lt-ltb}
 use Rattle.std.proofs.lemmas.Bool.{le-ltb}
 use Rattle.std.proofs.lemmas.Bool.Decides.{nat_tests}

@@ -23,7 +23,7 @@ use Rattle.net_ring.specs.{WritesSpare, WritesQueue, EnqueuesFrom, DequeuesFrom,
 use Rattle.net_ring.specs.{IsSound, free_index, queued_index, written_span, elements_at}
 use Rattle.net_ring.specs.declared.head.RingHead.{RingHead}
 use Rattle.net_ring.proofs.Rotations.{IsStorageIndex, length-rotation, length-overwrite, storage_index_is, read_at_le}
-use Rattle.net_ring.proofs.Rotations.{whole, length-queue, length-spare, spare-written, queue-written}
+use Rattle.net_ring.proofs.Rotations.{whole, length-queue, length-spare, spare-written}
 use Rattle.net_ring.proofs.Rotations.{with_enqueued_parts, with_dequeued_parts, take_sum}
 use Rattle.net_ring.specs.declared.head.Span.{Span}
 use Rattle.std.proofs.lemmas.List.Elements.{AllZip-push}
@@ -110,7 +110,11 @@ module _ {T : Type 0} where
 
     pub queue_law : (i p : ℕ) (ws : List T) → i + length ws ≤ g.count → p + length ws ≤ capacity g
         → IsStorageIndex (capacity g) g.read_at i p → WritesQueue g i ws (with_elements g p ws)
-    queue_law i p ws hi hp at = let w = queue-written g wf i p ws hi hp at in (w.0, w.1, refl)
+    queue_law i p ws hi hp at = (
+      same_lists _ _ (grind (arith, places, nat_tests)) (λ m d h. grind (arith, places, nat_tests)),
+      same_lists _ _ (grind (arith, places, nat_tests)) (λ m d h. grind (arith, places, nat_tests)),
+      refl,
+    )
 
     -- ---- elements that are enqueued
     pub enqueued_from : (k : ℕ) (ws : List T) → k ≤ length ws → length ws ≤ contiguous_window g
@@ -223,19 +227,11 @@ module _ {T : Type 0} where
 
     pub spare_part_value : (i n : ℕ)
         → take (contiguous_unallocated g i n) (drop (spare_index g i) g.storage) ≡ take (contiguous_unallocated g i n) (drop i (spare g))
-    spare_part_value i n = elim (cases_lt (window g) i) [
-      | inr h ↦ spare_value i (contiguous_unallocated g i n) (spare_index g i) (omega arith) (omega (arith, spare_index_le i)) (spare_at i h)
-      | inl h ↦ let none : contiguous_unallocated g i n ≡ 0 = omega arith in ap (λ (k : ℕ). take k (drop (spare_index g i) g.storage))
-          none ∙ sym (ap (λ (k : ℕ). take k (drop i (spare g))) none)
-    ]
+    spare_part_value i n = same_lists _ _ (grind (arith, places, nat_tests)) (λ m d h. grind (arith, places, nat_tests))
 
     pub queue_part_value : (i n : ℕ)
         → take (contiguous_allocated g i n) (drop (queue_index g i) g.storage) ≡ take (contiguous_allocated g i n) (drop i (queue g))
-    queue_part_value i n = elim (cases_lt g.count i) [
-      | inr h ↦ queue_value i (contiguous_allocated g i n) (queue_index g i) (omega arith) (omega (arith, queue_index_le i)) (queue_at i h)
-      | inl h ↦ let none : contiguous_allocated g i n ≡ 0 = omega arith in ap (λ (k : ℕ). take k (drop (queue_index g i) g.storage))
-          none ∙ sym (ap (λ (k : ℕ). take k (drop i (queue g))) none)
-    ]
+    queue_part_value i n = same_lists _ _ (grind (arith, places, nat_tests)) (λ m d h. grind (arith, places, nat_tests))
 
     -- what is read from the index p on, up to the storage's end, and the rest of it at the storage's beginning
     pub read_around : (i n p k : ℕ) → n ≤ g.count - i → p ≤ capacity g → IsStorageIndex (capacity g) g.read_at (min i g.count) p

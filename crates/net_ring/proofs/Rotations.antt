@@ -1,7 +1,7 @@
 -- What a rotated list holds after a write to the list, and how the queue and the spare part of a ring change.
 -- Elements of a list that was written over.
 use Rattle.std.proofs.Common.{◌≡◌, ℕ, ◌+◌, ◌-◌, ◌<◌, ◌≤◌, ◌⊎◌, List, ◌++◌, length, take, drop, sym, ap, ap₂, ◌∙◌, inl}
-use Rattle.std.proofs.Common.{inr, arith, append_assoc, length-append, length-take, length-drop, ◌≢◌, Some}
+use Rattle.std.proofs.Common.{inr, arith, append_assoc, length-drop, ◌≢◌, Some}
 use Rattle.std.proofs.lemmas.List.{take-append-drop, length-take-le, take_at, drop_at, take-append-le, drop-append-le}
 use Rattle.std.proofs.lemmas.List.{take-take, drop-take, drop-drop, places, same_lists}
 use Rattle.std.proofs.lemmas.Bool.Decides.{nat_tests}
@@ -39,9 +39,6 @@ module _ {T : Type 0} where
   pub overwrite-append_right : (f s ws : List T) (n i : ℕ) → length f ≡ n → i + length ws ≤ length s → overwrite (f ++ s) (n + i) ws ≡ f ++ overwrite s i ws
   overwrite-append_right f s ws n i hf le = same_lists _ _ (grind (arith, places)) (λ m d h. grind (arith, places))
 
-  overwrite-append_left : (f s ws : List T) (i : ℕ) → i + length ws ≤ length f → overwrite (f ++ s) i ws ≡ overwrite f i ws ++ s
-  overwrite-append_left f s ws i le = same_lists _ _ (grind (arith, places)) (λ m d h. grind (arith, places, length-take, length-append))
-
   pub storage_index_is : (g : RingState T) (j : ℕ) → IsStorageIndex (capacity g) g.read_at j (storage_index g j)
   storage_index_is g j = grind (arith, nat_tests)
 
@@ -78,19 +75,6 @@ module _ {T : Type 0} where
           ap (take g.count) turned ∙ take_at (queue g) (overwrite (spare g) i ws) g.count length-queue,
           ap (drop g.count) turned
               ∙ drop_at (queue g) (overwrite (spare g) i ws) g.count length-queue,
-        )
-
-    -- what is written to the queue
-    pub queue-written : (i p : ℕ) (ws : List T) → i + length ws ≤ g.count → p + length ws ≤ capacity g → IsStorageIndex (capacity g) g.read_at i p
-        → (queue (with_elements g p ws) ≡ overwrite (queue g) i ws) × (spare (with_elements g p ws) ≡ spare g)
-    queue-written i p ws hi hp at =
-        let turned : rotation (overwrite g.storage p ws) g.read_at ≡ overwrite (queue g) i ws ++ spare g =
-        rotation-overwrite g.storage g.read_at i p ws read_at_le (omega (arith, wf.1)) hp at
-        ∙ ap (λ (l : List T). overwrite l i ws) whole ∙ overwrite-append_left (queue g) (spare g) ws i (omega (arith, length-queue)) in
-        let long : length (overwrite (queue g) i ws) ≡ g.count = length-overwrite (queue g) i ws ∙ length-queue in (
-          ap (take g.count) turned ∙ take_at (overwrite (queue g) i ws) (spare g) g.count long,
-          ap (drop g.count) turned
-              ∙ drop_at (overwrite (queue g) i ws) (spare g) g.count long,
         )
 
     pub with_enqueued_parts : (k : ℕ) → k ≤ window g → (queue (with_enqueued k g) ≡ queue g ++ take k (spare g))

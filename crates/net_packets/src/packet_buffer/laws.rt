@@ -42,7 +42,7 @@ pub fn contents_are_packets<H>()
 /// States that a queue with no packets takes a packet exactly if it has a slot, and at least as
 /// many bytes as the packet. The packet is placed without a gap, even if the last packet to leave
 /// was in the middle of the storage.
-#[tactic(auto, using(crate::proofs::PacketRuns::empty_taken, crate::proofs::PacketRuns::empty_no_slot, crate::proofs::PacketRuns::empty_too_long))]
+#[tactic(auto, using(crate::proofs::PacketRuns::empty_queues))]
 pub fn empty_queue_takes_what_fits<H>()
     ensures taken { (q : PacketsState H) (size : ℕ) → contents q ≡ []
         → 0 < q.slot_count → size ≤ length q.storage → placement q size ≡ Some 0 }
@@ -85,7 +85,7 @@ pub fn packets_leave_in_order<H>()
 /// States that showing a packet changes nothing: after `peek` the same packet is taken off, and a
 /// closure that changes neither the header nor the bytes of the first packet leaves the contents as
 /// they were, without the packet if it returned `Ok`.
-#[tactic(auto, using(crate::proofs::PacketRuns::peeked_contents, crate::proofs::PacketRuns::still_there, crate::proofs::PacketRuns::kept_contents))]
+#[tactic(auto, using(crate::proofs::PacketRuns::first_packets))]
 pub fn showing_changes_nothing<H>()
     ensures peeked { (q : PacketsState H) → IsWellPlaced q
         → contents (without_first_and_gap (without_gap q)) ≡ drop 1 (contents q) }

@@ -80,7 +80,8 @@ module _ (g : given.Over) (c : After-part_mut g) where
     abbrev bytes : List ℕ
     bytes = g.B.Storage.elements (g.B.Storage.with_part c.self.inside.bytes c.self.inside.head.bytes.read_at ws)
 
-    gone : (h : PacketsHead) → h ≡ with_slot_taken c.count-slot_count.result c.count-capacity.result c.element_mut-slot.result.now.size c.self.inside.head
+    gone : (h : PacketsHead)
+        → h ≡ with_slot_taken c.count-slot_count.result c.count-capacity.result c.element_mut-slot.result.now.size c.self.inside.head
         → IsQueue h slots bytes (after_hand_out true c.args.self.now new ws)
     gone h is =
         handed_gone (first g (goal.at.f-answer-requires g c).In-Some) _ slots
@@ -96,7 +97,8 @@ module _ (g : given.Over) (c : After-part_mut g) where
         (g.met.B.Storage.part_written c.self.inside.bytes c.self.inside.head.bytes.read_at ws)
 
 pub f-answer-requires : goal.f-answer-requires
-f-answer-requires g c = c.requires c.in-Some.header.now c.part_mut.result.now (shown g c) c.in-Some.header c.part_mut.result refl refl
+f-answer-requires g c =
+    c.requires c.in-Some.header.now c.part_mut.result.now (shown g c) c.in-Some.header c.part_mut.result refl refl
 
 pub take-requires-clause-sound : goal.take-requires-clause-sound
 take-requires-clause-sound g c = (

@@ -30,10 +30,12 @@ returns-in-Some-clause-no_packet g c = (
 )
 
 pub returns-in-Some-clause-first : goal.returns-in-Some-clause-first
-returns-in-Some-clause-first g c = first_sized (first g (goal.at.returns-in-Some-clause-first g c).In-Some) _ c.part.ensures
+returns-in-Some-clause-first g c =
+    first_sized (first g (goal.at.returns-in-Some-clause-first g c).In-Some) _ c.part.ensures
 
 pub returns-in-Some-clause-bytes : goal.returns-in-Some-clause-bytes
-returns-in-Some-clause-bytes g c = first_shown (first g (goal.at.returns-in-Some-clause-bytes g c).In-Some) _ c.part.ensures
+returns-in-Some-clause-bytes g c =
+    first_shown (first g (goal.at.returns-in-Some-clause-bytes g c).In-Some) _ c.part.ensures
 
 pub returns-in-None-clause-no_packet : goal.returns-in-None-clause-no_packet
 returns-in-None-clause-no_packet g c =

@@ -31,7 +31,8 @@ returns g c =
       (refl, λ w. (written k from w _ (g.met.B.Storage.part_written c.self.inside.bytes from w)).seen ∙ ap (λ p. with_bytes q p w) at),
       record {
         writes_back = tt;
-        value = lent_is k from s _ c.part_mut.ensures.value ∙ ap₂ (λ (n p : ℕ). take n (drop p q.storage)) c.requires at;
+        value =
+            lent_is k from s _ c.part_mut.ensures.value ∙ ap₂ (λ (n p : ℕ). take n (drop p q.storage)) c.requires at;
         size = lent_size k from s _ c.part_mut.ensures.value (omega (arith, c.index-from.ensures.index)) ∙ c.requires;
       },
     )
