@@ -540,15 +540,11 @@ impl AssemblerHead {
         requires last { StartsInRuns self.old runs.old offset size }
         ensures { AddsInPlace self.old runs.old offset size result self.new runs.new turns.old turns.new }
     {
-        let mut by = 0;
-        let mut start = 0;
+        let by = self.first_start.saturating_sub(offset);
+        let start = offset.saturating_sub(self.first_start);
         let mut first = 0;
-        let begin;
-        if offset < self.first_start {
-            by = self.first_start - offset;
-            begin = by;
-        } else {
-            start = offset - self.first_start;
+        let mut begin = by;
+        if by == 0 {
             first = runs_ending_before(runs, self.used, start, turns);
             begin = start_of(runs, first);
         }
@@ -602,7 +598,7 @@ impl AssemblerHead {
         }
         //  |--- first ---|  ..  |--- next - 1 ---|    |--- next ---|
         //         |====== range ======|                                    they become one with it
-        let next = runs_starting_by(runs, used, first + 1, end - by, turns);
+        let next = runs_met(runs, used, first + 1, end - by, turns);
         let last_end = by + end_of(runs, next - 1);
         prove!(last_end <= most(), "in any `usize`");
         runs[first] = Run {
@@ -690,7 +686,7 @@ impl AssemblerHead {
         };
         self.first_start = start - end;
         // A sum that wraps lowers their numbers.
-        self.used = take_out(
+        self.used = move_down(
             runs,
             used,
             0,
@@ -843,6 +839,29 @@ fn runs_starting_by(runs: &[Run], used: usize, from: usize, end: usize, turns: &
         turns.look();
     }
     low
+}
+
+/// Returns what `runs_starting_by` does. It looks at the runs in turn, and each that it passes counts
+/// as a move: `join_here` takes it out.
+#[inline(always)]
+fn runs_met(runs: &[Run], used: usize, from: usize, end: usize, turns: &mut Turns) -> usize
+    requires used { used ≤ length runs.now }
+    requires runs { AreRuns (take used runs.now) }
+    requires from { from ≤ used }
+    ensures from { from ≤ result }
+    ensures within { result ≤ used }
+    ensures before { (k : ℕ) → from ≤ k → k < result → start_at runs.now k ≤ end }
+    ensures after { (k : ℕ) → result ≤ k → k < used → end < start_at runs.now k }
+    ensures looks { turns.new.0 ≡ turns.old.0 }
+    ensures moves { turns.new.1 + from ≡ turns.old.1 + result }
+{
+    let mut next = from;
+    while next < used && start_of(runs, next) <= end {
+        next += 1;
+        prove!(next <= used, "in any `usize`");
+        turns.step();
+    }
+    next
 }
 
 /// Returns the run with number `k`, counted `by` higher, in numbers that wrap: so it is counted lower

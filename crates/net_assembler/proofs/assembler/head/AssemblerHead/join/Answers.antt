@@ -5,7 +5,7 @@ use Rattle.net_assembler.specs.Turns.{binary_digits}
 use Rattle.net_assembler.proofs.Calls.{below_binary_digits}
 use Rattle.net_assembler.proofs.SoundHeads.{first_pair, pair_rises, searched}
 use Rattle.net_assembler.proofs.assembler.head.AssemblerHead.join.Goals as goal
-use Rattle.net_assembler.proofs.assembler.head.AssemblerHead.join.Goals.{then-offset-self, else-offset-self}
+use Rattle.net_assembler.proofs.assembler.head.AssemblerHead.join.Goals.{then-by-eq0, else-by-eq0}
 
 pub runs_ending_before-first-requires-clause-some : goal.runs_ending_before-first-requires-clause-some
 runs_ending_before-first-requires-clause-some c = c.requires.last.1
@@ -18,10 +18,9 @@ runs_ending_before-first-requires-clause-last c =
 
 pub join_here-requires-clause-first : goal.join_here-requires-clause-first
 join_here-requires-clause-first c =
-    let met = c.if-offset-self in
-    elim met.branch [
-      | then-offset-self w ↦ omega (arith, w.first-is, c.requires.last.1)
-      | else-offset-self w ↦ omega (arith, w.first-is, w.runs_ending_before-first.ensures.within)
+    elim c.if-by-eq0.branch [
+      | then-by-eq0 w ↦ omega (arith, w.first-is, w.runs_ending_before-first.ensures.within)
+      | else-by-eq0 w ↦ omega (arith, w.first-is, c.requires.last.1)
     ]
 
 pub join_here-requires-clause-size : goal.join_here-requires-clause-size
@@ -29,14 +28,11 @@ join_here-requires-clause-size c = c.requires.last.0
 
 pub join_here-requires-clause-begin : goal.join_here-requires-clause-begin
 join_here-requires-clause-begin c =
-    let h = c.args.self.now in
     let xs = c.args.runs.now in
-    let met = c.if-offset-self in
-    elim met.branch [
-      | then-offset-self w ↦
-          (let zeroth : met.first ≡ 0 = w.first-is in
-          omega (arith, w.begin-is, w.by-is, ap (start_at xs) zeroth, first_pair h xs c.requires.sound c.requires.last.1))
-      | else-offset-self w ↦ omega (arith, w.begin-is, w.by-is, w.start_of-begin.ensures, ap (start_at xs) w.first-is)
+    elim c.if-by-eq0.branch [
+      | then-by-eq0 w ↦ omega (arith, w.begin-is, w.if-by-eq0.true, w.start_of-begin.ensures, ap (start_at xs) w.first-is)
+      | else-by-eq0 w ↦
+          omega (arith, w.begin-is, ap (start_at xs) w.first-is, first_pair c.args.self.now xs c.requires.sound c.requires.last.1)
     ]
 
 pub returns : goal.returns
@@ -45,28 +41,25 @@ returns c =
     let xs = c.args.runs.now in
     let n = length xs in
     let d = below_binary_digits n in
-    let met = c.if-offset-self in
+    let met = c.if-by-eq0 in
     let left = c.join_here in
-    let at : h.first_start - met.by + met.start ≡ c.args.offset = elim met.branch [
-      | then-offset-self w ↦ omega (arith, w.by-is, w.start-is, w.if-offset-self.true)
-      | else-offset-self w ↦ omega (arith, w.by-is, w.start-is, w.if-offset-self.false)
-    ] in
+    let at : h.first_start - c.saturating_sub-by.result + c.saturating_sub-start.result ≡ c.args.offset = omega arith in
     let some : c.args.turns.now.0 ≤ met.turns.0 = elim met.branch [
-      | then-offset-self w ↦ omega (arith, ap (λ (t : ℕ × ℕ). t.0) w.turns-is)
-      | else-offset-self w ↦ omega (arith, ap (λ (t : ℕ × ℕ). t.0) w.turns-is, w.runs_ending_before-first.ensures.no_look_lost)
+      | then-by-eq0 w ↦ omega (arith, ap (λ (t : ℕ × ℕ). t.0) w.turns-is, w.runs_ending_before-first.ensures.no_look_lost)
+      | else-by-eq0 w ↦ omega (arith, ap (λ (t : ℕ × ℕ). t.0) w.turns-is)
     ] in
     let few : met.turns.0 ≤ c.args.turns.now.0 + binary_digits n = elim met.branch [
-      | then-offset-self w ↦ omega (arith, ap (λ (t : ℕ × ℕ). t.0) w.turns-is)
-      | else-offset-self w ↦
+      | then-by-eq0 w ↦
           omega (
             arith,
             ap (λ (t : ℕ × ℕ). t.0) w.turns-is,
             w.runs_ending_before-first.ensures.looks (binary_digits n) (omega (arith, c.requires.sound.room)),
           )
+      | else-by-eq0 w ↦ omega (arith, ap (λ (t : ℕ × ℕ). t.0) w.turns-is)
     ] in
     let moves : met.turns.1 ≡ c.args.turns.now.1 = elim met.branch [
-      | then-offset-self w ↦ ap (λ (t : ℕ × ℕ). t.1) w.turns-is
-      | else-offset-self w ↦ omega (arith, ap (λ (t : ℕ × ℕ). t.1) w.turns-is, w.runs_ending_before-first.ensures.moves)
+      | then-by-eq0 w ↦ omega (arith, ap (λ (t : ℕ × ℕ). t.1) w.turns-is, w.runs_ending_before-first.ensures.moves)
+      | else-by-eq0 w ↦ ap (λ (t : ℕ × ℕ). t.1) w.turns-is
     ] in
     subst (λ o. AddsInPlace h xs o c.args.size left.result left.new.self left.new.runs c.args.turns.now left.new.turns) at
     (searched h xs _ _ _ _ _ _ _ _ left.ensures.added some few moves left.ensures.looks)

@@ -14,13 +14,13 @@ use Rattle.net_assembler.proofs.assembler.head.AssemblerHead.join_here.Goals as 
 
 pub overflow_add-last_end : goal.overflow_add-last_end
 overflow_add-last_end c =
-    let next = c.runs_starting_by-next.ensures in
-    omega (arith, pair_fits c.args.self.now c.args.runs.now c.requires.sound (c.runs_starting_by-next.result - 1) (omega (arith, next.from, next.within)))
+    let next = c.runs_met-next.ensures in
+    omega (arith, pair_fits c.args.self.now c.args.runs.now c.requires.sound (c.runs_met-next.result - 1) (omega (arith, next.from, next.within)))
 
 pub prove-unreachable-requires-3 : goal.prove-unreachable-requires-3
 prove-unreachable-requires-3 c =
-    let next = c.runs_starting_by-next.ensures in
-    omega (arith, pair_fits c.args.self.now c.args.runs.now c.requires.sound (c.runs_starting_by-next.result - 1) (omega (arith, next.from, next.within)))
+    let next = c.runs_met-next.ensures in
+    omega (arith, pair_fits c.args.self.now c.args.runs.now c.requires.sound (c.runs_met-next.result - 1) (omega (arith, next.from, next.within)))
 
 pub returns-then-used-runs-clause-added : goal.returns-then-used-runs-clause-added
 returns-then-used-runs-clause-added c =
@@ -75,7 +75,7 @@ take_out-self-requires-clause-fits c =
     let h = c.args.self.now in
     let xs = c.args.runs.now in
     let s = c.requires.sound in
-    let next = c.runs_starting_by-next in
+    let next = c.runs_met-next in
     subst (λ rs. AreUsize (runs_wrapped c.args.by rs))
     (sym (rest_written xs c.args.first next.result h.used (c.min.result, c.max.result) (omega (arith, next.ensures.from)) next.ensures.within))
     (tail_usize c.args.by next.result (used_runs h xs) s.runs (fits-less c.args.by h.first_start (used_runs h xs) c.requires.by s.fits))
@@ -84,7 +84,7 @@ pub returns-then-next-first-clause-looks : goal.returns-then-next-first-clause-l
 returns-then-next-first-clause-looks c =
     let n = length c.args.runs.now in
     let d = below_binary_digits n in
-    omega (arith, c.runs_starting_by-next.ensures.looks (binary_digits n) (omega (arith, c.requires.sound.room)))
+    omega (arith, d, c.runs_met-next.ensures.looks)
 
 pub returns-then-next-first-clause-added : goal.returns-then-next-first-clause-added
 returns-then-next-first-clause-added c =
@@ -96,9 +96,9 @@ returns-then-next-first-clause-added c =
     let start = c.args.start in
     let end = start + c.args.size in
     let none : by ≡ 0 = c.if-by-eq0.true in
-    let next = c.runs_starting_by-next.ensures in
-    let one : c.runs_starting_by-next.result ≡ first + 1 = c.if-next-first.true in
-    let at : c.runs_starting_by-next.result - 1 ≡ first = omega (arith, one) in
+    let next = c.runs_met-next.ensures in
+    let one : c.runs_met-next.result ≡ first + 1 = c.if-next-first.true in
+    let at : c.runs_met-next.result - 1 ≡ first = omega (arith, one) in
     let last = c.end_of.ensures ∙ ap (end_at xs) at in
     let ys = set xs first (c.min.result, c.max.result) in
     let grown : take h.used ys ≡ runs_with_range (used_runs h xs) start end =
@@ -112,16 +112,16 @@ returns-then-next-first-clause-added c =
     (grown ∙ ap (λ rs. runs_with_range rs start end) (sym (up-none by (used_runs h xs) none)))
     (record {
       looks_few = omega (arith, returns-then-next-first-clause-looks c);
-      moves_few = omega (arith, next.moves);
-      no_look_lost = omega (arith, next.no_look_lost);
-      no_move_lost = omega (arith, next.moves);
+      moves_few = omega (arith, next.moves, one, s.room, c.requires.first);
+      no_look_lost = omega (arith, next.looks);
+      no_move_lost = omega (arith, next.moves, one);
     })
 
 pub returns-clause-looks : goal.returns-clause-looks
 returns-clause-looks c =
     let n = length c.args.runs.now in
     let d = below_binary_digits n in
-    omega (arith, c.take_out-self.ensures.looks, c.runs_starting_by-next.ensures.looks (binary_digits n) (omega (arith, c.requires.sound.room)))
+    omega (arith, d, c.take_out-self.ensures.looks, c.runs_met-next.ensures.looks)
 
 pub returns-clause-added : goal.returns-clause-added
 returns-clause-added c =
@@ -133,7 +133,7 @@ returns-clause-added c =
     let start = c.args.start in
     let end = start + c.args.size in
     let fits : FitsFrom by (used_runs h xs) = fits-less by h.first_start (used_runs h xs) c.requires.by s.fits in
-    let met = c.runs_starting_by-next in
+    let met = c.runs_met-next in
     let next = met.ensures in
     let moved = c.take_out-self.ensures in
     let meets : by + start_at xs first ≤ end = omega (arith, c.requires.begin, c.if-end-begin.false) in
@@ -153,6 +153,6 @@ returns-clause-added c =
     (record {
       looks_few = omega (arith, returns-clause-looks c);
       moves_few = omega (arith, s.room, next.moves, moved.moves);
-      no_look_lost = omega (arith, next.no_look_lost, moved.looks);
-      no_move_lost = omega (arith, next.moves, next.within, moved.moves);
+      no_look_lost = omega (arith, next.looks, moved.looks);
+      no_move_lost = omega (arith, next.from, next.within, next.moves, moved.moves);
     })
