@@ -17,7 +17,8 @@ use Rattle.net_receiver.specs.{verdict, state_after, numbers, segment_result, re
 use Rattle.net_receiver.specs.{domain, held_with_piece, first_lacking, held_bytes_at, receiver_after_read, IsSound}
 use Rattle.net_receiver.specs.{StaysInSetting, Follows, EndsBy, KeepsOrRefuses, JoinsQueue, HeldIsOfStream}
 use Rattle.net_receiver.specs.{QueueIsOfStream, CapacityStays, ReceivesFrom, MatchesStream, AllMatch}
-use Rattle.net_receiver.specs.{MatchesWhatIsThere, window_part, InOrderReaches, piece_byte_at, SegmentReply}
+use Rattle.net_receiver.specs.{ReadReceives, FreshReceivesFrom, AgreeingReceives, ReceivesFromLonger, SegmentReceives}
+use Rattle.net_receiver.specs.{MatchesLonger, MatchesWhatIsThere, window_part, InOrderReaches, piece_byte_at, SegmentReply}
 use Rattle.net_receiver.specs.{receiver_with_piece, receiver_up_to, receiver_replies, IsAccepted, IsHeld}
 use Rattle.net_receiver.specs.{HeldChangesNothing, SecondCopy, HasByteAt, HasByteStays, AcceptedBrings, HasAllReaches}
 use Rattle.net_receiver.specs.{Brings, Completes, ReadLeavesNext, ReadLeavesBytes, ReadsAdd, ReadsGiveTogether}
@@ -180,9 +181,26 @@ segment_receives N f x v u pos xs e r h = receives_after N f x v u (Segment pos 
 pub read_receives : (f : ℕ) (x : List ℕ) (v u : ReceiverState) (n : ℕ) → u ≡ receiver_after_read v n → ReceivesFrom f x v → ReceivesFrom f x u
 read_receives f x v u n e r = receives_after 0 f x v u (Read n) e r tt
 
+pub reads_receive : ReadReceives
+reads_receive f n x v r = read_receives f x v _ n refl r
+
 pub fresh_receives_from : (x : List ℕ) (first capacity : ℕ) → ReceivesFrom first x (fresh_receiver first capacity)
 unfolding ReceivesFrom
 fresh_receives_from x first capacity = (refl, fresh_receives x first capacity)
+
+pub begun_receives : FreshReceivesFrom
+begun_receives f x v e = subst (ReceivesFrom f x) (sym e) (fresh_receives_from x f v.capacity)
+
+pub agreeing_receives : AgreeingReceives
+unfolding ReceivesFrom
+agreeing_receives f x v s e d all = (e, record { state = s; refines = d; agrees = subst (λ b. Agrees b s.kept x) (sym e) all })
+
+pub longer_received : ReceivesFromLonger
+unfolding ReceivesFrom
+longer_received f x more v h = (h.0, longer_receives x more v h.1)
+
+pub segments_receive : SegmentReceives
+segments_receive most f x v pos xs r h = segment_receives most f x v _ pos xs refl r h
 
 pub queue_of : QueueIsOfStream
 unfolding ReceivesFrom
@@ -206,6 +224,10 @@ matches_what_is_there f pos x xs h e = λ p b from is.
     ∙ sym (slice_get-drop (pos - f) x (p - pos))
     ∙ (cond_some (nat_lt (p - pos) (length xs)) (slice_get (drop (pos - f) x) (p - pos)) b
     (sym (slice_get-take (length xs) (drop (pos - f) x) (p - pos)) ∙ ap (λ l. slice_get l (p - pos)) (sym e) ∙ there.1)).1
+
+pub matches_longer : MatchesLonger
+unfolding MatchesStream
+matches_longer f pos x more xs h = λ p b from is. longer_at x more _ b (h p b from is)
 
 prefix_of : (x q : List ℕ) (a n : ℕ) → q ≡ take (length q) (drop a x) → n ≤ length q → take n q ≡ slice_range x a (a + n)
 prefix_of x q a n e h = grind (arith, common_steps)
@@ -604,3 +626,14 @@ reads_add v m n =
 
 pub reads_give_together : ReadsGiveTogether
 reads_give_together v m n = sym (take-add m n v.queue)
+
+-- ---- The lemmas of each law.
+pub ruleset reads_law = (reads_receive, read_leaves_next, read_leaves_bytes, reads_add, reads_give_together)
+
+pub ruleset receives_law = (begun_receives, agreeing_receives, longer_received, segments_receive, held_of_stream, queue_of)
+
+pub ruleset matches_stream_law = (matches_what_is_there, matches_longer)
+
+pub ruleset retransmission_law = (second_copy, held_changes_nothing)
+
+pub ruleset numbers_law = (first_stays, next_position_grows, limit_grows, segment_reads_nothing, capacity_stays)

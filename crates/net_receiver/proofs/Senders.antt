@@ -1,12 +1,13 @@
 -- What a sender lends and has sent, the laws of one whose stream ends, and what a receiver reads of it.
 use Rattle.std.proofs.Common.{◌≡◌, ℕ, ◌+◌, ◌-◌, ◌<◌, ◌≤◌, List, [], length, take, drop, get_or, ◌++◌, ◌∙◌, arith, sym}
 use Rattle.std.proofs.Common.{ap, min, max, length-append, length-drop, Bool, true, false, cond, ◌∷◌, nat_eq, nat_le}
-use Rattle.std.proofs.Common.{refl, subst, append_assoc, append-nil, All, ⊎_elim}
+use Rattle.std.proofs.Common.{◌&&◌, refl, subst, append_assoc, append-nil, All, ⊎_elim}
 use Rattle.std.proofs.lemmas.Bool.{cases_lt, cond_both, and_parts, leb-true, eqb-true, cond-false}
 use Rattle.std.proofs.lemmas.Bool.Decides.{nat_tests}
 use Rattle.net_assembler.proofs.Positions.{either}
 use Rattle.std.proofs.lemmas.List.{drop_all, get_or-take, drop-drop, get_or-drop, drop-append-le, nil_from_length}
 use Rattle.net_receiver.specs.{MatchesStream, MatchesWhatIsThere, sender_state, Sends, end_of, contiguous_end}
+use Rattle.net_receiver.specs.{QueueFromGreatest, acknowledge, acknowledge_each, greatest_within}
 use Rattle.net_receiver.specs.{with_written, sender_from, sender_of, MatchesLonger, FiniteSenderState, first_number}
 use Rattle.net_receiver.specs.{numbers_end, finite_room, finite_sender_of, with_bytes, open_room, has_end_at, accepts}
 use Rattle.net_receiver.specs.{acknowledged_below, SenderCommand, Writes, Closes, Marks, Acknowledges, written_of}
@@ -21,7 +22,7 @@ use Rattle.net_ring.specs.Ring.{queue}
 use Rattle.net_ring.specs.RingHead.{IsSound, ring_at}
 use Rattle.net_ring.proofs.Rotations.{length-queue}
 use Rattle.net_receiver.specs.declared.finite_sender_head.FiniteSenderHead.{FiniteSenderHead}
-use Rattle.net_receiver.proofs.OneStream.{longer_at, matches_what_is_there, queue_of}
+use Rattle.net_receiver.proofs.OneStream.{matches_longer, matches_what_is_there, queue_of}
 use Rattle.std.proofs.lemmas.List.Elements.{All-head, All-tail, All-weaker}
 use Rattle.net_receiver.specs.ReceiverState.{ReceiverState}
 use Rattle.net_receiver.specs.Transfers.{ComesFrom, SaysAtMost, AnyPathCarries}
@@ -77,6 +78,42 @@ sends_from f w v n low high s =
 -- nothing was written
 pub fresh_sends : (f capacity : ℕ) → Sends f [] (sender_state capacity f [] (f + capacity))
 fresh_sends f capacity = record { from = omega arith; end = omega arith; queue = sym (drop_all (f - f) [] (omega arith)) }
+
+-- ---- Several acknowledgements.
+-- what acknowledgements leave
+abbrev Follow : SenderState → List ℕ → SenderState → Type 0
+Follow v ns u = (u.first_unacknowledged ≡ greatest_within (end_of v) v.first_unacknowledged ns) × (v.first_unacknowledged ≤ u.first_unacknowledged) × (end_of u ≡ end_of v)
+    × (u.queue ≡ drop (u.first_unacknowledged - v.first_unacknowledged) v.queue)
+
+nothing_dropped : (v : SenderState) → v.queue ≡ drop (v.first_unacknowledged - v.first_unacknowledged) v.queue
+nothing_dropped v = ap (λ k. drop k v.queue) (let e : 0 ≡ v.first_unacknowledged - v.first_unacknowledged = omega arith in e)
+
+one_follows : (v : SenderState) (n : ℕ) → Follow v (n ∷ []) (acknowledge v n)
+one_follows v n =
+    cond_both (nat_le v.first_unacknowledged n && nat_le n (end_of v)) (sender_from v n) v (Follow v (n ∷ []))
+    (λ on.
+    let both = and_parts (nat_le v.first_unacknowledged n) (nat_le n (end_of v)) on in
+    let low = leb-true v.first_unacknowledged n both.0 in
+    let high = leb-true n (end_of v) both.1 in
+    (grind (arith, nat_tests), low, omega (arith, length-drop (n - v.first_unacknowledged) v.queue), refl))
+    (λ off. (grind (arith, nat_tests), omega arith, refl, nothing_dropped v))
+
+all_follow : (v : SenderState) (ns : List ℕ) → Follow v ns (acknowledge_each v ns)
+all_follow v [] = (refl, omega arith, refl, nothing_dropped v)
+all_follow v (n ∷ ns) =
+    let u = acknowledge v n in
+    let here = one_follows v n in
+    let rest = all_follow u ns in
+    let w = acknowledge_each u ns in
+    let place : (u.first_unacknowledged - v.first_unacknowledged) + (w.first_unacknowledged - u.first_unacknowledged) ≡ w.first_unacknowledged - v.first_unacknowledged = omega arith in (
+      rest.0 ∙ (λ i. greatest_within (here.2 i) (here.0 i) ns),
+      omega arith,
+      rest.2 ∙ here.2,
+      rest.3 ∙ ap (drop (w.first_unacknowledged - u.first_unacknowledged)) here.3 ∙ drop-drop (w.first_unacknowledged - u.first_unacknowledged) (u.first_unacknowledged - v.first_unacknowledged) v.queue ∙ ap (λ k. drop k v.queue) place,
+    )
+
+pub queue_from_greatest : QueueFromGreatest
+queue_from_greatest v ns = (let h = all_follow v ns in (h.0, h.2, h.3))
 
 -- ---- The laws of a sender of a stream that ends.
 pub fresh_sent_is_sound : FreshSentIsSound
@@ -281,14 +318,10 @@ pub lent_later : MatchesLonger → (s : FiniteSenderState) (pos limit : ℕ) (xs
 lent_later longer s pos limit xs last lent f w more sends from ended =
     matches_later longer f w more pos xs last (λ on. ended (lent.is.end.0 on).0) (lent.says f w sends from)
 
-longer : MatchesLonger
-unfolding MatchesStream
-longer f pos x more xs h = λ p b from is. longer_at x more _ b (h p b from is)
-
 pub lent_is_of_stream : LentIsOfStream
 lent_is_of_stream s cs f w pos xs sound sends low is =
     let ends = λ (on : IsTrue (has_end_at s (pos + length xs))). and_parts (nat_eq s.closed 1) (nat_eq (pos + length xs) (end_of s.sender)) on in
-    matches_later longer f w (bytes_written s cs) pos xs _
+    matches_later matches_longer f w (bytes_written s cs) pos xs _
     (λ on. ((closed_stays s cs f w sound sends).1 (eqb-true s.closed 1 (ends on).0)).1)
     (record {
       bytes = lent_says matches_what_is_there f w s.sender pos xs sends low is;
@@ -381,3 +414,6 @@ any_path_carries N first to_send to_receive ws cs fits from =
                 ∙ drop-drop (n - u.sender.first_unacknowledged) (u.sender.first_unacknowledged - first) x ∙ ap (λ k. drop k x) place,
           ),
     )
+
+-- ---- The lemmas of each law.
+pub ruleset lent_segments_law = (lent_some, lent_room, lent_none, lent_numbers, lent_beyond, lent_written)

@@ -549,3 +549,8 @@ sound_stays most v Show sound = sound
 
 pub fresh_is_sound : FreshIsSound
 fresh_is_sound most first capacity = fresh_sound most first capacity (let none = runs-nothing in omega arith)
+
+-- ---- The lemmas of each law.
+pub ruleset headline_law = (calls_reply, calls_go_on, keep_replies)
+
+pub ruleset worked_schedule_law = (worked_schedule, worked_refusal)
