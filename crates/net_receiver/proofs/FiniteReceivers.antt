@@ -26,7 +26,7 @@ use Rattle.net_receiver.specs.{receiver_reply, receiver_replies, state_from, IsA
 use Rattle.net_receiver.specs.{MatchesFinite, plain_of, plain_commands, AreAccepted, BringsByte, BringsEnd, Resends}
 use Rattle.net_receiver.specs.{EndsWithin, FiniteCompletes, FiniteRecovers, ResentIsRead, CommandFits}
 use Rattle.net_receiver.specs.ReceiverState.{ReceiverState}
-use Rattle.net_receiver.specs.FiniteSchedules.{FiniteSchedules}
+use Rattle.net_receiver.specs.Finite.{FiniteSchedules}
 use Rattle.net_receiver.specs.declared.finite_receiver_head.FiniteReceiverHead.{FiniteReceiverHead}
 use Rattle.net_receiver.specs.declared.receiver_head.ReceiverHead.{ReceiverHead}
 use Rattle.net_assembler.specs.declared.assembler.error.TooManyHolesError.{TooManyHolesError}

@@ -23,8 +23,8 @@ use Rattle.net_receiver.specs.{receiver_after_commands, HasByteAt, with_starts}
 use Rattle.net_receiver.specs.ReceiverState.{ReceiverState}
 use Rattle.std.proofs.lemmas.List.FromFn.{length-range_with_len}
 use Rattle.std.specs.Cmp.{both_ways as same_tests}
-use Rattle.net_receiver.specs.NewestFirst.{Calls, recent_after, StayTogether, AllStayTogether, IsHeldSince}
-use Rattle.net_receiver.specs.NewestFirst.{NewestAreFirst, HeldStayTogether}
+use Rattle.net_receiver.specs.NewestRuns.{Calls, recent_after, StayTogether, AllStayTogether, IsHeldSince}
+use Rattle.net_receiver.specs.NewestRuns.{NewestAreFirst, HeldStayTogether}
 use Rattle.net_receiver.proofs.Sets.{slice_get-take, contains-domain}
 use Rattle.net_receiver.proofs.OneStream.{has_byte_stays}
 use Rattle.net_receiver.proofs.Theorems.{sound_stays}

@@ -36,7 +36,7 @@ use Rattle.net_assembler.specs.declared.assembler.error.TooManyHolesError.{TooMa
 use Rattle.net_assembler.specs.AssemblerLaws.{MaximalRunsOfEverySet}
 use Rattle.net_receiver.specs.declared.kept.Kept.{Kept}
 use Rattle.net_receiver.specs.declared.kept.KeptBytes.{KeptBytes}
-use Rattle.net_receiver.specs.Laws.{runs_of_sack, ListsRuns, ReplayCall, Replays, ArePrefixes, Composes}
+use Rattle.net_receiver.specs.Execution.{runs_of_sack, ListsRuns, ReplayCall, Replays, ArePrefixes, Composes}
 use Rattle.std.proofs.lemmas.List.{take_min, length-replicate, take-take}
 use Rattle.net_receiver.specs.HeadlineLaws.{Calls, CallsReply, CallsGoOn, without_runs, KeepReplies, RepliesAre}
 use Rattle.std.specs.Option.{option_or}

@@ -1,19 +1,14 @@
 //! A receiver of a stream that ends.
-ghost use Rattle.std.specs.Prelude.{◌≡◌, ◌↔◌, ℕ, ◌+◌, ◌-◌, ◌<◌, ◌≤◌, ◌^◌, min, List, length, ◌++◌};
-ghost use Rattle.std.specs.Prelude.{IsTrue, Some, None, take, drop, slice_range, max, [], ◌∷◌};
-ghost use Rattle.net_receiver.specs.Finite.{no_end, fresh_finite, can_end, bytes_end, finite_after};
-ghost use Rattle.net_receiver.specs.Finite.{finite_result, finite_after_read, is_complete};
-ghost use Rattle.net_receiver.specs.Finite.{acknowledged, has_read_all};
-ghost use Rattle.net_receiver.specs.Finite.{IsSameFinite, IsSoundEnd};
-ghost use Rattle.net_receiver.specs.FiniteHead.{finite_of, HasSoundFinite};
-ghost use Rattle.net_receiver.specs.Segments.{new_count};
-ghost use Rattle.net_receiver.specs.FiniteLaws.{MatchesFinite, ReceivesFinite};
+ghost use Rattle.std.specs.Prelude.{◌≡◌, ◌↔◌, ℕ, ◌+◌, ◌-◌, ◌<◌, ◌≤◌, ◌^◌, min, List, length, ◌++◌, IsTrue, Some, None};
+ghost use Rattle.std.specs.Prelude.{take, drop, slice_range, max, [], ◌∷◌};
+ghost use Rattle.net_receiver.specs.{no_end, fresh_finite, can_end, bytes_end, finite_after, finite_result};
+ghost use Rattle.net_receiver.specs.{finite_after_read, is_complete, acknowledged, has_read_all, IsSameFinite};
+ghost use Rattle.net_receiver.specs.{IsSoundEnd, finite_of, HasSoundFinite, new_count, MatchesFinite, ReceivesFinite};
+ghost use Rattle.net_receiver.specs.{contiguous_count, first_part, second_part, newest_runs, with_starts, domain};
+ghost use Rattle.net_receiver.specs.{limit_of, next_position, IsSound};
 ghost use Rattle.std.specs.Fn.{FnOnceTakesAt, FnOnceReturnsAt};
 ghost use Rattle.net_assembler.specs.Positions.{maximal_runs, runs as run_count};
 ghost use Rattle.net_assembler.specs.RunLists.{IsCanonical};
-ghost use Rattle.net_receiver.specs.Contiguous.{contiguous_count, first_part, second_part};
-ghost use Rattle.net_receiver.specs.NewestRuns.{newest_runs, with_starts};
-ghost use Rattle.net_receiver.specs.ReceiverState.{domain, limit_of, next_position, IsSound};
 
 use crate::finite_error::FiniteError;
 use crate::finite_receiver_head::FiniteReceiverHead;

@@ -2,7 +2,7 @@
 ghost use Rattle.std.specs.Prelude.{◌≡◌, ◌≤◌, length, take, drop};
 ghost use Rattle.std.specs.List.{list_any};
 ghost use Rattle.net_assembler.specs.Positions.{lies_in};
-ghost use Rattle.net_receiver.specs.NewestRuns.{with_starts};
+ghost use Rattle.net_receiver.specs.{with_starts};
 
 use std::marker::Model;
 

@@ -4,7 +4,7 @@ ghost use Rattle.std.specs.Prelude.{IsTrue, OnErr, Some, None, min, ◌++◌, ta
 ghost use Rattle.std.specs.Prelude.{◌∷◌};
 ghost use Rattle.net_assembler.specs.Positions.{contains, maximal_runs, runs as run_count};
 ghost use Rattle.net_assembler.specs.RunLists.{HasSoundRuns, IsCanonical, set_of};
-ghost use Rattle.net_receiver.specs.KeptList.{piece};
+ghost use Rattle.net_receiver.specs.Schedule.{piece};
 ghost use Rattle.net_receiver.specs.ReceiverState.{verdict, state_after, numbers};
 ghost use Rattle.net_receiver.specs.ReceiverState.{first_three, segment_result};
 ghost use Rattle.net_receiver.specs.ReceiverState.{fresh_receiver, domain, limit_of, next_position};
@@ -16,7 +16,7 @@ ghost use Rattle.net_receiver.specs.Head.{head_after_read};
 ghost use Rattle.net_ring.specs.Ring.{queue, contiguous_allocated, contiguous_queued};
 ghost use Rattle.net_ring.specs.RingHead.{IsSound as IsSoundPlace, ring_at};
 ghost use Rattle.net_receiver.specs.NewestRuns.{newest_runs, with_starts, run_at, with_run};
-ghost use Rattle.net_receiver.specs.Segments.{new_count};
+ghost use Rattle.net_receiver.specs.ReceiverState.{new_count};
 ghost use Rattle.net_receiver.specs.Finite.{top_of};
 
 use crate::held_runs::HeldRunIter;

@@ -1,11 +1,10 @@
 //! A scoreboard: which positions a sender knows that the other end has.
 ghost use Rattle.std.specs.Prelude.{◌⊎◌, ◌≡◌, ◌↔◌, ◌-◌, ◌<◌, ◌≤◌, ℕ, length, Err, IsTrue, OnOk, OnErr};
-ghost use Rattle.net_assembler.specs.Positions.{contains, first_missing, front, maximal_runs, nothing};
-ghost use Rattle.net_assembler.specs.Positions.{positions, with_range};
+ghost use Rattle.net_assembler.specs.Positions.{contains, first_missing, front, maximal_runs, nothing, positions};
+ghost use Rattle.net_assembler.specs.Positions.{with_range};
 ghost use Rattle.net_assembler.specs.RunLists.{IsCanonical};
-ghost use Rattle.net_receiver.specs.Losses.{IsHole, IsLossBound};
-ghost use Rattle.net_receiver.specs.Scoreboards.{HasNoRoom, IsBlock, IsEnd, IsReport, IsSoundBoard, beyond};
-ghost use Rattle.net_receiver.specs.Scoreboards.{IsSoundScoreboard, reported_by};
+ghost use Rattle.net_receiver.specs.{IsHole, IsLossBound, HasNoRoom, IsBlock, IsEnd, IsReport, IsSoundBoard, beyond};
+ghost use Rattle.net_receiver.specs.{IsSoundScoreboard, reported_by};
 
 use crate::held_runs::HeldRuns;
 use crate::report_error::ReportError;

@@ -1,13 +1,11 @@
 //! A scoreboard in parts: a head, and runs that are kept elsewhere.
 ghost use Rattle.std.specs.Prelude.{◌≡◌, ◌↔◌, ◌-◌, ◌≤◌, List, ℕ, length, min, nat_lt, IsTrue, Err, OnOk, OnErr};
 ghost use Rattle.std.specs.Prelude.{if◌then◌else◌};
-ghost use Rattle.net_assembler.specs.Positions.{contains, first_missing, front, maximal_runs, nothing};
-ghost use Rattle.net_assembler.specs.Positions.{positions, with_range};
+ghost use Rattle.net_assembler.specs.Positions.{contains, first_missing, front, maximal_runs, nothing, positions};
+ghost use Rattle.net_assembler.specs.Positions.{with_range};
 ghost use Rattle.net_assembler.specs.RunLists.{HasSoundRuns, IsCanonical, set_of};
-ghost use Rattle.net_receiver.specs.Scoreboards.{HasNoRoom, IsEnd, IsNextHole, IsReport, IsSoundBoard, beyond};
-ghost use Rattle.net_receiver.specs.Scoreboards.{reported_by};
-ghost use Rattle.net_receiver.specs.NewHeads.{scoreboard_head};
-ghost use Rattle.net_receiver.specs.Losses.{IsLossBound};
+ghost use Rattle.net_receiver.specs.{HasNoRoom, IsEnd, IsNextHole, IsReport, IsSoundBoard, beyond, reported_by};
+ghost use Rattle.net_receiver.specs.{scoreboard_head, IsLossBound};
 
 use crate::held_runs::HeldRunIter;
 use crate::report_error::ReportError;

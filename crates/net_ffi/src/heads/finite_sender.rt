@@ -8,7 +8,7 @@
 // Written by tools/ffi.py.
 ghost use Rattle.net_ffi.specs.Refusals.{no_number};
 ghost use Rattle.net_receiver.specs.Finite.{no_end};
-ghost use Rattle.net_receiver.specs.FiniteLaws.{MatchesFinite};
+ghost use Rattle.net_receiver.specs.Finite.{MatchesFinite};
 ghost use Rattle.net_receiver.specs.FiniteSender.{IsSoundFiniteSender, acknowledged_below, closed_sender};
 ghost use Rattle.net_receiver.specs.FiniteSender.{finite_room, finite_sender_of, fresh_finite_sender};
 ghost use Rattle.net_receiver.specs.FiniteSender.{head_after_sending, with_bytes};

@@ -10,7 +10,7 @@ ghost use Rattle.net_assembler.specs.Positions.{contains, nothing, positions, wi
 ghost use Rattle.net_assembler.specs.RunLists.{IsCanonical};
 ghost use Rattle.net_ffi.specs.Refusals.{no_number};
 ghost use Rattle.net_ffi.specs.Results.{done_or_report_error};
-ghost use Rattle.net_receiver.specs.Losses.{IsLossBound};
+ghost use Rattle.net_receiver.specs.Scoreboards.{IsLossBound};
 ghost use Rattle.net_receiver.specs.NewHeads.{scoreboard_head};
 ghost use Rattle.net_receiver.specs.Scoreboards.{HasNoRoom, IsEnd, IsNextHole, IsReport, IsSoundBoard, beyond};
 ghost use Rattle.net_receiver.specs.Scoreboards.{reported_by};

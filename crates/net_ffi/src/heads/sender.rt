@@ -6,7 +6,7 @@
 ghost use Rattle.net_ffi.specs.Refusals.{no_number, nowhere};
 ghost use Rattle.net_receiver.specs.NewHeads.{sender_head};
 ghost use Rattle.net_receiver.specs.OneStream.{MatchesStream};
-ghost use Rattle.net_receiver.specs.SenderHeads.{IsSoundHead, sender_of};
+ghost use Rattle.net_receiver.specs.SenderState.{IsSoundHead, sender_of};
 ghost use Rattle.net_receiver.specs.SenderState.{Sends, contiguous_end, room_of, sender_from, sender_state};
 ghost use Rattle.net_receiver.specs.SenderState.{with_written};
 ghost use Rattle.net_ring.specs.Ring.{queue, rewind_if_empty, with_elements_wrapping, with_enqueued, write_at};

@@ -1,6 +1,6 @@
 use Rattle.std.proofs.Common.{sym, subst, take, drop}
 use Rattle.net_ffi.specs.declared.results.SegmentSpan.{SegmentSpan}
-use Rattle.net_receiver.specs.FiniteLaws.{MatchesFinite}
+use Rattle.net_receiver.specs.Finite.{MatchesFinite}
 use Rattle.net_ffi.proofs.heads.finite_sender.net_base_finite_sender_send_at.Goals as goal
 
 pub returns-clause-says : goal.returns-clause-says
