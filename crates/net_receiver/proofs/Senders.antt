@@ -1,30 +1,25 @@
 -- What a sender lends and has sent, the laws of one whose stream ends, and what a receiver reads of it.
-use Rattle.std.proofs.Common.{◌≡◌, ℕ, ◌+◌, ◌-◌, ◌<◌, ◌≤◌, List, [], length, take, drop, get_or, ◌++◌, ◌∙◌, arith, sym}
-use Rattle.std.proofs.Common.{ap, min, max, length-append, length-drop, Bool, true, false, cond, ◌∷◌, nat_eq, nat_le}
-use Rattle.std.proofs.Common.{◌&&◌, refl, subst, append_assoc, append-nil, All, ⊎_elim}
-use Rattle.std.proofs.lemmas.Bool.{cases_lt, cond_both, and_parts, leb-true, eqb-true, cond-false}
-use Rattle.std.proofs.lemmas.Bool.Decides.{nat_tests}
-use Rattle.net_assembler.proofs.Positions.{either}
-use Rattle.std.proofs.lemmas.List.{drop_all, get_or-take, drop-drop, get_or-drop, drop-append-le, nil_from_length}
-use Rattle.net_receiver.specs.{MatchesStream, MatchesWhatIsThere, sender_state, Sends, end_of, contiguous_end}
-use Rattle.net_receiver.specs.{QueueFromGreatest, acknowledge, acknowledge_each, greatest_within}
-use Rattle.net_receiver.specs.{with_written, sender_from, sender_of, MatchesLonger, FiniteSenderState, first_number}
-use Rattle.net_receiver.specs.{numbers_end, finite_room, finite_sender_of, with_bytes, open_room, has_end_at, accepts}
-use Rattle.net_receiver.specs.{acknowledged_below, SenderCommand, Writes, Closes, Marks, Acknowledges, written_of}
+use Rattle.net_receiver.proofs.Words.{◌≡◌, ℕ, ◌+◌, ◌-◌, ◌<◌, ◌≤◌, List, [], length, take, drop, get_or, ◌++◌, ◌∙◌}
+use Rattle.net_receiver.proofs.Words.{arith, sym, ap, min, max, length-append, length-drop, Bool, true, false, cond}
+use Rattle.net_receiver.proofs.Words.{◌∷◌, nat_eq, nat_le, ◌&&◌, refl, subst, append_assoc, append-nil, All, ⊎_elim}
+use Rattle.net_receiver.proofs.Words.{cases_lt, cond_both, and_parts, cond-false, nat_tests, drop_all, drop-drop}
+use Rattle.net_receiver.proofs.Words.{nil_from_length, MatchesStream, MatchesWhatIsThere, sender_state, Sends, end_of}
+use Rattle.net_receiver.proofs.Words.{contiguous_end, with_written, sender_from, sender_of, MatchesLonger}
+use Rattle.net_receiver.proofs.Words.{FiniteSenderState, first_number, finite_room, finite_sender_of, with_bytes}
+use Rattle.net_receiver.proofs.Words.{open_room, acknowledged_below, MatchesFinite, next_position, fresh_finite}
+use Rattle.net_receiver.proofs.Words.{acknowledged, fresh_finite_sender, FiniteCommand, Arrives, Reads, CommandMatches}
+use Rattle.net_receiver.proofs.Words.{finite_after_commands, from_bool, queue, ring_at, length-queue, FiniteSenderHead}
+use Rattle.net_receiver.proofs.Words.{All-head, All-tail, All-weaker, ReceiverState}
+use Rattle.std.proofs.lemmas.Bool.{leb-true, eqb-true}
+use Rattle.std.proofs.lemmas.List.{get_or-take, get_or-drop, drop-append-le}
+use Rattle.net_receiver.specs.{QueueFromGreatest, acknowledge, acknowledge_each, greatest_within, numbers_end}
+use Rattle.net_receiver.specs.{has_end_at, accepts, SenderCommand, Writes, Closes, Marks, Acknowledges, written_of}
 use Rattle.net_receiver.specs.{sender_after_command, sender_after_commands, bytes_written, IsLent, IsSoundSent}
-use Rattle.net_receiver.specs.{FreshSentIsSound, SoundSentStays, ClosedStays, LentIsOfStream, MatchesFinite}
-use Rattle.net_receiver.specs.{next_position, ReceivesFrom, fresh_finite, acknowledged, fresh_finite_sender}
-use Rattle.net_receiver.specs.{FiniteCommand, Arrives, Reads, CommandMatches, finite_after_commands}
+use Rattle.net_receiver.specs.{FreshSentIsSound, SoundSentStays, ClosedStays, LentIsOfStream, ReceivesFrom}
 use Rattle.net_receiver.specs.SenderState.{SenderState}
 use Rattle.std.specs.Prelude.{◌↔◌, IsTrue, IsFalse}
-use Rattle.std.specs.Int.{from_bool}
-use Rattle.net_ring.specs.Ring.{queue}
-use Rattle.net_ring.specs.RingHead.{IsSound, ring_at}
-use Rattle.net_ring.proofs.Rotations.{length-queue}
-use Rattle.net_receiver.specs.declared.finite_sender_head.FiniteSenderHead.{FiniteSenderHead}
+use Rattle.net_ring.specs.RingHead.{IsSound}
 use Rattle.net_receiver.proofs.OneStream.{matches_longer, matches_what_is_there, queue_of}
-use Rattle.std.proofs.lemmas.List.Elements.{All-head, All-tail, All-weaker}
-use Rattle.net_receiver.specs.ReceiverState.{ReceiverState}
 use Rattle.net_receiver.specs.Transfers.{ComesFrom, SaysAtMost, AnyPathCarries}
 use Rattle.net_receiver.proofs.FiniteReceivers.{reads_the_stream, nexts_grow}
 
@@ -42,19 +37,12 @@ lent_says says f w v pos xs s h is =
 -- and each of its bytes is kept there
 pub lent_at : (head pos : ℕ) (queue xs : List ℕ) → head ≤ pos → xs ≡ take (length xs) (drop (pos - head) queue) → (q d : ℕ) →
     pos ≤ q → q < pos + length xs → get_or queue (q - head) d ≡ get_or xs (q - pos) d
-lent_at head pos queue xs h is = λ q d from to.
-    let place : (pos - head) + (q - pos) ≡ q - head = omega arith in
-    sym (ap (λ ys. get_or ys (q - pos) d) is
-    ∙ get_or-take (length xs) (drop (pos - head) queue) (q - pos) d (omega arith)
-    ∙ get_or-drop (pos - head) queue (q - pos) d
-    ∙ ap (λ k. get_or queue k d) place)
+lent_at head pos queue xs h is = grind (arith, nat_tests, get_or-take, get_or-drop)
 
 -- as many bytes are lent as are queued there, at most
 pub lent_within : (v : SenderState) (pos most n : ℕ) → (v.first_unacknowledged ≤ pos → n ≡ min most (contiguous_end v pos - pos)) →
     (pos < v.first_unacknowledged → n ≡ 0) → pos + n ≤ max pos (end_of v)
-lent_within v pos most n count before =
-    either (cases_lt pos v.first_unacknowledged) (λ low. omega (arith, before low))
-    (λ high. let size = count high in let limit : contiguous_end v pos ≤ end_of v = grind (arith, nat_tests) in omega (arith, size, limit))
+lent_within v pos most n count before = grind (arith, nat_tests)
 
 -- what was written is sent after all before
 pub sends_written : (f : ℕ) (w : List ℕ) (v : SenderState) (xs : List ℕ) → Sends f w v → Sends f (w ++ xs) (with_written v xs)
@@ -273,11 +261,7 @@ lent_of h storage v pos limit from n last now is place long shown bytes count be
 module _ (s : FiniteSenderState) (pos limit : ℕ) (xs : List ℕ) where
   -- no byte above the limit is lent, or above the last one
   lent_below : (last : Bool) → IsLent s pos limit xs last → pos + length xs ≤ max pos (min limit (end_of s.sender))
-  lent_below last lent =
-      let none = λ (low : pos < s.sender.first_unacknowledged). ap length (lent.before low) in
-      let written = lent_within s.sender pos (limit - pos) (length xs) lent.count none in
-      let limited : pos + length xs ≤ max pos limit = either (cases_lt pos s.sender.first_unacknowledged) (λ low. omega (arith, none low)) (λ high. omega (arith, lent.count high)) in
-      omega (arith, written, limited)
+  lent_below last lent = grind (arith, nat_tests, lent_within)
 
   -- nor is the end
   pub lent_room : (last : Bool) → IsLent s pos limit xs last → pos ≤ limit → pos + length xs + from_bool last ≤ limit

@@ -37,12 +37,12 @@ use Rattle.net_receiver.specs.ReceiverState.{receiver_after_read, IsSameState, I
 use Rattle.net_receiver.specs.ReceiverState.{setting}
 use Rattle.net_assembler.specs.declared.assembler.error.TooManyHolesError.{TooManyHolesError}
 use Rattle.net_assembler.specs.Positions.{bound_of, positions}
-use Rattle.net_receiver.specs.declared.finite_error.FiniteError.{FiniteError}
+use Rattle.net_receiver.specs.declared.kept.FiniteError.{FiniteError}
 use Rattle.net_receiver.specs.declared.kept.KeptBytes.{KeptBytes}
 use Rattle.net_receiver.specs.Schedule.{piece, is_covered, KeptState, Agrees, bytes_read}
 use Rattle.net_receiver.specs.OneStream.{HasByteAt, MatchesStream, ReceivesFrom}
 use Rattle.net_receiver.specs.Headline.{state_from, replies_from}
-use Rattle.net_receiver.specs.declared.finite_error.FiniteError.TheVariants as errors
+use Rattle.net_receiver.specs.declared.kept.FiniteError.TheVariants as errors
 
 -- ---- A stream that ends, and a receiver of it: what it stores, and where the stream ends.
 -- the greatest number of 64 bits: it is no end's position, since the end has a number after it

@@ -8,9 +8,8 @@ use Rattle.net_ring.specs.Ring.{queue, spare, spare_index, with_elements_wrappin
 use Rattle.net_ring.specs.RingHead.{IsSound as IsSoundPlace, ring_at, dequeued_place}
 use Rattle.net_assembler.specs.RunLists.{set_of, HasSoundRuns}
 use Rattle.net_receiver.specs.declared.receiver_head.ReceiverHead.{ReceiverHead}
-use Rattle.net_receiver.specs.ReceiverState.{Verdict, KeepsNone, Refuses, Keeps, ReceiverState, IsSound}
-use Rattle.net_receiver.specs.ReceiverState.{parts, Fits64Bits}
-use Rattle.net_receiver.specs.ReceiverState.{IsReadAt}
+use Rattle.net_receiver.specs.ReceiverState.{Verdict, KeepsNone, Refuses, Keeps, ReceiverState, IsSound, parts}
+use Rattle.net_receiver.specs.ReceiverState.{Fits64Bits, IsReadAt}
 
 -- what is stored: the queue, and the held bytes at the offsets that the runs have after it
 abbrev pub receiver_of : ReceiverHead → List ℕ → List (ℕ × ℕ) → ReceiverState

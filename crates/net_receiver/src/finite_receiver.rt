@@ -10,11 +10,9 @@ ghost use Rattle.std.specs.Fn.{FnOnceTakesAt, FnOnceReturnsAt};
 ghost use Rattle.net_assembler.specs.Positions.{maximal_runs, runs as run_count};
 ghost use Rattle.net_assembler.specs.RunLists.{IsCanonical};
 
-use crate::finite_error::FiniteError;
 use crate::finite_receiver_head::FiniteReceiverHead;
-use crate::held_runs::HeldRuns;
-use crate::kept::KeptBytes;
-use crate::newest_runs::{HeldRun, NewestRunIter};
+use crate::held_runs::{HeldRun, HeldRuns, NewestRunIter};
+use crate::kept::{FiniteError, KeptBytes};
 use crate::receiver::whole;
 use crate::receiver_head::ReceiverHead;
 use net_assembler::{AssemblerHead, Run};
@@ -266,7 +264,8 @@ impl<S: Storage<u8>, const N: usize> FiniteReceiverOver<S, N> {
             r.0 ≤ length (first_part self.old.receiver) }
         ensures called { FnOnceReturnsAt F.FnOnce f (first_part self.old.receiver) result }
         ensures count { result.0 ≤ contiguous_count self.old.receiver }
-        ensures not_empty { 0 < length self.old.receiver.queue → 0 < contiguous_count self.old.receiver }
+        ensures not_empty { 0 < length self.old.receiver.queue →
+            0 < contiguous_count self.old.receiver }
         ensures state { self.new ≡ finite_after_read self.old result.0 }
         ensures receives { (f : ℕ) (x : List ℕ) → ReceivesFinite f x self.old →
             ReceivesFinite f x self.new }
@@ -437,7 +436,8 @@ impl<S: Storage<u8>, const N: usize> FiniteReceiverOver<S, N> {
         position: u64,
         recent: &mut [u64; K],
     ) -> NewestRunIter<K>
-        ensures listed { result ≡ newest_runs K (domain self.now.receiver.held) (position ∷ recent.old) }
+        ensures listed { result
+            ≡ newest_runs K (domain self.now.receiver.held) (position ∷ recent.old) }
         ensures count { length result ≤ K }
         ensures recent { recent.new ≡ with_starts recent.old result }
     {

@@ -17,8 +17,7 @@ ghost use Rattle.net_receiver.specs.FiniteHead.{finite_storage_after};
 ghost use Rattle.net_receiver.specs.NewHeads.{finite_receiver_head};
 ghost use Rattle.net_assembler.specs.RunLists.{IsCanonical};
 
-use crate::finite_error::FiniteError;
-use crate::kept::KeptBytes;
+use crate::kept::{FiniteError, KeptBytes};
 use crate::receiver_head::ReceiverHead;
 use net_assembler::Run;
 

@@ -19,9 +19,8 @@ ghost use Rattle.net_receiver.specs.NewestRuns.{newest_runs, with_starts, run_at
 ghost use Rattle.net_receiver.specs.ReceiverState.{new_count};
 ghost use Rattle.net_receiver.specs.Finite.{top_of};
 
-use crate::held_runs::HeldRunIter;
+use crate::held_runs::{HeldRun, HeldRunIter, is_listed, remember};
 use crate::kept::{Kept, KeptBytes};
-use crate::newest_runs::{HeldRun, is_listed, remember};
 use net_assembler::assembler::laws;
 use net_assembler::width::most;
 use net_assembler::{AssemblerHead, Run, TooManyHolesError};

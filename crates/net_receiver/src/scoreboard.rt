@@ -7,8 +7,7 @@ ghost use Rattle.net_receiver.specs.{IsHole, IsLossBound, HasNoRoom, IsBlock, Is
 ghost use Rattle.net_receiver.specs.{IsSoundScoreboard, reported_by};
 
 use crate::held_runs::HeldRuns;
-use crate::report_error::ReportError;
-use crate::scoreboard_head::ScoreboardHead;
+use crate::scoreboard_head::{ReportError, ScoreboardHead};
 use crate::sequence_number::SequenceNumber;
 use net_assembler::Run;
 use std::marker::Model;
@@ -174,7 +173,8 @@ impl<const N: usize> Scoreboard<N> {
         ensures no_block { (result ≡ Err ReportError.NoBlock)
             ↔ (IsReport (front self.old) sent start end → ⊥) }
         ensures too_many { (result ≡ Err ReportError.TooManyHoles)
-            ↔ (IsReport (front self.old) sent start end × HasNoRoom N self.old start (end - start)) }
+            ↔ (IsReport (front self.old) sent start end
+            × HasNoRoom N self.old start (end - start)) }
         ensures ok { OnOk result (self.new ≡ with_range self.old start (end - start)) }
         // Guarantee.
         ensures unchanged { OnErr result (self.new ≡ self.old) }

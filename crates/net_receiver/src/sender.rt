@@ -269,8 +269,8 @@ impl<S: Storage<u8>> SenderOver<S> {
             ≡ slice_index_or result.now (q - pos) d }
         // Guarantee.
         ensures within { 0 < length result.now → pos + length result.now ≤ end_of self.now }
-        ensures says { (f : ℕ) (w : List ℕ) → Sends f w self.now → self.now.first_unacknowledged ≤ pos
-            → MatchesStream f w pos result.now }
+        ensures says { (f : ℕ) (w : List ℕ) → Sends f w self.now →
+            self.now.first_unacknowledged ≤ pos → MatchesStream f w pos result.now }
         ensures fits { end_of self.now < 2 ^ 64 }
     {
         laws::matches_stream();

@@ -3,10 +3,10 @@ use Rattle.net_receiver.specs.{FiniteState, IsSoundEnd, finite_of, end_with, Rec
 use Rattle.net_receiver.specs.{below_end, end_after}
 use Rattle.net_receiver.proofs.FiniteReceivers.{segment_of_stream, no_other_at, end_after_at, left_state, left_result}
 use Rattle.net_receiver.proofs.FiniteReceivers.{left_storage, sound_after, cut_is}
-use Rattle.net_receiver.proofs.finite_receiver_head.FiniteReceiverHead.keep.Goals as goal
 use Rattle.net_receiver.proofs.finite_receiver_head.FiniteReceiverHead.keep.Goals.{else-is_last-via-then-is_last+else-not-can_end}
 use Rattle.net_receiver.proofs.finite_receiver_head.FiniteReceiverHead.keep.Goals.{else-is_last-via-else-is_last}
 use Rattle.net_receiver.proofs.finite_receiver_head.FiniteReceiverHead.keep.Goals.{After-count_below-count}
+use Rattle.net_receiver.proofs.finite_receiver_head.FiniteReceiverHead.keep.Goals as goal
 
 -- the segment isn't refused for its end, and its bytes below the end are given to the receiver
 module _ (c : After-count_below-count) where

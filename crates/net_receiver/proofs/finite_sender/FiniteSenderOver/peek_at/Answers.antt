@@ -1,5 +1,4 @@
-use Rattle.std.proofs.Common.{sym, arith}
-use Rattle.net_ring.proofs.RingFacts.{part_is}
+use Rattle.net_receiver.proofs.Words.{sym, arith, part_is}
 use Rattle.net_receiver.proofs.Senders.{lent_of, lent_later}
 use Rattle.net_receiver.proofs.finite_sender.FiniteSenderOver.peek_at.Goals as goal
 

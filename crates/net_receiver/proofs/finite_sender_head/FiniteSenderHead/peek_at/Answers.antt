@@ -1,8 +1,6 @@
-use Rattle.std.proofs.Common.{◌≡◌, ◌≤◌, length, take, drop, sym, subst, arith, length-take, length-drop}
-use Rattle.std.proofs.lemmas.Bool.Decides.{nat_tests}
-use Rattle.net_ring.specs.RingHead.{IsSound, ring_at}
-use Rattle.net_ring.proofs.Rotations.{length-queue}
-use Rattle.net_receiver.specs.{sender_of, contiguous_end, end_of}
+use Rattle.net_receiver.proofs.Words.{◌≡◌, ◌≤◌, length, take, drop, sym, subst, arith, length-take, length-drop}
+use Rattle.net_receiver.proofs.Words.{nat_tests, ring_at, length-queue, sender_of, contiguous_end, end_of}
+use Rattle.net_ring.specs.RingHead.{IsSound}
 use Rattle.net_receiver.proofs.finite_sender_head.FiniteSenderHead.peek_at.Goals as goal
 
 pub returns-clause-count : goal.returns-clause-count
