@@ -7,10 +7,10 @@ use Rattle.std.specs.Prelude.{ℕ, zero, suc, ◌≡◌, ◌⊎◌, nat_eq, Resu
 use Rattle.net_assembler.specs.declared.assembler.error.TooManyHolesError.{TooManyHolesError}
 use Rattle.net_base.specs.declared.storage.fragments.FragmentError.{FragmentError}
 use Rattle.net_base.specs.declared.storage.fragments.FragmentError.TheVariants.{TooLong, TooManyHoles, OtherSize}
-use Rattle.net_receiver.specs.declared.finite_error.FiniteError.{FiniteError}
-use Rattle.net_receiver.specs.declared.finite_error.FiniteError.TheVariants.{TooManyHoles as NoRoom, OtherEnd}
-use Rattle.net_receiver.specs.declared.report_error.ReportError.{ReportError}
-use Rattle.net_receiver.specs.declared.report_error.ReportError.TheVariants.{TooManyHoles as NoRun, NoBlock}
+use Rattle.net_receiver.specs.declared.kept.FiniteError.{FiniteError}
+use Rattle.net_receiver.specs.declared.kept.FiniteError.TheVariants.{TooManyHoles as NoRoom, OtherEnd}
+use Rattle.net_receiver.specs.declared.scoreboard_head.ReportError.{ReportError}
+use Rattle.net_receiver.specs.declared.scoreboard_head.ReportError.TheVariants.{TooManyHoles as NoRun, NoBlock}
 
 -- 0 is done; another status is that there is no room
 abbrev pub done_or_many : ℕ → Result (Unit {0}) TooManyHolesError

@@ -5,7 +5,7 @@ ghost use Rattle.net_receiver.specs.Finite.{no_end, acknowledged, finite_after, 
 ghost use Rattle.net_receiver.specs.ReceiverState.{limit_of};
 ghost use Rattle.net_assembler.specs.RunLists.{IsCanonical};
 ghost use Rattle.net_receiver.specs.FiniteHead.{finite_of, finite_storage_after, HasSoundFinite, next_of, end_of};
-ghost use Rattle.net_receiver.specs.FiniteLaws.{MatchesFinite, ReceivesFinite};
+ghost use Rattle.net_receiver.specs.Finite.{MatchesFinite, ReceivesFinite};
 ghost use Rattle.net_ffi.specs.ReceiverParts.{IsPlausible};
 ghost use Rattle.net_ffi.specs.Results.{status_of_finite};
 

@@ -1,46 +1,48 @@
 -- A receiver of a stream that ends: where its bytes are, its laws, and lists of segments and reads.
-use Rattle.std.proofs.Common.{◌≡◌, ◌⊎◌, inl, inr, ℕ, ◌+◌, ◌-◌, ◌<◌, ◌≤◌, ◌&&◌, Bool, true, false, not, cond, List, []}
-use Rattle.std.proofs.Common.{◌∷◌, length, take, min, nat_le, nat_eq, is_ok, is_some, Result, Err, refl, sym, ap, ◌∙◌}
-use Rattle.std.proofs.Common.{arith, ⊎_elim, length-take, length-drop, ◌++◌, drop, All, nat_lt, None, slice_get}
-use Rattle.std.proofs.Common.{take_all, append_assoc, append-nil, take-add, max, subst}
-use Rattle.std.specs.Ordering.{nat_cmp}
-use Rattle.std.proofs.lemmas.Bool.{both_ways, cases_lt, cond_both, and_parts, and_cases, and_left, not-false}
-use Rattle.std.proofs.lemmas.Bool.{or_cases, or_left, or_right, leb-true, eqb-true, le-ltb, ltb-true, le-leb, lt-ltb}
-use Rattle.std.proofs.lemmas.Bool.{and_from, cases_Bool, cond-false, cond-true, ltb-false}
-use Rattle.std.proofs.lemmas.Bool.Decides.{nat_tests}
-use Rattle.std.proofs.lemmas.Grind.{common_steps}
-use Rattle.net_assembler.specs.Positions.{bound_of, positions, contains, Positions}
-use Rattle.net_assembler.proofs.Sets.{has, contains-positions}
-use Rattle.net_receiver.specs.{Piece, piece, piece_byte_at, piece_within, Segment, state_after, verdict, numbers}
-use Rattle.net_receiver.specs.{domain, next_position, limit_of, receiver_with_piece, receiver_after_command}
-use Rattle.net_receiver.specs.{receiver_after_read, fresh_receiver, FiniteState, no_end, top_of, knows_end, can_end}
-use Rattle.net_receiver.specs.{bytes_end, below_end, end_after, has_other_end, finite_after, finite_after_read}
-use Rattle.net_receiver.specs.{bytes_result, finite_result, with_error, fresh_finite, IsSoundEnd, finite_of}
-use Rattle.net_receiver.specs.{finite_storage_after, receiver_of, HasSoundParts, storage_after, MatchesStream}
+use Rattle.std.proofs.Common.{not}
+use Rattle.std.proofs.lemmas.Bool.{and_left}
+use Rattle.std.proofs.lemmas.Bool.{leb-true, eqb-true, le-ltb, le-leb}
+use Rattle.std.proofs.lemmas.Bool.{cond-true}
+use Rattle.net_assembler.specs.Positions.{bound_of}
+use Rattle.net_receiver.specs.{top_of, knows_end}
+use Rattle.net_receiver.specs.{bytes_end}
+use Rattle.net_receiver.specs.{bytes_result, with_error}
+use Rattle.net_receiver.specs.{finite_storage_after, MatchesStream}
 use Rattle.net_receiver.specs.{HasSoundHeld, HasSoundFinite, next_at, held_at, top_at, can_end_by}
 use Rattle.net_receiver.specs.FiniteHead.{end_of}
-use Rattle.net_receiver.specs.{ReceivesFrom, is_complete, acknowledged, has_read_all, AcknowledgedGrows, EndIsTaken}
-use Rattle.net_receiver.specs.{AllBytesComplete, SameEndConverges, FiniteCommand, Arrives, Reads}
-use Rattle.net_receiver.specs.{finite_after_command, finite_after_commands, bytes_of, bytes_taken, CommandMatches}
-use Rattle.net_receiver.specs.{ReceivesFinite, SoundEndStays, EndStays, SegmentOfStream, ReadsTheStream, CommandValue}
-use Rattle.net_receiver.specs.{Read, SegmentReply, with_sack, setting, Refines, receiver_after_commands}
-use Rattle.net_receiver.specs.{receiver_reply, receiver_replies, state_from, IsAccepted, bytes_read, Brings}
-use Rattle.net_receiver.specs.{MatchesFinite, plain_of, plain_commands, AreAccepted, BringsByte, BringsEnd, Resends}
+use Rattle.net_receiver.specs.{ReceivesFrom, AcknowledgedGrows, EndIsTaken}
+use Rattle.net_receiver.specs.{AllBytesComplete, SameEndConverges}
+use Rattle.net_receiver.specs.{finite_after_command, bytes_of, bytes_taken}
+use Rattle.net_receiver.specs.{SoundEndStays, EndStays, SegmentOfStream, ReadsTheStream}
+use Rattle.net_receiver.specs.{plain_of, plain_commands, AreAccepted, BringsByte, BringsEnd, Resends}
 use Rattle.net_receiver.specs.{EndsWithin, FiniteCompletes, FiniteRecovers, ResentIsRead, CommandFits}
-use Rattle.net_receiver.specs.ReceiverState.{ReceiverState}
-use Rattle.net_receiver.specs.FiniteSchedules.{FiniteSchedules}
+use Rattle.net_receiver.specs.Finite.{FiniteSchedules}
 use Rattle.net_receiver.specs.declared.finite_receiver_head.FiniteReceiverHead.{FiniteReceiverHead}
-use Rattle.net_receiver.specs.declared.receiver_head.ReceiverHead.{ReceiverHead}
-use Rattle.net_assembler.specs.declared.assembler.error.TooManyHolesError.{TooManyHolesError}
-use Rattle.net_receiver.specs.declared.kept.KeptBytes.{KeptBytes}
-use Rattle.net_assembler.specs.RunLists.{set_of}
-use Rattle.net_receiver.proofs.Heads.{offset_of, at_offset, top_is}
+use Rattle.net_receiver.proofs.Heads.{offset_of, at_offset, top_is, queue_size}
+use Rattle.net_receiver.proofs.Words.{◌≡◌, ◌⊎◌, inl, inr, ℕ, ◌+◌, ◌-◌, ◌<◌, ◌≤◌, ◌&&◌, Bool, true, false, cond, List}
+use Rattle.net_receiver.proofs.Words.{[], ◌∷◌, length, take, min, nat_le, nat_eq, is_ok, is_some, Result, Err, refl}
+use Rattle.net_receiver.proofs.Words.{sym, ap, ◌∙◌, arith, ⊎_elim, length-take, length-drop, ◌++◌, drop, All, nat_lt}
+use Rattle.net_receiver.proofs.Words.{None, slice_get, take_all, append_assoc, append-nil, take-add, max, subst}
+use Rattle.net_receiver.proofs.Words.{nat_cmp, both_ways, cases_lt, cond_both, and_parts, and_cases, not-false}
+use Rattle.net_receiver.proofs.Words.{or_cases, or_left, or_right, ltb-true, lt-ltb, and_from, cases_Bool, cond-false}
+use Rattle.net_receiver.proofs.Words.{ltb-false, nat_tests, common_steps, positions, contains, Positions, has}
+use Rattle.net_receiver.proofs.Words.{contains-positions, Piece, piece, piece_byte_at, piece_within, Segment}
+use Rattle.net_receiver.proofs.Words.{state_after, verdict, numbers, domain, next_position, limit_of}
+use Rattle.net_receiver.proofs.Words.{receiver_with_piece, receiver_after_command, receiver_after_read}
+use Rattle.net_receiver.proofs.Words.{fresh_receiver, FiniteState, no_end, can_end, below_end, end_after}
+use Rattle.net_receiver.proofs.Words.{has_other_end, finite_after, finite_after_read, finite_result, fresh_finite}
+use Rattle.net_receiver.proofs.Words.{IsSoundEnd, finite_of, receiver_of, HasSoundParts, storage_after, is_complete}
+use Rattle.net_receiver.proofs.Words.{acknowledged, has_read_all, FiniteCommand, Arrives, Reads}
+use Rattle.net_receiver.proofs.Words.{finite_after_commands, CommandMatches, ReceivesFinite, CommandValue, Read}
+use Rattle.net_receiver.proofs.Words.{SegmentReply, with_sack, setting, Refines, receiver_after_commands}
+use Rattle.net_receiver.proofs.Words.{receiver_reply, receiver_replies, state_from, IsAccepted, bytes_read, Brings}
+use Rattle.net_receiver.proofs.Words.{MatchesFinite, ReceiverState, ReceiverHead, TooManyHolesError, KeptBytes}
+use Rattle.net_receiver.proofs.Words.{RingState, queue, spare, ring_at, set_of, slice_get_within, take-take, All-head}
+use Rattle.net_receiver.proofs.Words.{All-tail, All-nil, All-cons, All-append}
+use Rattle.net_receiver.proofs.Places.{has_place}
 use Rattle.net_receiver.proofs.Sets.{piece_at, clip_at, contains-domain, next_joined, lacks, lacking, laid_has}
 use Rattle.net_receiver.proofs.Sets.{left_above, cond_some, slice_get-take, piece_from}
 use Rattle.net_receiver.proofs.Schedules.{any_verdict, some_of, converge, schedule}
-use Rattle.std.proofs.lemmas.Option.{slice_get_within}
-use Rattle.std.proofs.lemmas.List.{take-take}
-use Rattle.std.proofs.lemmas.List.Elements.{All-head, All-tail, All-nil, All-cons, All-append}
 use Rattle.std.specs.Prelude.{IsOk, Ok}
 use Rattle.net_receiver.proofs.OneStream.{has_all_reaches, segment_receives, read_receives, fresh_receives_from}
 use Rattle.net_receiver.proofs.OneStream.{queue_of, held_of_stream, first_stays, next_position_grows}
@@ -48,7 +50,7 @@ use Rattle.net_receiver.proofs.OneStream.{segment_reads_nothing, read_leaves_nex
 use Rattle.net_receiver.proofs.OneStream.{in_order_reaches, kept_in_order}
 use Rattle.net_receiver.proofs.NewestRuns.{there}
 use Rattle.std.specs.FinMap as fin
-use Rattle.net_receiver.specs.declared.finite_error.FiniteError.TheVariants as errors
+use Rattle.net_receiver.specs.declared.kept.FiniteError.TheVariants as errors
 
 -- ---- A receiver of a stream that ends: no byte is at or above the end.
 pub eq_tests : (a b : ℕ) → a ≡ b → nat_eq a b ≡ true
@@ -152,10 +154,7 @@ module _ (P : FiniteState → Type 0) (N : ℕ) (s : FiniteState) (pos : ℕ) (x
 
 -- no byte is at or above what can be the end
 pub top_can_end : (s : FiniteState) (e : ℕ) → IsSoundEnd s → can_end s e ≡ true → top_of s.receiver ≤ e
-top_can_end s e sound can =
-    cond_both (knows_end s) (nat_eq e s.end) (nat_le (top_of s.receiver) e) (λ b. b ≡ true → top_of s.receiver ≤ e)
-    (λ _ same. (let is = eqb-true e s.end same in omega (arith, sound.below)))
-    (λ _ le. leb-true (top_of s.receiver) e le) (and_parts _ _ can).1
+top_can_end s e sound can = grind (arith, nat_tests, eqb-true, leb-true, and_parts)
 
 pub sound_after : (N : ℕ) (s : FiniteState) (pos : ℕ) (xs : List ℕ) (last : Bool) → IsSoundEnd s → IsSoundEnd (finite_after N s pos xs last)
 sound_after N s pos xs last sound =
@@ -177,19 +176,12 @@ sound_read s n sound = record {
 
 -- it doesn't say that the stream ends where it can't
 pub no_other : (s : FiniteState) (e : ℕ) (last : Bool) → (last ≡ false) ⊎ (can_end s e ≡ true) → has_other_end s e last ≡ false
-no_other s e last which = ⊎_elim (λ (no : last ≡ false). ap (λ b. b && not (can_end s e)) no) (λ (can : can_end s e ≡ true). ap (λ b. last && not b) can ∙ and-false last) which
-  where
-    and-false : (b : Bool) → (b && false) ≡ false
-    and-false true = refl
-    and-false false = refl
+no_other s e last which = grind (arith, nat_tests)
 
 -- the greatest number stands for each end that has no number after it: no stream ends there
 module _ (s : FiniteState) (e n : ℕ) (last : Bool) (is : n ≡ min e no_end) where
   can_end_at : can_end s n ≡ can_end s e
-  can_end_at =
-      ⊎_elim (λ (l : e < no_end). ap (can_end s) (omega (arith, l, is)))
-      (λ (g : no_end ≤ e). and_left _ _ (le-ltb n no_end (omega (arith, g, is))) ∙ sym (and_left _ _ (le-ltb e no_end g)))
-      (cases_lt e no_end)
+  can_end_at = grind (arith, nat_tests, and_left, le-ltb)
 
   pub no_other_at : (last ≡ false) ⊎ (can_end s n ≡ true) → has_other_end s e last ≡ false
   no_other_at which = no_other s e last (⊎_elim (λ (no : last ≡ false). inl no) (λ (can : can_end s n ≡ true). inr (sym can_end_at ∙ can)) which)
@@ -198,12 +190,7 @@ module _ (s : FiniteState) (e n : ℕ) (last : Bool) (is : n ≡ min e no_end) w
   other_at on cannot = λ i. on i && not ((sym can_end_at ∙ cannot) i)
 
   pub end_after_at : (last ≡ false) ⊎ (can_end s n ≡ true) → end_after s n last ≡ end_after s e last
-  end_after_at which =
-      ⊎_elim
-      (λ (no : last ≡ false).
-      ap (λ b. cond (b && nat_le n (limit_of s.receiver)) n s.end) no ∙ sym (ap (λ b. cond (b && nat_le e (limit_of s.receiver)) e s.end) no))
-      (λ (can : can_end s n ≡ true). ap (λ k. end_after s k last) (let below = ltb-true n no_end (and_parts _ _ can).0 in omega (arith, is, below)))
-      which
+  end_after_at which = grind (arith, nat_tests, ltb-true, and_parts)
 
 -- whether the stream can end at a position, by head and runs
 pub can_end_is : (h : FiniteReceiverHead) (xs : List ℕ) (rs : List (ℕ × ℕ)) → HasSoundParts h.receiver (length xs) rs → (e : ℕ) →
@@ -242,12 +229,7 @@ module _ (N : ℕ) (s : FiniteState) (pos : ℕ) (xs : List ℕ) (last : Bool) w
       state_is = u_is ∙ ap (λ ys. receiver_after_command N s.receiver (Segment pos ys)) cut_is
 
       pub left_state : (e : ℕ) → e ≡ cond (is_ok r) (end_after s (pos + length xs) last) s.end → record { receiver = u; end = e } ≡ finite_after N s pos xs last
-      left_state e e_is =
-          (λ i. record { receiver = state_is i; end = (e_is ∙ ap (λ (q : Result KeptBytes TooManyHolesError). cond (is_ok q) (end_after s (pos + length xs) last) s.end) result_is) i })
-          ∙ (λ i. cond (sym other i) s (record {
-            receiver = receiver_after_command N s.receiver (Segment pos (below_end s pos xs));
-            end = cond (is_ok (bytes_result N s pos xs last)) (end_after s (pos + length xs) last) s.end;
-          }))
+      left_state e e_is = grind (arith, nat_tests, state_is, Result, result_is)
 
       pub left_result : with_error r ≡ finite_result N s pos xs last
       left_result = ap with_error result_is ∙ (λ i. cond (sym other i) (Err errors.OtherEnd) (with_error (bytes_result N s pos xs last)))
@@ -296,12 +278,7 @@ next_grows N s (Reads n) = omega (arith, read_leaves_next s.receiver n)
 
 one_complete : (N : ℕ) (s : FiniteState) (c : FiniteCommand) → IsSoundEnd s → is_complete s ≡ true →
     is_complete (finite_after_command N s c) ≡ true
-one_complete N s c sound on =
-    let at = eqb-true (next_position s.receiver) s.end on in
-    let stays = one_end N s c (known s (omega (arith, sound.number))) in
-    let grows = next_grows N s c in
-    let after = sound_end_stays N s c sound in
-    eq_tests (next_position (finite_after_command N s c).receiver) (finite_after_command N s c).end (omega (arith, after.below))
+one_complete N s c sound on = grind (arith, nat_tests, common_steps, eqb-true, one_end, known, next_grows, eq_tests)
 
 one_read_all : (N : ℕ) (s : FiniteState) (c : FiniteCommand) → IsSoundEnd s → has_read_all s ≡ true → has_read_all (finite_after_command N s c) ≡ true
 one_read_all N s (Arrives pos xs last) sound on =
@@ -355,11 +332,7 @@ top_of_stream f x v r =
     let within = slice_get_within x (p - f) b.0 (held_of_stream f x v p b.0 r b.1) in omega arith))
 
 can_end_there : (f : ℕ) (x : List ℕ) (s : FiniteState) (e : ℕ) → ReceivesFinite f x s → e ≡ f + length x → e < no_end → can_end s e ≡ true
-can_end_there f x s e r is fits =
-    let top = top_of_stream f x s.receiver r.bytes in
-    and_from _ _ (lt-ltb e no_end fits) (cond_both (knows_end s) (nat_eq e s.end) (nat_le (top_of s.receiver) e) (λ b. b ≡ true)
-    (λ on. eq_tests e s.end (is ∙ sym (r.end on)))
-    (λ _. le-leb (top_of s.receiver) e (omega arith)))
+can_end_there f x s e r is fits = grind (arith, nat_tests, top_of_stream, and_from, lt-ltb, eq_tests, le-leb)
 
 pub segment_of_stream : SegmentOfStream
 segment_of_stream N f x s pos xs last r h = (
@@ -383,10 +356,7 @@ one_of_stream N f x s (Reads n) r h = record { bytes = read_receives f x s.recei
 
 -- the bytes that were read before, and those of one command
 taken_bytes : (x q : List ℕ) (n read : ℕ) → q ≡ take (length q) (drop read x) → read + length q ≤ length x → take read x ++ take n q ≡ take (read + min n (length q)) x
-taken_bytes x q n read is within =
-    let m = min n (length q) in
-    let few : take n q ≡ take m (drop read x) = sym (cut_is n m q (omega arith)) ∙ ap (take m) is ∙ take-take m (length q) (drop read x) (omega arith) in
-    ap (λ l. take read x ++ l) few ∙ sym (take-add read m x)
+taken_bytes x q n read is within = grind (arith, nat_tests, common_steps, cut_is, take-take, take-add)
 
 one_takes : (N f : ℕ) (x : List ℕ) (s : FiniteState) (c : FiniteCommand) → ReceivesFinite f x s →
     take s.receiver.read x ++ bytes_of s c ≡ take (finite_after_command N s c).receiver.read x
@@ -431,39 +401,22 @@ reads_the_stream N f capacity x cs h all =
 -- then all bytes of the stream were read or are queued
 pub complete_whole : (f : ℕ) (x : List ℕ) (s : FiniteState) → IsSoundEnd s → ReceivesFinite f x s → is_complete s ≡ true →
     s.receiver.read + length s.receiver.queue ≡ length x
-complete_whole f x s sound r on =
-    let at = eqb-true (next_position s.receiver) s.end on in
-    let end = r.end (known s (omega (arith, sound.number))) in
-    let first = first_is f x s.receiver r.bytes in
-    omega arith
+complete_whole f x s sound r on = grind (arith, nat_tests, eqb-true, known, first_is)
 
 -- and then all were read
 pub read_whole : (f : ℕ) (x : List ℕ) (s : FiniteState) → IsSoundEnd s → ReceivesFinite f x s → has_read_all s ≡ true → s.receiver.read ≡ length x
-read_whole f x s sound r on =
-    let at = eqb-true (s.receiver.first + s.receiver.read) s.end on in
-    let end = r.end (known s (omega (arith, sound.number))) in
-    let first = first_is f x s.receiver r.bytes in
-    omega arith
+read_whole f x s sound r on = grind (arith, nat_tests, eqb-true, known, first_is)
 
 -- a segment reads nothing
 pub finite_reads_nothing : (N : ℕ) (s : FiniteState) (pos : ℕ) (xs : List ℕ) (last : Bool) →
     (finite_after N s pos xs last).receiver.read ≡ s.receiver.read
-finite_reads_nothing N s pos xs last =
-    after_by (λ t. t.receiver.read ≡ s.receiver.read) N s pos xs last refl
-    (λ e which. segment_reads_nothing N s.receiver pos (below_end s pos xs))
+finite_reads_nothing N s pos xs last = grind (arith, nat_tests, after_by, segment_reads_nothing)
 
 acknowledged_from : (s : FiniteState) → next_position s.receiver ≤ acknowledged s
-acknowledged_from s =
-    cond_both (is_complete s) (s.end + 1) (next_position s.receiver) (λ n. next_position s.receiver ≤ n)
-    (λ on. (let at = eqb-true (next_position s.receiver) s.end on in omega arith)) (λ _. omega arith)
+acknowledged_from s = grind (arith, nat_tests, eqb-true)
 
 pub one_acknowledged : (N : ℕ) (s : FiniteState) (c : FiniteCommand) → IsSoundEnd s → acknowledged s ≤ acknowledged (finite_after_command N s c)
-one_acknowledged N s c sound =
-    let t = finite_after_command N s c in
-    cond_both (is_complete s) (s.end + 1) (next_position s.receiver) (λ n. n ≤ acknowledged t)
-    (λ on. (let numbers = complete_numbers t s.end (one_end N s c (known s (let at = eqb-true (next_position s.receiver) s.end on in omega (arith, sound.number))))
-    (one_complete N s c sound on) in omega (arith, numbers.1)))
-    (λ _. omega (arith, next_grows N s c, acknowledged_from t))
+one_acknowledged N s c sound = grind (arith, nat_tests, complete_numbers, one_end, known, eqb-true, one_complete, next_grows, acknowledged_from)
 
 pub acknowledged_grows : AcknowledgedGrows
 acknowledged_grows N s [] sound = omega arith
@@ -690,18 +643,7 @@ one_resent N f x s pos xs last sound r fits h from within =
     let ok = kept_in_order N s.receiver pos (below_end s pos xs) (bytes_result N s pos xs last) refl from in
     let reach = in_order_reaches N s.receiver pos (below_end s pos xs) from in
     let size = length-take (bytes_end s - pos) xs in
-    let inside : pos + length xs ≤ s.end =
-    ⊎_elim (λ (on : knows_end s ≡ true). ⊎_elim (λ (l : pos + length xs ≤ f + length x). omega (arith, l, r.end on))
-    (λ (none : length xs ≡ 0). omega (arith, none, from, sound.below)) (matched_within f x pos xs h.bytes))
-    (λ (off : knows_end s ≡ false). (let none = ltb-false s.end no_end off in omega (arith, none, fits)))
-    (cases_Bool (knows_end s)) in (
-      subst IsOk (sym (cond-false _ (Err errors.OtherEnd) (with_error (bytes_result N s pos xs last)) other)) (with_ok (bytes_result N s pos xs last) ok),
-      subst (λ b. pos + length xs ≤ next_position (cond b s (left N s pos xs last)).receiver) (sym other) (omega (arith, reach, size, inside, within, fits)),
-    )
-  where
-    with_ok : (q : Result KeptBytes TooManyHolesError) → IsOk q → IsOk (with_error q)
-    with_ok (Ok k) h = h
-    with_ok (Err e) h = h
+    grind (arith, nat_tests, matched_within, ltb-false, cond-false, Result)
 
 module _ (N f : ℕ) (x : List ℕ) where
   recover_from : (cs : List FiniteCommand) (s : FiniteState) (reach : ℕ) → IsSoundEnd s → ReceivesFinite f x s → All CommandFits cs →

@@ -1,36 +1,37 @@
 -- What a kept part and a read make of a head, a storage and runs.
-use Rattle.std.proofs.Common.{◌≡◌, ℕ, ◌+◌, ◌-◌, ◌<◌, ◌≤◌, ◌^◌, true, sym, ◌∙◌, arith, ⊎_elim, le_trans, length-drop}
-use Rattle.std.proofs.Common.{min, false, List, ◌++◌, length, take, drop, ◌⊎◌, inl, inr, Ok, Err, refl, ap, subst}
-use Rattle.std.proofs.Common.{length-take, take_all, Result, IsErr, max, ◌&&◌, nat_le}
-use Rattle.std.proofs.lemmas.Bool.{cases_lt, or_cases, both_ways, and_parts, and_from, leb-true, le-leb}
-use Rattle.net_assembler.specs.Positions.{runs, Positions, with_range, maximal_runs, runs_shifted_up, contains}
+use Rattle.std.proofs.Common.{inl, inr}
+use Rattle.std.proofs.Common.{IsErr, max, ◌&&◌, nat_le}
+use Rattle.std.proofs.lemmas.Bool.{and_parts, and_from, leb-true, le-leb}
+use Rattle.net_assembler.specs.Positions.{contains}
 use Rattle.net_assembler.specs.Positions.{bound_of, positions, shift_up}
-use Rattle.net_receiver.specs.{Piece, end, piece, piece_within, domain, next_position, receiver_after_read, IsSound}
-use Rattle.net_receiver.specs.{receiver_with_piece, Refuses, Keeps, verdict_of_piece, verdict, state_after, numbers}
-use Rattle.net_receiver.specs.{Fits64Bits, parts, receiver_of, HasSoundParts, storage_after, head_after_read}
+use Rattle.net_receiver.specs.{verdict_of_piece}
 use Rattle.net_receiver.specs.{HasSoundHeld, next_at, held_at, top_at, top_of, limit_of, count_between, new_count}
 use Rattle.net_receiver.specs.{IsReadAt}
-use Rattle.net_receiver.specs.ReceiverState.{ReceiverState}
 use Rattle.net_receiver.proofs.Sets.{piece_at, next_joined, laid, lacks, lacking, laid_has, left_above}
-use Rattle.std.proofs.lemmas.List.{drop_min, take_min, length-take-le}
-use Rattle.net_assembler.specs.declared.assembler.error.TooManyHolesError.{TooManyHolesError}
-use Rattle.net_ring.specs.Overwrite.{overwrite}
-use Rattle.net_assembler.specs.Assembler.{MakesTooManyRuns}
-use Rattle.net_assembler.proofs.Sets.{too_many, contains-shift_up, maximal_runs-shift_up, same_positions}
+use Rattle.net_assembler.proofs.Sets.{contains-shift_up, maximal_runs-shift_up, same_positions}
 use Rattle.net_assembler.proofs.SoundHeads.{few_held}
 use Rattle.net_receiver.proofs.Schedules.{read_less}
 use Rattle.net_receiver.proofs.Places.{IsReceiver, HasRoom, IsFrontRemoved, held_count, read_parts, joined_parts}
 use Rattle.net_receiver.proofs.Places.{queued_is, m_within, refused_verdict, kept_verdict, clip_is, stays_at}
 use Rattle.net_receiver.proofs.Places.{domain_moved, resumed, are_within, index_is}
-use Rattle.net_ring.specs.Ring.{index_after, RingState, queue, spare, with_enqueued, with_dequeued, WritesSpare}
-use Rattle.net_ring.specs.Ring.{spare_index, with_elements_wrapping}
-use Rattle.net_ring.specs.declared.head.RingHead.{RingHead}
-use Rattle.net_ring.specs.RingHead.{IsSound as IsSoundPlace, ring_at, enqueued_place, dequeued_place}
-use Rattle.net_ring.proofs.Rotations.{length-queue, length-spare, length-overwrite}
+use Rattle.net_ring.specs.Ring.{index_after, WritesSpare}
+use Rattle.net_ring.specs.Ring.{spare_index}
+use Rattle.net_ring.specs.RingHead.{IsSound as IsSoundPlace, enqueued_place}
+use Rattle.std.proofs.lemmas.Grind.{common_steps}
+use Rattle.std.proofs.lemmas.Bool.Decides.{nat_tests}
+use Rattle.net_receiver.proofs.Words.{◌≡◌, ℕ, ◌+◌, ◌-◌, ◌<◌, ◌≤◌, ◌^◌, true, sym, ◌∙◌, arith, ⊎_elim, le_trans}
+use Rattle.net_receiver.proofs.Words.{length-drop, min, false, List, ◌++◌, length, take, drop, ◌⊎◌, Ok, Err, refl, ap}
+use Rattle.net_receiver.proofs.Words.{subst, length-take, take_all, Result, cases_lt, or_cases, both_ways, runs}
+use Rattle.net_receiver.proofs.Words.{Positions, with_range, maximal_runs, runs_shifted_up, Piece, end, piece}
+use Rattle.net_receiver.proofs.Words.{piece_within, domain, next_position, receiver_after_read, IsSound}
+use Rattle.net_receiver.proofs.Words.{receiver_with_piece, Refuses, Keeps, verdict, state_after, numbers, Fits64Bits}
+use Rattle.net_receiver.proofs.Words.{parts, receiver_of, HasSoundParts, storage_after, head_after_read}
+use Rattle.net_receiver.proofs.Words.{ReceiverState, drop_min, take_min, length-take-le, TooManyHolesError, overwrite}
+use Rattle.net_receiver.proofs.Words.{MakesTooManyRuns, too_many, RingState, queue, spare, with_enqueued}
+use Rattle.net_receiver.proofs.Words.{with_dequeued, with_elements_wrapping, RingHead, ring_at, dequeued_place}
+use Rattle.net_receiver.proofs.Words.{length-queue, length-spare, length-overwrite, set_of, HasSoundRuns}
+use Rattle.net_receiver.proofs.Words.{AssemblerHead, ReceiverHead}
 use Rattle.net_ring.proofs.RingFacts.{with_enqueued_law, with_dequeued_law, overwrite_whole}
-use Rattle.net_assembler.specs.RunLists.{set_of, HasSoundRuns}
-use Rattle.net_assembler.specs.declared.assembler.head.AssemblerHead.{AssemblerHead}
-use Rattle.net_receiver.specs.declared.receiver_head.ReceiverHead.{ReceiverHead}
 use Rattle.std.specs.FinMap as fin
 
 -- ---- What is true of every receiver is kept by a kept part and by a read.
@@ -39,12 +40,7 @@ module _ (most : ℕ) (v : ReceiverState) (sound : IsSound most v) (part : Piece
   laid_below p h = ⊎_elim (λ a. le_trans (piece_at part p a).1 ends) (λ b. sound.below p b) (or_cases _ _ (sym (laid_has v part p) ∙ h))
 
   within_limit : lacks v part ≤ v.first + v.read + v.capacity
-  within_limit =
-      ⊎_elim
-      (λ (l : next_position v < lacks v part).
-      omega (arith, laid_below (lacks v part - 1) ((lacking v part).before (lacks v part - 1) (omega arith) (omega arith))))
-      (λ (l : lacks v part ≤ next_position v). omega (arith, sound.fits))
-      (cases_lt (next_position v) (lacks v part))
+  within_limit = grind (arith, nat_tests, laid_below, lacking)
 
   pub sound_joined : runs (domain (receiver_with_piece v part).held) ≤ most → IsSound most (receiver_with_piece v part)
   sound_joined few =
@@ -117,22 +113,16 @@ module _ {most f r : ℕ} {queue spare : List ℕ} {s : Positions} (is : IsRecei
 
     -- a refusal
     pub refused_is : 0 < ahead → most < runs (with_range s ahead kept) → verdict most v (piece pos bytes) ≡ Refuses
-    refused_is apart many =
-        ap (verdict_of_piece n most (domain v.held)) clipped_part
-        ∙ refused_verdict is has_room apart (subst (λ k. most < runs (with_range s ahead k)) (sym size) many)
+    refused_is apart many = grind (arith, nat_tests, common_steps, clipped_part, refused_verdict)
 
     pub refusal : (left : Positions) → 0 < ahead → most < runs (with_range s ahead kept) → left ≡ s →
         (parts f r queue spare left ≡ state_after v (verdict most v (piece pos bytes)))
         × (Err (record {}) ≡ numbers v (verdict most v (piece pos bytes)))
-    refusal left apart many same =
-        let refused = refused_is apart many in
-        (ap (parts f r queue spare) same ∙ ap (state_after v) (sym refused), ap (numbers v) (sym refused))
+    refusal left apart many same = grind (arith, nat_tests, refused_is)
 
     -- a kept piece, and the part of it that is written
     pub keeps_is : (ahead ≡ 0) ⊎ (runs (with_range s ahead kept) ≤ most) → verdict most v (piece pos bytes) ≡ Keeps (piece (n + ahead) xs)
-    keeps_is which =
-        ap (verdict_of_piece n most (domain v.held)) clipped_part
-        ∙ kept_verdict is has_room (subst (λ k. (ahead ≡ 0) ⊎ (runs (with_range s ahead k) ≤ most)) (sym size) which)
+    keeps_is which = grind (arith, nat_tests, common_steps, clipped_part, kept_verdict)
 
     pub wrote_all : (arg : List ℕ) (wrote window : ℕ) → arg ≡ xs → wrote ≡ min (length arg) (window - ahead) → window ≡ length spare → take wrote arg ≡ xs
     wrote_all arg wrote window e e' e'' = take_all wrote arg (omega (arith, ap length e, has_room.room)) ∙ e
@@ -184,19 +174,12 @@ only_err (Err e) h = refl
 -- a range that is accepted
 pub accepted_cases : (most o n : ℕ) (s : Positions) → 0 < n → ((0 < o) × MakesTooManyRuns most s o n → false ≡ true) →
     (o ≡ 0) ⊎ (runs (with_range s o n) ≤ most)
-accepted_cases most o n s some refused =
-    ⊎_elim
-    (λ (l : 0 < o). ⊎_elim (λ k. absurd (both_ways false refl (refused (l, (too_many most s o n).1 (some, k))))) (λ k. inr k)
-    (cases_lt most (runs (with_range s o n))))
-    (λ (l : o ≤ 0). inl (omega arith))
-    (cases_lt 0 o)
+accepted_cases most o n s some refused = grind (arith, nat_tests, too_many)
 
 -- what `dequeue_slice` wrote, by the queue's length
 pub given_is : (queue old new : List ℕ) (taken : ℕ) → taken ≡ min (length old) (length queue) →
     new ≡ take taken queue ++ drop taken old → new ≡ take (length old) queue ++ drop (length queue) old
-given_is queue old new taken e is =
-    let turned : taken ≡ min (length queue) (length old) = omega arith in
-    is ∙ (λ i. (ap (λ k. take k queue) e ∙ take_min (length old) queue) i ++ (ap (λ k. drop k old) turned ∙ drop_min (length queue) old) i)
+given_is queue old new taken e is = grind (arith, nat_tests, common_steps, take_min, drop_min)
 
 -- ---- Receivers in parts: what a kept piece and a read make of a head, a storage and runs.
 -- what is written over a whole storage

@@ -1,4 +1,5 @@
 -- The lemmas of the theorems.
+pub mod Words
 pub mod Sets
 pub mod Schedules
 pub mod Places

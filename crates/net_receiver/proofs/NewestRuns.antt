@@ -1,30 +1,29 @@
 -- The runs that are listed newest first, by one call and by several, and how many positions are in none.
-use Rattle.std.proofs.Common.{◌≡◌, ◌⊎◌, inl, inr, ℕ, ◌+◌, ◌-◌, ◌<◌, ◌≤◌, ◌||◌, Bool, true, false, cond, List, [], ◌∷◌}
-use Rattle.std.proofs.Common.{◌++◌, length, map, take, Some, None, All, slice_get, is_some, refl, sym, ap, subst, ◌∙◌}
-use Rattle.std.proofs.Common.{arith, ⊎_elim, leb-true, le-leb, le_refl, take_all, length-append, append_assoc, suc}
-use Rattle.std.proofs.Common.{unwrap_or, zero, min, max, not, ◌&&◌, nat_le, nat_lt, le-ltb, drop, length-take}
-use Rattle.std.proofs.Common.{length-drop}
-use Rattle.std.proofs.lemmas.Option.{slice_get_within, slice_get-map}
-use Rattle.std.specs.Prelude.{count_by, AllPairs}
-use Rattle.std.specs.List.{find, list_any, range_with_len}
+use Rattle.std.proofs.lemmas.Bool.Decides.{nat_tests}
+use Rattle.net_receiver.proofs.Words.{◌≡◌, ◌⊎◌, inl, inr, ℕ, ◌+◌, ◌-◌, ◌<◌, ◌≤◌, ◌||◌, Bool, true, false, cond, List}
+use Rattle.net_receiver.proofs.Words.{[], ◌∷◌, ◌++◌, length, map, take, Some, None, All, slice_get, is_some, refl, sym}
+use Rattle.net_receiver.proofs.Words.{ap, subst, ◌∙◌, arith, ⊎_elim, leb-true, le-leb, le_refl, take_all}
+use Rattle.net_receiver.proofs.Words.{length-append, append_assoc, suc, unwrap_or, zero, min, max, not, ◌&&◌, nat_le}
+use Rattle.net_receiver.proofs.Words.{nat_lt, le-ltb, drop, length-take, length-drop, slice_get_within, count_by}
+use Rattle.net_receiver.proofs.Words.{AllPairs, find, list_any, range_with_len, both_ways, and_parts, and_from}
+use Rattle.net_receiver.proofs.Words.{cases_Bool, cases_lt, cond-true, cond-false, ltb-true, lt-ltb, or_left, or_right}
+use Rattle.net_receiver.proofs.Words.{or_cases, false_from_ne_true, lt-leb, length-map, All-nil, All-cons, All-head}
+use Rattle.net_receiver.proofs.Words.{All-tail, All-append, sum_by-cons, Positions, contains, maximal_runs, lies_in}
+use Rattle.net_receiver.proofs.Words.{IsMaximalRun, MaximalRunsOfEverySet, run_at, newest_runs, CommandValue, IsSound}
+use Rattle.net_receiver.proofs.Words.{next_position, receiver_after_command, receiver_after_commands, HasByteAt}
+use Rattle.net_receiver.proofs.Words.{ReceiverState, length-range_with_len}
+use Rattle.std.proofs.lemmas.Option.{slice_get-map}
 use Rattle.std.specs.Option.{option_to_list, option_map}
-use Rattle.std.proofs.lemmas.Bool.{both_ways, and_parts, and_from, cases_Bool, cases_lt, cond-true, cond-false}
-use Rattle.std.proofs.lemmas.Bool.{ltb-true, lt-ltb, or_left, or_right, or_cases, false_from_ne_true}
-use Rattle.std.proofs.lemmas.Bool.{true_from_ne_false, lt-leb}
-use Rattle.std.proofs.lemmas.List.{take-append-le, append-nil, length-map}
+use Rattle.std.proofs.lemmas.Bool.{true_from_ne_false}
+use Rattle.std.proofs.lemmas.List.{take-append-le, append-nil}
 use Rattle.std.proofs.lemmas.List.Folds.{list_any-append}
-use Rattle.std.proofs.lemmas.List.Elements.{All-nil, All-cons, All-head, All-tail, All-append}
-use Rattle.std.proofs.lemmas.List.Sums.{sum_by-append, sum_by-cons, count_by-le-length}
-use Rattle.net_assembler.specs.Positions.{Positions, contains, maximal_runs, lies_in, IsMaximalRun, AreMaximalRuns}
-use Rattle.net_assembler.specs.AssemblerLaws.{MaximalRunsOfEverySet}
-use Rattle.net_receiver.specs.{run_at, with_run, runs_of, starts, newest_runs, AreNewestRuns, NewestRunsAreListed}
-use Rattle.net_receiver.specs.{IsListedBy, IsNamed, CommandValue, IsSound, next_position, receiver_after_command}
-use Rattle.net_receiver.specs.{receiver_after_commands, HasByteAt, with_starts}
-use Rattle.net_receiver.specs.ReceiverState.{ReceiverState}
-use Rattle.std.proofs.lemmas.List.FromFn.{length-range_with_len}
+use Rattle.std.proofs.lemmas.List.Sums.{sum_by-append, count_by-le-length}
+use Rattle.net_assembler.specs.Positions.{AreMaximalRuns}
+use Rattle.net_receiver.specs.{with_run, runs_of, starts, AreNewestRuns, NewestRunsAreListed, IsListedBy, IsNamed}
+use Rattle.net_receiver.specs.{with_starts}
 use Rattle.std.specs.Cmp.{both_ways as same_tests}
-use Rattle.net_receiver.specs.NewestFirst.{Calls, recent_after, StayTogether, AllStayTogether, IsHeldSince}
-use Rattle.net_receiver.specs.NewestFirst.{NewestAreFirst, HeldStayTogether}
+use Rattle.net_receiver.specs.NewestRuns.{Calls, recent_after, StayTogether, AllStayTogether, IsHeldSince}
+use Rattle.net_receiver.specs.NewestRuns.{NewestAreFirst, HeldStayTogether}
 use Rattle.net_receiver.proofs.Sets.{slice_get-take, contains-domain}
 use Rattle.net_receiver.proofs.OneStream.{has_byte_stays}
 use Rattle.net_receiver.proofs.Theorems.{sound_stays}
@@ -120,23 +119,13 @@ module _ (s : Positions) where
 
   -- two maximal runs that share a position have the same ones
   starts_from : (a b : ℕ × ℕ) → Max a → Max b → (q : ℕ) → a.0 ≤ q → q < a.1 → b.0 ≤ q → q < b.1 → a.0 ≤ b.0
-  starts_from a b m n q a0 a1 b0 b1 =
-      ⊎_elim (λ (l : b.0 < a.0). absurd (both_ways _ (m.begun (omega arith)) (n.inside (a.0 - 1) (omega arith) (omega arith))))
-      (λ (l : a.0 ≤ b.0). l) (cases_lt b.0 a.0)
+  starts_from a b m n q a0 a1 b0 b1 = grind (arith, nat_tests)
 
   ends_by : (a b : ℕ × ℕ) → Max a → Max b → (q : ℕ) → a.0 ≤ q → q < a.1 → b.0 ≤ q → q < b.1 → b.1 ≤ a.1
-  ends_by a b m n q a0 a1 b0 b1 =
-      ⊎_elim (λ (l : a.1 < b.1). absurd (both_ways _ m.ended (n.inside a.1 (omega arith) (omega arith))))
-      (λ (l : b.1 ≤ a.1). l) (cases_lt a.1 b.1)
+  ends_by a b m n q a0 a1 b0 b1 = grind (arith, nat_tests)
 
   pub share : (a b : ℕ × ℕ) → Max a → Max b → (p q : ℕ) → lies_in q a ≡ true → lies_in q b ≡ true → lies_in p a ≡ true → lies_in p b ≡ true
-  share a b m n p q qa qb pa =
-      let ya = lies q a qa in
-      let yb = lies q b qb in
-      let xa = lies p a pa in
-      let low = starts_from b a n m q yb.0 yb.1 ya.0 ya.1 in
-      let high = ends_by b a n m q yb.0 yb.1 ya.0 ya.1 in
-      lies_from p b (omega (arith, low, xa.0)) (omega (arith, high, xa.1))
+  share a b m n p q qa qb pa = grind (arith, nat_tests, lies, starts_from, ends_by, lies_from)
 
   shares : (rs : Runs) → All Max rs → (a : ℕ × ℕ) → Max a → (p q : ℕ) → lies_in q a ≡ true → lies_in p a ≡ true →
       list_any (lies_in q) rs ≡ true → list_any (lies_in p) rs ≡ true
@@ -514,10 +503,7 @@ module _ (s : Positions) (end : ℕ) where
 
   -- no more than there are
   pub missing_few : (at : ℕ) (rs : List (ℕ × ℕ)) → Left s at rs → missing_in end at rs ≤ end - at
-  missing_few at rs left =
-      let few = count_by-le-length lacks (range_with_len at (end - at)) in
-      let size = length-range_with_len at (end - at) in
-      omega (arith, missing_is at rs left, few, size)
+  missing_few at rs left = grind (arith, nat_tests, count_by-le-length, lacks, length-range_with_len, missing_is)
 
 -- all runs of a set are left
 pub left_of : (s : Positions) (at : ℕ) → AreMaximalRuns s (maximal_runs s) → Left s at (maximal_runs s)
@@ -548,14 +534,7 @@ all_at P (y ∷ xs) (suc i) x all is = all_at P xs i x (All-tail P y xs all) is
 
 -- ---- the positions that a call leaves
 starts_size : (ps : List ℕ) (rs : List (ℕ × ℕ)) → length (with_starts ps rs) ≡ length ps
-starts_size ps rs =
-    omega (
-      arith,
-      length-append (take (length ps) (map (λ r. r.0) rs)) (drop (length rs) ps),
-      length-take (length ps) (map (λ r. r.0) rs),
-      length-map rs (λ r. r.0),
-      length-drop (length rs) ps,
-    )
+starts_size ps rs = grind (arith, nat_tests, length-append, length-take, length-map, length-drop)
 
 start_at : (ps : List ℕ) (rs : List (ℕ × ℕ)) (i : ℕ) (r : ℕ × ℕ) → i < length ps → slice_get rs i ≡ Some r → slice_get (with_starts ps rs) i ≡ Some r.0
 start_at ps rs i r l is =
@@ -570,16 +549,7 @@ recent_size k ps (call ∷ calls) =
 -- ---- what stays together is in one run afterwards
 module _ (s t : Positions) (together : StayTogether s t) (r m : ℕ × ℕ) (max : IsMaximalRun s r) (max' : IsMaximalRun t m) where
   in_run : (p q : ℕ) → lies_in p r ≡ true → lies_in q r ≡ true → lies_in p m ≡ true → lies_in q m ≡ true
-  in_run p q p_in q_in p_at =
-      let a = lies p r p_in in let b = lies q r q_in in let c = lies p m p_at in
-      lies_from q m
-      (⊎_elim (λ (l : q < m.0). absurd (both_ways _ (max'.begun (omega (arith, l))) (held (m.0 - 1) (omega (arith, l, b.0)) (omega (arith, l, a.1, c.0)))))
-      (λ (l : m.0 ≤ q). l) (cases_lt q m.0))
-      (⊎_elim (λ (l : q < m.1). l)
-      (λ (l : m.1 ≤ q). absurd (both_ways _ max'.ended (held m.1 (omega (arith, a.0, c.1)) (omega (arith, l, b.1))))) (cases_lt q m.1))
-    where
-      held : (x : ℕ) → r.0 ≤ x → x < r.1 → contains t x ≡ true
-      held x from to = (let at = lies p m p_at in together r p x max p_in (lies_from x r from to) (max'.inside p at.0 at.1))
+  in_run p q p_in q_in p_at = grind (arith, nat_tests, lies, lies_from)
 
 -- ---- several calls
 module _ (every : MaximalRunsOfEverySet) (k : ℕ) (ps : List ℕ) where

@@ -1,42 +1,39 @@
 -- What segments of one stream leave and reply, those that come again, those that cover a range, and reads.
-use Rattle.std.proofs.Common.{◌≡◌, ℕ, zero, suc, ◌+◌, ◌-◌, ◌<◌, ◌≤◌, List, [], ◌∷◌, ◌++◌, length, take, drop, All}
-use Rattle.std.proofs.Common.{Some, slice_get, slice_range, refl, sym, ap, subst, ◌∙◌, arith, length-append}
-use Rattle.std.proofs.Common.{length-drop, ⊎_elim, take-add, nat_le, leb-true, ltb-true, min, nat_lt, unwrap_or}
-use Rattle.std.proofs.Common.{take_all, Result, Ok, Err, IsOk, IfOk, OnErr, length-take, ◌⊎◌, inl, inr, true, false}
-use Rattle.std.proofs.Common.{cond, Option, None, is_some, le-leb, lt-ltb, le_trans}
-use Rattle.std.proofs.lemmas.Bool.{cases_lt, and_parts, both_ways, false≢true, or_left, cond-true, and_from, or_right}
-use Rattle.std.proofs.lemmas.Bool.{false_from_ne_true}
-use Rattle.std.proofs.lemmas.Option.{slice_get_within, none-some}
-use Rattle.std.proofs.lemmas.List.Elements.{All-nil, All-cons, All-head, All-tail, All-push, All-take, All-weaker}
-use Rattle.net_receiver.specs.{CommandValue, Segment, Read, Show, ReplyValue, unread, queued, queue, missing, step}
-use Rattle.net_receiver.specs.{state_from, Piece, piece, piece_within, byte_at, Setting, KeptState, fresh_kept}
-use Rattle.net_receiver.specs.{HasRoom, bytes_read, PieceAgrees, Agrees, fresh_receiver, next_position, limit_of}
-use Rattle.net_receiver.specs.{receiver_after_command, receiver_after_commands, setting, Executes, IsTruthful}
-use Rattle.net_receiver.specs.{Receives, QueueIsOf, FirstStays, NextGrows, LimitGrows, SegmentReadsNothing, is_held}
-use Rattle.net_receiver.specs.{verdict, state_after, numbers, segment_result, receiver_reply, Refines, HeldBytes}
-use Rattle.net_receiver.specs.{domain, held_with_piece, first_lacking, held_bytes_at, receiver_after_read, IsSound}
-use Rattle.net_receiver.specs.{StaysInSetting, Follows, EndsBy, KeepsOrRefuses, JoinsQueue, HeldIsOfStream}
-use Rattle.net_receiver.specs.{QueueIsOfStream, CapacityStays, ReceivesFrom, MatchesStream, AllMatch}
-use Rattle.net_receiver.specs.{MatchesWhatIsThere, window_part, InOrderReaches, piece_byte_at, SegmentReply}
-use Rattle.net_receiver.specs.{receiver_with_piece, receiver_up_to, receiver_replies, IsAccepted, IsHeld}
-use Rattle.net_receiver.specs.{HeldChangesNothing, SecondCopy, HasByteAt, HasByteStays, AcceptedBrings, HasAllReaches}
-use Rattle.net_receiver.specs.{Brings, Completes, ReadLeavesNext, ReadLeavesBytes, ReadsAdd, ReadsGiveTogether}
-use Rattle.net_receiver.specs.ReceiverState.{ReceiverState}
+use Rattle.std.proofs.lemmas.Bool.Decides.{nat_tests}
+use Rattle.net_receiver.proofs.Words.{◌≡◌, ℕ, zero, suc, ◌+◌, ◌-◌, ◌<◌, ◌≤◌, List, [], ◌∷◌, ◌++◌, length, take, drop}
+use Rattle.net_receiver.proofs.Words.{All, Some, slice_get, slice_range, refl, sym, ap, subst, ◌∙◌, arith}
+use Rattle.net_receiver.proofs.Words.{length-append, length-drop, ⊎_elim, take-add, nat_le, leb-true, min, nat_lt}
+use Rattle.net_receiver.proofs.Words.{unwrap_or, take_all, Result, Ok, Err, length-take, ◌⊎◌, inl, inr, true, false}
+use Rattle.net_receiver.proofs.Words.{cond, Option, None, is_some, le-leb, le_trans, cases_lt, and_parts, false≢true}
+use Rattle.net_receiver.proofs.Words.{or_left, cond-true, and_from, or_right, false_from_ne_true, slice_get_within}
+use Rattle.net_receiver.proofs.Words.{none-some, All-nil, All-cons, All-head, All-tail, All-take, All-weaker}
+use Rattle.net_receiver.proofs.Words.{CommandValue, Segment, Read, Show, ReplyValue, unread, queued, missing, step}
+use Rattle.net_receiver.proofs.Words.{Piece, piece, piece_within, byte_at, Setting, KeptState, fresh_kept, HasRoom}
+use Rattle.net_receiver.proofs.Words.{bytes_read, PieceAgrees, Agrees, fresh_receiver, next_position, limit_of}
+use Rattle.net_receiver.proofs.Words.{receiver_after_command, receiver_after_commands, setting, Executes, IsTruthful}
+use Rattle.net_receiver.proofs.Words.{is_held, verdict, state_after, numbers, segment_result, receiver_reply, Refines}
+use Rattle.net_receiver.proofs.Words.{HeldBytes, domain, held_with_piece, first_lacking, held_bytes_at}
+use Rattle.net_receiver.proofs.Words.{receiver_after_read, IsSound, Follows, EndsBy, MatchesLonger, MatchesWhatIsThere}
+use Rattle.net_receiver.proofs.Words.{piece_byte_at, SegmentReply, receiver_with_piece, receiver_up_to}
+use Rattle.net_receiver.proofs.Words.{receiver_replies, IsAccepted, HasByteAt, Brings, ReceiverState, option_or, ⊤}
+use Rattle.net_receiver.proofs.Words.{common_steps, drop-take, drop-drop, take-take, TooManyHolesError, Kept}
+use Rattle.net_receiver.proofs.Words.{KeptBytes}
+use Rattle.std.proofs.Common.{ltb-true, IsOk, IfOk, OnErr, lt-ltb}
+use Rattle.std.proofs.lemmas.List.Elements.{All-push}
+use Rattle.net_receiver.specs.{queue, state_from, Receives, QueueIsOf, FirstStays, NextGrows, LimitGrows}
+use Rattle.net_receiver.specs.{SegmentReadsNothing, StaysInSetting, KeepsOrRefuses, JoinsQueue, HeldIsOfStream}
+use Rattle.net_receiver.specs.{QueueIsOfStream, CapacityStays, ReceivesFrom, MatchesStream, AllMatch, ReadReceives}
+use Rattle.net_receiver.specs.{FreshReceivesFrom, AgreeingReceives, ReceivesFromLonger, SegmentReceives, window_part}
+use Rattle.net_receiver.specs.{InOrderReaches, IsHeld, HeldChangesNothing, SecondCopy, HasByteStays, AcceptedBrings}
+use Rattle.net_receiver.specs.{HasAllReaches, Completes, ReadLeavesNext, ReadLeavesBytes, ReadsAdd, ReadsGiveTogether}
 use Rattle.net_receiver.proofs.Sets.{clip_at, get-with_bytes_at, next_joined, lacks, lacking, laid_has, piece_from}
 use Rattle.net_receiver.proofs.Sets.{piece_some, cond_some, slice_get-drop, slice_get-take, first_unique, clip_byte}
 use Rattle.net_receiver.proofs.Sets.{same_both, same_bytes, get_from, laid, left_has, left_above}
-use Rattle.net_receiver.proofs.Schedules.{missing_is, part_cases, window_piece, segment_cases, same_next}
-use Rattle.net_receiver.proofs.Schedules.{queue_length, schedule, setting_kept, settings_kept, queue_agrees}
-use Rattle.net_receiver.proofs.Schedules.{agrees_at, some_of, stream, follows_verdict, any_verdict, read_prefix}
+use Rattle.net_receiver.proofs.Schedules.{missing_is, part_cases, window_piece, segment_cases, same_next, queue_length}
+use Rattle.net_receiver.proofs.Schedules.{schedule, setting_kept, settings_kept, queue_agrees, agrees_at, some_of}
+use Rattle.net_receiver.proofs.Schedules.{stream, follows_verdict, any_verdict, read_prefix}
 use Rattle.net_receiver.proofs.Theorems.{fresh_refines, ran}
-use Rattle.std.specs.Option.{option_or}
-use Rattle.std.specs.Prelude.{⊤}
-use Rattle.std.proofs.lemmas.Grind.{common_steps}
-use Rattle.std.proofs.lemmas.List.{append_assoc, take-append-drop, drop-take, drop-drop, drop_at, take-take}
-use Rattle.std.proofs.lemmas.List.{append-nil}
-use Rattle.net_assembler.specs.declared.assembler.error.TooManyHolesError.{TooManyHolesError}
-use Rattle.net_receiver.specs.declared.kept.Kept.{Kept}
-use Rattle.net_receiver.specs.declared.kept.KeptBytes.{KeptBytes}
+use Rattle.std.proofs.lemmas.List.{append_assoc, take-append-drop, drop_at, append-nil}
 use Rattle.std.specs.FinMap as fin
 
 -- ---- What truthful segments leave.
@@ -180,9 +177,26 @@ segment_receives N f x v u pos xs e r h = receives_after N f x v u (Segment pos 
 pub read_receives : (f : ℕ) (x : List ℕ) (v u : ReceiverState) (n : ℕ) → u ≡ receiver_after_read v n → ReceivesFrom f x v → ReceivesFrom f x u
 read_receives f x v u n e r = receives_after 0 f x v u (Read n) e r tt
 
+pub reads_receive : ReadReceives
+reads_receive f n x v r = read_receives f x v _ n refl r
+
 pub fresh_receives_from : (x : List ℕ) (first capacity : ℕ) → ReceivesFrom first x (fresh_receiver first capacity)
 unfolding ReceivesFrom
 fresh_receives_from x first capacity = (refl, fresh_receives x first capacity)
+
+pub begun_receives : FreshReceivesFrom
+begun_receives f x v e = subst (ReceivesFrom f x) (sym e) (fresh_receives_from x f v.capacity)
+
+pub agreeing_receives : AgreeingReceives
+unfolding ReceivesFrom
+agreeing_receives f x v s e d all = (e, record { state = s; refines = d; agrees = subst (λ b. Agrees b s.kept x) (sym e) all })
+
+pub longer_received : ReceivesFromLonger
+unfolding ReceivesFrom
+longer_received f x more v h = (h.0, longer_receives x more v h.1)
+
+pub segments_receive : SegmentReceives
+segments_receive most f x v pos xs r h = segment_receives most f x v _ pos xs refl r h
 
 pub queue_of : QueueIsOfStream
 unfolding ReceivesFrom
@@ -207,6 +221,10 @@ matches_what_is_there f pos x xs h e = λ p b from is.
     ∙ (cond_some (nat_lt (p - pos) (length xs)) (slice_get (drop (pos - f) x) (p - pos)) b
     (sym (slice_get-take (length xs) (drop (pos - f) x) (p - pos)) ∙ ap (λ l. slice_get l (p - pos)) (sym e) ∙ there.1)).1
 
+pub matches_longer : MatchesLonger
+unfolding MatchesStream
+matches_longer f pos x more xs h = λ p b from is. longer_at x more _ b (h p b from is)
+
 prefix_of : (x q : List ℕ) (a n : ℕ) → q ≡ take (length q) (drop a x) → n ≤ length q → take n q ≡ slice_range x a (a + n)
 prefix_of x q a n e h = grind (arith, common_steps)
 
@@ -229,18 +247,10 @@ values_of m (x ∷ xs) p (suc n) h at =
     (λ i. first i ∷ values_of m xs (p + 1) n (omega arith) (λ q j b e is. at q (suc j) b (omega arith) is) i)
 
 laid_at : (v : ReceiverState) (part : Piece) (q i b : ℕ) → q ≡ part.start + i → slice_get part.bytes i ≡ Some b → fin.get (held_with_piece v part) q ≡ Some b
-laid_at v part q i b e is =
-    let at : q - part.start ≡ i = omega arith in
-    get-with_bytes_at v.held part.start part.bytes q ∙ ap (λ o. option_or o (fin.get v.held q))
-    (piece_from part q (omega arith) ∙ ap (slice_get part.bytes) at ∙ is)
+laid_at v part q i b e is = grind (arith, nat_tests, get-with_bytes_at, piece_from)
 
 reaches : (v : ReceiverState) (part : Piece) → part.start ≡ next_position v → next_position v + length part.bytes ≤ lacks v part
-reaches v part at =
-    let from = (lacking v part).from in
-    ⊎_elim (λ (l : lacks v part < next_position v + length part.bytes).
-    absurd (both_ways _ (lacking v part).here (laid_has v part _ ∙ or_left _ _ (piece_some part (lacks v part) (omega arith, omega arith)))))
-    (λ (l : next_position v + length part.bytes ≤ lacks v part). l)
-    (cases_lt (lacks v part) (next_position v + length part.bytes))
+reaches v part at = grind (arith, nat_tests, lacking, laid_has, or_left, piece_some)
 
 splits : (q w part : List ℕ) → take (length part) w ≡ part → q ++ w ≡ q ++ part ++ drop (length q + length part) (q ++ w)
 splits q w part e =
@@ -296,19 +306,7 @@ pub kept_any : (N : ℕ) (v u : ReceiverState) (pos : ℕ) (xs : List ℕ) (r : 
     u ≡ state_after v (verdict N v (piece pos xs)) →
     r ≡ numbers v (verdict N v (piece pos xs)) →
     OnErr r (u ≡ v) × IfOk r (λ k. k.kept ≡ length (window_part v pos xs)) × IfOk r (λ k. next_position u ≡ next_position v + k.queued)
-kept_any N v u pos xs r state told =
-    let n = next_position v in
-    let part = piece_within n (v.first + v.read + v.capacity) (piece pos xs) in
-    let more = next_joined v part in
-    let from = (lacking v part).from in
-    let all = any_verdict (λ y. OnErr (numbers v y) (state_after v y ≡ v) × IfOk (numbers v y) (λ k. k.kept ≡ length part.bytes)
-    × IfOk (numbers v y) (λ k. next_position (state_after v y) ≡ next_position v + k.queued)) n N (domain v.held) part
-    (λ none. (tt, sym none, omega arith))
-    (refl, tt, tt)
-    (tt, refl, omega arith) in
-    subst (λ z. OnErr r (z ≡ v) × IfOk r (λ k. k.kept ≡ length part.bytes) × IfOk r (λ k. next_position z ≡ next_position v + k.queued)) (sym state)
-    (subst (λ z. OnErr z (state_after v (verdict N v (piece pos xs)) ≡ v) × IfOk z (λ k. k.kept ≡ length part.bytes)
-    × IfOk z (λ k. next_position (state_after v (verdict N v (piece pos xs))) ≡ next_position v + k.queued)) (sym told) all)
+kept_any N v u pos xs r state told = grind (arith, nat_tests, common_steps, next_joined, lacking, any_verdict)
 
 pub kept_in_order : (N : ℕ) (v : ReceiverState) (pos : ℕ) (xs : List ℕ) (r : Result KeptBytes TooManyHolesError) →
     r ≡ numbers v (verdict N v (piece pos xs)) → pos ≤ next_position v → IsOk r
@@ -551,11 +549,7 @@ limit_rises most v (Read count) = omega arith
 limit_rises most v Show = omega arith
 
 reaches_all : (v : ReceiverState) (end : ℕ) → fin.contains_key v.held (next_position v) ≡ false → ((p : ℕ) → next_position v ≤ p → p < end → HasByteAt v p) → end ≤ next_position v
-reaches_all v end missing all =
-    ⊎_elim (λ (l : next_position v < end).
-    ⊎_elim (λ k. absurd (omega arith)) (λ k. absurd (both_ways _ missing k)) (all (next_position v) (omega arith) l))
-    (λ (l : end ≤ next_position v). l)
-    (cases_lt (next_position v) end)
+reaches_all v end missing all = grind (arith, nat_tests)
 
 pub has_all_reaches : HasAllReaches
 has_all_reaches most v end sound all = reaches_all v end (missing_of v sound.above) all
@@ -604,3 +598,14 @@ reads_add v m n =
 
 pub reads_give_together : ReadsGiveTogether
 reads_give_together v m n = sym (take-add m n v.queue)
+
+-- ---- The lemmas of each law.
+pub ruleset reads_law = (reads_receive, read_leaves_next, read_leaves_bytes, reads_add, reads_give_together)
+
+pub ruleset receives_law = (begun_receives, agreeing_receives, longer_received, segments_receive, held_of_stream, queue_of)
+
+pub ruleset matches_stream_law = (matches_what_is_there, matches_longer)
+
+pub ruleset retransmission_law = (second_copy, held_changes_nothing)
+
+pub ruleset numbers_law = (first_stays, next_position_grows, limit_grows, segment_reads_nothing, capacity_stays)

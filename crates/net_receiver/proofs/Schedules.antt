@@ -1,43 +1,48 @@
 -- Schedules by the rules of `Headline.antt`, against what is stored, and streams with which they agree.
-use Rattle.std.proofs.Common.{◌≡◌, ℕ, zero, suc, ◌+◌, ◌-◌, ◌<◌, ◌≤◌, Bool, true, false, cond, not, ◌&&◌, ◌||◌, List}
-use Rattle.std.proofs.Common.{[], ◌∷◌, map, filter, length, nat_eq, nat_lt, is_some, Err, refl, sym, ap, ◌∙◌, arith}
-use Rattle.std.proofs.Common.{⊎_elim, eqb-true, ◌⊎◌, inl, inr, min, ◌++◌, take, drop, nat_le, Option, Some, None, Ok}
-use Rattle.std.proofs.Common.{unwrap_or, subst, append_assoc, get_or, take_at, length-take, drop_at, All, slice_get}
-use Rattle.std.proofs.Common.{slice_range, take-add, drop-drop, le_trans, max, length-drop, ◌↔◌, IsTrue}
-use Rattle.std.proofs.lemmas.Bool.{both_ways, cases_lt, cases_eq, and_parts, and_from, ltb-true, lt-ltb, le-leb}
-use Rattle.std.proofs.lemmas.Bool.{cond_both, eqb-false, not-true, false_from_ne_true, cases_order, and_cases}
-use Rattle.std.proofs.lemmas.Bool.{or_right, or_cases, not-false, or_left}
-use Rattle.std.proofs.lemmas.Bool.Decides.{nat_tests}
-use Rattle.std.proofs.lemmas.List.Elements.{filter_agree, All-nil, All-cons, All-head, All-tail}
-use Rattle.std.specs.List.{range_with_len, prefix_len, take-map}
-use Rattle.net_assembler.specs.Positions.{Positions, contains, positions, run_starts, begins_run, maximal_runs}
-use Rattle.net_assembler.specs.Positions.{first_missing, runs, with_range}
-use Rattle.net_assembler.proofs.Sets.{has, Rises, positions_rise, rising_unique, contains-positions}
-use Rattle.net_assembler.proofs.Sets.{has-range_with_len, first_missing-is, contains-with_range}
-use Rattle.net_assembler.proofs.Sets.{runs-maximal_runs, too_many, few_enough, same_positions}
-use Rattle.net_receiver.specs.{Setting, KeptState, Piece, piece_byte_at, piece_within, ReplyValue, SegmentReply}
-use Rattle.net_receiver.specs.{is_covered, unread, window, queued, missing, is_held, held_runs, with_kept, keeps}
-use Rattle.net_receiver.specs.{after_part, CommandValue, Segment, Read, Show, ReadReply, ShowReply, first_three}
-use Rattle.net_receiver.specs.{queue, step, HasRoom, piece, byte_at, byte, Verdict, KeepsNone, Refuses, Keeps}
-use Rattle.net_receiver.specs.{verdict_of_piece, verdict, state_after, segment_result, HeldBytes, domain}
-use Rattle.net_receiver.specs.{next_position, first_lacking, held_bytes_at, receiver_up_to, held_with_piece}
-use Rattle.net_receiver.specs.{receiver_with_piece, receiver_after_read, setting, Refines, receiver_after_command}
-use Rattle.net_receiver.specs.{receiver_reply, limit_of, replies_from, state_from, receiver_after_commands}
-use Rattle.net_receiver.specs.{receiver_replies, items_after, command_value, command_values, reply_value, new_replies}
-use Rattle.net_receiver.specs.{end, bytes_read, PieceAgrees, Agrees, Follows, EndsBy, IsAccepted, IsSameState}
+use Rattle.std.proofs.Common.{drop-drop}
+use Rattle.std.proofs.lemmas.Bool.{cases_eq, le-leb}
+use Rattle.std.proofs.lemmas.Bool.{eqb-false, not-true, cases_order}
+use Rattle.std.proofs.lemmas.List.Elements.{filter_agree}
+use Rattle.std.specs.List.{prefix_len}
+use Rattle.net_assembler.specs.Positions.{run_starts, begins_run, maximal_runs}
+use Rattle.net_assembler.proofs.Sets.{has-range_with_len, runs-maximal_runs}
+use Rattle.net_assembler.proofs.Sets.{few_enough}
+use Rattle.net_receiver.specs.{window, held_runs, with_kept, keeps}
+use Rattle.net_receiver.specs.{after_part, ShowReply}
+use Rattle.net_receiver.specs.{queue, byte_at, KeepsNone}
+use Rattle.net_receiver.specs.{replies_from, state_from}
 use Rattle.net_receiver.specs.{AreAlike, TellsStates, Converges}
-use Rattle.net_receiver.specs.ReceiverState.{ReceiverState}
+use Rattle.std.proofs.lemmas.Grind.{common_steps}
+use Rattle.net_receiver.proofs.Words.{◌≡◌, ℕ, zero, suc, ◌+◌, ◌-◌, ◌<◌, ◌≤◌, Bool, true, false, cond, not, ◌&&◌, ◌||◌}
+use Rattle.net_receiver.proofs.Words.{List, [], ◌∷◌, map, filter, length, nat_eq, nat_lt, is_some, Err, refl, sym, ap}
+use Rattle.net_receiver.proofs.Words.{◌∙◌, arith, ⊎_elim, eqb-true, ◌⊎◌, inl, inr, min, ◌++◌, take, drop, nat_le}
+use Rattle.net_receiver.proofs.Words.{Option, Some, None, Ok, unwrap_or, subst, append_assoc, get_or, take_at}
+use Rattle.net_receiver.proofs.Words.{length-take, drop_at, All, slice_get, slice_range, take-add, le_trans, max}
+use Rattle.net_receiver.proofs.Words.{length-drop, ◌↔◌, IsTrue, both_ways, cases_lt, and_parts, and_from, ltb-true}
+use Rattle.net_receiver.proofs.Words.{lt-ltb, cond_both, false_from_ne_true, and_cases, or_right, or_cases, not-false}
+use Rattle.net_receiver.proofs.Words.{or_left, nat_tests, All-nil, All-cons, All-head, All-tail, range_with_len}
+use Rattle.net_receiver.proofs.Words.{take-map, Positions, contains, positions, first_missing, runs, with_range, has}
+use Rattle.net_receiver.proofs.Words.{Rises, positions_rise, rising_unique, contains-positions, first_missing-is}
+use Rattle.net_receiver.proofs.Words.{contains-with_range, too_many, same_positions, Setting, KeptState, Piece}
+use Rattle.net_receiver.proofs.Words.{piece_byte_at, piece_within, ReplyValue, SegmentReply, is_covered, unread}
+use Rattle.net_receiver.proofs.Words.{queued, missing, is_held, CommandValue, Segment, Read, Show, ReadReply}
+use Rattle.net_receiver.proofs.Words.{first_three, step, HasRoom, piece, byte, Verdict, Refuses, Keeps}
+use Rattle.net_receiver.proofs.Words.{verdict_of_piece, verdict, state_after, segment_result, HeldBytes, domain}
+use Rattle.net_receiver.proofs.Words.{next_position, first_lacking, held_bytes_at, receiver_up_to, held_with_piece}
+use Rattle.net_receiver.proofs.Words.{receiver_with_piece, receiver_after_read, setting, Refines}
+use Rattle.net_receiver.proofs.Words.{receiver_after_command, receiver_reply, limit_of, receiver_after_commands}
+use Rattle.net_receiver.proofs.Words.{receiver_replies, items_after, command_value, command_values, reply_value}
+use Rattle.net_receiver.proofs.Words.{new_replies, end, bytes_read, PieceAgrees, Agrees, Follows, EndsBy, IsAccepted}
+use Rattle.net_receiver.proofs.Words.{IsSameState, ReceiverState, option_or, length-map-range_with_len}
+use Rattle.net_receiver.proofs.Words.{makes_too_many_runs, drop_min, slice_get_within}
 use Rattle.net_receiver.proofs.Sets.{IsFirst, first_unique, byte_at_push, covered_push, clip_byte, piece_at}
 use Rattle.net_receiver.proofs.Sets.{piece_before, piece_has, some_cond, some_or, map_range_split, map_range_same}
 use Rattle.net_receiver.proofs.Sets.{drop_range, get-with_bytes_at, first_lacking_is, contains-domain, get_from}
 use Rattle.net_receiver.proofs.Sets.{take_range, piece_some}
-use Rattle.std.specs.Option.{option_or}
-use Rattle.std.proofs.lemmas.List.FromFn.{length-map-range_with_len}
-use Rattle.net_assembler.specs.Assembler.{makes_too_many_runs}
-use Rattle.std.proofs.lemmas.List.{drop_min, map-append, map_more, drop_more}
-use Rattle.net_receiver.specs.declared.command.Command.{Command}
-use Rattle.net_receiver.specs.declared.reply.Reply.{Reply}
-use Rattle.std.proofs.lemmas.Option.{slice_get_within, get_or_from_slice_get}
+use Rattle.std.proofs.lemmas.List.{map-append, map_more, drop_more}
+use Rattle.net_receiver.specs.declared.schedule.Command.{Command}
+use Rattle.net_receiver.specs.declared.schedule.Reply.{Reply}
+use Rattle.std.proofs.lemmas.Option.{get_or_from_slice_get}
 use Rattle.std.specs.FinMap as fin
 
 -- ---- One state of `Headline.antt`: how far it is covered, and its held runs.
@@ -146,22 +151,12 @@ module _ (w : Setting) (s : KeptState) where
     }
 
     held_within : (p : ℕ) → is_held w s p ≡ true → (missing w s < p) × (p < unread w s + w.capacity)
-    held_within p h =
-        let both = and_parts _ _ h in
-        let above = ltb-true (missing w s) p both.0 in
-        (above, room.below p (omega arith) both.1)
+    held_within p h = grind (arith, nat_tests, and_parts, ltb-true, room)
 
     -- a set of the held positions
     module _ (H : Positions) (same : (p : ℕ) → is_held w s p ≡ contains H p) where
       in_window : (p : ℕ) → is_held w s p ≡ has (filter (is_held w s) (window w s)) p
-      in_window p = by (is_held w s p) refl ∙ sym (has-filter (is_held w s) (window w s) p)
-        where
-          by : (b : Bool) → is_held w s p ≡ b → b ≡ (b && has (window w s) p)
-          by true e =
-              let within = held_within p e in
-              sym (has-range_with_len (unread w s) w.capacity p
-              ∙ and_from _ _ (le-leb (unread w s) p (let l = within.0 in omega arith)) (lt-ltb p (unread w s + w.capacity) within.1))
-          by false e = refl
+      in_window p = grind (arith, nat_tests, has-filter, Bool, held_within, has-range_with_len, and_from, le-leb, lt-ltb)
 
       held_listed : positions H ≡ filter (is_held w s) (window w s)
       held_listed =
@@ -171,33 +166,17 @@ module _ (w : Setting) (s : KeptState) where
 
       begins_same : (p : ℕ) → (is_held w s p && begins_run H p) ≡ (is_held w s p && not (is_held w s (p - 1)))
       unfolding begins_run
-      begins_same p = by (is_held w s p) refl
-        where
-          by : (b : Bool) → is_held w s p ≡ b → (b && begins_run H p) ≡ (b && not (is_held w s (p - 1)))
-          by true e =
-              let above = (held_within p e).0 in
-              let not_first : nat_eq p 0 ≡ false = grind (arith, nat_tests) in
-              (λ i. not_first i || not (sym (same (p - 1)) i))
-          by false e = refl
+      begins_same p = grind (arith, nat_tests, Bool, held_within)
 
       starts_same : run_starts H ≡ filter (λ p. is_held w s p && not (is_held w s (p - 1))) (window w s)
       unfolding run_starts
-      starts_same =
-          ap (filter (begins_run H)) held_listed ∙ filter_twice (begins_run H) (is_held w s) (window w s)
-          ∙ filter_agree (λ p. is_held w s p && begins_run H p) (λ p. is_held w s p && not (is_held w s (p - 1))) begins_same (window w s)
+      starts_same = grind (arith, nat_tests, common_steps, held_listed, filter_twice, filter_agree, begins_same)
 
       end_same : (p : ℕ) → first_missing H p ≡ p + prefix_len (is_held w s) (range_with_len p w.capacity)
       end_same p =
           let l = leads (is_held w s) p w.capacity in
           let k = prefix_len (is_held w s) (range_with_len p w.capacity) in
-          let misses : is_held w s (p + k) ≡ false =
-          ⊎_elim (λ (some : k < w.capacity). l.here some)
-          (λ (all : w.capacity ≤ k). false_from_ne_true _ (λ h.
-          let there = held_within (p + k) h in
-          ⊎_elim (λ (full : 0 < k). (let here = held_within p (l.before p (omega arith) (omega arith)) in omega (arith, here.0, there.1)))
-          (λ (none : k ≤ 0). omega (arith, there.0, there.1)) (cases_lt 0 k)))
-          (cases_lt k w.capacity) in
-          first_missing-is H p (p + k) (omega arith) (sym (same (p + k)) ∙ misses) (λ q a b. sym (same q) ∙ l.before q a b)
+          grind (arith, nat_tests, false_from_ne_true, held_within, first_missing-is)
 
       pub same_runs : held_runs w s ≡ maximal_runs H
       unfolding maximal_runs
@@ -259,26 +238,11 @@ module _ (w : Setting) (s : KeptState) (room : HasRoom w s) (part : Piece) (abov
         })
 
     part_above : (q : ℕ) → is_some (piece_byte_at part q) ≡ true → missing w s < q
-    part_above q h =
-        let there = piece_at part q h in
-        ⊎_elim (λ (same : q ≡ missing w s). absurd (both_ways _ misses (ap (λ p. is_some (piece_byte_at part p)) (sym same) ∙ h)))
-        (λ (other : q ≡ missing w s → ⊥). ⊎_elim (λ e. absurd (other e)) (⊎_elim (λ (l : q < missing w s). omega (arith, there.0)) (λ l. l)) (cases_order q (missing w s)))
-        (cases_eq q (missing w s))
+    part_above q h = grind (arith, nat_tests, piece_at)
 
     more_held : (H : Positions) → ((p : ℕ) → is_held w s p ≡ contains H p) → (q : ℕ) →
         is_held w (with_kept w s part) q ≡ contains (with_range H part.start (length part.bytes)) q
-    more_held H same q =
-        (λ i. nat_lt (same_missing i) q && covered_more q i)
-        ∙ by (is_some (piece_byte_at part q)) refl
-        ∙ (λ i. same q i || piece_has part q i)
-        ∙ sym (contains-with_range H part.start (length part.bytes) q)
-      where
-        by : (b : Bool) → is_some (piece_byte_at part q) ≡ b →
-            (nat_lt (missing w s) q && (b || is_covered s.kept q)) ≡ ((nat_lt (missing w s) q && is_covered s.kept q) || b)
-        by true e =
-            and_from (nat_lt (missing w s) q) true (lt-ltb (missing w s) q (part_above q e)) refl
-            ∙ sym (or_right (nat_lt (missing w s) q && is_covered s.kept q) true refl)
-        by false e = grind arith
+    more_held H same q = grind (arith, nat_tests, same_missing, covered_more, is_some, piece_has, contains-with_range, Bool, and_from, lt-ltb, part_above, or_right)
 
   -- it is refused by one rule where it is by the other
   same_refusal : (H : Positions) → ((p : ℕ) → is_held w s p ≡ contains H p) → nat_eq (length part.bytes) 0 ≡ false →
@@ -312,9 +276,7 @@ module _ (v : ReceiverState) (s : KeptState) (d : Refines v s) where
   same_next = (let l = queue_length in let r = d.read in omega arith)
 
   pub same_held : (p : ℕ) → contains (domain v.held) p ≡ is_held w s p
-  same_held p =
-      contains-domain v.held p ∙ ap is_some (d.held p) ∙ some_cond (is_held w s p) (byte_at s.kept p)
-      ∙ again (nat_lt (missing w s) p) (is_covered s.kept p)
+  same_held p = grind (arith, nat_tests, contains-domain, is_some, some_cond, again)
 
   pub same_held_runs : maximal_runs (domain v.held) ≡ held_runs w s
   same_held_runs = sym (same_runs w s d.room (domain v.held) (λ p. sym (same_held p)))
@@ -372,16 +334,10 @@ module _ (v : ReceiverState) (s : KeptState) (d : Refines v s) where
         let l : n ≤ m = lacking.from in
         let end = missing_more in
         let size : queued w s + (m - n) ≡ queued w t = omega arith in
-        (λ i. (d.queue ∙ map_range_same (byte s.kept) (byte more) (unread w s) (queued w s)
-        (λ q a b. ap (λ o. unwrap_or o 0) (sym (below_next q (omega arith))))) i
-        ++ map_range_same (λ q. unwrap_or (fin.get laid q) 0) (byte more) n (m - n) (λ q a b. ap (λ o. unwrap_or o 0) (laid_is q a)) i)
-        ∙ sym (map_range_split (byte more) (unread w s) (queued w s) (m - n))
-        ∙ ap (λ k. map (byte more) (range_with_len (unread w s) k)) size
+        grind (arith, nat_tests, map_range_same, more, unwrap_or, below_next, laid_is, map_range_split)
 
     joined_held : (p : ℕ) → fin.get (fin.retain_keys laid (λ q. nat_le m q)) p ≡ cond (is_held w t p) (byte_at more p) None
-    joined_held p =
-        get_from laid m p ∙ (let from = lacking.from in let none = none_of (fin.get laid m) lacking.here in let same = missing_more in
-        let is = laid_is p in let some = none_of (byte_at more p) in grind (arith, nat_tests))
+    joined_held p = grind (arith, nat_tests, get_from, lacking, none_of, missing_more, laid_is)
 
     pub refines_joined : Refines (receiver_with_piece v part) t
     refines_joined =
@@ -455,11 +411,7 @@ module _ (most : ℕ) (v : ReceiverState) (s : KeptState) (d : Refines v s) wher
     above = omega arith
 
     below : (p : ℕ) → is_some (piece_byte_at part p) ≡ true → p < unread by s + v.capacity
-    below p h =
-        let high = unread by s + v.capacity in
-        let low = missing by s in
-        let parts = and_parts (nat_le low p && nat_lt p high) (is_some (piece_byte_at e p)) (sym (some_cond (nat_le low p && nat_lt p high) (piece_byte_at e p)) ∙ sym (ap is_some (clip_byte low high e p)) ∙ h) in
-        ltb-true p high (and_parts (nat_le low p) (nat_lt p high) parts.0).1
+    below p h = grind (arith, nat_tests, and_parts, some_cond, clip_byte, ltb-true)
 
     kept_left : Left (Keeps part) (keeps by s (with_kept by s part) (length part.bytes))
     kept_left =
@@ -519,15 +471,7 @@ module _ (most : ℕ) where
 
 -- no more is read than is queued
 pub read_less : (v : ReceiverState) (count n : ℕ) → n ≡ min count (length v.queue) → receiver_after_read v n ≡ receiver_after_read v count
-read_less v count n e =
-    let same : min n (length v.queue) ≡ min count (length v.queue) = omega arith in
-    λ i. record {
-      first = v.first;
-      capacity = v.capacity;
-      read = v.read + same i;
-      queue = (ap (λ k. drop k v.queue) e ∙ drop_min count v.queue) i;
-      held = v.held;
-    }
+read_less v count n e = grind (arith, nat_tests, drop_min)
 
 -- commands after others
 module _ (most : ℕ) where
@@ -547,9 +491,7 @@ take_mapped f cs i c l is =
 
 push_appended : {A : Type 0} (old now new : List A) (r : A) → now ≡ old ++ items_after old now → new ≡ now ++ r ∷ [] →
     items_after old new ≡ items_after old now ++ r ∷ []
-push_appended old now new r e e' =
-    ap (drop (length old)) (e' ∙ ap (λ xs. xs ++ r ∷ []) e ∙ append_assoc old (items_after old now) (r ∷ []))
-    ∙ drop_at old (items_after old now ++ r ∷ []) (length old) refl
+push_appended old now new r e e' = grind (arith, nat_tests, append_assoc, drop_at)
 
 pub whole_appended : {A : Type 0} (old now new : List A) (r : A) → now ≡ old ++ items_after old now → new ≡ now ++ r ∷ [] → new ≡ old ++ items_after old new
 whole_appended old now new r e e' =
@@ -583,9 +525,7 @@ module _ (most : ℕ) where
 -- what `read` writes, as a reply
 pub read_prefix : (queue into old : List ℕ) (n : ℕ) → n ≡ min (length old) (length queue) →
     into ≡ take (length old) queue ++ drop (length queue) old → take n into ≡ take (length old) queue
-read_prefix queue into old n e is =
-    let size : length (take (length old) queue) ≡ n = length-take (length old) queue ∙ sym e in
-    ap (take n) is ∙ take_at (take (length old) queue) (drop (length queue) old) n size
+read_prefix queue into old n e is = grind (arith, nat_tests, length-take, take_at)
 
 -- ---- Stream and convergence: what a receiver gives out is a part of the byte list with which its kept list agrees.
 pub some_of : {A : Type 0} (o : Option A) → is_some o ≡ true → (x : A) × (o ≡ Some x)
@@ -680,9 +620,7 @@ module _ (w : Setting) (x : List ℕ) where
       let b = queued w t in
       let size : (t.read - s.read) + b ≡ missing w t - w.first - s.read = omega arith in
       let seam : s.read + (t.read - s.read) ≡ t.read = omega arith in
-      (λ i. reads s cs all i ++ (queue_agrees t all b (omega arith) ∙ ap (λ n. take b (drop n x)) (sym seam)) i)
-      ∙ take_seam x s.read (t.read - s.read) b
-      ∙ ap (λ n. take n (drop s.read x)) size
+      grind (arith, nat_tests, reads, queue_agrees, take_seam)
 
 -- ---- Recovery: segments that follow on from what is reached, and fit, are all accepted, and reach their ends.
 -- a part that begins at the first missing position is empty or kept
@@ -792,21 +730,7 @@ converge x v u s t d e first agrees agrees' same read =
 
 -- two receivers are the same exactly if the states that they represent are alike
 pub alike_states : (v u : ReceiverState) (s t : KeptState) → Refines v s → Refines u t → IsSameState v u ↔ AreAlike (setting 0 v) s (setting 0 u) t
-alike_states v u s t d e = (
-  (λ h. (
-    h.0,
-    sym d.read ∙ h.1 ∙ e.read,
-    sym (same_next v s d) ∙ (λ i. h.0 i + h.1 i + length (h.2 i)) ∙ same_next u t e,
-    sym d.queue ∙ h.2 ∙ e.queue,
-    sym (same_held_runs v s d) ∙ h.3 ∙ same_held_runs u t e,
-  )),
-  (λ h. (
-    h.0,
-    d.read ∙ h.1 ∙ sym e.read,
-    d.queue ∙ h.3 ∙ sym e.queue,
-    same_held_runs v s d ∙ h.4 ∙ sym (same_held_runs u t e),
-  )),
-)
+alike_states v u s t d e = grind (arith, nat_tests, same_next, same_held_runs)
 
 -- a test that is exact tells states apart
 pub tells_states : (v u : ReceiverState) (b : Bool) → IsTrue b ↔ IsSameState v u → TellsStates v u b

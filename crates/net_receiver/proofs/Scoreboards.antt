@@ -1,34 +1,32 @@
 -- Scoreboards as a base and offsets: their runs and holes, and up to where what isn't reported is lost.
-use Rattle.std.proofs.Common.{cond, ◌≡◌, ℕ, ◌+◌, ◌-◌, ◌<◌, ◌≤◌, min, max, nat_lt, true, false, Bool, List, [], ◌∷◌}
-use Rattle.std.proofs.Common.{All, refl, arith, sym, subst, ◌^◌, ◌&&◌, ◌||◌, ◌++◌, length, length-append, zero, suc}
-use Rattle.std.proofs.Common.{ap, ◌∙◌, nat_le, ◌↔◌, IsTrue, ◌⊎◌, inl, inr, Result, Ok, Err, OnOk, ◌*◌}
+use Rattle.std.proofs.lemmas.Grind.{common_steps}
+use Rattle.net_receiver.proofs.Words.{position_fits, cond, ◌≡◌, ℕ, ◌+◌, ◌-◌, ◌<◌, ◌≤◌, min, max, nat_lt, true, false}
+use Rattle.net_receiver.proofs.Words.{Bool, List, [], ◌∷◌, All, refl, arith, sym, subst, ◌^◌, ◌&&◌, ◌||◌, ◌++◌}
+use Rattle.net_receiver.proofs.Words.{length, length-append, zero, suc, ap, ◌∙◌, nat_le, ◌↔◌, IsTrue, ◌⊎◌, inl, inr}
+use Rattle.net_receiver.proofs.Words.{Result, Ok, Err, ◌*◌, list_any, range_with_len, both_ways, cases_Bool, cases_lt}
+use Rattle.net_receiver.proofs.Words.{false_from_ne_true, nat_tests, All-head, All-tail, Positions, contains}
+use Rattle.net_receiver.proofs.Words.{first_missing, maximal_runs, IsMaximalRun, lies_in, positions, runs, with_range}
+use Rattle.net_receiver.proofs.Words.{shift_up, shift_down, runs_shifted_up, nothing, either, first_missing-is}
+use Rattle.net_receiver.proofs.Words.{first_missing-misses, Rises, same_positions, contains-nothing}
+use Rattle.net_receiver.proofs.Words.{contains-with_range, contains-shift_up, contains-shift_down, first_missing-has}
+use Rattle.net_receiver.proofs.Words.{first_missing-le, maximal_runs-shift_up, IsNextHole, board, reported_by, sizes}
+use Rattle.net_receiver.proofs.Words.{beyond, HasNoRoom, IsSoundBoard, IsSoundScoreboard, length-range_with_len}
+use Rattle.net_receiver.proofs.Words.{MakesTooManyRuns, makes_too_many_runs, TooManyHolesError, IsRising, set_of}
+use Rattle.net_receiver.proofs.Words.{length-runs_of, from_bool, sum_by-cons}
 use Rattle.std.specs.Prelude.{if◌then◌else◌}
-use Rattle.std.specs.List.{count_by, list_any, range_with_len}
-use Rattle.std.proofs.lemmas.Bool.{both_ways, cases_Bool, cases_lt, false_from_ne_true}
-use Rattle.std.proofs.lemmas.Bool.Decides.{nat_tests}
-use Rattle.std.proofs.lemmas.List.Elements.{All-head, All-tail}
-use Rattle.net_assembler.specs.Positions.{Positions, contains, first_missing, maximal_runs, IsMaximalRun, lies_in}
-use Rattle.net_assembler.specs.Positions.{positions, front, runs, with_range, shift_up, shift_down, runs_shifted_up}
-use Rattle.net_assembler.specs.Positions.{nothing}
-use Rattle.net_assembler.proofs.Sets.{either, first_missing-is, first_missing-misses, Rises, positions-set_of_list}
-use Rattle.net_assembler.proofs.Sets.{same_positions, contains-nothing, contains-with_range, contains-shift_up}
-use Rattle.net_assembler.proofs.Sets.{contains-shift_down, first_missing-has, first_missing-le, maximal_runs-shift_up}
+use Rattle.std.specs.List.{count_by}
+use Rattle.net_assembler.specs.Positions.{front}
+use Rattle.net_assembler.proofs.Sets.{positions-set_of_list}
 use Rattle.net_assembler.proofs.Sets.{with_range-none}
-use Rattle.net_assembler.proofs.Runs.{are_maximal_runs, rising-maximal_runs, set_of_maximal_runs}
-use Rattle.net_assembler.proofs.Runs.{rising_from}
-use Rattle.net_receiver.specs.{IsNextHole, board, reported_by, sizes, offsets_of, beyond, IsEnd, HasNoRoom}
-use Rattle.net_receiver.specs.{IsSoundBoard, IsSoundScoreboard, runs_above, tell_loss, IsLossBound, LossesCountAll}
-use Rattle.std.proofs.lemmas.List.FromFn.{length-range_with_len}
-use Rattle.net_assembler.specs.Assembler.{MakesTooManyRuns, makes_too_many_runs}
+use Rattle.net_assembler.proofs.Runs.{are_maximal_runs, rising-maximal_runs, set_of_maximal_runs, rising_from}
+use Rattle.net_receiver.specs.{offsets_of, IsEnd}
+use Rattle.net_receiver.specs.{runs_above, tell_loss, IsLossBound, LossesCountAll}
 use Rattle.net_assembler.specs.AssemblerLaws.{Adds}
-use Rattle.net_assembler.specs.declared.assembler.error.TooManyHolesError.{TooManyHolesError}
-use Rattle.net_assembler.specs.RunLists.{IsRising, run_positions, set_of, set_of_runs}
-use Rattle.net_assembler.proofs.SoundHeads.{maximal_runs-set_of, length-runs_of}
+use Rattle.net_assembler.specs.RunLists.{run_positions, set_of_runs}
+use Rattle.net_assembler.proofs.SoundHeads.{maximal_runs-set_of}
 use Rattle.net_assembler.proofs.ShiftedRuns.{length-up}
 use Rattle.net_receiver.specs.declared.scoreboard_head.ScoreboardHead.{ScoreboardHead}
 use Rattle.net_receiver.proofs.Sets.{IsShiftedUp, runs_shifted, begins_above, ends_below, ends_within}
-use Rattle.std.specs.Int.{from_bool}
-use Rattle.std.proofs.lemmas.List.Sums.{sum_by-cons}
 
 -- ---- The maximal runs of a set as a list of ranges: which positions they have, and where the next hole is.
 -- ---- lists of ranges
@@ -112,27 +110,18 @@ any_counted [] p h = absurd (omega arith)
 any_counted (r ∷ rs) p h = let others = any_counted rs p in grind (arith, nat_tests)
 
 outside : (s : Positions) (p : ℕ) → is_in_run (maximal_runs s) p ≡ false → contains s p ≡ false
-outside s p h =
-    let known = are_maximal_runs s in
-    let counted = any_counted (maximal_runs s) p in
-    let complete = known.complete p in
-    grind arith
+outside s p h = grind (arith, nat_tests, common_steps, are_maximal_runs, any_counted)
 
 -- each position of the set is one of theirs
 pub in_run : (s : Positions) (p : ℕ) → contains s p ≡ true → is_in_run (maximal_runs s) p ≡ true
-in_run s p h =
-    let known = are_maximal_runs s in
-    any_counted (maximal_runs s) p (known.complete p h)
+in_run s p h = grind (arith, nat_tests, common_steps, are_maximal_runs, any_counted)
 
 none_counted : (rs : List (ℕ × ℕ)) (p : ℕ) → is_in_run rs p ≡ false → count_from rs p ≡ 0
 none_counted [] p h = refl
 none_counted (r ∷ rs) p h = let others = none_counted rs p in grind (arith, nat_tests)
 
 pub not_in_run : (s : Positions) (p : ℕ) → contains s p ≡ false → is_in_run (maximal_runs s) p ≡ false
-not_in_run s p h =
-    either (cases_Bool (is_in_run (maximal_runs s) p))
-    (λ on. absurd (both_ways (contains s p) h (inside s (maximal_runs s) p (are_maximal_runs s).maximal on)))
-    (λ off. off)
+not_in_run s p h = grind (arith, nat_tests, inside, are_maximal_runs)
 
 -- the first position from p on that is missing in a set
 pub missing_is : (s : Positions) (p : ℕ) → p + count_from (maximal_runs s) p ≡ first_missing s p
@@ -199,6 +188,9 @@ board_at b s p = grind (arith, boards)
 pub board_from : (b : ℕ) (s : Positions) (p : ℕ) → b ≤ p → contains (board b s) p ≡ contains s (p - b)
 board_from b s p le = grind (arith, boards)
 
+-- whether a position was reported
+pub ruleset in_board = (board_below, board_from, position_fits)
+
 -- nothing is beyond the base
 pub empty_board : (b : ℕ) (s : Positions) → s ≡ nothing → board b s ≡ with_range nothing 0 b
 empty_board b s is =
@@ -219,10 +211,7 @@ pub fit_by_end : (b : ℕ) (s : Positions) (e : ℕ) → IsEnd s e → e ≤ 2 ^
 fit_by_end b s e end fits p has = let l = end.above p has in omega (arith, fits, l)
 
 pub end_fits : (b : ℕ) (s : Positions) (e : ℕ) → IsEnd s e → ((p : ℕ) → IsTrue (contains s p) → b + p + 1 < 2 ^ 64) → e ≤ 2 ^ 64 - 1 - b
-end_fits b s e end fits =
-    either (cases_lt 0 e)
-    (λ some. let l = fits (e - 1) (end.reached some) in omega (arith, l, some))
-    (λ none. omega (arith, none))
+end_fits b s e end fits = grind (arith, nat_tests)
 
 pub beyond_fits : (b : ℕ) (s : Positions) → ((p : ℕ) → IsTrue (contains s p) → b + p + 1 < 2 ^ 64) → (p : ℕ) →
     contains (shift_up s b) p ≡ true → p + 1 < 2 ^ 64
@@ -318,29 +307,17 @@ pub added_fits : (b most : ℕ) (old : Positions) (o n : ℕ) (r : Result (Unit 
 added_fits b most old o n r new added fits word p has =
     either (added_within most old o n r new added p has) (λ h. fits p h) (λ h. omega (arith, h.0, h.1, word))
 
-pub on_ok : {T E P Q : Type 0} (r : Result T E) → (P → Q) → OnOk r P → OnOk r Q
-on_ok (Ok t) f p = f p
-on_ok (Err e) f p = tt
-
 -- ---- an acknowledgement
 -- to shift by a limit, which no position reaches, is to shift by more
 pub shifted_more : (s : Positions) (limit full count : ℕ) → ((p : ℕ) → IsTrue (contains s p) → p < limit) → count ≡ min full limit →
     shift_down s count ≡ shift_down s full
-shifted_more s limit full count below least =
-    either (cases_lt limit full)
-    (λ l.
-    same_positions _ _ (λ q.
-    contains-shift_down s count q ∙ false_from_ne_true _ (λ m. let p = below (q + count) m in omega (arith, p, least, l))
-    ∙ sym (contains-shift_down s full q ∙ false_from_ne_true _ (λ m. let p = below (q + full) m in omega (arith, p, l)))))
-    (λ l. let same : count ≡ full = omega (arith, least, l) in ap (shift_down s) same)
+shifted_more s limit full count below least = grind (arith, nat_tests, same_positions, contains-shift_down, false_from_ne_true)
 
 module _ (b : ℕ) (s : Positions) (next count n : ℕ) (one rest : Positions) (at : b + count ≡ next) (shifted : one ≡ shift_down s count)
     (size : n ≡ front one) (left : rest ≡ shift_down one (front one)) where
   -- what is left is what was beyond
   left_at : (p : ℕ) → contains rest p ≡ contains s (p + n + count)
-  left_at p =
-      ap (λ t. contains t p) left ∙ contains-shift_down one (front one) p ∙ ap (λ t. contains t (p + front one)) shifted
-      ∙ contains-shift_down s count (p + front one) ∙ ap (λ k. contains s (p + k + count)) (sym size)
+  left_at p = grind (arith, nat_tests, contains-shift_down, shifted)
 
   one_at : (p : ℕ) → contains one p ≡ contains s (p + count)
   one_at p = ap (λ t. contains t p) shifted ∙ contains-shift_down s count p
@@ -462,9 +439,7 @@ sizes_up b [] = refl
 sizes_up b (r ∷ rs) = let rest = sizes_up b rs in omega (arith, rest)
 
 pub number_beyond : (b : ℕ) (s : Positions) → contains s 0 ≡ false → sizes (maximal_runs s) ≡ length (positions (beyond (board b s)))
-number_beyond b s begins =
-    sym (sizes_up b (maximal_runs s)) ∙ ap sizes (sym (maximal_runs-shift_up s b)) ∙ sym (number_of (shift_up s b))
-    ∙ ap (λ t. length (positions t)) (sym (beyond_board b s begins))
+number_beyond b s begins = grind (arith, nat_tests, sizes_up, maximal_runs-shift_up, number_of, beyond_board)
 
 sizes_within : (low limit : ℕ) (rs : List (ℕ × ℕ)) → IsRising low rs → All (λ r. r.1 ≤ limit) rs → low ≤ limit → low + sizes rs ≤ limit
 sizes_within low limit [] h all le = omega (arith, le)
@@ -485,10 +460,7 @@ sizes_fit b s fits = let few = sizes_few (2 ^ 64 - 1) s (λ p has. let l = fits 
 
 -- as many runs as are stored
 pub as_many : (h : ScoreboardHead) (rs : List (ℕ × ℕ)) → IsSoundBoard h rs → h.reported.used ≡ length (maximal_runs (beyond (reported_by h rs)))
-as_many h rs sound =
-    let s = set_of h.reported rs in
-    sym (ap (λ t. length (maximal_runs t)) (beyond_board h.base s sound.begins) ∙ ap length (maximal_runs-shift_up s h.base)
-    ∙ length-up h.base (maximal_runs s) ∙ ap length (maximal_runs-set_of h.reported rs sound.runs) ∙ length-runs_of h.reported rs sound.runs)
+as_many h rs sound = grind (arith, nat_tests, beyond_board, maximal_runs-shift_up, length-up, maximal_runs-set_of, length-runs_of)
 
 -- what is true of its positions
 risen : (low : ℕ) (rs : List (ℕ × ℕ)) → IsRising 0 rs → All (λ r. (low < r.0) × (r.0 < r.1)) rs → IsRising (low + 1) rs
@@ -534,11 +506,7 @@ fewer (r ∷ rs) p =
 
 -- fewer runs tell less
 tells_less : (d n : ℕ) (rs : List (ℕ × ℕ)) (p : ℕ) → tell_loss d n rs ≡ false → tell_loss d n (runs_above rs p) ≡ false
-tells_less d n rs p h =
-    let rest = fewer rs p in
-    let one = rest.0 in
-    let two = rest.1 in
-    grind (arith, nat_tests)
+tells_less d n rs p h = grind (arith, nat_tests, fewer)
 
 -- what the code counts tells it or not: most is the product, or as large as a number of 64 bits is
 pub few_tell : (d n count bytes most : ℕ) (rs : List (ℕ × ℕ)) → count ≡ length rs → bytes ≡ sizes rs → most ≤ (d - 1) * n →
@@ -607,20 +575,12 @@ no_hole s p limit start end h le =
 -- ---- which runs are above a position that isn't reported
 -- what is beyond the first missing position
 contains-beyond : (s : Positions) (q : ℕ) → front s ≤ q → contains (beyond s) q ≡ contains s q
-contains-beyond s q from =
-    let up = contains-shift_up (shift_down s (front s)) (front s) q in
-    let down = contains-shift_down s (front s) (q - front s) in
-    let back : q - front s + front s ≡ q = omega (arith, from) in
-    let at = ap (contains s) back in
-    grind (arith, nat_tests)
+contains-beyond s q from = grind (arith, nat_tests, contains-shift_up, contains-shift_down)
 
 -- a run that begins at p or below has no position above p, if it lacks p
 counted_above_one : (r : ℕ × ℕ) (rs : List (ℕ × ℕ)) (p q : ℕ) → count_by (lies_in q) (runs_above rs p) ≡ count_by (lies_in q) rs →
     lies_in p r ≡ false → p < q → count_by (lies_in q) (runs_above (r ∷ rs) p) ≡ count_by (lies_in q) (r ∷ rs)
-counted_above_one r rs p q others h l =
-    let all = sum_by-cons (λ x. cond (lies_in q x) 1 0) r rs in
-    let above = sum_by-cons (λ x. cond (lies_in q x) 1 0) r (runs_above rs p) in
-    grind (arith, nat_tests)
+counted_above_one r rs p q others h l = grind (arith, nat_tests, common_steps, sum_by-cons)
 
 first_lacks : (r : ℕ × ℕ) (rs : List (ℕ × ℕ)) (p : ℕ) → is_in_run (r ∷ rs) p ≡ false → (lies_in p r ≡ false) × (is_in_run rs p ≡ false)
 first_lacks r rs p h = (grind arith, grind arith)

@@ -1,31 +1,31 @@
 -- What a sender lends and has sent, the laws of one whose stream ends, and what a receiver reads of it.
-use Rattle.std.proofs.Common.{◌≡◌, ℕ, ◌+◌, ◌-◌, ◌<◌, ◌≤◌, List, [], length, take, drop, get_or, ◌++◌, ◌∙◌, arith, sym}
-use Rattle.std.proofs.Common.{ap, min, max, length-append, length-drop, Bool, true, false, cond, ◌∷◌, nat_eq, nat_le}
-use Rattle.std.proofs.Common.{refl, subst, append_assoc, append-nil, All, ⊎_elim, length-take, replicate}
-use Rattle.std.proofs.lemmas.Bool.{cases_lt, cond_both, and_parts, leb-true, eqb-true, cond-false}
-use Rattle.std.proofs.lemmas.Bool.Decides.{nat_tests}
+use Rattle.std.proofs.Common.{length-take, replicate}
+use Rattle.std.proofs.lemmas.Bool.{leb-true, eqb-true}
 use Rattle.net_assembler.proofs.Sets.{either}
-use Rattle.std.proofs.lemmas.List.{drop_all, get_or-take, drop-drop, get_or-drop, drop-append-le, nil_from_length}
+use Rattle.std.proofs.lemmas.List.{get_or-take, get_or-drop, drop-append-le}
 use Rattle.std.proofs.lemmas.List.{length-replicate}
-use Rattle.net_receiver.specs.{MatchesStream, MatchesWhatIsThere, sender_state, Sends, end_of, contiguous_end}
-use Rattle.net_receiver.specs.{with_written, sender_from, sender_of, MatchesLonger, FiniteSenderState, first_number}
-use Rattle.net_receiver.specs.{numbers_end, finite_room, finite_sender_of, with_bytes, open_room, has_end_at, accepts}
-use Rattle.net_receiver.specs.{acknowledged_below, SenderCommand, Writes, Closes, Marks, Acknowledges, written_of}
+use Rattle.net_receiver.specs.{numbers_end, has_end_at, accepts}
+use Rattle.net_receiver.specs.{SenderCommand, Writes, Closes, Marks, Acknowledges, written_of}
 use Rattle.net_receiver.specs.{sender_after_command, sender_after_commands, bytes_written, IsLent, IsSoundSent}
-use Rattle.net_receiver.specs.{FreshSentIsSound, SoundSentStays, ClosedStays, LentIsOfStream, MatchesFinite, LendsAt}
+use Rattle.net_receiver.specs.{FreshSentIsSound, SoundSentStays, ClosedStays, LentIsOfStream, LendsAt}
 use Rattle.net_receiver.specs.{IsSoundFiniteSender}
-use Rattle.net_receiver.specs.{next_position, ReceivesFrom, fresh_finite, acknowledged, fresh_finite_sender}
-use Rattle.net_receiver.specs.{FiniteCommand, Arrives, Reads, CommandMatches, finite_after_commands}
+use Rattle.net_receiver.specs.{ReceivesFrom}
+use Rattle.net_receiver.proofs.Words.{◌≡◌, ℕ, ◌+◌, ◌-◌, ◌<◌, ◌≤◌, List, [], length, take, drop, get_or, ◌++◌, ◌∙◌}
+use Rattle.net_receiver.proofs.Words.{arith, sym, ap, min, max, length-append, length-drop, Bool, true, false, cond}
+use Rattle.net_receiver.proofs.Words.{◌∷◌, nat_eq, nat_le, ◌&&◌, refl, subst, append_assoc, append-nil, All, ⊎_elim}
+use Rattle.net_receiver.proofs.Words.{cases_lt, cond_both, and_parts, cond-false, nat_tests, drop_all, drop-drop}
+use Rattle.net_receiver.proofs.Words.{nil_from_length, MatchesStream, MatchesWhatIsThere, sender_state, Sends, end_of}
+use Rattle.net_receiver.proofs.Words.{contiguous_end, with_written, sender_from, sender_of, MatchesLonger}
+use Rattle.net_receiver.proofs.Words.{FiniteSenderState, first_number, finite_room, finite_sender_of, with_bytes}
+use Rattle.net_receiver.proofs.Words.{open_room, acknowledged_below, MatchesFinite, next_position, fresh_finite}
+use Rattle.net_receiver.proofs.Words.{acknowledged, fresh_finite_sender, FiniteCommand, Arrives, Reads, CommandMatches}
+use Rattle.net_receiver.proofs.Words.{finite_after_commands, from_bool, queue, ring_at, length-queue, FiniteSenderHead}
+use Rattle.net_receiver.proofs.Words.{All-head, All-tail, All-weaker, ReceiverState}
+use Rattle.net_receiver.specs.{QueueFromGreatest, acknowledge, acknowledge_each, greatest_within}
 use Rattle.net_receiver.specs.SenderState.{SenderState}
 use Rattle.std.specs.Prelude.{◌↔◌, IsTrue, IsFalse}
-use Rattle.std.specs.Int.{from_bool}
-use Rattle.net_ring.specs.Ring.{queue}
-use Rattle.net_ring.specs.RingHead.{IsSound, ring_at}
-use Rattle.net_ring.proofs.Rotations.{length-queue}
-use Rattle.net_receiver.specs.declared.finite_sender_head.FiniteSenderHead.{FiniteSenderHead}
-use Rattle.net_receiver.proofs.OneStream.{longer_at, matches_what_is_there, queue_of}
-use Rattle.std.proofs.lemmas.List.Elements.{All-head, All-tail, All-weaker}
-use Rattle.net_receiver.specs.ReceiverState.{ReceiverState}
+use Rattle.net_ring.specs.RingHead.{IsSound}
+use Rattle.net_receiver.proofs.OneStream.{matches_longer, matches_what_is_there, queue_of}
 use Rattle.net_receiver.specs.Transfers.{ComesFrom, SaysAtMost, AnyPathCarries}
 use Rattle.net_receiver.proofs.FiniteReceivers.{reads_the_stream, nexts_grow}
 
@@ -43,19 +43,12 @@ lent_says says f w v pos xs s h is =
 -- and each of its bytes is kept there
 pub lent_at : (head pos : ℕ) (queue xs : List ℕ) → head ≤ pos → xs ≡ take (length xs) (drop (pos - head) queue) → (q d : ℕ) →
     pos ≤ q → q < pos + length xs → get_or queue (q - head) d ≡ get_or xs (q - pos) d
-lent_at head pos queue xs h is = λ q d from to.
-    let place : (pos - head) + (q - pos) ≡ q - head = omega arith in
-    sym (ap (λ ys. get_or ys (q - pos) d) is
-    ∙ get_or-take (length xs) (drop (pos - head) queue) (q - pos) d (omega arith)
-    ∙ get_or-drop (pos - head) queue (q - pos) d
-    ∙ ap (λ k. get_or queue k d) place)
+lent_at head pos queue xs h is = grind (arith, nat_tests, get_or-take, get_or-drop)
 
 -- as many bytes are lent as are queued there, at most
 pub lent_within : (v : SenderState) (pos most n : ℕ) → (v.first_unacknowledged ≤ pos → n ≡ min most (contiguous_end v pos - pos)) →
     (pos < v.first_unacknowledged → n ≡ 0) → pos + n ≤ max pos (end_of v)
-lent_within v pos most n count before =
-    either (cases_lt pos v.first_unacknowledged) (λ low. omega (arith, before low))
-    (λ high. let size = count high in let limit : contiguous_end v pos ≤ end_of v = grind (arith, nat_tests) in omega (arith, size, limit))
+lent_within v pos most n count before = grind (arith, nat_tests)
 
 -- what was written is sent after all before
 pub sends_written : (f : ℕ) (w : List ℕ) (v : SenderState) (xs : List ℕ) → Sends f w v → Sends f (w ++ xs) (with_written v xs)
@@ -79,6 +72,42 @@ sends_from f w v n low high s =
 -- nothing was written
 pub fresh_sends : (f capacity : ℕ) → Sends f [] (sender_state capacity f [] (f + capacity))
 fresh_sends f capacity = record { from = omega arith; end = omega arith; queue = sym (drop_all (f - f) [] (omega arith)) }
+
+-- ---- Several acknowledgements.
+-- what acknowledgements leave
+abbrev Follow : SenderState → List ℕ → SenderState → Type 0
+Follow v ns u = (u.first_unacknowledged ≡ greatest_within (end_of v) v.first_unacknowledged ns) × (v.first_unacknowledged ≤ u.first_unacknowledged) × (end_of u ≡ end_of v)
+    × (u.queue ≡ drop (u.first_unacknowledged - v.first_unacknowledged) v.queue)
+
+nothing_dropped : (v : SenderState) → v.queue ≡ drop (v.first_unacknowledged - v.first_unacknowledged) v.queue
+nothing_dropped v = ap (λ k. drop k v.queue) (let e : 0 ≡ v.first_unacknowledged - v.first_unacknowledged = omega arith in e)
+
+one_follows : (v : SenderState) (n : ℕ) → Follow v (n ∷ []) (acknowledge v n)
+one_follows v n =
+    cond_both (nat_le v.first_unacknowledged n && nat_le n (end_of v)) (sender_from v n) v (Follow v (n ∷ []))
+    (λ on.
+    let both = and_parts (nat_le v.first_unacknowledged n) (nat_le n (end_of v)) on in
+    let low = leb-true v.first_unacknowledged n both.0 in
+    let high = leb-true n (end_of v) both.1 in
+    (grind (arith, nat_tests), low, omega (arith, length-drop (n - v.first_unacknowledged) v.queue), refl))
+    (λ off. (grind (arith, nat_tests), omega arith, refl, nothing_dropped v))
+
+all_follow : (v : SenderState) (ns : List ℕ) → Follow v ns (acknowledge_each v ns)
+all_follow v [] = (refl, omega arith, refl, nothing_dropped v)
+all_follow v (n ∷ ns) =
+    let u = acknowledge v n in
+    let here = one_follows v n in
+    let rest = all_follow u ns in
+    let w = acknowledge_each u ns in
+    let place : (u.first_unacknowledged - v.first_unacknowledged) + (w.first_unacknowledged - u.first_unacknowledged) ≡ w.first_unacknowledged - v.first_unacknowledged = omega arith in (
+      rest.0 ∙ (λ i. greatest_within (here.2 i) (here.0 i) ns),
+      omega arith,
+      rest.2 ∙ here.2,
+      rest.3 ∙ ap (drop (w.first_unacknowledged - u.first_unacknowledged)) here.3 ∙ drop-drop (w.first_unacknowledged - u.first_unacknowledged) (u.first_unacknowledged - v.first_unacknowledged) v.queue ∙ ap (λ k. drop k v.queue) place,
+    )
+
+pub queue_from_greatest : QueueFromGreatest
+queue_from_greatest v ns = (let h = all_follow v ns in (h.0, h.2, h.3))
 
 -- ---- The laws of a sender of a stream that ends.
 pub fresh_sent_is_sound : FreshSentIsSound
@@ -209,11 +238,7 @@ closed_stays s (c ∷ cs) f w sound sends =
 module _ (s : FiniteSenderState) (pos limit : ℕ) (xs : List ℕ) where
   -- no byte above the limit is lent, or above the last one
   lent_below : (last : Bool) → IsLent s pos limit xs last → pos + length xs ≤ max pos (min limit (end_of s.sender))
-  lent_below last lent =
-      let none = λ (low : pos < s.sender.first_unacknowledged). ap length (lent.before low) in
-      let written = lent_within s.sender pos (limit - pos) (length xs) lent.count none in
-      let limited : pos + length xs ≤ max pos limit = either (cases_lt pos s.sender.first_unacknowledged) (λ low. omega (arith, none low)) (λ high. omega (arith, lent.count high)) in
-      omega (arith, written, limited)
+  lent_below last lent = grind (arith, nat_tests, lent_within)
 
   -- nor is the end
   pub lent_room : (last : Bool) → IsLent s pos limit xs last → pos ≤ limit → pos + length xs + from_bool last ≤ limit
@@ -285,7 +310,7 @@ lent_later s pos limit xs last lent f w more sends from ended =
 pub lent_is_of_stream : LentIsOfStream
 lent_is_of_stream s cs f w pos xs sound sends low is =
     let ends = λ (on : IsTrue (has_end_at s (pos + length xs))). and_parts (nat_eq s.closed 1) (nat_eq (pos + length xs) (end_of s.sender)) on in
-    matches_later longer f w (bytes_written s cs) pos xs _
+    matches_later matches_longer f w (bytes_written s cs) pos xs _
     (λ on. ((closed_stays s cs f w sound sends).1 (eqb-true s.closed 1 (ends on).0)).1)
     (record {
       bytes = lent_says matches_what_is_there f w s.sender pos xs sends low is;
@@ -378,3 +403,6 @@ any_path_carries N first to_send to_receive ws cs fits from =
                 ∙ drop-drop (n - u.sender.first_unacknowledged) (u.sender.first_unacknowledged - first) x ∙ ap (λ k. drop k x) place,
           ),
     )
+
+-- ---- The lemmas of each law.
+pub ruleset lent_segments_law = (lent_some, lent_room, lent_none, lent_numbers, lent_beyond, lent_written, lent_matches)

@@ -1,30 +1,26 @@
 -- Where a test is first false, lists of a range of positions, kept lists, held bytes as a map, and the runs of a set.
-use Rattle.std.proofs.Common.{◌≡◌, ℕ, ◌<◌, ◌≤◌, Bool, true, false, ⊎_elim, zero, suc, ◌+◌, ◌-◌, min, ◌∷◌, ◌++◌, map}
-use Rattle.std.proofs.Common.{take, drop, refl, sym, ap, ◌∙◌, arith, max, cond, List, [], Option, Some, None, is_some}
-use Rattle.std.proofs.Common.{slice_get, nat_lt, le-leb, lt-ltb, ◌&&◌, ◌||◌, nat_le, ◌≢◌, ◌==◌, length-append, All}
-use Rattle.std.proofs.Common.{subst}
-use Rattle.std.proofs.lemmas.Bool.{cases_order, both_ways, cond-true, cond-false, lt-leb, leb-true, ltb-true}
-use Rattle.std.proofs.lemmas.Bool.{and_parts, and_from, or_right}
-use Rattle.net_assembler.specs.Positions.{Positions, contains, first_missing, runs, maximal_runs, shift_up}
-use Rattle.net_assembler.specs.Positions.{runs_shifted_up, IsMaximalRun}
-use Rattle.net_assembler.proofs.Sets.{first_missing-misses, first_missing-has, first_missing-le, has}
-use Rattle.net_assembler.proofs.Sets.{contains-set_of_list, same_positions, contains-shift_up, runs-shift_up}
-use Rattle.net_assembler.proofs.Sets.{maximal_runs-shift_up}
-use Rattle.std.specs.List.{range_with_len, list_any}
-use Rattle.std.proofs.lemmas.List.{take_min}
-use Rattle.std.proofs.lemmas.List.FromFn.{length-map-range_with_len, take-map-range_with_len}
-use Rattle.std.specs.Option.{option_or}
-use Rattle.std.proofs.lemmas.Bool.Decides.{nat_tests}
-use Rattle.std.proofs.lemmas.Option.{slice_get_cases, none-some, gets}
-use Rattle.std.proofs.lemmas.Grind.{common_steps}
-use Rattle.net_receiver.specs.{Piece, end, piece_byte_at, piece_within, byte_at, is_covered, HeldBytes, domain}
-use Rattle.net_receiver.specs.{with_bytes_at, first_lacking, held_with_piece, receiver_with_piece, next_position}
-use Rattle.net_receiver.specs.{EndBelow}
-use Rattle.net_receiver.specs.ReceiverState.{ReceiverState}
-use Rattle.std.specs.Ordering.{nat_cmp, eq_by_cmp}
-use Rattle.std.specs.Cmp.{nat_cmp_total, unsigned_tied}
-use Rattle.std.proofs.lemmas.List.Elements.{All-tail, All-weaker}
-use Rattle.net_assembler.specs.AssemblerLaws.{MaximalRunsOfEverySet}
+use Rattle.std.proofs.Common.{⊎_elim}
+use Rattle.std.proofs.Common.{max}
+use Rattle.std.proofs.Common.{lt-ltb, ◌≢◌}
+use Rattle.std.proofs.lemmas.Bool.{cases_order, both_ways, leb-true}
+use Rattle.net_assembler.proofs.Sets.{contains-set_of_list, runs-shift_up}
+use Rattle.std.proofs.lemmas.List.FromFn.{take-map-range_with_len}
+use Rattle.net_receiver.specs.{byte_at}
+use Rattle.net_receiver.specs.{with_bytes_at}
+use Rattle.std.specs.Ordering.{eq_by_cmp}
+use Rattle.net_receiver.proofs.Words.{◌≡◌, ℕ, ◌<◌, ◌≤◌, Bool, true, false, zero, suc, ◌+◌, ◌-◌, min, ◌∷◌, ◌++◌, map}
+use Rattle.net_receiver.proofs.Words.{take, drop, refl, sym, ap, ◌∙◌, arith, cond, List, [], Option, Some, None}
+use Rattle.net_receiver.proofs.Words.{is_some, slice_get, nat_lt, le-leb, ◌&&◌, ◌||◌, nat_le, ◌==◌, length-append}
+use Rattle.net_receiver.proofs.Words.{All, subst, cond-true, cond-false, lt-leb, ltb-true, and_parts, and_from}
+use Rattle.net_receiver.proofs.Words.{or_right, Positions, contains, first_missing, runs, maximal_runs, shift_up}
+use Rattle.net_receiver.proofs.Words.{runs_shifted_up, IsMaximalRun, first_missing-misses, first_missing-has}
+use Rattle.net_receiver.proofs.Words.{first_missing-le, has, same_positions, contains-shift_up, maximal_runs-shift_up}
+use Rattle.net_receiver.proofs.Words.{range_with_len, list_any, take_min, length-map-range_with_len, option_or}
+use Rattle.net_receiver.proofs.Words.{nat_tests, slice_get_cases, none-some, gets, common_steps, Piece, end}
+use Rattle.net_receiver.proofs.Words.{piece_byte_at, piece_within, is_covered, HeldBytes, domain, first_lacking}
+use Rattle.net_receiver.proofs.Words.{held_with_piece, receiver_with_piece, next_position, EndBelow, ReceiverState}
+use Rattle.net_receiver.proofs.Words.{nat_cmp, nat_cmp_total, unsigned_tied, All-tail, All-weaker}
+use Rattle.net_receiver.proofs.Words.{MaximalRunsOfEverySet}
 use Rattle.std.specs.FinMap as fin
 
 -- ---- The first place at which a test is false.
@@ -34,10 +30,7 @@ pub record IsFirst (t : ℕ → Bool) (p n : ℕ) : Type 0 where
   pub here : t n ≡ false
 
 pub first_unique : (t : ℕ → Bool) (p m n : ℕ) → IsFirst t p m → IsFirst t p n → m ≡ n
-first_unique t p m n a b =
-    ⊎_elim (λ e. e)
-    (⊎_elim (λ l. absurd (both_ways (t m) a.here (b.before m a.from l))) (λ l. absurd (both_ways (t n) b.here (a.before n b.from l))))
-    (cases_order m n)
+first_unique t p m n a b = grind (arith, nat_tests)
 
 pub missing_is_first : (s : Positions) (p : ℕ) → IsFirst (contains s) p (first_missing s p)
 missing_is_first s p = record { from = first_missing-le s p; before = first_missing-has s p; here = first_missing-misses s p }
@@ -57,10 +50,7 @@ module _ {X : Type 0} (g : ℕ → X) where
   map_range_same h a (suc n) same = λ i. same a (omega arith) (omega arith) i ∷ map_range_same h (a + 1) n (λ q l m. same q (omega arith) (omega arith)) i
 
   pub take_range : (c a n : ℕ) → take c (map g (range_with_len a n)) ≡ map g (range_with_len a (min c n))
-  take_range c a n =
-      sym (take_min c (map g (range_with_len a n)))
-      ∙ (λ i. take (min c (length-map-range_with_len g a n i)) (map g (range_with_len a n)))
-      ∙ take-map-range_with_len g a n (min c n) (omega arith)
+  take_range c a n = grind (arith, nat_tests, common_steps, take_min, length-map-range_with_len, take-map-range_with_len)
 
   pub drop_range : (c a n : ℕ) → drop c (map g (range_with_len a n)) ≡ map g (range_with_len (a + min c n) (n - min c n))
   drop_range zero a n = (let e : n ≡ n - min 0 n = omega arith in let h : a ≡ a + min 0 n = omega arith in λ i. map g (range_with_len (h i) (e i)))
@@ -126,17 +116,11 @@ slice_get-take n xs i = grind (arith, nat_tests, common_steps, gets)
 -- a clip has what the whole has between its limits
 pub clip_byte : (low high : ℕ) (e : Piece) (p : ℕ) →
     piece_byte_at (piece_within low high e) p ≡ cond (nat_le low p && nat_lt p high) (piece_byte_at e p) None
-clip_byte low high e p =
-    let from = slice_get-drop (low - e.start) (take (high - e.start) e.bytes) (p - max e.start low) in
-    let below = slice_get-take (high - e.start) e.bytes (low - e.start + (p - max e.start low)) in
-    grind (arith, nat_tests)
+clip_byte low high e p = grind (arith, nat_tests, slice_get-drop, slice_get-take)
 
 pub clip_at : (low high : ℕ) (e : Piece) (p b : ℕ) → piece_byte_at (piece_within low high e) p ≡ Some b →
     (low ≤ p) × (p < high) × (piece_byte_at e p ≡ Some b)
-clip_at low high e p b is =
-    let both = cond_some _ (piece_byte_at e p) b (sym (clip_byte low high e p) ∙ is) in
-    let within = and_parts _ _ both.0 in
-    (leb-true low p within.0, ltb-true p high within.1, both.1)
+clip_at low high e p b is = grind (arith, nat_tests, cond_some, clip_byte, and_parts, leb-true, ltb-true)
 
 pub covered_push : (k : List Piece) (e : Piece) (p : ℕ) → is_covered k p ≡ true → is_covered (k ++ e ∷ []) p ≡ true
 covered_push k e p h = ap is_some (byte_at_push k e p) ∙ some_or (piece_byte_at e p) (byte_at k p) ∙ or_right _ _ h
@@ -183,9 +167,7 @@ first_lacking_is m n =
 
 -- with a kept part the first missing position is the first one that the laid bytes lack
 pub next_joined : (v : ReceiverState) (part : Piece) → next_position (receiver_with_piece v part) ≡ first_lacking (held_with_piece v part) (next_position v)
-next_joined v part =
-    let from = (first_lacking_is (held_with_piece v part) (next_position v)).from in
-    omega (arith, length-append {A = ℕ}, length-map-range_with_len {X = ℕ})
+next_joined v part = grind (arith, nat_tests, first_lacking_is, length-append, length-map-range_with_len)
 
 -- what is held at positions from n on
 pub get_from : (m : HeldBytes) (n p : ℕ) → fin.get (fin.retain_keys m (λ q. nat_le n q)) p ≡ cond (nat_le n p) (fin.get m p) None
@@ -214,11 +196,7 @@ module _ (v : ReceiverState) (part : Piece) where
   left_has p = ap is_some (get_from laid lacks p) ∙ some_cond (nat_le lacks p) (fin.get laid p)
 
   pub left_above : (p : ℕ) → fin.contains_key (receiver_with_piece v part).held p ≡ true → (lacks < p) × (fin.contains_key laid p ≡ true)
-  left_above p h =
-      let parts = and_parts _ _ (sym (left_has p) ∙ h) in
-      let from = leb-true lacks p parts.0 in
-      let other : lacks ≢ p = λ same. both_ways _ lacking.here (ap (fin.contains_key laid) same ∙ parts.1) in
-      (omega arith, parts.1)
+  left_above p h = grind (arith, nat_tests, and_parts, left_has, leb-true, lacking)
 
 -- ---- The runs of a set that is another one shifted up, and runs below a limit.
 -- t is s shifted up by n

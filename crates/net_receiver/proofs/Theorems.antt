@@ -1,27 +1,36 @@
 -- From what a run did to what is stored to the theorems on schedules, and what is true of every receiver.
-use Rattle.std.proofs.Common.{◌≡◌, ℕ, ◌+◌, ◌-◌, ◌≤◌, ◌<◌, false, nat_le, None, is_some, List, [], map, ◌++◌}
-use Rattle.std.proofs.Common.{length, take, All, refl, sym, ap, subst, ◌∙◌, arith, ⊎_elim, le_refl, ◌⊎◌, inl, inr}
-use Rattle.std.proofs.Common.{suc, Bool, true, cond, ◌∷◌, drop, flat_map, get_or, Option, Some, Result, Ok, Err}
-use Rattle.std.proofs.Common.{leb-true, take_all, length-take, length-drop, get_or-take, get_or-drop, zero, ◌==◌}
-use Rattle.std.proofs.Common.{◌&&◌, ◌||◌, replicate, unwrap_or, slice_get, nat_lt, eqb-true, not, nat_eq, take-add}
-use Rattle.std.proofs.Common.{filter, le_trans, eq-eqb}
-use Rattle.std.specs.List.{range_with_len}
-use Rattle.std.specs.Ordering.{nat_cmp}
-use Rattle.std.proofs.lemmas.Bool.{both_ways, cases_lt, cond-false, and_right, and_parts, cond-true, cond_both}
-use Rattle.std.proofs.lemmas.Bool.{or_left, or_right, false_from_ne_true, ltb-true, ltb-false, or_parts, or_from}
-use Rattle.net_assembler.specs.Positions.{Positions, contains, nothing, runs, maximal_runs, lies_in, IsMaximalRun}
-use Rattle.net_assembler.specs.Positions.{positions, run_starts, begins_run, with_range}
-use Rattle.net_assembler.proofs.Sets.{contains-nothing, same_positions, has, contains-positions}
-use Rattle.net_assembler.proofs.Sets.{contains-with_range, positions_rise, rising_unique}
-use Rattle.net_receiver.specs.{CommandValue, ReplyValue, byte_at, byte, queued, queue, missing, is_held, state_from}
-use Rattle.net_receiver.specs.{SegmentReply, replies, replies_from, step, held_bytes, parts, Setting}
-use Rattle.net_receiver.specs.{KeptState, fresh_kept, bytes_read, IsAccepted, HasRoom, fresh_receiver, setting}
-use Rattle.net_receiver.specs.{Refines, IsSound, domain, receiver_after_commands, receiver_replies}
-use Rattle.net_receiver.specs.{receiver_after_command, receiver_reply, HeldBytes, next_position, first_three}
-use Rattle.net_receiver.specs.{with_sack, numbers, Verdict, state_after, segment_result, Executes, ExecutesFor}
-use Rattle.net_receiver.specs.{SoundRepresents, Piece, piece, end, piece_byte_at, is_covered, piece_within, Segment}
-use Rattle.net_receiver.specs.{Read, Show, FreshIsSound, SoundStays, receiver_with_piece}
-use Rattle.net_receiver.specs.ReceiverState.{ReceiverState}
+use Rattle.std.proofs.Common.{flat_map}
+use Rattle.std.proofs.Common.{replicate}
+use Rattle.std.proofs.Common.{eq-eqb}
+use Rattle.std.proofs.lemmas.Bool.{or_parts, or_from}
+use Rattle.net_assembler.specs.Positions.{runs}
+use Rattle.net_assembler.specs.Positions.{run_starts, begins_run}
+use Rattle.net_receiver.specs.{byte_at, queue}
+use Rattle.net_receiver.specs.{replies, replies_from}
+use Rattle.net_receiver.specs.{ExecutesFor}
+use Rattle.net_receiver.specs.{SoundRepresents}
+use Rattle.net_receiver.specs.{FreshIsSound, SoundStays}
+use Rattle.net_receiver.proofs.Words.{◌≡◌, ℕ, ◌+◌, ◌-◌, ◌≤◌, ◌<◌, ◌^◌, false, nat_le, None, is_some, List, [], map}
+use Rattle.net_receiver.proofs.Words.{◌++◌, length, take, All, refl, sym, ap, subst, ◌∙◌, arith, ⊎_elim, le_refl, ◌⊎◌}
+use Rattle.net_receiver.proofs.Words.{inl, inr, suc, Bool, true, cond, ◌∷◌, drop, get_or, Option, Some, Result, Ok}
+use Rattle.net_receiver.proofs.Words.{Err, leb-true, take_all, length-take, length-drop, get_or-take, get_or-drop}
+use Rattle.net_receiver.proofs.Words.{zero, ◌==◌, ◌&&◌, ◌||◌, unwrap_or, slice_get, nat_lt, eqb-true, not, nat_eq}
+use Rattle.net_receiver.proofs.Words.{take-add, filter, le_trans, range_with_len, nat_cmp, both_ways, cases_lt}
+use Rattle.net_receiver.proofs.Words.{cond-false, and_right, and_parts, cond-true, cond_both, or_left, or_right}
+use Rattle.net_receiver.proofs.Words.{false_from_ne_true, ltb-true, ltb-false, Positions, contains, nothing}
+use Rattle.net_receiver.proofs.Words.{maximal_runs, lies_in, IsMaximalRun, positions, with_range, contains-nothing}
+use Rattle.net_receiver.proofs.Words.{same_positions, has, contains-positions, contains-with_range, positions_rise}
+use Rattle.net_receiver.proofs.Words.{rising_unique, CommandValue, ReplyValue, byte, queued, missing, is_held}
+use Rattle.net_receiver.proofs.Words.{state_from, SegmentReply, step, held_bytes, parts, Fits64Bits, Setting}
+use Rattle.net_receiver.proofs.Words.{KeptState, fresh_kept, bytes_read, IsAccepted, HasRoom, fresh_receiver, setting}
+use Rattle.net_receiver.proofs.Words.{Refines, IsSound, domain, receiver_after_commands, receiver_replies}
+use Rattle.net_receiver.proofs.Words.{receiver_after_command, receiver_reply, HeldBytes, next_position, first_three}
+use Rattle.net_receiver.proofs.Words.{with_sack, numbers, Verdict, state_after, segment_result, Executes, Piece}
+use Rattle.net_receiver.proofs.Words.{piece, end, piece_byte_at, is_covered, piece_within, Segment, Read, Show}
+use Rattle.net_receiver.proofs.Words.{receiver_with_piece, ReceiverState, AllPairs, count_by, ⊤, All-take}
+use Rattle.net_receiver.proofs.Words.{sum_by-cons, TooManyHolesError, MaximalRunsOfEverySet, Kept, KeptBytes}
+use Rattle.net_receiver.proofs.Words.{take_min, length-replicate, take-take, option_or, slice_get_within, nat_tests}
+use Rattle.net_receiver.proofs.Words.{runs-nothing}
 use Rattle.net_receiver.proofs.Schedules.{queued_covered, missing_is, none_of, schedule, settings_kept}
 use Rattle.net_receiver.proofs.Schedules.{after_all_append, replies_append, stream, recover, follows_prefix}
 use Rattle.net_receiver.proofs.Schedules.{has-filter, filter_rises, verdict_by}
@@ -29,22 +38,12 @@ use Rattle.net_receiver.proofs.Sets.{contains-domain, same_both, same_bytes, con
 use Rattle.net_receiver.proofs.Sets.{piece_from, piece_some, piece_at, some_or, option_or-none, piece_has, or_swap}
 use Rattle.net_receiver.proofs.Sets.{lacks, lacking, laid_has, left_has}
 use Rattle.net_receiver.proofs.Places.{get-held_bytes}
-use Rattle.std.specs.Prelude.{AllPairs, count_by, ⊤, is_ok}
-use Rattle.std.proofs.lemmas.List.Elements.{All-take}
-use Rattle.std.proofs.lemmas.List.Sums.{sum_by-cons, sum_by-take-drop}
-use Rattle.net_assembler.specs.declared.assembler.error.TooManyHolesError.{TooManyHolesError}
-use Rattle.net_assembler.specs.AssemblerLaws.{MaximalRunsOfEverySet}
-use Rattle.net_receiver.specs.declared.kept.Kept.{Kept}
-use Rattle.net_receiver.specs.declared.kept.KeptBytes.{KeptBytes}
-use Rattle.net_receiver.specs.Laws.{runs_of_sack, ListsRuns, ReplayCall, Replays, ArePrefixes, Composes}
-use Rattle.std.proofs.lemmas.List.{take_min, length-replicate, take-take}
+use Rattle.std.specs.Prelude.{is_ok}
+use Rattle.std.proofs.lemmas.List.Sums.{sum_by-take-drop}
+use Rattle.net_receiver.specs.Execution.{runs_of_sack, ListsRuns, ReplayCall, Replays, ArePrefixes, Composes}
 use Rattle.net_receiver.specs.HeadlineLaws.{Calls, CallsReply, CallsGoOn, without_runs, KeepReplies, RepliesAre}
-use Rattle.std.specs.Option.{option_or}
-use Rattle.std.proofs.lemmas.Option.{slice_get_within}
 use Rattle.std.specs.Cmp.Lexicographic.{pointwise, bytes_decides}
 use Rattle.net_receiver.specs.WorkedExample.{WorkedSchedule, WorkedRefusal}
-use Rattle.std.proofs.lemmas.Bool.Decides.{nat_tests}
-use Rattle.net_assembler.proofs.Joins.{runs-nothing}
 use Rattle.net_receiver.proofs.Heads.{sound_joined, sound_read}
 use Rattle.std.specs.FinMap as fin
 
@@ -80,9 +79,7 @@ held_none n spare s e = same_bytes _ _ (λ q.
 
 pub fresh_parts : (f : ℕ) (queue spare storage : List ℕ) (s : Positions) → queue ≡ [] → spare ≡ storage → s ≡ nothing →
     parts f 0 queue spare s ≡ fresh_receiver f (length storage)
-fresh_parts f queue spare storage s e e' e'' =
-    let size : length queue + length spare ≡ length storage = (let a = ap length e in let b = ap length e' in omega arith) in
-    λ i. record { first = f; capacity = size i; read = 0; queue = e i; held = held_none (f + 0 + length queue) spare s e'' i }
+fresh_parts f queue spare storage s e e' e'' = grind (arith, nat_tests, held_none)
 
 not_held : (p : ℕ) → fin.contains_key (fin.empty {X = ℕ} {R = nat_cmp}) p ≡ false
 not_held p = ap is_some (fin.get-empty nat_cmp p)
@@ -303,12 +300,7 @@ abbrev single : HeldBytes → ℕ → Piece
 single m k = piece k (held_value m k ∷ [])
 
 single_at : (m : HeldBytes) (k q : ℕ) → piece_byte_at (single m k) q ≡ cond (q == k) (Some (held_value m q)) None
-single_at m k q =
-    piece_cons k (held_value m k) [] q
-    ∙ ap (cond (q == k) (Some (held_value m k))) (same_both _ None)
-    ∙ cond_both (q == k) (Some (held_value m k)) None (λ o. o ≡ cond (q == k) (Some (held_value m q)) None)
-    (λ same. ap (λ j. Some (held_value m j)) (sym (eqb-true q k same)) ∙ sym (cond-true _ _ _ same))
-    (λ other. sym (cond-false _ _ _ other))
+single_at m k q = grind (arith, nat_tests, piece_cons, same_both, eqb-true, cond-true, cond-false)
 
 either : (a b : Bool) (x : ℕ) → option_or (cond b (Some x) None) (cond a (Some x) None) ≡ cond (a || b) (Some x) None
 either true true x = refl
@@ -368,9 +360,7 @@ module _ (most : ℕ) (v : ReceiverState) (sound : IsSound most v) where
       ∙ option_or-none _ ∙ option_or-none _
 
   queued_byte : (p b : ℕ) → p < next_position v → piece_byte_at queue_piece p ≡ Some b → byte_at kept p ≡ Some b
-  queued_byte p b h is =
-      byte_is p
-      ∙ (λ i. option_or (option_or (low p (omega arith) i) (is i)) (piece_byte_at read_piece p))
+  queued_byte p b h is = grind (arith, nat_tests, byte_is)
 
   covered : (p : ℕ) → v.first ≤ p → p < next_position v → is_covered kept p ≡ true
   covered p a b =
@@ -507,10 +497,7 @@ module _ (most : ℕ) (v : ReceiverState) (sound : IsSound most v) (part : Piece
   left_in q = contains-domain _ q ∙ left_has v part q ∙ ap (λ b. nat_le (lacks v part) q && b) (laid_has v part q)
 
   ranged_has : (q : ℕ) → contains ranged q ≡ (is_some (piece_byte_at part q) || fin.contains_key v.held q)
-  ranged_has q =
-      contains-with_range (domain v.held) part.start (length part.bytes) q
-      ∙ (λ i. contains-domain v.held q i || sym (piece_has part q) i)
-      ∙ or_swap (fin.contains_key v.held q) (is_some (piece_byte_at part q))
+  ranged_has q = grind (arith, nat_tests, contains-with_range, contains-domain, piece_has, or_swap)
 
   few_joined : (is_some (piece_byte_at part (next_position v)) ≡ true) ⊎ (runs ranged ≤ most) → runs (domain (receiver_with_piece v part).held) ≤ most
   few_joined which =
@@ -543,3 +530,8 @@ sound_stays most v Show sound = sound
 
 pub fresh_is_sound : FreshIsSound
 fresh_is_sound most first capacity = fresh_sound most first capacity (let none = runs-nothing in omega arith)
+
+-- ---- The lemmas of each law.
+pub ruleset headline_law = (calls_reply, calls_go_on, keep_replies)
+
+pub ruleset worked_schedule_law = (worked_schedule, worked_refusal)

@@ -12,20 +12,40 @@
 --     IsSameFinite s t      what `is_same_state` compares
 --     IsSoundEnd s      what is true of every such receiver
 --     finite_code      what is stored, as a code
+-- The laws of a receiver of a stream that ends.
+--     FiniteCommand      a segment, which is the last one or isn't, or a read
+--     finite_after_commands N s cs, bytes_taken N s cs      what they leave, and the bytes that the reads took
+--     CommandFits c      the segment's end has a position, and an end a number
+--     MatchesFinite f x pos xs last      the segment is one of the stream x, which begins at f, and ends after its
+--         last byte
+--     ReceivesFinite f x s      the receiver took only such segments
+-- The others are laws.
+-- Laws of lists of segments and reads of a receiver of a stream that ends, as those of a receiver's commands.
+--     plain_of s c, plain_commands N s cs      the receiver's commands that they come to
+--     AreAccepted N s cs      no segment is refused
+--     BringsByte cs p, BringsEnd cs e      a segment has the position p; a last one ends at e
+--     Resends N s reach cs      each segment begins at or below the position reached, and ends within the free
+--         window at that time
+--     EndsWithin n c      a segment's end is at most n
+-- The others are laws.
 use Rattle.std.specs.Prelude.{◌≡◌, ℕ, ◌+◌, ◌-◌, ◌<◌, ◌≤◌, ◌^◌, max, min, Bool, ◌&&◌, not, if◌then◌else◌, List, length}
-use Rattle.std.specs.Prelude.{take, nat_lt, nat_le, nat_eq, is_ok, Result, Ok, Err, refl}
+use Rattle.std.specs.Prelude.{take, nat_lt, nat_le, nat_eq, is_ok, Result, Ok, Err, refl, true, IsOk, IsTrue, IsFalse}
+use Rattle.std.specs.Prelude.{[], ◌∷◌, ◌++◌, All, ◌⊎◌}
 use Rattle.std.specs.Coded.{Coded, code_by, coded×, coded_ℕ}
-use Rattle.net_receiver.specs.Parts.{receiver_code}
+use Rattle.net_receiver.specs.ReceiverState.{receiver_code, Segment, verdict, numbers, ReceiverState, domain}
+use Rattle.net_receiver.specs.ReceiverState.{fresh_receiver, next_position, limit_of, receiver_after_command}
+use Rattle.net_receiver.specs.ReceiverState.{receiver_after_read, IsSameState, IsSound, Refines, CommandValue, Read}
+use Rattle.net_receiver.specs.ReceiverState.{setting}
 use Rattle.net_assembler.specs.declared.assembler.error.TooManyHolesError.{TooManyHolesError}
 use Rattle.net_assembler.specs.Positions.{bound_of, positions}
-use Rattle.net_receiver.specs.declared.finite_error.FiniteError.{FiniteError}
-use Rattle.net_receiver.specs.declared.finite_error.FiniteError.TheVariants as errors
+use Rattle.net_receiver.specs.declared.kept.FiniteError.{FiniteError}
 use Rattle.net_receiver.specs.declared.kept.KeptBytes.{KeptBytes}
-use Rattle.net_receiver.specs.KeptList.{piece}
-use Rattle.net_receiver.specs.ReceiverState.{Segment, verdict, numbers, ReceiverState, domain, fresh_receiver}
-use Rattle.net_receiver.specs.ReceiverState.{next_position, limit_of, receiver_after_command, receiver_after_read}
-use Rattle.net_receiver.specs.ReceiverState.{IsSameState}
+use Rattle.net_receiver.specs.Schedule.{piece, is_covered, KeptState, Agrees, bytes_read}
+use Rattle.net_receiver.specs.OneStream.{HasByteAt, MatchesStream, ReceivesFrom}
+use Rattle.net_receiver.specs.Headline.{state_from, replies_from}
+use Rattle.net_receiver.specs.declared.kept.FiniteError.TheVariants as errors
 
+-- ---- A stream that ends, and a receiver of it: what it stores, and where the stream ends.
 -- the greatest number of 64 bits: it is no end's position, since the end has a number after it
 abbrev pub no_end : ℕ
 no_end = 2 ^ 64 - 1
@@ -126,3 +146,194 @@ abbrev pub finite_code : Coded FiniteState
 finite_code =
     code_by (ReceiverState × ℕ) (coded× receiver_code coded_ℕ) (λ s. (s.receiver, s.end))
     (λ p. record { receiver = p.0; end = p.1 }) (λ _. refl)
+
+-- ---- The laws of a receiver of a stream that ends.
+-- ---- lists of segments and reads
+pub data FiniteCommand : Type 0 where
+  Arrives : ℕ → List ℕ → Bool → FiniteCommand
+  Reads : ℕ → FiniteCommand
+
+-- what one leaves
+abbrev pub finite_after_command : ℕ → FiniteState → FiniteCommand → FiniteState
+finite_after_command most_runs s (Arrives pos xs last) = finite_after most_runs s pos xs last
+finite_after_command most_runs s (Reads n) = finite_after_read s n
+
+-- the bytes that one takes
+abbrev pub bytes_of : FiniteState → FiniteCommand → List ℕ
+bytes_of s (Arrives pos xs last) = []
+bytes_of s (Reads n) = take n s.receiver.queue
+
+-- what several leave
+abbrev pub finite_after_commands : ℕ → FiniteState → List FiniteCommand → FiniteState
+finite_after_commands most_runs s [] = s
+finite_after_commands most_runs s (c ∷ cs) = finite_after_commands most_runs (finite_after_command most_runs s c) cs
+
+-- the bytes that the reads among them took, in order
+abbrev pub bytes_taken : ℕ → FiniteState → List FiniteCommand → List ℕ
+bytes_taken most_runs s [] = []
+bytes_taken most_runs s (c ∷ cs) = bytes_of s c ++ bytes_taken most_runs (finite_after_command most_runs s c) cs
+
+-- a segment fits
+abbrev pub CommandFits : FiniteCommand → Type 0
+CommandFits (Arrives pos xs last) = pos + length xs < no_end
+CommandFits (Reads n) = Unit {0}
+
+-- ---- one stream
+-- the bytes are those of the stream, and if it is the last segment it ends where the stream ends
+pub record MatchesFinite (f : ℕ) (x : List ℕ) (pos : ℕ) (xs : List ℕ) (last : Bool) : Type 0 where
+  pub bytes : MatchesStream f x pos xs
+  pub end : IsTrue last → pos + length xs ≡ f + length x
+
+-- so is each segment
+abbrev pub CommandMatches : ℕ → List ℕ → FiniteCommand → Type 0
+CommandMatches f x (Arrives pos xs last) = MatchesFinite f x pos xs last
+CommandMatches f x (Reads n) = Unit {0}
+
+-- the receiver took only segments of the stream
+pub record ReceivesFinite (f : ℕ) (x : List ℕ) (s : FiniteState) : Type 0 where
+  pub bytes : ReceivesFrom f x s.receiver
+  pub end : IsTrue (knows_end s) → s.end ≡ f + length x
+
+-- ---- laws
+-- what is true of every receiver is true of a fresh one, and stays true
+abbrev pub FreshEndIsSound : Type 0
+FreshEndIsSound = (first capacity : ℕ) → first < no_end → IsSoundEnd (fresh_finite first capacity)
+
+abbrev pub SoundEndStays : Type 0
+SoundEndStays = (most_runs : ℕ) (s : FiniteState) (c : FiniteCommand) → IsSoundEnd s →
+    IsSoundEnd (finite_after_command most_runs s c)
+
+-- once the end is known, no segment moves it; once all has arrived, or all was read, that stays so, whatever
+-- arrives later: no byte is queued any more, and the acknowledgement stays
+abbrev pub EndStays : Type 0
+EndStays = (most_runs : ℕ) (s : FiniteState) (cs : List FiniteCommand) → IsSoundEnd s →
+    let t = finite_after_commands most_runs s cs in
+    (IsTrue (knows_end s) → t.end ≡ s.end)
+    × (IsTrue (is_complete s) →
+    IsTrue (is_complete t) × (next_position t.receiver ≡ s.end) × (acknowledged t ≡ s.end + 1))
+    × (IsTrue (has_read_all s) → IsTrue (has_read_all t))
+
+-- a segment of the stream, whose end has a number after it, is never said to end it elsewhere; and each leaves a
+-- receiver that took only such
+abbrev pub SegmentOfStream : Type 0
+SegmentOfStream = (most_runs f : ℕ) (x : List ℕ) (s : FiniteState) (pos : ℕ) (xs : List ℕ) (last : Bool) →
+    ReceivesFinite f x s → MatchesFinite f x pos xs last →
+    (pos + length xs < no_end → IsFalse (has_other_end s (pos + length xs) last))
+    × ReceivesFinite f x (finite_after most_runs s pos xs last)
+
+-- the bytes that were taken, from a fresh receiver on, are those of the stream from its first one on; all of
+-- them once the receiver says so: so the bytes read, and then the end, are the stream
+abbrev pub ReadsTheStream : Type 0
+ReadsTheStream = (most_runs f capacity : ℕ) (x : List ℕ) (cs : List FiniteCommand) → f < no_end →
+    All (CommandMatches f x) cs →
+    let t = finite_after_commands most_runs (fresh_finite f capacity) cs in
+    ReceivesFinite f x t
+    × (bytes_taken most_runs (fresh_finite f capacity) cs ≡ take t.receiver.read x)
+    × (IsTrue (has_read_all t) → bytes_taken most_runs (fresh_finite f capacity) cs ≡ x)
+
+-- the number that an acknowledgement carries never falls
+abbrev pub AcknowledgedGrows : Type 0
+AcknowledgedGrows = (most_runs : ℕ) (s : FiniteState) (cs : List FiniteCommand) → IsSoundEnd s →
+    acknowledged s ≤ acknowledged (finite_after_commands most_runs s cs)
+
+-- the end of an accepted last segment is known, if it isn't above the end of the free window
+abbrev pub EndIsTaken : Type 0
+EndIsTaken = (most_runs : ℕ) (s : FiniteState) (pos : ℕ) (xs : List ℕ) →
+    IsOk (finite_result most_runs s pos xs true) → pos + length xs ≤ limit_of s.receiver →
+    (finite_after most_runs s pos xs true).end ≡ pos + length xs
+
+-- a receiver that has each position below the end has all
+abbrev pub AllBytesComplete : Type 0
+AllBytesComplete = (most_runs : ℕ) (s : FiniteState) → IsSound most_runs s.receiver → IsSoundEnd s →
+    ((p : ℕ) → next_position s.receiver ≤ p → p < s.end → HasByteAt s.receiver p) → IsTrue (is_complete s)
+
+-- two receivers of one stream that kept the same positions, read as much and know the same of the end are the same
+abbrev pub SameEndConverges : Type 0
+SameEndConverges = (x : List ℕ) (s t : FiniteState) (k l : KeptState) → Refines s.receiver k → Refines t.receiver l →
+    s.receiver.first ≡ t.receiver.first → Agrees s.receiver.first k.kept x → Agrees s.receiver.first l.kept x →
+    ((p : ℕ) → is_covered k.kept p ≡ is_covered l.kept p) → k.read ≡ l.read → s.end ≡ t.end → IsSameFinite s t
+
+-- ---- Laws of lists of segments and reads of a receiver of a stream that ends, as those of a receiver's commands.
+-- a segment without its bytes from the end on, or nothing if it says that the stream ends elsewhere
+abbrev pub plain_of : FiniteState → FiniteCommand → List CommandValue
+plain_of s (Arrives pos xs last) =
+    if has_other_end s (pos + length xs) last then [] else Segment pos (below_end s pos xs) ∷ []
+plain_of s (Reads n) = Read n ∷ []
+
+abbrev pub plain_commands : ℕ → FiniteState → List FiniteCommand → List CommandValue
+plain_commands most_runs s [] = []
+plain_commands most_runs s (c ∷ cs) = plain_of s c ++ plain_commands most_runs (finite_after_command most_runs s c) cs
+
+-- no segment is refused
+abbrev pub AreAccepted : ℕ → FiniteState → List FiniteCommand → Type 0
+AreAccepted most_runs s [] = Unit {0}
+AreAccepted most_runs s (Arrives pos xs last ∷ cs) =
+    IsOk (finite_result most_runs s pos xs last) × AreAccepted most_runs (finite_after most_runs s pos xs last) cs
+AreAccepted most_runs s (Reads n ∷ cs) = AreAccepted most_runs (finite_after_read s n) cs
+
+-- a segment of cs has the position p
+abbrev pub BringsByte : List FiniteCommand → ℕ → Type 0
+BringsByte [] p = ⊥
+BringsByte (Arrives pos xs last ∷ cs) p = ((pos ≤ p) × (p < pos + length xs)) ⊎ BringsByte cs p
+BringsByte (Reads n ∷ cs) p = BringsByte cs p
+
+-- a last segment ends at e
+abbrev pub BringsEnd : List FiniteCommand → ℕ → Type 0
+BringsEnd [] e = ⊥
+BringsEnd (Arrives pos xs last ∷ cs) e = (IsTrue last × (pos + length xs ≡ e)) ⊎ BringsEnd cs e
+BringsEnd (Reads n ∷ cs) e = BringsEnd cs e
+
+-- each segment begins at or below the position reached, and ends within the free window at that time
+abbrev pub Resends : ℕ → FiniteState → ℕ → List FiniteCommand → Type 0
+Resends most_runs s reach [] = Unit {0}
+Resends most_runs s reach (Arrives pos xs last ∷ cs) =
+    (pos ≤ reach) × (pos + length xs ≤ limit_of s.receiver)
+    × Resends most_runs (finite_after most_runs s pos xs last) (max reach (pos + length xs)) cs
+Resends most_runs s reach (Reads n ∷ cs) = Resends most_runs (finite_after_read s n) reach cs
+
+-- a segment's end is at most n
+abbrev pub EndsWithin : ℕ → FiniteCommand → Type 0
+EndsWithin n (Arrives pos xs last) = pos + length xs ≤ n
+EndsWithin n (Reads m) = Unit {0}
+
+-- ---- laws
+-- the bytes are those of a schedule: so the headline is true of them, and each byte read or queued is that of
+-- the last segment that kept its position
+abbrev pub FiniteSchedules : Type 0
+FiniteSchedules = (most_runs : ℕ) (s : FiniteState) (k : KeptState) (cs : List FiniteCommand) → Refines s.receiver k →
+    let w = setting most_runs s.receiver in
+    Refines (finite_after_commands most_runs s cs).receiver
+    (state_from w k (plain_commands most_runs s cs))
+    × (bytes_taken most_runs s cs ≡ bytes_read (replies_from w k (plain_commands most_runs s cs)))
+
+-- if segments cover all missing positions up to an end within the free window, in any order and however they
+-- overlap, and none is refused, the first missing position is then not below it, unless the stream ends before;
+-- and if one says that the stream ends there, all has arrived
+abbrev pub FiniteCompletes : Type 0
+FiniteCompletes = (most_runs : ℕ) (s : FiniteState) (cs : List FiniteCommand) (end : ℕ) →
+    IsSound most_runs s.receiver → IsSoundEnd s → AreAccepted most_runs s cs → end < no_end →
+    end ≤ limit_of s.receiver → ((p : ℕ) → next_position s.receiver ≤ p → p < end → BringsByte cs p) →
+    let t = finite_after_commands most_runs s cs in
+    (end ≤ t.end → end ≤ next_position t.receiver)
+    × (BringsEnd cs end → (t.end ≡ end) × IsTrue (is_complete t))
+
+-- segments of the stream that begin at or below the position reached, from the first missing one on, and end
+-- within the free window are all accepted, and then no end of them is missing; with the last one all has arrived
+abbrev pub FiniteRecovers : Type 0
+FiniteRecovers = (most_runs f : ℕ) (x : List ℕ) (s : FiniteState) (cs : List FiniteCommand) → IsSoundEnd s →
+    ReceivesFinite f x s → All CommandFits cs → All (CommandMatches f x) cs →
+    Resends most_runs s (next_position s.receiver) cs →
+    let t = finite_after_commands most_runs s cs in
+    AreAccepted most_runs s cs × All (EndsWithin (next_position t.receiver)) cs
+    × (BringsEnd cs (f + length x) → IsTrue (is_complete t))
+
+-- after any segments of a stream and any reads, such segments up to its end, and a read of what is queued then,
+-- the stream was read
+abbrev pub ResentIsRead : Type 0
+ResentIsRead = (most_runs f capacity n : ℕ) (x : List ℕ) (before cs : List FiniteCommand) → f < no_end →
+    All (CommandMatches f x) before → All CommandFits cs → All (CommandMatches f x) cs →
+    let s = finite_after_commands most_runs (fresh_finite f capacity) before in
+    let t = finite_after_commands most_runs s cs in
+    Resends most_runs s (next_position s.receiver) cs → BringsEnd cs (f + length x) → length t.receiver.queue ≤ n →
+    IsTrue (has_read_all (finite_after_read t n))
+    × (bytes_taken most_runs (fresh_finite f capacity) (before ++ cs ++ Reads n ∷ []) ≡ x)

@@ -6,7 +6,7 @@
 --     finite_storage_after h xs rs pos bytes last      the storage after a segment
 use Rattle.std.specs.Prelude.{ℕ, ◌+◌, ◌-◌, ◌<◌, ◌≤◌, List, length, Bool, nat_eq, if◌then◌else◌}
 use Rattle.net_receiver.specs.declared.finite_receiver_head.FiniteReceiverHead.{FiniteReceiverHead}
-use Rattle.net_receiver.specs.KeptList.{piece}
+use Rattle.net_receiver.specs.Schedule.{piece}
 use Rattle.net_receiver.specs.ReceiverState.{verdict}
 use Rattle.net_receiver.specs.Head.{receiver_of, top_at, HasSoundParts, storage_after}
 use Rattle.net_receiver.specs.Finite.{FiniteState, no_end, has_other_end, below_end}

@@ -11,7 +11,7 @@ use Rattle.net_receiver.specs.declared.kept.Kept.{Kept}
 use Rattle.net_receiver.specs.declared.kept.KeptBytes.{KeptBytes}
 use Rattle.net_receiver.specs.Headline.{Setting, CommandValue, Segment, Show, ReplyValue, SegmentReply, ShowReply}
 use Rattle.net_receiver.specs.Headline.{queue, replies, state}
-use Rattle.net_receiver.specs.KeptList.{piece}
+use Rattle.net_receiver.specs.Schedule.{piece}
 use Rattle.net_receiver.specs.ReceiverState.{numbers, verdict, ReceiverState, fresh_receiver, receiver_after_command}
 use Rattle.net_receiver.specs.ReceiverState.{receiver_reply, next_position, domain}
 use Rattle.net_assembler.specs.Positions.{maximal_runs}

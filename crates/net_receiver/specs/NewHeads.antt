@@ -14,8 +14,7 @@ use Rattle.net_receiver.specs.Head.{receiver_of, HasSoundParts}
 use Rattle.net_receiver.specs.ReceiverState.{fresh_receiver}
 use Rattle.net_receiver.specs.Finite.{fresh_finite}
 use Rattle.net_receiver.specs.FiniteHead.{finite_of, HasSoundFinite}
-use Rattle.net_receiver.specs.SenderState.{sender_state}
-use Rattle.net_receiver.specs.SenderHeads.{sender_of, IsSoundHead}
+use Rattle.net_receiver.specs.SenderState.{sender_state, sender_of, IsSoundHead}
 use Rattle.net_receiver.specs.Scoreboards.{reported_by, IsSoundBoard}
 use Rattle.net_receiver.specs.FiniteSender.{fresh_finite_sender, finite_sender_of, IsSoundFiniteSender}
 

@@ -6,12 +6,21 @@
 --     with_starts ps rs      the starts of these runs over the first of the positions ps
 --     IsNamed ps n run      one of the first n of these positions is in the run
 --     AreNewestRuns k held ps list      what is true of it, by the law `NewestRunsAreListed`
+-- The order in which several calls of `newest_runs` list runs: the newest first.
+--     Calls      calls, each with what is held then and a position, the last one first
+--     recent_after k ps calls      what they leave of the positions ps
+--     StayTogether before after      held positions of one run stay held together, or go together
+--     AllStayTogether calls      they do so from each call to the next one
+--     IsHeldSince calls b p      p is held at the call b calls before the last one, and at each one after it
+-- The others are laws.
 use Rattle.std.specs.Prelude.{◌≡◌, ◌⊎◌, ℕ, ◌<◌, ◌≤◌, if◌then◌else◌, List, [], ◌∷◌, ◌++◌, map, length, take, drop}
 use Rattle.std.specs.Prelude.{slice_get, Option, Some, IsTrue, All, count_by}
 use Rattle.std.specs.List.{find, list_any}
 use Rattle.std.specs.Option.{option_to_list}
 use Rattle.net_assembler.specs.Positions.{Positions, contains, maximal_runs, lies_in, IsMaximalRun}
+use Rattle.net_receiver.specs.ReceiverState.{CommandValue, ReceiverState, IsSound, domain, receiver_after_commands}
 
+-- ---- The held runs in the order in which a selective acknowledgement lists them: the newest first.
 -- the maximal run in which p is, if p is held
 abbrev pub run_at : Positions → ℕ → Option (ℕ × ℕ)
 run_at held p = find (lies_in p) (maximal_runs held)
@@ -62,3 +71,47 @@ pub record AreNewestRuns (k : ℕ) (held : Positions) (ps : List ℕ) (list : Li
 -- `newest_runs` lists them
 abbrev pub NewestRunsAreListed : Type 0
 NewestRunsAreListed = (k : ℕ) (held : Positions) (ps : List ℕ) → AreNewestRuns k held ps (newest_runs k held ps)
+
+-- ---- The order in which several calls of `newest_runs` list runs: the newest first.
+-- calls, each with what is held then and a position, the last one first
+abbrev pub Calls : Type 0
+Calls = List (Positions × ℕ)
+
+-- the positions that they leave of ps
+abbrev pub recent_after : ℕ → List ℕ → Calls → List ℕ
+recent_after k ps [] = ps
+recent_after k ps (call ∷ calls) =
+    with_starts (recent_after k ps calls) (newest_runs k call.0 (call.1 ∷ recent_after k ps calls))
+
+-- if one position of a run is held afterwards, so are all of that run
+abbrev pub StayTogether : Positions → Positions → Type 0
+StayTogether before after = (run : ℕ × ℕ) (p q : ℕ) → IsMaximalRun before run →
+    IsTrue (lies_in p run) → IsTrue (lies_in q run) → IsTrue (contains after p) → IsTrue (contains after q)
+
+-- this is true from each call to the next one
+abbrev pub AllStayTogether : Calls → Type 0
+AllStayTogether [] = Unit {0}
+AllStayTogether (call ∷ []) = Unit {0}
+AllStayTogether (call ∷ before ∷ calls) = StayTogether before.0 call.0 × AllStayTogether (before ∷ calls)
+
+-- the position is held at the call b calls before the last one, and at each one after it
+abbrev pub IsHeldSince : Calls → ℕ → ℕ → Type 0
+IsHeldSince calls b p =
+    (a : ℕ) (call : Positions × ℕ) → a ≤ b → slice_get calls a ≡ Some call → IsTrue (contains call.0 p)
+
+-- ---- laws
+-- the last call lists the run of the position asked for b calls before, if it has been held since and neither
+-- k nor the length of ps is less; and before it only runs of positions that were asked for later. So what is
+-- listed is in the order of RFC 2018, section 4
+abbrev pub NewestAreFirst : Type 0
+NewestAreFirst = (k b : ℕ) (ps : List ℕ) (last call : Positions × ℕ) (calls : Calls) → AllStayTogether (last ∷ calls) →
+    b < k → b ≤ length ps → slice_get (last ∷ calls) b ≡ Some call → IsHeldSince (last ∷ calls) b call.1 →
+    let list = newest_runs k last.0 (last.1 ∷ recent_after k ps calls) in
+    IsListedBy list b call.1
+    × ((i j : ℕ) (q r : ℕ × ℕ) → i < j → slice_get list i ≡ Some q → slice_get list j ≡ Some r →
+    IsTrue (lies_in call.1 r) → IsNamed (map (λ c. c.1) (last ∷ calls)) b q)
+
+-- what a receiver holds stays together, whatever commands it executes
+abbrev pub HeldStayTogether : Type 0
+HeldStayTogether = (most_runs : ℕ) (v : ReceiverState) (cs : List CommandValue) → IsSound most_runs v →
+    StayTogether (domain v.held) (domain (receiver_after_commands most_runs v cs).held)

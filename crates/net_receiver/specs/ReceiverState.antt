@@ -14,22 +14,45 @@
 --     Refines v s      what is stored represents a schedule's state
 --     IsSameState v u      what `same_state` compares
 -- The commands, the replies and the schedules' states are those of `Headline.antt`, which says what the rules come to.
-use Rattle.std.specs.Prelude.{◌≡◌, ℕ, ◌+◌, ◌-◌, ◌≤◌, ◌<◌, ◌&&◌, not, min, true, List, [], ◌∷◌, ◌++◌, map, take}
-use Rattle.std.specs.Prelude.{length, drop, nat_eq, nat_le, unwrap_or, is_some, if◌then◌else◌, None, Result, Ok, Err}
+-- How a ring and a set of offsets represent what a receiver stores.
+--     held_bytes s n spare      the bytes of the spare part at the offsets of s, counted from n
+--     parts f r queue spare s      what is stored
+--     Fits64Bits v      its positions stay within 64 bits
+--     EndBelow limit rs      runs that end below a limit
+--     receiver_code      what is stored, as a code
+-- Where the queued bytes are in the storage, and how many of them are contiguous.
+--     index_of v i      the index of the stream's byte number i
+--     contiguous_count v      how many bytes of the queue are contiguous, from the first one on
+--     contiguous_count_from v o n      how many are, of at most n bytes of the queue from byte o on
+--     first_part v, second_part v      the queue's two parts, each of them contiguous
+--     IsReadAt g i      the ring g is read where the stream's byte number i is
+-- What happens to one segment, whose bytes in the free window are xs.
+--     KeepsOrRefuses v xs u r      xs is kept, or nothing changes
+--     JoinsQueue v xs u r      xs is kept and joins the queue
+--     existing p xs      the bytes of a segment at p that are below position 2 ^ 64 - 1: no stream has others
+--     count_between next limit held p n      of the positions of n bytes at p, how many from next on and below limit aren't held
+--     new_count v p n      how many bytes of a segment of n bytes at p would be new
+use Rattle.std.specs.Prelude.{◌≡◌, ℕ, ◌+◌, ◌-◌, ◌≤◌, ◌<◌, ◌&&◌, not, min, true, List, [], ◌∷◌, ◌++◌, map, take, length}
+use Rattle.std.specs.Prelude.{drop, nat_eq, nat_le, unwrap_or, is_some, if◌then◌else◌, None, Result, Ok, Err, ◌^◌, All}
+use Rattle.std.specs.Prelude.{slice_index, refl, ◌%◌, IsOk, IfOk, OnErr, nat_lt, count_by}
 use Rattle.std.specs.List.{range_with_len}
 use Rattle.std.specs.Ordering.{nat_cmp}
-use Rattle.std.specs.FinMap as fin
 use Rattle.net_assembler.specs.Assembler.{makes_too_many_runs}
-use Rattle.net_assembler.specs.Positions.{Positions, set_of_list, first_missing, runs, maximal_runs}
+use Rattle.net_assembler.specs.Positions.{Positions, set_of_list, first_missing, runs, maximal_runs, positions}
+use Rattle.net_assembler.specs.Positions.{contains}
 use Rattle.net_assembler.specs.declared.assembler.error.TooManyHolesError.{TooManyHolesError}
 use Rattle.net_receiver.specs.declared.kept.Kept.{Kept}
 use Rattle.net_receiver.specs.declared.kept.KeptBytes.{KeptBytes}
 use Rattle.net_receiver.specs.Headline.{queue, is_held}
-use Rattle.net_receiver.specs.KeptList.{Piece, piece, piece_byte_at, piece_within, byte_at}
-use Rattle.net_receiver.specs.Schedule.{Setting, KeptState, HasRoom}
+use Rattle.net_receiver.specs.Schedule.{Piece, piece, piece_byte_at, piece_within, byte_at, Setting, KeptState}
+use Rattle.net_receiver.specs.Schedule.{HasRoom}
+use Rattle.std.specs.Coded.{Coded, code_by, coded×, coded_list, coded_ℕ}
+use Rattle.net_ring.specs.Ring.{RingState}
 pub use Rattle.net_receiver.specs.Headline.{CommandValue, Segment, Read, Show, ReplyValue, SegmentReply, ReadReply}
 pub use Rattle.net_receiver.specs.Headline.{ShowReply, first_three}
+use Rattle.std.specs.FinMap as fin
 
+-- ---- What a receiver stores, the rules by which a command changes it, and the relation of it to a schedule's state.
 -- held bytes by their positions
 abbrev pub HeldBytes : Type 0
 HeldBytes = fin.FinMap nat_cmp ℕ
@@ -218,3 +241,101 @@ FreshIsSound = (most_runs first capacity : ℕ) → IsSound most_runs (fresh_rec
 abbrev pub SoundStays : Type 0
 SoundStays = (most_runs : ℕ) (v : ReceiverState) (c : CommandValue) →
     IsSound most_runs v → IsSound most_runs (receiver_after_command most_runs v c)
+
+-- ---- How a ring and a set of offsets represent what a receiver stores.
+-- the bytes of the spare part at the offsets of a set, by their positions
+abbrev pub held_bytes : Positions → ℕ → List ℕ → HeldBytes
+held_bytes s n spare = fin.from_entries (map (λ p. (n + p, slice_index spare p)) (positions s))
+
+-- what a receiver of these numbers, queue, spare part and offsets stores
+abbrev pub parts : ℕ → ℕ → List ℕ → List ℕ → Positions → ReceiverState
+parts f r queue spare s = record {
+  first = f;
+  capacity = length queue + length spare;
+  read = r;
+  queue = queue;
+  held = held_bytes s (f + r + length queue) spare;
+}
+
+-- positions stay within 64 bits
+pub record Fits64Bits (v : ReceiverState) : Type 0 where
+  pub next : next_position v < 2 ^ 64
+  pub held : (p : ℕ) → fin.contains_key v.held p ≡ true → p + 1 < 2 ^ 64
+
+-- each run is a pair (start, end) that rises, and ends below a limit
+abbrev pub EndBelow : ℕ → List (ℕ × ℕ) → Type 0
+EndBelow limit rs = All (λ r. (r.0 < r.1) × (r.1 < limit)) rs
+
+-- what is stored, as the tuple of its fields
+abbrev pub receiver_code : Coded ReceiverState
+receiver_code =
+    code_by (ℕ × (ℕ × (ℕ × (List ℕ × HeldBytes))))
+    (coded× coded_ℕ (coded× coded_ℕ (coded× coded_ℕ
+    (coded× (coded_list coded_ℕ) (fin.code coded_ℕ coded_ℕ)))))
+    (λ v. (v.first, (v.capacity, (v.read, (v.queue, v.held)))))
+    (λ p. record {
+      first = p.0;
+      capacity = p.1.0;
+      read = p.1.1.0;
+      queue = p.1.1.1.0;
+      held = p.1.1.1.1;
+    })
+    (λ _. refl)
+
+-- ---- Where the queued bytes are in the storage, and how many of them are contiguous.
+-- the index of the stream's byte number i, counted from 0: the storage is filled in order, and from
+-- its beginning on again once its end is reached
+abbrev pub index_of : ReceiverState → ℕ → ℕ
+index_of v i = i % v.capacity
+
+-- how many bytes of the queue are contiguous, from the first one on
+abbrev pub contiguous_count : ReceiverState → ℕ
+contiguous_count v = min (length v.queue) (v.capacity - index_of v v.read)
+
+-- of at most n bytes of the queue from byte o on, how many are contiguous; none if o is past the
+-- queue
+abbrev pub contiguous_count_from : ReceiverState → ℕ → ℕ → ℕ
+contiguous_count_from v o n = min n (min (length v.queue - o) (v.capacity - index_of v (v.read + o)))
+
+-- the bytes of the queue up to the storage's end
+abbrev pub first_part : ReceiverState → List ℕ
+first_part v = take (contiguous_count v) v.queue
+
+-- those from its beginning on: the rest of the queue after the first part
+abbrev pub second_part : ReceiverState → List ℕ
+second_part v = drop (contiguous_count v) v.queue
+
+-- a ring is read at the index of the stream's byte number i
+abbrev pub IsReadAt : RingState ℕ → ℕ → Type 0
+IsReadAt g i = 0 < length g.storage → g.read_at ≡ i % length g.storage
+
+-- ---- What happens to one segment, whose bytes in the free window are xs.
+-- any segment: a refused one changes nothing, of any other xs is kept; the first missing position
+-- moves up by as many positions as bytes join the queue, and nothing is read
+pub record KeepsOrRefuses (v : ReceiverState) (xs : List ℕ) (u : ReceiverState)
+    (r : Result Kept TooManyHolesError) : Type 0 where
+  pub refused : OnErr r (u ≡ v)
+  pub kept : IfOk r (λ k. k.kept ≡ length xs)
+  pub queued : IfOk r (λ k. next_position u ≡ next_position v + k.queued)
+  pub grows : next_position v ≤ next_position u
+  pub read : u.read ≡ v.read
+
+-- one that begins at or below the first missing position: it is accepted, and the queue then goes
+-- on with xs, and with what was held after it
+pub record JoinsQueue (v : ReceiverState) (xs : List ℕ) (u : ReceiverState)
+    (r : Result Kept TooManyHolesError) : Type 0 where
+  pub accepted : IsOk r
+  pub joins : IfOk r (λ k. k.kept ≤ k.queued)
+  pub appends : u.queue ≡ v.queue ++ xs ++ drop (length v.queue + length xs) u.queue
+
+abbrev pub existing : ℕ → List ℕ → List ℕ
+existing p xs = take (2 ^ 64 - 1 - p) xs
+
+-- of the positions of n bytes at p, those from `next` on and below `limit` that aren't held
+abbrev pub count_between : ℕ → ℕ → Positions → ℕ → ℕ → ℕ
+count_between next limit held p n =
+    count_by (λ q. nat_le next q && nat_lt q limit && not (contains held q)) (range_with_len p n)
+
+-- of the positions of a segment of n bytes at p, those in the free window whose bytes are not held
+abbrev pub new_count : ReceiverState → ℕ → ℕ → ℕ
+new_count v p n = count_between (next_position v) (limit_of v) (domain v.held) p n

@@ -9,15 +9,25 @@
 --     IsSoundScoreboard n s      what is true of its positions, if n runs have room
 --     IsEnd s n      n is the position after the last one
 --     IsNextHole s p limit start end      the first range of positions from p on, below the limit, that s lacks
-use Rattle.std.specs.Prelude.{◌≡◌, ℕ, ◌+◌, ◌-◌, ◌<◌, ◌≤◌, ◌^◌, min, List, [], ◌∷◌, length, IsTrue, IsFalse}
+-- Which positions of a sender are lost, by the rule of RFC 6675, section 4.
+--     runs_above rs p      those of some runs that start above position p
+--     tell_loss duplicates size rs      there are enough runs to tell that what is below them is lost
+--     is_lost duplicates size s p      what isn't reported at position p is lost
+--     IsLossBound duplicates size s limit      it is so exactly at the positions below the limit
+--     LossesCountAll      which runs are above a position that isn't reported
+--     IsHole s p limit hole      the first range of positions from p on, below the limit, that s lacks, if there is one
+use Rattle.std.specs.Prelude.{◌≡◌, ℕ, ◌+◌, ◌-◌, ◌<◌, ◌≤◌, ◌^◌, min, List, [], ◌∷◌, length, IsTrue, IsFalse, ◌*◌, ◌↔◌}
+use Rattle.std.specs.Prelude.{◌||◌, max, nat_le, nat_lt, Bool, if◌then◌else◌, count_by, Option, Some, None}
 use Rattle.net_assembler.specs.Assembler.{MakesTooManyRuns}
 use Rattle.net_assembler.specs.Positions.{Positions, contains, first_missing, front, maximal_runs, with_range}
-use Rattle.net_assembler.specs.Positions.{shift_up, shift_down}
+use Rattle.net_assembler.specs.Positions.{shift_up, shift_down, lies_in}
 use Rattle.net_assembler.specs.RunLists.{set_of, HasSoundRuns, IsRising}
-use Rattle.net_receiver.specs.Parts.{EndBelow}
+use Rattle.net_receiver.specs.ReceiverState.{EndBelow}
 use Rattle.net_receiver.specs.SequenceNumbers.{IsNamed}
 use Rattle.net_receiver.specs.declared.scoreboard_head.ScoreboardHead.{ScoreboardHead}
+use Rattle.std.specs.Int.{from_bool}
 
+-- ---- What a sender sends again: the holes of the positions that were reported to it.
 -- all positions below a base, and those at offsets that are counted from it
 abbrev pub board : ℕ → Positions → Positions
 board base offsets = with_range (shift_up offsets base) 0 base
@@ -84,3 +94,33 @@ pub record IsNextHole (s : Positions) (p limit start end : ℕ) : Type 0 where
   pub within : end ≤ limit
   pub missing : (q : ℕ) → start ≤ q → q < end → IsFalse (contains s q)
   pub ended : end < limit → IsTrue (contains s end)
+
+-- ---- Which positions of a sender are lost, by the rule of RFC 6675, section 4.
+-- the runs that start above p
+abbrev pub runs_above : List (ℕ × ℕ) → ℕ → List (ℕ × ℕ)
+runs_above [] p = []
+runs_above (r ∷ rs) p = if nat_lt p r.0 then r ∷ runs_above rs p else runs_above rs p
+
+-- there are as many as duplicates that tell a loss (1 at least), or they have more positions than as many segments of
+-- full size less one
+abbrev pub tell_loss : ℕ → ℕ → List (ℕ × ℕ) → Bool
+tell_loss duplicates size rs = nat_le (max 1 duplicates) (length rs) || nat_lt ((duplicates - 1) * size) (sizes rs)
+
+-- the runs that were reported above p tell it
+abbrev pub is_lost : ℕ → ℕ → Positions → ℕ → Bool
+is_lost duplicates size s p = tell_loss duplicates size (runs_above (maximal_runs (beyond s)) p)
+
+-- the limit bounds the positions of which it is so
+abbrev pub IsLossBound : ℕ → ℕ → Positions → ℕ → Type 0
+IsLossBound duplicates size s limit = (p : ℕ) → (p < limit) ↔ IsTrue (is_lost duplicates size s p)
+
+-- above a position p that isn't reported, each reported position is in one of the runs that start above p, and no
+-- other position is in any
+abbrev pub LossesCountAll : Type 0
+LossesCountAll = (s : Positions) (p q : ℕ) → IsFalse (contains s p) → p < q →
+    count_by (lies_in q) (runs_above (maximal_runs (beyond s)) p) ≡ from_bool (contains s q)
+
+-- the next hole, or none below the limit
+abbrev pub IsHole : Positions → ℕ → ℕ → Option (ℕ × ℕ) → Type 0
+IsHole s p limit (Some hole) = IsNextHole s p limit hole.0 hole.1 × (hole.0 < hole.1)
+IsHole s p limit None = IsNextHole s p limit limit limit

@@ -9,9 +9,16 @@
 --     acknowledge_each v ns      the sender once several acknowledgements arrived
 --     QueueFromGreatest      a law on several acknowledgements
 --     Sends f w v      w was written to a sender, its first byte at position f
+-- A sender in parts: a head of numbers, and the storage of its ring.
+--     sender_of h xs      what is stored
+--     IsSoundHead c h      the head is that of a sender whose storage has c bytes
 use Rattle.std.specs.Prelude.{◌≡◌, ℕ, ◌+◌, ◌-◌, ◌≤◌, ◌^◌, ◌&&◌, nat_lt, nat_le, nat_eq, min, max, if◌then◌else◌, List}
-use Rattle.std.specs.Prelude.{[], ◌∷◌, ◌++◌, length, drop}
+use Rattle.std.specs.Prelude.{[], ◌∷◌, ◌++◌, length, drop, ◌<◌}
+use Rattle.net_ring.specs.Ring.{queue}
+use Rattle.net_ring.specs.RingHead.{IsSound, ring_at}
+use Rattle.net_receiver.specs.declared.sender_head.SenderHead.{SenderHead}
 
+-- ---- A sender as one value: what it has queued, and the stream that it sends.
 -- the model of a sender: a byte of position `wraps_at` is at the storage's beginning, and one before it is at an index
 -- less by `wraps_at` minus its position than the storage's length
 pub record SenderState : Type 0 where
@@ -80,3 +87,15 @@ pub record Sends (f : ℕ) (w : List ℕ) (v : SenderState) : Type 0 where
   pub from : f ≤ v.first_unacknowledged
   pub end : end_of v ≡ f + length w
   pub queue : v.queue ≡ drop (v.first_unacknowledged - f) w
+
+-- ---- A sender in parts: a head of numbers, and the storage of its ring.
+-- what is stored
+abbrev pub sender_of : SenderHead → List ℕ → SenderState
+sender_of h xs =
+    sender_state (length xs) h.first_unacknowledged (queue (ring_at xs h.place))
+    (h.first_unacknowledged + (length xs - h.place.read_at))
+
+-- the queue is in the storage, and its end fits 64 bits
+pub record IsSoundHead (capacity : ℕ) (h : SenderHead) : Type 0 where
+  pub place : IsSound capacity h.place
+  pub fits : h.first_unacknowledged + h.place.length < 2 ^ 64

@@ -6,11 +6,10 @@
 --         what the receiver lacks can be sent again
 use Rattle.std.specs.Prelude.{◌≡◌, ℕ, ◌+◌, ◌-◌, ◌<◌, ◌≤◌, Bool, IsTrue, IsFalse, List, ◌++◌, length, take, drop, All}
 use Rattle.net_receiver.specs.ReceiverState.{next_position}
-use Rattle.net_receiver.specs.FiniteSender.{FiniteSenderState, fresh_finite_sender, has_end_at}
-use Rattle.net_receiver.specs.FiniteSenderLaws.{SenderCommand, Writes, Closes, Marks, Acknowledges}
-use Rattle.net_receiver.specs.FiniteSenderLaws.{sender_after_commands, bytes_written}
-use Rattle.net_receiver.specs.Finite.{no_end, fresh_finite, acknowledged, is_complete, has_read_all}
-use Rattle.net_receiver.specs.FiniteLaws.{FiniteCommand, Arrives, Reads, finite_after_commands, bytes_taken}
+use Rattle.net_receiver.specs.FiniteSender.{FiniteSenderState, fresh_finite_sender, has_end_at, SenderCommand, Writes}
+use Rattle.net_receiver.specs.FiniteSender.{Closes, Marks, Acknowledges, sender_after_commands, bytes_written}
+use Rattle.net_receiver.specs.Finite.{no_end, fresh_finite, acknowledged, is_complete, has_read_all, FiniteCommand}
+use Rattle.net_receiver.specs.Finite.{Arrives, Reads, finite_after_commands, bytes_taken}
 
 -- after the commands `before`, with those `after` still to come, the sender shows these bytes of its queue, and says
 -- that they are the last ones only if it is closed and they end where it does

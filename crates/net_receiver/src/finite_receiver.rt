@@ -1,25 +1,18 @@
 //! A receiver of a stream that ends.
-ghost use Rattle.std.specs.Prelude.{◌≡◌, ◌↔◌, ℕ, ◌+◌, ◌-◌, ◌<◌, ◌≤◌, ◌^◌, min, List, length, ◌++◌};
-ghost use Rattle.std.specs.Prelude.{IsTrue, Some, None, take, drop, slice_range, max, [], ◌∷◌};
-ghost use Rattle.net_receiver.specs.Finite.{no_end, fresh_finite, can_end, bytes_end, finite_after};
-ghost use Rattle.net_receiver.specs.Finite.{finite_result, finite_after_read, is_complete};
-ghost use Rattle.net_receiver.specs.Finite.{acknowledged, has_read_all};
-ghost use Rattle.net_receiver.specs.Finite.{IsSameFinite, IsSoundEnd};
-ghost use Rattle.net_receiver.specs.FiniteHead.{finite_of, HasSoundFinite};
-ghost use Rattle.net_receiver.specs.Segments.{new_count};
-ghost use Rattle.net_receiver.specs.FiniteLaws.{MatchesFinite, ReceivesFinite};
+ghost use Rattle.std.specs.Prelude.{◌≡◌, ◌↔◌, ℕ, ◌+◌, ◌-◌, ◌<◌, ◌≤◌, ◌^◌, min, List, length, ◌++◌, IsTrue, Some, None};
+ghost use Rattle.std.specs.Prelude.{take, drop, slice_range, max, [], ◌∷◌};
+ghost use Rattle.net_receiver.specs.{no_end, fresh_finite, can_end, bytes_end, finite_after, finite_result};
+ghost use Rattle.net_receiver.specs.{finite_after_read, is_complete, acknowledged, has_read_all, IsSameFinite};
+ghost use Rattle.net_receiver.specs.{IsSoundEnd, finite_of, HasSoundFinite, new_count, MatchesFinite, ReceivesFinite};
+ghost use Rattle.net_receiver.specs.{contiguous_count, first_part, second_part, newest_runs, with_starts, domain};
+ghost use Rattle.net_receiver.specs.{limit_of, next_position, IsSound};
 ghost use Rattle.std.specs.Fn.{FnOnceTakesAt, FnOnceReturnsAt};
 ghost use Rattle.net_assembler.specs.Positions.{maximal_runs, runs as run_count};
 ghost use Rattle.net_assembler.specs.RunLists.{IsCanonical};
-ghost use Rattle.net_receiver.specs.Contiguous.{contiguous_count, first_part, second_part};
-ghost use Rattle.net_receiver.specs.NewestRuns.{newest_runs, with_starts};
-ghost use Rattle.net_receiver.specs.ReceiverState.{domain, limit_of, next_position, IsSound};
 
-use crate::finite_error::FiniteError;
 use crate::finite_receiver_head::FiniteReceiverHead;
-use crate::held_runs::HeldRuns;
-use crate::kept::KeptBytes;
-use crate::newest_runs::{HeldRun, NewestRunIter};
+use crate::held_runs::{HeldRun, HeldRuns, NewestRunIter};
+use crate::kept::{FiniteError, KeptBytes};
 use crate::receiver::whole;
 use crate::receiver_head::ReceiverHead;
 use net_assembler::{AssemblerHead, Run};
@@ -271,7 +264,8 @@ impl<S: Storage<u8>, const N: usize> FiniteReceiverOver<S, N> {
             r.0 ≤ length (first_part self.old.receiver) }
         ensures called { FnOnceReturnsAt F.FnOnce f (first_part self.old.receiver) result }
         ensures count { result.0 ≤ contiguous_count self.old.receiver }
-        ensures not_empty { 0 < length self.old.receiver.queue → 0 < contiguous_count self.old.receiver }
+        ensures not_empty { 0 < length self.old.receiver.queue →
+            0 < contiguous_count self.old.receiver }
         ensures state { self.new ≡ finite_after_read self.old result.0 }
         ensures receives { (f : ℕ) (x : List ℕ) → ReceivesFinite f x self.old →
             ReceivesFinite f x self.new }
@@ -442,7 +436,8 @@ impl<S: Storage<u8>, const N: usize> FiniteReceiverOver<S, N> {
         position: u64,
         recent: &mut [u64; K],
     ) -> NewestRunIter<K>
-        ensures listed { result ≡ newest_runs K (domain self.now.receiver.held) (position ∷ recent.old) }
+        ensures listed { result
+            ≡ newest_runs K (domain self.now.receiver.held) (position ∷ recent.old) }
         ensures count { length result ≤ K }
         ensures recent { recent.new ≡ with_starts recent.old result }
     {

@@ -4,21 +4,17 @@ ghost use Rattle.std.specs.Prelude.{IsTrue, OnErr, Some, None, ◌==◌, ◌++�
 ghost use Rattle.std.specs.Prelude.{slice_range, nat_lt, nat_le, ◌&&◌, if◌then◌else◌};
 ghost use Rattle.net_ring.specs.Ring.{queue};
 ghost use Rattle.net_ring.specs.RingHead.{IsSound as IsSoundPlace, ring_at};
-ghost use Rattle.net_receiver.specs.Finite.{no_end, fresh_finite};
-ghost use Rattle.net_receiver.specs.Finite.{can_end_by, finite_after, finite_result};
-ghost use Rattle.net_receiver.specs.Finite.{finite_after_read, IsSameFinite, is_complete};
-ghost use Rattle.net_receiver.specs.Finite.{acknowledged, has_read_all};
-ghost use Rattle.net_receiver.specs.Segments.{count_between};
-ghost use Rattle.net_receiver.specs.FiniteLaws.{MatchesFinite, ReceivesFinite};
-ghost use Rattle.net_receiver.specs.Head.{head_after_read, held_at, top_at, HasSoundHeld};
-ghost use Rattle.net_receiver.specs.ReceiverState.{limit_of};
+ghost use Rattle.net_receiver.specs.Finite.{no_end, fresh_finite, can_end_by, finite_after, finite_result};
+ghost use Rattle.net_receiver.specs.Finite.{finite_after_read, IsSameFinite, is_complete, acknowledged, has_read_all};
+ghost use Rattle.net_receiver.specs.Finite.{MatchesFinite, ReceivesFinite};
+ghost use Rattle.net_receiver.specs.ReceiverState.{count_between, new_count, limit_of};
+ghost use Rattle.net_receiver.specs.Head.{head_after_read, held_at, top_at, HasSoundHeld, receiver_of};
 ghost use Rattle.net_receiver.specs.FiniteHead.{finite_of, HasSoundFinite, next_of, end_of, end_with};
 ghost use Rattle.net_receiver.specs.FiniteHead.{finite_storage_after};
 ghost use Rattle.net_receiver.specs.NewHeads.{finite_receiver_head};
 ghost use Rattle.net_assembler.specs.RunLists.{IsCanonical};
 
-use crate::finite_error::FiniteError;
-use crate::kept::KeptBytes;
+use crate::kept::{FiniteError, KeptBytes};
 use crate::receiver_head::ReceiverHead;
 use net_assembler::Run;
 

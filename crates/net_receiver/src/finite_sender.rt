@@ -1,16 +1,11 @@
 //! A sender of a stream that ends.
-ghost use Rattle.std.specs.Prelude.{◌≡◌, ◌↔◌, ◌+◌, ◌<◌, ◌≤◌, ◌==◌, ◌++◌, ℕ, List, []};
-ghost use Rattle.std.specs.Prelude.{length, take, min, max, IsTrue, IsFalse};
+ghost use Rattle.std.specs.Prelude.{◌≡◌, ◌↔◌, ◌+◌, ◌<◌, ◌≤◌, ◌==◌, ◌++◌, ℕ, List, [], length, take, min, max, IsTrue};
+ghost use Rattle.std.specs.Prelude.{IsFalse};
 ghost use Rattle.std.specs.Int.{from_bool};
 ghost use Rattle.std.specs.Borrow.{sem};
-ghost use Rattle.net_receiver.specs.SenderState.{end_of, Sends};
-ghost use Rattle.net_receiver.specs.Finite.{no_end};
-ghost use Rattle.net_receiver.specs.FiniteLaws.{MatchesFinite};
-ghost use Rattle.net_receiver.specs.FiniteSenderLaws.{IsLent, IsSoundSent};
-ghost use Rattle.net_receiver.specs.FiniteSender.{finite_sender_of, IsSoundFiniteSender};
-ghost use Rattle.net_receiver.specs.FiniteSender.{fresh_finite_sender, first_number, numbers_end};
-ghost use Rattle.net_receiver.specs.FiniteSender.{finite_room, with_bytes, closed_sender};
-ghost use Rattle.net_receiver.specs.FiniteSender.{acknowledged_below, sent_after};
+ghost use Rattle.net_receiver.specs.{end_of, Sends, no_end, MatchesFinite, IsLent, IsSoundSent, finite_sender_of};
+ghost use Rattle.net_receiver.specs.{IsSoundFiniteSender, fresh_finite_sender, first_number, numbers_end, finite_room};
+ghost use Rattle.net_receiver.specs.{with_bytes, closed_sender, acknowledged_below, sent_after};
 
 use crate::finite_sender_head::FiniteSenderHead;
 use crate::laws;

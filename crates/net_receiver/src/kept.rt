@@ -1,4 +1,5 @@
-//! The results of a segment that a receiver accepts.
+//! The results of a segment: what was kept, or why a receiver of a stream that ends refuses it.
+use thiserror::Error;
 
 /// How many bytes of a segment were kept, by how many `next` moved, and the first held runs: what
 /// `segment` returns.
@@ -31,4 +32,16 @@ pub struct KeptBytes {
     pub kept: usize,
     /// How many bytes joined the queue: by how many positions the first missing position moved up.
     pub queued: usize,
+}
+
+/// Why a segment is refused. Nothing changes then.
+#[derive(Debug, Clone, Copy, PartialEq, Eq, Hash, Drop, Error)]
+pub enum FiniteError {
+    /// Its bytes would make more held runs than there is room for.
+    #[error("too many holes")]
+    TooManyHoles,
+    /// It says that the stream ends where it can't: at another position than an earlier one said,
+    /// or below a byte that is queued or held.
+    #[error("the stream ends elsewhere")]
+    OtherEnd,
 }

@@ -1,15 +1,13 @@
 //! A scoreboard: which positions a sender knows that the other end has.
 ghost use Rattle.std.specs.Prelude.{◌⊎◌, ◌≡◌, ◌↔◌, ◌-◌, ◌<◌, ◌≤◌, ℕ, length, Err, IsTrue, OnOk, OnErr};
-ghost use Rattle.net_assembler.specs.Positions.{contains, first_missing, front, maximal_runs, nothing};
-ghost use Rattle.net_assembler.specs.Positions.{positions, with_range};
+ghost use Rattle.net_assembler.specs.Positions.{contains, first_missing, front, maximal_runs, nothing, positions};
+ghost use Rattle.net_assembler.specs.Positions.{with_range};
 ghost use Rattle.net_assembler.specs.RunLists.{IsCanonical};
-ghost use Rattle.net_receiver.specs.Losses.{IsHole, IsLossBound};
-ghost use Rattle.net_receiver.specs.Scoreboards.{HasNoRoom, IsBlock, IsEnd, IsReport, IsSoundBoard, beyond};
-ghost use Rattle.net_receiver.specs.Scoreboards.{IsSoundScoreboard, reported_by};
+ghost use Rattle.net_receiver.specs.{IsHole, IsLossBound, HasNoRoom, IsBlock, IsEnd, IsReport, IsSoundBoard, beyond};
+ghost use Rattle.net_receiver.specs.{IsSoundScoreboard, reported_by};
 
 use crate::held_runs::HeldRuns;
-use crate::report_error::ReportError;
-use crate::scoreboard_head::ScoreboardHead;
+use crate::scoreboard_head::{ReportError, ScoreboardHead};
 use crate::sequence_number::SequenceNumber;
 use net_assembler::Run;
 use std::marker::Model;
@@ -175,7 +173,8 @@ impl<const N: usize> Scoreboard<N> {
         ensures no_block { (result ≡ Err ReportError.NoBlock)
             ↔ (IsReport (front self.old) sent start end → ⊥) }
         ensures too_many { (result ≡ Err ReportError.TooManyHoles)
-            ↔ (IsReport (front self.old) sent start end × HasNoRoom N self.old start (end - start)) }
+            ↔ (IsReport (front self.old) sent start end
+            × HasNoRoom N self.old start (end - start)) }
         ensures ok { OnOk result (self.new ≡ with_range self.old start (end - start)) }
         // Guarantee.
         ensures unchanged { OnErr result (self.new ≡ self.old) }

@@ -1,19 +1,29 @@
 //! A scoreboard in parts: a head, and runs that are kept elsewhere.
 ghost use Rattle.std.specs.Prelude.{◌≡◌, ◌↔◌, ◌-◌, ◌≤◌, List, ℕ, length, min, nat_lt, IsTrue, Err, OnOk, OnErr};
 ghost use Rattle.std.specs.Prelude.{if◌then◌else◌};
-ghost use Rattle.net_assembler.specs.Positions.{contains, first_missing, front, maximal_runs, nothing};
-ghost use Rattle.net_assembler.specs.Positions.{positions, with_range};
+ghost use Rattle.net_assembler.specs.Positions.{contains, first_missing, front, maximal_runs, nothing, positions};
+ghost use Rattle.net_assembler.specs.Positions.{with_range};
 ghost use Rattle.net_assembler.specs.RunLists.{HasSoundRuns, IsCanonical, set_of};
-ghost use Rattle.net_receiver.specs.Scoreboards.{HasNoRoom, IsEnd, IsNextHole, IsReport, IsSoundBoard, beyond};
-ghost use Rattle.net_receiver.specs.Scoreboards.{reported_by};
-ghost use Rattle.net_receiver.specs.NewHeads.{scoreboard_head};
-ghost use Rattle.net_receiver.specs.Losses.{IsLossBound};
+ghost use Rattle.net_receiver.specs.{HasNoRoom, IsEnd, IsNextHole, IsReport, IsSoundBoard, beyond, reported_by};
+ghost use Rattle.net_receiver.specs.{scoreboard_head, IsLossBound};
 
 use crate::held_runs::HeldRunIter;
-use crate::report_error::ReportError;
 use net_assembler::assembler::laws;
 use net_assembler::width::most;
 use net_assembler::{AssemblerHead, Run};
+use thiserror::Error;
+
+/// Why a SACK block isn't taken. Nothing changes then.
+#[derive(Debug, Clone, Copy, PartialEq, Eq, Hash, Drop, Error)]
+pub enum ReportError {
+    /// No such block can be: it has no position, or one that was never sent, or it ends too far above the
+    /// first position that wasn't reported.
+    #[error("not a block of what was sent")]
+    NoBlock,
+    /// It would make more runs than there is room for. Its bytes are sent again.
+    #[error("too many holes")]
+    TooManyHoles,
+}
 
 /// What a scoreboard has besides its runs.
 ///
@@ -121,8 +131,8 @@ impl ScoreboardHead {
         ensures too_many { (result ≡ Err ReportError.TooManyHoles)
             ↔ (IsReport self.old.base sent start end
             × HasNoRoom (length runs.old) (reported_by self.old runs.old) start (end - start)) }
-        ensures ok { OnOk result
-            (reported_by self.new runs.new ≡ with_range (reported_by self.old runs.old) start (end - start)) }
+        ensures ok { OnOk result (reported_by self.new runs.new
+            ≡ with_range (reported_by self.old runs.old) start (end - start)) }
         ensures unchanged { OnErr result ((self.new ≡ self.old) × (runs.new ≡ runs.old)) }
         ensures canonical { IsCanonical self.old.reported → IsCanonical self.new.reported }
     {
@@ -152,7 +162,8 @@ impl ScoreboardHead {
     pub fn acknowledge(&mut self, runs: &mut [Run], next: u64)
         requires sound { IsSoundBoard self.old runs.old }
         ensures sound { IsSoundBoard self.new runs.new }
-        ensures set { reported_by self.new runs.new ≡ with_range (reported_by self.old runs.old) 0 next }
+        ensures set { reported_by self.new runs.new
+            ≡ with_range (reported_by self.old runs.old) 0 next }
         ensures canonical { IsCanonical self.old.reported → IsCanonical self.new.reported }
     {
         if next <= self.base {
@@ -166,6 +177,7 @@ impl ScoreboardHead {
     }
 
     /// Returns the first position that wasn't reported.
+    #[tactic(auto, using(crate::proofs::Scoreboards::front_board))]
     pub fn first_unreported(&self) -> u64
         ensures value { result ≡ self.now.base }
         ensures state { (runs : List (ℕ × ℕ)) → IsSoundBoard self.now runs →
@@ -179,6 +191,7 @@ impl ScoreboardHead {
     /// # Requires
     ///
     /// The scoreboard is sound with the runs.
+    #[tactic(auto, using(crate::proofs::Scoreboards::in_board))]
     pub fn contains(&self, runs: &[Run], pos: u64) -> bool
         requires { IsSoundBoard self.now runs.now }
         ensures { result ≡ contains (reported_by self.now runs.now) pos }

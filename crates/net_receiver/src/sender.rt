@@ -1,10 +1,8 @@
 //! The sender of a stream.
-ghost use Rattle.std.specs.Prelude.{◌≡◌, ◌↔◌, ◌+◌, ◌-◌, ◌<◌, ◌≤◌, ◌==◌, ◌^◌, ◌++◌, ℕ, List, []};
-ghost use Rattle.std.specs.Prelude.{length, take, drop, min, max, slice_index_or, IsTrue, IsFalse};
-ghost use Rattle.net_receiver.specs.OneStream.{MatchesStream};
-ghost use Rattle.net_receiver.specs.SenderState.{sender_state, end_of, room_of, contiguous_end, with_written};
-ghost use Rattle.net_receiver.specs.SenderState.{sender_from, Sends};
-ghost use Rattle.net_receiver.specs.SenderHeads.{sender_of, IsSoundHead};
+ghost use Rattle.std.specs.Prelude.{◌≡◌, ◌↔◌, ◌+◌, ◌-◌, ◌<◌, ◌≤◌, ◌==◌, ◌^◌, ◌++◌, ℕ, List, [], length, take, drop};
+ghost use Rattle.std.specs.Prelude.{min, max, slice_index_or, IsTrue, IsFalse};
+ghost use Rattle.net_receiver.specs.{MatchesStream, sender_state, end_of, room_of, contiguous_end, with_written};
+ghost use Rattle.net_receiver.specs.{sender_from, Sends, sender_of, IsSoundHead};
 
 use crate::laws;
 use crate::sender_head::SenderHead;
@@ -47,7 +45,7 @@ pub type Sender<'a> = SenderOver<ManagedSlice<'a, u8>>;
 impl<S: Storage<u8>> Model for SenderOver<S> {
     ghost use Rattle.std.specs.Prelude.{length, []};
     ghost use Rattle.net_receiver.specs.SenderState.{SenderState};
-    ghost use Rattle.net_receiver.specs.SenderHeads.{sender_of, IsSoundHead};
+    ghost use Rattle.net_receiver.specs.SenderState.{sender_of, IsSoundHead};
 
     ghost Value = { SenderState };
 
@@ -271,8 +269,8 @@ impl<S: Storage<u8>> SenderOver<S> {
             ≡ slice_index_or result.now (q - pos) d }
         // Guarantee.
         ensures within { 0 < length result.now → pos + length result.now ≤ end_of self.now }
-        ensures says { (f : ℕ) (w : List ℕ) → Sends f w self.now → self.now.first_unacknowledged ≤ pos
-            → MatchesStream f w pos result.now }
+        ensures says { (f : ℕ) (w : List ℕ) → Sends f w self.now →
+            self.now.first_unacknowledged ≤ pos → MatchesStream f w pos result.now }
         ensures fits { end_of self.now < 2 ^ 64 }
     {
         laws::matches_stream();

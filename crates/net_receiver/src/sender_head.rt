@@ -1,13 +1,10 @@
 //! A sender in parts: a head of numbers, and a storage that is kept elsewhere.
-ghost use Rattle.std.specs.Prelude.{◌≡◌, ◌↔◌, ◌+◌, ◌-◌, ◌<◌, ◌≤◌, ◌^◌, ◌&&◌, ◌++◌, ℕ, List, []};
-ghost use Rattle.std.specs.Prelude.{length, take, drop, min, max, nat_le, IsTrue, IsFalse};
-ghost use Rattle.net_ring.specs.Ring.{queue, rewind_if_empty, with_enqueued, write_at};
-ghost use Rattle.net_ring.specs.Ring.{with_elements_wrapping};
+ghost use Rattle.std.specs.Prelude.{◌≡◌, ◌↔◌, ◌+◌, ◌-◌, ◌<◌, ◌≤◌, ◌^◌, ◌&&◌, ◌++◌, ℕ, List, [], length, take, drop};
+ghost use Rattle.std.specs.Prelude.{min, max, nat_le, IsTrue, IsFalse};
+ghost use Rattle.net_ring.specs.Ring.{queue, rewind_if_empty, with_enqueued, write_at, with_elements_wrapping};
 ghost use Rattle.net_ring.specs.RingHead.{ring_at, queued_index, dequeued_place};
-ghost use Rattle.net_receiver.specs.SenderState.{sender_state, room_of, contiguous_end, Sends};
-ghost use Rattle.net_receiver.specs.SenderState.{with_written, sender_from};
-ghost use Rattle.net_receiver.specs.NewHeads.{sender_head};
-ghost use Rattle.net_receiver.specs.SenderHeads.{sender_of, IsSoundHead};
+ghost use Rattle.net_receiver.specs.{MatchesStream, sender_state, room_of, contiguous_end, Sends, with_written};
+ghost use Rattle.net_receiver.specs.{sender_from, sender_head, sender_of, IsSoundHead};
 
 use net_ring::{RingHead, Span};
 

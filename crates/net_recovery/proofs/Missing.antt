@@ -5,7 +5,7 @@ use Rattle.std.specs.Prelude.{Option, Some, None, IsTrue, IsFalse}
 use Rattle.net_assembler.specs.Positions.{Positions, contains}
 use Rattle.net_assembler.proofs.Sets.{first_missing-has, first_missing-le}
 use Rattle.net_receiver.specs.Scoreboards.{IsEnd, IsNextHole}
-use Rattle.net_receiver.specs.Losses.{IsHole}
+use Rattle.net_receiver.specs.Scoreboards.{IsHole}
 use Rattle.net_recovery.specs.LossRecovery.{missing_count}
 
 -- of positions that are all in the set none is missing

@@ -10,15 +10,13 @@ ghost use Rattle.net_assembler.specs.Positions.{contains, nothing, positions, wi
 ghost use Rattle.net_assembler.specs.RunLists.{IsCanonical};
 ghost use Rattle.net_ffi.specs.Refusals.{no_number};
 ghost use Rattle.net_ffi.specs.Results.{done_or_report_error};
-ghost use Rattle.net_receiver.specs.Losses.{IsLossBound};
-ghost use Rattle.net_receiver.specs.NewHeads.{scoreboard_head};
-ghost use Rattle.net_receiver.specs.Scoreboards.{HasNoRoom, IsEnd, IsNextHole, IsReport, IsSoundBoard, beyond};
-ghost use Rattle.net_receiver.specs.Scoreboards.{reported_by};
+ghost use Rattle.net_receiver.specs.{HasNoRoom, IsEnd, IsLossBound, IsNextHole, IsReport, IsSoundBoard, beyond};
+ghost use Rattle.net_receiver.specs.{reported_by, scoreboard_head};
 ghost use Rattle.std.specs.Prelude.{Err, IsFalse, IsTrue, List, OnErr, OnOk, length, ℕ, ◌-◌, ◌<◌, ◌↔◌, ◌≡◌};
 
 use crate::refusals::{NET_BASE_DONE, NET_BASE_REFUSED, Status, no_number, refused_hole};
 use crate::results::{Hole, status_of_report};
-use net_assembler::Run;
+use net_assembler::{Run};
 use net_receiver::{ReportError, ScoreboardHead};
 
 /// Makes `scoreboard` a scoreboard of a stream that begins at position `first`, to which nothing
@@ -153,11 +151,7 @@ pub extern "C" fn net_base_scoreboard_next_hole(
         return refused_hole();
     }
     let (start, end) = scoreboard.next_hole(runs, position, limit);
-    Hole {
-        status: NET_BASE_DONE,
-        start,
-        end,
-    }
+    Hole { status: NET_BASE_DONE, start, end }
 }
 
 /// Writes to `end` the position after the last one that was reported; 0 if none was.

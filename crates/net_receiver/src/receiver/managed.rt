@@ -1,8 +1,6 @@
 //! Receivers over a [`ManagedSlice`], of which Rust's take all that converts to one.
 ghost use Rattle.std.specs.Prelude.{◌≡◌, ◌≤◌, ℕ, List, length};
-ghost use Rattle.net_receiver.specs.ReceiverState.{fresh_receiver, Refines};
-ghost use Rattle.net_receiver.specs.Schedule.{fresh_kept};
-ghost use Rattle.net_receiver.specs.OneStream.{ReceivesFrom};
+ghost use Rattle.net_receiver.specs.{fresh_receiver, Refines, fresh_kept, ReceivesFrom};
 
 use crate::receiver::{Receiver, ReceiverOver};
 use net_ring::ManagedSlice;

@@ -1,11 +1,9 @@
 //! A receiver of a stream that ends.
 
 use crate::rattle::prelude::*;
-use crate::proved::net_receiver::finite_error::FiniteError;
 use crate::proved::net_receiver::finite_receiver_head::FiniteReceiverHead;
-use crate::proved::net_receiver::held_runs::HeldRuns;
-use crate::proved::net_receiver::kept::KeptBytes;
-use crate::proved::net_receiver::newest_runs::{HeldRun, NewestRunIter};
+use crate::proved::net_receiver::held_runs::{HeldRun, HeldRuns, NewestRunIter};
+use crate::proved::net_receiver::kept::{FiniteError, KeptBytes};
 use crate::proved::net_receiver::receiver::whole;
 use crate::proved::net_receiver::receiver_head::ReceiverHead;
 use crate::proved::net_assembler::{AssemblerHead, Run};

@@ -1,8 +1,7 @@
 //! A receiver of a stream that ends, in parts.
 
 use crate::rattle::prelude::*;
-use crate::proved::net_receiver::finite_error::FiniteError;
-use crate::proved::net_receiver::kept::KeptBytes;
+use crate::proved::net_receiver::kept::{FiniteError, KeptBytes};
 use crate::proved::net_receiver::receiver_head::ReceiverHead;
 use crate::proved::net_assembler::Run;
 

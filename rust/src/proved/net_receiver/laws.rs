@@ -142,11 +142,11 @@ pub fn losses() {}
 /// States what a receiver of a stream that ends does over every list of segments and reads. No byte
 /// is ever at or above the end. An end that is known stays, and so does that all has arrived, or was
 /// read, whatever arrives later. A segment of the stream that ends below the greatest number is never
-/// said to end it elsewhere; and the bytes read are the stream's first ones, and the whole stream once the receiver says so. What is
-/// acknowledged never falls. After an accepted last segment its end is known if it is at most the end
-/// of the free window before it, and once each byte below a known end is there all has arrived. Two
-/// receivers of one stream that kept the same positions, read as much and know the same of the end are
-/// equal in what `same_state` compares.
+/// said to end it elsewhere; and the bytes read are the stream's first ones, and the whole stream once
+/// the receiver says so. What is acknowledged never falls. After an accepted last segment its end is
+/// known if it is at most the end of the free window before it, and once each byte below a known end is
+/// there all has arrived. Two receivers of one stream that kept the same positions, read as much and know
+/// the same of the end are equal in what `same_state` compares.
 pub fn finite_receivers() {}
 
 /// States of every list of segments and reads of a receiver of a stream that ends what `schedules`,
@@ -208,8 +208,9 @@ pub fn heads_of_zeros() {
 
 /// States which numbers a segment has that a sender of a stream that ends lends, as clause `lent` of `peek_at` and
 /// `send_at` says it: some, if a byte from `pos` on is queued below `limit` (`some`); all below `limit` (`room`,
-/// `none`); all below the sender's end (`numbers`, `beyond`); and its bytes are written ones (`written`), so there is a
-/// number after the last (clause `fits` of `is_sound_sent`). It is a segment of what was written to the sender (`stream`).
+/// `none`); all below the sender's end (`numbers`, `beyond`); and its bytes are written ones (`written`),
+/// so there is a number after the last (clause `fits` of `is_sound_sent`). It is a segment of what was
+/// written to the sender (`stream`).
 pub fn lent_segments() {}
 
 /// States what a receiver reads of what a sender sends, whatever the path between them does: if each segment that

@@ -1,9 +1,8 @@
 //! The receiver.
 
 use crate::rattle::prelude::*;
-use crate::proved::net_receiver::held_runs::HeldRuns;
+use crate::proved::net_receiver::held_runs::{HeldRun, HeldRuns, NewestRunIter};
 use crate::proved::net_receiver::kept::{Kept, KeptBytes};
-use crate::proved::net_receiver::newest_runs::{HeldRun, NewestRunIter};
 use crate::proved::net_receiver::receiver_head::{ReceiverHead, count_existing};
 use crate::proved::net_assembler::{AssemblerHead, Run, TooManyHolesError};
 use crate::proved::net_ring::{ManagedSlice, Storage};

@@ -1,9 +1,8 @@
 //! A receiver in parts: a head of numbers, a storage, and runs that are kept elsewhere.
 
 use crate::rattle::prelude::*;
-use crate::proved::net_receiver::held_runs::HeldRunIter;
+use crate::proved::net_receiver::held_runs::{HeldRun, HeldRunIter, is_listed, remember};
 use crate::proved::net_receiver::kept::{Kept, KeptBytes};
-use crate::proved::net_receiver::newest_runs::{HeldRun, is_listed, remember};
 use crate::proved::net_assembler::assembler::laws;
 use crate::proved::net_assembler::width::most;
 use crate::proved::net_assembler::{AssemblerHead, Run, TooManyHolesError};

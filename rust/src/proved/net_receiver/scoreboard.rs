@@ -2,8 +2,7 @@
 
 use crate::rattle::prelude::*;
 use crate::proved::net_receiver::held_runs::HeldRuns;
-use crate::proved::net_receiver::report_error::ReportError;
-use crate::proved::net_receiver::scoreboard_head::ScoreboardHead;
+use crate::proved::net_receiver::scoreboard_head::{ReportError, ScoreboardHead};
 use crate::proved::net_receiver::sequence_number::SequenceNumber;
 use crate::proved::net_assembler::Run;
 use crate::rattle::std::marker::Model;

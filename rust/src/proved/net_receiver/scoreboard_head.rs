@@ -2,10 +2,19 @@
 
 use crate::rattle::prelude::*;
 use crate::proved::net_receiver::held_runs::HeldRunIter;
-use crate::proved::net_receiver::report_error::ReportError;
 use crate::proved::net_assembler::assembler::laws;
 use crate::proved::net_assembler::width::most;
 use crate::proved::net_assembler::{AssemblerHead, Run};
+
+/// Why a SACK block isn't taken. Nothing changes then.
+#[derive(Debug, Clone, Copy, PartialEq, Eq, Hash)]
+pub enum ReportError {
+    /// No such block can be: it has no position, or one that was never sent, or it ends too far above the
+    /// first position that wasn't reported.
+    NoBlock,
+    /// It would make more runs than there is room for. Its bytes are sent again.
+    TooManyHoles,
+}
 
 /// What a scoreboard has besides its runs.
 ///
@@ -253,3 +262,5 @@ fn nearer(pos: u64, start: u64, nearest: u64) -> u64 {
     }
     start.min(nearest)
 }
+
+crate::rattle::error_text!(ReportError, ReportError::NoBlock => "not a block of what was sent", ReportError::TooManyHoles => "too many holes");

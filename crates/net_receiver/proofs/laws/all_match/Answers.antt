@@ -1,5 +1,5 @@
-use Rattle.std.proofs.lemmas.List.Elements.{All-nil, All-cons, All-append}
-use Rattle.net_receiver.specs.{Segment, Read, Show, AllMatch, MatchesStream, IsTruthful}
+use Rattle.net_receiver.proofs.Words.{All-nil, All-cons, All-append, Segment, Read, Show, IsTruthful}
+use Rattle.net_receiver.specs.{AllMatch, MatchesStream}
 use Rattle.net_receiver.proofs.OneStream.{truthful_is_kept}
 use Rattle.net_receiver.proofs.laws.all_match.Goals as goal
 

@@ -1,6 +1,6 @@
 use Rattle.net_receiver.proofs.FiniteReceivers.{fresh_sound_end, sound_end_stays, end_stays, segment_of_stream}
-use Rattle.net_receiver.proofs.FiniteReceivers.{reads_the_stream, acknowledged_grows, end_is_taken}
-use Rattle.net_receiver.proofs.FiniteReceivers.{all_bytes_complete, same_end_converges}
+use Rattle.net_receiver.proofs.FiniteReceivers.{reads_the_stream, acknowledged_grows, end_is_taken, all_bytes_complete}
+use Rattle.net_receiver.proofs.FiniteReceivers.{same_end_converges}
 use Rattle.net_receiver.proofs.laws.finite_receivers.Goals as goal
 
 pub returns : goal.returns

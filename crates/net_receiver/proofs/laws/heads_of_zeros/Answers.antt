@@ -1,6 +1,6 @@
-use Rattle.std.proofs.Common.{◌≡◌, ◌+◌, arith, ◌∙◌, [], length, ap, sym, subst}
-use Rattle.net_receiver.specs.{receiver_of, HasSoundParts, finite_of, HasSoundFinite, sender_state, sender_of}
-use Rattle.net_receiver.specs.{IsSoundHead, reported_by, IsSoundBoard, finite_sender_of, IsSoundFiniteSender}
+use Rattle.net_receiver.proofs.Words.{◌≡◌, ◌+◌, arith, ◌∙◌, [], length, ap, sym, subst, receiver_of, HasSoundParts}
+use Rattle.net_receiver.proofs.Words.{finite_of, HasSoundFinite, sender_state, sender_of, IsSoundHead, reported_by}
+use Rattle.net_receiver.proofs.Words.{IsSoundBoard, finite_sender_of, IsSoundFiniteSender}
 use Rattle.net_receiver.proofs.laws.heads_of_zeros.Goals as goal
 
 pub returns-clause-receiver : goal.returns-clause-receiver

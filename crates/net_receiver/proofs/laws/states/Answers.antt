@@ -1,6 +1,4 @@
-use Rattle.std.proofs.Common.{subst, sym}
-use Rattle.net_receiver.specs.{fresh_kept, Refines}
-use Rattle.net_receiver.specs.ReceiverState.{ReceiverState}
+use Rattle.net_receiver.proofs.Words.{subst, sym, fresh_kept, Refines, ReceiverState}
 use Rattle.net_receiver.proofs.Schedules.{same_next, same_held}
 use Rattle.net_receiver.proofs.Theorems.{fresh_refines}
 use Rattle.net_receiver.proofs.laws.states.Goals as goal

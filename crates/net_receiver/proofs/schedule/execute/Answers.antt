@@ -1,4 +1,4 @@
-use Rattle.net_receiver.specs.{command_value, reply_value}
+use Rattle.net_receiver.proofs.Words.{command_value, reply_value}
 use Rattle.net_receiver.proofs.OneStream.{executed_receives, executed_bytes}
 use Rattle.net_receiver.proofs.schedule.execute.Goals as goal
 

@@ -1,9 +1,8 @@
-use Rattle.std.proofs.Common.{◌≡◌, ◌∙◌, ◌++◌, ◌∷◌, List, [], ap, sym, subst, refl, arith, map, length}
-use Rattle.std.proofs.lemmas.Bool.{false≢true}
-use Rattle.std.proofs.lemmas.List.{length-map, drop_all}
+use Rattle.net_receiver.proofs.Words.{◌≡◌, ◌∙◌, ◌++◌, ◌∷◌, List, [], ap, sym, subst, refl, arith, map, length}
+use Rattle.net_receiver.proofs.Words.{false≢true, length-map, drop_all, command_value, reply_value, new_replies}
+use Rattle.net_receiver.proofs.Words.{items_after}
 use Rattle.std.proofs.lemmas.Result.{err_from_is_err_and}
 use Rattle.std.specs.Result.{is_ok}
-use Rattle.net_receiver.specs.{command_value, reply_value, new_replies, items_after}
 use Rattle.net_receiver.proofs.Schedules.{state_more, replies_more, whole_appended}
 use Rattle.net_receiver.proofs.schedule.replay_core.Goals as goal
 

@@ -1,5 +1,5 @@
-use Rattle.std.proofs.Common.{◌≡◌, ◌++◌, take}
-use Rattle.net_receiver.specs.{receiver_after_commands, receiver_replies, command_values, new_replies, items_after}
+use Rattle.net_receiver.proofs.Words.{◌≡◌, ◌++◌, take, receiver_after_commands, receiver_replies, command_values}
+use Rattle.net_receiver.proofs.Words.{new_replies, items_after}
 use Rattle.net_receiver.proofs.schedule.replay_core.Given as goal
 
 -- the commands before this one were run

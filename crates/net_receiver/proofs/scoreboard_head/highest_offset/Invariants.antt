@@ -1,6 +1,4 @@
-use Rattle.std.proofs.Common.{◌≡◌}
-use Rattle.net_assembler.specs.Positions.{maximal_runs}
-use Rattle.net_assembler.specs.RunLists.{set_of}
+use Rattle.net_receiver.proofs.Words.{◌≡◌, maximal_runs, set_of}
 use Rattle.net_receiver.proofs.Scoreboards.{greatest_end}
 use Rattle.net_receiver.proofs.scoreboard_head.highest_offset.Given as goal
 

@@ -1,7 +1,5 @@
-use Rattle.std.proofs.Common.{◌∙◌, sym, ap, length, length-append, take_all, le_refl, arith}
-use Rattle.net_ring.specs.RingHead.{ring_at}
-use Rattle.net_receiver.specs.{contiguous_count, FiniteState}
-use Rattle.net_receiver.specs.ReceiverState.{ReceiverState}
+use Rattle.net_receiver.proofs.Words.{◌∙◌, sym, ap, length, length-append, take_all, le_refl, arith, ring_at}
+use Rattle.net_receiver.proofs.Words.{contiguous_count, FiniteState, ReceiverState}
 use Rattle.net_receiver.proofs.OneStream.{head_bytes}
 use Rattle.net_receiver.proofs.Places.{lent_prefix, parts_are}
 use Rattle.net_receiver.proofs.Heads.{lent_view, lent_sound}

@@ -1,10 +1,4 @@
-use Rattle.std.proofs.Common.{◌∙◌, ap, sym}
-use Rattle.net_assembler.specs.RunLists.{runs_of}
-use Rattle.net_assembler.proofs.Joins.{no_runs}
-use Rattle.net_assembler.proofs.SoundHeads.{length-runs_of}
-use Rattle.net_ring.specs.Ring.{queue, spare}
-use Rattle.net_ring.specs.RingHead.{ring_at}
-use Rattle.net_receiver.specs.{parts}
+use Rattle.net_receiver.proofs.Words.{◌∙◌, ap, sym, runs_of, no_runs, length-runs_of, queue, spare, ring_at, parts}
 use Rattle.net_receiver.specs.FiniteHead.{end_of}
 use Rattle.net_receiver.proofs.finite_receiver.FiniteReceiverOver.from_parts.Goals as goal
 

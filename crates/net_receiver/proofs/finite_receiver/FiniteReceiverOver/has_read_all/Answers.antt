@@ -1,6 +1,5 @@
-use Rattle.std.proofs.Common.{sym, ap, subst, ◌∙◌}
-use Rattle.net_receiver.specs.{IsSoundEnd, has_read_all}
 use Rattle.net_receiver.proofs.FiniteReceivers.{read_whole, has_sound_end}
+use Rattle.net_receiver.proofs.Words.{sym, ap, subst, ◌∙◌, IsSoundEnd, has_read_all}
 use Rattle.net_receiver.proofs.finite_receiver.FiniteReceiverOver.has_read_all.Goals as goal
 
 pub returns : goal.returns

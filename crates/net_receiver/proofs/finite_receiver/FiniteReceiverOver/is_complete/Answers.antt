@@ -1,6 +1,5 @@
-use Rattle.std.proofs.Common.{sym, ap, subst, ◌∙◌}
-use Rattle.net_receiver.specs.{IsSoundEnd, is_complete}
 use Rattle.net_receiver.proofs.FiniteReceivers.{complete_whole, has_sound_end}
+use Rattle.net_receiver.proofs.Words.{sym, ap, subst, ◌∙◌, IsSoundEnd, is_complete}
 use Rattle.net_receiver.proofs.finite_receiver.FiniteReceiverOver.is_complete.Goals as goal
 
 pub returns : goal.returns

@@ -1,7 +1,7 @@
-use Rattle.std.proofs.Common.{◌≡◌, ◌≤◌, ◌∙◌, ap, subst, sym, length}
-use Rattle.net_receiver.specs.{FiniteState, IsSoundEnd, acknowledged, finite_after, finite_result, finite_of}
-use Rattle.net_receiver.specs.{HasSoundFinite, ReceivesFinite, Arrives}
-use Rattle.net_receiver.proofs.FiniteReceivers.{segment_of_stream, finite_reads_nothing, one_acknowledged, has_sound_end}
+use Rattle.net_receiver.proofs.FiniteReceivers.{segment_of_stream, finite_reads_nothing, one_acknowledged}
+use Rattle.net_receiver.proofs.FiniteReceivers.{has_sound_end}
+use Rattle.net_receiver.proofs.Words.{◌≡◌, ◌≤◌, ◌∙◌, ap, subst, sym, length, FiniteState, IsSoundEnd, acknowledged}
+use Rattle.net_receiver.proofs.Words.{finite_after, finite_result, finite_of, HasSoundFinite, ReceivesFinite, Arrives}
 use Rattle.net_receiver.proofs.Heads.{part_is, whole_written}
 use Rattle.net_receiver.proofs.finite_receiver.FiniteReceiverOver.keep.Given as given
 use Rattle.net_receiver.proofs.finite_receiver.FiniteReceiverOver.keep.Goals as goal

@@ -1,6 +1,4 @@
-use Rattle.std.proofs.Common.{length, sym, subst}
-use Rattle.std.proofs.lemmas.List.{length-replicate}
-use Rattle.net_receiver.specs.{ReceivesFinite}
+use Rattle.net_receiver.proofs.Words.{length, sym, subst, length-replicate, ReceivesFinite}
 use Rattle.net_receiver.proofs.FiniteReceivers.{fresh_of_stream}
 use Rattle.net_receiver.proofs.finite_receiver.FiniteReceiverOver.over_at.Goals as goal
 

@@ -1,7 +1,5 @@
-use Rattle.std.proofs.Common.{◌∙◌, ap, length, sym, subst}
-use Rattle.net_assembler.specs.RunLists.{IsCanonical}
-use Rattle.net_receiver.specs.{FiniteState, finite_after_read, finite_of, HasSoundFinite, ReceivesFinite}
-use Rattle.net_receiver.specs.declared.receiver_head.ReceiverHead.{ReceiverHead}
+use Rattle.net_receiver.proofs.Words.{◌∙◌, ap, length, sym, subst, IsCanonical, FiniteState, finite_after_read}
+use Rattle.net_receiver.proofs.Words.{finite_of, HasSoundFinite, ReceivesFinite, ReceiverHead}
 use Rattle.net_receiver.proofs.finite_receiver.FiniteReceiverOver.read.Goals as goal
 
 pub invariant_of-self : goal.invariant_of-self

@@ -1,7 +1,7 @@
 -- `f` was run on the queue's first part; what it counts is taken off, as by a read of that many bytes.
-use Rattle.std.proofs.Common.{◌≡◌, ◌+◌, sym, ap, subst, length, take, slice_range, arith}
-use Rattle.net_assembler.specs.RunLists.{IsCanonical}
-use Rattle.net_receiver.specs.{FiniteState, ReceivesFinite, HasSoundFinite}
+use Rattle.net_receiver.specs.{HasSoundFinite}
+use Rattle.net_receiver.proofs.Words.{◌≡◌, ◌+◌, sym, ap, subst, length, take, slice_range, arith, IsCanonical}
+use Rattle.net_receiver.proofs.Words.{FiniteState, ReceivesFinite}
 use Rattle.net_receiver.proofs.finite_receiver.FiniteReceiverOver.read_with.Goals as goal
 
 pub f-answer-requires : goal.f-answer-requires

@@ -1,6 +1,5 @@
-use Rattle.std.proofs.Common.{sym, subst}
-use Rattle.net_assembler.specs.RunLists.{IsCanonical}
-use Rattle.net_receiver.specs.{ReceivesFinite, HasSoundFinite}
+use Rattle.net_receiver.specs.{HasSoundFinite}
+use Rattle.net_receiver.proofs.Words.{sym, subst, IsCanonical, ReceivesFinite}
 use Rattle.net_receiver.proofs.finite_receiver.FiniteReceiverOver.remove.Goals as goal
 
 pub invariant_of-self : goal.invariant_of-self

@@ -1,5 +1,4 @@
-use Rattle.std.proofs.Common.{length, sym, subst}
-use Rattle.net_receiver.specs.{ReceivesFinite}
+use Rattle.net_receiver.proofs.Words.{length, sym, subst, ReceivesFinite}
 use Rattle.net_receiver.proofs.FiniteReceivers.{fresh_of_stream}
 use Rattle.net_receiver.proofs.finite_receiver.FiniteReceiverOver.reset_at.Goals as goal
 

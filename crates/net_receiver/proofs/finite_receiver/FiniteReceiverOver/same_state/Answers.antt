@@ -1,5 +1,5 @@
-use Rattle.std.proofs.Common.{◌∙◌, ◌↔◌, IsTrue, ap, subst}
-use Rattle.net_receiver.specs.{FiniteState, IsSameFinite, finite_of}
+use Rattle.net_receiver.proofs.Words.{◌∙◌, ◌↔◌, IsTrue, ap, subst, FiniteState, finite_of}
+use Rattle.net_receiver.specs.{IsSameFinite}
 use Rattle.net_receiver.proofs.finite_receiver.FiniteReceiverOver.same_state.Goals as goal
 
 pub returns : goal.returns

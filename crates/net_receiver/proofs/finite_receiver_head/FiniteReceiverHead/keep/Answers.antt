@@ -9,6 +9,7 @@ use Rattle.net_receiver.proofs.finite_receiver_head.FiniteReceiverHead.keep.Goal
 use Rattle.net_receiver.proofs.finite_receiver_head.FiniteReceiverHead.keep.Goals.{else-is_last-via-then-is_last+else-not-can_end}
 use Rattle.net_receiver.proofs.finite_receiver_head.FiniteReceiverHead.keep.Goals.{else-is_last-via-else-is_last}
 use Rattle.net_receiver.proofs.finite_receiver_head.FiniteReceiverHead.keep.Goals.{After-count_below-count}
+use Rattle.net_receiver.proofs.finite_receiver_head.FiniteReceiverHead.keep.Goals as goal
 
 -- the segment isn't refused for its end, and its bytes below the end are given to the receiver
 module _ (c : After-count_below-count) where

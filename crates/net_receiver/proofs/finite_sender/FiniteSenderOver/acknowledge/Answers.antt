@@ -1,5 +1,4 @@
-use Rattle.std.proofs.Common.{◌∙◌, ap, sym, subst}
-use Rattle.net_receiver.specs.{Sends, FiniteSenderState, acknowledged_below}
+use Rattle.net_receiver.proofs.Words.{◌∙◌, ap, sym, subst, Sends, FiniteSenderState, acknowledged_below}
 use Rattle.net_receiver.proofs.finite_sender.FiniteSenderOver.acknowledge.Goals as goal
 
 pub returns-clause-state : goal.returns-clause-state

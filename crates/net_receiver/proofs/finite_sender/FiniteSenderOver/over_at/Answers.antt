@@ -1,5 +1,4 @@
-use Rattle.std.proofs.Common.{[], length, sym, subst}
-use Rattle.net_receiver.specs.{Sends, FiniteSenderState}
+use Rattle.net_receiver.proofs.Words.{[], length, sym, subst, Sends, FiniteSenderState}
 use Rattle.net_receiver.proofs.Senders.{fresh_sends}
 use Rattle.net_receiver.proofs.finite_sender.FiniteSenderOver.over_at.Goals as goal
 

@@ -1,7 +1,7 @@
-use Rattle.std.proofs.Common.{List, ℕ, sym, subst, arith}
-use Rattle.net_ring.proofs.RingFacts.{part_is}
+use Rattle.std.proofs.Common.{List, ℕ, subst}
 use Rattle.net_receiver.specs.{FiniteSenderState, finite_sender_of, IsLent}
 use Rattle.net_receiver.proofs.Senders.{lent_later}
+use Rattle.net_receiver.proofs.Words.{sym, arith, part_is}
 use Rattle.net_receiver.proofs.finite_sender.FiniteSenderOver.peek_at.Goals as goal
 
 pub returns : goal.returns

@@ -1,5 +1,4 @@
-use Rattle.std.proofs.Common.{◌∙◌, [], length, ap, sym, subst}
-use Rattle.net_receiver.specs.{Sends, FiniteSenderState, fresh_finite_sender}
+use Rattle.net_receiver.proofs.Words.{◌∙◌, [], length, ap, sym, subst, Sends, FiniteSenderState, fresh_finite_sender}
 use Rattle.net_receiver.proofs.Senders.{fresh_sends}
 use Rattle.net_receiver.proofs.finite_sender.FiniteSenderOver.reset_at.Goals as goal
 

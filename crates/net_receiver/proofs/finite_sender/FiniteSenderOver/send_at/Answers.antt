@@ -1,9 +1,8 @@
-use Rattle.std.proofs.Common.{ℕ, ◌+◌, ◌∙◌, List, sym, subst, ap, refl, arith}
-use Rattle.std.specs.Int.{from_bool}
-use Rattle.net_ring.proofs.RingFacts.{part_is}
-use Rattle.net_receiver.specs.declared.finite_sender_head.FiniteSenderHead.{FiniteSenderHead}
-use Rattle.net_receiver.specs.{FiniteSenderState, finite_sender_of, sent_after, IsLent}
+use Rattle.std.proofs.Common.{List, subst}
+use Rattle.net_receiver.specs.{sent_after, IsLent}
 use Rattle.net_receiver.proofs.Senders.{lent_later}
+use Rattle.net_receiver.proofs.Words.{ℕ, ◌+◌, ◌∙◌, sym, ap, refl, arith, from_bool, part_is, FiniteSenderHead}
+use Rattle.net_receiver.proofs.Words.{FiniteSenderState, finite_sender_of}
 use Rattle.net_receiver.proofs.finite_sender.FiniteSenderOver.send_at.Goals as goal
 
 pub returns : goal.returns

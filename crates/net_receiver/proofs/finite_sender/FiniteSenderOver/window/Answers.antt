@@ -1,5 +1,4 @@
-use Rattle.std.proofs.Common.{◌∙◌, ap, sym}
-use Rattle.net_receiver.specs.{finite_room}
+use Rattle.net_receiver.proofs.Words.{◌∙◌, ap, sym, finite_room}
 use Rattle.net_receiver.proofs.finite_sender.FiniteSenderOver.window.Goals as goal
 
 pub returns : goal.returns

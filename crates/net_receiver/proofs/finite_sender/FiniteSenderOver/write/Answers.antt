@@ -1,7 +1,6 @@
-use Rattle.std.proofs.Common.{◌≡◌, ◌++◌, ◌∙◌, length, take, min, sym, ap, subst}
-use Rattle.net_ring.proofs.RingFacts.{lent_whole}
-use Rattle.net_receiver.specs.{Sends, FiniteSenderState, first_number, finite_room, with_bytes, finite_sender_of}
-use Rattle.net_receiver.specs.{IsSoundFiniteSender}
+use Rattle.net_receiver.proofs.Words.{◌≡◌, ◌++◌, ◌∙◌, length, take, min, sym, ap, subst, lent_whole, Sends}
+use Rattle.net_receiver.proofs.Words.{FiniteSenderState, first_number, finite_room, with_bytes, finite_sender_of}
+use Rattle.net_receiver.proofs.Words.{IsSoundFiniteSender}
 use Rattle.net_receiver.proofs.Senders.{written_number}
 use Rattle.net_receiver.proofs.finite_sender.FiniteSenderOver.write.Goals as goal
 

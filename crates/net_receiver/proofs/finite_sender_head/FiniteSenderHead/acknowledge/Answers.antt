@@ -1,7 +1,6 @@
-use Rattle.std.proofs.Common.{◌≡◌, ◌-◌, min, sym, ap, subst, ◌∙◌, arith}
-use Rattle.net_ring.specs.RingHead.{IsSound, ring_at}
-use Rattle.net_ring.proofs.Rotations.{length-queue}
-use Rattle.net_receiver.specs.{end_of, sender_from, sender_of}
+use Rattle.net_receiver.proofs.Words.{◌≡◌, ◌-◌, min, sym, ap, subst, ◌∙◌, arith, ring_at, length-queue, end_of}
+use Rattle.net_receiver.proofs.Words.{sender_from, sender_of}
+use Rattle.net_ring.specs.RingHead.{IsSound}
 use Rattle.net_receiver.proofs.finite_sender_head.FiniteSenderHead.acknowledge.Goals as goal
 
 pub returns-clause-state : goal.returns-clause-state

@@ -1,6 +1,4 @@
-use Rattle.std.proofs.Common.{◌≡◌, [], length, sym, ap, ◌∙◌, arith}
-use Rattle.net_ring.specs.RingHead.{ring_at}
-use Rattle.net_ring.proofs.Rotations.{length-queue}
+use Rattle.net_receiver.proofs.Words.{◌≡◌, [], length, sym, ap, ◌∙◌, arith, ring_at, length-queue}
 use Rattle.net_receiver.proofs.finite_sender_head.FiniteSenderHead.new.Goals as goal
 
 pub returns-clause-sound : goal.returns-clause-sound

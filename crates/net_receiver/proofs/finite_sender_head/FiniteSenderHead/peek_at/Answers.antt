@@ -1,11 +1,10 @@
-use Rattle.std.proofs.Common.{◌≡◌, ◌≤◌, ℕ, ◌∙◌, ◌-◌, length, take, drop, ap, sym, subst, arith, length-take, length-drop}
-use Rattle.std.proofs.lemmas.Bool.Decides.{nat_tests}
+use Rattle.std.proofs.Common.{ℕ, ◌∙◌, ◌-◌, ap}
 use Rattle.std.proofs.lemmas.List.{nil_from_length}
 use Rattle.net_ring.specs.Ring.{queue}
-use Rattle.net_ring.specs.RingHead.{IsSound, ring_at}
-use Rattle.net_ring.proofs.Rotations.{length-queue}
-use Rattle.net_receiver.specs.{sender_of, contiguous_end, end_of}
+use Rattle.net_ring.specs.RingHead.{IsSound}
 use Rattle.net_receiver.specs.SenderState.{SenderState}
+use Rattle.net_receiver.proofs.Words.{◌≡◌, ◌≤◌, length, take, drop, sym, subst, arith, length-take, length-drop}
+use Rattle.net_receiver.proofs.Words.{nat_tests, ring_at, length-queue, sender_of, contiguous_end, end_of}
 use Rattle.net_receiver.proofs.finite_sender_head.FiniteSenderHead.peek_at.Goals as goal
 
 contiguous_within : (v : SenderState) (pos : ℕ) → contiguous_end v pos ≤ end_of v

@@ -1,10 +1,8 @@
-use Rattle.std.proofs.Common.{◌≡◌, ◌++◌, length, take, cond, nat_eq, refl, sym, ap, subst, ◌∙◌, arith, length-append}
-use Rattle.std.proofs.Common.{length-take}
-use Rattle.std.proofs.lemmas.List.{take-take}
-use Rattle.net_ring.specs.Ring.{rewind_if_empty, with_elements_wrapping, with_enqueued, write_at}
-use Rattle.net_ring.specs.RingHead.{IsSound, ring_at}
-use Rattle.net_ring.proofs.Rotations.{length-queue}
-use Rattle.net_receiver.specs.{with_written, Sends, sender_of, open_room}
+use Rattle.net_receiver.proofs.Words.{◌≡◌, ◌++◌, length, take, cond, nat_eq, refl, sym, ap, subst, ◌∙◌, arith}
+use Rattle.net_receiver.proofs.Words.{length-append, length-take, take-take, with_elements_wrapping, with_enqueued}
+use Rattle.net_receiver.proofs.Words.{ring_at, length-queue, with_written, Sends, sender_of, open_room}
+use Rattle.net_ring.specs.Ring.{rewind_if_empty, write_at}
+use Rattle.net_ring.specs.RingHead.{IsSound}
 use Rattle.net_receiver.proofs.FiniteReceivers.{eq_tests}
 use Rattle.net_receiver.proofs.finite_sender_head.FiniteSenderHead.write.Goals as goal
 

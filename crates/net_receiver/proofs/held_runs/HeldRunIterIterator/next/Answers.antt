@@ -1,4 +1,4 @@
-use Rattle.std.proofs.Common.{◌^◌}
+use Rattle.net_receiver.proofs.Words.{◌^◌}
 use Rattle.net_receiver.proofs.Sets.{rest_below}
 use Rattle.net_receiver.proofs.held_runs.HeldRunIterIterator.next.Goals as goal
 

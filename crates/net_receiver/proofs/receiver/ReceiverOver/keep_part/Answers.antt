@@ -1,5 +1,5 @@
-use Rattle.std.proofs.Common.{◌≡◌, ◌∙◌, ap, subst, sym, length}
-use Rattle.net_receiver.specs.{piece, Segment, verdict, numbers, receiver_after_command, receiver_of, HasSoundParts}
+use Rattle.net_receiver.proofs.Words.{◌≡◌, ◌∙◌, ap, subst, sym, length, piece, Segment, verdict, numbers}
+use Rattle.net_receiver.proofs.Words.{receiver_after_command, receiver_of, HasSoundParts}
 use Rattle.net_receiver.proofs.OneStream.{segment_receives, kept_any, kept_in_order, stays}
 use Rattle.net_receiver.proofs.Heads.{lent_view, lent_sound, part_is, whole_written, sound_for}
 use Rattle.net_receiver.proofs.receiver.ReceiverOver.keep_part.Given as given

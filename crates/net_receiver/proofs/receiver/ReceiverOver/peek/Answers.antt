@@ -1,7 +1,4 @@
-use Rattle.std.proofs.Common.{◌∙◌, ap, drop, take, length}
-use Rattle.net_ring.specs.RingHead.{ring_at}
-use Rattle.net_receiver.specs.{contiguous_count_from}
-use Rattle.net_receiver.specs.ReceiverState.{ReceiverState}
+use Rattle.net_receiver.proofs.Words.{◌∙◌, ap, drop, take, length, ring_at, contiguous_count_from, ReceiverState}
 use Rattle.net_receiver.proofs.OneStream.{part_bytes}
 use Rattle.net_receiver.proofs.Places.{lent_from, each_lent, end_lent}
 use Rattle.net_receiver.proofs.Heads.{lent_view, lent_sound}

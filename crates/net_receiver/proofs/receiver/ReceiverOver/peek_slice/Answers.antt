@@ -1,5 +1,4 @@
-use Rattle.std.proofs.Common.{◌∙◌, ◌++◌, ap, sym, min, length, take, drop}
-use Rattle.net_receiver.specs.ReceiverState.{ReceiverState}
+use Rattle.net_receiver.proofs.Words.{◌∙◌, ◌++◌, ap, sym, min, length, take, drop, ReceiverState}
 use Rattle.net_receiver.proofs.OneStream.{read_bytes}
 use Rattle.net_receiver.proofs.Heads.{lent_view, queue_size}
 use Rattle.net_receiver.proofs.receiver.ReceiverOver.peek_slice.Goals as goal

@@ -1,7 +1,5 @@
-use Rattle.std.proofs.Common.{◌∙◌, ap, drop, length, arith, length-append, length-take, length-drop}
-use Rattle.net_ring.specs.RingHead.{ring_at}
-use Rattle.net_ring.specs.Ring.{queue}
-use Rattle.net_receiver.specs.{contiguous_count_from}
+use Rattle.net_receiver.proofs.Words.{◌∙◌, ap, drop, length, arith, length-append, length-take, length-drop, ring_at}
+use Rattle.net_receiver.proofs.Words.{queue, contiguous_count_from}
 use Rattle.net_receiver.proofs.Places.{lent_from}
 use Rattle.net_receiver.proofs.Heads.{lent_view, lent_sound}
 use Rattle.net_receiver.proofs.receiver.ReceiverOver.peek_slices.Goals as goal

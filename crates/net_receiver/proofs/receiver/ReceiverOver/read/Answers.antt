@@ -1,7 +1,5 @@
-use Rattle.std.proofs.Common.{◌∙◌, ◌++◌, min, ap, sym, subst, length, take, drop}
-use Rattle.net_assembler.specs.RunLists.{IsCanonical}
-use Rattle.net_receiver.specs.{Read, ReadReply, receiver_after_read}
-use Rattle.net_receiver.specs.ReceiverState.{ReceiverState}
+use Rattle.net_receiver.proofs.Words.{◌∙◌, ◌++◌, min, ap, sym, subst, length, take, drop, IsCanonical, Read, ReadReply}
+use Rattle.net_receiver.proofs.Words.{receiver_after_read, ReceiverState}
 use Rattle.net_receiver.proofs.OneStream.{stays}
 use Rattle.net_receiver.proofs.Heads.{lent_view, lent_sound, back_view, back_sound, queue_size, sound_for}
 use Rattle.net_receiver.proofs.Schedules.{read_prefix}

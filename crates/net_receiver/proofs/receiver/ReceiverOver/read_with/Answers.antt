@@ -1,7 +1,6 @@
 -- `f` was run on the queue's first part; what it counts is taken off, as by a read of that many bytes.
-use Rattle.std.proofs.Common.{sym, ap, subst, ◌∙◌, length, arith}
-use Rattle.net_assembler.specs.RunLists.{IsCanonical}
-use Rattle.net_receiver.specs.{Read, receiver_after_read, HasSoundParts}
+use Rattle.net_receiver.specs.{HasSoundParts}
+use Rattle.net_receiver.proofs.Words.{sym, ap, subst, ◌∙◌, length, arith, IsCanonical, Read, receiver_after_read}
 use Rattle.net_receiver.proofs.OneStream.{stays}
 use Rattle.net_receiver.proofs.Heads.{sound_for}
 use Rattle.net_receiver.proofs.receiver.ReceiverOver.read_with.Goals as goal

@@ -1,5 +1,4 @@
-use Rattle.std.proofs.Common.{length, sym, subst}
-use Rattle.net_receiver.specs.{fresh_kept, Refines, ReceivesFrom}
+use Rattle.net_receiver.proofs.Words.{length, sym, subst, fresh_kept, Refines, ReceivesFrom}
 use Rattle.net_receiver.proofs.OneStream.{fresh_receives_from}
 use Rattle.net_receiver.proofs.Theorems.{fresh_refines}
 use Rattle.net_receiver.proofs.receiver.ReceiverOver.reset_at.Goals as goal

@@ -1,6 +1,4 @@
-use Rattle.std.proofs.Common.{◌↔◌, IsTrue, subst}
-use Rattle.net_receiver.specs.{IsSameState, receiver_of}
-use Rattle.net_receiver.specs.ReceiverState.{ReceiverState}
+use Rattle.net_receiver.proofs.Words.{◌↔◌, IsTrue, subst, IsSameState, receiver_of, ReceiverState}
 use Rattle.net_receiver.proofs.Schedules.{tells_states, converge_by}
 use Rattle.net_receiver.proofs.Heads.{lent_view}
 use Rattle.net_receiver.proofs.receiver.ReceiverOver.same_state.Goals as goal

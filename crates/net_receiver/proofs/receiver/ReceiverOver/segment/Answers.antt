@@ -1,6 +1,5 @@
-use Rattle.std.proofs.Common.{◌≡◌, ◌∙◌, ap, subst, sym, length}
-use Rattle.net_receiver.specs.{piece, Segment, SegmentReply, verdict, segment_result, receiver_after_command}
-use Rattle.net_receiver.specs.{receiver_of, HasSoundParts}
+use Rattle.net_receiver.proofs.Words.{◌≡◌, ◌∙◌, ap, subst, sym, length, piece, Segment, SegmentReply, verdict}
+use Rattle.net_receiver.proofs.Words.{segment_result, receiver_after_command, receiver_of, HasSoundParts}
 use Rattle.net_receiver.proofs.OneStream.{segment_receives, in_order, any_order, stays}
 use Rattle.net_receiver.proofs.Heads.{lent_view, lent_sound, part_is, whole_written, sound_for}
 use Rattle.net_receiver.proofs.receiver.ReceiverOver.segment.Given as given

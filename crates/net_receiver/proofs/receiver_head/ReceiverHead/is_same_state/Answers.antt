@@ -4,9 +4,9 @@ use Rattle.net_ring.specs.RingHead.{ring_at}
 use Rattle.net_ring.specs.Ring.{queue, spare}
 use Rattle.net_assembler.specs.RunLists.{set_of}
 use Rattle.net_receiver.proofs.Places.{alike}
-use Rattle.net_receiver.proofs.receiver_head.ReceiverHead.is_same_state.Goals as goal
 use Rattle.net_receiver.proofs.receiver_head.ReceiverHead.is_same_state.Goals.{then-self-other, else-self-other}
 use Rattle.net_receiver.proofs.receiver_head.ReceiverHead.is_same_state.Goals.{then-self-other-2, else-self-other-2}
+use Rattle.net_receiver.proofs.receiver_head.ReceiverHead.is_same_state.Goals as goal
 
 -- what is compared before the held runs is equal
 before_held : (c : goal.After-is_same) →

@@ -1,7 +1,4 @@
-use Rattle.std.proofs.Common.{◌∙◌, sym}
-use Rattle.net_assembler.specs.RunLists.{runs_of, set_of}
-use Rattle.net_assembler.proofs.Joins.{no_runs}
-use Rattle.net_assembler.proofs.SoundHeads.{length-runs_of}
+use Rattle.net_receiver.proofs.Words.{◌∙◌, sym, runs_of, set_of, no_runs, length-runs_of}
 use Rattle.net_receiver.proofs.Scoreboards.{empty_board}
 use Rattle.net_receiver.proofs.scoreboard.Scoreboard.from_parts.Goals as goal
 

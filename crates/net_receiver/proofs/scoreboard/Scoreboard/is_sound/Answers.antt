@@ -1,5 +1,4 @@
-use Rattle.std.proofs.Common.{arith, subst}
-use Rattle.net_receiver.specs.{IsSoundScoreboard}
+use Rattle.net_receiver.proofs.Words.{arith, subst, IsSoundScoreboard}
 use Rattle.net_receiver.proofs.Scoreboards.{sound_positions}
 use Rattle.net_receiver.proofs.scoreboard.Scoreboard.is_sound.Goals as goal
 

@@ -1,5 +1,4 @@
-use Rattle.std.proofs.Common.{subst}
-use Rattle.net_receiver.specs.{IsNextHole}
+use Rattle.net_receiver.proofs.Words.{subst, IsNextHole}
 use Rattle.net_receiver.proofs.Scoreboards.{no_hole}
 use Rattle.net_receiver.proofs.scoreboard.Scoreboard.next_hole.Goals as goal
 

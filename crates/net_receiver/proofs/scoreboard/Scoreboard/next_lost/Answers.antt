@@ -1,4 +1,4 @@
-use Rattle.std.proofs.Common.{subst}
+use Rattle.net_receiver.proofs.Words.{subst}
 use Rattle.net_receiver.specs.{IsHole}
 use Rattle.net_receiver.proofs.Scoreboards.{one_bound}
 use Rattle.net_receiver.proofs.scoreboard.Scoreboard.next_lost.Goals as goal

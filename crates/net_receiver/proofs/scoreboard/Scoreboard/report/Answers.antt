@@ -1,8 +1,7 @@
-use Rattle.std.proofs.Common.{◌≡◌, ◌∙◌, ◌↔◌, ◌-◌, ℕ, Err, ap, subst, sym, length}
-use Rattle.net_assembler.specs.Positions.{Positions, front}
-use Rattle.net_assembler.specs.RunLists.{set_of}
-use Rattle.net_receiver.specs.{HasNoRoom, IsReport, reported_by}
-use Rattle.net_receiver.specs.declared.report_error.ReportError.TheVariants.{NoBlock, TooManyHoles}
+use Rattle.net_receiver.proofs.Words.{◌≡◌, ◌∙◌, ◌↔◌, ◌-◌, ℕ, Err, ap, subst, sym, length, Positions, front, set_of}
+use Rattle.net_receiver.proofs.Words.{HasNoRoom, reported_by}
+use Rattle.net_receiver.specs.{IsReport}
+use Rattle.net_receiver.specs.declared.scoreboard_head.ReportError.TheVariants.{NoBlock, TooManyHoles}
 use Rattle.net_receiver.proofs.Scoreboards.{front_board}
 use Rattle.net_receiver.proofs.scoreboard.Scoreboard.report.Goals as goal
 

@@ -1,6 +1,4 @@
-use Rattle.std.proofs.Common.{◌≡◌, ◌∙◌, ◌+◌, ◌-◌, arith}
-use Rattle.net_assembler.specs.RunLists.{set_of}
-use Rattle.net_assembler.proofs.SoundHeads.{position_fits}
+use Rattle.net_receiver.proofs.Words.{◌≡◌, ◌∙◌, ◌+◌, ◌-◌, arith, set_of, position_fits}
 use Rattle.net_receiver.proofs.Scoreboards.{acknowledged_again, acknowledged_begins, acknowledged_is}
 use Rattle.net_receiver.proofs.Scoreboards.{acknowledged_fits, base_fits, shifted_more}
 use Rattle.net_receiver.proofs.scoreboard_head.ScoreboardHead.acknowledge.Goals as goal

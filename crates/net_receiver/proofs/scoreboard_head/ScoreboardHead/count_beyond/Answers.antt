@@ -1,8 +1,4 @@
-use Rattle.std.proofs.Common.{◌≡◌, ◌∙◌, ap, arith}
-use Rattle.net_assembler.specs.Positions.{maximal_runs}
-use Rattle.net_assembler.specs.RunLists.{set_of}
-use Rattle.net_receiver.specs.{sizes}
-use Rattle.net_assembler.proofs.SoundHeads.{position_fits}
+use Rattle.net_receiver.proofs.Words.{◌≡◌, ◌∙◌, ap, arith, maximal_runs, set_of, sizes, position_fits}
 use Rattle.net_receiver.proofs.Scoreboards.{sizes_few, sizes_fit, number_beyond}
 use Rattle.net_receiver.proofs.scoreboard_head.ScoreboardHead.count_beyond.Goals as goal
 

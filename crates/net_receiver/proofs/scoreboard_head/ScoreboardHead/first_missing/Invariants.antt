@@ -1,7 +1,5 @@
-use Rattle.std.proofs.Common.{◌≡◌}
-use Rattle.net_assembler.specs.Positions.{maximal_runs}
+use Rattle.net_receiver.proofs.Words.{◌≡◌, maximal_runs, reported_by, beyond}
 use Rattle.net_receiver.proofs.Scoreboards.{count_from}
-use Rattle.net_receiver.specs.{reported_by, beyond}
 use Rattle.net_receiver.proofs.scoreboard_head.ScoreboardHead.first_missing.Given as goal
 
 -- none of the runs so far has the position

@@ -1,4 +1,4 @@
-use Rattle.net_assembler.specs.RunLists.{set_of}
+use Rattle.net_receiver.proofs.Words.{set_of}
 use Rattle.net_receiver.proofs.Scoreboards.{end_beyond}
 use Rattle.net_receiver.proofs.scoreboard_head.ScoreboardHead.highest_reported.Goals as goal
 

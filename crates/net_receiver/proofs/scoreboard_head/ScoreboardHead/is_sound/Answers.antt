@@ -1,7 +1,5 @@
-use Rattle.std.proofs.Common.{◌-◌, ◌≤◌, ◌∙◌, sym, refl, arith}
+use Rattle.net_receiver.proofs.Words.{◌-◌, ◌≤◌, ◌∙◌, sym, refl, arith, nat_tests, set_of}
 use Rattle.std.proofs.lemmas.Bool.{le-leb}
-use Rattle.std.proofs.lemmas.Bool.Decides.{nat_tests}
-use Rattle.net_assembler.specs.RunLists.{set_of}
 use Rattle.net_receiver.proofs.Scoreboards.{no_front, front_none, fit_by_end, end_fits}
 use Rattle.net_receiver.proofs.scoreboard_head.ScoreboardHead.is_sound.Goals as goal
 

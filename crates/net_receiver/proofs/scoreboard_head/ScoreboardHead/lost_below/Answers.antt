@@ -1,12 +1,10 @@
-use Rattle.std.proofs.Common.{ℕ, ◌≡◌, ◌∙◌, ◌∷◌, ◌*◌, ◌≤◌, ◌⊎◌, ◌<◌, max, inl, inr, length, sym, ap, subst, arith}
-use Rattle.net_assembler.specs.Positions.{maximal_runs}
-use Rattle.net_assembler.specs.RunLists.{set_of}
-use Rattle.net_receiver.specs.{reported_by, beyond, sizes}
+use Rattle.net_receiver.proofs.Words.{ℕ, ◌≡◌, ◌∙◌, ◌∷◌, ◌*◌, ◌≤◌, ◌⊎◌, ◌<◌, max, inl, inr, length, sym, ap, subst}
+use Rattle.net_receiver.proofs.Words.{arith, maximal_runs, set_of, reported_by, beyond, sizes}
 use Rattle.net_receiver.proofs.Scoreboards.{as_many, number_of, number_beyond, sizes_fit, IsBoundSoFar, no_bound}
 use Rattle.net_receiver.proofs.Scoreboards.{further, bound_stops, few_tell, many_tell}
-use Rattle.net_receiver.proofs.scoreboard_head.ScoreboardHead.lost_below.Goals as goal
 use Rattle.net_receiver.proofs.scoreboard_head.ScoreboardHead.lost_below.Goals.{else-count-max-via-then-count-max+else-bytes-most}
 use Rattle.net_receiver.proofs.scoreboard_head.ScoreboardHead.lost_below.Goals.{else-count-max-via-else-count-max}
+use Rattle.net_receiver.proofs.scoreboard_head.ScoreboardHead.lost_below.Goals as goal
 
 pub loop-start-init : goal.loop-start-init
 loop-start-init c =

@@ -1,6 +1,4 @@
-use Rattle.std.proofs.Common.{◌≡◌, ◌<◌, ◌^◌, length}
-use Rattle.net_assembler.specs.Positions.{maximal_runs}
-use Rattle.net_receiver.specs.{reported_by, beyond, sizes}
+use Rattle.net_receiver.proofs.Words.{◌≡◌, ◌<◌, ◌^◌, length, maximal_runs, reported_by, beyond, sizes}
 use Rattle.net_receiver.proofs.Scoreboards.{IsBoundSoFar}
 use Rattle.net_receiver.proofs.scoreboard_head.ScoreboardHead.lost_below.Given as goal
 

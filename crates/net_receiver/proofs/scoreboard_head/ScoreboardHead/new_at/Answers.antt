@@ -1,8 +1,4 @@
-use Rattle.std.proofs.Common.{◌≡◌, ℕ, List, false, ap, ◌∙◌}
-use Rattle.std.proofs.lemmas.Bool.{both_ways}
-use Rattle.net_assembler.specs.Positions.{contains}
-use Rattle.net_assembler.specs.RunLists.{set_of}
-use Rattle.net_assembler.proofs.Sets.{contains-nothing}
+use Rattle.net_receiver.proofs.Words.{◌≡◌, ℕ, List, false, ap, ◌∙◌, both_ways, contains, set_of, contains-nothing}
 use Rattle.net_receiver.proofs.Scoreboards.{empty_board}
 use Rattle.net_receiver.proofs.scoreboard_head.ScoreboardHead.new_at.Goals as goal
 

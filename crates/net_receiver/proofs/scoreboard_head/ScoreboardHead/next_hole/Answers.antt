@@ -1,6 +1,5 @@
-use Rattle.std.proofs.Common.{◌≡◌, ℕ, ◌∙◌, sym, ap, max, min, arith}
-use Rattle.net_assembler.specs.Positions.{maximal_runs, first_missing, shift_up}
-use Rattle.net_assembler.specs.RunLists.{set_of}
+use Rattle.net_receiver.proofs.Words.{◌≡◌, ℕ, ◌∙◌, sym, ap, max, min, arith, maximal_runs, first_missing, shift_up}
+use Rattle.net_receiver.proofs.Words.{set_of}
 use Rattle.net_receiver.proofs.Scoreboards.{next_start, next_hole_is, beyond_board, missing_beyond, hole_beyond}
 use Rattle.net_receiver.proofs.scoreboard_head.ScoreboardHead.next_hole.Goals as goal
 

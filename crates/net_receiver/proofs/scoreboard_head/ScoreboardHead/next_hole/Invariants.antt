@@ -1,7 +1,5 @@
-use Rattle.std.proofs.Common.{◌≡◌}
-use Rattle.net_assembler.specs.Positions.{maximal_runs}
+use Rattle.net_receiver.proofs.Words.{◌≡◌, maximal_runs, reported_by, beyond}
 use Rattle.net_receiver.proofs.Scoreboards.{next_start}
-use Rattle.net_receiver.specs.{reported_by, beyond}
 use Rattle.net_receiver.proofs.scoreboard_head.ScoreboardHead.next_hole.Given as goal
 
 -- what the other runs make of the end so far is what all make of the limit

@@ -1,8 +1,5 @@
-use Rattle.std.proofs.Common.{◌≡◌, ◌+◌, ◌-◌, ◌∙◌, length, ap, arith, is_ok, refl, sym}
-use Rattle.std.proofs.lemmas.Bool.{false≢true}
-use Rattle.net_assembler.specs.Positions.{with_range}
-use Rattle.net_assembler.specs.RunLists.{set_of}
-use Rattle.net_receiver.specs.{reported_by, board}
+use Rattle.net_receiver.proofs.Words.{◌≡◌, ◌+◌, ◌-◌, ◌∙◌, length, ap, arith, is_ok, refl, sym, false≢true, with_range}
+use Rattle.net_receiver.proofs.Words.{set_of, reported_by, board}
 use Rattle.net_receiver.proofs.Scoreboards.{front_board, with_range_below, with_range_beyond, no_room, added_begins}
 use Rattle.net_receiver.proofs.Scoreboards.{added_fits}
 use Rattle.net_receiver.proofs.scoreboard_head.ScoreboardHead.report.Goals as goal

@@ -1,8 +1,5 @@
-use Rattle.std.proofs.Common.{◌^◌, ◌∙◌, sym, ap, subst}
-use Rattle.net_assembler.specs.Positions.{maximal_runs, runs_shifted_up, shift_up}
-use Rattle.net_assembler.specs.RunLists.{set_of}
-use Rattle.net_assembler.proofs.Sets.{maximal_runs-shift_up}
-use Rattle.net_receiver.specs.{EndBelow}
+use Rattle.net_receiver.proofs.Words.{◌^◌, ◌∙◌, sym, ap, subst, maximal_runs, runs_shifted_up, shift_up, set_of}
+use Rattle.net_receiver.proofs.Words.{maximal_runs-shift_up, EndBelow}
 use Rattle.net_receiver.proofs.Scoreboards.{beyond_board, beyond_fits}
 use Rattle.net_receiver.proofs.Sets.{ends_below}
 use Rattle.net_receiver.proofs.scoreboard_head.ScoreboardHead.reported.Goals as goal

@@ -1,5 +1,4 @@
-use Rattle.std.proofs.Common.{◌∙◌, ap, sym, subst}
-use Rattle.net_receiver.specs.{sender_from, Sends}
+use Rattle.net_receiver.proofs.Words.{◌∙◌, ap, sym, subst, sender_from, Sends}
 use Rattle.net_receiver.proofs.sender.SenderOver.acknowledge.Goals as goal
 
 pub returns-clause-state : goal.returns-clause-state

@@ -1,6 +1,4 @@
-use Rattle.std.proofs.Common.{◌-◌, [], length, sym, subst, arith}
-use Rattle.std.proofs.lemmas.List.{drop_all}
-use Rattle.net_receiver.specs.{Sends}
+use Rattle.net_receiver.proofs.Words.{◌-◌, [], length, sym, subst, arith, drop_all, Sends}
 use Rattle.net_receiver.proofs.sender.SenderOver.over_at.Goals as goal
 
 pub invariant_of-result : goal.invariant_of-result

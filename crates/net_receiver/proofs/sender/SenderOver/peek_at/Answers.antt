@@ -1,10 +1,5 @@
-use Rattle.std.proofs.Common.{◌≡◌, ◌<◌, ◌≤◌, ◌-◌, ◌∙◌, ap, sym, length, take, drop, min, arith}
-use Rattle.std.proofs.lemmas.Bool.Decides.{nat_tests}
-use Rattle.std.proofs.lemmas.List.{nil_from_length}
-use Rattle.net_ring.specs.RingHead.{ring_at}
-use Rattle.net_ring.proofs.RingFacts.{part_is}
-use Rattle.net_ring.proofs.Rotations.{length-queue}
-use Rattle.net_receiver.specs.{contiguous_end}
+use Rattle.net_receiver.proofs.Words.{◌≡◌, ◌<◌, ◌≤◌, ◌-◌, ◌∙◌, ap, sym, length, take, drop, min, arith, nat_tests}
+use Rattle.net_receiver.proofs.Words.{nil_from_length, ring_at, part_is, length-queue, contiguous_end}
 use Rattle.net_receiver.proofs.Senders.{lent_says, lent_at}
 use Rattle.net_receiver.proofs.sender.SenderOver.peek_at.Goals as goal
 

@@ -1,6 +1,4 @@
-use Rattle.std.proofs.Common.{◌+◌, ◌-◌, ◌∙◌, [], length, ap, sym, subst, arith}
-use Rattle.std.proofs.lemmas.List.{drop_all}
-use Rattle.net_receiver.specs.{sender_state, Sends}
+use Rattle.net_receiver.proofs.Words.{◌+◌, ◌-◌, ◌∙◌, [], length, ap, sym, subst, arith, drop_all, sender_state, Sends}
 use Rattle.net_receiver.proofs.sender.SenderOver.reset_at.Goals as goal
 
 pub invariant_of-self : goal.invariant_of-self

@@ -1,6 +1,6 @@
-use Rattle.std.proofs.Common.{◌≡◌, ◌++◌, ◌∙◌, length, take, min, sym, ap, subst}
-use Rattle.net_ring.proofs.RingFacts.{lent_whole}
-use Rattle.net_receiver.specs.{room_of, with_written, Sends, sender_of, IsSoundHead}
+use Rattle.net_receiver.proofs.Words.{◌≡◌, ◌++◌, ◌∙◌, length, take, min, sym, ap, subst, lent_whole, with_written}
+use Rattle.net_receiver.proofs.Words.{Sends, sender_of, IsSoundHead}
+use Rattle.net_receiver.specs.{room_of}
 use Rattle.net_receiver.proofs.Senders.{sends_written}
 use Rattle.net_receiver.proofs.sender.SenderOver.write.Goals as goal
 

@@ -1,9 +1,8 @@
-use Rattle.std.proofs.Common.{◌≡◌, ◌∙◌, ◌-◌, ◌+◌, length, nat_lt, if◌then◌else◌, refl, ap, sym, subst, arith}
-use Rattle.std.proofs.lemmas.Bool.Decides.{nat_tests}
-use Rattle.net_ring.specs.RingHead.{IsSound, ring_at, dequeued_place}
-use Rattle.net_ring.specs.Ring.{queue}
-use Rattle.net_ring.proofs.Rotations.{with_dequeued_parts, read_at_le, length-queue}
-use Rattle.net_receiver.specs.{sender_state, Sends, sender_of}
+use Rattle.net_receiver.proofs.Words.{◌≡◌, ◌∙◌, ◌-◌, ◌+◌, length, nat_lt, refl, ap, sym, subst, arith, nat_tests}
+use Rattle.net_receiver.proofs.Words.{ring_at, dequeued_place, queue, length-queue, sender_state, Sends, sender_of}
+use Rattle.std.proofs.Common.{if◌then◌else◌}
+use Rattle.net_ring.specs.RingHead.{IsSound}
+use Rattle.net_ring.proofs.Rotations.{with_dequeued_parts, read_at_le}
 use Rattle.net_receiver.proofs.Senders.{sends_from}
 use Rattle.net_receiver.proofs.sender_head.SenderHead.acknowledge.Goals as goal
 

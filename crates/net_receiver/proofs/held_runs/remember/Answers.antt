@@ -1,9 +1,8 @@
-use Rattle.std.proofs.Common.{◌≡◌, ◌∙◌, ◌++◌, ◌+◌, ◌≤◌, ◌<◌, ℕ, zero, suc, List, [], ◌∷◌, length, map, take, drop}
-use Rattle.std.proofs.Common.{get_or, slice_set, refl, sym, ap, arith, ⊎_elim, take_all}
-use Rattle.std.specs.List.{take-map}
-use Rattle.std.proofs.lemmas.Bool.{cases_lt}
-use Rattle.std.proofs.lemmas.List.{drop_all, length-map}
-use Rattle.net_receiver.proofs.newest_runs.remember.Goals as goal
+use Rattle.net_receiver.proofs.Words.{◌≡◌, ◌∙◌, ◌++◌, ◌+◌, ◌≤◌, ◌<◌, ℕ, zero, suc, List, [], ◌∷◌, length, map, take}
+use Rattle.net_receiver.proofs.Words.{drop, get_or, refl, sym, ap, arith, ⊎_elim, take_all, take-map, cases_lt}
+use Rattle.net_receiver.proofs.Words.{drop_all, length-map}
+use Rattle.std.proofs.Common.{slice_set}
+use Rattle.net_receiver.proofs.held_runs.remember.Goals as goal
 
 -- the first n starts over a list of positions
 abbrev so_far : ℕ → List (ℕ × ℕ) → List ℕ → List ℕ

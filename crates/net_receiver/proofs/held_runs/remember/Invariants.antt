@@ -1,5 +1,5 @@
-use Rattle.std.proofs.Common.{◌≡◌, ◌++◌, map, take, drop}
-use Rattle.net_receiver.proofs.newest_runs.remember.Given as goal
+use Rattle.net_receiver.proofs.Words.{◌≡◌, ◌++◌, map, take, drop}
+use Rattle.net_receiver.proofs.held_runs.remember.Given as goal
 
 -- the starts so far are written
 abbrev pub invariant-loop-i : goal.invariant-loop-i
