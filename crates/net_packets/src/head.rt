@@ -260,7 +260,8 @@ impl PacketsHead {
         requires sound { IsSoundHead slot_count capacity self }
         ensures can { IsTrue result ↔ CanTake capacity self first.now }
         ensures first { (ss : List PacketSlot) → length ss ≡ slot_count →
-            HasSoundSlots capacity self ss → IsFirstSlot self ss first.now → CanTake capacity self first.now }
+            HasSoundSlots capacity self ss → IsFirstSlot self ss first.now
+            → CanTake capacity self first.now }
     {
         let to_end = capacity - self.bytes.read_at;
         let fits = self.slots.length > 0 && first.size <= self.bytes.length && first.size <= to_end;
@@ -281,7 +282,8 @@ impl PacketsHead {
         ensures taken { self.new ≡ with_slot_taken slot_count capacity first.now.size self.old }
         ensures sound { IsSoundHead slot_count capacity self.new }
         ensures slots { (ss : List PacketSlot) → length ss ≡ slot_count →
-            HasSoundSlots capacity self.old ss → slice_get ss self.old.slots.read_at ≡ Some first.now
+            HasSoundSlots capacity self.old ss
+            → slice_get ss self.old.slots.read_at ≡ Some first.now
             → HasSoundSlots capacity self.new ss }
         ensures state { (ss : List PacketSlot) (xs : List ℕ) → length ss ≡ slot_count →
             length xs ≡ capacity → HasSoundSlots capacity self.old ss →
@@ -341,7 +343,8 @@ impl PacketsHead {
         ensures done { IsTrue result ↔ CanShorten self.old (last_slot self.old slots.old) count }
         ensures head { IsTrue result → (self.new.slots ≡ self.old.slots) × (self.new.bytes
             ≡ place self.old.bytes.read_at (self.old.bytes.length - count)) }
-        ensures slots { IsTrue result → slots.new ≡ set slots.old (last_slot_index self.old slots.old)
+        ensures slots { IsTrue result
+            → slots.new ≡ set slots.old (last_slot_index self.old slots.old)
             (packet_slot ((last_slot self.old slots.old).size - count)) }
         ensures unchanged { IsFalse result → (self.new ≡ self.old) × (slots.new ≡ slots.old) }
         ensures sound { IsSoundHead (length slots.old) capacity self.new }

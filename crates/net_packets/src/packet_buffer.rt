@@ -300,7 +300,8 @@ impl<H: Drop, M: Storage<PacketMetadata<H>>, B: Storage<u8>> PacketsOver<H, M, B
             (λ r. r.now ≡ last_bytes (with_packet_if_room self.old size header)) }
         // Guarantee.
         ensures size { IfOk result (λ r. length r.now ≡ size) }
-        ensures call { IfOk result (λ r. (ws : List ℕ) → length ws ≡ size → Makes (Enqueue header ws)
+        ensures call { IfOk result (λ r. (ws : List ℕ) → length ws ≡ size
+            → Makes (Enqueue header ws)
             self.old (with_last_bytes (with_packet_if_room self.old size header) ws)) }
     {
         let Ok(()) = self.place(size, header) else {
@@ -359,7 +360,8 @@ impl<H: Drop, M: Storage<PacketMetadata<H>>, B: Storage<u8>> PacketsOver<H, M, B
         ensures* writes_back { sem 𝓛 (lends_bytes H.row M.row B.row M.Storage B.Storage
             self.entry result (with_last_bytes self.old)) }
         ensures written { (ws : List ℕ) → length ws ≡ length result.now
-            → contents (with_last_bytes self.old ws) ≡ with_bytes_in_last_entry ws (contents self.old) }
+            → contents (with_last_bytes self.old ws)
+            ≡ with_bytes_in_last_entry ws (contents self.old) }
         ensures value { result.now ≡ last_bytes self.old }
         ensures size { length result.now ≡ first_size (only_last self.old.packets) }
         ensures capacity { (ws : List ℕ) → length (with_last_bytes self.old ws).storage
@@ -534,7 +536,8 @@ impl<H: Drop, M: Storage<PacketMetadata<H>>, B: Storage<u8>> PacketsOver<H, M, B
         ensures shown { IfOk result
             (λ r. contents self.old ≡ (r.0, r.1.now) ∷ drop 1 (contents self.old)) }
         ensures left { IfOk result (λ r. (ws : List ℕ) → length ws ≡ length r.1.now
-            → contents (with_bytes (without_first_and_gap self.old) (without_gap self.old).read_at ws)
+            → contents (with_bytes (without_first_and_gap self.old)
+            (without_gap self.old).read_at ws)
             ≡ drop 1 (contents self.old)) }
         ensures no_packet { IsErr result ↔ (length self.old.packets ≡ 0) }
         ensures first { IfOk result (λ r. IsFirst self.old r.0 r.1.now) }

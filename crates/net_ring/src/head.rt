@@ -368,7 +368,8 @@ impl RingHead {
     #[inline]
     pub fn write_unallocated<T: Copy>(self, storage: &mut [T], offset: usize, data: &[T]) -> usize
         requires sound { IsSound (length storage.old) self }
-        ensures count { result ≡ min (length «data».now) (window (ring_at storage.old self) - offset) }
+        ensures count { result
+            ≡ min (length «data».now) (window (ring_at storage.old self) - offset) }
         ensures ring { let g = ring_at storage.old self in ring_at storage.new self
             ≡ with_elements_wrapping g (spare_index g offset) (take result «data».now) }
         ensures written { WritesSpare (ring_at storage.old self) offset (take result «data».now)
@@ -405,7 +406,8 @@ impl RingHead {
         ensures count { result ≡ min (length «data».now) (window (ring_at storage.old self.old)) }
         ensures ring { let g = rewind_if_empty (ring_at storage.old self.old) in
             ring_at storage.new self.new
-            ≡ with_enqueued result (with_elements_wrapping g (write_at g) (take result «data».now)) }
+            ≡ with_enqueued result (with_elements_wrapping g (write_at g)
+            (take result «data».now)) }
         ensures enqueued { Enqueues (rewind_if_empty (ring_at storage.old self.old))
             (take result «data».now) (ring_at storage.new self.new) }
         ensures queue { queue (ring_at storage.new self.new)

@@ -353,7 +353,8 @@ impl<T, S: Storage<T>> RingOver<T, S> {
         ensures full { IsErr result ↔ (window self.old ≡ 0) }
         ensures unchanged { OnErr result (self.new ≡ self.old) }
         ensures called { IfOk result (λ answer. CalledOnNext F.FnOnce f self.old answer self.new) }
-        ensures call { IfOk result (λ answer. (x : T) × (y : T) × FnOnceReturnsAtMut F.FnOnce f x answer y
+        ensures call { IfOk result (λ answer. (x : T) × (y : T)
+            × FnOnceReturnsAtMut F.FnOnce f x answer y
             × Makes (if is_ok answer then EnqueueOne y else EnqueueErr y) self.old self.new) }
         ensures room { IfOk result (λ answer.
             window self.new + (if is_ok answer then 1 else 0) ≡ window self.old) }
@@ -390,10 +391,14 @@ impl<T, S: Storage<T>> RingOver<T, S> {
             (with_enqueued 1 self.old) (write_at self.old) result) }
         ensures full { IsErr result ↔ (window self.old ≡ 0) }
         ensures value { IfOk result (λ r. spare self.old ≡ r.now ∷ drop 1 (spare self.old)) }
-        ensures enqueued { window self.old ≢ 0 → (w : T) → Enqueues self.old (w ∷ []) (with_one_enqueued self.old w) }
-        ensures call { window self.old ≢ 0 → (w : T) → Makes (EnqueueOne w) self.old (with_one_enqueued self.old w) }
-        ensures room { window self.old ≢ 0 → (w : T) → window (with_one_enqueued self.old w) + 1 ≡ window self.old }
-        ensures capacity { window self.old ≢ 0 → (w : T) → capacity (with_one_enqueued self.old w) ≡ capacity self.old }
+        ensures enqueued { window self.old ≢ 0 → (w : T)
+            → Enqueues self.old (w ∷ []) (with_one_enqueued self.old w) }
+        ensures call { window self.old ≢ 0 → (w : T)
+            → Makes (EnqueueOne w) self.old (with_one_enqueued self.old w) }
+        ensures room { window self.old ≢ 0 → (w : T)
+            → window (with_one_enqueued self.old w) + 1 ≡ window self.old }
+        ensures capacity { window self.old ≢ 0 → (w : T)
+            → capacity (with_one_enqueued self.old w) ≡ capacity self.old }
     {
         if self.is_full() {
             return Err(Full);
@@ -446,7 +451,8 @@ impl<T, S: Storage<T>> RingOver<T, S> {
         ensures empty { IsErr result ↔ (self.old.count ≡ 0) }
         ensures unchanged { OnErr result (self.new ≡ self.old) }
         ensures called { IfOk result (λ answer. CalledOnFirst F.FnOnce f self.old answer self.new) }
-        ensures call { IfOk result (λ answer. (x : T) × (y : T) × FnOnceReturnsAtMut F.FnOnce f x answer y
+        ensures call { IfOk result (λ answer. (x : T) × (y : T)
+            × FnOnceReturnsAtMut F.FnOnce f x answer y
             × Makes (if is_ok answer then DequeueOne x y else DequeueErr y) self.old self.new) }
         ensures room { IfOk result (λ answer.
             window self.new ≡ window self.old + (if is_ok answer then 1 else 0)) }
@@ -483,10 +489,14 @@ impl<T, S: Storage<T>> RingOver<T, S> {
         ensures empty { IsErr result ↔ (self.old.count ≡ 0) }
         // Guarantee.
         ensures value { IfOk result (λ r. queue self.old ≡ r.now ∷ drop 1 (queue self.old)) }
-        ensures dequeued { self.old.count ≢ 0 → (w : T) → Dequeues self.old 1 (w ∷ []) (with_one_dequeued self.old w) }
-        ensures call { IfOk result (λ r. (w : T) → Makes (DequeueOne r.now w) self.old (with_one_dequeued self.old w)) }
-        ensures room { self.old.count ≢ 0 → (w : T) → window (with_one_dequeued self.old w) ≡ window self.old + 1 }
-        ensures capacity { self.old.count ≢ 0 → (w : T) → capacity (with_one_dequeued self.old w) ≡ capacity self.old }
+        ensures dequeued { self.old.count ≢ 0 → (w : T)
+            → Dequeues self.old 1 (w ∷ []) (with_one_dequeued self.old w) }
+        ensures call { IfOk result (λ r. (w : T)
+            → Makes (DequeueOne r.now w) self.old (with_one_dequeued self.old w)) }
+        ensures room { self.old.count ≢ 0 → (w : T)
+            → window (with_one_dequeued self.old w) ≡ window self.old + 1 }
+        ensures capacity { self.old.count ≢ 0 → (w : T)
+            → capacity (with_one_dequeued self.old w) ≡ capacity self.old }
     {
         if self.is_empty() {
             return Err(Empty);
@@ -502,7 +512,8 @@ impl<T, S: Storage<T>> RingOver<T, S> {
             (with_dequeued 1 self.old) self.old.read_at result) }
         ensures value { queue self.old ≡ result.now ∷ drop 1 (queue self.old) }
         ensures dequeued { (w : T) → Dequeues self.old 1 (w ∷ []) (with_one_dequeued self.old w) }
-        ensures call { (w : T) → Makes (DequeueOne result.now w) self.old (with_one_dequeued self.old w) }
+        ensures call { (w : T) → Makes (DequeueOne result.now w) self.old
+            (with_one_dequeued self.old w) }
         ensures room { (w : T) → window (with_one_dequeued self.old w) ≡ window self.old + 1 }
         ensures capacity { (w : T) → capacity (with_one_dequeued self.old w) ≡ capacity self.old }
     {
@@ -597,7 +608,8 @@ impl<T, S: Storage<T>> RingOver<T, S> {
     /// `f` takes the part that it is lent, and counts no more elements than it has.
     #[track_caller]
     pub fn enqueue_many_with<R, F: FnOnce(&mut [T]) -> (usize, R)>(&mut self, f: F) -> (usize, R)
-        requires callable { FnOnceTakesAtMut F.FnOnce f (contiguous_spare (rewind_if_empty self.old)) }
+        requires callable { FnOnceTakesAtMut F.FnOnce f
+            (contiguous_spare (rewind_if_empty self.old)) }
         requires count { CountsWithin F.FnOnce f (contiguous_spare (rewind_if_empty self.old))
             (contiguous_window (rewind_if_empty self.old)) }
         ensures called { CalledOnSpare F.FnOnce f (rewind_if_empty self.old) result self.new }
@@ -632,13 +644,15 @@ impl<T, S: Storage<T>> RingOver<T, S> {
         ensures* writes_back { sem 𝓛 (lends_many T.row S.row S.Storage self.entry
             (with_enqueued (min size (contiguous_window (rewind_if_empty self.old))) (rewind_if_empty self.old))
             (write_at (rewind_if_empty self.old)) result) }
-        ensures count { length result.now ≡ min size (contiguous_window (rewind_if_empty self.old)) }
+        ensures count { length result.now
+            ≡ min size (contiguous_window (rewind_if_empty self.old)) }
         // Guarantee.
         ensures not_empty { window self.old ≢ 0 → 0 < size → 0 < length result.now }
         ensures value { result.now ≡ take (length result.now) (spare (rewind_if_empty self.old)) }
         ensures stored { let g = rewind_if_empty self.old in
             result.now ≡ take (length result.now) (drop (write_at g) g.storage) }
-        ensures enqueued { let g = rewind_if_empty self.old in let k = min size (contiguous_window g) in
+        ensures enqueued { let g = rewind_if_empty self.old in
+            let k = min size (contiguous_window g) in
             (ws : List T) → length ws ≡ k → Enqueues g ws
             (with_elements (with_enqueued k g) (write_at g) ws) }
         ensures call { let g = rewind_if_empty self.old in let k = min size (contiguous_window g) in
@@ -647,7 +661,8 @@ impl<T, S: Storage<T>> RingOver<T, S> {
         ensures room { let g = rewind_if_empty self.old in let k = min size (contiguous_window g) in
             (ws : List T) → window (with_elements (with_enqueued k g) (write_at g) ws) + k
             ≡ window self.old }
-        ensures capacity { let g = rewind_if_empty self.old in let k = min size (contiguous_window g) in
+        ensures capacity { let g = rewind_if_empty self.old in
+            let k = min size (contiguous_window g) in
             (ws : List T) → capacity (with_elements (with_enqueued k g) (write_at g) ws)
             ≡ capacity self.old }
     {
@@ -674,7 +689,8 @@ impl<T, S: Storage<T>> RingOver<T, S> {
         // Guarantee.
         ensures count { result ≡ min (length «data».now) (window self.old) }
         ensures ring { let g = rewind_if_empty self.old in self.new
-            ≡ with_enqueued result (with_elements_wrapping g (write_at g) (take result «data».now)) }
+            ≡ with_enqueued result (with_elements_wrapping g (write_at g)
+            (take result «data».now)) }
         ensures enqueued { Enqueues (rewind_if_empty self.old)
             (take result «data».now) self.new }
         // Guarantee.
@@ -874,7 +890,8 @@ impl<T, S: Storage<T>> RingOver<T, S> {
         // Guarantee.
         ensures count { result ≡ min (length «data».now) (window self.old - offset) }
         ensures ring { self.new
-            ≡ with_elements_wrapping self.old (spare_index self.old offset) (take result «data».now) }
+            ≡ with_elements_wrapping self.old (spare_index self.old offset)
+            (take result «data».now) }
         ensures written { WritesSpare self.old offset (take result «data».now) self.new }
         ensures call { Makes (WriteUnallocated offset (take result «data».now)) self.old self.new }
         ensures same { (self.new.count ≡ self.old.count) × (capacity self.new ≡ capacity self.old) }

@@ -79,7 +79,8 @@ pub fn packets_leave_in_order<H>()
         → contents (without_first_and_gap q) ≡ drop 1 (contents q) }
     ensures left_with { (q : PacketsState H) (header : H) (ws : List ℕ)
         → IsWellPlaced q → length ws ≡ first_size q.packets
-        → contents (without_first (with_first_bytes (without_gap q) header ws)) ≡ drop 1 (contents q) }
+        → contents (without_first (with_first_bytes (without_gap q) header ws))
+        ≡ drop 1 (contents q) }
 {}
 
 /// States that showing a packet changes nothing: after `peek` the same packet is taken off, and a
@@ -117,7 +118,8 @@ pub fn drops<H>()
     ensures none { (p : PacketsState H) (s : ℕ) → (p ≡ after_drops 0 p) × HasNoRoomBefore 0 p s }
     ensures one_more { (k : ℕ) (p q r : PacketsState H) → q ≡ after_drops k p
         → r ≡ without_oldest q → r ≡ after_drops (k + 1) p }
-    ensures lacks { (k : ℕ) (p q : PacketsState H) (s : ℕ) → HasNoRoomBefore k p s → q ≡ after_drops k p
+    ensures lacks { (k : ℕ) (p q : PacketsState H) (s : ℕ) → HasNoRoomBefore k p s
+        → q ≡ after_drops k p
         → HasNoRoom q s → HasNoRoomBefore (k + 1) p s }
 {}
 
