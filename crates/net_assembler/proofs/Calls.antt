@@ -87,7 +87,7 @@ again_runs : (most_runs o n : ℕ) (s once : Positions) → once ≡ with_range 
     MakesTooManyRuns most_runs once o n → ⊥
 again_runs most_runs o n s once e l over =
     let same : runs (with_range once o n) ≡ runs once =
-        ap (λ (t : Positions). runs (with_range t o n)) e ∙ ap runs (range_again s o n) ∙ ap runs (sym e) in
+    ap (λ (t : Positions). runs (with_range t o n)) e ∙ ap runs (range_again s o n) ∙ ap runs (sym e) in
     let more = ((too_many most_runs once o n).0 over).1 in
     omega arith
 
@@ -139,9 +139,15 @@ reordered_ranges s ranges others moved =
     same_ranges s ranges others
     (λ p. list_any-IsPermutation (λ range. lies_in p (range.0, range.0 + range.1)) ranges others moved)
 
-pub ruleset laws = (contains-nothing, members_of_list, contains-with_range, contains-shift_down, contains-shift_up,
-  first_missing_is_least, front_is_least_missing, equal_runs, maximal_runs-shift_up, runs-shift_up, equal_assemblers,
-  range_again, adding_again, runs-nothing, one_run_more, enough_binary_digits, digits_of_4, digits_of_32,
-  set_of_no_runs)
+-- what closes the goals of laws
+pub ruleset members = (contains-nothing, members_of_list, contains-with_range, contains-shift_down, contains-shift_up)
+
+pub ruleset of_runs = (equal_runs, maximal_runs-shift_up, runs-shift_up, runs-nothing, one_run_more, set_of_no_runs)
+
+pub ruleset of_calls = (equal_assemblers, range_again, adding_again)
+
+pub ruleset digits = (enough_binary_digits, digits_of_4, digits_of_32)
+
+pub ruleset laws = (members, first_missing_is_least, front_is_least_missing, of_runs, of_calls, digits)
 
 pub ruleset orders = (contains-with_ranges, same_ranges, reordered_ranges)

@@ -105,13 +105,13 @@ runs_shown s low [] h is = refl
 runs_shown s low (r ∷ rs) h is =
     let a = r.0 in let e = r.1 in
     let all : (q : ℕ) → a ≤ q → q < e → contains s q ≡ true =
-        λ q l m. is q (omega (arith, h.0)) ∙ in_first a e q rs l m in
+    λ q l m. is q (omega (arith, h.0)) ∙ in_first a e q rs l m in
     let starts : begins_run s a ≡ true = begins-true s a (λ l. is (a - 1) (omega (arith, h.0)) ∙ not_in_runs a
     (r ∷ rs) (a - 1) (omega arith, h.1, h.2) (omega arith)) in
     let end : first_missing s a ≡ e = first_missing-is s a e (omega (arith, h.1)) (is e (omega (arith, h.0, h.1))
     ∙ past_first a e e rs (omega arith) ∙ not_in_runs (e + 1) rs e h.2 (omega arith)) all in
     let rest =
-        runs_shown s (e + 1) rs h.2 (λ q l. is q (omega (arith, h.0, h.1)) ∙ past_first a e q rs (omega arith)) in
+    runs_shown s (e + 1) rs h.2 (λ q l. is q (omega (arith, h.0, h.1)) ∙ past_first a e q rs (omega arith)) in
     ap (map (λ p. (p, first_missing s p)))
     (filter_run s (e - a) a (run_positions rs) (omega (arith, h.1)) starts (λ q l m. all q l (omega (arith, h.1))))
     ∙ (λ i. (a, end i) ∷ rest i)
@@ -294,7 +294,7 @@ rising_runs s low from (k ∷ ks) above h w =
       above k (has_head k ks) e,
       some_at s k (w k (has_head k ks)),
       rising_runs s (first_missing s k + 1) (k + 1) ks
-      (λ j m b. after_run s k j (let l = rises-has (k + 1) ks j h.1 m in omega arith) b) h.1 rest,
+          (λ j m b. after_run s k j (let l = rises-has (k + 1) ks j h.1 m in omega arith) b) h.1 rest,
     ))
     (λ e. rising_runs s low (k + 1) ks (λ j m b. above j (has_tail k j ks m) b) h.1 rest)
 
@@ -464,7 +464,7 @@ one_run_more s o n =
     either (cases_eq n 0) (λ e. let same = ap runs (with_range-none s o n e) in omega arith)
     (λ ne.
     let all =
-        ap (λ (t : Positions). runs (with_range t o n)) (sym is)
-        ∙ runs-runs_with_range rs o n (rising-maximal_runs s) (omega arith) in
+    ap (λ (t : Positions). runs (with_range t o n)) (sym is)
+    ∙ runs-runs_with_range rs o n (rising-maximal_runs s) (omega arith) in
     let few = few_with_range rs o (o + n) in
     omega arith)

@@ -1,5 +1,4 @@
--- Runs that are counted from where the first of them starts, and the sets that they represent.
--- Runs that are counted by numbers that wrap, and a range that joins runs, each counted higher.
+-- Runs that are counted from elsewhere, also by numbers that wrap, and a range that joins them.
 use Rattle.std.proofs.Common.{◌||◌, ◌≡◌, ℕ, zero, suc, ◌+◌, ◌-◌, ◌<◌, ◌≤◌, ◌^◌, max, min, true, false, ◌&&◌, List, []}
 use Rattle.std.proofs.Common.{◌∷◌, length, map, drop, set, get_or, nat_le, nat_lt, refl, sym, ap, subst, ◌∙◌, arith}
 use Rattle.std.proofs.Common.{◌%◌, ◌++◌, take, ◌*◌}
@@ -37,7 +36,7 @@ runs-up n rs h = rising-up n 0 0 rs (omega arith) h
 -- twice: pairs of which each part was changed by g, and then by f
 moved_twice : (f g h : ℕ → ℕ) → ((x : ℕ) → f (g x) ≡ h x) → (rs : List (ℕ × ℕ)) →
     let each : (ℕ → ℕ) → List (ℕ × ℕ) → List (ℕ × ℕ) =
-        λ k ps. map {B = ℕ × ℕ} (λ r. (k r.0, k r.1)) ps in each f (each g rs) ≡ each h rs
+    λ k ps. map {B = ℕ × ℕ} (λ r. (k r.0, k r.1)) ps in each f (each g rs) ≡ each h rs
 moved_twice f g h is [] = refl
 moved_twice f g h is (r ∷ rs) = λ i. (is r.0 i, is r.1 i) ∷ moved_twice f g h is rs i
 
@@ -227,11 +226,6 @@ pub down-none : (n : ℕ) (rs : List (ℕ × ℕ)) → length rs ≡ 0 → runs_
 down-none n [] e = refl
 down-none n (r ∷ rs) e = absurd (omega arith)
 
-pub down-zero : (n : ℕ) (rs : List (ℕ × ℕ)) → n ≡ 0 → runs_shifted_down n rs ≡ rs
-down-zero n rs e =
-    ap (runs_shifted_down n) (sym (map-id rs)) ∙ moved_twice (λ x. x - n) (λ x. x) (λ x. x) (λ x. omega arith) rs
-    ∙ map-id rs
-
 pub some-runs_with_range : (rs : List (ℕ × ℕ)) (lo hi : ℕ) → 0 < length (runs_with_range rs lo hi)
 some-runs_with_range [] lo hi = omega arith
 some-runs_with_range (r ∷ rs) lo hi =
@@ -366,7 +360,7 @@ module _ (xs : List (ℕ × ℕ)) (used by start end first next : ℕ) (h : AreR
       (λ l.
       let p = before 0 l in
       let same : by ≡ 0 =
-          either (cases_lt 0 by) (λ b. let zeroth = one_way b in absurd (omega arith)) (λ b. omega arith) in
+      either (cases_lt 0 by) (λ b. let zeroth = one_way b in absurd (omega arith)) (λ b. omega arith) in
       sym (take-take first used xs few) ∙ ap (take first) (sym (up-none by cs same)))
       (λ l. let zeroth : first ≡ 0 = omega arith in ap (λ n. take n xs) zeroth ∙ ap (λ n. take n ups) (sym zeroth))
 
@@ -390,9 +384,9 @@ module _ (xs : List (ℕ × ℕ)) (used by start end first next : ℕ) (h : AreR
         let last : suc (next - 1) ≡ next = omega arith in
         let at_first = pair_is first (omega arith) in
         let lo_is : lo ≡ min (start_at ups first) start =
-            omega (arith, low, at_first, start_at-up by cs first (omega (arith, len))) in
+        omega (arith, low, at_first, start_at-up by cs first (omega (arith, len))) in
         let hi_is : hi ≡ max (end_at ups (next - 1)) end =
-            omega (arith, high, pair_is (next - 1) (omega arith), end_at-up by cs (next - 1) (omega (arith, len))) in
+        omega (arith, high, pair_is (next - 1) (omega arith), end_at-up by cs (next - 1) (omega (arith, len))) in
         (λ i. start_same (omega arith) i ++ (lo_is i, hi_is i) ∷ tail next i)
         ∙ (λ i. take first ups
         ++ (min (start_at ups first) start, max (end_at ups (next - 1)) end) ∷ drop (sym last i) ups)

@@ -94,6 +94,7 @@ module _ (h : AssemblerHead) (xs : List (ℕ × ℕ)) (s : HasSoundRuns h xs) wh
       get_or-up h.first_start (used_runs h xs) k (omega (arith, length-used_runs))
       ∙ (λ i. (h.first_start + start_of k l i, h.first_start + end_of k l i))
 
+  -- it is listed, and no later one is
   pub run_listed : (k : ℕ) → k < h.used →
       slice_get (maximal_runs (set_of h xs)) k ≡ Some (h.first_start + start_at xs k, h.first_start + end_at xs k)
   run_listed k l =
@@ -151,9 +152,6 @@ module _ (h : AssemblerHead) (xs : List (ℕ × ℕ)) (s : HasSoundRuns h xs) wh
       (λ b. let zeroth : n - 1 ≡ 0 = omega arith in omega (arith, ap (start_at xs) zeroth, first_pair (omega arith)))
 
   -- a position is in the set if it is in the runs, counted from where the first of them starts
-  pub fits_from : (m : ℕ) → m ≤ h.first_start → FitsFrom m (used_runs h xs)
-  fits_from m l = fits-less m h.first_start (used_runs h xs) l s.fits
-
   pub contains-from : (q : ℕ) → h.first_start ≤ q →
       contains (set_of h xs) q ≡ contains (set_of_runs (used_runs h xs)) (q - h.first_start)
   contains-from q l =
@@ -181,6 +179,9 @@ module _ (h : AssemblerHead) (xs : List (ℕ × ℕ)) (s : HasSoundRuns h xs) wh
       in_runs-fits h.first_start (used_runs h xs) p s.fits (sym (contains-set_of_runs (runs_of h xs) p) ∙ m)
 
   -- where only `first_start` changes
+  pub fits_from : (m : ℕ) → m ≤ h.first_start → FitsFrom m (used_runs h xs)
+  fits_from m l = fits-less m h.first_start (used_runs h xs) l s.fits
+
   pub lowered : (m : ℕ) → HasSoundRuns (record { used = h.used; first_start = h.first_start - m }) xs
   lowered m =
       record { room = s.room; runs = s.runs; first = s.first; fits = fits_from (h.first_start - m) (omega arith) }
@@ -500,14 +501,14 @@ first_reached h xs s size end some reach fits is second =
     let ends : end_at rs 0 ≡ h.first_start + end_at xs 0 = ap (λ (r : ℕ × ℕ). r.1) first in
     let rises = pair_rises h xs s 0 some in
     let later : (k : ℕ) → 0 < k → k < length rs → n < start_at rs k = λ k a b.
-        let l : k < h.used = omega (arith, b, count) in
-        let at = ap (λ (r : ℕ × ℕ). r.0) (run_at h xs s k l) in
-        let next = used_starts_rise xs h.used s.runs s.room 1 k a l in
-        omega (arith, at, is, next, second (omega arith), pairs_apart h xs s 0 k a l) in
+    let l : k < h.used = omega (arith, b, count) in
+    let at = ap (λ (r : ℕ × ℕ). r.0) (run_at h xs s k l) in
+    let next = used_starts_rise xs h.used s.runs s.room 1 k a l in
+    omega (arith, at, is, next, second (omega arith), pairs_apart h xs s 0 k a l) in
     let held : (q : ℕ) → h.first_start ≤ q → q ≤ n → contains (set_of h xs) q ≡ nat_lt q (end_at rs 0) = λ q a b.
-        contains-set_of_runs rs q
-        ∙ in_run_at 0 rs 0 q (are_runs h xs s) (omega (arith, count)) (omega (arith, begin))
-        (λ k c d. let l = later k c d in omega arith) in
+    contains-set_of_runs rs q
+    ∙ in_run_at 0 rs 0 q (are_runs h xs s) (omega (arith, count)) (omega (arith, begin))
+    (λ k c d. let l = later k c d in omega arith) in
     record {
       sound = s;
       few = omega arith;
@@ -548,12 +549,24 @@ both_accepted n s o k (Err e) t a few =
     let more = one_run_more s o k in
     absurd (omega (arith, over.1))
 
--- what the goals of a head's calls, and of an assembler's, are closed by
-pub ruleset heads = (length-used_runs, length-runs_of, are_runs, runs-set_of, few_held, maximal_runs-set_of,
-  front-set_of, pair_rises, pairs_apart, pair_fits, first_pair, run_start, run_listed, no_run_listed, hole_after, no_hole_after,
-  no_front, first_front, front_none, front_later, fits_from, contains-from, contains-below, later_runs, few_holes,
-  lowered, lowered_set, lowered_runs, left_set, left_after_front, holes-set_of, shift_down-zero, shift_down-none,
-  set_of_no_runs, runs-nothing, are_same_decides)
+-- what closes the goals of a head's calls
+pub ruleset numbers = (length-used_runs, length-runs_of, runs-set_of, few_held)
 
-pub ruleset assemblers = (few_held, runs-nothing, set_of_no_runs, added_accepted, added_more, both_accepted,
-  few_binary_digits, rest_of_runs, all_holes)
+pub ruleset pairs = (pair_rises, pairs_apart, pair_fits, first_pair, run_start)
+
+pub ruleset lists = (are_runs, maximal_runs-set_of, run_listed, no_run_listed, later_runs)
+
+pub ruleset gaps = (holes-set_of, hole_after, no_hole_after, few_holes)
+
+pub ruleset fronts = (no_front, first_front, front_none, front_later, left_set, left_after_front)
+
+pub ruleset places = (fits_from, contains-from, contains-below, lowered, lowered_set, lowered_runs)
+
+pub ruleset none = (set_of_no_runs, runs-nothing, shift_down-zero, shift_down-none)
+
+pub ruleset heads = (numbers, pairs, lists, gaps, fronts, places, none, are_same_decides)
+
+-- and those of an assembler's
+pub ruleset adding = (added_accepted, added_more, both_accepted, few_binary_digits)
+
+pub ruleset assemblers = (few_held, runs-nothing, set_of_no_runs, adding, rest_of_runs, all_holes)

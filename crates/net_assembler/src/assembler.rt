@@ -1,12 +1,16 @@
 //! The assembler of ranges that arrive out of order.
 #![tactic(auto, using(crate::proofs::SoundHeads::assemblers))]
-ghost use Rattle.std.specs.Prelude.{◌≡◌, ◌+◌, ◌<◌, ◌≤◌, ◌*◌, ◌↔◌, length, Some, IsTrue, IsOk, IsErr, IfSome};
-ghost use Rattle.std.specs.Prelude.{◌++◌, OnOk, OnErr, MatchResult};
+
+ghost use Rattle.std.specs.Prelude.{◌≡◌, ◌+◌, ◌<◌, ◌≤◌, ◌*◌, ◌↔◌, ◌++◌, ⊤, length, Some, IsTrue, IsOk, IsErr, IfSome};
+ghost use Rattle.std.specs.Prelude.{OnOk, OnErr, MatchResult};
+ghost use Rattle.std.specs.Cmp.{on_equiv, on_per, partial_equiv_from_equiv};
+ghost use Rattle.std.specs.Cmp.Lexicographic.{nat_list_eq_equiv};
 ghost use Rattle.std.specs.Fmt.{decimal};
+ghost use Rattle.std.specs.Iterator.{YieldsFirst, item_count};
 ghost use Rattle.std.specs.List.{slice_get};
 ghost use Rattle.net_assembler.specs.Assembler.{MakesTooManyRuns, display_text, hole_text};
-ghost use Rattle.net_assembler.specs.Positions.{RangeFits, contains, front, holes, holes_before, maximal_runs};
-ghost use Rattle.net_assembler.specs.Positions.{nothing, runs, runs as run_count, runs_shifted_up, shift_down};
+ghost use Rattle.net_assembler.specs.Positions.{RangeFits, are_same, contains, front, holes, holes_before, maximal_runs};
+ghost use Rattle.net_assembler.specs.Positions.{nothing, positions, runs, runs as run_count, runs_shifted_up, shift_down};
 ghost use Rattle.net_assembler.specs.Positions.{with_range};
 ghost use Rattle.net_assembler.specs.RunLists.{AreRuns, FitsFrom, HasSoundRuns, IsCanonical, IsRising, set_of};
 ghost use Rattle.net_assembler.specs.Turns.{binary_digits};
@@ -467,8 +471,6 @@ impl<const N: usize> Assembler<N> {
 
 /// A clone always succeeds, and is the same set.
 impl<const N: usize> Clone for Assembler<N> {
-    ghost use Rattle.std.specs.Prelude.{⊤};
-
     ghost is_clone = { λ s t. t ≡ s };
 
     ghost is_infallible = { λ _. ⊤ };
@@ -482,10 +484,6 @@ impl<const N: usize> Clone for Assembler<N> {
 }
 
 impl<const N: usize> PartialEq for Assembler<N> {
-    ghost use Rattle.std.specs.Cmp.{on_per, partial_equiv_from_equiv};
-    ghost use Rattle.std.specs.Cmp.Lexicographic.{nat_list_eq_equiv};
-    ghost use Rattle.net_assembler.specs.Positions.{positions, are_same};
-
     ghost eq = { are_same };
 
     ghost laws = { on_per positions (partial_equiv_from_equiv nat_list_eq_equiv) };
@@ -499,10 +497,6 @@ impl<const N: usize> PartialEq for Assembler<N> {
 }
 
 impl<const N: usize> Eq for Assembler<N> {
-    ghost use Rattle.std.specs.Cmp.{on_equiv};
-    ghost use Rattle.std.specs.Cmp.Lexicographic.{nat_list_eq_equiv};
-    ghost use Rattle.net_assembler.specs.Positions.{positions};
-
     ghost laws = { on_equiv positions nat_list_eq_equiv };
 }
 
@@ -586,8 +580,6 @@ impl<'a> RunIter<'a> {
 }
 
 impl<'a> Iterator for RunIter<'a> {
-    ghost use Rattle.std.specs.Iterator.{YieldsFirst, item_count};
-
     type Item = (usize, usize);
 
     ghost next_gives = { YieldsFirst (λ s. s) };
@@ -648,8 +640,6 @@ impl<'a> HoleIter<'a> {
 }
 
 impl<'a> Iterator for HoleIter<'a> {
-    ghost use Rattle.std.specs.Iterator.{YieldsFirst, item_count};
-
     type Item = (usize, usize);
 
     ghost next_gives = { YieldsFirst (λ s. s) };

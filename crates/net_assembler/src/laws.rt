@@ -2,6 +2,7 @@
 //!
 //! Each function does nothing.
 #![tactic(auto, using(crate::proofs::Calls::orders))]
+
 ghost use Rattle.std.specs.Prelude.{◌≡◌, ◌||◌, ℕ, List};
 ghost use Rattle.std.specs.List.Sorted.{IsPermutation};
 ghost use Rattle.net_assembler.specs.Positions.{Positions, contains, front, shift_down};

@@ -2,6 +2,7 @@
 //!
 //! What is inline, and what is a call of its own, was chosen by counted instructions and bytes.
 #![tactic(auto, using(crate::proofs::SoundHeads::heads))]
+
 ghost use Rattle.std.specs.Prelude.{◌≡◌, ℕ, List, ◌+◌, ◌-◌, ◌*◌, ◌<◌, ◌≤◌, ◌++◌, ◌∷◌, ◌^◌, ◌↔◌, drop, get_or, max};
 ghost use Rattle.std.specs.Prelude.{length, take, IsFalse, IsTrue, IfSome, MatchOption, MatchResult, OnErr};
 ghost use Rattle.net_assembler.specs.Assembler.{MakesTooManyRuns};

@@ -4,6 +4,7 @@
 //! of calls are about everything that the contracts of these calls allow, so they hold of every
 //! body that meets the contracts.
 #![tactic(auto, using(crate::proofs::Calls::laws))]
+
 ghost use Rattle.std.specs.Prelude.{◌≡◌, ◌↔◌, ℕ, ◌+◌, ◌-◌, ◌<◌, ◌≤◌, ◌^◌, ◌&&◌, Bool, List, length, drop, nat_le};
 ghost use Rattle.std.specs.Prelude.{nat_eq, Option, Some, None, Result, Ok, IsTrue, IsOk, IsErr, OnOk, OnErr};
 ghost use Rattle.std.specs.List.{list_any, slice_get};

@@ -62,7 +62,7 @@ loop-start-preserved g c =
       written = (
         done ++ next,
         text_next from start end left c.next.new.self
-        (text_from 0 (maximal_runs c.args.self.now)) done c.in-Some.ensures.steps
+            (text_from 0 (maximal_runs c.args.self.now)) done c.in-Some.ensures.steps
             c.loop-start.invariant.written.1,
         λ p.
             has_written_of_eq _ _ _ _ _ (append_assoc (codes "[ ") done next)

@@ -10,5 +10,5 @@ returns-then-start-end c =
     let l : k < length xs = c.loop-k-test.true in (
       λ f. absurd (cc),
       λ all. let on = subst (IsRising (c.loop-k.end + 1)) (drop-cons xs k (0, 0) l)
-      (c.loop-k.invariant.on all).0 in absurd (omega (arith, on.0)),
+          (c.loop-k.invariant.on all).0 in absurd (omega (arith, on.0)),
     )

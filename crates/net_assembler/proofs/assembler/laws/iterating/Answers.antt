@@ -22,8 +22,7 @@ next_results (l ∷ left) last (Some r ∷ results) h =
     let same : l ≡ r = cc in
     let others : left ≡ h.0 = cc in
     let rest = next_results h.0 last results h.2 in
-    let n = length results in
-    (
+    let n = length results in (
       (λ i. Some (sym same i) ∷ rest.0 i) ∙ ap (λ xs. Some l ∷ results_of_next xs n) (sym others),
       rest.1 ∙ ap (drop n) (sym others),
     )

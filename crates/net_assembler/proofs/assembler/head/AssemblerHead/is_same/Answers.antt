@@ -19,8 +19,8 @@ compared : (c : After-eq) →
     Decides c.eq.result (set_of c.args.self.now c.args.runs.now ≡ set_of c.args.other.now c.args.other_runs.now)
 compared c =
     let d =
-        pointwise_decides pair_decides (used_runs c.args.self.now c.args.runs.now)
-        (used_runs c.args.other.now c.args.other_runs.now) in
+    pointwise_decides pair_decides (used_runs c.args.self.now c.args.runs.now)
+    (used_runs c.args.other.now c.args.other_runs.now) in
     let start : c.args.self.now.first_start ≡ c.args.other.now.first_start = omega arith in (
       λ e. let pairs = d.0 (sym c.eq.ensures ∙ e) in λ i. set_of_runs (runs_shifted_up (start i) (pairs i)),
       λ e. c.eq.ensures ∙ d.1 (same_pairs _ _ _ _ c.requires.sound c.requires.other_sound (omega arith) e),
@@ -34,9 +34,9 @@ returns-then-self-other c =
 pub returns-else-self-other : goal.returns-else-self-other
 returns-else-self-other c =
     let apart : Decides (c.args.self.now.first_start == c.args.other.now.first_start)
-        (set_of c.args.self.now c.args.runs.now ≡ set_of c.args.other.now c.args.other_runs.now) = (
+    (set_of c.args.self.now c.args.runs.now ≡ set_of c.args.other.now c.args.other_runs.now) = (
       λ t. absurd (c.if-self-other.false (eqb-true _ _ t)),
       λ e. absurd
-      (c.if-self-other.false (same_first_start _ _ _ _ c.requires.sound c.requires.other_sound (omega arith) e)),
+          (c.if-self-other.false (same_first_start _ _ _ _ c.requires.sound c.requires.other_sound (omega arith) e)),
     ) in
     record { test = same_from_decides _ _ apart (are_same_decides _ _); same = apart }
