@@ -9,8 +9,8 @@ use Rattle.std.proofs.lemmas.Option.{gets, slice_get_read}
 use Rattle.std.specs.Prelude.{Option, true, false, set}
 use Rattle.std.specs.List.{slice_get}
 use Rattle.net_ring.specs.Overwrite.{overwrite}
-use Rattle.net_ring.specs.Ring.{RingState, index_after, queue, storage_index, IsWellFormed, ring, with_dequeued}
-use Rattle.net_ring.specs.Ring.{with_elements, window, write_at, with_enqueued, Enqueues}
+use Rattle.net_ring.specs.Ring.{RingState, index_after, queue, storage_index, IsWellFormed, ring}
+use Rattle.net_ring.specs.Ring.{with_dequeued, with_elements, window, write_at, with_enqueued, Enqueues}
 use Rattle.net_ring.specs.RingHead.{ring_at, place, enqueued_place, dequeued_place, rewound, contiguous_free, IsSound}
 use Rattle.std.specs.declared.option.Option.TheVariants.{Some, None}
 use Rattle.net_packets.specs.{Packet, PacketsState, packet, byte_ring, bytes_used, slots_used, slots_for, gap_for, IsWellPlaced}
@@ -24,14 +24,13 @@ use Rattle.net_ring.specs.declared.head.RingHead.{RingHead}
 use Rattle.net_packets.specs.declared.head.PacketsHead.{PacketsHead}
 use Rattle.net_packets.specs.declared.head.PacketPlace.{PacketPlace}
 use Rattle.net_packets.specs.declared.packet_metadata.PacketMetadata.{PacketMetadata}
-use Rattle.net_ring.proofs.Rotations.{length-overwrite, with_dequeued_parts, length-queue, storage_index_is}
-use Rattle.net_ring.proofs.Rotations.{overwrite_at}
-use Rattle.net_ring.proofs.RingFacts.{written_wf, rewound_ring, queue_head, queue_law, enqueued_one}
-use Rattle.net_packets.proofs.PacketSteps.{placed_alike, count_is, ends_in, slots_append, place_zero, slots_pos, held}
-use Rattle.net_packets.proofs.PacketSteps.{shorter_is, shorter_bytes, shorter_well, slots_some, slots_for_pos, off_wf}
-use Rattle.net_packets.proofs.PacketSteps.{on_left, slots_are, off_left, well_placed, cut_is, head_fits, is_first}
-use Rattle.net_packets.proofs.PacketSteps.{bytes_are, last_ends, written_holds, slice_get_end, last_append, gap_of}
-use Rattle.net_packets.proofs.PacketSteps.{push_left, skip_left, take_left, pushed_slot}
+use Rattle.net_ring.proofs.Rotations.{length-overwrite, with_dequeued_parts, length-queue, storage_index_is, overwrite_at}
+use Rattle.net_ring.proofs.RingFacts.{written_wf, rewound_ring, queue_head, queue_law, written_wf, enqueued_one}
+use Rattle.net_packets.proofs.PacketSteps.{placed_alike, count_is, ends_in, slots_append, place_zero, slots_pos}
+use Rattle.net_packets.proofs.PacketSteps.{held, shorter_is, shorter_bytes, shorter_well}
+use Rattle.net_packets.proofs.PacketSteps.{slots_some, slots_for_pos, off_wf, on_left, slots_are, off_left, well_placed, cut_is}
+use Rattle.net_packets.proofs.PacketSteps.{head_fits, is_first, bytes_are, last_ends, written_holds, slice_get_end}
+use Rattle.net_packets.proofs.PacketSteps.{last_append, gap_of, push_left, skip_left, take_left, pushed_slot}
 
 -- s elements from an index on are lent
 module _ (xs : List ℕ) (from s : ℕ) (now : List ℕ) (is : now ≡ take (from + s - from) (drop from xs)) where

@@ -1,13 +1,15 @@
 //! A sender of a stream that ends, in parts.
 ghost use Rattle.std.specs.Prelude.{◌≡◌, ◌↔◌, ◌+◌, ◌-◌, ◌<◌, ◌≤◌, ◌==◌, ◌++◌, ℕ, List};
-ghost use Rattle.std.specs.Prelude.{◌^◌, length, take, drop, min, max, IsTrue, IsFalse};
+ghost use Rattle.std.specs.Prelude.{◌^◌, length, take, min, max, IsTrue, IsFalse};
 ghost use Rattle.std.specs.Int.{from_bool};
-ghost use Rattle.net_ring.specs.Ring.{rewind_if_empty, with_elements_wrapping, with_enqueued, write_at, queue};
-ghost use Rattle.net_ring.specs.RingHead.{ring_at, queued_index};
-ghost use Rattle.net_receiver.specs.FiniteSender.{LendsAt};
-ghost use Rattle.net_receiver.specs.{contiguous_end, Sends, MatchesFinite, no_end, finite_sender_head};
-ghost use Rattle.net_receiver.specs.{finite_sender_of, IsSoundFiniteSender, fresh_finite_sender, finite_room};
-ghost use Rattle.net_receiver.specs.{with_bytes, closed_sender, acknowledged_below, head_after_sending};
+ghost use Rattle.net_ring.specs.Ring.{rewind_if_empty, with_elements_wrapping, with_enqueued, write_at};
+ghost use Rattle.net_ring.specs.RingHead.{ring_at};
+ghost use Rattle.net_receiver.specs.SenderState.{Sends};
+ghost use Rattle.net_receiver.specs.Finite.{no_end};
+ghost use Rattle.net_receiver.specs.NewHeads.{finite_sender_head};
+ghost use Rattle.net_receiver.specs.FiniteSender.{finite_sender_of, IsSoundFiniteSender, fresh_finite_sender};
+ghost use Rattle.net_receiver.specs.FiniteSender.{finite_room, with_bytes, closed_sender, acknowledged_below};
+ghost use Rattle.net_receiver.specs.FiniteSender.{head_after_sending, LendsAt};
 
 use crate::sender_head::SenderHead;
 use net_ring::Span;

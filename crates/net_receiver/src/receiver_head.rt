@@ -7,7 +7,7 @@ ghost use Rattle.net_assembler.specs.RunLists.{HasSoundRuns, IsCanonical, set_of
 ghost use Rattle.net_receiver.specs.Schedule.{piece};
 ghost use Rattle.net_receiver.specs.ReceiverState.{verdict, state_after, numbers, first_three, segment_result};
 ghost use Rattle.net_receiver.specs.ReceiverState.{fresh_receiver, domain, IsSameState, receiver_after_read};
-ghost use Rattle.net_receiver.specs.ReceiverState.{count_between, new_count};
+ghost use Rattle.net_receiver.specs.ReceiverState.{count_between};
 ghost use Rattle.net_receiver.specs.OneStream.{ReceivesFrom, MatchesStream};
 ghost use Rattle.net_receiver.specs.NewHeads.{receiver_head};
 ghost use Rattle.net_receiver.specs.Head.{receiver_of, HasSoundParts, HasSoundHeld, storage_after, head_after_read};
@@ -15,7 +15,6 @@ ghost use Rattle.net_receiver.specs.Head.{next_at, held_at, top_at};
 ghost use Rattle.net_ring.specs.Ring.{queue, contiguous_allocated, contiguous_queued};
 ghost use Rattle.net_ring.specs.RingHead.{IsSound as IsSoundPlace, ring_at};
 ghost use Rattle.net_receiver.specs.NewestRuns.{newest_runs, with_starts, run_at, with_run};
-ghost use Rattle.net_receiver.specs.Finite.{top_of};
 
 use crate::held_runs::{HeldRun, HeldRunIter, is_listed, remember};
 use crate::kept::{Kept, KeptBytes};

@@ -4,8 +4,9 @@ ghost use Rattle.std.specs.Prelude.{if◌then◌else◌};
 ghost use Rattle.net_assembler.specs.Positions.{contains, first_missing, front, maximal_runs, nothing, positions};
 ghost use Rattle.net_assembler.specs.Positions.{with_range};
 ghost use Rattle.net_assembler.specs.RunLists.{HasSoundRuns, IsCanonical, set_of};
-ghost use Rattle.net_receiver.specs.{HasNoRoom, IsEnd, IsNextHole, IsReport, IsSoundBoard, beyond, reported_by};
-ghost use Rattle.net_receiver.specs.{scoreboard_head, IsLossBound};
+ghost use Rattle.net_receiver.specs.Scoreboards.{HasNoRoom, IsEnd, IsNextHole, IsReport, IsSoundBoard, beyond};
+ghost use Rattle.net_receiver.specs.Scoreboards.{reported_by, IsLossBound};
+ghost use Rattle.net_receiver.specs.NewHeads.{scoreboard_head};
 
 use crate::held_runs::HeldRunIter;
 use net_assembler::assembler::laws;

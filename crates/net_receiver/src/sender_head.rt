@@ -3,8 +3,9 @@ ghost use Rattle.std.specs.Prelude.{◌≡◌, ◌↔◌, ◌+◌, ◌-◌, ◌<
 ghost use Rattle.std.specs.Prelude.{min, max, nat_le, IsTrue, IsFalse};
 ghost use Rattle.net_ring.specs.Ring.{queue, rewind_if_empty, with_enqueued, write_at, with_elements_wrapping};
 ghost use Rattle.net_ring.specs.RingHead.{ring_at, queued_index, dequeued_place};
-ghost use Rattle.net_receiver.specs.{MatchesStream, sender_state, room_of, contiguous_end, Sends, with_written};
-ghost use Rattle.net_receiver.specs.{sender_from, sender_head, sender_of, IsSoundHead};
+ghost use Rattle.net_receiver.specs.SenderState.{sender_state, room_of, contiguous_end, Sends, with_written};
+ghost use Rattle.net_receiver.specs.SenderState.{sender_from, sender_of, IsSoundHead};
+ghost use Rattle.net_receiver.specs.NewHeads.{sender_head};
 
 use net_ring::{RingHead, Span};
 

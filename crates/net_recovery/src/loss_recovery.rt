@@ -1,5 +1,5 @@
 //! What a sender sends next where segments are lost.
-ghost use Rattle.std.specs.Prelude.{◌≡◌, ℕ, ◌+◌, ◌<◌, ◌≤◌, ◌-◌, ◌&&◌, min, max, Option, IfSome, IsTrue, not, nat_lt};
+ghost use Rattle.std.specs.Prelude.{◌≡◌, ℕ, ◌+◌, ◌<◌, ◌≤◌, ◌-◌, ◌&&◌, min, max, Option, IfSome, not, nat_lt};
 ghost use Rattle.net_receiver.specs.Scoreboards.{IsHole, IsLossBound};
 ghost use Rattle.net_receiver.specs.Scoreboards.{IsEnd};
 ghost use Rattle.net_recovery.specs.LossRecovery.{new_recovery, begun, is_active, after_report, after_sending};

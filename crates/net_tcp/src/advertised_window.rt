@@ -1,5 +1,5 @@
 //! The window that a receiver announces.
-ghost use Rattle.std.specs.Prelude.{◌≡◌, ◌↔◌, ℕ, ◌+◌, ◌-◌, ◌*◌, ◌^◌, ◌<◌, ◌≤◌, ◌⊎◌, IsTrue, IsFalse, min, max};
+ghost use Rattle.std.specs.Prelude.{◌≡◌, ◌↔◌, ℕ, ◌+◌, ◌-◌, ◌^◌, ◌<◌, ◌≤◌, ◌⊎◌, IsTrue, min, max};
 ghost use Rattle.net_tcp.specs.Windows.{shift_count, field_for, announced, IsScaleFor, worth, gain, IsArrival};
 
 use crate::arriving::{Arrival, Segment, classify};

@@ -1,5 +1,5 @@
 //! What to do with an arriving segment.
-ghost use Rattle.std.specs.Prelude.{◌≡◌, ◌↔◌, ◌+◌, ◌-◌, ◌^◌, ◌≤◌, min, IsTrue, IsFalse};
+ghost use Rattle.std.specs.Prelude.{◌≡◌, ◌↔◌, ◌+◌, ◌-◌, ◌^◌, ◌≤◌, min, IsTrue};
 ghost use Rattle.net_tcp.specs.Windows.{IsAcceptable, IsArrival, flag_at};
 
 use net_numbers::SentNumbers;

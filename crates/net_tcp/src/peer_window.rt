@@ -1,5 +1,5 @@
 //! The window that the peer announced.
-ghost use Rattle.std.specs.Prelude.{◌≡◌, ◌↔◌, ◌+◌, ◌-◌, ◌*◌, ◌^◌, ◌<◌, ◌≤◌, IsTrue, IsFalse, min, max};
+ghost use Rattle.std.specs.Prelude.{◌≡◌, ◌↔◌, ◌-◌, ◌*◌, ◌^◌, ◌<◌, ◌≤◌, IsTrue, IsFalse, min, max};
 ghost use Rattle.net_tcp.specs.Windows.{shift_count, Replaces, replaces, window_from, after_update};
 ghost use Rattle.net_tcp.specs.Windows.{acknowledgement_number, no_window, opened_to};
 

@@ -10,7 +10,7 @@ ghost use Rattle.std.specs.List.{slice_get};
 ghost use Rattle.net_assembler.specs.AssemblerLaws.{Adds, AddsThenRemovesFront, RemovesFront};
 ghost use Rattle.net_assembler.specs.Heads.{AddsInPlace, FrontEnds, StartsInRuns, StartsLast};
 ghost use Rattle.net_assembler.specs.Positions.{RangeFits, are_same, contains, front, holes, holes_before};
-ghost use Rattle.net_assembler.specs.Positions.{maximal_runs, nothing, runs as run_count, runs_shifted_up};
+ghost use Rattle.net_assembler.specs.Positions.{maximal_runs, nothing, runs as run_count};
 ghost use Rattle.net_assembler.specs.Positions.{shift_down};
 ghost use Rattle.net_assembler.specs.RunLists.{AreRuns, AreUsize, FitsFrom, HasSoundRuns, IsCanonical, IsRising};
 ghost use Rattle.net_assembler.specs.RunLists.{end_at, runs_of, runs_shifted_down, runs_wrapped};

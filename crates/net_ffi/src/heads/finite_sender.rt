@@ -7,10 +7,12 @@
 //! number is kept for the end.
 // Written by tools/ffi.py.
 ghost use Rattle.net_ffi.specs.Refusals.{no_number};
-ghost use Rattle.net_receiver.specs.{IsSoundFiniteSender, Sends, acknowledged_below, closed_sender, finite_room};
-ghost use Rattle.net_receiver.specs.{finite_sender_head, finite_sender_of, fresh_finite_sender, head_after_sending};
-ghost use Rattle.net_receiver.specs.{no_end, with_bytes};
-ghost use Rattle.net_receiver.specs.FiniteSender.{LendsAt};
+ghost use Rattle.net_receiver.specs.Finite.{no_end};
+ghost use Rattle.net_receiver.specs.FiniteSender.{IsSoundFiniteSender, LendsAt, acknowledged_below, closed_sender};
+ghost use Rattle.net_receiver.specs.FiniteSender.{finite_room, finite_sender_of, fresh_finite_sender};
+ghost use Rattle.net_receiver.specs.FiniteSender.{head_after_sending, with_bytes};
+ghost use Rattle.net_receiver.specs.NewHeads.{finite_sender_head};
+ghost use Rattle.net_receiver.specs.SenderState.{Sends};
 ghost use Rattle.net_ring.specs.Ring.{rewind_if_empty, with_elements_wrapping, with_enqueued, write_at};
 ghost use Rattle.net_ring.specs.RingHead.{ring_at};
 ghost use Rattle.std.specs.Int.{from_bool};

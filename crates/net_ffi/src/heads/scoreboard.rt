@@ -10,8 +10,9 @@ ghost use Rattle.net_assembler.specs.Positions.{contains, nothing, positions, wi
 ghost use Rattle.net_assembler.specs.RunLists.{IsCanonical};
 ghost use Rattle.net_ffi.specs.Refusals.{no_number};
 ghost use Rattle.net_ffi.specs.Results.{done_or_report_error};
-ghost use Rattle.net_receiver.specs.{HasNoRoom, IsEnd, IsLossBound, IsNextHole, IsReport, IsSoundBoard, beyond};
-ghost use Rattle.net_receiver.specs.{reported_by, scoreboard_head};
+ghost use Rattle.net_receiver.specs.NewHeads.{scoreboard_head};
+ghost use Rattle.net_receiver.specs.Scoreboards.{HasNoRoom, IsEnd, IsLossBound, IsNextHole, IsReport, IsSoundBoard};
+ghost use Rattle.net_receiver.specs.Scoreboards.{beyond, reported_by};
 ghost use Rattle.std.specs.Prelude.{Err, IsFalse, IsTrue, List, OnErr, OnOk, length, ℕ, ◌-◌, ◌<◌, ◌↔◌, ◌≡◌};
 
 use crate::refusals::{NET_BASE_DONE, NET_BASE_REFUSED, Status, no_number, refused_hole};
