@@ -45,8 +45,8 @@ module _ (h : AssemblerHead) (xs : List (ℕ × ℕ)) (room : h.used ≤ length 
     left : runs_of (record { used = h.used - m; first_start = f - end }) ys ≡ runs_shifted_down end rest
     left = ap (runs_shifted_up (f - end)) down ∙ up-down f end rest above rises
 
-pub move_down-self-requires-clause-fits : goal.move_down-self-requires-clause-fits
-move_down-self-requires-clause-fits c =
+pub take_out-self-requires-clause-fits : goal.take_out-self-requires-clause-fits
+take_out-self-requires-clause-fits c =
     let s = c.requires in
     let is : c.args.count < c.args.self.now.used → c.if-count-used.start ≡ start_at c.args.runs.now c.args.count =
     λ l. elim c.if-count-used.branch [
@@ -72,12 +72,12 @@ returns-clause-sound c =
       | then-count-used w ↦ omega (arith, s.after w.if-count-used.true, is w.if-count-used.true)
       | else-count-used w ↦ omega (arith, w.start-is)
     ] in
-    let left : c.move_down-self.result ≡ c.args.self.now.used - c.args.count = omega (arith, c.move_down-self.ensures.count) in
-    let ys = c.move_down-self.new.runs in
+    let left : c.take_out-self.result ≡ c.args.self.now.used - c.args.count = omega (arith, c.take_out-self.ensures.count) in
+    let ys = c.take_out-self.new.runs in
     subst (λ n. HasSoundRuns (record { used = n; first_start = c.if-count-used.start - c.args.end }) ys) (sym left)
     (sound c.args.self.now c.args.runs.now s.room s.runs s.fits c.args.count c.if-count-used.start c.args.end c.wrapping_neg.result
     s.count s.some above is (omega arith) (omega arith) c.wrapping_neg.ensures ys
-    (omega (arith, s.room, c.move_down-self.auto.runs)) (ap (λ n. take n ys) (sym left) ∙ c.move_down-self.ensures.runs))
+    (omega (arith, s.room, c.take_out-self.auto.runs)) (ap (λ n. take n ys) (sym left) ∙ c.take_out-self.ensures.runs))
 
 pub returns-clause-runs : goal.returns-clause-runs
 returns-clause-runs c =
@@ -91,9 +91,9 @@ returns-clause-runs c =
       | then-count-used w ↦ omega (arith, s.after w.if-count-used.true, is w.if-count-used.true)
       | else-count-used w ↦ omega (arith, w.start-is)
     ] in
-    let few : c.move_down-self.result ≡ c.args.self.now.used - c.args.count = omega (arith, c.move_down-self.ensures.count) in
-    let ys = c.move_down-self.new.runs in
+    let few : c.take_out-self.result ≡ c.args.self.now.used - c.args.count = omega (arith, c.take_out-self.ensures.count) in
+    let ys = c.take_out-self.new.runs in
     ap (λ n. runs_of (record { used = n; first_start = c.if-count-used.start - c.args.end }) ys) few
     ∙ left c.args.self.now c.args.runs.now s.room s.runs s.fits c.args.count c.if-count-used.start c.args.end c.wrapping_neg.result
     s.count s.some above is (omega arith) (omega arith) c.wrapping_neg.ensures ys
-    (omega (arith, s.room, c.move_down-self.auto.runs)) (ap (λ n. take n ys) (sym few) ∙ c.move_down-self.ensures.runs)
+    (omega (arith, s.room, c.take_out-self.auto.runs)) (ap (λ n. take n ys) (sym few) ∙ c.take_out-self.ensures.runs)
