@@ -249,8 +249,8 @@ impl<const N: usize> Assembler<N> {
             .add_inlined(&mut self.runs, offset, size, &mut Turns::new())
     }
 
-    /// Adds a range as `add` does, and counts each iteration of a loop: a move if it moves a run,
-    /// otherwise a look. smoltcp has no such call.
+    /// Adds a range as `add` does, and counts each iteration of a loop: a move if it moves a run or
+    /// takes one into the range, otherwise a look. smoltcp has no such call.
     ///
     /// Looks rise by at most twice the number of binary digits of `N`, which is 3 for 4 and 6 for
     /// 32, moves by at most `N`, and both together by at most `4 * N`. Neither count falls.

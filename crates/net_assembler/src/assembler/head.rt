@@ -591,10 +591,10 @@ impl AssemblerHead {
             if used >= runs.len() {
                 return Err(TooManyHolesError);
             }
-            insert_run(runs, used, first, Run { start, end }, by, turns);
             self.used = used + 1;
             prove!(self.used <= runs.len(), "in any `usize`");
             self.first_start -= by;
+            insert_run(runs, used, first, Run { start, end }, by, turns);
             return Ok(());
         }
         //  |--- first ---|  ..  |--- next - 1 ---|    |--- next ---|
@@ -609,8 +609,12 @@ impl AssemblerHead {
         if by == 0 && next == first + 1 {
             return Ok(());
         }
-        self.used = take_out(runs, used, first + 1, next, by, turns);
         self.first_start -= by;
+        self.used = if next == used {
+            first + 1
+        } else {
+            take_out(runs, used, first + 1, next, by, turns)
+        };
         Ok(())
     }
 
@@ -687,7 +691,7 @@ impl AssemblerHead {
         };
         self.first_start = start - end;
         // A sum that wraps lowers their numbers.
-        self.used = move_down(
+        self.used = take_out(
             runs,
             used,
             0,
@@ -842,8 +846,9 @@ fn runs_starting_by(runs: &[Run], used: usize, from: usize, end: usize, turns: &
     low
 }
 
-/// Returns what `runs_starting_by` does. It looks at the runs in turn, and each that it passes counts
-/// as a move: `join_here` takes it out.
+/// Returns what `runs_starting_by` does. It looks at the runs in turn: mostly the first that it looks at
+/// starts after `end`. Each that starts by then is taken into a range that ends there, which counts as a
+/// move.
 #[inline(always)]
 fn runs_met(runs: &[Run], used: usize, from: usize, end: usize, turns: &mut Turns) -> usize
     requires used { used ≤ length runs.now }
@@ -903,34 +908,9 @@ fn insert_run(runs: &mut [Run], used: usize, at: usize, entry: Run, by: usize, t
 }
 
 /// Takes out the runs from `at` up to `from`, and moves the later ones down, each counted `by`
-/// higher. Returns how many runs there are then.
-#[inline(always)]
+/// higher. Returns how many runs there are then. It isn't marked inline: where several places call it,
+/// it is a call.
 fn take_out(
-    runs: &mut [Run],
-    used: usize,
-    at: usize,
-    from: usize,
-    by: usize,
-    turns: &mut Turns,
-) -> usize
-    requires at { at ≤ from }
-    requires from { from ≤ used }
-    requires used { used ≤ length runs.old }
-    requires fits { AreUsize (runs_wrapped by (drop from (take used runs.old))) }
-    ensures count { result + from ≡ at + used }
-    ensures runs { let all = take used runs.old in
-        take result runs.new ≡ take at runs.old ++ runs_wrapped by (drop from all) }
-    ensures looks { turns.new.0 ≡ turns.old.0 }
-    ensures moves { turns.new.1 + from ≡ turns.old.1 + used }
-{
-    if from == used {
-        return at;
-    }
-    move_down(runs, used, at, from, by, turns)
-}
-
-/// Does what `take_out` does. It isn't marked inline: where several places call it, it is a call.
-fn move_down(
     runs: &mut [Run],
     used: usize,
     at: usize,

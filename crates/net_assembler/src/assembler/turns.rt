@@ -12,7 +12,7 @@ enum Count {
     Next(Snapshot<Count>),
 }
 
-/// How often loops looked at a run, and how often they moved one.
+/// How often loops looked at a run, and how often they moved one, or took one into a range.
 ///
 /// The type takes no bytes when the program runs, and no code can read the counts.
 #[derive(Drop)]
@@ -53,7 +53,7 @@ impl Turns {
         self.looks = Snapshot::of(&Count::Next(before));
     }
 
-    /// Counts an iteration that moves a run.
+    /// Counts an iteration that moves a run, or takes one into a range.
     #[inline]
     pub fn step(&mut self)
         ensures looks { self.new.0 ≡ self.old.0 }

@@ -73,17 +73,17 @@ module _ (c : After-wrapping_neg) where
     left : runs_of g ys ≡ runs_shifted_down c.args.end rest
     left = ap (runs_shifted_up (start - c.args.end)) down ∙ up-down start c.args.end rest above rises
 
-pub move_down-self-requires-clause-fits : goal.move_down-self-requires-clause-fits
-move_down-self-requires-clause-fits c = usize (goal.at.move_down-self-requires-clause-fits c).After-wrapping_neg
+pub take_out-self-requires-clause-fits : goal.take_out-self-requires-clause-fits
+take_out-self-requires-clause-fits c = usize (goal.at.take_out-self-requires-clause-fits c).After-wrapping_neg
 
 pub returns-clause-sound : goal.returns-clause-sound
 returns-clause-sound c =
     sound (goal.at.returns-clause-sound c).After-wrapping_neg _ _
-    (omega (arith, c.requires.room, c.move_down-self.auto.runs, c.move_down-self.ensures.count))
-    c.move_down-self.ensures.runs
+    (omega (arith, c.requires.room, c.take_out-self.auto.runs, c.take_out-self.ensures.count))
+    c.take_out-self.ensures.runs
 
 pub returns-clause-runs : goal.returns-clause-runs
 returns-clause-runs c =
     left (goal.at.returns-clause-runs c).After-wrapping_neg _ _
-    (omega (arith, c.requires.room, c.move_down-self.auto.runs, c.move_down-self.ensures.count))
-    c.move_down-self.ensures.runs
+    (omega (arith, c.requires.room, c.take_out-self.auto.runs, c.take_out-self.ensures.count))
+    c.take_out-self.ensures.runs

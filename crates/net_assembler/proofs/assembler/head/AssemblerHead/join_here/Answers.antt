@@ -1,16 +1,18 @@
-use Rattle.std.proofs.Common.{◌≡◌, ◌∙◌, ◌+◌, ◌-◌, ◌<◌, ◌≤◌, ap, length, refl, set, subst, sym, take, arith}
+use Rattle.std.proofs.Common.{◌≡◌, ◌∙◌, ℕ, ◌+◌, ◌-◌, ◌<◌, ◌≤◌, ◌++◌, ap, drop, length, refl, set, subst, sym, take, arith}
 use Rattle.std.proofs.lemmas.Bool.{cases_lt}
 use Rattle.std.proofs.lemmas.List.{length-set}
 use Rattle.net_assembler.specs.RunLists.{AreUsize, FitsFrom, end_at, runs_wrapped, start_at, used_runs, wrapped_run}
-use Rattle.net_assembler.proofs.Runs.{runs_with_range}
+use Rattle.net_assembler.specs.RunLists.{runs_with_range}
 use Rattle.net_assembler.specs.Turns.{binary_digits}
 use Rattle.net_assembler.proofs.Calls.{below_binary_digits, no_turn}
 use Rattle.net_assembler.proofs.SoundHeads.{joined_in_place, pair_fits, refused_in_place}
+use Rattle.std.proofs.lemmas.List.{append-nil, drop_all, length-take}
 use Rattle.net_assembler.proofs.Moves.{rest_written, written_above}
 use Rattle.net_assembler.proofs.Sets.{either}
 use Rattle.net_assembler.proofs.Joins.{grown_run, used_starts_rise}
 use Rattle.net_assembler.proofs.ShiftedRuns.{fits-less, up-none, inserted_run, joined_run, refused_run, tail_usize}
 use Rattle.net_assembler.proofs.assembler.head.AssemblerHead.join_here.Goals as goal
+use Rattle.net_assembler.proofs.assembler.head.AssemblerHead.join_here.Goals.{then-next-used, else-next-used}
 
 pub overflow_add-last_end : goal.overflow_add-last_end
 overflow_add-last_end c =
@@ -119,9 +121,12 @@ returns-then-next-first-clause-added c =
 
 pub returns-clause-looks : goal.returns-clause-looks
 returns-clause-looks c =
-    let n = length c.args.runs.now in
-    let d = below_binary_digits n in
-    omega (arith, d, c.take_out-self.ensures.looks, c.runs_met-next.ensures.looks)
+    let d = below_binary_digits (length c.args.runs.now) in
+    let turns : c.if-next-used.turns.0 ≡ c.runs_met-next.new.turns.0 = elim c.if-next-used.branch [
+      | then-next-used w ↦ ap (λ (t : ℕ × ℕ). t.0) w.turns-is
+      | else-next-used w ↦ omega (arith, ap (λ (t : ℕ × ℕ). t.0) w.turns-is, w.take_out-self.ensures.looks)
+    ] in
+    omega (arith, d, turns, c.runs_met-next.ensures.looks)
 
 pub returns-clause-added : goal.returns-clause-added
 returns-clause-added c =
@@ -135,9 +140,28 @@ returns-clause-added c =
     let fits : FitsFrom by (used_runs h xs) = fits-less by h.first_start (used_runs h xs) c.requires.by s.fits in
     let met = c.runs_met-next in
     let next = met.ensures in
-    let moved = c.take_out-self.ensures in
+    let left = c.if-next-used in
+    let zs = set xs first (c.min.result, c.max.result) in
+    let count : left.self + met.result ≡ first + 1 + h.used = elim left.branch [
+      | then-next-used w ↦ omega (arith, w.self-is, w.if-next-used.true)
+      | else-next-used w ↦ omega (arith, w.self-is, w.take_out-self.ensures.count)
+    ] in
+    let moves : left.turns.1 + met.result ≡ met.new.turns.1 + h.used = elim left.branch [
+      | then-next-used w ↦ omega (arith, ap (λ (t : ℕ × ℕ). t.1) w.turns-is, w.if-next-used.true)
+      | else-next-used w ↦ omega (arith, ap (λ (t : ℕ × ℕ). t.1) w.turns-is, w.take_out-self.ensures.moves)
+    ] in
+    let looks : left.turns.0 ≡ met.new.turns.0 = elim left.branch [
+      | then-next-used w ↦ ap (λ (t : ℕ × ℕ). t.0) w.turns-is
+      | else-next-used w ↦ omega (arith, ap (λ (t : ℕ × ℕ). t.0) w.turns-is, w.take_out-self.ensures.looks)
+    ] in
+    let rest : take left.self left.runs ≡ take (first + 1) zs ++ runs_wrapped by (drop met.result (take h.used zs)) = elim left.branch [
+      | then-next-used w ↦
+          (λ i. take (w.self-is i) (w.runs-is i)) ∙ sym (append-nil (take (first + 1) zs))
+          ∙ ap (λ rs. take (first + 1) zs ++ runs_wrapped by rs) (sym (drop_all met.result (take h.used zs) (omega (arith, length-take h.used zs, w.if-next-used.true))))
+      | else-next-used w ↦ (λ i. take (w.self-is i) (w.runs-is i)) ∙ w.take_out-self.ensures.runs
+    ] in
     let meets : by + start_at xs first ≤ end = omega (arith, c.requires.begin, c.if-end-begin.false) in
-    let written = moved.runs
+    let written = rest
     ∙ written_above (wrapped_run by) xs first met.result h.used (c.min.result, c.max.result) (omega (arith, next.from)) next.within s.room
     ∙ joined_run xs h.used by start end first met.result s.runs s.room fits (omega arith) c.requires.one_way next.within
     c.requires.before (λ k a b. omega (arith, next.after k a b, meets)) (omega (arith, next.from)) c.requires.reached
@@ -145,14 +169,13 @@ returns-clause-added c =
     (λ l. let same : k ≡ first = omega arith in omega (arith, ap (start_at xs) same, meets)))
     c.min.result c.max.result
     (omega (arith, c.min.ensures, c.requires.begin)) (omega (arith, c.max.ensures, c.end_of.ensures)) in
-    let ys = c.take_out-self.new.runs in
-    let long : length ys ≡ length xs = c.take_out-self.auto.runs ∙ length-set xs first (c.min.result, c.max.result) in
+    let long : length left.runs ≡ length xs = left.auto.runs ∙ length-set xs first (c.min.result, c.max.result) in
     joined_in_place h xs s _ c.args.size h.first_start (h.first_start - by) by start end (omega arith) (omega arith) refl (omega arith) c.requires.one_way
-    (λ _. refl) (λ z. absurd (omega arith)) c.take_out-self.result ys _ _ long (omega (arith, s.room, moved.count, next.from, long))
-    (omega (arith, moved.count, next.within)) c.requires.size (omega (arith, c.requires.fits)) written
+    (λ _. refl) (λ z. absurd (omega arith)) left.self left.runs _ _ long (omega (arith, s.room, count, next.from, long))
+    (omega (arith, count, next.within)) c.requires.size (omega (arith, c.requires.fits)) written
     (record {
       looks_few = omega (arith, returns-clause-looks c);
-      moves_few = omega (arith, s.room, next.moves, moved.moves);
-      no_look_lost = omega (arith, next.looks, moved.looks);
-      no_move_lost = omega (arith, next.from, next.within, next.moves, moved.moves);
+      moves_few = omega (arith, s.room, next.moves, moves);
+      no_look_lost = omega (arith, next.looks, looks);
+      no_move_lost = omega (arith, next.from, next.within, next.moves, moves);
     })

@@ -1,6 +1,6 @@
 use Rattle.std.proofs.Common.{◌≡◌, ◌+◌, ◌++◌, length, take, drop}
 use Rattle.net_assembler.specs.RunLists.{runs_wrapped}
-use Rattle.net_assembler.proofs.assembler.head.move_down.Given as goal
+use Rattle.net_assembler.proofs.assembler.head.take_out.Given as goal
 
 abbrev pub invariant-loop-k : goal.invariant-loop-k
 invariant-loop-k l = record {

@@ -3,7 +3,7 @@ use Rattle.std.proofs.lemmas.List.{length-set}
 use Rattle.net_assembler.specs.RunLists.{runs_wrapped, wrapped_run}
 use Rattle.net_assembler.proofs.Moves.{change_more, rest_at, rest_more}
 use Rattle.net_assembler.proofs.ShiftedRuns.{moved_usize}
-use Rattle.net_assembler.proofs.assembler.head.move_down.Goals as goal
+use Rattle.net_assembler.proofs.assembler.head.take_out.Goals as goal
 
 pub wrapped-requires-clause-fits : goal.wrapped-requires-clause-fits
 wrapped-requires-clause-fits c =
