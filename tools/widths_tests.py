@@ -162,7 +162,7 @@ EXPORTS = [
     ('refusals.rs', 'pub const NET_BASE_DONE', 'pub const ALL: usize = usize::MAX;\npub const NET_BASE_DONE'),
     ('heads/receiver.rs', 'capacity == no_number()', 'capacity == usize::MAX'),
     ('heads/scoreboard.rs', 'scoreboard.count_beyond(runs)', 'scoreboard.count_beyond(runs).saturating_add(1)'),
-    ('heads/sender.rs', 'sender.room(capacity)', 'sender.room(4_294_967_296)'),
+    ('heads/finite_sender.rs', 'sender.room(capacity)', 'sender.room(4_294_967_296)'),
     ('../net_assembler/laws.rs', 'pub fn is_usize(n: usize) {}', 'pub fn is_usize(n: usize) {}\npub fn wide() { let n = usize::MAX; is_usize(n); }'),
 ]
 

@@ -265,7 +265,7 @@ impl AssemblerHead {
         }
         // The last run that starts by then is cut, or ends by then; those before it end by then.
         let by = count - self.first_start;
-        let met = runs_starting_by(runs, self.used, 1, by, &mut Turns::new());
+        let met = runs_starting_by(runs, self.used, 1, by);
         let last = met - 1;
         let end = end_of(runs, last);
         if end <= by {
@@ -818,7 +818,7 @@ fn runs_ending_before(runs: &[Run], used: usize, offset: usize, turns: &mut Turn
 
 /// Returns how many of the `used` runs start at or before `end`, but at least `from`.
 #[inline(always)]
-fn runs_starting_by(runs: &[Run], used: usize, from: usize, end: usize, turns: &mut Turns) -> usize
+fn runs_starting_by(runs: &[Run], used: usize, from: usize, end: usize) -> usize
     requires used { used ≤ length runs.now }
     requires runs { AreRuns (take used runs.now) }
     requires from { from ≤ used }
@@ -826,9 +826,6 @@ fn runs_starting_by(runs: &[Run], used: usize, from: usize, end: usize, turns: &
     ensures within { result ≤ used }
     ensures before { (k : ℕ) → from ≤ k → k < result → start_at runs.now k ≤ end }
     ensures after { (k : ℕ) → result ≤ k → k < used → end < start_at runs.now k }
-    ensures looks { (b : ℕ) → used < 2 ^ b → turns.new.0 ≤ turns.old.0 + b }
-    ensures no_look_lost { turns.old.0 ≤ turns.new.0 }
-    ensures moves { turns.new.1 ≡ turns.old.1 }
 {
     let mut low = from;
     let mut high = used;
@@ -841,7 +838,6 @@ fn runs_starting_by(runs: &[Run], used: usize, from: usize, end: usize, turns: &
             high = middle;
         }
         prove!(low <= high, "in any `usize`");
-        turns.look();
     }
     low
 }
@@ -945,6 +941,6 @@ fn holds(runs: &[Run], position: usize) -> bool
     requires fits { FitsFrom 0 runs.now }
     ensures { result ≡ contains (set_of_runs runs.now) position }
 {
-    let count = runs_starting_by(runs, runs.len(), 0, position, &mut Turns::new());
+    let count = runs_starting_by(runs, runs.len(), 0, position);
     count > 0 && position < end_of(runs, count - 1)
 }

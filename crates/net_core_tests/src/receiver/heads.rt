@@ -56,4 +56,6 @@ fn heads_at_their_ends(rt: HostRuntime) {
     assert_holds(&rt, sends_from_nine(), ("number", 9));
     let fits = SenderHead::new(u64::MAX).end_fits();
     assert_holds(&rt, fits, ("a sender's end", 0));
+    let room = SenderHead::new(u64::MAX - 3).room(4);
+    assert_holds(&rt, room == 3, ("a sender's room", 3));
 }

@@ -1,4 +1,5 @@
-use Rattle.std.proofs.Common.{◌≡◌, ◌∙◌, ℕ, ◌+◌, ◌-◌, ◌<◌, ◌≤◌, ◌++◌, ap, drop, length, refl, set, subst, sym, take, arith}
+use Rattle.std.proofs.Common.{◌≡◌, ◌∙◌, ℕ, ◌+◌, ◌-◌, ◌<◌, ◌≤◌, ◌++◌, ap, drop, length, refl, set, subst, sym, take}
+use Rattle.std.proofs.Common.{arith}
 use Rattle.std.proofs.lemmas.Bool.{cases_lt}
 use Rattle.std.proofs.lemmas.List.{length-set}
 use Rattle.net_assembler.specs.RunLists.{AreUsize, FitsFrom, end_at, runs_wrapped, start_at, used_runs, wrapped_run}
@@ -157,7 +158,8 @@ returns-clause-added c =
     let rest : take left.self left.runs ≡ take (first + 1) zs ++ runs_wrapped by (drop met.result (take h.used zs)) = elim left.branch [
       | then-next-used w ↦
           (λ i. take (w.self-is i) (w.runs-is i)) ∙ sym (append-nil (take (first + 1) zs))
-          ∙ ap (λ rs. take (first + 1) zs ++ runs_wrapped by rs) (sym (drop_all met.result (take h.used zs) (omega (arith, length-take h.used zs, w.if-next-used.true))))
+          ∙ ap (λ rs. take (first + 1) zs ++ runs_wrapped by rs)
+          (sym (drop_all met.result (take h.used zs) (omega (arith, length-take h.used zs, w.if-next-used.true))))
       | else-next-used w ↦ (λ i. take (w.self-is i) (w.runs-is i)) ∙ w.take_out-self.ensures.runs
     ] in
     let meets : by + start_at xs first ≤ end = omega (arith, c.requires.begin, c.if-end-begin.false) in
