@@ -11,8 +11,7 @@ UNERASED = {
     "Rust's has no `N`, as smoltcp's": ['net_assembler/assembler/new'],
     "Rust's tokens borrow their device, which Rattle's can't": [f'net_base/phy/{name}' for name in ('device', 'loopback', 'echo')],
     "in Rust it is core's": ['net_base/phy/non_zero'],
-    'only proofs want them': [*(f'net_receiver/{name}' for name in ('schedule', 'command', 'reply')),
-                              *(f'net_base/phy/{name}' for name in ('frame_lists', 'laws'))],
+    'only proofs want them': ['net_receiver/schedule', *(f'net_base/phy/{name}' for name in ('frame_lists', 'laws'))],
 }
 
 # The exports for C, which the shim of `c` calls: they are compiled with the feature `c` alone, and have no documentation.

@@ -289,10 +289,6 @@ matches_later says f w more pos xs last none m = record {
   end = λ on. m.end on ∙ ap (λ l. f + length l) (sym (ap (λ l. w ++ l) (none on) ∙ append-nil w));
 }
 
-longer : MatchesLonger
-unfolding MatchesStream
-longer f pos x more xs h = λ p b from is. longer_at x more _ b (h p b from is)
-
 -- what is lent is a segment of what was written, and of what is written in all
 pub lent_matches : (s : FiniteSenderState) (pos limit : ℕ) (xs : List ℕ) (last : Bool) → IsLent s pos limit xs last →
     (f : ℕ) (w : List ℕ) → Sends f w s.sender → s.sender.first_unacknowledged ≤ pos → MatchesFinite f w pos xs last
@@ -305,7 +301,7 @@ pub lent_later : (s : FiniteSenderState) (pos limit : ℕ) (xs : List ℕ) (last
     (f : ℕ) (w more : List ℕ) → Sends f w s.sender → s.sender.first_unacknowledged ≤ pos → (s.closed ≡ 1 → more ≡ []) →
     MatchesFinite f (w ++ more) pos xs last
 lent_later s pos limit xs last lent f w more sends from ended =
-    matches_later longer f w more pos xs last (λ on. ended (lent.end.0 on).0) (lent_matches s pos limit xs last lent f w sends from)
+    matches_later matches_longer f w more pos xs last (λ on. ended (lent.end.0 on).0) (lent_matches s pos limit xs last lent f w sends from)
 
 pub lent_is_of_stream : LentIsOfStream
 lent_is_of_stream s cs f w pos xs sound sends low is =
