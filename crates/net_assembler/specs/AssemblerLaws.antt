@@ -3,7 +3,7 @@
 --     CallsNext rest results last      what calls of `next`, one after another, return and leave
 --     results_of_next rest n       what n of them return
 --     with_ranges s ranges, lies_in_some p ranges      a set with ranges (offset, size), and whether p is in one
-use Rattle.std.specs.Prelude.{◌||◌, ◌≡◌, ◌↔◌, ℕ, zero, suc, ◌+◌, ◌<◌, ◌≤◌, Bool, List, [], ◌∷◌, length, Option, Some}
+use Rattle.std.specs.Prelude.{◌||◌, ◌≡◌, ◌↔◌, ℕ, zero, suc, ◌+◌, ◌<◌, ◌≤◌, Bool, List, [], ◌∷◌, Option, Some}
 use Rattle.std.specs.Prelude.{None, Result, IsTrue, IsFalse, IsErr, OnOk, OnErr, MatchResult}
 use Rattle.std.specs.List.{list_any}
 use Rattle.std.specs.Iterator.{YieldsFirst}

@@ -401,4 +401,4 @@ any_path_carries N first to_send to_receive ws cs fits from =
     )
 
 -- ---- The lemmas of each law.
-pub ruleset lent_segments_law = (lent_some, lent_room, lent_none, lent_numbers, lent_beyond, lent_written, lent_matches)
+pub ruleset lent_segments_law = (lent_some, lent_room, lent_none, lent_numbers, lent_beyond, lent_written)

@@ -3,9 +3,7 @@ use Rattle.std.proofs.lemmas.Bool.{cases_lt}
 use Rattle.std.proofs.lemmas.Bool.Decides.{not_from_Decides}
 use Rattle.net_assembler.specs.RunLists.{start_at}
 use Rattle.net_assembler.proofs.Sets.{either}
-use Rattle.net_assembler.proofs.Joins.{halved, used_starts_rise}
-use Rattle.net_assembler.proofs.Positions.{either}
-use Rattle.net_assembler.proofs.RunLists.{used_starts_rise}
+use Rattle.net_assembler.proofs.Joins.{used_starts_rise}
 use Rattle.net_assembler.proofs.assembler.head.runs_starting_by.Goals as goal
 use Rattle.net_assembler.proofs.assembler.head.runs_starting_by.Goals.{then-starts_by, else-starts_by}
 

@@ -4,7 +4,6 @@ use Rattle.std.proofs.lemmas.Bool.{cases_lt}
 use Rattle.std.proofs.lemmas.List.{length-set}
 use Rattle.net_assembler.specs.RunLists.{AreUsize, FitsFrom, end_at, runs_wrapped, start_at, used_runs, wrapped_run}
 use Rattle.net_assembler.proofs.Runs.{runs_with_range}
-use Rattle.net_assembler.specs.Turns.{binary_digits}
 use Rattle.net_assembler.proofs.Calls.{below_binary_digits, no_turn}
 use Rattle.net_assembler.proofs.SoundHeads.{joined_in_place, pair_fits, refused_in_place}
 use Rattle.std.proofs.lemmas.List.{append-nil, drop_all, length-take}
