@@ -18,7 +18,7 @@ use Rattle.net_receiver.specs.{plain_of, plain_commands, AreAccepted, BringsByte
 use Rattle.net_receiver.specs.{EndsWithin, FiniteCompletes, FiniteRecovers, ResentIsRead, CommandFits}
 use Rattle.net_receiver.specs.Finite.{FiniteSchedules}
 use Rattle.net_receiver.specs.declared.finite_receiver_head.FiniteReceiverHead.{FiniteReceiverHead}
-use Rattle.net_receiver.proofs.Heads.{offset_of, at_offset, top_is, queue_size}
+use Rattle.net_receiver.proofs.Heads.{offset_of, at_offset, top_is}
 use Rattle.net_receiver.proofs.Words.{◌≡◌, ◌⊎◌, inl, inr, ℕ, ◌+◌, ◌-◌, ◌<◌, ◌≤◌, ◌&&◌, Bool, true, false, cond, List}
 use Rattle.net_receiver.proofs.Words.{[], ◌∷◌, length, take, min, nat_le, nat_eq, is_ok, is_some, Result, Err, refl}
 use Rattle.net_receiver.proofs.Words.{sym, ap, ◌∙◌, arith, ⊎_elim, length-take, length-drop, ◌++◌, drop, All, nat_lt}
@@ -37,9 +37,8 @@ use Rattle.net_receiver.proofs.Words.{finite_after_commands, CommandMatches, Rec
 use Rattle.net_receiver.proofs.Words.{SegmentReply, with_sack, setting, Refines, receiver_after_commands}
 use Rattle.net_receiver.proofs.Words.{receiver_reply, receiver_replies, state_from, IsAccepted, bytes_read, Brings}
 use Rattle.net_receiver.proofs.Words.{MatchesFinite, ReceiverState, ReceiverHead, TooManyHolesError, KeptBytes}
-use Rattle.net_receiver.proofs.Words.{RingState, queue, spare, ring_at, set_of, slice_get_within, take-take, All-head}
+use Rattle.net_receiver.proofs.Words.{set_of, slice_get_within, take-take, All-head}
 use Rattle.net_receiver.proofs.Words.{All-tail, All-nil, All-cons, All-append}
-use Rattle.net_receiver.proofs.Places.{has_place}
 use Rattle.net_receiver.proofs.Sets.{piece_at, clip_at, contains-domain, next_joined, lacks, lacking, laid_has}
 use Rattle.net_receiver.proofs.Sets.{left_above, cond_some, slice_get-take, piece_from}
 use Rattle.net_receiver.proofs.Schedules.{any_verdict, some_of, converge, schedule}

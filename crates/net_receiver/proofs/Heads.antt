@@ -1,10 +1,8 @@
 -- What a kept part and a read make of a head, a storage and runs.
-use Rattle.std.proofs.Common.{inl, inr}
 use Rattle.std.proofs.Common.{IsErr, max, ◌&&◌, nat_le}
 use Rattle.std.proofs.lemmas.Bool.{and_parts, and_from, leb-true, le-leb}
 use Rattle.net_assembler.specs.Positions.{contains}
 use Rattle.net_assembler.specs.Positions.{bound_of, positions, shift_up}
-use Rattle.net_receiver.specs.{verdict_of_piece}
 use Rattle.net_receiver.specs.{HasSoundHeld, next_at, held_at, top_at, top_of, limit_of, count_between, new_count}
 use Rattle.net_receiver.specs.{IsReadAt}
 use Rattle.net_receiver.proofs.Sets.{piece_at, next_joined, laid, lacks, lacking, laid_has, left_above}

@@ -1,7 +1,7 @@
 -- Schedules by the rules of `Headline.antt`, against what is stored, and streams with which they agree.
 use Rattle.std.proofs.Common.{drop-drop}
 use Rattle.std.proofs.lemmas.Bool.{cases_eq, le-leb}
-use Rattle.std.proofs.lemmas.Bool.{eqb-false, not-true, cases_order}
+use Rattle.std.proofs.lemmas.Bool.{eqb-false, not-true}
 use Rattle.std.proofs.lemmas.List.Elements.{filter_agree}
 use Rattle.std.specs.List.{prefix_len}
 use Rattle.net_assembler.specs.Positions.{run_starts, begins_run, maximal_runs}

@@ -15,7 +15,7 @@ use Rattle.net_receiver.proofs.Words.{arith, sym, ap, min, max, length-append, l
 use Rattle.net_receiver.proofs.Words.{◌∷◌, nat_eq, nat_le, ◌&&◌, refl, subst, append_assoc, append-nil, All, ⊎_elim}
 use Rattle.net_receiver.proofs.Words.{cases_lt, cond_both, and_parts, cond-false, nat_tests, drop_all, drop-drop}
 use Rattle.net_receiver.proofs.Words.{nil_from_length, MatchesStream, MatchesWhatIsThere, sender_state, Sends, end_of}
-use Rattle.net_receiver.proofs.Words.{contiguous_end, with_written, sender_from, sender_of, MatchesLonger}
+use Rattle.net_receiver.proofs.Words.{contiguous_end, with_written, sender_from, MatchesLonger}
 use Rattle.net_receiver.proofs.Words.{FiniteSenderState, first_number, finite_room, finite_sender_of, with_bytes}
 use Rattle.net_receiver.proofs.Words.{open_room, acknowledged_below, MatchesFinite, next_position, fresh_finite}
 use Rattle.net_receiver.proofs.Words.{acknowledged, fresh_finite_sender, FiniteCommand, Arrives, Reads, CommandMatches}
@@ -23,7 +23,7 @@ use Rattle.net_receiver.proofs.Words.{finite_after_commands, from_bool, queue, r
 use Rattle.net_receiver.proofs.Words.{All-head, All-tail, All-weaker, ReceiverState}
 use Rattle.net_receiver.specs.{QueueFromGreatest, acknowledge, acknowledge_each, greatest_within}
 use Rattle.net_receiver.specs.SenderState.{SenderState}
-use Rattle.std.specs.Prelude.{◌↔◌, IsTrue, IsFalse}
+use Rattle.std.specs.Prelude.{IsTrue, IsFalse}
 use Rattle.net_ring.specs.RingHead.{IsSound}
 use Rattle.net_receiver.proofs.OneStream.{matches_longer, matches_what_is_there, queue_of}
 use Rattle.net_receiver.specs.Transfers.{ComesFrom, SaysAtMost, AnyPathCarries}
@@ -278,7 +278,7 @@ sent_within capacity h pos limit at total size last sound lends some =
     let lent = lends.lent storage all in
     either (cases_lt (numbers_end s) pos)
     (λ above. let none = lent_beyond s pos limit xs last lent above in
-        let empty = ap length none.0 in absurd (grind (arith, some, long, empty, none.1)))
+    let empty = ap length none.0 in absurd (grind (arith, some, long, empty, none.1)))
     (λ low. let numbers = lent_numbers s pos limit xs last lent low in omega (arith, numbers, long, queued))
 
 -- a segment of what was written is one of what is written in all: only the last one ends it

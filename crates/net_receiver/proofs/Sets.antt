@@ -1,8 +1,6 @@
 -- Where a test is first false, lists of a range of positions, kept lists, held bytes as a map, and the runs of a set.
-use Rattle.std.proofs.Common.{⊎_elim}
-use Rattle.std.proofs.Common.{max}
-use Rattle.std.proofs.Common.{lt-ltb, ◌≢◌}
-use Rattle.std.proofs.lemmas.Bool.{cases_order, both_ways, leb-true}
+use Rattle.std.proofs.Common.{lt-ltb}
+use Rattle.std.proofs.lemmas.Bool.{leb-true}
 use Rattle.net_assembler.proofs.Sets.{contains-set_of_list, runs-shift_up}
 use Rattle.std.proofs.lemmas.List.FromFn.{take-map-range_with_len}
 use Rattle.net_receiver.specs.{byte_at}
@@ -14,7 +12,7 @@ use Rattle.net_receiver.proofs.Words.{is_some, slice_get, nat_lt, le-leb, ◌&&�
 use Rattle.net_receiver.proofs.Words.{All, subst, cond-true, cond-false, lt-leb, ltb-true, and_parts, and_from}
 use Rattle.net_receiver.proofs.Words.{or_right, Positions, contains, first_missing, runs, maximal_runs, shift_up}
 use Rattle.net_receiver.proofs.Words.{runs_shifted_up, IsMaximalRun, first_missing-misses, first_missing-has}
-use Rattle.net_receiver.proofs.Words.{first_missing-le, has, same_positions, contains-shift_up, maximal_runs-shift_up}
+use Rattle.net_receiver.proofs.Words.{first_missing-le, has, same_positions, contains-shift_up}
 use Rattle.net_receiver.proofs.Words.{range_with_len, list_any, take_min, length-map-range_with_len, option_or}
 use Rattle.net_receiver.proofs.Words.{nat_tests, slice_get_cases, none-some, gets, common_steps, Piece, end}
 use Rattle.net_receiver.proofs.Words.{piece_byte_at, piece_within, is_covered, HeldBytes, domain, first_lacking}

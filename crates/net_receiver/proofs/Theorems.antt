@@ -10,7 +10,7 @@ use Rattle.net_receiver.specs.{replies, replies_from}
 use Rattle.net_receiver.specs.{ExecutesFor}
 use Rattle.net_receiver.specs.{SoundRepresents}
 use Rattle.net_receiver.specs.{FreshIsSound, SoundStays}
-use Rattle.net_receiver.proofs.Words.{◌≡◌, ℕ, ◌+◌, ◌-◌, ◌≤◌, ◌<◌, ◌^◌, false, nat_le, None, is_some, List, [], map}
+use Rattle.net_receiver.proofs.Words.{◌≡◌, ℕ, ◌+◌, ◌-◌, ◌≤◌, ◌<◌, false, nat_le, None, is_some, List, [], map}
 use Rattle.net_receiver.proofs.Words.{◌++◌, length, take, All, refl, sym, ap, subst, ◌∙◌, arith, ⊎_elim, le_refl, ◌⊎◌}
 use Rattle.net_receiver.proofs.Words.{inl, inr, suc, Bool, true, cond, ◌∷◌, drop, get_or, Option, Some, Result, Ok}
 use Rattle.net_receiver.proofs.Words.{Err, leb-true, take_all, length-take, length-drop, get_or-take, get_or-drop}
@@ -21,7 +21,7 @@ use Rattle.net_receiver.proofs.Words.{false_from_ne_true, ltb-true, ltb-false, P
 use Rattle.net_receiver.proofs.Words.{maximal_runs, lies_in, IsMaximalRun, positions, with_range, contains-nothing}
 use Rattle.net_receiver.proofs.Words.{same_positions, has, contains-positions, contains-with_range, positions_rise}
 use Rattle.net_receiver.proofs.Words.{rising_unique, CommandValue, ReplyValue, byte, queued, missing, is_held}
-use Rattle.net_receiver.proofs.Words.{state_from, SegmentReply, step, held_bytes, parts, Fits64Bits, Setting}
+use Rattle.net_receiver.proofs.Words.{state_from, SegmentReply, step, held_bytes, parts, Setting}
 use Rattle.net_receiver.proofs.Words.{KeptState, fresh_kept, bytes_read, IsAccepted, HasRoom, fresh_receiver, setting}
 use Rattle.net_receiver.proofs.Words.{Refines, IsSound, domain, receiver_after_commands, receiver_replies}
 use Rattle.net_receiver.proofs.Words.{receiver_after_command, receiver_reply, HeldBytes, next_position, first_three}

@@ -12,8 +12,7 @@ use Rattle.net_ring.specs.RingHead.{IsSound as IsSoundPlace, ring_at, dequeued_p
 use Rattle.net_assembler.specs.Positions.{Positions, contains, positions, bound_of, shift_up}
 use Rattle.net_assembler.specs.RunLists.{set_of, HasSoundRuns}
 use Rattle.net_receiver.specs.declared.receiver_head.ReceiverHead.{ReceiverHead}
-use Rattle.net_receiver.specs.ReceiverState.{Verdict, KeepsNone, Refuses, Keeps, ReceiverState, IsSound, parts}
-use Rattle.net_receiver.specs.ReceiverState.{Fits64Bits, IsReadAt}
+use Rattle.net_receiver.specs.ReceiverState.{Verdict, KeepsNone, Refuses, Keeps, ReceiverState, parts}
 
 -- what is stored: the queue, and the held bytes at the offsets that the runs have after it
 abbrev pub receiver_of : ReceiverHead → List ℕ → List (ℕ × ℕ) → ReceiverState

@@ -19,11 +19,11 @@ ghost use Rattle.net_ring.specs.RingHead.{IsSound as IsSoundPlace, ring_at};
 ghost use Rattle.std.specs.Prelude.{IsFalse, IsTrue, List, drop, if◌then◌else◌, length, min, slice_range, take, ℕ};
 ghost use Rattle.std.specs.Prelude.{◌++◌, ◌+◌, ◌-◌, ◌<◌, ◌==◌, ◌^◌, ◌↔◌, ◌≡◌, ◌≤◌};
 
-use crate::finite_receiver::{has_number};
+use crate::finite_receiver::has_number;
 use crate::receiver::{has_next, has_runs, is_plausible};
-use crate::refusals::{no_number};
-use net_assembler::{Run};
-use net_receiver::{FiniteReceiverHead};
+use crate::refusals::no_number;
+use net_assembler::Run;
+use net_receiver::FiniteReceiverHead;
 
 /// Makes `receiver` the head of a receiver of a stream that begins at position `first`; nothing has
 /// arrived. It is sound with every storage and all runs.
@@ -35,8 +35,7 @@ pub extern "C" fn net_base_finite_receiver_init(
     first: u64,
 ) -> bool
     ensures done { IsTrue result ↔ (first < no_end) }
-    ensures sound { IsTrue result → (capacity : ℕ) (runs : List (ℕ × ℕ)) → HasSoundFinite receiver.new capacity runs
-        }
+    ensures sound { IsTrue result → (capacity : ℕ) (runs : List (ℕ × ℕ)) → HasSoundFinite receiver.new capacity runs }
     ensures state { IsTrue result → (storage : List ℕ) (runs : List (ℕ × ℕ)) → finite_of receiver.new storage runs ≡
         fresh_finite first (length storage) }
     ensures canonical { IsTrue result → IsCanonical receiver.new.receiver.held }
@@ -211,7 +210,10 @@ pub extern "C" fn net_base_finite_receiver_remove(
         (receiver.old.receiver.count_read + count)) }
     ensures unchanged { IsFalse result → (receiver.new ≡ receiver.old) }
 {
-    if !receiver.receiver.place.is_sound(capacity) || count > receiver.receiver.place.length || !has_next(&receiver.receiver) {
+    if !receiver.receiver.place.is_sound(capacity)
+        || count > receiver.receiver.place.length
+        || !has_next(&receiver.receiver)
+    {
         return false;
     }
     receiver.remove(capacity, count);

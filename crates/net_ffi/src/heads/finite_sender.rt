@@ -21,7 +21,7 @@ ghost use Rattle.std.specs.Prelude.{◌↔◌, ◌≡◌, ◌≢◌, ◌≤◌};
 
 use crate::refusals::{no_number, refused_segment_span};
 use crate::results::{SegmentSpan, segment_span};
-use net_receiver::{FiniteSenderHead};
+use net_receiver::FiniteSenderHead;
 
 /// Makes `sender` the head of a sender of a stream that begins at position `first`; nothing was
 /// written. It is sound for every storage.
@@ -91,7 +91,10 @@ pub extern "C" fn net_base_finite_sender_numbers_end(
         sender.now.sender.place.length + sender.now.closed }
     ensures unchanged { IsFalse result → (number.new ≡ number.old) }
 {
-    if sender.sender.place.length as u64 > u64::MAX - sender.sender.first_unacknowledged || sender.closed > u64::MAX - sender.sender.first_unacknowledged - sender.sender.place.length as u64 {
+    if sender.sender.place.length as u64 > u64::MAX - sender.sender.first_unacknowledged
+        || sender.closed
+            > u64::MAX - sender.sender.first_unacknowledged - sender.sender.place.length as u64
+    {
         return false;
     }
     *number = sender.numbers_end();
@@ -107,8 +110,7 @@ pub extern "C" fn net_base_finite_sender_numbers_end(
 pub extern "C" fn net_base_finite_sender_room(sender: &FiniteSenderHead, capacity: usize) -> usize
     ensures value { (capacity ≢ no_number) × (IsSoundFiniteSender capacity sender.now) → (storage : List ℕ) → length
         storage ≡ capacity → result ≡ finite_room (finite_sender_of sender.now storage) }
-    ensures refused { ((capacity ≢ no_number) × (IsSoundFiniteSender capacity sender.now) → ⊥) → result ≡ no_number
-        }
+    ensures refused { ((capacity ≢ no_number) × (IsSoundFiniteSender capacity sender.now) → ⊥) → result ≡ no_number }
 {
     if capacity == no_number() || !sender.is_sound(capacity) {
         return no_number();

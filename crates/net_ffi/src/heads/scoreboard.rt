@@ -17,7 +17,7 @@ ghost use Rattle.std.specs.Prelude.{Err, IsFalse, IsTrue, List, OnErr, OnOk, len
 
 use crate::refusals::{NET_BASE_DONE, NET_BASE_REFUSED, Status, no_number, refused_hole};
 use crate::results::{Hole, status_of_report};
-use net_assembler::{Run};
+use net_assembler::Run;
 use net_receiver::{ReportError, ScoreboardHead};
 
 /// Makes `scoreboard` a scoreboard of a stream that begins at position `first`, to which nothing
@@ -152,7 +152,11 @@ pub extern "C" fn net_base_scoreboard_next_hole(
         return refused_hole();
     }
     let (start, end) = scoreboard.next_hole(runs, position, limit);
-    Hole { status: NET_BASE_DONE, start, end }
+    Hole {
+        status: NET_BASE_DONE,
+        start,
+        end,
+    }
 }
 
 /// Writes to `end` the position after the last one that was reported; 0 if none was.

@@ -1,11 +1,11 @@
 use crate::rattle::prelude::*;
 // Written by tools/ffi.py.
 
-use crate::proved::net_ffi::finite_receiver::{has_number};
+use crate::proved::net_ffi::finite_receiver::has_number;
 use crate::proved::net_ffi::receiver::{has_next, has_runs, is_plausible};
-use crate::proved::net_ffi::refusals::{no_number};
-use crate::proved::net_assembler::{Run};
-use crate::proved::net_receiver::{FiniteReceiverHead};
+use crate::proved::net_ffi::refusals::no_number;
+use crate::proved::net_assembler::Run;
+use crate::proved::net_receiver::FiniteReceiverHead;
 
 #[inline(always)]
 pub fn net_base_finite_receiver_init(
@@ -86,7 +86,10 @@ pub fn net_base_finite_receiver_remove(
     capacity: usize,
     count: usize,
 ) -> bool {
-    if !receiver.receiver.place.is_sound(capacity) || count > receiver.receiver.place.length || !has_next(&receiver.receiver) {
+    if !receiver.receiver.place.is_sound(capacity)
+        || count > receiver.receiver.place.length
+        || !has_next(&receiver.receiver)
+    {
         return false;
     }
     receiver.remove(capacity, count);

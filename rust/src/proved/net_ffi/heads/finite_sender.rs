@@ -3,7 +3,7 @@ use crate::rattle::prelude::*;
 
 use crate::proved::net_ffi::refusals::{no_number, refused_segment_span};
 use crate::proved::net_ffi::results::{SegmentSpan, segment_span};
-use crate::proved::net_receiver::{FiniteSenderHead};
+use crate::proved::net_receiver::FiniteSenderHead;
 
 #[inline(always)]
 pub fn net_base_finite_sender_init(sender: &mut FiniteSenderHead, first: u64) -> bool {
@@ -39,7 +39,10 @@ pub fn net_base_finite_sender_numbers_end(
     sender: &FiniteSenderHead,
     number: &mut u64,
 ) -> bool {
-    if sender.sender.place.length as u64 > u64::MAX - sender.sender.first_unacknowledged || sender.closed > u64::MAX - sender.sender.first_unacknowledged - sender.sender.place.length as u64 {
+    if sender.sender.place.length as u64 > u64::MAX - sender.sender.first_unacknowledged
+        || sender.closed
+            > u64::MAX - sender.sender.first_unacknowledged - sender.sender.place.length as u64
+    {
         return false;
     }
     *number = sender.numbers_end();

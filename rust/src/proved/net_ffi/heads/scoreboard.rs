@@ -3,7 +3,7 @@ use crate::rattle::prelude::*;
 
 use crate::proved::net_ffi::refusals::{NET_BASE_DONE, NET_BASE_REFUSED, Status, no_number, refused_hole};
 use crate::proved::net_ffi::results::{Hole, status_of_report};
-use crate::proved::net_assembler::{Run};
+use crate::proved::net_assembler::Run;
 use crate::proved::net_receiver::{ReportError, ScoreboardHead};
 
 #[inline(always)]
@@ -66,7 +66,11 @@ pub fn net_base_scoreboard_next_hole(
         return refused_hole();
     }
     let (start, end) = scoreboard.next_hole(runs, position, limit);
-    Hole { status: NET_BASE_DONE, start, end }
+    Hole {
+        status: NET_BASE_DONE,
+        start,
+        end,
+    }
 }
 
 #[inline(always)]

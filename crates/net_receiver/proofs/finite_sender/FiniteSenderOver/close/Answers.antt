@@ -1,5 +1,5 @@
 use Rattle.std.proofs.Common.{length}
-use Rattle.net_receiver.proofs.Words.{◌∙◌, ap, sym}
+use Rattle.net_receiver.proofs.Words.{◌∙◌, ap}
 use Rattle.net_receiver.specs.{closed_sender}
 use Rattle.net_receiver.proofs.finite_sender.FiniteSenderOver.close.Goals as goal
 

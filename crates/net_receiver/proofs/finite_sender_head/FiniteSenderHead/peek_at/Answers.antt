@@ -25,7 +25,7 @@ returns c =
           let queued = length-queue (ring_at storage h.sender.place) (subst (λ k. IsSound k h.sender.place) (sym size) c.requires.sender.place) in
           let xs = take n (drop span.result.from storage) in
           let long : length xs ≡ n =
-              omega (arith, length-take n (drop span.result.from storage), length-drop span.result.from storage, span.ensures.within, size) in
+          omega (arith, length-take n (drop span.result.from storage), length-drop span.result.from storage, span.ensures.within, size) in
           let within = contiguous_within (sender_of h.sender storage) c.args.pos in
           record {
             value = span.ensures.bytes storage size ∙ ap (λ k. take k (drop (c.args.pos - first) (queue (ring_at storage h.sender.place)))) (sym long);

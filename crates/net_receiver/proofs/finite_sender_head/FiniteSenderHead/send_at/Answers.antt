@@ -15,13 +15,13 @@ overflow_add-count c =
 pub overflow_add-pos : goal.overflow_add-pos
 overflow_add-pos c =
     let within = sent_within _ c.args.self.now c.args.pos c.args.limit _ _ _ _ c.requires c.peek_at-is_last.ensures
-        (omega (arith, c.if-count-gt0.true, c.from.ensures)) in
+    (omega (arith, c.if-count-gt0.true, c.from.ensures)) in
     omega (arith, within, c.requires.fits, c.requires.closed, c.from.ensures)
 
 pub returns-then-count-gt0-clause-sound : goal.returns-then-count-gt0-clause-sound
 returns-then-count-gt0-clause-sound c =
     let within = sent_within _ c.args.self.now c.args.pos c.args.limit _ _ _ _ c.requires c.peek_at-is_last.ensures
-        (omega (arith, c.if-count-gt0.true, c.from.ensures)) in
+    (omega (arith, c.if-count-gt0.true, c.from.ensures)) in
     record {
       sender = c.requires.sender;
       closed = c.requires.closed;

@@ -1,11 +1,4 @@
 use Rattle.std.proofs.Common.{arith}
-use Rattle.std.proofs.Common.{length}
-use Rattle.net_ring.specs.RingHead.{ring_at}
-use Rattle.net_ring.specs.Ring.{queue, spare}
-use Rattle.net_ring.proofs.Rotations.{length-queue, length-spare}
-use Rattle.net_assembler.specs.RunLists.{set_of}
-use Rattle.net_assembler.proofs.SoundHeads.{few_held}
-use Rattle.net_receiver.proofs.Places.{resumed, are_within}
 use Rattle.net_receiver.proofs.receiver_head.ReceiverHead.is_sound.Goals as goal
 
 pub returns : goal.returns

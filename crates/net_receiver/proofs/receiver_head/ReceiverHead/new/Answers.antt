@@ -3,7 +3,6 @@ use Rattle.std.proofs.Math.Nat.{mod-eq_of_lt}
 use Rattle.net_assembler.specs.Positions.{contains}
 use Rattle.net_ring.specs.RingHead.{ring_at}
 use Rattle.net_ring.specs.Ring.{spare}
-use Rattle.net_assembler.proofs.Joins.{runs-nothing}
 use Rattle.net_assembler.specs.RunLists.{set_of}
 use Rattle.net_receiver.proofs.Places.{none_there}
 use Rattle.net_receiver.proofs.Theorems.{fresh_parts}

@@ -1,8 +1,7 @@
-use Rattle.net_receiver.proofs.Words.{◌≡◌, ◌∙◌, ◌-◌, min, ap, sym, subst, take, drop, length, length-take, length-drop}
-use Rattle.net_receiver.proofs.Words.{arith, ring_at, index_after, queue, queue_index, contiguous_allocated, sender_of}
+use Rattle.net_receiver.proofs.Words.{◌≡◌, ◌∙◌, ◌-◌, min, ap, sym, subst, take, drop}
+use Rattle.net_receiver.proofs.Words.{arith, ring_at, index_after, queue, queue_index, contiguous_allocated}
 use Rattle.net_ring.specs.RingHead.{IsSound, queued_index}
 use Rattle.net_ring.proofs.RingFacts.{queue_part_value}
-use Rattle.net_receiver.proofs.Senders.{lent_says}
 use Rattle.net_receiver.proofs.sender_head.SenderHead.peek_at.Goals as goal
 
 pub returns-clause-bytes : goal.returns-clause-bytes
