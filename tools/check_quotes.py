@@ -156,9 +156,6 @@ def names_of_sources():
 def is_named(name, known):
     if name in known:
         return True
-    # The prover names an impl by its type and its trait.
-    if any(name[:at] in known and name[at:] in known for at in range(1, len(name)) if name[at].isupper()):
-        return True
     if name.endswith("_"):
         return any(it.startswith(name) for it in known)
     return name.startswith("_") and any(it.endswith(name) for it in known)
