@@ -176,7 +176,7 @@ missing-le s zero p = omega arith
 missing-le s (suc n) p =
     let l = missing-le s n (p + 1) in cond_both (contains s p) _ _ (λ k. p ≤ k) (λ e. omega arith) (λ e. omega arith)
 
--- the first missing position is missing, all before it are there, and it is the only such
+-- the first missing position from p on isn't in the set, those from p up to it are, and it is the only such position
 pub first_missing-misses : (s : Positions) (p : ℕ) → contains s (first_missing s p) ≡ false
 unfolding first_missing
 first_missing-misses s p = missing-at s _ p (omega arith)

@@ -79,7 +79,7 @@ impl<const N: usize> Assembler<N> {
     /// assert!(Assembler::<32>::empty().is_empty());
     /// ```
     ///
-    /// ```compile_fail
+    /// ```compile_fail,E0080
     /// # use net_base::storage::Assembler;
     /// let assembler = Assembler::<0>::empty();
     /// ```
@@ -108,6 +108,7 @@ impl<const N: usize> Assembler<N> {
         ensures set { result ≡ set_of head runs.entry }
         ensures bound { run_count result ≤ N }
     {
+        // Without runs `first_start` can be any number, and in an assembler it is 0.
         if head.used == 0 {
             return Assembler {
                 head: AssemblerHead::new(),

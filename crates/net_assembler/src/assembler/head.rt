@@ -82,7 +82,7 @@ impl AssemblerHead {
     }
 
     /// Removes every position, so that the head is that of `new`. It need not be sound before.
-    pub fn clear(&mut self)
+    pub(crate) fn clear(&mut self)
         ensures no_run { self.new.used ≡ 0 }
         ensures no_start { self.new.first_start ≡ 0 }
         ensures sound { (runs : List (ℕ × ℕ)) → HasSoundRuns self.new runs }
@@ -171,7 +171,7 @@ impl AssemblerHead {
     /// The head is sound with the runs, as `is_sound` tests, and the range ends at a `usize`, as
     /// `fits` tests.
     #[inline(always)]
-    pub fn add_counted(
+    pub(crate) fn add_counted(
         &mut self,
         runs: &mut [Run],
         offset: usize,
@@ -380,7 +380,7 @@ impl AssemblerHead {
     ///
     /// The head is sound with the runs, as `is_sound` tests.
     #[inline]
-    pub fn holes<'a>(&self, runs: &'a [Run]) -> HoleIter<'a>
+    pub(crate) fn holes<'a>(&self, runs: &'a [Run]) -> HoleIter<'a>
         requires { HasSoundRuns self.now runs.now }
         ensures holes { result ≡ holes (set_of self.now runs.now) }
         ensures bound { length result ≤ length runs.now }
