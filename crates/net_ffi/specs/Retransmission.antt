@@ -1,6 +1,6 @@
 -- The timeout and the timer of C, whose flags are numbers beside theirs.
---     rtt_of e, bounds_of b, timeout_of t, timer_of t      what those of C stand for
---     numbers_of e, timeout_fields t, timer_fields t      those of C that stand for these: 0 and 1 as flags, and 0 where there is nothing
+--     rtt_of e, bounds_of b, timeout_of t, timer_of t      what those of C represent
+--     numbers_of e, timeout_fields t, timer_fields t      those of C that represent these: 0 and 1 as flags, and 0 where there is nothing
 --     with_expiry f e, with_timed f s      C's timer with another expiry, or another timed segment
 use Rattle.std.specs.Prelude.{ℕ, ℤ, pos, Option, Some, None, is_some, if◌then◌else◌, nat_eq, unwrap_or}
 use Rattle.net_tcp.specs.Estimate.{Estimate}

@@ -88,7 +88,7 @@ fn rtt_from(estimate: RttEstimate) -> net_tcp::RttEstimate
     net_tcp::RttEstimate::from_scaled(estimate.srtt_8, estimate.rttvar_4)
 }
 
-/// Returns the timeout that the fields stand for.
+/// Returns the timeout that the fields represent.
 #[inline(always)]
 fn timeout_from(fields: RetransmissionTimeout) -> net_tcp::RetransmissionTimeout
     ensures { result ≡ timeout_of fields }
@@ -106,7 +106,7 @@ fn timeout_from(fields: RetransmissionTimeout) -> net_tcp::RetransmissionTimeout
     net_tcp::RetransmissionTimeout::from_parts(estimate, Duration::from_micros(timeout))
 }
 
-/// Returns the fields of a timeout, which stand for it.
+/// Returns the fields of a timeout, which represent it.
 #[inline(always)]
 fn fields_of_timeout(
     estimate: Option<net_tcp::RttEstimate>,
@@ -135,7 +135,7 @@ fn fields_of_timeout(
     }
 }
 
-/// Returns the timer that the fields stand for.
+/// Returns the timer that the fields represent.
 #[inline(always)]
 fn timer_from(fields: &RetransmissionTimer) -> net_tcp::RetransmissionTimer
     ensures { result ≡ timer_of fields.now }
@@ -189,7 +189,7 @@ fn sent_at(segment: Option<TimedSegment>) -> i64
     }
 }
 
-/// Returns the fields of a timer, which stand for it.
+/// Returns the fields of a timer, which represent it.
 #[inline(always)]
 fn fields_of_timer(timer: net_tcp::RetransmissionTimer) -> RetransmissionTimer
     ensures value { result ≡ timer_fields timer }
