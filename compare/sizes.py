@@ -157,18 +157,21 @@ class Sizes:
         if not (self.has(M4) and shutil.which("qemu-system-arm") and shutil.which("arm-none-eabi-gcc")):
             return
         text = RECEIVE.read_text()
-        print("\n| Receive path on a Cortex-M4 | | bytes | instructions a round | stack |\n|---|---|---:|---:|---:|")
+        print("\n| Receive path on a Cortex-M4: bytes; instructions a round; bytes of stack | s | z | 3 |")
+        print("|---|---:|---:|---:|")
         sums = set()
-        for level in "sz3":
-            for name, crate, flags in [("smoltcp", "smoltcp", ""), ("net-base, joined", "net-base", ""),
-                                       ("net-base's `Receiver`, `keep`", "net-base", "--cfg receiver"),
-                                       ("the same, `segment`", "net-base", "--cfg receiver --cfg lists")]:
+        for name, crate, flags in [("smoltcp", "smoltcp", ""), ("net-base, joined", "net-base", ""),
+                                   ("net-base's `Receiver`, `keep`", "net-base", "--cfg receiver"),
+                                   ("the same, `segment`", "net-base", "--cfg receiver --cfg lists")]:
+            cells = []
+            for level in "sz3":
                 size = self.sections(crate, text, M4, level, flags)
                 program = self.built(crate, text, M4, level, f"{EMULATED} {flags}")
                 printed = said(*RUN, program, stdin=subprocess.DEVNULL, stderr=subprocess.STDOUT, timeout=120)
                 ticks, stack, result = map(int, printed.split())
                 sums.add(result)
-                print(f"| {name} | {level} | {size:,} | {ticks * 40 / 1000:.0f} | {stack} |", flush=True)
+                cells.append(f"{size:,}; {ticks * 40 / 1000:.0f}; {stack}")
+            print(f"| {name} | {' | '.join(cells)} |", flush=True)
         if len(sums) > 1:
             sys.exit(f"the receive paths don't give the same: {sums}")
 
