@@ -5,8 +5,8 @@ Prints what this crate and smoltcp take in a program of one module without std. 
 assembler and a packet queue, the bytes of `.text` and `.rodata` at `opt-level` "s" and "z", with a panic handler that
 reads nothing and with one that reads places, and so of receive.rs, a receive path, by `add` and `remove_front`. Of
 receive.rs by `add_then_remove_front` those of the Cortex-M4, and there, under QEMU, the instructions of a round and the
-bytes of stack. Other processors than this machine's are there if RUST_KIT
-names the folder that `sh rust/targets.sh FOLDER` fills, and their linkers are.
+bytes of stack. Other processors than this machine's are there if RUST_KIT names the folder that
+`sh rust/targets.sh FOLDER` fills, and their linkers are.
 """
 import os
 import re
@@ -137,40 +137,41 @@ class Sizes:
         return Path(variables["CARGO_TARGET_DIR"]) / target / "release/program"
 
     def sections(self, crate, text, target, level, flags=""):
-        """The bytes of `.text` and of `.rodata`."""
+        """The bytes of `.text` and of `.rodata`, together."""
         prefix, own = TARGETS[target]
         sizes = said(f"{prefix}size", "-A", self.built(crate, text, target, level, f"{own} {flags}"))
-        count = lambda names: sum(int(size) for size in re.findall(rf"^\.(?:{names})\S*\s+(\d+)", sizes, flags=re.M))
-        return count("text"), count("rodata|data.rel.ro|srodata")
+        return sum(map(int, re.findall(r"^\.(?:text|rodata|data\.rel\.ro|srodata)\S*\s+(\d+)", sizes, flags=re.M)))
 
     def programs(self, title, text, flags=""):
         """A table of the bytes of a program, with a panic handler that reads nothing and with one that reads places."""
         places = text.replace(HANDLER, READS_PLACES)
-        print(f"| {title}: `.text` + `.rodata` | | smoltcp | net-base | reads places: smoltcp | net-base |")
+        print(f"| {title}: `.text` and `.rodata` | | smoltcp | net-base | reads places: smoltcp | net-base |")
         print("|---|---|---:|---:|---:|---:|")
         for target in filter(self.has, TARGETS):
             for level in "sz":
                 each = [(crate, it) for it in (text, places) for crate in self.crates]
                 sizes = [self.sections(crate, it, target, level, flags) for crate, it in each]
-                cells = " | ".join(f"{code:,} + {data:,} = {code + data:,}" for code, data in sizes)
-                print(f"| {target} | {level} | {cells} |", flush=True)
+                print(f"| {target} | {level} | {' | '.join(f'{size:,}' for size in sizes)} |", flush=True)
 
     def receive_path(self):
         if not (self.has(M4) and shutil.which("qemu-system-arm") and shutil.which("arm-none-eabi-gcc")):
             return
         text = RECEIVE.read_text()
-        print("\n| Receive path on a Cortex-M4 | | bytes | instructions a round | stack |\n|---|---|---:|---:|---:|")
+        print("\n| Receive path on a Cortex-M4: bytes; instructions a round; bytes of stack | s | z | 3 |")
+        print("|---|---:|---:|---:|")
         sums = set()
-        for level in "sz3":
-            for name, crate, flags in [("smoltcp", "smoltcp", ""), ("net-base, joined", "net-base", ""),
-                                       ("net-base's `Receiver`, `keep`", "net-base", "--cfg receiver"),
-                                       ("the same, `segment`", "net-base", "--cfg receiver --cfg lists")]:
-                code, data = self.sections(crate, text, M4, level, flags)
+        for name, crate, flags in [("smoltcp", "smoltcp", ""), ("net-base, joined", "net-base", ""),
+                                   ("net-base's `Receiver`, `keep`", "net-base", "--cfg receiver"),
+                                   ("the same, `segment`", "net-base", "--cfg receiver --cfg lists")]:
+            cells = []
+            for level in "sz3":
+                size = self.sections(crate, text, M4, level, flags)
                 program = self.built(crate, text, M4, level, f"{EMULATED} {flags}")
                 printed = said(*RUN, program, stdin=subprocess.DEVNULL, stderr=subprocess.STDOUT, timeout=120)
                 ticks, stack, result = map(int, printed.split())
                 sums.add(result)
-                print(f"| {name} | {level} | {code:,} + {data:,} | {ticks * 40 / 1000:.0f} | {stack} |", flush=True)
+                cells.append(f"{size:,}; {ticks * 40 / 1000:.0f}; {stack}")
+            print(f"| {name} | {' | '.join(cells)} |", flush=True)
         if len(sums) > 1:
             sys.exit(f"the receive paths don't give the same: {sums}")
 
