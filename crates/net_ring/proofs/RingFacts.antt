@@ -4,10 +4,10 @@
 -- One more element of a list is reset.
 use Rattle.std.proofs.Common.{◌≢◌, get_or, ◌≡◌, ℕ, ◌+◌, ◌-◌, ◌<◌, ◌≤◌, ◌⊎◌, List, [], ◌∷◌, ◌++◌, length, take, drop}
 use Rattle.std.proofs.Common.{min, refl, sym, ap, ap₂, ◌∙◌, subst, inl, inr, arith, length-drop, add-zero, nat_lt}
-use Rattle.std.proofs.Common.{if◌then◌else◌, suc, Some, length-take, set}
+use Rattle.std.proofs.Common.{if◌then◌else◌, suc, Some, length-take, set, ◌↔◌}
 use Rattle.std.proofs.lemmas.Bool.Decides.{nat_tests}
 use Rattle.std.proofs.lemmas.Bool.{false≢true, cases_lt}
-use Rattle.std.proofs.lemmas.List.{drop-drop, length-take-le, take-append-drop, take_all, drop_all, nil_from_length}
+use Rattle.std.proofs.lemmas.List.{drop-drop, take-take, length-take-le, take-append-drop, take_all, drop_all, nil_from_length}
 use Rattle.std.proofs.lemmas.List.{drop_more, places, same_lists, drop_at, take_more, take_more_set, drop-set-lt}
 use Rattle.std.specs.Prelude.{Result, IsOk, IsErr, is_ok, slice_get}
 use Rattle.std.specs.Borrow.{MutBor}
@@ -20,7 +20,7 @@ use Rattle.net_ring.specs.{storage_index, write_at, IsWellFormed, with_elements,
 use Rattle.net_ring.specs.{with_enqueued, with_dequeued, rewind_if_empty, contiguous_window, contiguous_queued}
 use Rattle.net_ring.specs.{spare_index, contiguous_unallocated, queue_index, contiguous_allocated, Enqueues, Dequeues}
 use Rattle.net_ring.specs.{WritesSpare, WritesQueue, EnqueuesFrom, DequeuesFrom, contiguous_queue, ring_at, rewound}
-use Rattle.net_ring.specs.{IsSound, free_index, queued_index, written_span, elements_at}
+use Rattle.net_ring.specs.{IsSound, place, free_index, queued_index, written_span, elements_at}
 use Rattle.net_ring.specs.declared.head.RingHead.{RingHead}
 use Rattle.net_ring.proofs.Rotations.{IsStorageIndex, length-rotation, length-overwrite, storage_index_is, read_at_le}
 use Rattle.net_ring.proofs.Rotations.{whole, length-queue, length-spare, spare-written}
@@ -668,3 +668,45 @@ module _ {T : Type 0} (R : T → T → Type 0) where
   pub all_reset : (old xs : List T) (i : ℕ) → length old ≤ i → length xs ≡ length old → AllZip R (take i old) (take i xs) → AllZip R old xs
   all_reset old xs i le long h =
       subst (λ (l : List T). AllZip R l xs) (take_all i old le) (subst (AllZip R (take i old)) (take_all i xs (omega (arith, long, le))) h)
+
+-- ---- by which the calls of heads and of rings are proved: of a storage b that is read from r on and holds n elements
+module _ {T : Type 0} where
+  pub take_of_drop : (k n : ℕ) (xs : List T) → k ≤ n → drop k (take n xs) ≡ take (n - k) (drop k xs)
+  take_of_drop k n xs le = same_lists _ _ (grind (arith, places)) (λ m d h. grind (arith, places))
+
+  module _ (b : List T) (r n : ℕ) (at : (r ≡ 0) ⊎ (r < length b)) (le : n ≤ length b) where
+    pub no_spare : (drop n (drop r b ++ take r b) ≡ []) ↔ (length b ≤ n)
+    no_spare = let long = length-spare (ring b r n) (at, le) in (λ e. omega (arith, ap length e), λ l. nil_from_length _ (omega arith))
+
+    -- k elements are dequeued
+    module _ (k : ℕ) (few : k ≤ n) where
+      pub queue-read_on : take (n - k) (drop (index_after (length b) r k) b ++ take (index_after (length b) r k) b)
+          ≡ drop k (take n (drop r b ++ take r b))
+      queue-read_on = (with_dequeued_law (ring b r n) (at, le) k few).0
+
+      pub spare-read_on : drop (n - k) (drop (index_after (length b) r k) b ++ take (index_after (length b) r k) b)
+          ≡ drop n (drop r b ++ take r b) ++ take k (take n (drop r b ++ take r b))
+      spare-read_on = (with_dequeued_law (ring b r n) (at, le) k few).1
+
+    -- ws is written over the spare elements from i on
+    module _ (i : ℕ) (ws : List T) (few : length ws ≤ length b - n - i) where
+      abbrev wrote : List T
+      wrote = let p = index_after (length b) r (n + min i (length b - n)) in overwrite (overwrite b p ws) 0 (drop (length b - p) ws)
+
+      pub queue-wrote : take n (drop r wrote ++ take r wrote) ≡ take n (drop r b ++ take r b)
+      queue-wrote = (wrapping_at (ring b r n) (at, le) i ws few).0
+
+      pub spare-wrote : drop n (drop r wrote ++ take r wrote) ≡ overwrite (drop n (drop r b ++ take r b)) i ws
+      spare-wrote = (wrapping_at (ring b r n) (at, le) i ws few).1
+
+    -- the last one is taken off
+    module _ (x : T) (last : slice_get (take n (drop r b ++ take r b)) (length (take n (drop r b ++ take r b)) - 1) ≡ Some x) where
+      pub queue-off_back : take (n - 1) (drop r b ++ take r b) ++ x ∷ [] ≡ take n (drop r b ++ take r b)
+      queue-off_back = sym (off_back (ring b r n) (ring b r n) refl (at, le) x last).0
+
+      pub spare-off_back : x ∷ drop n (drop r b ++ take r b) ≡ drop (n - 1) (drop r b ++ take r b)
+      spare-off_back = sym (off_back (ring b r n) (ring b r n) refl (at, le) x last).1
+
+pub ruleset heads = (queue-read_on, spare-read_on, queue-wrote, spare-wrote, queued_elements, wrapping_is, take_of_drop, take-take, length-take)
+
+pub ruleset rings = (queue-read_on, spare-read_on, no_spare, take_sum, drop-drop, queue-off_back, spare-off_back, length-take, length-rotation)
