@@ -370,13 +370,6 @@ module _ {T : Type 0} where
     ahead_clause i n src h en e =
         subst (WritesSpare g i (take n src)) (sym e) (wrapping_at g well i (take n src) (omega (arith, en, length-take-le n src (omega arith))))
 
-    -- ---- elements that are enqueued or dequeued, and none that is written
-    pub with_enqueued_is : (k m : ℕ) → k ≡ m → ring v.storage v.read_at (v.count + k) ≡ with_enqueued m g
-    with_enqueued_is k m ek = ap (with_enqueued k) is ∙ ap (λ n. with_enqueued n g) ek
-
-    pub with_dequeued_is : (k m p : ℕ) → k ≡ m → p ≡ storage_index g m → ring v.storage p (v.count - k) ≡ with_dequeued m g
-    with_dequeued_is k m p ek ep = ap (λ o. ring o.storage p (o.count - k)) is ∙ ap₂ (λ j n. ring g.storage j (g.count - n)) ep ek
-
     -- ---- what stays once a part that was lent comes back as w
     pub left_at : (p q : ℕ) → p ≡ q → (st w : List T) → st ≡ overwrite v.storage p w → ring st v.read_at v.count ≡ with_elements g q w
     left_at p q ep st w e = ap (λ b. ring b v.read_at v.count) e ∙ ap (λ o. with_elements o p w) is ∙ ap (λ j. with_elements g j w) ep
@@ -607,35 +600,8 @@ last_off : {X : Type 0} (l : List X) (m : ℕ) (x : X) → m < length l → slic
     (take (suc m) l ≡ take m l ++ x ∷ []) × (drop m l ≡ x ∷ drop (suc m) l)
 last_off l m x fits e = (grind (arith, places, gets, take_more), grind (arith, places, gets, drop_more))
 
--- the queue without its last element, which is the next free one
-pub off_back : {T : Type 0} (v g : RingState T) → v ≡ g → IsWellFormed g → (x : T) →
-    slice_get (queue g) (length (queue g) - 1) ≡ Some x →
-    (queue g ≡ queue (ring v.storage v.read_at (v.count - 1)) ++ x ∷ [])
-    × (spare (ring v.storage v.read_at (v.count - 1)) ≡ x ∷ spare g)
-off_back v g is wf x e =
-    let all = rotation g.storage g.read_at in
-    let m : ℕ = g.count - 1 in
-    let within = slice_get_within (queue g) (length (queue g) - 1) x e in
-    let long = length-queue g wf in
-    let one : g.count ≡ suc m = omega arith in
-    let at : length (queue g) - 1 ≡ m = omega arith in
-    let fits : m < length all = omega (arith, length-rotation g.storage g.read_at, wf.1) in
-    let here : slice_get (take (suc m) all) m ≡ Some x = ap₂ (λ n i. slice_get (take n all) i) (sym one) (sym at) ∙ e in
-    let parts = last_off all m x fits here in (
-      ap (λ n. take n all) one ∙ parts.0 ∙ ap (λ o. queue (ring o.storage o.read_at (o.count - 1)) ++ x ∷ []) (sym is),
-      ap (λ o. spare (ring o.storage o.read_at (o.count - 1))) is ∙ parts.1 ∙ ap (λ n. x ∷ drop n all) (sym one),
-    )
-
 -- ---- spans of a storage, as parts of the ring of that storage and of the numbers by which they were found
 module _ {T : Type 0} where
-  -- a write over free elements
-  pub wrapped : (xs ws : List T) (p : RingHead) (i : ℕ) (s : Span) → s.from ≡ free_index (length xs) p i → s.from ≤ length xs
-      → s.contiguous ≡ min (length ws) (length xs - s.from)
-      → ring_at (written_span xs s ws) p ≡ with_elements_wrapping (ring_at xs p) (spare_index (ring_at xs p) i) ws
-  wrapped xs ws p i s at within cut =
-      ap (λ l. ring_at l p) (wrapping_is xs ws s.from s.contiguous within cut)
-      ∙ ap (λ q. with_elements_wrapping (ring_at xs p) q ws) at
-
   -- elements of the queue
   pub queued_elements : (xs : List T) (p : RingHead) (i : ℕ) (s : Span) → IsSound (length xs) p → s.from ≡ queued_index (length xs) p i
       → s.count ≤ p.length - i → s.contiguous ≡ min s.count (length xs - s.from)
@@ -699,13 +665,25 @@ module _ {T : Type 0} where
       pub spare-wrote : drop n (drop r wrote ++ take r wrote) ≡ overwrite (drop n (drop r b ++ take r b)) i ws
       spare-wrote = (wrapping_at (ring b r n) (at, le) i ws few).1
 
-    -- the last one is taken off
+    -- the last one, x, is taken off
     module _ (x : T) (last : slice_get (take n (drop r b ++ take r b)) (length (take n (drop r b ++ take r b)) - 1) ≡ Some x) where
+      off_back : (take n (rotation b r) ≡ take (n - 1) (rotation b r) ++ x ∷ []) × (drop (n - 1) (rotation b r) ≡ x ∷ drop n (rotation b r))
+      off_back =
+          let all = rotation b r in
+          let m : ℕ = n - 1 in
+          let long = length-queue (ring b r n) (at, le) in
+          let within = slice_get_within (take n all) (length (take n all) - 1) x last in
+          let one : n ≡ suc m = omega arith in
+          let end : length (take n all) - 1 ≡ m = omega arith in
+          let here : slice_get (take (suc m) all) m ≡ Some x = ap₂ (λ k i. slice_get (take k all) i) (sym one) (sym end) ∙ last in
+          let parts = last_off all m x (omega (arith, length-rotation b r)) here in
+          (ap (λ k. take k all) one ∙ parts.0, parts.1 ∙ ap (λ k. x ∷ drop k all) (sym one))
+
       pub queue-off_back : take (n - 1) (drop r b ++ take r b) ++ x ∷ [] ≡ take n (drop r b ++ take r b)
-      queue-off_back = sym (off_back (ring b r n) (ring b r n) refl (at, le) x last).0
+      queue-off_back = sym off_back.0
 
       pub spare-off_back : x ∷ drop n (drop r b ++ take r b) ≡ drop (n - 1) (drop r b ++ take r b)
-      spare-off_back = sym (off_back (ring b r n) (ring b r n) refl (at, le) x last).1
+      spare-off_back = sym off_back.1
 
 pub ruleset heads = (queue-read_on, spare-read_on, queue-wrote, spare-wrote, queued_elements, wrapping_is, take_of_drop, take-take, length-take)
 
