@@ -1,7 +1,7 @@
 -- The queue that a head, slots with headers and bytes represent, after a step on the head's numbers.
-use Rattle.std.proofs.Common.{◌≡◌, ℕ, zero, suc, ◌++◌, ◌+◌, ◌-◌, ◌<◌, ◌≤◌, List, [], ◌∷◌, get_or, length}
-use Rattle.std.proofs.Common.{length-append, length-take, length-drop, append_assoc, take, drop, refl, sym, ap, ap₂}
-use Rattle.std.proofs.Common.{◌∙◌, subst, arith, nat_eq, if◌then◌else◌, ◌==◌, ◌≢◌}
+use Rattle.std.proofs.Common.{◌≡◌, ℕ, zero, suc, ◌++◌, ◌+◌, ◌-◌, ◌<◌, ◌≤◌, List, [], ◌∷◌, get_or, length, length-append}
+use Rattle.std.proofs.Common.{length-take, length-drop, append_assoc, take, drop, refl, sym, ap, ap₂, ◌∙◌, subst, arith}
+use Rattle.std.proofs.Common.{nat_eq, if◌then◌else◌, ◌==◌, ◌≢◌}
 use Rattle.std.proofs.lemmas.Bool.Decides.{nat_tests}
 use Rattle.std.proofs.lemmas.List.{length-set, take_all, places}
 use Rattle.std.proofs.lemmas.Option.{none-some, slice_get-get_or, cond_some, get_or_from_slice_get, slice_get_within}
@@ -9,28 +9,29 @@ use Rattle.std.proofs.lemmas.Option.{gets, slice_get_read}
 use Rattle.std.specs.Prelude.{Option, true, false, set}
 use Rattle.std.specs.List.{slice_get}
 use Rattle.net_ring.specs.Overwrite.{overwrite}
-use Rattle.net_ring.specs.Ring.{RingState, index_after, queue, storage_index, IsWellFormed, ring}
-use Rattle.net_ring.specs.Ring.{with_dequeued, with_elements, window, write_at, with_enqueued, Enqueues}
+use Rattle.net_ring.specs.Ring.{RingState, index_after, queue, storage_index, IsWellFormed, ring, with_dequeued}
+use Rattle.net_ring.specs.Ring.{with_elements, window, write_at, with_enqueued, Enqueues}
 use Rattle.net_ring.specs.RingHead.{ring_at, place, enqueued_place, dequeued_place, rewound, contiguous_free, IsSound}
 use Rattle.std.specs.declared.option.Option.TheVariants.{Some, None}
-use Rattle.net_packets.specs.{Packet, PacketsState, packet, byte_ring, bytes_used, slots_used, slots_for, gap_for, IsWellPlaced}
-use Rattle.net_packets.specs.{IsFirstSized, first_gap, first_size, without_gap, without_first, placement, with_packet}
-use Rattle.net_packets.specs.{with_packet_if, with_packet_if_room, only_last, last_index, last_bytes, with_last_bytes}
-use Rattle.net_packets.specs.{with_last_size, IsRoom, with_first_bytes, with_bytes, first_bytes}
-use Rattle.net_packets.specs.{last_dequeued_bytes_index, slot, gap_slot, packet_slots}
-use Rattle.net_packets.specs.{packets_in, packets_at, AreSoundParts, slots_with, with_slot_taken}
-use Rattle.net_packets.specs.{placement_in, place_after_gap, with_packet_placed}
+use Rattle.net_packets.specs.{Packet, PacketsState, packet, byte_ring, bytes_used, slots_used, slots_for, gap_for}
+use Rattle.net_packets.specs.{IsWellPlaced, IsFirstSized, first_gap, first_size, without_gap, without_first, placement}
+use Rattle.net_packets.specs.{with_packet, with_packet_if, with_packet_if_room, only_last, last_index, last_bytes}
+use Rattle.net_packets.specs.{with_last_bytes, with_last_size, IsRoom, with_first_bytes, with_bytes, first_bytes}
+use Rattle.net_packets.specs.{last_dequeued_bytes_index, slot, gap_slot, packet_slots, packets_in, packets_at}
+use Rattle.net_packets.specs.{AreSoundParts, slots_with, with_slot_taken, placement_in, place_after_gap}
+use Rattle.net_packets.specs.{with_packet_placed}
 use Rattle.net_ring.specs.declared.head.RingHead.{RingHead}
 use Rattle.net_packets.specs.declared.head.PacketsHead.{PacketsHead}
 use Rattle.net_packets.specs.declared.head.PacketPlace.{PacketPlace}
 use Rattle.net_packets.specs.declared.packet_metadata.PacketMetadata.{PacketMetadata}
-use Rattle.net_ring.proofs.Rotations.{length-overwrite, with_dequeued_parts, length-queue, storage_index_is, overwrite_at}
-use Rattle.net_ring.proofs.RingFacts.{written_wf, rewound_ring, queue_head, queue_law, written_wf, enqueued_one}
-use Rattle.net_packets.proofs.PacketSteps.{placed_alike, count_is, ends_in, slots_append, place_zero, slots_pos}
-use Rattle.net_packets.proofs.PacketSteps.{held, shorter_is, shorter_bytes, shorter_well}
-use Rattle.net_packets.proofs.PacketSteps.{slots_some, slots_for_pos, off_wf, on_left, slots_are, off_left, well_placed, cut_is}
-use Rattle.net_packets.proofs.PacketSteps.{head_fits, is_first, bytes_are, last_ends, written_holds, slice_get_end}
-use Rattle.net_packets.proofs.PacketSteps.{last_append, gap_of, push_left, skip_left, take_left, pushed_slot}
+use Rattle.net_ring.proofs.Rotations.{length-overwrite, with_dequeued_parts, length-queue, storage_index_is}
+use Rattle.net_ring.proofs.Rotations.{overwrite_at}
+use Rattle.net_ring.proofs.RingFacts.{written_wf, rewound_ring, queue_head, queue_law, enqueued_one}
+use Rattle.net_packets.proofs.PacketSteps.{placed_alike, count_is, ends_in, slots_append, place_zero, slots_pos, held}
+use Rattle.net_packets.proofs.PacketSteps.{Holds, shorter_is, shorter_bytes, shorter_well, slots_some, slots_for_pos}
+use Rattle.net_packets.proofs.PacketSteps.{off_wf, on_left, slots_are, off_left, well_placed, cut_is, head_fits}
+use Rattle.net_packets.proofs.PacketSteps.{is_first, bytes_are, last_ends, written_holds, slice_get_end, last_append}
+use Rattle.net_packets.proofs.PacketSteps.{gap_of, push_left, skip_left, take_left, pushed_slot}
 
 -- s elements from an index on are lent
 module _ (xs : List ℕ) (from s : ℕ) (now : List ℕ) (is : now ≡ take (from + s - from) (drop from xs)) where
@@ -109,10 +110,9 @@ module _ {H : Type 0} where
   queue_at h ms xs sound seen = record { sound = sound; seen = seen }
 
   -- by what a step leaves
-  left_at : (h : PacketsHead) (ms : List (PacketMetadata H)) (xs : List ℕ) {v : PacketsState H} {n : ℕ}
-      → length ms ≡ n →
-      AreSoundParts h ms xs × (length ms ≡ n → packets_at h ms xs ≡ v) → IsQueue h ms xs v
-  left_at h ms xs long all = record { sound = all.0; seen = all.1 long }
+  left_at : (h : PacketsHead) (ms : List (PacketMetadata H)) (xs : List ℕ) {v : PacketsState H}
+      → Holds (ring_at ms h.slots) (ring_at xs h.bytes) v → IsQueue h ms xs v
+  left_at h ms xs all = record { sound = all.sound; seen = all.seen }
 
   -- the slots of a packet and its gap are set after those in use
   slots_pushed : (c : ℕ) (h : PacketsHead) (ms : List (PacketMetadata H)) (s gap : ℕ) (hd : H)
@@ -158,8 +158,11 @@ module _ {H : Type 0} {h : PacketsHead} {ms : List (PacketMetadata H)} {xs : Lis
   abbrev b : RingState ℕ
   b = ring_at xs h.bytes
 
+  abbrev holds : Holds m b v
+  holds = record { sound = k.sound; seen = k.seen }
+
   pub well : IsWellPlaced v
-  well = well_placed m b k.sound v k.seen
+  well = well_placed holds
 
   pub slots_of : length ms ≡ v.slot_count
   slots_of = ap (λ o. o.slot_count) k.seen
@@ -171,10 +174,10 @@ module _ {H : Type 0} {h : PacketsHead} {ms : List (PacketMetadata H)} {xs : Lis
   read_here = ap (λ o. o.read_at) k.seen
 
   bytes_count : h.bytes.length ≡ bytes_used v.packets
-  bytes_count = ap (λ o. o.count) (bytes_are m b k.sound v k.seen)
+  bytes_count = ap (λ o. o.count) (bytes_are holds)
 
   pub slots_count : h.slots.length ≡ slots_used v.packets
-  slots_count = count_is m b (packets_in 0 (queue m)) k.sound ∙ ap (λ o. slots_used o.packets) k.seen
+  slots_count = count_is holds
 
   pub is_full : nat_eq h.slots.length (length ms) ≡ (v.slot_count - slots_used v.packets == 0)
   is_full =
@@ -203,10 +206,8 @@ module _ {H : Type 0} {h : PacketsHead} {ms : List (PacketMetadata H)} {xs : Lis
     lent_size = shown_size xs from s now is
 
   pub written : (from : ℕ) (w xs2 : List ℕ) → xs2 ≡ overwrite xs from w → IsQueue h ms xs2 (with_bytes v from w)
-  written from w xs2 is = record {
-    sound = subst (AreSoundParts h ms) (sym is) (written_holds m b k.sound v k.seen from w);
-    seen = ap (packets_at h ms) is ∙ ap (λ o. with_bytes o from w) k.seen;
-  }
+  written from w xs2 is =
+      left_at h ms xs2 (subst (λ l. Holds m (ring_at l h.bytes) (with_bytes v from w)) (sym is) (written_holds holds from w))
 
   -- a packet of j bytes is written where one of s bytes was placed
   pushed : (gap s : ℕ) → placement v s ≡ Some gap → (j : ℕ) → j ≤ s → (hd : H) (h2 : PacketsHead)
@@ -222,17 +223,17 @@ module _ {H : Type 0} {h : PacketsHead} {ms : List (PacketMetadata H)} {xs : Lis
       let set_there = slots_pushed (length xs) h ms j gap hd k.sound.0 (omega (arith, fits.1, k.sound.0)) in
       let same : ring_at ms2 h2.slots ≡ ring_at (slots_with p j hd ms) (enqueued_place (slots_for gap) h.slots) =
       λ i. ring_at (wrote i) (es i) in
-      left_at h2 ms2 xs (ap length wrote ∙ slots_long p j hd ms ∙ slots_of)
-      (push_left v well gap s e m b k.sound k.seen (ring_at xs r) (rewound_ring xs h.bytes) hd j le (ring_at ms2 h2.slots)
-      (ap queue same ∙ set_there.0) (subst IsWellFormed (sym same) set_there.1) (ring_at xs h2.bytes) (ap (ring_at xs) eb))
+      left_at h2 ms2 xs (push_left v well gap s e holds (ring_at xs r) (rewound_ring xs h.bytes) hd j le (ring_at ms2 h2.slots)
+      (ap length wrote ∙ slots_long p j hd ms ∙ slots_of) (ap queue same ∙ set_there.0) (subst IsWellFormed (sym same) set_there.1)
+      (ring_at xs h2.bytes) (ap (ring_at xs) eb))
 
   -- the gap before the first packet is taken off
   pub skipped : (s : ℕ) → first_gap v.packets ≡ s → 0 < s → (h2 : PacketsHead)
       → h2 ≡ with_slot_taken (length ms) (length xs) s h
       → IsQueue h2 ms xs (without_gap v)
   skipped s size some h2 is =
-      left_at h2 ms xs slots_of (skip_left m b k.sound s v (ring_at ms h2.slots) (ring_at xs h2.bytes) k.seen (sym size) some
-      (ap (λ (o : PacketsHead). ring_at ms o.slots) is) (ap (λ (o : PacketsHead). ring_at xs o.bytes) is))
+      left_at h2 ms xs (skip_left holds s (sym size) some (ring_at ms h2.slots) (ap (λ (o : PacketsHead). ring_at ms o.slots) is)
+      (ring_at xs h2.bytes) (ap (λ (o : PacketsHead). ring_at xs o.bytes) is))
 
   -- ---- the first slot in use
   module _ (some : 1 ≤ h.slots.length) where
@@ -241,7 +242,7 @@ module _ {H : Type 0} {h : PacketsHead} {ms : List (PacketMetadata H)} {xs : Lis
 
     pub gap_first : (s : ℕ) → slice_get ms h.slots.read_at ≡ Some (slot s None) → (first_gap v.packets ≡ s) × (0 < s)
     gap_first s at =
-        gap_of v.packets s (drop 1 (queue m)) (sym (first_is (slot s None) at) ∙ slots_are m b k.sound v k.seen)
+        gap_of v.packets s (drop 1 (queue m)) (sym (first_is (slot s None) at) ∙ slots_are holds)
 
     pub packet_first : (s : ℕ) (hd : H) → slice_get ms h.slots.read_at ≡ Some (slot s (Some hd))
         → first_gap v.packets ≡ 0
@@ -282,7 +283,7 @@ module _ {H : Type 0} {h : PacketsHead} {ms : List (PacketMetadata H)} {xs : Lis
 
     slots_end : queue m ≡ others ++ (slot ends.1.size (Some ends.1.header) ∷ [])
     slots_end =
-        slots_are m b k.sound v k.seen ∙ ap packet_slots ends.2 ∙ slots_append ends.0 ends.1
+        slots_are holds ∙ ap packet_slots ends.2 ∙ slots_append ends.0 ends.1
         ∙ sym (append_assoc (packet_slots ends.0) (gap_slot ends.1.gap) (slot ends.1.size (Some ends.1.header) ∷ []))
 
     others_long : length others ≡ h.slots.length - 1
@@ -327,10 +328,9 @@ module _ {H : Type 0} {h : PacketsHead} {ms : List (PacketMetadata H)} {xs : Lis
           let is = shorter_is v well ends.0 p ends.2 j le in
           let count : h.bytes.length - n ≡ bytes_used (ends.0 ++ (packet p.header j p.gap ∷ [])) =
           omega (arith, shorter_bytes v well ends.0 p ends.2 j le, size, bytes_count) in
-          left_at h2 ms2 xs (ap length wrote ∙ length-set ms i y ∙ slots_of)
-          (held (with_last_size j v) (shorter_well v well ends.0 p ends.2 j le) (ring_at ms2 h2.slots)
-          (subst IsWellFormed (sym set_there) (written_wf m k.sound.0 i (y ∷ []))) (queued ∙ ap (λ o. packet_slots o.packets) (sym is))
-          (ring_at xs h2.bytes)
+          left_at h2 ms2 xs (held (with_last_size j v) (shorter_well v well ends.0 p ends.2 j le) (ring_at ms2 h2.slots)
+          (subst IsWellFormed (sym set_there) (written_wf m k.sound.0 i (y ∷ []))) (ap length wrote ∙ length-set ms i y ∙ slots_of)
+          (queued ∙ ap (λ o. packet_slots o.packets) (sym is)) (ring_at xs h2.bytes)
           (ap (ring_at xs) bytes ∙ (λ t. ring (stored t) (read_here t) (count t)) ∙ ap byte_ring (sym is)))
 
   -- its bytes are found by its size
@@ -441,7 +441,7 @@ module _ {H : Type 0} {h : PacketsHead} {ms : List (PacketMetadata H)} {xs : Lis
   slots_are_first = first_is k first.some (slot s (Some hd)) first.at
 
   pub sized : IsFirstSized v.packets hd s
-  sized = (is_first (m k) (b k) k.sound v k.seen first.no_gap s hd slots_are_first).0
+  sized = (is_first (holds k) first.no_gap s hd slots_are_first).0
 
   pub first_in : s ≤ h.bytes.length
   first_in = omega (arith, ap bytes_used sized, bytes_count k)
@@ -477,8 +477,8 @@ module _ {H : Type 0} {h : PacketsHead} {ms : List (PacketMetadata H)} {xs : Lis
 
     pub off_as_it_is : IsQueue h2 ms2 xs (without_first v)
     off_as_it_is =
-        left_at h2 ms2 xs (long ∙ slots_of k) (take_left (m k) (b k) k.sound v k.seen first.no_gap s hd slots_are_first
-        (ring_at ms2 h2.slots) sound_left (ring_at xs h2.bytes) slots_left (ap (λ (o : PacketsHead). ring_at xs o.bytes) is))
+        left_at h2 ms2 xs (take_left (holds k) first.no_gap s hd slots_are_first (ring_at ms2 h2.slots) sound_left
+        (long ∙ slots_of k) (ring_at xs h2.bytes) slots_left (ap (λ (o : PacketsHead). ring_at xs o.bytes) is))
 
     -- after it was handed to a closure, which left the bytes ws
     pub off_written : (ws xs2 : List ℕ) → xs2 ≡ overwrite xs h.bytes.read_at ws → (new : H)
@@ -486,8 +486,8 @@ module _ {H : Type 0} {h : PacketsHead} {ms : List (PacketMetadata H)} {xs : Lis
     off_written ws xs2 wrote new =
         let left : ring_at xs2 h2.bytes ≡ with_dequeued s (ring_at xs2 h.bytes) = ap (λ (o : PacketsHead). ring_at xs2 o.bytes) is
         ∙ ap (λ n. ring_at xs2 (dequeued_place n s h.bytes)) (sym (ap length wrote ∙ length-overwrite xs h.bytes.read_at ws)) in
-        left_at h2 ms2 xs2 (long ∙ slots_of k) (off_left (m k) (b k) k.sound v k.seen first.no_gap s hd slots_are_first
-        (ring_at ms2 h2.slots) sound_left (ring_at xs2 h2.bytes) ws new slots_left
+        left_at h2 ms2 xs2 (off_left (holds k) first.no_gap s hd slots_are_first (ring_at ms2 h2.slots) sound_left
+        (long ∙ slots_of k) (ring_at xs2 h2.bytes) ws new slots_left
         (left ∙ ap (λ l. with_dequeued s (ring_at l h.bytes)) wrote))
 
   -- its slot is set
@@ -516,5 +516,6 @@ module _ {H : Type 0} {h : PacketsHead} {ms : List (PacketMetadata H)} {xs : Lis
   handed_back new ms2 wrote ws xs2 left =
       let x : PacketMetadata H = slot s (Some new) in
       let long = set_long x ms2 wrote in
-      left_at h ms2 xs2 (long ∙ slots_of k) (on_left (m k) (b k) k.sound v k.seen first.no_gap s hd slots_are_first (ring_at ms2 h.slots)
-      (subst (λ n. IsSound n h.slots) (sym long) k.sound.0) (ring_at xs2 h.bytes) ws new (set_queue x ms2 wrote) (ap (λ l. ring_at l h.bytes) left))
+      left_at h ms2 xs2 (on_left (holds k) first.no_gap s hd slots_are_first (ring_at ms2 h.slots)
+      (subst (λ n. IsSound n h.slots) (sym long) k.sound.0) (long ∙ slots_of k) (ring_at xs2 h.bytes) ws new
+      (set_queue x ms2 wrote) (ap (λ l. ring_at l h.bytes) left))

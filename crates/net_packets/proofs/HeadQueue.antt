@@ -1,7 +1,6 @@
 -- The queue that a head and slots without headers represent, after a step on its numbers.
-use Rattle.std.proofs.Common.{◌≢◌, ◌≡◌, ℕ, zero, suc, ◌++◌, ◌+◌, ◌-◌, ◌<◌, ◌≤◌, List, [], ◌∷◌, get_or, length}
-use Rattle.std.proofs.Common.{drop, refl, sym, ap, ap₂, ◌∙◌, subst, inl, inr, arith, ◌⊎◌}
-use Rattle.std.proofs.Common.{map, nat_eq, if◌then◌else◌}
+use Rattle.std.proofs.Common.{◌≢◌, ◌≡◌, ℕ, zero, suc, ◌++◌, ◌+◌, ◌-◌, ◌<◌, ◌≤◌, List, [], ◌∷◌, get_or, length, drop}
+use Rattle.std.proofs.Common.{refl, sym, ap, ap₂, ◌∙◌, subst, inl, inr, arith, ◌⊎◌, map, nat_eq, if◌then◌else◌}
 use Rattle.std.proofs.lemmas.Bool.{cases_Bool, cond-true, cond-false}
 use Rattle.std.proofs.lemmas.Bool.Decides.{nat_tests}
 use Rattle.std.proofs.lemmas.List.{length-map, length-replicate, map-set}
@@ -13,15 +12,13 @@ use Rattle.std.specs.List.{slice_get}
 use Rattle.net_ring.specs.Ring.{index_after, queue, storage_index}
 use Rattle.net_ring.specs.RingHead.{place, IsSound}
 use Rattle.std.specs.declared.option.Option.TheVariants.{Some, None}
-use Rattle.net_packets.specs.{Packet, packet, slots_used, IsPlaced, ArePlaced}
-use Rattle.net_packets.specs.{first_gap, first_size, without_first_gap, without_gap}
-use Rattle.net_packets.specs.{without_first_and_gap, without_first, with_last_size, with_packet_if}
-use Rattle.net_packets.specs.{with_packet_if_room, slot, gap_slot, packet_slots, packets_in}
-use Rattle.net_packets.specs.{AreSoundParts, IsSoundHead, with_slot_taken, placement_in, place_after_gap}
-use Rattle.net_packets.specs.{with_packet_placed, AreSlotsAfter, metadata, slot_ring, queue_of, HasSoundSlots}
-use Rattle.net_packets.specs.{CanTake, after_slot, first_slot, head_after_gap, HasFirst, first_packet}
-use Rattle.net_packets.specs.{head_after_first, IsFirstAt, CanShorten, last_slot, last_slot_index, packet_slot}
-use Rattle.net_packets.specs.{slots_written, IsFirstSlot, slots_with}
+use Rattle.net_packets.specs.{Packet, packet, slots_used, IsPlaced, ArePlaced, first_gap, first_size, without_first_gap}
+use Rattle.net_packets.specs.{without_gap, without_first_and_gap, without_first, with_last_size, with_packet_if}
+use Rattle.net_packets.specs.{with_packet_if_room, slot, gap_slot, packet_slots, packets_in, AreSoundParts, IsSoundHead}
+use Rattle.net_packets.specs.{with_slot_taken, placement_in, place_after_gap, with_packet_placed, AreSlotsAfter}
+use Rattle.net_packets.specs.{metadata, slot_ring, queue_of, HasSoundSlots, CanTake, after_slot, first_slot}
+use Rattle.net_packets.specs.{head_after_gap, HasFirst, first_packet, head_after_first, IsFirstAt, CanShorten}
+use Rattle.net_packets.specs.{last_slot, last_slot_index, packet_slot, slots_written, IsFirstSlot, slots_with}
 use Rattle.net_ring.specs.declared.head.RingHead.{RingHead}
 use Rattle.net_packets.specs.declared.head.PacketsHead.{PacketsHead}
 use Rattle.net_packets.specs.declared.head.FirstPacket.{FirstPacket}
@@ -29,12 +26,10 @@ use Rattle.net_packets.specs.declared.head.PacketPlace.{PacketPlace}
 use Rattle.net_packets.specs.declared.packet_metadata.PacketMetadata.{PacketMetadata}
 use Rattle.net_packets.specs.declared.packet_slot.PacketSlot.{PacketSlot}
 use Rattle.net_ring.proofs.Rotations.{length-queue}
-use Rattle.net_packets.proofs.PacketSteps.{place_cases, place_zero}
-use Rattle.net_packets.proofs.PacketSteps.{head_or, close_gap, mk}
-use Rattle.net_packets.proofs.PacketSteps.{gap_of}
-use Rattle.net_packets.proofs.PacketSteps.{gap_fits}
-use Rattle.net_packets.proofs.HeadParts.{queue_get, IsQueue, IsFirstIn, IsPlaceIn, placement_is, slots_count, skipped, packet_first}
-use Rattle.net_packets.proofs.HeadParts.{gap_first, first_at, sized, first_in, first_fits, off_as_it_is, shortened, placed, placed_is}
+use Rattle.net_packets.proofs.PacketSteps.{place_cases, place_zero, head_or, close_gap, mk, gap_of, gap_fits}
+use Rattle.net_packets.proofs.HeadParts.{queue_get, IsQueue, IsFirstIn, IsPlaceIn, placement_is, slots_count, skipped}
+use Rattle.net_packets.proofs.HeadParts.{packet_first, gap_first, first_at, sized, first_in, first_fits, off_as_it_is}
+use Rattle.net_packets.proofs.HeadParts.{shortened, placed, placed_is}
 
 -- a slot is a packet's or a gap's
 kind_of : (s : PacketSlot) → ((s.is_gap ≡ 0) × (metadata s ≡ slot s.size (Some tt)) × (nat_eq s.is_gap 0 ≡ true))

@@ -2,5 +2,4 @@ pub mod PacketSteps
 mod HeadParts
 mod HeadQueue
 pub mod PacketOrder
-pub mod PacketRuns
 mod QueueWalks

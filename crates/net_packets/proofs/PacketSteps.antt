@@ -1,36 +1,30 @@
 -- What the two rings of a queue of packets say of its packets.
 -- What a queue of packets is after a step on its two rings.
-use Rattle.std.proofs.Common.{◌≢◌, zero, suc, ◌≡◌, ℕ, ◌+◌, ◌-◌, ◌<◌, ◌≤◌, List, [], ◌∷◌, ◌++◌, length}
-use Rattle.std.proofs.Common.{min, refl, sym, ap, ap₂, ◌∙◌, subst, inl, inr, arith, ◌⊎◌, append_assoc}
-use Rattle.std.proofs.Common.{length-append, nat_le, if◌then◌else◌, Bool, drop}
-use Rattle.std.proofs.lemmas.Bool.{cases_lt, cases_Bool, cond-true, cond-false, leb-true, lt-ltb}
-use Rattle.std.proofs.lemmas.Bool.{le-ltb}
+use Rattle.std.proofs.Common.{◌≢◌, zero, suc, ◌≡◌, ℕ, ◌+◌, ◌-◌, ◌<◌, ◌≤◌, List, [], ◌∷◌, ◌++◌, length, min, refl, sym}
+use Rattle.std.proofs.Common.{ap, ap₂, ◌∙◌, subst, inl, inr, arith, ◌⊎◌, append_assoc, length-append, nat_le}
+use Rattle.std.proofs.Common.{if◌then◌else◌, Bool, drop}
+use Rattle.std.proofs.lemmas.Bool.{cases_lt, cases_Bool, cond-true, cond-false, leb-true, lt-ltb, le-ltb}
 use Rattle.std.proofs.lemmas.Bool.Decides.{nat_tests}
 use Rattle.std.proofs.lemmas.Option.{none-some, cond_some}
 use Rattle.std.proofs.lemmas.List.Elements.{filter-append}
 use Rattle.std.specs.Prelude.{Option, true, filter, is_some}
 use Rattle.std.specs.declared.option.Option.TheVariants.{Some, None}
-use Rattle.net_ring.specs.Ring.{RingState, index_after, capacity, window, queue, write_at, IsWellFormed}
-use Rattle.net_ring.specs.Ring.{Enqueues, with_enqueued, with_dequeued, with_elements}
-use Rattle.net_ring.specs.Ring.{contiguous_window, ring, rewind_if_empty}
+use Rattle.net_ring.specs.Ring.{RingState, index_after, capacity, window, queue, write_at, IsWellFormed, Enqueues}
+use Rattle.net_ring.specs.Ring.{with_enqueued, with_dequeued, with_elements, contiguous_window, ring, rewind_if_empty}
 use Rattle.net_ring.specs.RingHead.{place, rewound, contiguous_free}
+use Rattle.net_ring.specs.Overwrite.{overwrite}
 use Rattle.net_ring.specs.declared.head.RingHead.{RingHead}
-use Rattle.net_packets.specs.Packets.{Packet, packet, bytes_used, slots_used, slots_for, IsPlaced}
-use Rattle.net_packets.specs.Packets.{ArePlaced, PacketsState, gap_for, if_slots, placement, byte_ring}
-use Rattle.net_packets.specs.Packets.{with_packet, with_packet_if_room, with_packet_if, only_last}
-use Rattle.net_packets.specs.Packets.{before_last, last_index, with_last_bytes, with_last_size}
-use Rattle.net_packets.specs.Packets.{with_first_size, first_gap, first_size, without_first_gap}
-use Rattle.net_packets.specs.Packets.{without_gap, IsFirstSized, with_first_header, with_first_bytes}
-use Rattle.net_packets.specs.Packets.{without_first, IsWellPlaced, with_bytes}
-use Rattle.net_packets.specs.PacketsHead.{packets_head, placement_in}
-use Rattle.net_packets.specs.PacketsHead.{slot, gap_slot, packet_slots, packets_in, Represents}
-use Rattle.net_packets.specs.PacketsHead.{packets_state}
+use Rattle.net_packets.specs.{Packet, packet, bytes_used, slots_used, slots_for, IsPlaced, ArePlaced, PacketsState}
+use Rattle.net_packets.specs.{gap_for, if_slots, placement, byte_ring, with_packet, with_packet_if_room, with_packet_if}
+use Rattle.net_packets.specs.{only_last, before_last, last_index, with_last_bytes, with_last_size, with_first_size}
+use Rattle.net_packets.specs.{first_gap, first_size, without_first_gap, without_gap, IsFirstSized, with_first_header}
+use Rattle.net_packets.specs.{with_first_bytes, without_first, IsWellPlaced, with_bytes, packets_head, placement_in}
+use Rattle.net_packets.specs.{slot, gap_slot, packet_slots, packets_in, Represents, packets_state}
 use Rattle.net_packets.specs.declared.packet_metadata.PacketMetadata.{PacketMetadata}
 use Rattle.net_ring.proofs.RingFacts.{rewound_ring, rewind_cases, rewind_wf, rewound_is}
 use Rattle.net_ring.proofs.Rotations.{length-queue, length-overwrite, with_dequeued_parts}
 use Rattle.std.proofs.lemmas.List.{take_at, drop_at}
 use Rattle.std.specs.List.{slice_get}
-use Rattle.net_ring.specs.Overwrite.{overwrite}
 
 -- a list that is not empty ends in an element
 pub ends_in : {X : Type 0} (xs : List X) → xs ≢ [] → (ys : List X) × (y : X) × (xs ≡ ys ++ (y ∷ []))
@@ -181,10 +175,6 @@ module _ {H : Type 0} where
       let k : 0 + p.gap + p.size ≡ p.size + 0 = omega arith in
       placed_from c r p.size 0 ps wf (omega arith) (subst (λ (j : ℕ). ArePlaced c r j ps) k a.1)
 
-  module _ (m : RingState (PacketMetadata H)) (b : RingState ℕ) (ps : List (Packet H)) (h : Represents m b ps) where
-    pub count_is : m.count ≡ slots_used ps
-    count_is = sym (length-queue m h.0) ∙ ap length h.2 ∙ length-slots ps
-
   -- ---- a slot more
   pub gap_slot_one : (gap : ℕ) → 0 < gap → gap_slot {H = H} gap ≡ slot gap None ∷ []
   gap_slot_one zero p = absurd (omega arith)
@@ -252,36 +242,48 @@ module _ {H : Type 0} where
   mk n st r ps = record { slot_count = n; storage = st; read_at = r; packets = ps }
 
   -- ---- two rings and the queue that they represent
+  pub record Holds (m : RingState (PacketMetadata H)) (b : RingState ℕ) (q : PacketsState H) : Type 0 where
+    pub sound : Represents m b (packets_in 0 (queue m))
+    pub seen : packets_state m b ≡ q
+
   -- what they say of the queue
-  module _ (m : RingState (PacketMetadata H)) (b : RingState ℕ) (h : Represents m b (packets_in 0 (queue m))) (q : PacketsState H)
-      (is : packets_state m b ≡ q) where
-    pub well_placed : IsWellPlaced q
-    well_placed =
-        let n = count_is m b (packets_in 0 (queue m)) h in
-        subst IsWellPlaced is ((h.1.0, omega (arith, h.3, h.1.1)), h.4, omega (arith, h.0.1))
+  module _ {m : RingState (PacketMetadata H)} {b : RingState ℕ} {q : PacketsState H} (h : Holds m b q) where
+    pub slots_are : queue m ≡ packet_slots q.packets
+    slots_are = h.sound.2 ∙ ap (λ o. packet_slots o.packets) h.seen
+
+    pub count_is : m.count ≡ slots_used q.packets
+    count_is = sym (length-queue m h.sound.0) ∙ ap length slots_are ∙ length-slots q.packets
 
     pub bytes_are : b ≡ byte_ring q
-    bytes_are = ap (ring b.storage b.read_at) h.3 ∙ ap byte_ring is
+    bytes_are = ap (ring b.storage b.read_at) h.sound.3 ∙ ap byte_ring h.seen
 
-    pub slots_are : queue m ≡ packet_slots q.packets
-    slots_are = h.2 ∙ ap (λ o. packet_slots o.packets) is
+    pub well_placed : IsWellPlaced q
+    well_placed =
+        let n = ap (λ o. slots_used o.packets) h.seen in
+        subst IsWellPlaced h.seen
+        ((h.sound.1.0, omega (arith, h.sound.3, h.sound.1.1)), h.sound.4, omega (arith, h.sound.0.1, count_is))
 
     -- bytes that are written over the storage change no place
-    pub written_holds : (p : ℕ) (ws : List ℕ) → Represents m (with_elements b p ws) (packets_in 0 (queue m))
-    written_holds p ws = subst (λ (n : ℕ). IsWellFormed m × (((b.read_at ≡ 0) ⊎ (b.read_at < n)) × (b.count ≤ n))
-        × (queue m ≡ packet_slots (packets_in 0 (queue m))) × (b.count ≡ bytes_used (packets_in 0 (queue m)))
-        × ArePlaced n b.read_at 0 (packets_in 0 (queue m))) (sym (length-overwrite b.storage p ws)) h
+    pub written_holds : (p : ℕ) (ws : List ℕ) → Holds m (with_elements b p ws) (with_bytes q p ws)
+    written_holds p ws = record {
+      sound =
+          subst (λ (n : ℕ). IsWellFormed m × (((b.read_at ≡ 0) ⊎ (b.read_at < n)) × (b.count ≤ n))
+          × (queue m ≡ packet_slots (packets_in 0 (queue m))) × (b.count ≡ bytes_used (packets_in 0 (queue m)))
+          × ArePlaced n b.read_at 0 (packets_in 0 (queue m))) (sym (length-overwrite b.storage p ws)) h.sound;
+      seen = ap (λ o. with_bytes o p ws) h.seen;
+    }
 
   -- and back
-  pub held : (q : PacketsState H) → IsWellPlaced q → (m : RingState (PacketMetadata H)) → IsWellFormed m → queue m ≡ packet_slots q.packets
-      → (b : RingState ℕ) → b ≡ byte_ring q → Represents m b (packets_in 0 (queue m)) × (capacity m ≡ q.slot_count → packets_state m b ≡ q)
-  held q ok m wf slots b bytes =
+  pub held : (q : PacketsState H) → IsWellPlaced q → (m : RingState (PacketMetadata H)) → IsWellFormed m
+      → capacity m ≡ q.slot_count → queue m ≡ packet_slots q.packets → (b : RingState ℕ) → b ≡ byte_ring q → Holds m b q
+  held q ok m wf long slots b bytes =
       let seen : packets_in 0 (queue m) ≡ q.packets = ap (packets_in 0) slots ∙ round q.packets in
       let all : Represents m (byte_ring q) (packets_in 0 (queue m)) =
-      subst (λ (l : List (Packet H)). Represents m (byte_ring q) l) (sym seen) (wf, ok.0, slots, refl, ok.1) in (
-        subst (λ (o : RingState ℕ). Represents m o (packets_in 0 (queue m))) (sym bytes) all,
-        λ cm. ap (packets_state m) bytes ∙ ap₂ (λ n ps. mk n q.storage q.read_at ps) cm seen,
-      )
+      subst (λ (l : List (Packet H)). Represents m (byte_ring q) l) (sym seen) (wf, ok.0, slots, refl, ok.1) in
+      record {
+        sound = subst (λ (o : RingState ℕ). Represents m o (packets_in 0 (queue m))) (sym bytes) all;
+        seen = ap (packets_state m) bytes ∙ ap₂ (λ n ps. mk n q.storage q.read_at ps) long seen;
+      }
 
   pub with_bytes_well : (q : PacketsState H) → IsWellPlaced q → (p : ℕ) (ws : List ℕ) → IsWellPlaced (with_bytes q p ws)
   with_bytes_well q ok p ws =
@@ -364,21 +366,16 @@ module _ {H : Type 0} where
           (sym (before_append q.packets (packet hd s gap))) (sym (ap (with_first_size k) (last_append q.packets (packet hd s gap))))
           ∙ ap (λ o. with_last_size k (with_last_bytes o ws)) (sym pushed_is)
 
-    module _ (m : RingState (PacketMetadata H)) (b : RingState ℕ) (h : Represents m b (packets_in 0 (queue m))) (is : packets_state m b ≡ q) where
-      module _ (b1 : RingState ℕ) (anew : b1 ≡ rewind_if_empty b) where
-        begun : b1 ≡ g
-        begun = anew ∙ ap rewind_if_empty (bytes_are m b h q is)
-
-        module _ (hd : H) (k : ℕ) (le : k ≤ s) (m2 : RingState (PacketMetadata H)) (em : queue m2 ≡ queue m ++ (gap_slot gap ++ (slot k (Some hd) ∷ [])))
-            (wfm : IsWellFormed m2) (b2 : RingState ℕ) where
-          slots_more : queue m2 ≡ packet_slots (q.packets ++ (packet hd k gap ∷ []))
-          slots_more = em ∙ ap (λ (l : List (PacketMetadata H)). l ++ (gap_slot gap ++ (slot k (Some hd) ∷ []))) (slots_are m b h q is)
-              ∙ sym (slots_append q.packets (packet hd k gap))
-
-          pub push_left : b2 ≡ with_enqueued (gap + k) b1
-              → Represents m2 b2 (packets_in 0 (queue m2)) × (capacity m2 ≡ q.slot_count → packets_state m2 b2 ≡ with_packet q gap k hd)
-          push_left after =
-              held (with_packet q gap k hd) (push_well hd k le) m2 wfm slots_more b2 (after ∙ ap (with_enqueued (gap + k)) begun ∙ enqueued_is hd k)
+    -- what two rings of q hold after it
+    pub push_left : {m : RingState (PacketMetadata H)} {b : RingState ℕ} → Holds m b q → (b1 : RingState ℕ)
+        → b1 ≡ rewind_if_empty b → (hd : H) (k : ℕ) → k ≤ s → (m2 : RingState (PacketMetadata H)) → capacity m2 ≡ q.slot_count
+        → queue m2 ≡ queue m ++ (gap_slot gap ++ (slot k (Some hd) ∷ [])) → IsWellFormed m2
+        → (b2 : RingState ℕ) → b2 ≡ with_enqueued (gap + k) b1 → Holds m2 b2 (with_packet q gap k hd)
+    push_left h b1 anew hd k le m2 long em wfm b2 after =
+        held (with_packet q gap k hd) (push_well hd k le) m2 wfm long
+        (em ∙ ap (λ (l : List (PacketMetadata H)). l ++ (gap_slot gap ++ (slot k (Some hd) ∷ []))) (slots_are h)
+        ∙ sym (slots_append q.packets (packet hd k gap))) b2
+        (after ∙ ap (with_enqueued (gap + k)) (anew ∙ ap rewind_if_empty (bytes_are h)) ∙ enqueued_is hd k)
 
   -- ---- the last packet
   last_one : (p : Packet H) → only_last (p ∷ []) ≡ p ∷ []
@@ -481,17 +478,16 @@ module _ {H : Type 0} where
   skipped_ring q = ap (ring q.storage (without_gap q).read_at) (skipped_bytes q.packets)
 
   -- by what the two steps left
-  module _ (m : RingState (PacketMetadata H)) (b : RingState ℕ) (h : Represents m b (packets_in 0 (queue m))) (gap : ℕ) (q : PacketsState H)
-      (m2 : RingState (PacketMetadata H)) (b2 : RingState ℕ) (is : packets_state m b ≡ q) (size : gap ≡ first_gap q.packets) (some : 0 < gap)
-      (off : m2 ≡ with_dequeued 1 m) (dequeued : b2 ≡ with_dequeued gap b) where
-    pub skip_left : Represents m2 b2 (packets_in 0 (queue m2)) × (capacity m2 ≡ q.slot_count → packets_state m2 b2 ≡ without_gap q)
-    skip_left =
-        let all = slots_are m b h q is ∙ skipped_slots q.packets (omega (arith, size)) in
-        let many : 1 ≤ m.count = omega (arith, length-queue m h.0, ap length all) in
-        let slots = ap queue off ∙ (with_dequeued_parts m h.0 1 many).0 ∙ ap (drop 1) all in
-        let wfm = subst IsWellFormed (sym off) (off_wf m h.0 many) in
-        held (without_gap q) (skipped_well q (well_placed m b h q is)) m2 wfm slots b2
-        (dequeued ∙ ap₂ with_dequeued size (bytes_are m b h q is) ∙ skipped_ring q)
+  pub skip_left : {m : RingState (PacketMetadata H)} {b : RingState ℕ} {q : PacketsState H} → Holds m b q → (gap : ℕ)
+      → gap ≡ first_gap q.packets → 0 < gap → (m2 : RingState (PacketMetadata H)) → m2 ≡ with_dequeued 1 m
+      → (b2 : RingState ℕ) → b2 ≡ with_dequeued gap b → Holds m2 b2 (without_gap q)
+  skip_left {m} {b} {q} h gap size some m2 off b2 dequeued =
+      let all = slots_are h ∙ skipped_slots q.packets (omega (arith, size)) in
+      let many : 1 ≤ m.count = omega (arith, length-queue m h.sound.0, ap length all) in
+      held (without_gap q) (skipped_well q (well_placed h)) m2 (subst IsWellFormed (sym off) (off_wf m h.sound.0 many))
+      (ap capacity off ∙ ap (λ o. o.slot_count) h.seen)
+      (ap queue off ∙ (with_dequeued_parts m h.sound.0 1 many).0 ∙ ap (drop 1) all) b2
+      (dequeued ∙ ap₂ with_dequeued size (bytes_are h) ∙ skipped_ring q)
 
   -- ---- the first packet, whose gap is gone
   head_slots : (ps : List (Packet H)) (p : Packet H) → p.gap ≡ 0 → packet_slots (p ∷ ps) ≡ slot p.size (Some p.header) ∷ packet_slots ps
@@ -572,47 +568,43 @@ module _ {H : Type 0} where
   popped_ring q z = ap (ring q.storage (without_first q).read_at) (popped_bytes q.packets z)
 
   popped : (q : PacketsState H) → IsWellPlaced q → first_gap q.packets ≡ 0 → (m : RingState (PacketMetadata H)) → IsWellFormed m
-      → queue m ≡ packet_slots (drop 1 q.packets) → (b : RingState ℕ) → b ≡ with_dequeued (first_size q.packets) (byte_ring q)
-      → Represents m b (packets_in 0 (queue m)) × (capacity m ≡ q.slot_count → packets_state m b ≡ without_first q)
-  popped q ok z m wf slots b bytes =
-      held (without_first q) (popped_well q z ok) m wf slots b (bytes ∙ popped_ring q z)
+      → capacity m ≡ q.slot_count → queue m ≡ packet_slots (drop 1 q.packets)
+      → (b : RingState ℕ) → b ≡ with_dequeued (first_size q.packets) (byte_ring q) → Holds m b (without_first q)
+  popped q ok z m wf long slots b bytes =
+      held (without_first q) (popped_well q z ok) m wf long slots b (bytes ∙ popped_ring q z)
 
   -- by what the first slot is
-  module _ (m : RingState (PacketMetadata H)) (b : RingState ℕ) (h : Represents m b (packets_in 0 (queue m))) (q : PacketsState H)
-      (is : packets_state m b ≡ q) (z : first_gap q.packets ≡ 0) (s : ℕ) (hd : H) (at : queue m ≡ slot s (Some hd) ∷ drop 1 (queue m)) where
-    ok : IsWellPlaced q
-    ok = well_placed m b h q is
-
-    bytes : b ≡ byte_ring q
-    bytes = bytes_are m b h q is
-
+  module _ {m : RingState (PacketMetadata H)} {b : RingState ℕ} {q : PacketsState H} (h : Holds m b q) (z : first_gap q.packets ≡ 0)
+      (s : ℕ) (hd : H) (at : queue m ≡ slot s (Some hd) ∷ drop 1 (queue m)) where
     pub is_first : IsFirstSized q.packets hd s × (drop 1 (queue m) ≡ packet_slots (drop 1 q.packets))
-    is_first = head_of q.packets s hd (drop 1 (queue m)) (sym at ∙ slots_are m b h q is) z
+    is_first = head_of q.packets s hd (drop 1 (queue m)) (sym at ∙ slots_are h) z
 
     size : first_size q.packets ≡ s
     size = ap first_size is_first.0
 
-    module _ (m2 : RingState (PacketMetadata H)) (wfm : IsWellFormed m2) (b2 : RingState ℕ) where
-      pub take_left : queue m2 ≡ drop 1 (queue m) → b2 ≡ with_dequeued s b
-          → Represents m2 b2 (packets_in 0 (queue m2)) × (capacity m2 ≡ q.slot_count → packets_state m2 b2 ≡ without_first q)
-      take_left em after = popped q ok z m2 wfm (em ∙ is_first.1) b2 (after ∙ ap₂ with_dequeued (sym size) bytes)
+    module _ (m2 : RingState (PacketMetadata H)) (wfm : IsWellFormed m2) (long : capacity m2 ≡ q.slot_count) (b2 : RingState ℕ) where
+      pub take_left : queue m2 ≡ drop 1 (queue m) → b2 ≡ with_dequeued s b → Holds m2 b2 (without_first q)
+      take_left em after =
+          popped q (well_placed h) z m2 wfm long (em ∙ is_first.1) b2 (after ∙ ap₂ with_dequeued (sym size) (bytes_are h))
 
       module _ (ws : List ℕ) (new : H) where
         over_is : with_elements b b.read_at ws ≡ byte_ring (with_first_bytes q new ws)
-        over_is = ap (λ (o : RingState ℕ). with_elements o o.read_at ws) bytes ∙ headed_ring q new ws
+        over_is = ap (λ (o : RingState ℕ). with_elements o o.read_at ws) (bytes_are h) ∙ headed_ring q new ws
 
         pub off_left : queue m2 ≡ drop 1 (queue m) → b2 ≡ with_dequeued s (with_elements b b.read_at ws)
-            → Represents m2 b2 (packets_in 0 (queue m2)) × (capacity m2 ≡ q.slot_count → packets_state m2 b2 ≡ without_first (with_first_bytes q new ws))
+            → Holds m2 b2 (without_first (with_first_bytes q new ws))
         off_left em after =
             let same = headed new q.packets in
-            popped (with_first_bytes q new ws) (headed_well q ok new ws) (same.0 ∙ z) m2 wfm (em ∙ is_first.1 ∙ ap packet_slots (sym same.2)) b2
-            (after ∙ ap₂ with_dequeued (sym (same.1 ∙ size)) over_is)
+            popped (with_first_bytes q new ws) (headed_well q (well_placed h) new ws) (same.0 ∙ z) m2 wfm long
+            (em ∙ is_first.1 ∙ ap packet_slots (sym same.2)) b2 (after ∙ ap₂ with_dequeued (sym (same.1 ∙ size)) over_is)
 
         pub on_left : queue m2 ≡ slot s (Some new) ∷ drop 1 (queue m) → b2 ≡ with_elements b b.read_at ws
-            → Represents m2 b2 (packets_in 0 (queue m2)) × (capacity m2 ≡ q.slot_count → packets_state m2 b2 ≡ with_first_bytes q new ws)
+            → Holds m2 b2 (with_first_bytes q new ws)
         on_left em after =
-            let slots = ap (λ l. packet_slots (with_first_header new l)) is_first.0 ∙ head_slots (drop 1 q.packets) (packet new s (first_gap q.packets)) z in
-            held (with_first_bytes q new ws) (headed_well q ok new ws) m2 wfm (em ∙ ap (λ l. slot s (Some new) ∷ l) is_first.1 ∙ sym slots) b2 (after ∙ over_is)
+            let slots = ap (λ l. packet_slots (with_first_header new l)) is_first.0
+            ∙ head_slots (drop 1 q.packets) (packet new s (first_gap q.packets)) z in
+            held (with_first_bytes q new ws) (headed_well q (well_placed h) new ws) m2 wfm long
+            (em ∙ ap (λ l. slot s (Some new) ∷ l) is_first.1 ∙ sym slots) b2 (after ∙ over_is)
 
 -- ---- the last element of a list
 module _ {X : Type 0} where

@@ -9,16 +9,15 @@
 --     after_drops k q      the queue once its k first packets are taken off
 --     HasNoRoom q s      a packet of s bytes is refused
 --     HasNoRoomBefore k q s      it is refused after each number of drops below k
-use Rattle.std.specs.Prelude.{Bool, if◌then◌else◌, ◌≡◌, ◌≢◌, ◌≤◌, ℕ, ◌+◌, List, [], ◌∷◌, length, take}
-use Rattle.std.specs.Prelude.{drop, set, zero, suc, ◌<◌}
+use Rattle.std.specs.Prelude.{Bool, if◌then◌else◌, ◌≡◌, ◌≢◌, ◌≤◌, ℕ, ◌+◌, List, [], ◌∷◌, length, take, drop, set, zero}
+use Rattle.std.specs.Prelude.{suc, ◌<◌}
 use Rattle.std.specs.declared.option.Option.TheVariants.{None}
 use Rattle.net_ring.specs.Ring.{queue}
 use Rattle.net_ring.specs.Log.{Log, empty_log, log_accepted, log_left, log_dropped}
-use Rattle.net_packets.specs.Packets.{Packet, PacketsState, no_packets, byte_ring, placement}
-use Rattle.net_packets.specs.Packets.{with_packet_if_room, only_last, last_bytes, with_last_bytes}
-use Rattle.net_packets.specs.Packets.{with_last_size, with_packet_of, first_size, without_gap}
-use Rattle.net_packets.specs.Packets.{with_first_bytes, IsFirst, without_first, without_first_and_gap}
-use Rattle.net_packets.specs.Packets.{last_dequeued_bytes_index, AreLastDequeued, with_bytes}
+use Rattle.net_packets.specs.Packets.{Packet, PacketsState, no_packets, byte_ring, placement, with_packet_if_room}
+use Rattle.net_packets.specs.Packets.{only_last, last_bytes, with_last_bytes, with_last_size, with_packet_of}
+use Rattle.net_packets.specs.Packets.{first_size, without_gap, with_first_bytes, IsFirst, without_first}
+use Rattle.net_packets.specs.Packets.{without_first_and_gap, last_dequeued_bytes_index, AreLastDequeued, with_bytes}
 
 module _ {H : Type 0} where
   -- the headers and bytes of packets whose bytes, gaps among them, are bs

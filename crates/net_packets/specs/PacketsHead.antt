@@ -20,15 +20,13 @@
 --     HasFirst c h ss, first_packet c h ss, head_after_gap c h ss, head_after_first c h ss,
 --         IsFirstAt q p      the first packet
 --     packet_slot s, slots_written p s ss      the slots of a packet of s bytes
-use Rattle.std.specs.Prelude.{◌≡◌, ℕ, zero, suc, ◌+◌, List, [], ◌∷◌, ◌++◌, set, nat_eq, if◌then◌else◌}
-use Rattle.std.specs.Prelude.{Option, ◌-◌, ◌≢◌, ◌<◌, ◌≤◌, ⊤, length, map, get_or, slice_get}
+use Rattle.std.specs.Prelude.{◌≡◌, ℕ, zero, suc, ◌+◌, List, [], ◌∷◌, ◌++◌, set, nat_eq, if◌then◌else◌, Option, ◌-◌, ◌≢◌}
+use Rattle.std.specs.Prelude.{◌<◌, ◌≤◌, ⊤, length, map, get_or, slice_get}
 use Rattle.std.specs.declared.option.Option.TheVariants.{Some, None}
 use Rattle.net_ring.specs.Ring.{RingState, capacity, queue, IsWellFormed, index_after}
-use Rattle.net_ring.specs.RingHead.{ring_at, IsSound, rewound, contiguous_free, enqueued_place}
-use Rattle.net_ring.specs.RingHead.{dequeued_place}
-use Rattle.net_packets.specs.Packets.{Packet, PacketsState, packet, bytes_used, ArePlaced, gap_for}
-use Rattle.net_packets.specs.Packets.{if_slots, slots_for, first_gap, first_size, without_gap}
-use Rattle.net_packets.specs.Packets.{without_first}
+use Rattle.net_ring.specs.RingHead.{ring_at, IsSound, rewound, contiguous_free, enqueued_place, dequeued_place}
+use Rattle.net_packets.specs.Packets.{Packet, PacketsState, packet, bytes_used, ArePlaced, gap_for, if_slots, slots_for}
+use Rattle.net_packets.specs.Packets.{first_gap, first_size, without_gap, without_first}
 use Rattle.net_packets.specs.declared.packet_metadata.PacketMetadata.{PacketMetadata}
 use Rattle.net_packets.specs.declared.head.PacketsHead.{PacketsHead}
 use Rattle.net_packets.specs.declared.head.PacketPlace.{PacketPlace}

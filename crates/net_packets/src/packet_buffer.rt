@@ -84,7 +84,7 @@ impl<H, M: Storage<PacketMetadata<H>>, B: Storage<u8>> Model for PacketsOver<H, 
 impl<H, M: Storage<PacketMetadata<H>>, B: Storage<u8>> PacketsOver<H, M, B> {
     /// Returns a queue with no packets over storages of any type. smoltcp has no such call:
     /// [`PacketBuffer::new`] is the one for two [`ManagedSlice`].
-    #[tactic(auto, using(crate::proofs::PacketRuns::no_contents))]
+    #[tactic(auto, using(crate::proofs::PacketOrder::no_contents))]
     pub const fn over(slots: M, bytes: B) -> Self
         ensures empty { contents result ≡ [] }
         ensures made { result ≡ no_packets (length (M.elements slots)) (B.elements bytes) }
@@ -257,7 +257,7 @@ impl<H, M: Storage<PacketMetadata<H>>, B: Storage<u8>> PacketsOver<H, M, B> {
     /// queue.reset();
     /// assert!(queue.is_empty());
     /// ```
-    #[tactic(auto, using(crate::proofs::PacketRuns::no_contents))]
+    #[tactic(auto, using(crate::proofs::PacketOrder::no_contents))]
     pub fn reset(&mut self)
         ensures empty { contents self.new ≡ [] }
         ensures made { self.new ≡ no_packets self.old.slot_count self.old.storage }

@@ -4,10 +4,10 @@
 -- One more element of a list is reset.
 use Rattle.std.proofs.Common.{◌≢◌, get_or, ◌≡◌, ℕ, ◌+◌, ◌-◌, ◌<◌, ◌≤◌, ◌⊎◌, List, [], ◌∷◌, ◌++◌, length, take, drop}
 use Rattle.std.proofs.Common.{min, refl, sym, ap, ap₂, ◌∙◌, subst, inl, inr, arith, length-drop, add-zero, nat_lt}
-use Rattle.std.proofs.Common.{if◌then◌else◌, suc, Some, length-take, set}
+use Rattle.std.proofs.Common.{if◌then◌else◌, suc, Some, length-take, set, ◌↔◌}
 use Rattle.std.proofs.lemmas.Bool.Decides.{nat_tests}
 use Rattle.std.proofs.lemmas.Bool.{false≢true, cases_lt}
-use Rattle.std.proofs.lemmas.List.{drop-drop, length-take-le, take-append-drop, take_all, drop_all, nil_from_length}
+use Rattle.std.proofs.lemmas.List.{drop-drop, take-take, length-take-le, take-append-drop, take_all, drop_all, nil_from_length}
 use Rattle.std.proofs.lemmas.List.{drop_more, places, same_lists, drop_at, take_more, take_more_set, drop-set-lt}
 use Rattle.std.specs.Prelude.{Result, IsOk, IsErr, is_ok, slice_get}
 use Rattle.std.specs.Borrow.{MutBor}
@@ -20,7 +20,7 @@ use Rattle.net_ring.specs.{storage_index, write_at, IsWellFormed, with_elements,
 use Rattle.net_ring.specs.{with_enqueued, with_dequeued, rewind_if_empty, contiguous_window, contiguous_queued}
 use Rattle.net_ring.specs.{spare_index, contiguous_unallocated, queue_index, contiguous_allocated, Enqueues, Dequeues}
 use Rattle.net_ring.specs.{WritesSpare, WritesQueue, EnqueuesFrom, DequeuesFrom, contiguous_queue, ring_at, rewound}
-use Rattle.net_ring.specs.{IsSound, free_index, queued_index, written_span, elements_at}
+use Rattle.net_ring.specs.{IsSound, place, free_index, queued_index, written_span, elements_at}
 use Rattle.net_ring.specs.declared.head.RingHead.{RingHead}
 use Rattle.net_ring.proofs.Rotations.{IsStorageIndex, length-rotation, length-overwrite, storage_index_is, read_at_le}
 use Rattle.net_ring.proofs.Rotations.{whole, length-queue, length-spare, spare-written}
@@ -370,13 +370,6 @@ module _ {T : Type 0} where
     ahead_clause i n src h en e =
         subst (WritesSpare g i (take n src)) (sym e) (wrapping_at g well i (take n src) (omega (arith, en, length-take-le n src (omega arith))))
 
-    -- ---- elements that are enqueued or dequeued, and none that is written
-    pub with_enqueued_is : (k m : ℕ) → k ≡ m → ring v.storage v.read_at (v.count + k) ≡ with_enqueued m g
-    with_enqueued_is k m ek = ap (with_enqueued k) is ∙ ap (λ n. with_enqueued n g) ek
-
-    pub with_dequeued_is : (k m p : ℕ) → k ≡ m → p ≡ storage_index g m → ring v.storage p (v.count - k) ≡ with_dequeued m g
-    with_dequeued_is k m p ek ep = ap (λ o. ring o.storage p (o.count - k)) is ∙ ap₂ (λ j n. ring g.storage j (g.count - n)) ep ek
-
     -- ---- what stays once a part that was lent comes back as w
     pub left_at : (p q : ℕ) → p ≡ q → (st w : List T) → st ≡ overwrite v.storage p w → ring st v.read_at v.count ≡ with_elements g q w
     left_at p q ep st w e = ap (λ b. ring b v.read_at v.count) e ∙ ap (λ o. with_elements o p w) is ∙ ap (λ j. with_elements g j w) ep
@@ -607,35 +600,8 @@ last_off : {X : Type 0} (l : List X) (m : ℕ) (x : X) → m < length l → slic
     (take (suc m) l ≡ take m l ++ x ∷ []) × (drop m l ≡ x ∷ drop (suc m) l)
 last_off l m x fits e = (grind (arith, places, gets, take_more), grind (arith, places, gets, drop_more))
 
--- the queue without its last element, which is the next free one
-pub off_back : {T : Type 0} (v g : RingState T) → v ≡ g → IsWellFormed g → (x : T) →
-    slice_get (queue g) (length (queue g) - 1) ≡ Some x →
-    (queue g ≡ queue (ring v.storage v.read_at (v.count - 1)) ++ x ∷ [])
-    × (spare (ring v.storage v.read_at (v.count - 1)) ≡ x ∷ spare g)
-off_back v g is wf x e =
-    let all = rotation g.storage g.read_at in
-    let m : ℕ = g.count - 1 in
-    let within = slice_get_within (queue g) (length (queue g) - 1) x e in
-    let long = length-queue g wf in
-    let one : g.count ≡ suc m = omega arith in
-    let at : length (queue g) - 1 ≡ m = omega arith in
-    let fits : m < length all = omega (arith, length-rotation g.storage g.read_at, wf.1) in
-    let here : slice_get (take (suc m) all) m ≡ Some x = ap₂ (λ n i. slice_get (take n all) i) (sym one) (sym at) ∙ e in
-    let parts = last_off all m x fits here in (
-      ap (λ n. take n all) one ∙ parts.0 ∙ ap (λ o. queue (ring o.storage o.read_at (o.count - 1)) ++ x ∷ []) (sym is),
-      ap (λ o. spare (ring o.storage o.read_at (o.count - 1))) is ∙ parts.1 ∙ ap (λ n. x ∷ drop n all) (sym one),
-    )
-
 -- ---- spans of a storage, as parts of the ring of that storage and of the numbers by which they were found
 module _ {T : Type 0} where
-  -- a write over free elements
-  pub wrapped : (xs ws : List T) (p : RingHead) (i : ℕ) (s : Span) → s.from ≡ free_index (length xs) p i → s.from ≤ length xs
-      → s.contiguous ≡ min (length ws) (length xs - s.from)
-      → ring_at (written_span xs s ws) p ≡ with_elements_wrapping (ring_at xs p) (spare_index (ring_at xs p) i) ws
-  wrapped xs ws p i s at within cut =
-      ap (λ l. ring_at l p) (wrapping_is xs ws s.from s.contiguous within cut)
-      ∙ ap (λ q. with_elements_wrapping (ring_at xs p) q ws) at
-
   -- elements of the queue
   pub queued_elements : (xs : List T) (p : RingHead) (i : ℕ) (s : Span) → IsSound (length xs) p → s.from ≡ queued_index (length xs) p i
       → s.count ≤ p.length - i → s.contiguous ≡ min s.count (length xs - s.from)
@@ -668,3 +634,57 @@ module _ {T : Type 0} (R : T → T → Type 0) where
   pub all_reset : (old xs : List T) (i : ℕ) → length old ≤ i → length xs ≡ length old → AllZip R (take i old) (take i xs) → AllZip R old xs
   all_reset old xs i le long h =
       subst (λ (l : List T). AllZip R l xs) (take_all i old le) (subst (AllZip R (take i old)) (take_all i xs (omega (arith, long, le))) h)
+
+-- ---- by which the calls of heads and of rings are proved: of a storage b that is read from r on and holds n elements
+module _ {T : Type 0} where
+  pub take_of_drop : (k n : ℕ) (xs : List T) → k ≤ n → drop k (take n xs) ≡ take (n - k) (drop k xs)
+  take_of_drop k n xs le = same_lists _ _ (grind (arith, places)) (λ m d h. grind (arith, places))
+
+  module _ (b : List T) (r n : ℕ) (at : (r ≡ 0) ⊎ (r < length b)) (le : n ≤ length b) where
+    pub no_spare : (drop n (drop r b ++ take r b) ≡ []) ↔ (length b ≤ n)
+    no_spare = let long = length-spare (ring b r n) (at, le) in (λ e. omega (arith, ap length e), λ l. nil_from_length _ (omega arith))
+
+    -- k elements are dequeued
+    module _ (k : ℕ) (few : k ≤ n) where
+      pub queue-read_on : take (n - k) (drop (index_after (length b) r k) b ++ take (index_after (length b) r k) b)
+          ≡ drop k (take n (drop r b ++ take r b))
+      queue-read_on = (with_dequeued_law (ring b r n) (at, le) k few).0
+
+      pub spare-read_on : drop (n - k) (drop (index_after (length b) r k) b ++ take (index_after (length b) r k) b)
+          ≡ drop n (drop r b ++ take r b) ++ take k (take n (drop r b ++ take r b))
+      spare-read_on = (with_dequeued_law (ring b r n) (at, le) k few).1
+
+    -- ws is written over the spare elements from i on
+    module _ (i : ℕ) (ws : List T) (few : length ws ≤ length b - n - i) where
+      abbrev wrote : List T
+      wrote = let p = index_after (length b) r (n + min i (length b - n)) in overwrite (overwrite b p ws) 0 (drop (length b - p) ws)
+
+      pub queue-wrote : take n (drop r wrote ++ take r wrote) ≡ take n (drop r b ++ take r b)
+      queue-wrote = (wrapping_at (ring b r n) (at, le) i ws few).0
+
+      pub spare-wrote : drop n (drop r wrote ++ take r wrote) ≡ overwrite (drop n (drop r b ++ take r b)) i ws
+      spare-wrote = (wrapping_at (ring b r n) (at, le) i ws few).1
+
+    -- the last one, x, is taken off
+    module _ (x : T) (last : slice_get (take n (drop r b ++ take r b)) (length (take n (drop r b ++ take r b)) - 1) ≡ Some x) where
+      off_back : (take n (rotation b r) ≡ take (n - 1) (rotation b r) ++ x ∷ []) × (drop (n - 1) (rotation b r) ≡ x ∷ drop n (rotation b r))
+      off_back =
+          let all = rotation b r in
+          let m : ℕ = n - 1 in
+          let long = length-queue (ring b r n) (at, le) in
+          let within = slice_get_within (take n all) (length (take n all) - 1) x last in
+          let one : n ≡ suc m = omega arith in
+          let end : length (take n all) - 1 ≡ m = omega arith in
+          let here : slice_get (take (suc m) all) m ≡ Some x = ap₂ (λ k i. slice_get (take k all) i) (sym one) (sym end) ∙ last in
+          let parts = last_off all m x (omega (arith, length-rotation b r)) here in
+          (ap (λ k. take k all) one ∙ parts.0, parts.1 ∙ ap (λ k. x ∷ drop k all) (sym one))
+
+      pub queue-off_back : take (n - 1) (drop r b ++ take r b) ++ x ∷ [] ≡ take n (drop r b ++ take r b)
+      queue-off_back = sym off_back.0
+
+      pub spare-off_back : x ∷ drop n (drop r b ++ take r b) ≡ drop (n - 1) (drop r b ++ take r b)
+      spare-off_back = sym off_back.1
+
+pub ruleset heads = (queue-read_on, spare-read_on, queue-wrote, spare-wrote, queued_elements, wrapping_is, take_of_drop, take-take, length-take)
+
+pub ruleset rings = (queue-read_on, spare-read_on, no_spare, take_sum, drop-drop, queue-off_back, spare-off_back, length-take, length-rotation)

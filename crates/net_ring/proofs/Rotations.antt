@@ -1,10 +1,11 @@
 -- What a rotated list holds after a write to the list, and how the queue and the spare part of a ring change.
 -- Elements of a list that was written over.
 use Rattle.std.proofs.Common.{◌≡◌, ℕ, ◌+◌, ◌-◌, ◌<◌, ◌≤◌, ◌⊎◌, List, ◌++◌, length, take, drop, sym, ap, ap₂, ◌∙◌, inl}
-use Rattle.std.proofs.Common.{inr, arith, append_assoc, length-drop, ◌≢◌, Some}
+use Rattle.std.proofs.Common.{inr, arith, append_assoc, length-drop, ◌≢◌, Some, ◌∷◌, []}
 use Rattle.std.proofs.lemmas.List.{take-append-drop, length-take-le, take_at, drop_at, take-append-le, drop-append-le}
 use Rattle.std.proofs.lemmas.List.{take-take, drop-take, drop-drop, places, same_lists}
 use Rattle.std.proofs.lemmas.Bool.Decides.{nat_tests}
+use Rattle.net_ring.specs.StorageLaws.{element_set_written}
 use Rattle.net_ring.specs.{overwrite, OverwritesAt, RingState, rotation, capacity, window, queue, spare}
 use Rattle.net_ring.specs.{storage_index, IsWellFormed, with_elements, with_enqueued, with_dequeued}
 use Rattle.std.specs.Prelude.{slice_get, slice_set}
@@ -106,5 +107,8 @@ module _ {X : Type 0} where
   pub get_after_set : (xs : List X) (i : ℕ) (x : X) → i < length xs → slice_get (slice_set xs i x) i ≡ Some x
   get_after_set xs i x h = grind (arith, common_steps, gets)
 
-  pub get_after_set_elsewhere : (xs : List X) (i k : ℕ) (x : X) → k ≢ i → slice_get (slice_set xs i x) k ≡ slice_get xs k
-  get_after_set_elsewhere xs i k x ne = grind (arith, common_steps, gets)
+  pub get_elsewhere : (xs : List X) (i k : ℕ) (x : X) → k ≢ i → slice_get (overwrite xs i (x ∷ [])) k ≡ slice_get xs k
+  get_elsewhere xs i k x ne = ap (λ l. slice_get l k) (sym (element_set_written xs i x)) ∙ after_set
+    where
+      after_set : slice_get (slice_set xs i x) k ≡ slice_get xs k
+      after_set = grind (arith, common_steps, gets)

@@ -2,6 +2,8 @@
 //!
 //! [`RingOver`](crate::RingOver) is a storage and a head. A caller that has the storage elsewhere, as a
 //! program in C, calls the functions here with its capacity, or with the storage as a slice.
+#![tactic(auto, using(crate::proofs::RingFacts::heads))]
+
 ghost use Rattle.std.specs.Prelude.{◌≡◌, ◌↔◌, ◌≤◌, ◌-◌, ◌+◌, ◌++◌, ℕ, IsTrue, min, length, take, drop};
 ghost use Rattle.net_ring.specs.Overwrite.{overwrite};
 ghost use Rattle.net_ring.specs.Ring.{index_after, queue, window, with_elements_wrapping, with_enqueued};

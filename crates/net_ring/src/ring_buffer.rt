@@ -1,4 +1,6 @@
 //! A ring of elements over storage that is lent or owned.
+#![tactic(auto, using(crate::proofs::RingFacts::rings), unfolding(crate::specs::RingHistory::Makes))]
+
 ghost use Rattle.std.specs.Prelude.{◌≡◌, ◌≢◌, ◌↔◌, ◌≤◌, ◌<◌, ◌==◌, ◌-◌, ◌+◌, ◌^◌, ◌∷◌, ◌++◌, [], ℕ, List, length};
 ghost use Rattle.std.specs.Prelude.{take, drop, min, slice_get, slice_index_or, IsTrue, IsErr, IsNone, IsSome, OnErr};
 ghost use Rattle.std.specs.Prelude.{OnOk, IfOk, IfSome, is_ok, if◌then◌else◌, option_copied};
@@ -166,7 +168,6 @@ impl<T, S: Storage<T>> RingOver<T, S> {
     /// ring.clear();
     /// assert!(ring.is_empty());
     /// ```
-    #[tactic(auto, unfolding(crate::specs::RingHistory::Makes))]
     pub fn clear(&mut self)
         ensures ring { self.new ≡ ring self.old.storage 0 0 }
         ensures parts { (queue self.new ≡ []) × (spare self.new ≡ self.old.storage) }
@@ -201,7 +202,6 @@ impl<T, S: Storage<T>> RingOver<T, S> {
     /// RingBuffer::new(&mut slots[..]).reset();
     /// assert_eq!((slots[0].0, slots[1].0), (0, 0));
     /// ```
-    #[tactic(auto, unfolding(crate::specs::RingHistory::Makes))]
     pub fn reset(&mut self)
     where
         T: Resettable,
@@ -311,7 +311,6 @@ impl<T, S: Storage<T>> RingOver<T, S> {
     ///
     /// smoltcp has no such call. It is for callers that write free elements before these are enqueued.
     #[inline]
-    #[tactic(auto, unfolding(crate::specs::RingHistory::Makes))]
     pub fn rewind_if_empty(&mut self)
         ensures ring { self.new ≡ rewind_if_empty self.old }
         ensures call { Makes RewindIfEmpty self.old self.new }
@@ -344,7 +343,6 @@ impl<T, S: Storage<T>> RingOver<T, S> {
     /// # Errors
     ///
     /// `Full` if the ring is full. Then it stays as it is, and `f` isn't called.
-    #[tactic(auto, unfolding(crate::specs::RingHistory::Makes))]
     pub fn enqueue_one_with<R, E, F: FnOnce(&mut T) -> Result<R, E>>(
         &mut self,
         f: F,
@@ -442,7 +440,6 @@ impl<T, S: Storage<T>> RingOver<T, S> {
     /// # Errors
     ///
     /// `Empty` if the ring is empty. Then it stays as it is, and `f` isn't called.
-    #[tactic(auto, unfolding(crate::specs::RingHistory::Makes))]
     pub fn dequeue_one_with<R, E, F: FnOnce(&mut T) -> Result<R, E>>(
         &mut self,
         f: F,
@@ -532,7 +529,6 @@ impl<T, S: Storage<T>> RingOver<T, S> {
     /// assert_eq!(ring.enqueue_slice(b"abc"), 3);
     /// assert_eq!((ring.pop_back(), ring.back()), (Some(b'c'), Some(&b'b')));
     /// ```
-    #[tactic(auto, unfolding(crate::specs::RingHistory::Makes))]
     pub fn pop_back(&mut self) -> Option<T>
     where
         T: Copy,
@@ -566,7 +562,6 @@ impl<T: Drop, S: Storage<T>> RingOver<T, S> {
     /// # Errors
     ///
     /// `Full` if the ring is full. Then it stays as it is, and the element is dropped.
-    #[tactic(auto, unfolding(crate::specs::RingHistory::Makes))]
     pub fn push_one(&mut self, element: T) -> Result<(), Full>
         // Guarantee.
         ensures full { IsErr result ↔ (window self.old ≡ 0) }
@@ -791,7 +786,6 @@ impl<T, S: Storage<T>> RingOver<T, S> {
     /// let mut into = *b"-----";
     /// assert_eq!((ring.dequeue_slice(&mut into), &into), (3, b"abc--"));
     /// ```
-    #[tactic(auto, unfolding(crate::specs::RingHistory::Makes))]
     #[must_use]
     pub fn dequeue_slice(&mut self, data: &mut [T]) -> usize
     where
@@ -882,7 +876,6 @@ impl<T, S: Storage<T>> RingOver<T, S> {
     /// ring.enqueue_unallocated(4);
     /// assert_eq!(ring.get_allocated(0, 4), b"abcd");
     /// ```
-    #[tactic(auto, unfolding(crate::specs::RingHistory::Makes))]
     #[must_use]
     pub fn write_unallocated(&mut self, offset: usize, data: &[T]) -> usize
     where
@@ -914,7 +907,6 @@ impl<T, S: Storage<T>> RingOver<T, S> {
     /// # Requires
     ///
     /// `count` is at most `window()`.
-    #[tactic(auto, unfolding(crate::specs::RingHistory::Makes))]
     #[track_caller]
     pub fn enqueue_unallocated(&mut self, count: usize)
         requires window { count ≤ window self.old }
@@ -1048,7 +1040,6 @@ impl<T, S: Storage<T>> RingOver<T, S> {
     /// # Requires
     ///
     /// `count` is at most `len()`.
-    #[tactic(auto, unfolding(crate::specs::RingHistory::Makes))]
     #[track_caller]
     pub fn dequeue_allocated(&mut self, count: usize)
         requires len { count ≤ self.old.count }

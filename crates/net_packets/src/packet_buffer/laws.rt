@@ -33,7 +33,7 @@ pub fn head_of_zeros<H>()
 
 /// States that a queue's contents have as many entries as it has packets, and so none exactly if it
 /// has no packets.
-#[tactic(auto, using(crate::proofs::PacketRuns::contents_count, crate::proofs::PacketRuns::contents_none))]
+#[tactic(auto, using(crate::proofs::PacketOrder::contents_count, crate::proofs::PacketOrder::contents_none))]
 pub fn contents_are_packets<H>()
     ensures count { (q : PacketsState H) → length (contents q) ≡ length q.packets }
     ensures empty { (q : PacketsState H) → (contents q ≡ []) ↔ (length q.packets ≡ 0) }
@@ -42,7 +42,7 @@ pub fn contents_are_packets<H>()
 /// States that a queue with no packets takes a packet exactly if it has a slot, and at least as
 /// many bytes as the packet. The packet is placed without a gap, even if the last packet to leave
 /// was in the middle of the storage.
-#[tactic(auto, using(crate::proofs::PacketRuns::empty_queues))]
+#[tactic(auto, using(crate::proofs::PacketOrder::empty_queues))]
 pub fn empty_queue_takes_what_fits<H>()
     ensures taken { (q : PacketsState H) (size : ℕ) → contents q ≡ []
         → 0 < q.slot_count → size ≤ length q.storage → placement q size ≡ Some 0 }
@@ -86,7 +86,7 @@ pub fn packets_leave_in_order<H>()
 /// States that showing a packet changes nothing: after `peek` the same packet is taken off, and a
 /// closure that changes neither the header nor the bytes of the first packet leaves the contents as
 /// they were, without the packet if it returned `Ok`.
-#[tactic(auto, using(crate::proofs::PacketRuns::first_packets))]
+#[tactic(auto, using(crate::proofs::PacketOrder::first_packets))]
 pub fn showing_changes_nothing<H>()
     ensures peeked { (q : PacketsState H) → IsWellPlaced q
         → contents (without_first_and_gap (without_gap q)) ≡ drop 1 (contents q) }
@@ -102,7 +102,7 @@ pub fn showing_changes_nothing<H>()
 /// the queue, are exactly the packets that were accepted, in order. Each left, or stays, with the
 /// header and the bytes last written to it: by the call that put it in, through `last_mut`, or by a
 /// closure that refused it. What `reset` drops counts as never accepted.
-#[tactic(auto, using(crate::proofs::PacketRuns::in_turn))]
+#[tactic(auto, using(crate::proofs::PacketOrder::in_turn))]
 pub fn accepted_packets_leave_in_turn<H>()
     ensures { (slot_count : ℕ) (storage : List ℕ) (calls : List (QueueCall H)) (r : PacketsState H)
         → MakesAll calls (no_packets slot_count storage) r

@@ -1,26 +1,24 @@
 -- `dequeue` takes the first packet off by `take`, and hands on its header and what `last_dequeued_mut` lends.
-use Rattle.net_packets.proofs.QueueWalks.{◌≡◌, refl, sym, subst, ap, ◌∙◌, ◌≢◌, inl, inr, List, [], ◌∷◌, ◌++◌, ℕ}
-use Rattle.net_packets.proofs.QueueWalks.{◌<◌, ◌^◌, length, T, lit<, Ura, Fn, named, w64, inst_fn, Val, vint}
-use Rattle.net_packets.proofs.QueueWalks.{vptr, vstruct, of_list, has_ty, WT, SProp, ent, sep, emp, id⊢, GName}
-use Rattle.net_packets.proofs.QueueWalks.{Share, Fml, flft, fres, Env, WpFn, Wp, after_seq, at_return, Model}
-use Rattle.net_packets.proofs.QueueWalks.{Logic, sem, ◌⊑◌, ⊑_trans, meet_⊑_right, Lfts, Shares, AllOutlive}
-use Rattle.net_packets.proofs.QueueWalks.{fact, fact_i, Running, MachineTables, tables, mean, any_q, After}
-use Rattle.net_packets.proofs.QueueWalks.{rewrite, frame, ‵, raw, ◌⊛◌, some, later, at_ret, ◌$◌, ◌∵◌, !, qed}
-use Rattle.net_packets.proofs.QueueWalks.{by, move, keep, drop, split, split3, join, fsplit, fsplit3, fjoin}
-use Rattle.net_packets.proofs.QueueWalks.{feq_i, fpack, pick, suffices, use0, use1, use2, use3, await, done}
-use Rattle.net_packets.proofs.QueueWalks.{stop, fld, addr, lit, of_opd, no_more, and_then, first, switches_on}
-use Rattle.net_packets.proofs.QueueWalks.{exec, returns, returns_within, enter, lands_as, alloc_all, pass_all}
-use Rattle.net_packets.proofs.QueueWalks.{free_all, look_at, get, get_tag, through, sets, env, agg, whole, live}
-use Rattle.net_packets.proofs.QueueWalks.{vrt, no, RattleType, Valss, owns, Is, shows, plain, mut_ref_to, u8}
-use Rattle.net_packets.proofs.QueueWalks.{usize, MutBor, MutRef, mut_vals, mut_Tells, uint_Makes, layout}
-use Rattle.net_packets.proofs.QueueWalks.{param_laws, Array, MutSlice, slice_val, within, Tuple, follows}
-use Rattle.net_packets.proofs.QueueWalks.{follows_by, nothing, owned, heard, peeks, only, Clauses, Ended, lasts}
-use Rattle.net_packets.proofs.QueueWalks.{on_entry, Meets, triple_of, Contract, framed, calls_at, Stays}
-use Rattle.net_packets.proofs.QueueWalks.{stay_dropped, walk_of, ends_at, Goes-spent_ref, after, front}
+use Rattle.net_packets.proofs.QueueWalks.{◌≡◌, refl, sym, subst, ap, ◌∙◌, ◌≢◌, inl, inr, List, [], ◌∷◌, ◌++◌, ℕ, ◌<◌}
+use Rattle.net_packets.proofs.QueueWalks.{◌^◌, length, T, lit<, Ura, Fn, named, w64, inst_fn, Val, vint, vptr, vstruct}
+use Rattle.net_packets.proofs.QueueWalks.{of_list, has_ty, WT, SProp, ent, sep, emp, id⊢, GName, Share, Fml, flft, fres}
+use Rattle.net_packets.proofs.QueueWalks.{Env, WpFn, Wp, after_seq, at_return, Model, Logic, sem, ◌⊑◌, ⊑_trans}
+use Rattle.net_packets.proofs.QueueWalks.{meet_⊑_right, Lfts, Shares, AllOutlive, fact, fact_i, Running, MachineTables}
+use Rattle.net_packets.proofs.QueueWalks.{tables, mean, any_q, After, rewrite, frame, ‵, raw, ◌⊛◌, some, later, at_ret}
+use Rattle.net_packets.proofs.QueueWalks.{◌$◌, ◌∵◌, !, qed, by, move, keep, drop, split, split3, join, fsplit, fsplit3}
+use Rattle.net_packets.proofs.QueueWalks.{fjoin, feq_i, fpack, pick, suffices, use0, use1, use2, use3, await, done}
+use Rattle.net_packets.proofs.QueueWalks.{stop, fld, addr, lit, of_opd, no_more, and_then, first, switches_on, exec}
+use Rattle.net_packets.proofs.QueueWalks.{returns, returns_within, enter, lands_as, alloc_all, pass_all, free_all}
+use Rattle.net_packets.proofs.QueueWalks.{look_at, get, get_tag, through, sets, env, agg, whole, live, vrt, no}
+use Rattle.net_packets.proofs.QueueWalks.{RattleType, Valss, owns, Is, shows, plain, mut_ref_to, u8, usize, MutBor}
+use Rattle.net_packets.proofs.QueueWalks.{MutRef, mut_vals, mut_Tells, uint_Makes, layout, param_laws, Array, MutSlice}
+use Rattle.net_packets.proofs.QueueWalks.{slice_val, within, Tuple, follows, follows_by, nothing, owned, heard, peeks}
+use Rattle.net_packets.proofs.QueueWalks.{only, Clauses, Ended, lasts, on_entry, Meets, triple_of, Contract, framed}
+use Rattle.net_packets.proofs.QueueWalks.{calls_at, Stays, stay_dropped, walk_of, ends_at, Goes-spent_ref, after, front}
 use Rattle.net_packets.proofs.QueueWalks.{arm_body, ok_of, err_of, Ok, Err, IsErr, OnOk, OnErr, ◌↔◌, lent, Back}
-use Rattle.net_packets.proofs.QueueWalks.{lends_inside, comes_inside, no_fields, alone, ok_or_err, ok_had}
-use Rattle.net_packets.proofs.QueueWalks.{err_had, pair_had, pair_of, pair_val, pair_typed, and_fact, says_all}
-use Rattle.net_packets.proofs.QueueWalks.{Given, args, Header, Self, Q, Live, others, Asked, asked, lives}
+use Rattle.net_packets.proofs.QueueWalks.{lends_inside, comes_inside, no_fields, alone, ok_or_err, ok_had, err_had}
+use Rattle.net_packets.proofs.QueueWalks.{pair_had, pair_of, pair_val, pair_typed, and_fact, says_all, Given, args}
+use Rattle.net_packets.proofs.QueueWalks.{Header, Self, Q, Live, others, Asked, asked, lives}
 use mathlib.Core.Path.{ap₂}
 use lib.ListN.{take as take-list, drop as drop-list}
 use mir.Syntax.{erased, mut, w8, ty_int, ty_ref}
@@ -31,9 +29,8 @@ use denote.Slice.{slice_ty}
 use Rattle.std.proofs.raw_atomic.Walks.{proved}
 use Rattle.std.proofs.ResultValues.{and_tt}
 use Rattle.std.specs.Prelude.{IfOk}
-use Rattle.net_packets.specs.Packets.{without_gap, without_first_and_gap, last_dequeued_bytes_index}
-use Rattle.net_packets.specs.Packets.{last_dequeued_bytes, AreLastDequeued, IsFirstSized, IsFirst, first_size}
-use Rattle.net_packets.specs.Packets.{without_first_gap, with_bytes}
+use Rattle.net_packets.specs.{without_gap, without_first_and_gap, last_dequeued_bytes_index, last_dequeued_bytes}
+use Rattle.net_packets.specs.{AreLastDequeued, IsFirstSized, IsFirst, first_size, without_first_gap, with_bytes}
 use Rattle.net_packets.specs.PacketHistory.{contents, Makes, Take as Taken, WriteLastDequeued}
 use Rattle.net_packets.proofs.packet_buffer.PacketsOver.take.Symbol.{name as #take}
 use Rattle.net_packets.proofs.packet_buffer.PacketsOver.last_dequeued_mut.Symbol.{name as #last_dequeued}
@@ -239,23 +236,28 @@ module _ (G : Given) {M : Type 1} {𝓤 : Ura M} (𝓛 : Logic 𝓤) (𝓜 : Mod
               peeks ! usize (Is usize) (shows 𝓛 usize) s vs (λ is_s. drop ! $
               -- [the header; self; the token; the other tokens]
               let sized = pair_typed (layout G.H) (ty_int w64) hv (vint w64 s) good (tt, record { fits = is_s.1 }) in
+              -- the answer is in its place: the variant `Ok`, with the pair of the header and the size
               lands_as ! (is_v ∙ ap (λ (l : List Val). live 0 (of_list (l ++ []))) is_pair
               ∙ (λ i. live 0 (of_list (vstruct (of_list (one.1 i ++ (is_s.0 i ++ []))) ∷ [])))) refl
               (and_tt _ sized.0, (record { fits = lit< tt }, (sized.1, tt))) $
               first ! $ switches_on ! (get_tag ! (vrt ! refl (fld ! refl (stop !))) (whole !)) $
+              -- its arm runs: the header and the size are taken out of the pair
               exec ! 𝓣.C 𝓣.Λ En (arm_body 0 (front (after 2 (function G).body))) Then $
               sets ! (of_opd ! (get_in ! (vrt ! refl (fld ! refl (fld ! refl (stop !)))) (sub ! 0 refl (in_variant ! 0 0 refl refl (whole !))))) refl good $
               sets_last ! (of_opd ! (get_in ! (vrt ! refl (fld ! refl (fld ! refl (stop !)))) (sub ! 1 refl (in_variant ! 0 0 refl refl (whole !))))) refl
               (tt, record { fits = is_s.1 }) $
+              -- the rest of the body runs: self is lent on, and the size is an argument beside it
               exec ! 𝓣.C 𝓣.Λ En (after 3 (function G).body) (at_ret En Post) $
               sets ! (of_opd ! (get ! refl)) refl good $ sets ! (addr ! (through ! refl (stop !))) refl (tt, tt) $
               nothing ! $ owned ! usize (Is usize) (uint_Makes 𝓛 w64) s _ (refl, is_s.1) $ fjoin ! $ move ! (2 ∷ 0 ∷ []) $
               fjoin ! $ move ! (2 ∷ 3 ∷ []) $ join ! $ join ! $
+              -- what `last_dequeued_mut` requires holds, and it is called
               use0 𝓛 (raw (fact 𝓤 (AreLastDequeued y s))) (fact_i 𝓤 _ (emp 𝓤) lies.0) $
               use1 𝓛 (raw (Asked G 𝓤 κs (fact 𝓤 (AreLastDequeued y s)))) (asked G 𝓛 κs live-in (fact 𝓤 (AreLastDequeued y s))) $
               move ! (1 ∷ 0 ∷ []) $ join ! $ use1 𝓛 (raw (LastDequeued.pre (to_last_dequeued s))) (id⊢ 𝓤 _) $
               calls_at ! (framed 𝓤 H 𝓜 𝓣) LastDequeued last_dequeued-met (to_last_dequeued s)
               (and_then ! (get ! refl) (and_then ! (get ! refl) (no_more !))) (λ u.
+              -- it returned the part m, which self follows, and what its clauses say
               use1 𝓛 (later (some (λ (m : MutBor (List ℕ)). ((‵ (flft κs.0 qs.0) ⊛ others G 𝓤 κs qs) ⊛ ‵ (Part.own_val m (u ∷ []))) ⊛
               some (λ (ws : Unit {0} × (Unit {0} × Unit {0})).
               ‵ (lasts (last_dequeued.ended G.H G.N G.B G.slots G.slots_by G.bytes G.bytes_by G.drops_by) (to_last_dequeued s).0.0 (to_last_dequeued s).0.3 ws)
@@ -269,6 +271,7 @@ module _ (G : Given) {M : Type 1} {𝓤 : Ura M} (𝓛 : Logic 𝓤) (𝓜 : Mod
               pick ! (λ _. split3 ! $ drop ! $ move ! (1 ∷ []) $ split3 ! $ heard ! _ (λ unseen. heard ! _ (λ value. split3 ! $ heard ! _ (λ size. heard ! _ (λ _. heard ! _ (λ _.
               -- [what self follows; the tokens; the part; the header]
               rewrite ! 0 (λ (p : ℕ). ‵ (follow p m)) lies.1 refl $ move ! (2 ∷ []) $ peeks ! Part (Is Part) (shows 𝓛 Part) m (u ∷ []) (λ ok.
+              -- the part and the header are made a pair, and the pair an `Ok`, which is returned
               let w : Val = slice_val m.ref_ptr (length m.now) in
               let fits : length m.now < 2 ^ 64 = ok.0.1.0 in
               let both = pair_typed (layout G.H) (slice_ty (ty_ref erased mut (ty_int w8))) hv w good (tt, (tt, (record { fits = fits }, tt))) in

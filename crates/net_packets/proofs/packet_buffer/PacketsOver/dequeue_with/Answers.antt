@@ -3,16 +3,15 @@ use Rattle.std.proofs.lemmas.Bool.{false≢true}
 use Rattle.std.specs.declared.option.Option.TheVariants.{Some}
 use Rattle.net_ring.specs.RingHead.{IsSound}
 use Rattle.net_ring.proofs.Rotations.{length-overwrite}
-use Rattle.net_packets.specs.Packets.{IsFirst, after_hand_out, without_gap}
-use Rattle.net_packets.specs.PacketsHead.{with_slot_taken}
+use Rattle.net_packets.specs.{IsFirst, after_hand_out, without_gap, with_slot_taken, slot}
 use Rattle.net_packets.specs.PacketHistory.{contents}
-use Rattle.net_packets.specs.PacketsHead.{slot}
 use Rattle.net_packets.specs.declared.head.PacketsHead.{PacketsHead}
 use Rattle.net_packets.specs.declared.packet_metadata.PacketMetadata.{PacketMetadata}
-use Rattle.net_packets.proofs.HeadParts.{IsQueue, IsFirstIn, queue_at, some_in, slot_at, headed_first, first_at, first_fits, first_in}
-use Rattle.net_packets.proofs.HeadParts.{first_sized, first_shown, handed_gone, handed_back, stored, slots_of}
+use Rattle.net_packets.proofs.HeadParts.{IsQueue, IsFirstIn, queue_at, some_in, slot_at, headed_first, first_at}
+use Rattle.net_packets.proofs.HeadParts.{first_fits, first_in, first_sized, first_shown, handed_gone, handed_back}
+use Rattle.net_packets.proofs.HeadParts.{stored, slots_of}
 use Rattle.net_packets.proofs.PacketOrder as order
-use Rattle.net_packets.proofs.PacketRuns.{handed_contents, dequeue_with_call, none_of, still_there}
+use Rattle.net_packets.proofs.PacketOrder.{handed_contents, dequeue_with_call, none_of, still_there}
 use Rattle.net_packets.proofs.PacketSteps.{close_gap, close_first}
 use Rattle.net_packets.proofs.packet_buffer.PacketsOver.dequeue_with.Given as given
 use Rattle.net_packets.proofs.packet_buffer.PacketsOver.dequeue_with.Goals as goal

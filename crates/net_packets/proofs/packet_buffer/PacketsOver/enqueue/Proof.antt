@@ -1,25 +1,23 @@
 -- `enqueue` places the packet by `place`, and hands on what `last_part_mut` lends.
-use Rattle.net_packets.proofs.QueueWalks.{◌≡◌, refl, sym, subst, ap, ◌∙◌, ◌≢◌, inl, inr, List, [], ◌∷◌, ◌++◌, ℕ}
-use Rattle.net_packets.proofs.QueueWalks.{◌<◌, ◌^◌, length, T, lit<, Ura, Fn, named, w64, inst_fn, Val, vint}
-use Rattle.net_packets.proofs.QueueWalks.{vptr, of_list, has_ty, WT, SProp, ent, sep, emp, id⊢, GName, Share}
-use Rattle.net_packets.proofs.QueueWalks.{Fml, flft, fres, Env, WpFn, Wp, after_seq, at_return, Model, Logic}
-use Rattle.net_packets.proofs.QueueWalks.{sem, ◌⊑◌, ⊑_trans, meet_⊑_right, Lfts, Shares, AllOutlive, fact}
-use Rattle.net_packets.proofs.QueueWalks.{fact_i, Running, MachineTables, tables, mean, any_q, After, rewrite}
-use Rattle.net_packets.proofs.QueueWalks.{frame, ‵, raw, ◌⊛◌, some, later, at_ret, ◌$◌, ◌∵◌, !, qed, by, move}
-use Rattle.net_packets.proofs.QueueWalks.{keep, drop, split, split3, join, fsplit, fsplit3, fjoin, feq_i, fpack}
-use Rattle.net_packets.proofs.QueueWalks.{pick, suffices, use0, use1, use2, use3, await, done, stop, fld, addr}
+use Rattle.net_packets.proofs.QueueWalks.{◌≡◌, refl, sym, subst, ap, ◌∙◌, ◌≢◌, inl, inr, List, [], ◌∷◌, ◌++◌, ℕ, ◌<◌}
+use Rattle.net_packets.proofs.QueueWalks.{◌^◌, length, T, lit<, Ura, Fn, named, w64, inst_fn, Val, vint, vptr, of_list}
+use Rattle.net_packets.proofs.QueueWalks.{has_ty, WT, SProp, ent, sep, emp, id⊢, GName, Share, Fml, flft, fres, Env}
+use Rattle.net_packets.proofs.QueueWalks.{WpFn, Wp, after_seq, at_return, Model, Logic, sem, ◌⊑◌, ⊑_trans, meet_⊑_right}
+use Rattle.net_packets.proofs.QueueWalks.{Lfts, Shares, AllOutlive, fact, fact_i, Running, MachineTables, tables, mean}
+use Rattle.net_packets.proofs.QueueWalks.{any_q, After, rewrite, frame, ‵, raw, ◌⊛◌, some, later, at_ret, ◌$◌, ◌∵◌, !}
+use Rattle.net_packets.proofs.QueueWalks.{qed, by, move, keep, drop, split, split3, join, fsplit, fsplit3, fjoin, feq_i}
+use Rattle.net_packets.proofs.QueueWalks.{fpack, pick, suffices, use0, use1, use2, use3, await, done, stop, fld, addr}
 use Rattle.net_packets.proofs.QueueWalks.{lit, of_opd, no_more, and_then, first, switches_on, exec, returns}
-use Rattle.net_packets.proofs.QueueWalks.{returns_within, enter, lands_as, alloc_all, pass_all, free_all}
-use Rattle.net_packets.proofs.QueueWalks.{look_at, get, get_tag, through, sets, env, agg, whole, live, vrt, no}
-use Rattle.net_packets.proofs.QueueWalks.{RattleType, Valss, owns, Is, shows, plain, mut_ref_to, u8, usize}
-use Rattle.net_packets.proofs.QueueWalks.{MutBor, MutRef, mut_vals, mut_Tells, uint_Makes, layout, param_laws}
-use Rattle.net_packets.proofs.QueueWalks.{Array, MutSlice, slice_val, within, follows, follows_by, nothing}
-use Rattle.net_packets.proofs.QueueWalks.{owned, heard, peeks, only, Clauses, Ended, lasts, on_entry, Meets}
-use Rattle.net_packets.proofs.QueueWalks.{triple_of, Contract, framed, calls_at, Stays, stay_dropped, walk_of}
-use Rattle.net_packets.proofs.QueueWalks.{ends_at, Goes-spent_ref, after, front, arm_body, ok_of, err_of, Ok}
-use Rattle.net_packets.proofs.QueueWalks.{Err, IsErr, OnOk, OnErr, ◌↔◌, lent, Back, lends_inside, comes_inside}
-use Rattle.net_packets.proofs.QueueWalks.{no_fields, alone, ok_or_err, ok_had, err_had, and_fact, says_all}
-use Rattle.net_packets.proofs.QueueWalks.{Given, args, Header, Self, Q, Live, others, Asked, asked, lives}
+use Rattle.net_packets.proofs.QueueWalks.{returns_within, enter, lands_as, alloc_all, pass_all, free_all, look_at, get}
+use Rattle.net_packets.proofs.QueueWalks.{get_tag, through, sets, env, agg, whole, live, vrt, no, RattleType, Valss}
+use Rattle.net_packets.proofs.QueueWalks.{owns, Is, shows, plain, mut_ref_to, u8, usize, MutBor, MutRef, mut_vals}
+use Rattle.net_packets.proofs.QueueWalks.{mut_Tells, uint_Makes, layout, param_laws, Array, MutSlice, slice_val, within}
+use Rattle.net_packets.proofs.QueueWalks.{follows, follows_by, nothing, owned, heard, peeks, only, Clauses, Ended}
+use Rattle.net_packets.proofs.QueueWalks.{lasts, on_entry, Meets, triple_of, Contract, framed, calls_at, Stays}
+use Rattle.net_packets.proofs.QueueWalks.{stay_dropped, walk_of, ends_at, Goes-spent_ref, after, front, arm_body, ok_of}
+use Rattle.net_packets.proofs.QueueWalks.{err_of, Ok, Err, IsErr, OnOk, OnErr, ◌↔◌, lent, Back, lends_inside}
+use Rattle.net_packets.proofs.QueueWalks.{comes_inside, no_fields, alone, ok_or_err, ok_had, err_had, and_fact}
+use Rattle.net_packets.proofs.QueueWalks.{says_all, Given, args, Header, Self, Q, Live, others, Asked, asked, lives}
 use types.Run.{skips}
 use denote.Exit.{yes}
 use denote.Laws.{Are, Ises}
@@ -30,7 +28,7 @@ use Rattle.std.proofs.raw_atomic.Walks.{proved_at}
 use Rattle.std.specs.declared.option.Option.TheVariants.{None}
 use Rattle.net_packets.specs.{placement, with_packet_if, with_packet_if_room, only_last as last-of, first_size}
 use Rattle.net_packets.specs.{last_bytes, with_last_bytes, contents, Makes, Place as Placed}
-use Rattle.net_packets.proofs.PacketRuns.{enqueue_call}
+use Rattle.net_packets.proofs.PacketOrder.{enqueue_call}
 use Rattle.net_packets.proofs.packet_buffer.PacketsOver.place.Symbol.{name as #place}
 use Rattle.net_packets.proofs.packet_buffer.PacketsOver.last_part_mut.Symbol.{name as #last}
 use Rattle.net_packets.specs.contracts.packet_buffer.PacketsOver.enqueue.Key.{name as #self}

@@ -1,5 +1,5 @@
 use Rattle.net_packets.proofs.HeadParts.{queue_at, is_empty}
-use Rattle.net_packets.proofs.PacketRuns.{is_empty_none}
+use Rattle.net_packets.proofs.PacketOrder.{is_empty_none}
 use Rattle.net_packets.proofs.packet_buffer.PacketsOver.is_empty.Goals as goal
 
 pub returns : goal.returns

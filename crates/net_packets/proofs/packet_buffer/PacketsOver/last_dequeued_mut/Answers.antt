@@ -1,7 +1,7 @@
 use Rattle.std.proofs.Common.{ℕ, refl, ap, ◌∙◌, length, take, drop, arith}
 use Rattle.net_ring.proofs.Rotations.{length-overwrite}
 use Rattle.net_packets.specs.{last_dequeued_bytes_index, with_bytes}
-use Rattle.net_packets.proofs.PacketRuns.{last_dequeued_unseen, last_dequeued_call}
+use Rattle.net_packets.proofs.PacketOrder.{last_dequeued_unseen, last_dequeued_call}
 use Rattle.net_packets.proofs.HeadParts.{queue_at, well, stored, dequeued_at, lent_is, lent_size, written}
 use Rattle.net_packets.proofs.packet_buffer.PacketsOver.last_dequeued_mut.Goals as goal
 

@@ -1,7 +1,7 @@
 use Rattle.std.proofs.Common.{◌∙◌, refl}
 use Rattle.net_ring.proofs.Rotations.{length-overwrite}
 use Rattle.net_packets.specs.{last_index}
-use Rattle.net_packets.proofs.PacketRuns.{last_shown}
+use Rattle.net_packets.proofs.PacketOrder.{last_shown}
 use Rattle.net_packets.proofs.packet_buffer.PacketsOver.last_mut.Goals as goal
 
 pub returns : goal.returns

@@ -3,7 +3,7 @@ use Rattle.net_ring.specs.Ring.{contiguous_queued}
 use Rattle.net_ring.specs.RingHead.{ring_at}
 use Rattle.net_ring.proofs.RingFacts.{two_parts}
 use Rattle.net_packets.proofs.PacketSteps.{packets_in_parts}
-use Rattle.net_packets.proofs.PacketRuns.{contents_count}
+use Rattle.net_packets.proofs.PacketOrder.{contents_count}
 use Rattle.net_packets.proofs.packet_buffer.PacketsOver.len.Goals as goal
 
 pub returns-clause-packets : goal.returns-clause-packets

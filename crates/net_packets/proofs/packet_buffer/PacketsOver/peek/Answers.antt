@@ -1,6 +1,6 @@
 use Rattle.std.proofs.Common.{◌≡◌, ◌↔◌, IsErr, length, refl, rules}
 use Rattle.net_packets.proofs.PacketOrder as order
-use Rattle.net_packets.proofs.PacketRuns.{none_of, if_both}
+use Rattle.net_packets.proofs.PacketOrder.{none_of, if_both}
 use Rattle.net_packets.proofs.packet_buffer.PacketsOver.peek.Goals as goal
 
 pub returns : goal.returns

@@ -1,7 +1,7 @@
 use Rattle.std.proofs.Common.{◌≡◌, ◌∷◌, ◌++◌, ◌∙◌, ℕ, List, length, min, take, drop, sym, ap, subst}
 use Rattle.net_packets.specs.{without_first_and_gap, last_dequeued_bytes_index, last_dequeued_bytes, with_bytes}
 use Rattle.net_packets.specs.{contents, head_bytes, Makes, Take}
-use Rattle.net_packets.proofs.PacketRuns.{last_dequeued_stay, copied_whole}
+use Rattle.net_packets.proofs.PacketOrder.{last_dequeued_stay, copied_whole}
 use Rattle.net_packets.proofs.packet_buffer.PacketsOver.pop_slice.Given as given
 use Rattle.net_packets.proofs.packet_buffer.PacketsOver.pop_slice.Goals as goal
 

@@ -1,7 +1,7 @@
 use Rattle.std.proofs.Common.{◌≡◌, ap, ◌∙◌, rules}
 use Rattle.net_packets.specs.{first_gap, without_first_and_gap, IsFirstSized}
 use Rattle.net_packets.proofs.PacketSteps.{close_gap}
-use Rattle.net_packets.proofs.PacketRuns.{none_of, taken_as, left_as, take_call}
+use Rattle.net_packets.proofs.PacketOrder.{none_of, taken_as, left_as, take_call}
 use Rattle.net_packets.proofs.packet_buffer.PacketsOver.take.Goals as goal
 
 pub take_first-requires : goal.take_first-requires

@@ -2,7 +2,8 @@ use Rattle.std.proofs.Common.{ℕ, length, refl, sym, ap, ap₂, ◌∙◌, arit
 use Rattle.std.proofs.lemmas.Bool.{false≢true}
 use Rattle.std.proofs.lemmas.List.{length-set}
 use Rattle.net_packets.specs.{without_first, with_slot_taken}
-use Rattle.net_packets.proofs.HeadParts.{IsQueue, queue_at, none_in, some_in, has_header, first_at, sized, first_in, taken}
+use Rattle.net_packets.proofs.HeadParts.{IsQueue, queue_at, none_in, some_in, has_header, first_at, sized, first_in}
+use Rattle.net_packets.proofs.HeadParts.{taken}
 use Rattle.net_packets.proofs.packet_buffer.PacketsOver.take_first.Given as given
 use Rattle.net_packets.proofs.packet_buffer.PacketsOver.take_first.Goals as goal
 
