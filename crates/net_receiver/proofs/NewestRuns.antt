@@ -19,7 +19,7 @@ use Rattle.std.proofs.lemmas.List.{take-append-le, append-nil}
 use Rattle.std.proofs.lemmas.List.Folds.{list_any-append}
 use Rattle.std.proofs.lemmas.List.Sums.{sum_by-append, count_by-le-length}
 use Rattle.net_assembler.specs.Positions.{AreMaximalRuns}
-use Rattle.net_receiver.specs.{with_run, runs_of, starts, AreNewestRuns, NewestRunsAreListed, IsListedBy, IsNamed}
+use Rattle.net_receiver.specs.{with_run, runs_of, starts, AreNewestRuns, NewestRunsAreListed, IsListedBy, HasOneOf}
 use Rattle.net_receiver.specs.{with_starts}
 use Rattle.std.specs.Cmp.{both_ways as same_tests}
 use Rattle.net_receiver.specs.NewestRuns.{Calls, recent_after, StayTogether, AllStayTogether, IsHeldSince}
@@ -226,23 +226,23 @@ module _ (s : Positions) where
     -- what is true of the list and of the positions that it was made from
     record Ordered (qs : List ℕ) (rs : Runs) : Type 0 where
       short : length rs ≤ length qs
-      named : (i : ℕ) (r : ℕ × ℕ) → slice_get rs i ≡ Some r → IsNamed qs (length qs) r
+      named : (i : ℕ) (r : ℕ × ℕ) → slice_get rs i ≡ Some r → HasOneOf qs (length qs) r
       covers : (b q : ℕ) → slice_get qs b ≡ Some q → contains s q ≡ true → Covers rs q
       newest : (b q : ℕ) → slice_get qs b ≡ Some q → contains s q ≡ true → b < k → IsListedBy rs b q
       order : (i j b q : ℕ) (x y : ℕ × ℕ) → i < j → slice_get rs i ≡ Some x → slice_get rs j ≡ Some y →
-          slice_get qs b ≡ Some q → lies_in q y ≡ true → IsNamed qs b x
+          slice_get qs b ≡ Some q → lies_in q y ≡ true → HasOneOf qs b x
 
     module _ (rs : Runs) (qs : List ℕ) (p : ℕ) (g : Good rs) (o : Ordered qs rs) where
       abbrev all_qs : List ℕ
       all_qs = qs ++ p ∷ []
 
       -- a run that is named stays so
-      still : (n m : ℕ) (r : ℕ × ℕ) → n ≤ m → IsNamed qs n r → IsNamed all_qs m r
+      still : (n m : ℕ) (r : ℕ × ℕ) → n ≤ m → HasOneOf qs n r → HasOneOf all_qs m r
       still n m r l is = (is.0, is.1, omega (arith, is.2), at-left qs (p ∷ []) is.0 is.1 is.3, is.4)
 
       -- the run at i, before that of the position at b
       old_order : (i j b q : ℕ) (x y : ℕ × ℕ) → i < j → slice_get rs i ≡ Some x → slice_get rs j ≡ Some y →
-          slice_get all_qs b ≡ Some q → lies_in q y ≡ true → IsNamed all_qs b x
+          slice_get all_qs b ≡ Some q → lies_in q y ≡ true → HasOneOf all_qs b x
       old_order i j b q x y l at at' is in_y =
           ⊎_elim (λ (old : slice_get qs b ≡ Some q). still b b x (le_refl b) (o.order i j b q x y l at at' old in_y))
           (λ (last : (b ≡ length qs) × (q ≡ p)). still (length qs) b x (omega (arith, last.0)) (o.named i x at))
@@ -562,7 +562,7 @@ module _ (every : MaximalRunsOfEverySet) (k : ℕ) (ps : List ℕ) where
   -- before the run of p only runs of positions that were asked for after it
   abbrev AreLater : Positions × ℕ → Calls → ℕ → ℕ → Type 0
   AreLater last calls b p = (i j : ℕ) (q r : ℕ × ℕ) → i < j → slice_get (listed_by last calls) i ≡ Some q →
-      slice_get (listed_by last calls) j ≡ Some r → lies_in p r ≡ true → IsNamed (map (λ c. c.1) (last ∷ calls)) b q
+      slice_get (listed_by last calls) j ≡ Some r → lies_in p r ≡ true → HasOneOf (map (λ c. c.1) (last ∷ calls)) b q
 
   -- one call after the others: the run s of p was listed at j, and the run q has one of the positions before its start
   module _ (last before : Positions × ℕ) (calls : Calls) (together : StayTogether before.0 last.0) (b p j : ℕ) (s : ℕ × ℕ)
@@ -570,7 +570,7 @@ module _ (every : MaximalRunsOfEverySet) (k : ℕ) (ps : List ℕ) where
       (later : AreLater before calls b p) (q : ℕ × ℕ) (max : IsMaximalRun last.0 q)
     where
       named_later : (a e : ℕ) → a < suc j → slice_get (last.1 ∷ recent_after k ps (before ∷ calls)) a ≡ Some e → lies_in e q ≡ true →
-          IsNamed (map (λ c. c.1) (last ∷ before ∷ calls)) (suc b) q
+          HasOneOf (map (λ c. c.1) (last ∷ before ∷ calls)) (suc b) q
       named_later zero e l is e_in = (0, last.1, omega arith, refl, ap (λ n. lies_in n q) (ap (λ o. unwrap_or o e) is) ∙ e_in)
       named_later (suc a) e l is e_in =
           let list = listed_by before calls in

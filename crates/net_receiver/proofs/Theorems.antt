@@ -36,7 +36,7 @@ use Rattle.net_receiver.proofs.Schedules.{after_all_append, replies_append, stre
 use Rattle.net_receiver.proofs.Schedules.{has-filter, filter_rises, verdict_by}
 use Rattle.net_receiver.proofs.Sets.{contains-domain, same_both, same_bytes, contains-keys, piece_cons, first_unique}
 use Rattle.net_receiver.proofs.Sets.{piece_from, piece_some, piece_at, some_or, option_or-none, piece_has, or_swap}
-use Rattle.net_receiver.proofs.Sets.{lacks, lacking, laid_has, left_has}
+use Rattle.net_receiver.proofs.Sets.{lacks, lacking, updated_has, left_has}
 use Rattle.net_receiver.proofs.Places.{get-held_bytes}
 use Rattle.std.specs.Prelude.{is_ok}
 use Rattle.std.proofs.lemmas.List.Sums.{sum_by-take-drop}
@@ -490,11 +490,11 @@ module _ (most : ℕ) (v : ReceiverState) (sound : IsSound most v) (part : Piece
   ranged = with_range (domain v.held) part.start (length part.bytes)
 
   outside : (is_some (piece_byte_at part (lacks v part)) ≡ false) × (fin.contains_key v.held (lacks v part) ≡ false)
-  outside = or_parts _ _ (sym (laid_has v part (lacks v part)) ∙ (lacking v part).here)
+  outside = or_parts _ _ (sym (updated_has v part (lacks v part)) ∙ (lacking v part).here)
 
   left_in : (q : ℕ) → contains (domain (receiver_with_piece v part).held) q
       ≡ (nat_le (lacks v part) q && (is_some (piece_byte_at part q) || fin.contains_key v.held q))
-  left_in q = contains-domain _ q ∙ left_has v part q ∙ ap (λ b. nat_le (lacks v part) q && b) (laid_has v part q)
+  left_in q = contains-domain _ q ∙ left_has v part q ∙ ap (λ b. nat_le (lacks v part) q && b) (updated_has v part q)
 
   ranged_has : (q : ℕ) → contains ranged q ≡ (is_some (piece_byte_at part q) || fin.contains_key v.held q)
   ranged_has q = grind (arith, nat_tests, contains-with_range, contains-domain, piece_has, or_swap)
