@@ -6,6 +6,9 @@ use Rattle.net_assembler.specs.Positions.{bound_of, positions, shift_up}
 use Rattle.net_receiver.specs.{HasSoundHeld, next_at, held_at, top_at, top_of, limit_of, count_between, new_count}
 use Rattle.net_receiver.specs.{IsReadAt}
 use Rattle.net_receiver.proofs.Sets.{piece_at, next_joined, updated, lacks, lacking, updated_has, left_above}
+use Rattle.net_receiver.proofs.Sets.{ends_below, begins_above, ends_within}
+use Rattle.net_assembler.proofs.Runs.{are_maximal_runs}
+use Rattle.net_receiver.proofs.Words.{All, EndBelow}
 use Rattle.net_assembler.proofs.Sets.{contains-shift_up, maximal_runs-shift_up, same_positions}
 use Rattle.net_assembler.proofs.SoundHeads.{few_held}
 use Rattle.net_receiver.proofs.Schedules.{read_less}
@@ -403,3 +406,17 @@ module _ {h : ReceiverHead} (xs : List ℕ) {rs : List (ℕ × ℕ)} (s : HasSou
                   })
                   (stays_at g h.count_read s.read_at (with_enqueued m g1) refl size),
             )
+
+-- the runs that are held, in rising order
+module _ {h : ReceiverHead} {rs : List (ℕ × ℕ)} (s : HasSoundHeld h rs) where
+  pub held_end : (n : ℕ) (runs : List (ℕ × ℕ)) → n ≡ next_at h → runs ≡ maximal_runs (set_of h.held rs) →
+      EndBelow (2 ^ 64) (runs_shifted_up n runs)
+  held_end n runs e is =
+      subst (EndBelow (2 ^ 64)) (sym (held_are s n runs e is)) (ends_below are_maximal_runs (2 ^ 64) (held_at h rs) (held_fits s))
+
+  pub held_begin : All (λ r. (next_at h < r.0) × (r.0 < r.1)) (maximal_runs (held_at h rs))
+  held_begin = begins_above are_maximal_runs (next_at h) (held_at h rs) (held_above s)
+
+pub held_end_within : {h : ReceiverHead} {c : ℕ} {rs : List (ℕ × ℕ)} → HasSoundParts h c rs →
+    All (λ r. r.1 ≤ h.first + h.count_read + c) (maximal_runs (held_at h rs))
+held_end_within {h} {c} {rs} s = ends_within are_maximal_runs (h.first + h.count_read + c) (held_at h rs) (held_within s)

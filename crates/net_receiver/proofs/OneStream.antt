@@ -15,8 +15,8 @@ use Rattle.net_receiver.proofs.Words.{is_held, verdict, state_after, numbers, se
 use Rattle.net_receiver.proofs.Words.{HeldBytes, domain, held_with_piece, first_lacking, held_bytes_at}
 use Rattle.net_receiver.proofs.Words.{receiver_after_read, IsSound, Follows, EndsBy, MatchesLonger, MatchesWhatIsThere}
 use Rattle.net_receiver.proofs.Words.{piece_byte_at, SegmentReply, receiver_with_piece, receiver_up_to}
-use Rattle.net_receiver.proofs.Words.{receiver_replies, IsAccepted, HasByteAt, Brings, ReceiverState, option_or, ⊤}
-use Rattle.net_receiver.proofs.Words.{common_steps, drop-take, drop-drop, take-take, TooManyHolesError, Kept}
+use Rattle.net_receiver.proofs.Words.{receiver_replies, IsAccepted, HasByteAt, Brings, ReceiverState, option_or}
+use Rattle.net_receiver.proofs.Words.{common_steps, drop-drop, TooManyHolesError, Kept}
 use Rattle.net_receiver.proofs.Words.{KeptBytes}
 use Rattle.std.proofs.Common.{ltb-true, IsOk, IfOk, OnErr, lt-ltb}
 use Rattle.std.proofs.lemmas.List.Elements.{All-push}
@@ -326,37 +326,16 @@ held_of_stream f x v p b r is =
     let above = ltb-true (missing w s) p (and_parts _ _ there.0).0 in
     subst (λ g. slice_get x (p - g) ≡ Some b) r.0 (agrees_at v.first s.kept x r.1.agrees p b (omega arith) there.1)
 
--- ---- one command, of which a refusal of memory leaves nothing
+-- ---- first position, capacity and the bound on the held runs
 pub capacity_stays : CapacityStays
 capacity_stays N v c = ap (λ w. w.capacity) (setting_kept N v c)
 
 stays_by : (N : ℕ) (v u : ReceiverState) → setting N u ≡ setting N v → IsSound N u → StaysInSetting N v u
 stays_by N v u e sound = record { first = ap (λ w. w.first) e; capacity = ap (λ w. w.capacity) e; bound = sound.few }
 
--- what a command leaves of what was there, and a refusal of memory too
+-- after a command
 pub stays : (N : ℕ) (v u : ReceiverState) (c : CommandValue) → u ≡ receiver_after_command N v c → IsSound N u → StaysInSetting N v u
 stays N v u c e sound = stays_by N v u (ap (setting N) e ∙ setting_kept N v c) sound
-
-one_run : (N : ℕ) (v : ReceiverState) (c : CommandValue) → Executes N v (receiver_after_command N v c) (c ∷ []) (receiver_reply N v c ∷ []) ⊤
-one_run N v c = record { prefix = record { count = 1; within = omega arith; whole = λ _. refl }; state = refl; replies = refl }
-
-pub executed_receives : (N f : ℕ) (x : List ℕ) {T E : Type 0} (r : Result T E) (v u : ReceiverState) (c : CommandValue) →
-    IfOk r (λ _. u ≡ receiver_after_command N v c) → OnErr r (u ≡ v) → ReceivesFrom f x v → AllMatch f x (c ∷ []) →
-    ReceivesFrom f x u
-unfolding AllMatch
-executed_receives N f x (Ok t) v u c ok err from h = receives_after N f x v u c ok from (All-head (IsTruthful f x) c [] h)
-executed_receives N f x (Err e) v u c ok err from h = subst (ReceivesFrom f x) (sym err) from
-
-pub executed_bytes :
-    (N f : ℕ) (x : List ℕ) {T E : Type 0} (seen : T → ReplyValue) (r : Result T E) (v u : ReceiverState) (c : CommandValue) →
-    IfOk r (λ _. u ≡ receiver_after_command N v c) → IfOk r (λ t. seen t ≡ receiver_reply N v c) → ReceivesFrom f x v →
-    AllMatch f x (c ∷ []) →
-    IfOk r (λ t. bytes_read (seen t ∷ []) ++ u.queue ≡ slice_range x v.read (next_position u - u.first))
-executed_bytes N f x seen (Ok t) v u c ok is from h =
-    (λ i. bytes_read (is i ∷ []) ++ (ok i).queue)
-    ∙ (run_receives_from f x (one_run N v c) from h).1
-    ∙ ap (λ (y : ReceiverState). slice_range x v.read (next_position y - y.first)) (sym ok)
-executed_bytes N f x seen (Err e) v u c ok is from h = tt
 
 pub run_stays : {N : ℕ} {v u : ReceiverState} {cs : List CommandValue} {rs : List ReplyValue} {complete : Type 0} →
     Executes N v u cs rs complete → IsSound N u → StaysInSetting N v u
@@ -378,26 +357,6 @@ reached {N} {v} {u} {cs} (Ok t) s run d follows =
     subst (λ n. EndsBy n cs) (sym end) (seen.recovers refl (subst (λ n. Follows (setting N v) s n cs) (same_next v s d) follows))
 
 -- ---- parts of the queue
-part_of : (x q bytes : List ℕ) (a o : ℕ) → q ≡ take (length q) (drop a x) → bytes ≡ take (length bytes) (drop o q) →
-    bytes ≡ take (length bytes) (drop (a + o) x)
-part_of x q bytes a o e is =
-    let n = length bytes in
-    let m = length q in
-    let size : n ≡ min n (m - o) = ap length is ∙ length-take n (drop o q) ∙ ap (min n) (length-drop o q) in
-    ⊎_elim
-    (λ (l : m < o). (let none : n ≡ 0 = omega arith in is ∙ ap (λ k. take k (drop o q)) none ∙ ap (λ k. take k (drop (a + o) x)) (sym none)))
-    (λ (l : o ≤ m).
-    let all : m ≡ o + (m - o) = omega arith in
-    is
-    ∙ ap (take n) (ap (drop o) (e ∙ ap (λ k. take k (drop a x)) all) ∙ drop-take o (m - o) (drop a x) ∙ ap (take (m - o)) (drop-drop o a x))
-    ∙ take-take n (m - o) (drop (a + o) x) (omega arith))
-    (cases_lt m o)
-
-pub part_bytes : (f : ℕ) (x : List ℕ) (v : ReceiverState) (bytes : List ℕ) (o : ℕ) →
-    bytes ≡ take (length bytes) (drop o v.queue) → ReceivesFrom f x v →
-    bytes ≡ take (length bytes) (drop (v.read + o) x)
-part_bytes f x v bytes o is r = part_of x v.queue bytes v.read o (queue_of f x v r).queue is
-
 pub head_bytes : (f : ℕ) (x : List ℕ) (v : ReceiverState) (n : ℕ) → n ≤ length v.queue → ReceivesFrom f x v → take n v.queue ≡ slice_range x v.read (v.read + n)
 head_bytes f x v n few r = prefix_of x v.queue v.read n (queue_of f x v r).queue few
 
