@@ -1,5 +1,5 @@
 -- The lines of mode stream that the code reads, as the rules see them.
-use Rattle.net_receiver.specs.Commands.{command_value}
+use Rattle.net_receiver.specs.Execution.{command_value}
 use Rattle.net_bench_lib.specs.StreamMode.{StreamCommand, ToReceiver, NextSchedule}
 use Rattle.net_bench_lib.specs.declared.stream.StreamLine.{StreamLine}
 use Rattle.net_bench_lib.specs.declared.stream.StreamLine.TheVariants as lines

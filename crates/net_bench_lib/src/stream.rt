@@ -1,7 +1,7 @@
 //! Mode `stream`: segments of a stream arrive in any order, and its bytes are read in order.
 ghost use Rattle.std.specs.Prelude.{◌≡◌, [], IfOk, OnOk, IfErr, Ok, string_bytes};
 ghost use Rattle.std.specs.Prelude.{option_map, ◌≤◌, length};
-ghost use Rattle.net_receiver.specs.Commands.{command_value};
+ghost use Rattle.net_receiver.specs.Execution.{command_value};
 ghost use Rattle.net_bench_lib.specs.Numeral.{number_of};
 ghost use Rattle.net_bench_lib.specs.Text.{words_of, hex_bytes};
 ghost use Rattle.net_bench_lib.specs.StreamMode.{ToReceiver, NextSchedule, segment_command};

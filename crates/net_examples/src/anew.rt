@@ -1,7 +1,7 @@
 //! A function that is generic over N: it borrows the receiver, whose size isn't known, and begins anew with `reset_at`.
 ghost use Rattle.std.specs.Prelude.{◌≡◌, map, All, IfOk};
 ghost use Rattle.net_receiver.specs.Headline.{replies};
-ghost use Rattle.net_receiver.specs.Commands.{CommandFits, command_values, reply_value};
+ghost use Rattle.net_receiver.specs.Execution.{CommandFits, command_values, reply_value};
 
 use net_receiver::{Command, Receiver, Reply, replay};
 use std::alloc::{AllocError, Allocator};

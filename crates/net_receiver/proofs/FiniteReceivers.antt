@@ -15,7 +15,7 @@ use Rattle.net_receiver.specs.{AllBytesComplete, SameEndConverges}
 use Rattle.net_receiver.specs.{finite_after_command, bytes_of, bytes_taken}
 use Rattle.net_receiver.specs.{SoundEndStays, EndStays, SegmentOfStream, ReadsTheStream}
 use Rattle.net_receiver.specs.{plain_of, plain_commands, AreAccepted, BringsByte, BringsEnd, Resends}
-use Rattle.net_receiver.specs.{EndsWithin, FiniteCompletes, FiniteRecovers, ResentIsRead, CommandFits}
+use Rattle.net_receiver.specs.{EndsWithin, FiniteCompletes, FiniteRecovers, ResentIsRead, FiniteCommandFits}
 use Rattle.net_receiver.specs.Finite.{FiniteSchedules}
 use Rattle.net_receiver.specs.declared.finite_receiver_head.FiniteReceiverHead.{FiniteReceiverHead}
 use Rattle.net_receiver.proofs.Heads.{offset_of, at_offset, top_is}
@@ -39,7 +39,7 @@ use Rattle.net_receiver.proofs.Words.{receiver_reply, receiver_replies, state_fr
 use Rattle.net_receiver.proofs.Words.{MatchesFinite, ReceiverState, ReceiverHead, TooManyHolesError, KeptBytes}
 use Rattle.net_receiver.proofs.Words.{set_of, slice_get_within, take-take, All-head}
 use Rattle.net_receiver.proofs.Words.{All-tail, All-nil, All-cons, All-append}
-use Rattle.net_receiver.proofs.Sets.{piece_at, clip_at, contains-domain, next_joined, lacks, lacking, laid_has}
+use Rattle.net_receiver.proofs.Sets.{piece_at, clip_at, contains-domain, next_joined, lacks, lacking, updated_has}
 use Rattle.net_receiver.proofs.Sets.{left_above, cond_some, slice_get-take, piece_from}
 use Rattle.net_receiver.proofs.Schedules.{any_verdict, some_of, converge, schedule}
 use Rattle.std.specs.Prelude.{IsOk, Ok}
@@ -82,16 +82,16 @@ top_over v m p h there = below_listed (positions (domain v.held)) m p (omega ari
 module _ (v : ReceiverState) (m : ℕ) (top : top_of v ≤ m) where
   top_joined : (part : Piece) → ((q : ℕ) → is_some (piece_byte_at part q) ≡ true → q < m) → top_of (receiver_with_piece v part) ≤ m
   top_joined part below =
-      let laid_below : (p : ℕ) → fin.contains_key _ p ≡ true → p < m =
-      λ p h. ⊎_elim (λ a. below p a) (λ b. top_over v m p top b) (or_cases _ _ (sym (laid_has v part p) ∙ h)) in
+      let updated_below : (p : ℕ) → fin.contains_key _ p ≡ true → p < m =
+      λ p h. ⊎_elim (λ a. below p a) (λ b. top_over v m p top b) (or_cases _ _ (sym (updated_has v part p) ∙ h)) in
       let at = next_joined v part in
       let next : lacks v part ≤ m =
       ⊎_elim
       (λ (l : next_position v < lacks v part).
-      omega (arith, laid_below (lacks v part - 1) ((lacking v part).before (lacks v part - 1) (omega arith) (omega arith))))
+      omega (arith, updated_below (lacks v part - 1) ((lacking v part).before (lacks v part - 1) (omega arith) (omega arith))))
       (λ (l : lacks v part ≤ next_position v). omega arith)
       (cases_lt (next_position v) (lacks v part)) in
-      top_le (receiver_with_piece v part) m (omega arith) (λ p h. laid_below p (left_above v part p h).1)
+      top_le (receiver_with_piece v part) m (omega arith) (λ p h. updated_below p (left_above v part p h).1)
 
   pub top_after : (N pos : ℕ) (xs : List ℕ) → ((q : ℕ) → pos ≤ q → q < pos + length xs → q < m) →
       top_of (receiver_after_command N v (Segment pos xs)) ≤ m
@@ -645,7 +645,7 @@ one_resent N f x s pos xs last sound r fits h from within =
     grind (arith, nat_tests, matched_within, ltb-false, cond-false, Result)
 
 module _ (N f : ℕ) (x : List ℕ) where
-  recover_from : (cs : List FiniteCommand) (s : FiniteState) (reach : ℕ) → IsSoundEnd s → ReceivesFinite f x s → All CommandFits cs →
+  recover_from : (cs : List FiniteCommand) (s : FiniteState) (reach : ℕ) → IsSoundEnd s → ReceivesFinite f x s → All FiniteCommandFits cs →
       All (CommandMatches f x) cs → reach ≤ next_position s.receiver → Resends N s reach cs →
       AreAccepted N s cs × All (EndsWithin (next_position (finite_after_commands N s cs).receiver)) cs
       × (BringsEnd cs (f + length x) → ((finite_after_commands N s cs).end ≡ f + length x)
@@ -654,11 +654,11 @@ module _ (N f : ℕ) (x : List ℕ) where
   recover_from (Arrives pos xs last ∷ cs) s reach sound r fit match low h =
       let c : FiniteCommand = Arrives pos xs last in
       let t = finite_after N s pos xs last in
-      let fits = All-head CommandFits c cs fit in
+      let fits = All-head FiniteCommandFits c cs fit in
       let matches = All-head (CommandMatches f x) c cs match in
       let here = one_resent N f x s pos xs last sound r fits matches (omega (arith, h.0, low)) h.1 in
       let rest = recover_from cs t (max reach (pos + length xs)) (sound_end_stays N s c sound) (one_of_stream N f x s c r matches)
-      (All-tail CommandFits c cs fit) (All-tail (CommandMatches f x) c cs match) (omega (arith, low, next_grows N s c, here.1)) h.2 in
+      (All-tail FiniteCommandFits c cs fit) (All-tail (CommandMatches f x) c cs match) (omega (arith, low, next_grows N s c, here.1)) h.2 in
       let grows = nexts_grow N t cs in (
         (here.0, rest.0),
         All-cons (EndsWithin (next_position (finite_after_commands N t cs).receiver)) c cs (omega (arith, here.1, grows)) rest.1,
@@ -670,7 +670,7 @@ module _ (N f : ℕ) (x : List ℕ) where
   recover_from (Reads n ∷ cs) s reach sound r fit match low h =
       let t = finite_after_read s n in
       let rest = recover_from cs t reach (sound_read s n sound) (one_of_stream N f x s (Reads n) r tt)
-      (All-tail CommandFits (Reads n) cs fit) (All-tail (CommandMatches f x) (Reads n) cs match) (omega (arith, low, read_leaves_next s.receiver n)) h in
+      (All-tail FiniteCommandFits (Reads n) cs fit) (All-tail (CommandMatches f x) (Reads n) cs match) (omega (arith, low, read_leaves_next s.receiver n)) h in
       (rest.0, All-cons (EndsWithin (next_position (finite_after_commands N t cs).receiver)) (Reads n) cs tt rest.1, rest.2)
 
 pub finite_recovers : FiniteRecovers

@@ -5,7 +5,10 @@ use Rattle.net_assembler.specs.Positions.{contains}
 use Rattle.net_assembler.specs.Positions.{bound_of, positions, shift_up}
 use Rattle.net_receiver.specs.{HasSoundHeld, next_at, held_at, top_at, top_of, limit_of, count_between, new_count}
 use Rattle.net_receiver.specs.{IsReadAt}
-use Rattle.net_receiver.proofs.Sets.{piece_at, next_joined, laid, lacks, lacking, laid_has, left_above}
+use Rattle.net_receiver.proofs.Sets.{piece_at, next_joined, updated, lacks, lacking, updated_has, left_above}
+use Rattle.net_receiver.proofs.Sets.{ends_below, begins_above, ends_within}
+use Rattle.net_assembler.proofs.Runs.{are_maximal_runs}
+use Rattle.net_receiver.proofs.Words.{All, EndBelow}
 use Rattle.net_assembler.proofs.Sets.{contains-shift_up, maximal_runs-shift_up, same_positions}
 use Rattle.net_assembler.proofs.SoundHeads.{few_held}
 use Rattle.net_receiver.proofs.Schedules.{read_less}
@@ -34,11 +37,11 @@ use Rattle.std.specs.FinMap as fin
 
 -- ---- What is true of every receiver is kept by a kept part and by a read.
 module _ (most : ℕ) (v : ReceiverState) (sound : IsSound most v) (part : Piece) (ends : end part ≤ v.first + v.read + v.capacity) where
-  laid_below : (p : ℕ) → fin.contains_key (laid v part) p ≡ true → p < v.first + v.read + v.capacity
-  laid_below p h = ⊎_elim (λ a. le_trans (piece_at part p a).1 ends) (λ b. sound.below p b) (or_cases _ _ (sym (laid_has v part p) ∙ h))
+  updated_below : (p : ℕ) → fin.contains_key (updated v part) p ≡ true → p < v.first + v.read + v.capacity
+  updated_below p h = ⊎_elim (λ a. le_trans (piece_at part p a).1 ends) (λ b. sound.below p b) (or_cases _ _ (sym (updated_has v part p) ∙ h))
 
   within_limit : lacks v part ≤ v.first + v.read + v.capacity
-  within_limit = grind (arith, nat_tests, laid_below, lacking)
+  within_limit = grind (arith, nat_tests, updated_below, lacking)
 
   pub sound_joined : runs (domain (receiver_with_piece v part).held) ≤ most → IsSound most (receiver_with_piece v part)
   sound_joined few =
@@ -46,14 +49,14 @@ module _ (most : ℕ) (v : ReceiverState) (sound : IsSound most v) (part : Piece
       record {
         few = few;
         above = λ p h. (let l = (left_above v part p h).0 in omega arith);
-        below = λ p h. laid_below p (left_above v part p h).1;
+        below = λ p h. updated_below p (left_above v part p h).1;
         fits = (let within = within_limit in omega arith);
       }
 
 -- positions stay within 64 bits, if the part does
 module _ (v : ReceiverState) (fits : Fits64Bits v) (part : Piece) (below : end part < 2 ^ 64) where
-  laid_fits : (p : ℕ) → fin.contains_key (laid v part) p ≡ true → p + 1 < 2 ^ 64
-  laid_fits p h = ⊎_elim (λ a. omega (arith, (piece_at part p a).1)) (λ b. fits.held p b) (or_cases _ _ (sym (laid_has v part p) ∙ h))
+  updated_fits : (p : ℕ) → fin.contains_key (updated v part) p ≡ true → p + 1 < 2 ^ 64
+  updated_fits p h = ⊎_elim (λ a. omega (arith, (piece_at part p a).1)) (λ b. fits.held p b) (or_cases _ _ (sym (updated_has v part p) ∙ h))
 
   pub fits_joined : Fits64Bits (receiver_with_piece v part)
   fits_joined =
@@ -61,9 +64,9 @@ module _ (v : ReceiverState) (fits : Fits64Bits v) (part : Piece) (below : end p
       record {
         next = ⊎_elim
             (λ (l : next_position v < lacks v part).
-            omega (arith, laid_fits (lacks v part - 1) ((lacking v part).before (lacks v part - 1) (omega arith) (omega arith))))
+            omega (arith, updated_fits (lacks v part - 1) ((lacking v part).before (lacks v part - 1) (omega arith) (omega arith))))
             (λ (l : lacks v part ≤ next_position v). omega (arith, fits.next)) (cases_lt (next_position v) (lacks v part));
-        held = λ p h. laid_fits p (left_above v part p h).1;
+        held = λ p h. updated_fits p (left_above v part p h).1;
       }
 
 -- a prefix of the queue is read
@@ -403,3 +406,17 @@ module _ {h : ReceiverHead} (xs : List ℕ) {rs : List (ℕ × ℕ)} (s : HasSou
                   })
                   (stays_at g h.count_read s.read_at (with_enqueued m g1) refl size),
             )
+
+-- the runs that are held, in rising order
+module _ {h : ReceiverHead} {rs : List (ℕ × ℕ)} (s : HasSoundHeld h rs) where
+  pub held_end : (n : ℕ) (runs : List (ℕ × ℕ)) → n ≡ next_at h → runs ≡ maximal_runs (set_of h.held rs) →
+      EndBelow (2 ^ 64) (runs_shifted_up n runs)
+  held_end n runs e is =
+      subst (EndBelow (2 ^ 64)) (sym (held_are s n runs e is)) (ends_below are_maximal_runs (2 ^ 64) (held_at h rs) (held_fits s))
+
+  pub held_begin : All (λ r. (next_at h < r.0) × (r.0 < r.1)) (maximal_runs (held_at h rs))
+  held_begin = begins_above are_maximal_runs (next_at h) (held_at h rs) (held_above s)
+
+pub held_end_within : {h : ReceiverHead} {c : ℕ} {rs : List (ℕ × ℕ)} → HasSoundParts h c rs →
+    All (λ r. r.1 ≤ h.first + h.count_read + c) (maximal_runs (held_at h rs))
+held_end_within {h} {c} {rs} s = ends_within are_maximal_runs (h.first + h.count_read + c) (held_at h rs) (held_within s)

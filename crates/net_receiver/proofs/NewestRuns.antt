@@ -9,7 +9,7 @@ use Rattle.net_receiver.proofs.Words.{AllPairs, find, list_any, range_with_len, 
 use Rattle.net_receiver.proofs.Words.{cases_Bool, cases_lt, cond-true, cond-false, ltb-true, lt-ltb, or_left, or_right}
 use Rattle.net_receiver.proofs.Words.{or_cases, false_from_ne_true, lt-leb, length-map, All-nil, All-cons, All-head}
 use Rattle.net_receiver.proofs.Words.{All-tail, All-append, sum_by-cons, Positions, contains, maximal_runs, lies_in}
-use Rattle.net_receiver.proofs.Words.{IsMaximalRun, MaximalRunsOfEverySet, run_at, newest_runs, CommandValue, IsSound}
+use Rattle.net_receiver.proofs.Words.{IsMaximalRun, run_at, newest_runs, CommandValue, IsSound}
 use Rattle.net_receiver.proofs.Words.{next_position, receiver_after_command, receiver_after_commands, HasByteAt}
 use Rattle.net_receiver.proofs.Words.{ReceiverState, length-range_with_len}
 use Rattle.std.proofs.lemmas.Option.{slice_get-map}
@@ -18,8 +18,8 @@ use Rattle.std.proofs.lemmas.Bool.{true_from_ne_false}
 use Rattle.std.proofs.lemmas.List.{take-append-le, append-nil}
 use Rattle.std.proofs.lemmas.List.Folds.{list_any-append}
 use Rattle.std.proofs.lemmas.List.Sums.{sum_by-append, count_by-le-length}
-use Rattle.net_assembler.specs.Positions.{AreMaximalRuns}
-use Rattle.net_receiver.specs.{with_run, runs_of, starts, AreNewestRuns, NewestRunsAreListed, IsListedBy, IsNamed}
+use Rattle.net_assembler.proofs.Runs.{are_maximal_runs}
+use Rattle.net_receiver.specs.{with_run, runs_of, starts, AreNewestRuns, NewestRunsAreListed, IsListedBy, HasOneOf}
 use Rattle.net_receiver.specs.{with_starts}
 use Rattle.std.specs.Cmp.{both_ways as same_tests}
 use Rattle.net_receiver.specs.NewestRuns.{Calls, recent_after, StayTogether, AllStayTogether, IsHeldSince}
@@ -226,23 +226,23 @@ module _ (s : Positions) where
     -- what is true of the list and of the positions that it was made from
     record Ordered (qs : List ℕ) (rs : Runs) : Type 0 where
       short : length rs ≤ length qs
-      named : (i : ℕ) (r : ℕ × ℕ) → slice_get rs i ≡ Some r → IsNamed qs (length qs) r
+      named : (i : ℕ) (r : ℕ × ℕ) → slice_get rs i ≡ Some r → HasOneOf qs (length qs) r
       covers : (b q : ℕ) → slice_get qs b ≡ Some q → contains s q ≡ true → Covers rs q
       newest : (b q : ℕ) → slice_get qs b ≡ Some q → contains s q ≡ true → b < k → IsListedBy rs b q
       order : (i j b q : ℕ) (x y : ℕ × ℕ) → i < j → slice_get rs i ≡ Some x → slice_get rs j ≡ Some y →
-          slice_get qs b ≡ Some q → lies_in q y ≡ true → IsNamed qs b x
+          slice_get qs b ≡ Some q → lies_in q y ≡ true → HasOneOf qs b x
 
     module _ (rs : Runs) (qs : List ℕ) (p : ℕ) (g : Good rs) (o : Ordered qs rs) where
       abbrev all_qs : List ℕ
       all_qs = qs ++ p ∷ []
 
       -- a run that is named stays so
-      still : (n m : ℕ) (r : ℕ × ℕ) → n ≤ m → IsNamed qs n r → IsNamed all_qs m r
+      still : (n m : ℕ) (r : ℕ × ℕ) → n ≤ m → HasOneOf qs n r → HasOneOf all_qs m r
       still n m r l is = (is.0, is.1, omega (arith, is.2), at-left qs (p ∷ []) is.0 is.1 is.3, is.4)
 
       -- the run at i, before that of the position at b
       old_order : (i j b q : ℕ) (x y : ℕ × ℕ) → i < j → slice_get rs i ≡ Some x → slice_get rs j ≡ Some y →
-          slice_get all_qs b ≡ Some q → lies_in q y ≡ true → IsNamed all_qs b x
+          slice_get all_qs b ≡ Some q → lies_in q y ≡ true → HasOneOf all_qs b x
       old_order i j b q x y l at at' is in_y =
           ⊎_elim (λ (old : slice_get qs b ≡ Some q). still b b x (le_refl b) (o.order i j b q x y l at at' old in_y))
           (λ (last : (b ≡ length qs) × (q ≡ p)). still (length qs) b x (omega (arith, last.0)) (o.named i x at))
@@ -361,9 +361,9 @@ module _ (s : Positions) where
               (found.0, found.1, found.2, at-front ps (starts s) found.0 found.1 (omega (arith, found.2, slice_get_within ps b p is)) found.3, found.4);
         }
 
-pub newest_runs_are_listed : MaximalRunsOfEverySet → NewestRunsAreListed
-newest_runs_are_listed every k s ps =
-    newest_are s (every s).maximal (λ p held. by p ((every s).complete p held)) k ps
+pub newest_runs_are_listed : NewestRunsAreListed
+newest_runs_are_listed k s ps =
+    newest_are s (are_maximal_runs s).maximal (λ p held. by p ((are_maximal_runs s).complete p held)) k ps
   where
     by : (p : ℕ) → count_by (lies_in p) (maximal_runs s) ≡ 1 → list_any (lies_in p) (maximal_runs s) ≡ true
     by p e = true_from_ne_false _ (λ no. (let none = (none_found (lies_in p) (maximal_runs s) no).1 in absurd (omega (arith, e, none))))
@@ -506,8 +506,8 @@ module _ (s : Positions) (end : ℕ) where
   missing_few at rs left = grind (arith, nat_tests, count_by-le-length, lacks, length-range_with_len, missing_is)
 
 -- all runs of a set are left
-pub left_of : (s : Positions) (at : ℕ) → AreMaximalRuns s (maximal_runs s) → Left s at (maximal_runs s)
-left_of s at are = record {
+pub left_of : (s : Positions) (at : ℕ) → Left s at (maximal_runs s)
+left_of s at = (let are = are_maximal_runs s in record {
   some = λ k d l. (are.maximal k d l).some;
   rising = are.rising;
   has = λ q _. same_tests (contains s q) (list_any (lies_in q) (maximal_runs s))
@@ -518,7 +518,7 @@ left_of s at are = record {
       let r = found (lies_in q) (IsMaximalRun s) (maximal_runs s) are.maximal yes in
       let both = and_parts _ _ r.2 in
       r.3.inside q (leb-true r.0.0 q both.0) (ltb-true q r.0.1 both.1));
-}
+})
 
 -- ---- Several calls of `newest_runs`: the runs of the positions that were asked for last are listed first.
 -- ---- elements of lists
@@ -552,17 +552,17 @@ module _ (s t : Positions) (together : StayTogether s t) (r m : ℕ × ℕ) (max
   in_run p q p_in q_in p_at = grind (arith, nat_tests, lies, lies_from)
 
 -- ---- several calls
-module _ (every : MaximalRunsOfEverySet) (k : ℕ) (ps : List ℕ) where
+module _ (k : ℕ) (ps : List ℕ) where
   abbrev listed_by : Positions × ℕ → Calls → List (ℕ × ℕ)
   listed_by last calls = newest_runs k last.0 (last.1 ∷ recent_after k ps calls)
 
   lists : (last : Positions × ℕ) (calls : Calls) → AreNewestRuns k last.0 (last.1 ∷ recent_after k ps calls) (listed_by last calls)
-  lists last calls = newest_runs_are_listed every k last.0 (last.1 ∷ recent_after k ps calls)
+  lists last calls = newest_runs_are_listed k last.0 (last.1 ∷ recent_after k ps calls)
 
   -- before the run of p only runs of positions that were asked for after it
   abbrev AreLater : Positions × ℕ → Calls → ℕ → ℕ → Type 0
   AreLater last calls b p = (i j : ℕ) (q r : ℕ × ℕ) → i < j → slice_get (listed_by last calls) i ≡ Some q →
-      slice_get (listed_by last calls) j ≡ Some r → lies_in p r ≡ true → IsNamed (map (λ c. c.1) (last ∷ calls)) b q
+      slice_get (listed_by last calls) j ≡ Some r → lies_in p r ≡ true → HasOneOf (map (λ c. c.1) (last ∷ calls)) b q
 
   -- one call after the others: the run s of p was listed at j, and the run q has one of the positions before its start
   module _ (last before : Positions × ℕ) (calls : Calls) (together : StayTogether before.0 last.0) (b p j : ℕ) (s : ℕ × ℕ)
@@ -570,7 +570,7 @@ module _ (every : MaximalRunsOfEverySet) (k : ℕ) (ps : List ℕ) where
       (later : AreLater before calls b p) (q : ℕ × ℕ) (max : IsMaximalRun last.0 q)
     where
       named_later : (a e : ℕ) → a < suc j → slice_get (last.1 ∷ recent_after k ps (before ∷ calls)) a ≡ Some e → lies_in e q ≡ true →
-          IsNamed (map (λ c. c.1) (last ∷ before ∷ calls)) (suc b) q
+          HasOneOf (map (λ c. c.1) (last ∷ before ∷ calls)) (suc b) q
       named_later zero e l is e_in = (0, last.1, omega arith, refl, ap (λ n. lies_in n q) (ap (λ o. unwrap_or o e) is) ∙ e_in)
       named_later (suc a) e l is e_in =
           let list = listed_by before calls in
@@ -628,8 +628,8 @@ module _ (every : MaximalRunsOfEverySet) (k : ℕ) (ps : List ℕ) where
             named.0 named.1 named.2 named.3 named.4),
       )
 
-pub newest_are_first : MaximalRunsOfEverySet → NewestAreFirst
-newest_are_first every k b ps last call calls together few within is held = newest_first every k ps calls b last call together few within is held
+pub newest_are_first : NewestAreFirst
+newest_are_first k b ps last call calls together few within is held = newest_first k ps calls b last call together few within is held
 
 -- ---- receivers
 bytes_stay : (N : ℕ) (v : ReceiverState) (cs : List CommandValue) (p : ℕ) → HasByteAt v p → HasByteAt (receiver_after_commands N v cs) p

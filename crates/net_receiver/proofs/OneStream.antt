@@ -15,8 +15,8 @@ use Rattle.net_receiver.proofs.Words.{is_held, verdict, state_after, numbers, se
 use Rattle.net_receiver.proofs.Words.{HeldBytes, domain, held_with_piece, first_lacking, held_bytes_at}
 use Rattle.net_receiver.proofs.Words.{receiver_after_read, IsSound, Follows, EndsBy, MatchesLonger, MatchesWhatIsThere}
 use Rattle.net_receiver.proofs.Words.{piece_byte_at, SegmentReply, receiver_with_piece, receiver_up_to}
-use Rattle.net_receiver.proofs.Words.{receiver_replies, IsAccepted, HasByteAt, Brings, ReceiverState, option_or, ⊤}
-use Rattle.net_receiver.proofs.Words.{common_steps, drop-take, drop-drop, take-take, TooManyHolesError, Kept}
+use Rattle.net_receiver.proofs.Words.{receiver_replies, IsAccepted, HasByteAt, Brings, ReceiverState, option_or}
+use Rattle.net_receiver.proofs.Words.{common_steps, drop-drop, TooManyHolesError, Kept}
 use Rattle.net_receiver.proofs.Words.{KeptBytes}
 use Rattle.std.proofs.Common.{ltb-true, IsOk, IfOk, OnErr, lt-ltb}
 use Rattle.std.proofs.lemmas.List.Elements.{All-push}
@@ -26,9 +26,9 @@ use Rattle.net_receiver.specs.{QueueIsOfStream, CapacityStays, ReceivesFrom, Mat
 use Rattle.net_receiver.specs.{FreshReceivesFrom, AgreeingReceives, ReceivesFromLonger, SegmentReceives, window_part}
 use Rattle.net_receiver.specs.{InOrderReaches, IsHeld, HeldChangesNothing, SecondCopy, HasByteStays, AcceptedBrings}
 use Rattle.net_receiver.specs.{HasAllReaches, Completes, ReadLeavesNext, ReadLeavesBytes, ReadsAdd, ReadsGiveTogether}
-use Rattle.net_receiver.proofs.Sets.{clip_at, get-with_bytes_at, next_joined, lacks, lacking, laid_has, piece_from}
+use Rattle.net_receiver.proofs.Sets.{clip_at, get-with_bytes_at, next_joined, lacks, lacking, updated_has, piece_from}
 use Rattle.net_receiver.proofs.Sets.{piece_some, cond_some, slice_get-drop, slice_get-take, first_unique, clip_byte}
-use Rattle.net_receiver.proofs.Sets.{same_both, same_bytes, get_from, laid, left_has, left_above}
+use Rattle.net_receiver.proofs.Sets.{same_both, same_bytes, get_from, updated, left_has, left_above}
 use Rattle.net_receiver.proofs.Schedules.{missing_is, part_cases, window_piece, segment_cases, same_next, queue_length}
 use Rattle.net_receiver.proofs.Schedules.{schedule, setting_kept, settings_kept, queue_agrees, agrees_at, some_of}
 use Rattle.net_receiver.proofs.Schedules.{stream, follows_verdict, any_verdict, read_prefix}
@@ -246,11 +246,11 @@ values_of m (x ∷ xs) p (suc n) h at =
     let first : unwrap_or (fin.get m p) 0 ≡ x = ap (λ o. unwrap_or o 0) (at p 0 x (omega arith) refl) in
     (λ i. first i ∷ values_of m xs (p + 1) n (omega arith) (λ q j b e is. at q (suc j) b (omega arith) is) i)
 
-laid_at : (v : ReceiverState) (part : Piece) (q i b : ℕ) → q ≡ part.start + i → slice_get part.bytes i ≡ Some b → fin.get (held_with_piece v part) q ≡ Some b
-laid_at v part q i b e is = grind (arith, nat_tests, get-with_bytes_at, piece_from)
+updated_at : (v : ReceiverState) (part : Piece) (q i b : ℕ) → q ≡ part.start + i → slice_get part.bytes i ≡ Some b → fin.get (held_with_piece v part) q ≡ Some b
+updated_at v part q i b e is = grind (arith, nat_tests, get-with_bytes_at, piece_from)
 
 reaches : (v : ReceiverState) (part : Piece) → part.start ≡ next_position v → next_position v + length part.bytes ≤ lacks v part
-reaches v part at = grind (arith, nat_tests, lacking, laid_has, or_left, piece_some)
+reaches v part at = grind (arith, nat_tests, lacking, updated_has, or_left, piece_some)
 
 splits : (q w part : List ℕ) → take (length part) w ≡ part → q ++ w ≡ q ++ part ++ drop (length q + length part) (q ++ w)
 splits q w part e =
@@ -279,7 +279,7 @@ in_order N v u pos xs r state told h =
       joins = omega arith;
       appends = splits v.queue (held_bytes_at (held_with_piece v part) n (first_lacking (held_with_piece v part) n - n)) part.bytes
           (values_of (held_with_piece v part) part.bytes n (first_lacking (held_with_piece v part) n - n) (omega arith)
-          (λ q i b e is. laid_at v part q i b (omega arith) is));
+          (λ q i b e is. updated_at v part q i b (omega arith) is));
     }) in
     subst (λ z. JoinsQueue v part.bytes z r) (sym state)
     (subst (JoinsQueue v part.bytes (state_after v (verdict N v (piece pos xs)))) (sym told) all)
@@ -326,37 +326,16 @@ held_of_stream f x v p b r is =
     let above = ltb-true (missing w s) p (and_parts _ _ there.0).0 in
     subst (λ g. slice_get x (p - g) ≡ Some b) r.0 (agrees_at v.first s.kept x r.1.agrees p b (omega arith) there.1)
 
--- ---- one command, of which a refusal of memory leaves nothing
+-- ---- first position, capacity and the bound on the held runs
 pub capacity_stays : CapacityStays
 capacity_stays N v c = ap (λ w. w.capacity) (setting_kept N v c)
 
 stays_by : (N : ℕ) (v u : ReceiverState) → setting N u ≡ setting N v → IsSound N u → StaysInSetting N v u
 stays_by N v u e sound = record { first = ap (λ w. w.first) e; capacity = ap (λ w. w.capacity) e; bound = sound.few }
 
--- what a command leaves of what was there, and a refusal of memory too
+-- after a command
 pub stays : (N : ℕ) (v u : ReceiverState) (c : CommandValue) → u ≡ receiver_after_command N v c → IsSound N u → StaysInSetting N v u
 stays N v u c e sound = stays_by N v u (ap (setting N) e ∙ setting_kept N v c) sound
-
-one_run : (N : ℕ) (v : ReceiverState) (c : CommandValue) → Executes N v (receiver_after_command N v c) (c ∷ []) (receiver_reply N v c ∷ []) ⊤
-one_run N v c = record { prefix = record { count = 1; within = omega arith; whole = λ _. refl }; state = refl; replies = refl }
-
-pub executed_receives : (N f : ℕ) (x : List ℕ) {T E : Type 0} (r : Result T E) (v u : ReceiverState) (c : CommandValue) →
-    IfOk r (λ _. u ≡ receiver_after_command N v c) → OnErr r (u ≡ v) → ReceivesFrom f x v → AllMatch f x (c ∷ []) →
-    ReceivesFrom f x u
-unfolding AllMatch
-executed_receives N f x (Ok t) v u c ok err from h = receives_after N f x v u c ok from (All-head (IsTruthful f x) c [] h)
-executed_receives N f x (Err e) v u c ok err from h = subst (ReceivesFrom f x) (sym err) from
-
-pub executed_bytes :
-    (N f : ℕ) (x : List ℕ) {T E : Type 0} (seen : T → ReplyValue) (r : Result T E) (v u : ReceiverState) (c : CommandValue) →
-    IfOk r (λ _. u ≡ receiver_after_command N v c) → IfOk r (λ t. seen t ≡ receiver_reply N v c) → ReceivesFrom f x v →
-    AllMatch f x (c ∷ []) →
-    IfOk r (λ t. bytes_read (seen t ∷ []) ++ u.queue ≡ slice_range x v.read (next_position u - u.first))
-executed_bytes N f x seen (Ok t) v u c ok is from h =
-    (λ i. bytes_read (is i ∷ []) ++ (ok i).queue)
-    ∙ (run_receives_from f x (one_run N v c) from h).1
-    ∙ ap (λ (y : ReceiverState). slice_range x v.read (next_position y - y.first)) (sym ok)
-executed_bytes N f x seen (Err e) v u c ok is from h = tt
 
 pub run_stays : {N : ℕ} {v u : ReceiverState} {cs : List CommandValue} {rs : List ReplyValue} {complete : Type 0} →
     Executes N v u cs rs complete → IsSound N u → StaysInSetting N v u
@@ -378,26 +357,6 @@ reached {N} {v} {u} {cs} (Ok t) s run d follows =
     subst (λ n. EndsBy n cs) (sym end) (seen.recovers refl (subst (λ n. Follows (setting N v) s n cs) (same_next v s d) follows))
 
 -- ---- parts of the queue
-part_of : (x q bytes : List ℕ) (a o : ℕ) → q ≡ take (length q) (drop a x) → bytes ≡ take (length bytes) (drop o q) →
-    bytes ≡ take (length bytes) (drop (a + o) x)
-part_of x q bytes a o e is =
-    let n = length bytes in
-    let m = length q in
-    let size : n ≡ min n (m - o) = ap length is ∙ length-take n (drop o q) ∙ ap (min n) (length-drop o q) in
-    ⊎_elim
-    (λ (l : m < o). (let none : n ≡ 0 = omega arith in is ∙ ap (λ k. take k (drop o q)) none ∙ ap (λ k. take k (drop (a + o) x)) (sym none)))
-    (λ (l : o ≤ m).
-    let all : m ≡ o + (m - o) = omega arith in
-    is
-    ∙ ap (take n) (ap (drop o) (e ∙ ap (λ k. take k (drop a x)) all) ∙ drop-take o (m - o) (drop a x) ∙ ap (take (m - o)) (drop-drop o a x))
-    ∙ take-take n (m - o) (drop (a + o) x) (omega arith))
-    (cases_lt m o)
-
-pub part_bytes : (f : ℕ) (x : List ℕ) (v : ReceiverState) (bytes : List ℕ) (o : ℕ) →
-    bytes ≡ take (length bytes) (drop o v.queue) → ReceivesFrom f x v →
-    bytes ≡ take (length bytes) (drop (v.read + o) x)
-part_bytes f x v bytes o is r = part_of x v.queue bytes v.read o (queue_of f x v r).queue is
-
 pub head_bytes : (f : ℕ) (x : List ℕ) (v : ReceiverState) (n : ℕ) → n ≤ length v.queue → ReceivesFrom f x v → take n v.queue ≡ slice_range x v.read (v.read + n)
 head_bytes f x v n few r = prefix_of x v.queue v.read n (queue_of f x v r).queue few
 
@@ -427,9 +386,9 @@ IsAbove v = (p : ℕ) → fin.contains_key v.held p ≡ true → next_position v
 
 -- ---- what a kept part leaves
 module _ (v : ReceiverState) (part : Piece) where
-  -- a position of the laid bytes is queued then, or still held
-  has_laid : (p : ℕ) → fin.contains_key (laid v part) p ≡ true → HasByteAt (receiver_with_piece v part) p
-  has_laid p h =
+  -- a position that is held, or that the part has, is queued then, or held
+  has_updated : (p : ℕ) → fin.contains_key (updated v part) p ≡ true → HasByteAt (receiver_with_piece v part) p
+  has_updated p h =
       let at = next_joined v part in
       ⊎_elim (λ (l : p < lacks v part). inl (omega arith)) (λ (l : lacks v part ≤ p). inr (left_has v part p ∙ and_from _ _ (le-leb _ p l) h))
       (cases_lt p (lacks v part))
@@ -439,7 +398,7 @@ module _ (v : ReceiverState) (part : Piece) where
       let at = next_joined v part in
       let from = (lacking v part).from in
       ⊎_elim (λ (l : p < next_position v). inl (omega arith))
-      (λ (k : fin.contains_key v.held p ≡ true). has_laid p (laid_has v part p ∙ or_right _ _ k)) h
+      (λ (k : fin.contains_key v.held p ≡ true). has_updated p (updated_has v part p ∙ or_right _ _ k)) h
 
   above_joined : IsAbove (receiver_with_piece v part)
   above_joined p h = (let at = next_joined v part in let above = (left_above v part p h).0 in omega arith)
@@ -451,20 +410,20 @@ missing_of v above = false_from_ne_true _ (λ h. (let l = above (next_position v
 kept_held : (v : ReceiverState) (part : Piece) → IsAbove v →
     ((q b : ℕ) → piece_byte_at part q ≡ Some b → fin.get v.held q ≡ Some b) → receiver_with_piece v part ≡ v
 kept_held v part above same =
-    (λ i. receiver_up_to v (next_position v) (laid_same i) (lacking_same i))
+    (λ i. receiver_up_to v (next_position v) (updated_same i) (lacking_same i))
     ∙ (λ i. record { first = v.first; capacity = v.capacity; read = v.read; queue = queue_same i; held = held_same i })
   where
     or_same : (o m : Option ℕ) → ((b : ℕ) → o ≡ Some b → m ≡ Some b) → option_or o m ≡ m
     or_same None m h = refl
     or_same (Some b) m h = sym (h b refl)
 
-    laid_same : held_with_piece v part ≡ v.held
-    laid_same = same_bytes _ _ (λ q. get-with_bytes_at v.held part.start part.bytes q ∙ or_same (piece_byte_at part q) (fin.get v.held q) (same q))
+    updated_same : held_with_piece v part ≡ v.held
+    updated_same = same_bytes _ _ (λ q. get-with_bytes_at v.held part.start part.bytes q ∙ or_same (piece_byte_at part q) (fin.get v.held q) (same q))
 
     lacking_same : lacks v part ≡ next_position v
     lacking_same =
         first_unique (fin.contains_key (held_with_piece v part)) (next_position v) _ _ (lacking v part)
-        (record { from = omega arith; before = λ q a b. absurd (omega arith); here = ap (λ m. fin.contains_key m (next_position v)) laid_same ∙ missing_of v above })
+        (record { from = omega arith; before = λ q a b. absurd (omega arith); here = ap (λ m. fin.contains_key m (next_position v)) updated_same ∙ missing_of v above })
 
     queue_same : v.queue ++ held_bytes_at v.held (next_position v) (next_position v - next_position v) ≡ v.queue
     queue_same =
@@ -501,7 +460,7 @@ second_copy most v pos xs sound =
     (λ is. held_changes_nothing_above most (receiver_with_piece v part) pos xs (above_joined v part) (λ p b from to at.
     let there = next_joined v part in
     let grown = (lacking v part).from in
-    get_from (laid v part) (lacks v part) p
+    get_from (updated v part) (lacks v part) p
     ∙ cond-true _ _ _ (le-leb (lacks v part) p (omega arith))
     ∙ get-with_bytes_at v.held part.start part.bytes p
     ∙ ap (λ o. option_or o (fin.get v.held p))
@@ -525,7 +484,7 @@ accepted_brings most v pos xs p accepted from to below =
     (λ none _. inl (omega arith))
     (λ no. absurd no)
     (λ _. ⊎_elim (λ (l : p < next_position v). has_joined v part p (inl l))
-    (λ (l : next_position v ≤ p). has_laid v part p (laid_has v part p ∙ or_left _ _ (piece_some part p (omega arith, omega arith))))
+    (λ (l : next_position v ≤ p). has_updated v part p (updated_has v part p ∙ or_left _ _ (piece_some part p (omega arith, omega arith))))
     (cases_lt p (next_position v)))
     accepted
 

@@ -255,11 +255,11 @@ module _ (w : Setting) (s : KeptState) (room : HasRoom w s) (part : Piece) (abov
           ≡ (not b && makes_too_many_runs w.most_runs H part.start (length part.bytes))
       by true e = refl
       by false e =
-          let laid = with_range H part.start (length part.bytes) in
+          let updated = with_range H part.start (length part.bytes) in
           let full : 0 < length part.bytes = (let other = eqb-false (length part.bytes) 0 some in omega arith) in
-          ap (λ rs. nat_lt w.most_runs (length rs)) (same_runs w (with_kept w s part) room_for laid (more_held e H same))
-          ∙ ap (nat_lt w.most_runs) (sym (runs-maximal_runs laid))
-          ∙ ap (λ b. b && nat_lt w.most_runs (runs laid)) (sym (lt-ltb 0 (length part.bytes) full))
+          ap (λ rs. nat_lt w.most_runs (length rs)) (same_runs w (with_kept w s part) room_for updated (more_held e H same))
+          ∙ ap (nat_lt w.most_runs) (sym (runs-maximal_runs updated))
+          ∙ ap (λ b. b && nat_lt w.most_runs (runs updated)) (sym (lt-ltb 0 (length part.bytes) full))
 
 -- ---- what is stored, and the state that it represents
 again : (a b : Bool) → ((a && b) && b) ≡ (a && b)
@@ -283,14 +283,14 @@ module _ (v : ReceiverState) (s : KeptState) (d : Refines v s) where
 
   -- one more piece
   module _ (part : Piece) (above : missing w s ≤ part.start) (below : (p : ℕ) → is_some (piece_byte_at part p) ≡ true → p < unread w s + w.capacity) where
-    abbrev laid : HeldBytes
-    laid = held_with_piece v part
+    abbrev updated : HeldBytes
+    updated = held_with_piece v part
 
     abbrev n : ℕ
     n = missing w s
 
     abbrev m : ℕ
-    m = first_lacking laid n
+    m = first_lacking updated n
 
     abbrev more : List Piece
     more = s.kept ++ part ∷ []
@@ -305,14 +305,14 @@ module _ (v : ReceiverState) (s : KeptState) (d : Refines v s) where
         let some = none_of (byte_at s.kept p) in
         grind (arith, nat_tests)
 
-    laid_is : (p : ℕ) → n ≤ p → fin.get laid p ≡ byte_at more p
-    laid_is p h = get-with_bytes_at v.held part.start part.bytes p ∙ ap (option_or (piece_byte_at part p)) (from_next p h) ∙ sym (byte_at_push s.kept part p)
+    updated_is : (p : ℕ) → n ≤ p → fin.get updated p ≡ byte_at more p
+    updated_is p h = get-with_bytes_at v.held part.start part.bytes p ∙ ap (option_or (piece_byte_at part p)) (from_next p h) ∙ sym (byte_at_push s.kept part p)
 
     below_next : (p : ℕ) → p < n → byte_at more p ≡ byte_at s.kept p
     below_next p h = byte_at_push s.kept part p ∙ ap (λ o. option_or o (byte_at s.kept p)) (piece_before part p (omega arith))
 
-    lacking : IsFirst (fin.contains_key laid) n m
-    lacking = first_lacking_is laid n
+    lacking : IsFirst (fin.contains_key updated) n m
+    lacking = first_lacking_is updated n
 
     first_more : IsFirst (is_covered more) v.first m
     first_more =
@@ -321,33 +321,33 @@ module _ (v : ReceiverState) (s : KeptState) (d : Refines v s) where
           from = omega arith;
           before = λ q a b.
               ⊎_elim (λ (h : q < missing w s). ap is_some (below_next q h) ∙ (missing_is w s d.room).before q a h)
-              (λ (h : missing w s ≤ q). ap is_some (sym (laid_is q h)) ∙ lacking.before q h b)
+              (λ (h : missing w s ≤ q). ap is_some (sym (updated_is q h)) ∙ lacking.before q h b)
               (cases_lt q (missing w s));
-          here = ap is_some (sym (laid_is m k)) ∙ lacking.here;
+          here = ap is_some (sym (updated_is m k)) ∙ lacking.here;
         }
 
     missing_more : missing w t ≡ m
     missing_more = first_unique (is_covered more) v.first _ _ (missing_is w t (room_for w s d.room part above below)) first_more
 
-    joined_queue : v.queue ++ held_bytes_at laid n (m - n) ≡ queue w t
+    joined_queue : v.queue ++ held_bytes_at updated n (m - n) ≡ queue w t
     joined_queue =
         let l : n ≤ m = lacking.from in
         let end = missing_more in
         let size : queued w s + (m - n) ≡ queued w t = omega arith in
-        grind (arith, nat_tests, map_range_same, more, unwrap_or, below_next, laid_is, map_range_split)
+        grind (arith, nat_tests, map_range_same, more, unwrap_or, below_next, updated_is, map_range_split)
 
-    joined_held : (p : ℕ) → fin.get (fin.retain_keys laid (λ q. nat_le m q)) p ≡ cond (is_held w t p) (byte_at more p) None
-    joined_held p = grind (arith, nat_tests, get_from, lacking, none_of, missing_more, laid_is)
+    joined_held : (p : ℕ) → fin.get (fin.retain_keys updated (λ q. nat_le m q)) p ≡ cond (is_held w t p) (byte_at more p) None
+    joined_held p = grind (arith, nat_tests, get_from, lacking, none_of, missing_more, updated_is)
 
     pub refines_joined : Refines (receiver_with_piece v part) t
     refines_joined =
-        let there : Refines (receiver_up_to v n laid m) t = record {
+        let there : Refines (receiver_up_to v n updated m) t = record {
           read = d.read;
           room = room_for w s d.room part above below;
           queue = joined_queue;
           held = joined_held;
         } in
-        subst (λ b. Refines (receiver_up_to v b laid (first_lacking laid b)) t) (sym same_next) there
+        subst (λ b. Refines (receiver_up_to v b updated (first_lacking updated b)) t) (sym same_next) there
 
   -- a read
   module _ (count : ℕ) where

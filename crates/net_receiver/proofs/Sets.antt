@@ -163,7 +163,7 @@ first_lacking_is m n =
     let f = missing_is_first (domain m) n in
     record { from = f.from; before = λ q a b. sym (contains-domain m q) ∙ f.before q a b; here = sym (contains-domain m _) ∙ f.here }
 
--- with a kept part the first missing position is the first one that the laid bytes lack
+-- after a kept part the first missing position is the first one that the held bytes lack, with those of the part
 pub next_joined : (v : ReceiverState) (part : Piece) → next_position (receiver_with_piece v part) ≡ first_lacking (held_with_piece v part) (next_position v)
 next_joined v part = grind (arith, nat_tests, first_lacking_is, length-append, length-map-range_with_len)
 
@@ -174,26 +174,26 @@ get_from m n p = fin.get-retain_keys m (λ q. nat_le n q) p (λ x e. ap (nat_le 
 pub same_bytes : (m n : HeldBytes) → ((q : ℕ) → fin.get m q ≡ fin.get n q) → m ≡ n
 same_bytes m n same = fin.same_map nat_cmp_total fin.nat_cmp-IsAntisymmetric m n same
 
--- a kept part laid over the held bytes
+-- the held bytes, with those of a kept part
 module _ (v : ReceiverState) (part : Piece) where
-  abbrev pub laid : HeldBytes
-  laid = held_with_piece v part
+  abbrev pub updated : HeldBytes
+  updated = held_with_piece v part
 
   -- the first position that they lack
   abbrev pub lacks : ℕ
-  lacks = first_lacking laid (next_position v)
+  lacks = first_lacking updated (next_position v)
 
-  pub lacking : IsFirst (fin.contains_key laid) (next_position v) lacks
-  lacking = first_lacking_is laid (next_position v)
+  pub lacking : IsFirst (fin.contains_key updated) (next_position v) lacks
+  lacking = first_lacking_is updated (next_position v)
 
-  pub laid_has : (p : ℕ) → fin.contains_key laid p ≡ (is_some (piece_byte_at part p) || fin.contains_key v.held p)
-  laid_has p = ap is_some (get-with_bytes_at v.held part.start part.bytes p) ∙ some_or (piece_byte_at part p) (fin.get v.held p)
+  pub updated_has : (p : ℕ) → fin.contains_key updated p ≡ (is_some (piece_byte_at part p) || fin.contains_key v.held p)
+  updated_has p = ap is_some (get-with_bytes_at v.held part.start part.bytes p) ∙ some_or (piece_byte_at part p) (fin.get v.held p)
 
   -- those from there on are left
-  pub left_has : (p : ℕ) → fin.contains_key (receiver_with_piece v part).held p ≡ (nat_le lacks p && fin.contains_key laid p)
-  left_has p = ap is_some (get_from laid lacks p) ∙ some_cond (nat_le lacks p) (fin.get laid p)
+  pub left_has : (p : ℕ) → fin.contains_key (receiver_with_piece v part).held p ≡ (nat_le lacks p && fin.contains_key updated p)
+  left_has p = ap is_some (get_from updated lacks p) ∙ some_cond (nat_le lacks p) (fin.get updated p)
 
-  pub left_above : (p : ℕ) → fin.contains_key (receiver_with_piece v part).held p ≡ true → (lacks < p) × (fin.contains_key laid p ≡ true)
+  pub left_above : (p : ℕ) → fin.contains_key (receiver_with_piece v part).held p ≡ true → (lacks < p) × (fin.contains_key updated p ≡ true)
   left_above p h = grind (arith, nat_tests, and_parts, left_has, leb-true, lacking)
 
 -- ---- The runs of a set that is another one shifted up, and runs below a limit.

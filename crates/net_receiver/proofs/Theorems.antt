@@ -3,12 +3,13 @@ use Rattle.std.proofs.Common.{flat_map}
 use Rattle.std.proofs.Common.{replicate}
 use Rattle.std.proofs.Common.{eq-eqb}
 use Rattle.std.proofs.lemmas.Bool.{or_parts, or_from}
+use Rattle.net_assembler.proofs.Runs.{are_maximal_runs}
 use Rattle.net_assembler.specs.Positions.{runs}
 use Rattle.net_assembler.specs.Positions.{run_starts, begins_run}
 use Rattle.net_receiver.specs.{byte_at, queue}
 use Rattle.net_receiver.specs.{replies, replies_from}
 use Rattle.net_receiver.specs.{ExecutesFor}
-use Rattle.net_receiver.specs.{SoundRepresents}
+use Rattle.net_receiver.specs.{SoundRepresents, ListsHeldRuns, FreshRefines, TellsFresh}
 use Rattle.net_receiver.specs.{FreshIsSound, SoundStays}
 use Rattle.net_receiver.proofs.Words.{◌≡◌, ℕ, ◌+◌, ◌-◌, ◌≤◌, ◌<◌, false, nat_le, None, is_some, List, [], map}
 use Rattle.net_receiver.proofs.Words.{◌++◌, length, take, All, refl, sym, ap, subst, ◌∙◌, arith, ⊎_elim, le_refl, ◌⊎◌}
@@ -25,10 +26,10 @@ use Rattle.net_receiver.proofs.Words.{state_from, SegmentReply, step, held_bytes
 use Rattle.net_receiver.proofs.Words.{KeptState, fresh_kept, bytes_read, IsAccepted, HasRoom, fresh_receiver, setting}
 use Rattle.net_receiver.proofs.Words.{Refines, IsSound, domain, receiver_after_commands, receiver_replies}
 use Rattle.net_receiver.proofs.Words.{receiver_after_command, receiver_reply, HeldBytes, next_position, first_three}
-use Rattle.net_receiver.proofs.Words.{with_sack, numbers, Verdict, state_after, segment_result, Executes, Piece}
+use Rattle.net_receiver.proofs.Words.{with_sack, numbers, state_after, Executes, Piece}
 use Rattle.net_receiver.proofs.Words.{piece, end, piece_byte_at, is_covered, piece_within, Segment, Read, Show}
 use Rattle.net_receiver.proofs.Words.{receiver_with_piece, ReceiverState, AllPairs, count_by, ⊤, All-take}
-use Rattle.net_receiver.proofs.Words.{sum_by-cons, TooManyHolesError, MaximalRunsOfEverySet, Kept, KeptBytes}
+use Rattle.net_receiver.proofs.Words.{sum_by-cons, TooManyHolesError, Kept, KeptBytes}
 use Rattle.net_receiver.proofs.Words.{take_min, length-replicate, take-take, option_or, slice_get_within, nat_tests}
 use Rattle.net_receiver.proofs.Words.{runs-nothing}
 use Rattle.net_receiver.proofs.Schedules.{queued_covered, missing_is, none_of, schedule, settings_kept}
@@ -36,7 +37,7 @@ use Rattle.net_receiver.proofs.Schedules.{after_all_append, replies_append, stre
 use Rattle.net_receiver.proofs.Schedules.{has-filter, filter_rises, verdict_by}
 use Rattle.net_receiver.proofs.Sets.{contains-domain, same_both, same_bytes, contains-keys, piece_cons, first_unique}
 use Rattle.net_receiver.proofs.Sets.{piece_from, piece_some, piece_at, some_or, option_or-none, piece_has, or_swap}
-use Rattle.net_receiver.proofs.Sets.{lacks, lacking, laid_has, left_has}
+use Rattle.net_receiver.proofs.Sets.{lacks, lacking, updated_has, left_has}
 use Rattle.net_receiver.proofs.Places.{get-held_bytes}
 use Rattle.std.specs.Prelude.{is_ok}
 use Rattle.std.proofs.lemmas.List.Sums.{sum_by-take-drop}
@@ -95,7 +96,7 @@ fresh_sound most f capacity few = record {
   fits = omega arith;
 }
 
-pub fresh_refines : (f capacity : ℕ) → Refines (fresh_receiver f capacity) fresh_kept
+pub fresh_refines : FreshRefines
 unfolding byte_at
 fresh_refines f capacity =
     let w : Setting = record { first = f; capacity = capacity; most_runs = 0 } in
@@ -108,6 +109,9 @@ fresh_refines f capacity =
       queue = ap (λ n. map (byte []) (range_with_len (f + 0) n)) (sym none);
       held = λ p. fin.get-empty nat_cmp p ∙ sym (same_both (is_held w fresh_kept p) None);
     }
+
+pub tells_fresh : TellsFresh
+tells_fresh first v e = subst (λ (u : ReceiverState). Refines u fresh_kept) (sym e) (fresh_refines first v.capacity)
 
 -- ---- The first three runs of a set, and calls of `replay`, one after another.
 -- ---- reported runs
@@ -177,11 +181,10 @@ told : (n : Result KeptBytes TooManyHolesError) (h : Positions) (kept : Kept) �
 told (Ok n) h kept e = ap sack_of e
 told (Err x) h kept e = absurd (both_ways true (sym (ap is_ok e)) refl)
 
-pub lists_held_runs : MaximalRunsOfEverySet → (v : ReceiverState) (x : Verdict) (kept : Kept) → segment_result v x ≡ Ok kept →
-    ListsRuns (domain (state_after v x).held) kept.sack
-lists_held_runs law v x kept e =
+pub lists_held_runs : ListsHeldRuns
+lists_held_runs v x kept e =
     let h = domain (state_after v x).held in
-    let all = law h in
+    let all = are_maximal_runs h in
     subst (ListsRuns h) (told (numbers v x) h kept e) (reports h (maximal_runs h) all.maximal all.complete all.rising)
 
 -- ---- calls of `replay`, one after another
@@ -490,11 +493,11 @@ module _ (most : ℕ) (v : ReceiverState) (sound : IsSound most v) (part : Piece
   ranged = with_range (domain v.held) part.start (length part.bytes)
 
   outside : (is_some (piece_byte_at part (lacks v part)) ≡ false) × (fin.contains_key v.held (lacks v part) ≡ false)
-  outside = or_parts _ _ (sym (laid_has v part (lacks v part)) ∙ (lacking v part).here)
+  outside = or_parts _ _ (sym (updated_has v part (lacks v part)) ∙ (lacking v part).here)
 
   left_in : (q : ℕ) → contains (domain (receiver_with_piece v part).held) q
       ≡ (nat_le (lacks v part) q && (is_some (piece_byte_at part q) || fin.contains_key v.held q))
-  left_in q = contains-domain _ q ∙ left_has v part q ∙ ap (λ b. nat_le (lacks v part) q && b) (laid_has v part q)
+  left_in q = contains-domain _ q ∙ left_has v part q ∙ ap (λ b. nat_le (lacks v part) q && b) (updated_has v part q)
 
   ranged_has : (q : ℕ) → contains ranged q ≡ (is_some (piece_byte_at part q) || fin.contains_key v.held q)
   ranged_has q = grind (arith, nat_tests, contains-with_range, contains-domain, piece_has, or_swap)

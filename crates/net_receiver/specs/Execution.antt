@@ -1,8 +1,12 @@
--- The statements on schedules that the calls' contracts name.
+-- The crate's commands and replies as those of a schedule, and the statements on schedules that the calls' contracts
+-- name.
+--     command_value c, command_values cs, reply_value r      these, as a schedule has them
+--     items_after old new, new_replies old new      what was pushed after old, and those replies
+--     ValueFits c, CommandFits c      the end of its segment, if it is one, is a position
+--     IsSegment c      it is a segment, which asks for no memory
 --     ExecutedPrefix cs complete      how many of the commands were executed
 --     Executes N v u cs rs complete      what cs leave stored, and their replies
 --     ExecutesFor N v u cs rs complete s      what cs did to a receiver that represented s
---     items_after old new      what was pushed after old
 --     AreAlike w s z t      what `same_state` compares of two states
 --     Converges v u same, TellsStates v u same      when `same_state` finds two receivers the same
 --     FreshRefines, EverySchedule, TellsNext, TellsHeld, TellsFresh      laws on what a receiver represents
@@ -12,11 +16,12 @@
 --     Replays N v calls u      what calls of `replay`, one after another, store
 --     Composes N v calls u      these calls do what one call does
 -- The others are laws, and what they name.
-use Rattle.std.specs.Prelude.{◌≡◌, ◌↔◌, ℕ, ◌-◌, ◌≤◌, Bool, true, List, ◌++◌, length, take, drop, All, slice_range, ◌⊎◌}
-use Rattle.std.specs.Prelude.{◌<◌, [], ◌∷◌, flat_map, Option, Some, None, Ok, IsTrue, AllPairs, count_by, ⊤}
+use Rattle.std.specs.Prelude.{◌≡◌, ◌↔◌, ℕ, ◌+◌, ◌-◌, ◌<◌, ◌≤◌, ◌^◌, ◌⊎◌, ⊤, Bool, true, IsTrue, Option, Some, None, Ok, All}
+use Rattle.std.specs.Prelude.{List, [], ◌∷◌, ◌++◌, map, flat_map, length, take, drop, slice_range, AllPairs, count_by}
 use Rattle.net_assembler.specs.Positions.{contains, Positions, lies_in, IsMaximalRun}
-use Rattle.net_receiver.specs.Headline.{CommandValue, ReplyValue, is_covered, missing, queue, is_held, held_runs}
-use Rattle.net_receiver.specs.Headline.{replies_from, state_from}
+use Rattle.net_receiver.specs.Headline.{CommandValue, Segment, Read, Show, ReplyValue, SegmentReply, ReadReply}
+use Rattle.net_receiver.specs.Headline.{ShowReply, is_covered, missing, queue, is_held, held_runs, replies_from}
+use Rattle.net_receiver.specs.Headline.{state_from}
 use Rattle.net_receiver.specs.Schedule.{Setting, KeptState, fresh_kept, bytes_read, Agrees, Follows, EndsBy}
 use Rattle.net_receiver.specs.Schedule.{IsAccepted}
 use Rattle.net_receiver.specs.ReceiverState.{ReceiverState, domain, next_position, fresh_receiver, setting}
@@ -25,12 +30,53 @@ use Rattle.net_receiver.specs.ReceiverState.{state_after, segment_result, first_
 use Rattle.net_receiver.specs.declared.receiver_head.ReceiverHead.{ReceiverHead}
 use Rattle.net_receiver.specs.Head.{receiver_of, HasSoundParts}
 use Rattle.net_receiver.specs.declared.kept.Kept.{Kept}
+use Rattle.net_receiver.specs.declared.schedule.Command.{Command}
+use Rattle.net_receiver.specs.declared.schedule.Reply.{Reply}
+use Rattle.net_receiver.specs.declared.schedule.Command.TheVariants as commands
+use Rattle.net_receiver.specs.declared.schedule.Reply.TheVariants as replies
 
--- ---- The statements on schedules that the calls' contracts name.
+-- ---- commands and replies
 -- what was pushed after old
 abbrev pub items_after : {A : Type 0} → List A → List A → List A
 items_after old new = drop (length old) new
 
+-- a command as a schedule has it
+abbrev pub command_value : {A : Type 0} → Command A → CommandValue
+command_value (commands.Segment pos bytes) = Segment pos bytes.items
+command_value (commands.Read count) = Read count
+command_value commands.Show = Show
+
+-- a reply as a schedule has it
+abbrev pub reply_value : {A : Type 0} → Reply A → ReplyValue
+reply_value (replies.Segment result) = SegmentReply result
+reply_value (replies.Read bytes) = ReadReply bytes.items
+reply_value (replies.Show next queued window held) = ShowReply next queued window held.items
+
+-- a list of commands as a schedule
+abbrev pub command_values : {A : Type 0} → List (Command A) → List CommandValue
+command_values commands = map command_value commands
+
+-- the replies that were pushed after old ones
+abbrev pub new_replies : {A : Type 0} → List (Reply A) → List (Reply A) → List ReplyValue
+new_replies old new = map reply_value (items_after old new)
+
+-- a segment's end is a position
+abbrev pub ValueFits : CommandValue → Type 0
+ValueFits (Segment pos bytes) = pos + length bytes < 2 ^ 64
+ValueFits (Read count) = Unit {0}
+ValueFits Show = Unit {0}
+
+-- a command's segment, if it is one, ends at a position
+abbrev pub CommandFits : {A : Type 0} → Command A → Type 0
+CommandFits c = ValueFits (command_value c)
+
+-- a segment, which asks for no memory, however long it is
+abbrev pub IsSegment : CommandValue → Type 0
+IsSegment (Segment pos bytes) = Unit {0}
+IsSegment (Read count) = ⊥
+IsSegment Show = ⊥
+
+-- ---- schedules
 -- how many of these commands were executed, from the first on and no others: all of them if it is
 -- complete
 pub record ExecutedPrefix (cs : List CommandValue) (complete : Type 0) : Type 0 where
@@ -45,8 +91,11 @@ pub record Executes (most_runs : ℕ) (v u : ReceiverState) (cs : List CommandVa
   pub state : u ≡ receiver_after_commands most_runs v (take prefix.count cs)
   pub replies : rs ≡ receiver_replies most_runs v (take prefix.count cs)
 
--- the same for a schedule's state, and what follows about the bytes that were read and about
--- accepted segments
+-- the same for a schedule's state that v represents: u represents the state that the prefix leaves, and the replies
+-- are those of the schedule. The bytes that were read, and then the queue, are those of every stream with which the
+-- kept pieces then agree (`stream`). If the segments follow on from the first missing position, each reply to one
+-- says that it was accepted (`accepts`). If all commands were executed too, the ends of all segments are reached
+-- (`recovers`).
 pub record ExecutesFor (most_runs : ℕ) (v u : ReceiverState) (cs : List CommandValue) (rs : List ReplyValue)
     (complete : Type 0) (s : KeptState) : Type 0 where
   pub prefix : ExecutedPrefix cs complete
@@ -117,7 +166,6 @@ abbrev pub PartsRepresent : Type 0
 PartsRepresent = (h : ReceiverHead) (xs : List ℕ) (rs : List (ℕ × ℕ)) →
     HasSoundParts h (length xs) rs → RepresentsSome (receiver_of h xs rs)
 
--- ---- The laws of listed runs, and of calls of `replay`, one after another.
 -- ---- listed runs
 -- the runs of a list, some of whose entries are missing
 abbrev pub runs_of_sack : List (Option (ℕ × ℕ)) → List (ℕ × ℕ)

@@ -15,7 +15,7 @@
 -- The laws of a receiver of a stream that ends.
 --     FiniteCommand      a segment, which is the last one or isn't, or a read
 --     finite_after_commands N s cs, bytes_taken N s cs      what they leave, and the bytes that the reads took
---     CommandFits c      the segment's end has a position, and an end a number
+--     FiniteCommandFits c      the segment's end has a position, and an end a number
 --     MatchesFinite f x pos xs last      the segment is one of the stream x, which begins at f, and ends after its
 --         last byte
 --     ReceivesFinite f x s      the receiver took only such segments
@@ -174,9 +174,9 @@ bytes_taken most_runs s [] = []
 bytes_taken most_runs s (c ∷ cs) = bytes_of s c ++ bytes_taken most_runs (finite_after_command most_runs s c) cs
 
 -- a segment fits
-abbrev pub CommandFits : FiniteCommand → Type 0
-CommandFits (Arrives pos xs last) = pos + length xs < no_end
-CommandFits (Reads n) = Unit {0}
+abbrev pub FiniteCommandFits : FiniteCommand → Type 0
+FiniteCommandFits (Arrives pos xs last) = pos + length xs < no_end
+FiniteCommandFits (Reads n) = Unit {0}
 
 -- ---- one stream
 -- the bytes are those of the stream, and if it is the last segment it ends where the stream ends
@@ -321,7 +321,7 @@ FiniteCompletes = (most_runs : ℕ) (s : FiniteState) (cs : List FiniteCommand) 
 -- within the free window are all accepted, and then no end of them is missing; with the last one all has arrived
 abbrev pub FiniteRecovers : Type 0
 FiniteRecovers = (most_runs f : ℕ) (x : List ℕ) (s : FiniteState) (cs : List FiniteCommand) → IsSoundEnd s →
-    ReceivesFinite f x s → All CommandFits cs → All (CommandMatches f x) cs →
+    ReceivesFinite f x s → All FiniteCommandFits cs → All (CommandMatches f x) cs →
     Resends most_runs s (next_position s.receiver) cs →
     let t = finite_after_commands most_runs s cs in
     AreAccepted most_runs s cs × All (EndsWithin (next_position t.receiver)) cs
@@ -331,7 +331,7 @@ FiniteRecovers = (most_runs f : ℕ) (x : List ℕ) (s : FiniteState) (cs : List
 -- the stream was read
 abbrev pub ResentIsRead : Type 0
 ResentIsRead = (most_runs f capacity n : ℕ) (x : List ℕ) (before cs : List FiniteCommand) → f < no_end →
-    All (CommandMatches f x) before → All CommandFits cs → All (CommandMatches f x) cs →
+    All (CommandMatches f x) before → All FiniteCommandFits cs → All (CommandMatches f x) cs →
     let s = finite_after_commands most_runs (fresh_finite f capacity) before in
     let t = finite_after_commands most_runs s cs in
     Resends most_runs s (next_position s.receiver) cs → BringsEnd cs (f + length x) → length t.receiver.queue ≤ n →

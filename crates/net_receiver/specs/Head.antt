@@ -46,8 +46,8 @@ pub record HasSoundParts (h : ReceiverHead) (c : ℕ) (rs : List (ℕ × ℕ)) :
   pub within : (p : ℕ) → IsTrue (contains (set_of h.held rs) p) → p < c - h.place.length
   pub read_at : 0 < c → h.place.read_at ≡ h.count_read % c
 
--- the storage after a segment, by what happens to it: the bytes of a kept piece are written over the bytes
--- after the queue, as far after it as their positions are above the first missing one
+-- the storage after a segment, by what happens to it: the bytes of a kept piece are written after the queue, as far
+-- after it as their positions are above the first missing one
 abbrev pub storage_after : ReceiverHead → List ℕ → Verdict → List ℕ
 storage_after h xs KeepsNone = xs
 storage_after h xs Refuses = xs

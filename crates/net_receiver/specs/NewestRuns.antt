@@ -3,8 +3,8 @@
 --     with_run k held listed p      with the run of p after those listed, unless it is one of them
 --     runs_of k held listed ps      with the runs of ps, in the order of ps
 --     newest_runs k held ps      the runs of ps, each once, and then the other runs, rising; k at most
---     with_starts ps rs      the starts of these runs over the first of the positions ps
---     IsNamed ps n run      one of the first n of these positions is in the run
+--     with_starts ps rs      the starts of these runs, in place of the first of the positions ps
+--     HasOneOf ps n run      one of the first n of these positions is in the run
 --     AreNewestRuns k held ps list      what is true of it, by the law `NewestRunsAreListed`
 -- The order in which several calls of `newest_runs` list runs: the newest first.
 --     Calls      calls, each with what is held then and a position, the last one first
@@ -20,7 +20,6 @@ use Rattle.std.specs.Option.{option_to_list}
 use Rattle.net_assembler.specs.Positions.{Positions, contains, maximal_runs, lies_in, IsMaximalRun}
 use Rattle.net_receiver.specs.ReceiverState.{CommandValue, ReceiverState, IsSound, domain, receiver_after_commands}
 
--- ---- The held runs in the order in which a selective acknowledgement lists them: the newest first.
 -- the maximal run in which p is, if p is held
 abbrev pub run_at : Positions → ℕ → Option (ℕ × ℕ)
 run_at held p = find (lies_in p) (maximal_runs held)
@@ -43,14 +42,14 @@ starts held = map (λ r. r.0) (maximal_runs held)
 abbrev pub newest_runs : ℕ → Positions → List ℕ → List (ℕ × ℕ)
 newest_runs k held ps = runs_of k held (runs_of k held [] ps) (starts held)
 
--- the starts of these runs over as many of the positions
+-- the starts of these runs, in place of as many of the positions
 abbrev pub with_starts : List ℕ → List (ℕ × ℕ) → List ℕ
 with_starts ps rs = take (length ps) (map (λ r. r.0) rs) ++ drop (length rs) ps
 
 -- ---- laws
 -- one of the first n of these positions is in the run
-abbrev pub IsNamed : List ℕ → ℕ → ℕ × ℕ → Type 0
-IsNamed ps n run = (a : ℕ) × (p : ℕ) × (a < n) × (slice_get ps a ≡ Some p) × IsTrue (lies_in p run)
+abbrev pub HasOneOf : List ℕ → ℕ → ℕ × ℕ → Type 0
+HasOneOf ps n run = (a : ℕ) × (p : ℕ) × (a < n) × (slice_get ps a ≡ Some p) × IsTrue (lies_in p run)
 
 -- the run of the position p is listed, with at most b others before it
 abbrev pub IsListedBy : List (ℕ × ℕ) → ℕ → ℕ → Type 0
@@ -66,7 +65,7 @@ pub record AreNewestRuns (k : ℕ) (held : Positions) (ps : List ℕ) (list : Li
   pub complete : (p : ℕ) → IsTrue (contains held p) → (count_by (lies_in p) list ≡ 1) ⊎ (length list ≡ k)
   pub newest : (b p : ℕ) → slice_get ps b ≡ Some p → IsTrue (contains held p) → b < k → IsListedBy list b p
   pub order : (i j b p : ℕ) (q r : ℕ × ℕ) → i < j → slice_get list i ≡ Some q → slice_get list j ≡ Some r →
-      slice_get ps b ≡ Some p → IsTrue (lies_in p r) → IsNamed ps b q
+      slice_get ps b ≡ Some p → IsTrue (lies_in p r) → HasOneOf ps b q
 
 -- `newest_runs` lists them
 abbrev pub NewestRunsAreListed : Type 0
@@ -109,7 +108,7 @@ NewestAreFirst = (k b : ℕ) (ps : List ℕ) (last call : Positions × ℕ) (cal
     let list = newest_runs k last.0 (last.1 ∷ recent_after k ps calls) in
     IsListedBy list b call.1
     × ((i j : ℕ) (q r : ℕ × ℕ) → i < j → slice_get list i ≡ Some q → slice_get list j ≡ Some r →
-    IsTrue (lies_in call.1 r) → IsNamed (map (λ c. c.1) (last ∷ calls)) b q)
+    IsTrue (lies_in call.1 r) → HasOneOf (map (λ c. c.1) (last ∷ calls)) b q)
 
 -- what a receiver holds stays together, whatever commands it executes
 abbrev pub HeldStayTogether : Type 0

@@ -22,7 +22,6 @@ use Rattle.net_receiver.specs.ReceiverState.{receiver_after_read}
 use Rattle.net_receiver.specs.Headline.{state_from}
 use Rattle.std.specs.FinMap as fin
 
--- ---- Segments that have the bytes of one stream, and receivers that took only such segments.
 -- ---- the relations
 -- a segment has the bytes of x at its positions from f on; the other commands bring no bytes
 abbrev pub IsTruthful : ℕ → List ℕ → CommandValue → Type 0
@@ -158,7 +157,6 @@ abbrev pub CapacityStays : Type 0
 CapacityStays = (most_runs : ℕ) (v : ReceiverState) (c : CommandValue) →
     (receiver_after_command most_runs v c).capacity ≡ v.capacity
 
--- ---- Retransmitted segments, segments that together cover a range, and what reads leave.
 -- ---- retransmitted segments
 -- each byte of a segment within the free window is held already
 abbrev pub IsHeld : ReceiverState → ℕ → List ℕ → Type 0

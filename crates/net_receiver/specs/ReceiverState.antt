@@ -1,7 +1,7 @@
 -- What a receiver stores, the rules by which a command changes it, and the relation of it to a schedule's state.
 --     ReceiverState      the first position, the capacity, the count read, the queue and the held bytes
 --     domain held      the positions that held bytes have
---     with_bytes_at held p xs      xs from position p on, over held bytes
+--     with_bytes_at held p xs      the held bytes, with xs from position p on
 --     fresh_receiver first capacity      what a fresh receiver stores
 --     next_position v, limit_of v      the first missing position, and the end of the free window
 --     receiver_after_read v n      what a read leaves
@@ -52,7 +52,6 @@ pub use Rattle.net_receiver.specs.Headline.{CommandValue, Segment, Read, Show, R
 pub use Rattle.net_receiver.specs.Headline.{ShowReply, first_three}
 use Rattle.std.specs.FinMap as fin
 
--- ---- What a receiver stores, the rules by which a command changes it, and the relation of it to a schedule's state.
 -- held bytes by their positions
 abbrev pub HeldBytes : Type 0
 HeldBytes = fin.FinMap nat_cmp ℕ
@@ -87,7 +86,7 @@ next_position v = v.first + v.read + length v.queue
 abbrev pub limit_of : ReceiverState → ℕ
 limit_of v = v.first + v.read + v.capacity
 
--- bytes from position p on, over what is held
+-- the held bytes, with these bytes from position p on
 abbrev pub with_bytes_at : HeldBytes → ℕ → List ℕ → HeldBytes
 with_bytes_at held p [] = held
 with_bytes_at held p (x ∷ xs) = fin.insert (with_bytes_at held (p + 1) xs) p x
@@ -100,18 +99,18 @@ first_lacking held n = first_missing (domain held) n
 abbrev pub held_bytes_at : HeldBytes → ℕ → ℕ → List ℕ
 held_bytes_at held p n = map (λ q. unwrap_or (fin.get held q) 0) (range_with_len p n)
 
--- if `laid` is the held bytes with the kept ones over them, the bytes from n up to `end`, the first missing
--- position, join the queue
+-- the bytes from n up to `end`, the first missing position, join the queue. `bytes` has the bytes of the kept piece, and
+-- at the other positions the held ones
 abbrev pub receiver_up_to : ReceiverState → ℕ → HeldBytes → ℕ → ReceiverState
-receiver_up_to v n laid end = record {
+receiver_up_to v n bytes end = record {
   first = v.first;
   capacity = v.capacity;
   read = v.read;
-  queue = v.queue ++ held_bytes_at laid n (end - n);
-  held = fin.retain_keys laid (λ p. nat_le end p);
+  queue = v.queue ++ held_bytes_at bytes n (end - n);
+  held = fin.retain_keys bytes (λ p. nat_le end p);
 }
 
--- a kept piece laid over the held bytes
+-- the held bytes, in which the bytes of a kept piece replace those at its positions
 abbrev pub held_with_piece : ReceiverState → Piece → HeldBytes
 held_with_piece v part = with_bytes_at v.held part.start part.bytes
 

@@ -1,6 +1,6 @@
 //! A receiver in parts: a head of numbers, a storage, and runs that are kept elsewhere.
 ghost use Rattle.std.specs.Prelude.{◌≡◌, ◌↔◌, ℕ, ◌+◌, ◌-◌, ◌<◌, ◌≤◌, ◌^◌, ◌%◌, List, length, All};
-ghost use Rattle.std.specs.Prelude.{IsTrue, OnErr, Some, None, min, ◌++◌, take, drop, slice_range};
+ghost use Rattle.std.specs.Prelude.{IsTrue, OnErr, Some, None, min, ◌++◌, take, drop};
 ghost use Rattle.std.specs.Prelude.{◌∷◌};
 ghost use Rattle.net_assembler.specs.Positions.{contains, maximal_runs, runs as run_count};
 ghost use Rattle.net_assembler.specs.RunLists.{HasSoundRuns, IsCanonical, set_of};
@@ -8,7 +8,6 @@ ghost use Rattle.net_receiver.specs.Schedule.{piece};
 ghost use Rattle.net_receiver.specs.ReceiverState.{verdict, state_after, numbers, first_three, segment_result};
 ghost use Rattle.net_receiver.specs.ReceiverState.{fresh_receiver, domain, IsSameState, receiver_after_read};
 ghost use Rattle.net_receiver.specs.ReceiverState.{count_between};
-ghost use Rattle.net_receiver.specs.OneStream.{ReceivesFrom, MatchesStream};
 ghost use Rattle.net_receiver.specs.NewHeads.{receiver_head};
 ghost use Rattle.net_receiver.specs.Head.{receiver_of, HasSoundParts, HasSoundHeld, storage_after, head_after_read};
 ghost use Rattle.net_receiver.specs.Head.{next_at, held_at, top_at};
@@ -18,7 +17,6 @@ ghost use Rattle.net_receiver.specs.NewestRuns.{newest_runs, with_starts, run_at
 
 use crate::held_runs::{HeldRun, HeldRunIter, is_listed, remember};
 use crate::kept::{Kept, KeptBytes};
-use net_assembler::assembler::laws;
 use net_assembler::width::most;
 use net_assembler::{AssemblerHead, Run, TooManyHolesError};
 use net_ring::RingHead;
@@ -167,10 +165,6 @@ impl ReceiverHead {
         ensures state { let v = receiver_of self.old storage.old runs.old in
             receiver_of self.new storage.new runs.new ≡ state_after v
             (verdict (length runs.old) v (piece pos bytes.now)) }
-        ensures receives { (f : ℕ) (x : List ℕ) →
-            ReceivesFrom f x (receiver_of self.old storage.old runs.old) →
-            MatchesStream f x pos bytes.now →
-            ReceivesFrom f x (receiver_of self.new storage.new runs.new) }
         ensures stored { let v = receiver_of self.old storage.old runs.old in
             storage.new ≡ storage_after self.old storage.old
             (verdict (length runs.old) v (piece pos bytes.now)) }
@@ -230,10 +224,6 @@ impl ReceiverHead {
         ensures unchanged { OnErr result ((self.new ≡ self.old) × (storage.new ≡ storage.old)
             × (runs.new ≡ runs.old)) }
         ensures canonical { IsCanonical self.old.held → IsCanonical self.new.held }
-        ensures receives { (f : ℕ) (x : List ℕ) →
-            ReceivesFrom f x (receiver_of self.old storage.old runs.old) →
-            MatchesStream f x pos bytes.now →
-            ReceivesFrom f x (receiver_of self.new storage.new runs.new) }
     {
         let next = self.next();
         let window = self.window(storage.len());
@@ -274,11 +264,6 @@ impl ReceiverHead {
         ensures state { (runs : List (ℕ × ℕ)) → HasSoundParts self.old (length storage.now) runs →
             receiver_of self.new storage.now runs
             ≡ receiver_after_read (receiver_of self.old storage.now runs) (length into.old) }
-        ensures receives { (runs : List (ℕ × ℕ)) → HasSoundParts self.old (length storage.now) runs →
-            (f : ℕ) (x : List ℕ) → ReceivesFrom f x (receiver_of self.old storage.now runs) →
-            ReceivesFrom f x (receiver_of self.new storage.now runs)
-            × (take result into.new
-            ≡ slice_range x self.old.count_read (self.old.count_read + result)) }
     {
         let count = self.place.dequeue_slice(storage, into);
         self.count_read += count as u64;
@@ -384,12 +369,6 @@ impl ReceiverHead {
         ensures state { (storage : List ℕ) (runs : List (ℕ × ℕ)) → length storage ≡ capacity →
             HasSoundParts self.old capacity runs → receiver_of self.new storage runs
             ≡ receiver_after_read (receiver_of self.old storage runs) count }
-        ensures receives { (storage : List ℕ) (runs : List (ℕ × ℕ)) → length storage ≡ capacity →
-            HasSoundParts self.old capacity runs → (f : ℕ) (x : List ℕ) →
-            ReceivesFrom f x (receiver_of self.old storage runs) →
-            ReceivesFrom f x (receiver_of self.new storage runs)
-            × (take count (queue (ring_at storage self.old.place))
-            ≡ slice_range x self.old.count_read (self.old.count_read + count)) }
     {
         self.place.dequeue(capacity, count);
         self.count_read += count as u64;
@@ -457,7 +436,6 @@ impl ReceiverHead {
         ensures within { (capacity : ℕ) → HasSoundParts self.now capacity runs.now →
             All (λ run. run.1 ≤ self.now.first + self.now.count_read + capacity) result }
     {
-        laws::maximal_runs();
         HeldRunIter::over(self.held.iter_data(runs), self.next())
     }
 
@@ -591,7 +569,6 @@ impl ReceiverHead {
             (self.now.first + self.now.count_read + capacity) (held_at self.now runs.now)
             position len }
     {
-        laws::maximal_runs();
         let next = self.next();
         let limit = next.saturating_add(self.window(capacity) as u64);
         let end = limit.min(position + len as u64);
@@ -637,7 +614,6 @@ impl ReceiverHead {
         ensures { IsTrue result ↔ IsSameState (receiver_of self.now storage.now runs.now)
             (receiver_of other.now other_storage.now other_runs.now) }
     {
-        laws::equal_maximal_runs();
         self.first == other.first
             && self.count_read == other.count_read
             && self.is_same_queue(storage, other, other_storage)

@@ -1,6 +1,6 @@
 //! Long schedules, and schedules in memory that refuses a request.
 ghost use Rattle.std.specs.Prelude.{All, IfOk};
-ghost use Rattle.net_receiver.specs.Commands.{CommandFits};
+ghost use Rattle.net_receiver.specs.Execution.{CommandFits};
 
 use crate::assertions::{assert_count, assert_holds};
 use net_receiver::{Command, Receiver, Reply, execute, replay};

@@ -1,6 +1,6 @@
 //! Receivers over a [`ManagedSlice`], of which Rust's take all that converts to one.
 ghost use Rattle.std.specs.Prelude.{◌≡◌, ◌≤◌, ℕ, List, length};
-ghost use Rattle.net_receiver.specs.{fresh_receiver, Refines, fresh_kept, ReceivesFrom};
+ghost use Rattle.net_receiver.specs.{fresh_receiver, ReceivesFrom};
 
 use crate::receiver::{Receiver, ReceiverOver};
 use net_ring::ManagedSlice;
@@ -19,7 +19,6 @@ impl<'a, const N: usize> Receiver<'a, N> {
     pub const fn new(storage: ManagedSlice<'a, u8>) -> Self
         requires { 1 ≤ N }
         ensures state { result ≡ fresh_receiver 0 (length (elements storage.entry)) }
-        ensures refines { Refines result fresh_kept }
         ensures receives { (x : List ℕ) → ReceivesFrom 0 x result }
     {
         ReceiverOver::over_at(storage, 0)
@@ -31,7 +30,6 @@ impl<'a, const N: usize> Receiver<'a, N> {
     pub const fn new_at(storage: ManagedSlice<'a, u8>, first: u64) -> Self
         requires { 1 ≤ N }
         ensures state { result ≡ fresh_receiver first (length (elements storage.entry)) }
-        ensures refines { Refines result fresh_kept }
         ensures receives { (x : List ℕ) → ReceivesFrom first x result }
     {
         ReceiverOver::over_at(storage, first)

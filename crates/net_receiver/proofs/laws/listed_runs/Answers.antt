@@ -2,4 +2,4 @@ use Rattle.net_receiver.proofs.Theorems.{lists_held_runs}
 use Rattle.net_receiver.proofs.laws.listed_runs.Goals as goal
 
 pub returns : goal.returns
-returns c = lists_held_runs c.maximal_runs.ensures
+returns c = lists_held_runs

@@ -3,7 +3,7 @@ use Rattle.net_receiver.proofs.laws.newest_runs.Goals as goal
 
 pub returns : goal.returns
 returns c = record {
-  runs = newest_runs_are_listed c.maximal_runs.ensures;
-  calls = newest_are_first c.maximal_runs.ensures;
+  runs = newest_runs_are_listed;
+  calls = newest_are_first;
   together = held_stay_together;
 }

@@ -16,7 +16,7 @@ loop-command-preserved g c =
     let more = c.push_reserved.ensures.items ∙ ap (λ xs. xs ++ c.in_ok-reply.reply ∷ []) c.reserve.ensures.items in
     record {
       state =
-          state_more g.row.N c.args.receiver.now c.loop-command.receiver c.execute_core.new.receiver c.args.commands.now
+          state_more g.row.N c.args.receiver.now c.loop-command.receiver c.execute.new.receiver c.args.commands.now
           c.loop-command.command-index c.command-item.result c.loop-command-test.true c.command-item.is
           c.loop-command.invariant.state c.in_ok-reply.ensures.state;
       pushed =

@@ -1,5 +1,5 @@
 use Rattle.std.specs.Prelude.{All}
-use Rattle.net_receiver.specs.Commands.{CommandFits}
+use Rattle.net_receiver.specs.Execution.{CommandFits}
 use Rattle.net_core_tests.proofs.receiver.schedule.commands_of.Given as goal
 
 -- each command so far fits

@@ -1,6 +1,5 @@
-use Rattle.net_receiver.proofs.Words.{◌∙◌, sym, ap, length, length-append, take_all, le_refl, arith, ring_at}
+use Rattle.net_receiver.proofs.Words.{◌∙◌, ap, length, length-append, arith, ring_at}
 use Rattle.net_receiver.proofs.Words.{contiguous_count, ReceiverState}
-use Rattle.net_receiver.proofs.OneStream.{head_bytes}
 use Rattle.net_receiver.proofs.Places.{lent_prefix, parts_are}
 use Rattle.net_receiver.proofs.Heads.{lent_view, lent_sound}
 use Rattle.net_receiver.proofs.receiver.ReceiverOver.as_slices.Goals as goal
@@ -21,8 +20,3 @@ pub returns-clause-value : goal.returns-clause-value
 returns-clause-value g c =
     parts_are c.args.self.now.queue c.as_slices.result.0.now c.as_slices.result.1.now (contiguous_count c.args.self.now)
     (returns-clause-queue g c) (returns-clause-cut g c)
-
-pub returns-clause-bytes : goal.returns-clause-bytes
-returns-clause-bytes g c = λ f x r.
-    let v = c.args.self.now in
-    returns-clause-queue g c ∙ sym (take_all (length v.queue) v.queue (le_refl _)) ∙ head_bytes f x v (length v.queue) (le_refl _) r

@@ -52,7 +52,7 @@ returns g c =
       unchanged = any.0;
       kept = any.1;
       queued = any.2;
-      in_order = kept_in_order g.row.N v c.args.pos c.args.bytes.now c.keep.result (counts_are g c);
+      accepted = kept_in_order g.row.N v c.args.pos c.args.bytes.now c.keep.result (counts_are g c);
       setting = stays g.row.N v _ (Segment c.args.pos c.args.bytes.now) (state_is g c) (sound_for _ (sound_is g c) g.row.N (runs_are g c));
       receives = λ f x r h. segment_receives g.row.N f x v _ c.args.pos c.args.bytes.now (state_is g c) r h;
     }

@@ -1,6 +1,5 @@
 use Rattle.net_receiver.proofs.Words.{◌∙◌, ap, drop, take, length, ring_at, contiguous_count_from, ReceiverState}
-use Rattle.net_receiver.proofs.OneStream.{part_bytes}
-use Rattle.net_receiver.proofs.Places.{lent_from, each_lent, end_lent}
+use Rattle.net_receiver.proofs.Places.{lent_from, end_lent}
 use Rattle.net_receiver.proofs.Heads.{lent_view, lent_sound}
 use Rattle.net_receiver.proofs.receiver.ReceiverOver.peek.Goals as goal
 
@@ -18,9 +17,3 @@ returns-clause-count g c =
     (end_lent _ c.peek.result.now c.args.offset c.peek.ensures.value)
     ∙ ap (λ v. contiguous_count_from v c.args.offset c.args.size)
     (lent_view _ _ _ _ c.whole.ensures c.args.self.now c.self.view_is)
-
-pub returns-clause-each : goal.returns-clause-each
-returns-clause-each g c = each_lent c.args.self.now.queue c.peek.result.now c.args.offset (returns-clause-value g c)
-
-pub returns-clause-bytes : goal.returns-clause-bytes
-returns-clause-bytes g c = λ f x r. part_bytes f x c.args.self.now c.peek.result.now c.args.offset (returns-clause-value g c) r

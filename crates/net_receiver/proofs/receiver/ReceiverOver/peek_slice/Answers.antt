@@ -1,5 +1,4 @@
 use Rattle.net_receiver.proofs.Words.{◌∙◌, ◌++◌, ap, sym, min, length, take, drop, ReceiverState}
-use Rattle.net_receiver.proofs.OneStream.{read_bytes}
 use Rattle.net_receiver.proofs.Heads.{lent_view, queue_size}
 use Rattle.net_receiver.proofs.receiver.ReceiverOver.peek_slice.Goals as goal
 
@@ -13,7 +12,3 @@ returns-clause-into g c =
     c.peek_slice.ensures.into
     ∙ ap (λ (v : ReceiverState). take (length c.args.into.now) v.queue ++ drop (length v.queue) c.args.into.now)
     (lent_view _ _ _ _ c.whole.ensures c.args.self.now c.self.view_is)
-
-pub returns-clause-bytes : goal.returns-clause-bytes
-returns-clause-bytes g c = λ f x r.
-    read_bytes f x c.args.self.now c.peek_slice.new.into c.args.into.now c.peek_slice.result (returns-clause-count g c) (returns-clause-into g c) r

@@ -1,6 +1,6 @@
 use Rattle.net_receiver.proofs.Words.{◌∙◌, ◌++◌, min, ap, sym, subst, length, take, drop, IsCanonical, Read, ReadReply}
 use Rattle.net_receiver.proofs.Words.{receiver_after_read, ReceiverState}
-use Rattle.net_receiver.proofs.OneStream.{stays}
+use Rattle.net_receiver.proofs.OneStream.{stays, read_receives, read_bytes}
 use Rattle.net_receiver.proofs.Heads.{lent_view, lent_sound, back_view, back_sound, queue_size, sound_for}
 use Rattle.net_receiver.proofs.Schedules.{read_prefix}
 use Rattle.net_receiver.proofs.receiver.ReceiverOver.read.Goals as goal
@@ -39,3 +39,10 @@ pub returns-clause-setting : goal.returns-clause-setting
 returns-clause-setting g c =
     stays g.row.N c.args.self.now _ (Read (length c.args.into.now)) (returns-clause-state g c)
     (sound_for _ (invariant_of-self g c).0 g.row.N c.self.invariant.1)
+
+pub returns-clause-receives : goal.returns-clause-receives
+returns-clause-receives g c = λ f x r. read_receives f x _ _ (length c.args.into.now) (returns-clause-state g c) r
+
+pub returns-clause-bytes : goal.returns-clause-bytes
+returns-clause-bytes g c = λ f x r.
+    read_bytes f x c.args.self.now c.read.new.into c.args.into.now c.read.result (returns-clause-count g c) (returns-clause-into g c) r

@@ -1,8 +1,6 @@
 -- `f` was run on the queue's first part; what it counts is taken off, as by a read of that many bytes.
 use Rattle.net_receiver.specs.{HasSoundParts}
-use Rattle.net_receiver.proofs.Words.{sym, ap, subst, ◌∙◌, length, arith, IsCanonical, Read, receiver_after_read}
-use Rattle.net_receiver.proofs.OneStream.{stays}
-use Rattle.net_receiver.proofs.Heads.{sound_for}
+use Rattle.net_receiver.proofs.Words.{sym, ap, subst, ◌∙◌, length, arith, IsCanonical, receiver_after_read}
 use Rattle.net_receiver.proofs.receiver.ReceiverOver.read_with.Goals as goal
 
 pub f-answer-requires : goal.f-answer-requires
@@ -20,11 +18,6 @@ returns-clause-state g c =
     c.remove.ensures.state (g.S.Storage.elements c.self.inside.storage) c.self.inside.runs (sym c.count.ensures)
     (subst (λ n. HasSoundParts c.self.inside.head n c.self.inside.runs) (sym c.count.ensures) c.self.invariant.0)
     ∙ ap (λ v. receiver_after_read v c.f-answer.result.0) c.self.view_is
-
-pub returns-clause-setting : goal.returns-clause-setting
-returns-clause-setting g c =
-    stays g.row.N c.args.self.now _ (Read c.f-answer.result.0) (returns-clause-state g c)
-    (sound_for _ (invariant_of-self g c).0 g.row.N c.self.invariant.1)
 
 pub prove-unreachable-requires : goal.prove-unreachable-requires
 prove-unreachable-requires g c =

@@ -7,21 +7,21 @@ use Rattle.net_receiver.proofs.receiver_head.ReceiverHead.count_part.Goals as go
 pub overflow_add-count : goal.overflow_add-count
 overflow_add-count c =
     let s = held_at c.args.self.now c.args.runs.now in
-    let few = missing_few s c.min-end.result (max c.next-next.result c.args.position) (maximal_runs s) (left_of s _ (c.maximal_runs.ensures s)) in
+    let few = missing_few s c.min-end.result (max c.next-next.result c.args.position) (maximal_runs s) (left_of s _) in
     let here = ap (missing_in c.min-end.result c.loop-start.at) c.in-Some.ensures.steps in
     omega (arith, few, here, c.loop-start.invariant.2, c.saturating_sub-count.ensures, c.min.ensures, c.min-end.type_inv)
 
 pub overflow_add-all : goal.overflow_add-all
 overflow_add-all c =
     let s = held_at c.args.self.now c.args.runs.now in
-    let few = missing_few s c.min-end.result (max c.next-next.result c.args.position) (maximal_runs s) (left_of s _ (c.maximal_runs.ensures s)) in
+    let few = missing_few s c.min-end.result (max c.next-next.result c.args.position) (maximal_runs s) (left_of s _) in
     let here = ap (missing_in c.min-end.result c.loop-start.at) c.in-None.ensures.steps.0 in
     omega (arith, few, here, c.loop-start.invariant.2, c.saturating_sub.ensures, c.min-end.type_inv)
 
 pub prove-unreachable-requires : goal.prove-unreachable-requires
 prove-unreachable-requires c =
     let s = held_at c.args.self.now c.args.runs.now in
-    let few = missing_few s c.min-end.result (max c.next-next.result c.args.position) (maximal_runs s) (left_of s _ (c.maximal_runs.ensures s)) in
+    let few = missing_few s c.min-end.result (max c.next-next.result c.args.position) (maximal_runs s) (left_of s _) in
     let here = ap (missing_in c.min-end.result c.loop-start.at) c.in-None.ensures.steps.0 in
     omega (arith, few, here, c.loop-start.invariant.2, c.saturating_sub.ensures, c.min-end.type_inv)
 
@@ -34,7 +34,7 @@ returns c =
     let end = c.min-end.result in
     let lacks : ℕ → Bool = λ q. not (contains s q) in
     let here = ap (missing_in end c.loop-start.at) c.in-None.ensures.steps.0 in
-    let all = missing_is s end at (maximal_runs s) (left_of s at (c.maximal_runs.ensures s)) in
+    let all = missing_is s end at (maximal_runs s) (left_of s at) in
     let clip = clipped lacks (next_at h) limit c.args.position c.args.len in
     let low : at ≡ max (next_at h) c.args.position = omega (arith, c.next-next.ensures) in
     let high : end - at ≡ min limit (c.args.position + c.args.len) - max (next_at h) c.args.position =

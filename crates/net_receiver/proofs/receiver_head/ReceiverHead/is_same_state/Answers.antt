@@ -31,7 +31,7 @@ returns-then-is_same_queue c =
     let before = before_held c in
     let h = c.args.self.now in
     let h' = c.args.other.now in
-    let both = alike c.equal_maximal_runs.ensures (spare (ring_at c.args.storage.now h.place)) (spare (ring_at c.args.other_storage.now h'.place))
+    let both = alike (spare (ring_at c.args.storage.now h.place)) (spare (ring_at c.args.other_storage.now h'.place))
     (set_of h.held c.args.runs.now) (set_of h'.held c.args.other_runs.now) before.0 before.1 before.2 in (
       (λ yes. (before.0, before.1, before.2, both.0 (c.is_same.ensures.same.0 yes))),
       (λ same. c.is_same.ensures.same.1 (both.1 same.3)),

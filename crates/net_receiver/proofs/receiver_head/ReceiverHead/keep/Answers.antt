@@ -7,7 +7,6 @@ use Rattle.net_assembler.specs.Positions.{with_range, runs}
 use Rattle.net_assembler.specs.RunLists.{set_of}
 use Rattle.net_assembler.proofs.Sets.{too_many}
 use Rattle.net_receiver.specs.{piece, verdict, state_after, numbers, receiver_of, HasSoundParts}
-use Rattle.net_receiver.proofs.OneStream.{segment_receives}
 use Rattle.net_receiver.proofs.Heads.{cut_of, refused, refused_stores, joined_fits, kept_is, kept_stores, only_err}
 use Rattle.net_receiver.proofs.Heads.{accepted_cases}
 use Rattle.net_receiver.proofs.Places.{front_removed}
@@ -89,10 +88,3 @@ returns-clause-stored c =
     c.if-late-bytes.false c.if-ahead-window.false c.min-kept.ensures in
     kept_stores c.args.storage.now c.requires.sound cut c.requires.fits (added c) _ _ _ c.write_unallocated.ensures.ring
     (ap (take c.min-kept.result) (take_rest c.args.bytes.now c.saturating_sub-late.result)) c.write_unallocated.ensures.count
-
-pub returns-clause-receives : goal.returns-clause-receives
-returns-clause-receives c = λ f x r h. segment_receives (length c.args.runs.now) f x _ _ c.args.pos c.args.bytes.now (returns-clause-state c) r h
-
-pub returns-in_err-queued-clause-receives : goal.returns-in_err-queued-clause-receives
-returns-in_err-queued-clause-receives c =
-    λ f x r h. segment_receives (length c.args.runs.now) f x _ _ c.args.pos c.args.bytes.now (returns-in_err-queued-clause-state c) r h

@@ -4,7 +4,6 @@ use Rattle.net_ring.specs.Ring.{RingState, queue}
 use Rattle.net_ring.specs.declared.head.RingHead.{RingHead}
 use Rattle.net_ring.proofs.Rotations.{length-queue}
 use Rattle.net_receiver.specs.{receiver_of, HasSoundParts}
-use Rattle.net_receiver.proofs.OneStream.{read_receives, read_bytes}
 use Rattle.net_receiver.proofs.Heads.{after_read, read_sound, given_is}
 use Rattle.net_receiver.proofs.receiver_head.ReceiverHead.read.Goals as goal
 
@@ -41,17 +40,3 @@ pub returns-clause-state : goal.returns-clause-state
 returns-clause-state c = λ rs s.
     ap (λ h. receiver_of h c.args.storage.now rs) (returns-clause-head c)
     ∙ after_read c.args.storage.now s c.dequeue_slice-count.result (length c.args.into.now) c.dequeue_slice-count.ensures.count
-
--- what is given, by the queue
-count_is : (c : goal.After-self-1) → c.dequeue_slice-count.result
-    ≡ min (length c.args.into.now) (length (queue (ring_at c.args.storage.now c.args.self.now.place)))
-count_is c =
-    c.dequeue_slice-count.ensures.count
-    ∙ ap (min (length c.args.into.now)) (sym (length-queue (ring_at c.args.storage.now c.args.self.now.place) c.requires.place))
-
-pub returns-clause-receives : goal.returns-clause-receives
-returns-clause-receives c = λ rs s f x r. (
-  read_receives f x _ _ (length c.args.into.now) (returns-clause-state c rs s) r,
-  read_bytes f x (receiver_of c.args.self.now c.args.storage.now rs) c.dequeue_slice-count.new.into c.args.into.now
-      c.dequeue_slice-count.result (count_is c) (returns-clause-into c) r,
-)

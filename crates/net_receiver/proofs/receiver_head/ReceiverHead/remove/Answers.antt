@@ -1,8 +1,7 @@
 use Rattle.std.proofs.Common.{◌∙◌, ◌+◌, sym, ap, subst, arith}
 use Rattle.net_ring.specs.RingHead.{IsSound as IsSoundPlace}
 use Rattle.net_receiver.specs.{receiver_of, HasSoundParts, head_after_read}
-use Rattle.net_receiver.proofs.OneStream.{read_receives, head_bytes}
-use Rattle.net_receiver.proofs.Heads.{after_read, read_sound, queue_size}
+use Rattle.net_receiver.proofs.Heads.{after_read, read_sound}
 use Rattle.net_receiver.proofs.receiver_head.ReceiverHead.remove.Goals as goal
 
 pub returns-clause-head : goal.returns-clause-head
@@ -23,10 +22,3 @@ returns-clause-state c = λ xs rs size s.
     let over = subst (λ n. HasSoundParts c.args.self.now n rs) (sym size) s in
     ap (λ h. receiver_of h xs rs) (returns-clause-head c ∙ ap (λ n. head_after_read n c.args.count c.args.self.now) (sym size))
     ∙ after_read xs over c.args.count c.args.count (omega (arith, c.requires.queued))
-
-pub returns-clause-receives : goal.returns-clause-receives
-returns-clause-receives c = λ xs rs size s f x r.
-    let over = subst (λ n. HasSoundParts c.args.self.now n rs) (sym size) s in (
-      read_receives f x _ _ c.args.count (returns-clause-state c xs rs size s) r,
-      head_bytes f x (receiver_of c.args.self.now xs rs) c.args.count (omega (arith, c.requires.queued, queue_size xs over)) r,
-    )

@@ -2,7 +2,6 @@ use Rattle.std.proofs.Common.{◌∙◌, Ok, ap, sym, length}
 use Rattle.net_assembler.specs.Positions.{maximal_runs}
 use Rattle.net_receiver.specs.{piece, verdict, numbers, with_sack, first_three, domain, receiver_of}
 use Rattle.net_receiver.specs.ReceiverState.{ReceiverState}
-use Rattle.net_receiver.proofs.OneStream.{segment_receives}
 use Rattle.net_receiver.proofs.Heads.{only_err, held_is}
 use Rattle.net_receiver.proofs.receiver_head.ReceiverHead.segment.Goals as goal
 
@@ -24,11 +23,3 @@ returns-clause-value c =
     (λ i. Ok (record { kept = c.in_ok-bytes.bytes.kept; queued = c.in_ok-bytes.bytes.queued; sack = sack i }))
     ∙ ap (λ n. with_sack n (domain left.held)) (sym c.in_ok-bytes.was ∙ c.keep.ensures.numbers)
     ∙ ap (λ (u : ReceiverState). with_sack (numbers v x) (domain u.held)) c.keep.ensures.state
-
-pub returns-in_err-bytes-clause-receives : goal.returns-in_err-bytes-clause-receives
-returns-in_err-bytes-clause-receives c =
-    λ f x r h. segment_receives (length c.args.runs.now) f x _ _ c.args.pos c.args.bytes.now c.keep.ensures.state r h
-
-pub returns-clause-receives : goal.returns-clause-receives
-returns-clause-receives c =
-    λ f x r h. segment_receives (length c.args.runs.now) f x _ _ c.args.pos c.args.bytes.now c.keep.ensures.state r h
