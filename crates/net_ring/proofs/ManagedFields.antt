@@ -23,8 +23,8 @@ use base.Fml.{Lft, GName, Share, Fml, fsep, fex, feq, fat, flft, fobor, fobs, fa
 use contract.Monad.{fact}
 use types.Logic.{Logic, sem}
 use types.Kit.{Goal, Soaks, Item, Seq, mean, later, ‵, raw, some, given, ◌⊛◌, ◌$◌, ◌∵◌, !, qed, by, move, keep, drop}
-use types.Kit.{use1, use2, split, split3, group, pick, learn, show, rewrite, await, fsplit, fjoin, fpick, fpack}
-use types.Kit.{feq_l, feq_i, done}
+use types.Kit.{use1, use2, split, split3, group, pick, learn, show, rewrite, await, fsplit, fjoin, fpick, fpack, feq_l}
+use types.Kit.{feq_i, done}
 use types.Match.{live}
 use types.Mut.{open_ref}
 use types.SemTy.{Body}

@@ -16,8 +16,7 @@ use base.Stored.{coded_list}
 use base.Fml.{Lft, Incl, GName, Share, flft, fobs, fbor}
 use types.Logic.{Logic, sem}
 use types.Kit.{Goal, Soaks, Item, Seq, ‵, ◌⊛◌, ◌$◌, ◌∵◌, !, qed, move, drop, fsplit, fsplit3, fjoin, updating, await}
-use types.Kit.{later, some, use1, group, pick, now, show, done, split3, rewrite, feq_l, feq_i, split, join, use2}
-use types.Kit.{use3}
+use types.Kit.{later, some, use1, group, pick, now, show, done, split3, rewrite, feq_l, feq_i, split, join, use2, use3}
 use types.SemTy.{cells, Arr, Body}
 use types.Follow.{takes_part}
 use types.Mut.{open_ref}

@@ -7,8 +7,9 @@ use Rattle.std.proofs.Common.{min, refl, sym, ap, ap₂, ◌∙◌, subst, inl, 
 use Rattle.std.proofs.Common.{if◌then◌else◌, suc, Some, length-take, set, ◌↔◌}
 use Rattle.std.proofs.lemmas.Bool.Decides.{nat_tests}
 use Rattle.std.proofs.lemmas.Bool.{false≢true, cases_lt}
-use Rattle.std.proofs.lemmas.List.{drop-drop, take-take, length-take-le, take-append-drop, take_all, drop_all, nil_from_length}
-use Rattle.std.proofs.lemmas.List.{drop_more, places, same_lists, drop_at, take_more, take_more_set, drop-set-lt}
+use Rattle.std.proofs.lemmas.List.{drop-drop, take-take, length-take-le, take-append-drop, take_all, drop_all}
+use Rattle.std.proofs.lemmas.List.{nil_from_length, drop_more, places, same_lists, drop_at, take_more, take_more_set}
+use Rattle.std.proofs.lemmas.List.{drop-set-lt}
 use Rattle.std.specs.Prelude.{Result, IsOk, IsErr, is_ok, slice_get}
 use Rattle.std.specs.Borrow.{MutBor}
 use Rattle.std.specs.Fn.{Once, FnOnceReturnsAtMut}
@@ -16,15 +17,15 @@ use denote.MutBor.{at_last}
 use Rattle.std.proofs.lemmas.Option.{gets, slice_get_within}
 use Rattle.std.specs.declared.result.Result.TheVariants.{Ok, Err}
 use Rattle.net_ring.specs.{overwrite, RingState, rotation, ring, capacity, window, queue, index_after, spare}
-use Rattle.net_ring.specs.{storage_index, write_at, IsWellFormed, with_elements, with_elements_wrapping}
-use Rattle.net_ring.specs.{with_enqueued, with_dequeued, rewind_if_empty, contiguous_window, contiguous_queued}
-use Rattle.net_ring.specs.{spare_index, contiguous_unallocated, queue_index, contiguous_allocated, Enqueues, Dequeues}
-use Rattle.net_ring.specs.{WritesSpare, WritesQueue, EnqueuesFrom, DequeuesFrom, contiguous_queue, ring_at, rewound}
-use Rattle.net_ring.specs.{IsSound, place, free_index, queued_index, written_span, elements_at}
+use Rattle.net_ring.specs.{storage_index, write_at, IsWellFormed, with_elements, with_elements_wrapping, with_enqueued}
+use Rattle.net_ring.specs.{with_dequeued, rewind_if_empty, contiguous_window, contiguous_queued, spare_index}
+use Rattle.net_ring.specs.{contiguous_unallocated, queue_index, contiguous_allocated, Enqueues, Dequeues, WritesSpare}
+use Rattle.net_ring.specs.{WritesQueue, EnqueuesFrom, DequeuesFrom, contiguous_queue, ring_at, rewound, IsSound, place}
+use Rattle.net_ring.specs.{free_index, queued_index, written_span, elements_at}
 use Rattle.net_ring.specs.declared.head.RingHead.{RingHead}
 use Rattle.net_ring.proofs.Rotations.{IsStorageIndex, length-rotation, length-overwrite, storage_index_is, read_at_le}
-use Rattle.net_ring.proofs.Rotations.{whole, length-queue, length-spare, spare-written}
-use Rattle.net_ring.proofs.Rotations.{with_enqueued_parts, with_dequeued_parts, take_sum}
+use Rattle.net_ring.proofs.Rotations.{whole, length-queue, length-spare, spare-written, with_enqueued_parts}
+use Rattle.net_ring.proofs.Rotations.{with_dequeued_parts, take_sum}
 use Rattle.net_ring.specs.declared.head.Span.{Span}
 use Rattle.std.proofs.lemmas.List.Elements.{AllZip-push}
 use Rattle.std.specs.List.{AllZip}
@@ -551,50 +552,6 @@ module _ {X : Type 0} where
       i ≤ length xs → i + length part ≤ length xs
   end_of xs part i is le = omega (arith, simp (length-take, length-drop) at (ap length is))
 
-  -- the elements of two lists that are one, of the first and of the second
-  pub each_head : (xs a b : List X) → a ++ b ≡ xs → (k : ℕ) (d : X) → k < length a → get_or xs k d ≡ get_or a k d
-  each_head xs a b is k d below = grind (arith, places)
-
-  pub each_behind : (xs a b : List X) → a ++ b ≡ xs →
-      (k : ℕ) (d : X) → length a ≤ k → get_or xs k d ≡ get_or b (k - length a) d
-  each_behind xs a b is k d from = grind (arith, places)
-
-module _ {T : Type 0} where
-  -- what is contiguous at the head of the queue, and what wraps
-  pub record Parts (g : RingState T) (a b : List T) : Type 0 where
-    pub cut : length a ≡ contiguous_queued g
-    pub count : length a + length b ≡ g.count
-    pub some : g.count ≢ 0 → 0 < length a
-    pub first : a ≡ contiguous_queue g
-    pub second : b ≡ drop (length a) (queue g)
-    pub queue : a ++ b ≡ queue g
-    pub stored : (a ≡ take (length a) (drop g.read_at g.storage)) × (b ≡ take (g.count - length a) g.storage)
-
-  module _ (v g : RingState T) (is : v ≡ g) (wf : IsWellFormed v) where
-    -- a is the queue up to the storage's end, and b the rest of it, at the storage's beginning
-    pub two_parts : (k p m n : ℕ) → k ≡ contiguous_queued g → p ≡ g.read_at → m ≡ k → n ≡ g.count - k →
-        (a b : List T) → a ≡ take m (drop p v.storage) → b ≡ take n v.storage → Parts g a b
-    two_parts k p m n ek ep em en a b ea eb =
-        let wg = well v g is wf in
-        let head_is = shown_head v g is wf p m k ep em (omega arith) a ea in
-        let second_is : b ≡ take (g.count - k) g.storage = eb ∙ ap₂ (λ j (o : RingState T). take j o.storage) en is in
-        let from : IsStorageIndex (capacity g) g.read_at (min 0 g.count) g.read_at =
-        subst (λ j. IsStorageIndex (capacity g) g.read_at j g.read_at) (omega arith) (read_index_is g wg) in
-        let whole : a ++ b ≡ queue g = ap₂ ◌++◌ (head_is.2 ∙ ap (λ j. take j (drop g.read_at g.storage)) head_is.0) second_is
-        ∙ read_around g wg 0 g.count g.read_at k (omega arith) (read_at_le g wg) from ek ∙ take_all g.count (queue g) (omega (arith, length-queue g wg)) in
-        let second : b ≡ drop k (queue g) = sym (drop_at a b k head_is.0) ∙ ap (drop k) whole in
-        let first : a ≡ take k (queue g) = head_is.1 ∙ ap (λ (j : ℕ). take j (queue g)) head_is.0 in
-        let long : length b ≡ g.count - k = omega (arith, ap length second, length-drop k (queue g), length-queue g wg) in
-        record {
-          cut = head_is.0 ∙ ek;
-          count = omega (arith, head_is.0);
-          some = λ l. (let h = contiguous_head_some g wg l in omega (arith, head_is.0));
-          first = first ∙ ap (λ (j : ℕ). take j (queue g)) ek;
-          second = second ∙ sym (ap (λ (j : ℕ). drop j (queue g)) head_is.0);
-          queue = whole;
-          stored = (head_is.2, second_is ∙ sym (ap (λ (j : ℕ). take (g.count - j) g.storage) head_is.0));
-        }
-
 -- the element m, after the first m and before those that follow it
 last_off : {X : Type 0} (l : List X) (m : ℕ) (x : X) → m < length l → slice_get (take (suc m) l) m ≡ Some x →
     (take (suc m) l ≡ take m l ++ x ∷ []) × (drop m l ≡ x ∷ drop (suc m) l)
@@ -644,6 +601,32 @@ module _ {T : Type 0} where
     pub no_spare : (drop n (drop r b ++ take r b) ≡ []) ↔ (length b ≤ n)
     no_spare = let long = length-spare (ring b r n) (at, le) in (λ e. omega (arith, ap length e), λ l. nil_from_length _ (omega arith))
 
+    -- k elements of the queue from element i on are contiguous
+    module _ (i k p : ℕ) (few : k ≤ n - i) (ep : p ≡ index_after (length b) r (min i n)) (fits : k ≤ length b - p) where
+      pub queue-shown : take k (drop i (take n (drop r b ++ take r b))) ≡ take k (drop p b)
+      queue-shown = same_lists _ _ (grind (arith, places, nat_tests)) (λ m d h. grind (arith, places, nat_tests))
+
+      pub first-shown : (i < n → 0 < k) → slice_get (take k (drop p b)) 0 ≡ slice_get (take n (drop r b ++ take r b)) i
+      first-shown some =
+          let long : length (take k (drop p b)) ≡ k = length-take-le k (drop p b) (omega (arith, length-drop p b)) in
+          first_shown (take n (rotation b r)) (take k (drop p b)) i
+          (sym queue-shown ∙ ap (λ j. take j (drop i (take n (rotation b r)))) (sym long))
+          (λ l. (let s = some (omega (arith, length-queue (ring b r n) (at, le))) in omega arith))
+
+    -- the queue is k contiguous elements, and the rest at the storage's beginning
+    module _ (k : ℕ) (ek : k ≡ min n (length b - r)) where
+      pub queue-cut : take k (drop r b) ++ take (n - k) b ≡ take n (drop r b ++ take r b)
+      queue-cut = same_lists _ _ (grind (arith, places)) (λ m d h. grind (arith, places))
+
+      pub queue-joined : (a z : List T) → a ≡ take k (drop r b) → z ≡ take (n - k) b → a ++ z ≡ take n (drop r b ++ take r b)
+      queue-joined a z ea ez = ap₂ ◌++◌ ea ez ∙ queue-cut
+
+      pub queue-first : take k (take n (drop r b ++ take r b)) ≡ take k (drop r b)
+      queue-first = same_lists _ _ (grind (arith, places)) (λ m d h. grind (arith, places))
+
+      pub queue-second : drop k (take n (drop r b ++ take r b)) ≡ take (n - k) b
+      queue-second = same_lists _ _ (grind (arith, places)) (λ m d h. grind (arith, places))
+
     -- k elements are dequeued
     module _ (k : ℕ) (few : k ≤ n) where
       pub queue-read_on : take (n - k) (drop (index_after (length b) r k) b ++ take (index_after (length b) r k) b)
@@ -688,3 +671,7 @@ module _ {T : Type 0} where
 pub ruleset heads = (queue-read_on, spare-read_on, queue-wrote, spare-wrote, queued_elements, wrapping_is, take_of_drop, take-take, length-take)
 
 pub ruleset rings = (queue-read_on, spare-read_on, no_spare, take_sum, drop-drop, queue-off_back, spare-off_back, length-take, length-rotation)
+
+pub ruleset shown_parts = (queue-shown, first-shown, places, nat_tests)
+
+pub ruleset cut_parts = (queue-joined, queue-first, queue-second, places, nat_tests)

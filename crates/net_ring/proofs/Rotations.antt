@@ -6,8 +6,8 @@ use Rattle.std.proofs.lemmas.List.{take-append-drop, length-take-le, take_at, dr
 use Rattle.std.proofs.lemmas.List.{take-take, drop-take, drop-drop, places, same_lists}
 use Rattle.std.proofs.lemmas.Bool.Decides.{nat_tests}
 use Rattle.net_ring.specs.StorageLaws.{element_set_written}
-use Rattle.net_ring.specs.{overwrite, OverwritesAt, RingState, rotation, capacity, window, queue, spare}
-use Rattle.net_ring.specs.{storage_index, IsWellFormed, with_elements, with_enqueued, with_dequeued}
+use Rattle.net_ring.specs.{overwrite, OverwritesAt, RingState, rotation, capacity, window, queue, spare, storage_index}
+use Rattle.net_ring.specs.{IsWellFormed, with_elements, with_enqueued, with_dequeued}
 use Rattle.std.specs.Prelude.{slice_get, slice_set}
 use Rattle.std.proofs.lemmas.Grind.{common_steps}
 use Rattle.std.proofs.lemmas.Option.{gets}

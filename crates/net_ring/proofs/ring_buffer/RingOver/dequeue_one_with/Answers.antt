@@ -1,6 +1,7 @@
 use Rattle.std.proofs.Common.{rules, Bool, length, true, false, ◌≡◌, ◌≢◌, ◌∷◌, [], refl, ap, sym, ◌∙◌, is_ok}
 use Rattle.std.proofs.Common.{if◌then◌else◌, slice_index_or, drop, arith}
-use Rattle.net_ring.specs.{RingState, IsWellFormed, queue, with_dequeued, with_elements, overwrite, Makes, DequeueOne, DequeueErr}
+use Rattle.net_ring.specs.{RingState, IsWellFormed, queue, with_dequeued, with_elements, overwrite, Makes, DequeueOne}
+use Rattle.net_ring.specs.{DequeueErr}
 use Rattle.net_ring.proofs.Rotations.{length-overwrite}
 use Rattle.net_ring.proofs.RingFacts.{returned, well, found, queue_head, head_either, ring_is}
 use Rattle.net_ring.proofs.ring_buffer.RingOver.dequeue_one_with.Given as given

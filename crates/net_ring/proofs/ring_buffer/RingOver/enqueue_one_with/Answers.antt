@@ -1,7 +1,7 @@
 use Rattle.std.proofs.Common.{rules, Bool, true, false, ◌≡◌, ◌≢◌, ◌∷◌, [], refl, ap, sym, ◌∙◌, is_ok, if◌then◌else◌}
 use Rattle.std.proofs.Common.{slice_index_or, drop, arith}
-use Rattle.net_ring.specs.{RingState, IsWellFormed, spare, write_at, window, with_enqueued, with_elements, overwrite, Makes, EnqueueOne}
-use Rattle.net_ring.specs.{EnqueueErr}
+use Rattle.net_ring.specs.{RingState, IsWellFormed, spare, write_at, window, with_enqueued, with_elements, overwrite}
+use Rattle.net_ring.specs.{Makes, EnqueueOne, EnqueueErr}
 use Rattle.net_ring.proofs.RingFacts.{returned, well, found_next, spare_head, next_either, ring_is}
 use Rattle.net_ring.proofs.ring_buffer.RingOver.enqueue_one_with.Given as given
 use Rattle.net_ring.proofs.ring_buffer.RingOver.enqueue_one_with.Goals as goal

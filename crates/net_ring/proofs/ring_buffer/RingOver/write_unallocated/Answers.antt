@@ -1,6 +1,5 @@
 use Rattle.std.proofs.Common.{◌≡◌, ◌∙◌, ap, ◌-◌, take, drop, ℕ, List, length, min, length-take, arith}
-use Rattle.net_ring.specs.{RingState, capacity, window, spare_index, with_elements_wrapping, ring_at, overwrite}
-use Rattle.net_ring.specs.{Makes}
+use Rattle.net_ring.specs.{RingState, capacity, window, spare_index, with_elements_wrapping, ring_at, overwrite, Makes}
 use Rattle.net_ring.proofs.Rotations.{length-overwrite}
 use Rattle.net_ring.proofs.RingFacts.{ahead_clause, once_wf, lent_whole}
 use Rattle.net_ring.proofs.ring_buffer.RingOver.write_unallocated.Goals as goal
