@@ -366,6 +366,11 @@ pub record IsPlaceIn {H : Type 0} (h : PacketsHead) (ms : List (PacketMetadata H
   pub slots : HasSlots n h p
   pub from : BeginsAt c h p
 
+module _ {H : Type 0} {h : PacketsHead} {ms : List (PacketMetadata H)} {xs : List ℕ} {v : PacketsState H} {n c s : ℕ} {p : PacketPlace} where
+  pub place_in : IsQueue h ms xs v → n ≡ length ms → c ≡ length xs → placement_in n c h s ≡ Some p.gap → HasSlots n h p
+      → BeginsAt c h p → IsPlaceIn h ms xs v n c s p
+  place_in k en ec gap slots from = record { queue = k; slot_count = en; capacity = ec; gap = gap; slots = slots; from = from }
+
 module _ {H : Type 0} {h : PacketsHead} {ms : List (PacketMetadata H)} {xs : List ℕ} {v : PacketsState H} {n c s : ℕ} {p : PacketPlace}
     (at : IsPlaceIn h ms xs v n c s p) where
   pub gap_is : placement v s ≡ Some p.gap

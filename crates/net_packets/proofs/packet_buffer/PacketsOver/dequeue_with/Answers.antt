@@ -30,17 +30,8 @@ headless g c =
 pub invariant_of-self : goal.invariant_of-self
 invariant_of-self g c = absurd (headless g c)
 
-pub returns-in_default-clause-empty : goal.returns-in_default-clause-empty
-returns-in_default-clause-empty g c = absurd (headless g c)
-
-pub returns-in_default-clause-no_packet : goal.returns-in_default-clause-no_packet
-returns-in_default-clause-no_packet g c = absurd (headless g c)
-
-pub returns-in_default-clause-unchanged : goal.returns-in_default-clause-unchanged
-returns-in_default-clause-unchanged g c = absurd (headless g c)
-
-pub returns-in_default-clause-capacity : goal.returns-in_default-clause-capacity
-returns-in_default-clause-capacity g c = absurd (headless g c)
+pub returns-in_default : goal.returns-in_default
+returns-in_default g c = absurd (headless g c)
 
 -- the first packet is what it has
 first : (g : given.Over) (c : In-Some g)

@@ -5,7 +5,7 @@ use Rattle.net_ring.proofs.Rotations.{length-overwrite}
 use Rattle.net_ring.proofs.RingFacts.{returned}
 use Rattle.net_packets.specs.{IsRoom, contents, with_last_size, with_last_bytes, with_packet_if_room}
 use Rattle.net_packets.specs.declared.head.PacketsHead.{PacketsHead}
-use Rattle.net_packets.proofs.HeadParts.{IsQueue, IsPlaceIn, queue_at, well, placement_is, has_place, room_is, filled}
+use Rattle.net_packets.proofs.HeadParts.{IsQueue, IsPlaceIn, place_in, queue_at, well, placement_is, has_place, room_is, filled}
 use Rattle.net_packets.proofs.HeadParts.{slots_of, slots_long, stored}
 use Rattle.net_packets.proofs.PacketOrder as order
 use Rattle.net_packets.proofs.PacketOrder.{enqueue_with_call}
@@ -23,14 +23,8 @@ module _ (g : given.Over) (c : After-part_mut g) where
       c.count-slot_count.result c.count-capacity.result c.args.max_size c.in-Some.place
   at =
       let met = c.in-Some.ensures in
-      record {
-        queue = queue_at _ _ _ c.self.invariant c.self.view_is;
-        slot_count = c.count-slot_count.ensures;
-        capacity = c.count-capacity.ensures;
-        gap = met.gap;
-        slots = met.slots;
-        from = met.from;
-      }
+      place_in (queue_at _ _ _ c.self.invariant c.self.view_is) c.count-slot_count.ensures c.count-capacity.ensures met.gap
+      met.slots met.from
 
   room : IsRoom c.args.self.now c.args.max_size c.args.header c.part_mut.result.now
   room = room_is at c.args.header c.in-Some.ensures.contiguous c.part_mut.result.now c.part_mut.ensures.value

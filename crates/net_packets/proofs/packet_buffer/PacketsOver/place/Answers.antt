@@ -2,7 +2,7 @@ use Rattle.std.proofs.Common.{refl, sym, ap, ◌∙◌, arith, rules}
 use Rattle.std.proofs.lemmas.Bool.{false≢true}
 use Rattle.net_packets.specs.{with_packet, with_packet_if, first_size, only_last}
 use Rattle.net_packets.specs.declared.head.PacketsHead.{PacketsHead}
-use Rattle.net_packets.proofs.HeadParts.{IsQueue, IsPlaceIn, queue_at, well, placement_is, gap_is, has_place, placed_is}
+use Rattle.net_packets.proofs.HeadParts.{IsQueue, IsPlaceIn, place_in, queue_at, well, placement_is, gap_is, has_place, placed_is}
 use Rattle.net_packets.proofs.HeadParts.{placed, size_is}
 use Rattle.net_packets.proofs.PacketOrder.{accepted_as, stands_as, place_call}
 use Rattle.net_packets.proofs.packet_buffer.PacketsOver.place.Given as given
@@ -23,14 +23,8 @@ module _ (g : given.Over) (c : goal.After-self-1 g) where
       c.count-slot_count.result c.count-capacity.result c.args.size c.in-Some.place
   at =
       let met = c.in-Some.ensures in
-      record {
-        queue = queue_at _ _ _ c.self.invariant c.self.view_is;
-        slot_count = c.count-slot_count.ensures;
-        capacity = c.count-capacity.ensures;
-        gap = met.gap;
-        slots = met.slots;
-        from = met.from;
-      }
+      place_in (queue_at _ _ _ c.self.invariant c.self.view_is) c.count-slot_count.ensures c.count-capacity.ensures met.gap
+      met.slots met.from
 
   left : IsQueue c.place.new.self (g.M.Storage.elements c.write_slots.new.slots) (g.B.Storage.elements c.self.inside.bytes)
       (with_packet c.args.self.now c.in-Some.place.gap c.args.size c.args.header)

@@ -19,11 +19,8 @@ headless g c =
 pub invariant_of-self : goal.invariant_of-self
 invariant_of-self g c = absurd (headless g c)
 
-pub returns-in_default-clause-none : goal.returns-in_default-clause-none
-returns-in_default-clause-none g c = absurd (headless g c)
-
-pub returns-in_default-clause-unchanged : goal.returns-in_default-clause-unchanged
-returns-in_default-clause-unchanged g c = absurd (headless g c)
+pub returns-in_default : goal.returns-in_default
+returns-in_default g c = absurd (headless g c)
 
 pub take-requires-clause-size : goal.take-requires-clause-size
 take-requires-clause-size g c =
