@@ -6,8 +6,7 @@ use Rattle.net_ring.proofs.Walks.{fld, hop, addr, of_opd, load, no_more, and_the
 use Rattle.net_ring.proofs.Walks.{free_all, look_at, get, through, sets, no, shows, param, layouts, RattleType, owns}
 use Rattle.net_ring.proofs.Walks.{MutBor, MutRef, mut_vals, mut_Tells, cell_at, plain, mut_slice_of, MutSlice}
 use Rattle.net_ring.proofs.Walks.{slice_val, nothing, opens, closes, peeks, says, Stays, stay_dropped, walk_of, ends_at}
-use Rattle.net_ring.proofs.Walks.{Goes-spent_ref, proved, bare}
-use Rattle.net_ring.proofs.Relend.{words_ty, lends_run}
+use Rattle.net_ring.proofs.Walks.{Goes-spent_ref, proved, bare, words_ty, lends_run}
 use Rattle.net_ring.specs.contracts.managed.lent_whole as f
 use Rattle.net_ring.proofs.managed.lent_whole.Statement.{statement}
 use Rattle.net_ring.proofs.managed.lent_whole.Code as code

@@ -7,9 +7,8 @@ use Rattle.net_ring.proofs.Walks.{free_all, look_at, get, through, sets, no, Arr
 use Rattle.net_ring.proofs.Walks.{owns, MutBor, MutRef, at_last, mut_vals, mut_Tells, plain, MutSlice, nothing, peeks}
 use Rattle.net_ring.proofs.Walks.{triple_of, says, Stays, stay_dropped, walk_of, ends_at, Goes-spent_ref, ap}
 use Rattle.net_ring.proofs.Walks.{suc-ne-zero, Lifetime, id⊢, at_ret, vrt, look_tag, by_variants, first, exec}
-use Rattle.net_ring.proofs.Walks.{lands_last, env, only, calls_at_last, lasts, framed, after, proved}
-use Rattle.net_ring.proofs.ManagedFields.{field_at, opens_field, lends_field, comes_back, slice_typed, Whole, Slice}
-use Rattle.net_ring.proofs.ManagedFields.{Buffer, lent, owned}
+use Rattle.net_ring.proofs.Walks.{lands_last, env, only, calls_at_last, lasts, framed, after, proved, field_at}
+use Rattle.net_ring.proofs.Walks.{opens_field, lends_field, comes_back, slice_typed, Whole, Slice, Buffer, lent, owned}
 use Rattle.std.specs.Vec.{with_items_from}
 use Rattle.net_ring.specs.{overwrite}
 use Rattle.net_ring.specs.declared.managed.ManagedSlice.TheVariants.{Borrowed, Owned}

@@ -8,9 +8,8 @@ use Rattle.net_ring.proofs.Walks.{MutRef, at_last, mut_vals, mut_Tells, plain, n
 use Rattle.net_ring.proofs.Walks.{stay_dropped, walk_of, ends_at, Goes-spent_ref, ap, suc-ne-zero, Lifetime, w64, vint}
 use Rattle.net_ring.proofs.Walks.{id⊢, at_ret, vrt, look_tag, by_variants, first, exec, lands_last, env, usize, yes}
 use Rattle.net_ring.proofs.Walks.{uint_vals, uint_Tells, only, calls_at_last, lasts, framed, Goes-dropped, after}
-use Rattle.net_ring.proofs.Walks.{get_or, set, proved}
-use Rattle.net_ring.proofs.ManagedFields.{field_at, opens_field, lends_field, comes_back, ref_typed, Whole, Slice}
-use Rattle.net_ring.proofs.ManagedFields.{Buffer, lent, owned}
+use Rattle.net_ring.proofs.Walks.{get_or, set, proved, field_at, opens_field, lends_field, comes_back, ref_typed, Whole}
+use Rattle.net_ring.proofs.Walks.{Slice, Buffer, lent, owned}
 use Rattle.std.specs.Vec.{with_item}
 use Rattle.net_ring.specs.declared.managed.ManagedSlice.TheVariants.{Borrowed, Owned}
 use Rattle.net_ring.specs.contracts.managed.RefMutSliceStorage.element_mut as S

@@ -8,9 +8,8 @@ use Rattle.net_ring.proofs.Walks.{owns, MutBor, MutRef, at_last, mut_vals, mut_T
 use Rattle.net_ring.proofs.Walks.{triple_of, says, Stays, stay_dropped, walk_of, ends_at, Goes-spent_ref, ap, ◌-◌}
 use Rattle.net_ring.proofs.Walks.{suc-ne-zero, take, Lifetime, w64, vint, id⊢, at_ret, vrt, look_tag, by_variants}
 use Rattle.net_ring.proofs.Walks.{first, exec, lands_last, env, usize, yes, uint_vals, uint_Tells, only, calls_at_last}
-use Rattle.net_ring.proofs.Walks.{lasts, framed, Goes-dropped, after, proved, drop_list}
-use Rattle.net_ring.proofs.ManagedFields.{field_at, opens_field, lends_field, comes_back, slice_typed, Whole, Slice}
-use Rattle.net_ring.proofs.ManagedFields.{Buffer, lent, owned}
+use Rattle.net_ring.proofs.Walks.{lasts, framed, Goes-dropped, after, proved, drop_list, field_at, opens_field}
+use Rattle.net_ring.proofs.Walks.{lends_field, comes_back, slice_typed, Whole, Slice, Buffer, lent, owned}
 use Rattle.std.specs.Vec.{with_items_from}
 use Rattle.net_ring.specs.{overwrite}
 use Rattle.net_ring.specs.declared.managed.ManagedSlice.TheVariants.{Borrowed, Owned}

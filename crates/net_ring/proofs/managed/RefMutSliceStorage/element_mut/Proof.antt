@@ -10,8 +10,7 @@ use Rattle.net_ring.proofs.Walks.{mut_slice_of, MutSlice, slice_val, mut_slice_v
 use Rattle.net_ring.proofs.Walks.{says, Stays, stay_dropped, walk_of, ends_at, Goes-spent_ref, subst, ap, ◌+◌, ◌^◌, ◌<◌}
 use Rattle.net_ring.proofs.Walks.{w64, vint, learn, usize, yes, mem, uint_vals, uint_Tells, Goes-dropped, ◌*◌, arith}
 use Rattle.net_ring.proofs.Walks.{size, bin, size_word, is, layout, at_mul, uncapped, set, coded_list, fobs, fbor}
-use Rattle.net_ring.proofs.Walks.{fjoin3, feq_i, Body, heres_id, proved, takes_at, bare}
-use Rattle.net_ring.proofs.Relend.{words_ty, run_fits, element_at}
+use Rattle.net_ring.proofs.Walks.{fjoin3, feq_i, Body, heres_id, proved, takes_at, bare, words_ty, run_fits, element_at}
 use Rattle.net_ring.specs.contracts.managed.RefMutSliceStorage.element_mut as f
 use Rattle.net_ring.proofs.managed.RefMutSliceStorage.element_mut.Statement.{statement}
 use Rattle.net_ring.proofs.managed.RefMutSliceStorage.element_mut.Code as code

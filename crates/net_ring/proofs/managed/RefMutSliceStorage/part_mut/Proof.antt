@@ -9,8 +9,7 @@ use Rattle.net_ring.proofs.Walks.{MutSlice, Room, slice_val, nothing, opens, clo
 use Rattle.net_ring.proofs.Walks.{walk_of, ends_at, Goes-spent_ref, subst, ap, ◌+◌, ◌-◌, ◌^◌, ◌<◌, ◌≤◌, take, w64, vint}
 use Rattle.net_ring.proofs.Walks.{learn, usize, yes, uint_vals, uint_Tells, Goes-dropped, ◌∙◌, ◌*◌, arith}
 use Rattle.net_ring.proofs.Walks.{take-append-drop, length-drop, size, bin, size_word, get_in, is, layout, at_mul}
-use Rattle.net_ring.proofs.Walks.{length-take-le, uncapped, proved, drop_list, bare}
-use Rattle.net_ring.proofs.Relend.{words_ty, run_fits, lends_run}
+use Rattle.net_ring.proofs.Walks.{length-take-le, uncapped, proved, drop_list, bare, words_ty, run_fits, lends_run}
 use Rattle.net_ring.specs.contracts.managed.RefMutSliceStorage.part_mut as f
 use Rattle.net_ring.proofs.managed.RefMutSliceStorage.part_mut.Statement.{statement}
 use Rattle.net_ring.proofs.managed.RefMutSliceStorage.part_mut.Code as code
