@@ -10,23 +10,29 @@ use Rattle.net_packets.proofs.packet_buffer.PacketsOver.place.Goals as goal
 
 pub returns-in_default-clause-full : goal.returns-in_default-clause-full
 returns-in_default-clause-full g c =
-    let is = placement_is (queue_at _ _ _ c.self.invariant c.self.view_is) _ _ c.count-slot_count.ensures c.count-capacity.ensures c.args.size in
+    let is = placement_is (queue_at _ _ _ c.self.invariant c.self.view_is) _ _ c.count-slot_count.ensures
+    c.count-capacity.ensures c.args.size in
     (λ _. sym is ∙ c.in_default.ensures.full.0 refl, λ _. refl)
 
 pub returns-in_default-clause-placed : goal.returns-in_default-clause-placed
 returns-in_default-clause-placed g c =
-    let is = placement_is (queue_at _ _ _ c.self.invariant c.self.view_is) _ _ c.count-slot_count.ensures c.count-capacity.ensures c.args.size in
-    sym (ap (λ o. with_packet_if c.args.self.now o c.args.size c.args.header) (sym is ∙ c.in_default.ensures.full.0 refl))
+    let is = placement_is (queue_at _ _ _ c.self.invariant c.self.view_is) _ _ c.count-slot_count.ensures
+    c.count-capacity.ensures c.args.size in
+    sym (ap (λ o. with_packet_if c.args.self.now o c.args.size c.args.header) (sym is ∙ c.in_default.ensures.full.0
+    refl))
 
 module _ (g : given.Over) (c : goal.After-self-1 g) where
-  at : IsPlaceIn c.self.inside.head (g.M.Storage.elements c.self.inside.slots) (g.B.Storage.elements c.self.inside.bytes) c.args.self.now
+  at : IsPlaceIn c.self.inside.head (g.M.Storage.elements c.self.inside.slots)
+      (g.B.Storage.elements c.self.inside.bytes) c.args.self.now
       c.count-slot_count.result c.count-capacity.result c.args.size c.in-Some.place
   at =
       let met = c.in-Some.ensures in
-      place_in (queue_at _ _ _ c.self.invariant c.self.view_is) c.count-slot_count.ensures c.count-capacity.ensures met.gap
+      place_in (queue_at _ _ _ c.self.invariant c.self.view_is) c.count-slot_count.ensures c.count-capacity.ensures
+      met.gap
       met.slots met.from
 
-  left : IsQueue c.place.new.self (g.M.Storage.elements c.write_slots.new.slots) (g.B.Storage.elements c.self.inside.bytes)
+  left : IsQueue c.place.new.self (g.M.Storage.elements c.write_slots.new.slots)
+      (g.B.Storage.elements c.self.inside.bytes)
       (with_packet c.args.self.now c.in-Some.place.gap c.args.size c.args.header)
   left =
       let met = c.in-Some.ensures.placed in
