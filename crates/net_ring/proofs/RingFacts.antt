@@ -21,8 +21,8 @@ use Rattle.net_ring.specs.{overwrite, RingState, rotation, ring, capacity, windo
 use Rattle.net_ring.specs.{storage_index, write_at, IsWellFormed, with_elements, with_elements_wrapping, with_enqueued}
 use Rattle.net_ring.specs.{with_dequeued, rewind_if_empty, contiguous_window, contiguous_queued, spare_index}
 use Rattle.net_ring.specs.{contiguous_unallocated, queue_index, contiguous_allocated, Enqueues, Dequeues, WritesSpare}
-use Rattle.net_ring.specs.{WritesQueue, EnqueuesFrom, DequeuesFrom, contiguous_queue, ring_at, rewound, IsSound, place}
-use Rattle.net_ring.specs.{free_index, queued_index, written_span, elements_at}
+use Rattle.net_ring.specs.{WritesQueue, EnqueuesFrom, DequeuesFrom, ring_at, rewound, IsSound}
+use Rattle.net_ring.specs.{queued_index, elements_at}
 use Rattle.net_ring.specs.declared.head.RingHead.{RingHead}
 use Rattle.net_ring.proofs.Rotations.{IsStorageIndex, length-rotation, length-overwrite, storage_index_is, read_at_le}
 use Rattle.net_ring.proofs.Rotations.{whole, length-queue, length-spare, spare-written, with_enqueued_parts}
